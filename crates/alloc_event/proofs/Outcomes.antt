@@ -1,5 +1,5 @@
--- How one try to make a change in its place follows another.
-use Rattle.std.proofs.Common.{◌≡◌, ℕ, Bool, true, false, List, Result, Ok, Err, IsErr, OnOk, is_ok, refl}
+-- A change where nothing was done before it, and one that leaves the pool as it is.
+use Rattle.std.proofs.Common.{◌≡◌, ℕ, Bool, true, List, Result, Ok, Err, OnOk, is_ok, refl}
 use Rattle.buffer_pool.specs.Holdings.{Holdings}
 use Rattle.node_table.specs.Table.{Table}
 use Rattle.alloc_event.specs.declared.change.Change.{Change}
@@ -9,7 +9,7 @@ use Rattle.alloc_event.specs.declared.units.Unit.{Unit}
 use Rattle.alloc_event.specs.Counts.{HaveUnits}
 use Rattle.alloc_event.specs.Forest.{IsPoolOf}
 use Rattle.alloc_event.specs.Kept.{forest_of, shelves_of}
-use Rattle.alloc_event.specs.Outcomes.{IsOutcome, IsOutcomeIn, IsReady, IsUnchanged, was_made}
+use Rattle.alloc_event.specs.Outcomes.{IsOutcome, IsOutcomeIn, IsReady, IsUnchanged}
 use Rattle.alloc_event.specs.Settling.{Handles}
 use Rattle.alloc_event.proofs.intervals.Pools.{pool_stays}
 
@@ -20,6 +20,7 @@ still_ready same ready units = record {
   kept = rw (same.table, same.entries) ready.kept;
   counted = rw (same.table, same.entries) ready.counted;
   units = units;
+  given = rw (same.table, same.entries) ready.given;
   change = rw (same.table, same.entries) ready.change;
 }
 
@@ -40,22 +41,19 @@ in_pool {pool = pool} {t = t} {now = now} {es = es} {behind = behind} held outco
   size = refl;
 }
 
+-- so where it was made
+pub made_in_pool : {made : Bool} {handles : Handles} {pool : Holdings} {t now : Table Node} {es behind : List Entry} {id : ℕ}
+    {change : Change} → made ≡ true → IsPoolOf pool (forest_of t (shelves_of es)) → IsOutcome made handles t now es behind id change →
+    IsOutcomeIn true handles pool pool t now es behind id change
+made_in_pool is held outcome = in_pool held (rw is at outcome)
+
 module _ {t now last : Table Node} {es behind final : List Entry} (same : IsUnchanged t now es behind) where
-  -- what comes of the change then comes of it
-  pub later : {made : Bool} {handles : Handles} {id : ℕ} {change : Change} →
-      IsOutcome made handles now last behind final id change → IsOutcome made handles t last es final id change
-  later outcome = rw (same.table, same.entries) at outcome
 
   -- and where the pool is the same too
   pub later_in : {made : Bool} {handles : Handles} {pool between after : Holdings} {id : ℕ} {change : Change} → between ≡ pool →
       IsOutcomeIn made handles between after now last behind final id change →
       IsOutcomeIn made handles pool after t last es final id change
   later_in pool outcome = rw (same.table, same.entries, pool) at outcome
-
--- where it could not be, it was not made
-pub unmade : {E : Type 0} (r : Result Bool E) → IsErr r → was_made r ≡ false
-unmade (Ok made) h = cc
-unmade (Err e) h = refl
 
 -- what an answer tells where it was made
 pub on_ok : {T E : Type 0} {P : Type 0} (r : Result T E) → (is_ok r ≡ true → P) → OnOk r P

@@ -1,10 +1,8 @@
 -- A change to a collection, and how it is put back.
-pub mod AllGone
 pub mod Altering
 pub mod Done
 pub mod Dropped
 pub mod Effecting
-pub mod Finished
 pub mod Finishing
 pub mod FirstAllocated
 pub mod Reserving

@@ -4,7 +4,6 @@ pub mod ByKey
 pub mod ByPage
 pub mod Filters
 pub mod Lookups
-pub mod Loops
 pub mod Ranges
 pub mod Removed
 pub mod SameIntervals

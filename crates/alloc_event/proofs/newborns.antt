@@ -1,5 +1,6 @@
 -- What a birth makes of the table, the entries and the counts.
 pub mod Bearing
+pub mod Calmness
 pub mod Entries
 pub mod Forest
 pub mod Members

@@ -7,11 +7,5 @@ pub mod Enough
 pub mod Giving
 pub mod Sums
 pub mod Before
-pub mod Chains
-pub mod Gathered
-pub mod Below
 pub mod Between
-pub mod Followers
-pub mod Served
 pub mod RootUnit
-pub mod First

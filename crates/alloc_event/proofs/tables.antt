@@ -2,8 +2,10 @@
 pub mod Chains
 pub mod Hanging
 pub mod KeptRoots
+pub mod Kin
 pub mod LeftParents
 pub mod Links
+pub mod OfShelf
 pub mod Rooted
 pub mod Storing
 pub mod TakingOut

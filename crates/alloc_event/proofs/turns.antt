@@ -1,11 +1,4 @@
--- Attached units that are allocated or fail in one walk.
-pub mod Claims
+-- Nodes that stand by birth, each behind its parent.
 pub mod Gifts
 pub mod Grown
-pub mod Trees
-pub mod Standing
-pub mod Holding
-pub mod Walk
-pub mod Inherited
-pub mod Stood
-pub mod Serving
+pub mod Places

@@ -12,6 +12,7 @@ use Rattle.alloc_event.specs.declared.units.Unit.{Unit}
 use Rattle.alloc_event.specs.Counts.{HaveUnits}
 use Rattle.alloc_event.specs.Decisions.{decided}
 use Rattle.alloc_event.specs.Forest.{Collection}
+use Rattle.alloc_event.specs.Given.{HaveGiven}
 use Rattle.alloc_event.specs.Kept.{IsStored, collection_in, is_strong, nodes_with, shelf_of, shelves_of}
 use Rattle.alloc_event.specs.Nodes.{is_over}
 use Rattle.alloc_event.specs.Reserved.{reserved_count}
@@ -56,3 +57,4 @@ pub record IsForest (t : Table Node) (es : List Entry) (us : List Unit) : Type 0
   pub kept : IsStored t (shelves_of es)
   pub counted : AreCounted t es
   pub units : HaveUnits us t es
+  pub given : HaveGiven t (shelves_of es)

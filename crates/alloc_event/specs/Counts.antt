@@ -1,5 +1,5 @@
 -- What is counted of units. No public clause cites this module.
-use Rattle.std.specs.Prelude.{◌≡◌, ◌≢◌, ℕ, ◌+◌, ◌<◌, Bool, ◌&&◌, ◌||◌, not, nat_lt, if◌then◌else◌, slice_index_or, List, [], ◌∷◌, ◌++◌, map, length, set, is_some, ◌==◌, true, false, Option, Some, None, option_map}
+use Rattle.std.specs.Prelude.{◌≡◌, ◌≢◌, ℕ, ◌+◌, ◌<◌, ◌≤◌, Bool, ◌&&◌, ◌||◌, not, nat_lt, if◌then◌else◌, slice_index_or, List, [], ◌∷◌, map, length, set, is_some, true, false, Option, Some, None, option_map}
 use Rattle.std.specs.List.{AllByRecursion, list_any}
 use Rattle.std.specs.Option.{option_map_or}
 use Rattle.sm_names.specs.declared.keys.NodeKey.{NodeKey}
@@ -56,9 +56,13 @@ no_unit = record { live = 0; unready = 0; below = 0 }
 abbrev pub unit_at : List Unit → ℕ → Unit
 unit_at units slot = slice_index_or units slot no_unit
 
--- each slot of a key of these nodes that is in the list has the counts of the unit with that head
+-- the slot of the node's key is in the list, with the counts of the unit that has that head
+abbrev pub HasUnit : List Unit → List Node → Node → Type 0
+HasUnit units nodes n = (n.key.slot < length units) × (unit_at units n.key.slot ≡ unit_of nodes n.key)
+
+-- so of each of these nodes
 abbrev pub HasUnits : List Unit → List Node → Type 0
-HasUnits units nodes = AllByRecursion (λ (n : Node). n.key.slot < length units → unit_at units n.key.slot ≡ unit_of nodes n.key) nodes
+HasUnits units nodes = AllByRecursion (HasUnit units nodes) nodes
 
 -- so of each collection
 abbrev pub AreUnits : List Unit → List Collection → Type 0
@@ -72,15 +76,24 @@ AreUnitsBut units id cs = AllByRecursion (λ (c : Collection). c.id ≢ id → H
 abbrev pub HaveUnits : List Unit → Table Node → List Entry → Type 0
 HaveUnits units t es = AreUnits units (map (collection_in t) (shelves_of es))
 
+-- the slot of the key of each of these nodes is in the list
+abbrev pub HasSlots : List Unit → List Node → Type 0
+HasSlots units nodes = AllByRecursion (λ (n : Node). n.key.slot < length units) nodes
+
+-- so of the nodes of each collection
+abbrev pub HaveSlots : List Unit → List Collection → Type 0
+HaveSlots units cs = AllByRecursion (λ (c : Collection). HasSlots units c.nodes) cs
+
+-- the list is as long at least, and each slot counts what it did
+pub record Extends (old new : List Unit) : Type 0 where
+  pub longer : length old ≤ length new
+  pub same : (slot : ℕ) → unit_at new slot ≡ unit_at old slot
+
 -- ---- counting anew
 
 -- one more, if it counts and there is room for it
 abbrev pub raised : Bool → ℕ → ℕ
 raised is count = if is && nat_lt count 18446744073709551615 then count + 1 else count
-
--- the slot is counted from nothing on; a slot right behind the list is added to it
-abbrev pub started : ℕ → List Unit → List Unit
-started slot units = if slot == length units then units ++ no_unit ∷ [] else set units slot no_unit
 
 -- the slots of these keys are counted from nothing on
 abbrev pub cleared : List NodeKey → List Unit → List Unit

@@ -1,5 +1,5 @@
--- What the code decides, against the marks that are forced.
-use Rattle.std.specs.Prelude.{ℕ, ◌≤◌, ◌^◌, ◌+◌, Bool, true, false, ◌||◌, ◌&&◌, ◌==◌, not, nat_lt, max, List, [], ◌∷◌, ◌++◌, Option, None, ◌≡◌, is_none}
+-- Which step is forced next, by the nodes as they are kept, and the mark that it comes to.
+use Rattle.std.specs.Prelude.{ℕ, ◌≤◌, ◌^◌, ◌+◌, Bool, true, false, ◌||◌, ◌&&◌, ◌==◌, not, nat_lt, max, List, [], ◌∷◌, ◌++◌, Option, ◌≡◌, is_none}
 use Rattle.std.specs.List.{list_any, list_all, find, sum_by}
 use Rattle.std.specs.Option.{option_map, option_map_or, option_and_then}
 use Rattle.sm_names.specs.declared.keys.Interval.{Interval}
@@ -8,21 +8,19 @@ use Rattle.sm_names.specs.declared.outcomes.Buffers.{Buffers}
 use Rattle.sm_names.specs.declared.outcomes.Cause.{Cause}
 use Rattle.sm_names.specs.declared.outcomes.Failure.{Failure}
 use Rattle.sm_names.specs.Demands.{Demand}
-use Rattle.sm_names.specs.Forced.{forced, outcome}
+use Rattle.sm_names.specs.Forced.{outcome}
 use Rattle.sm_names.specs.Marks.{Mark, Loss, Allocated, Ended}
 use Rattle.sm_names.specs.Members.{asked, greatest}
 use Rattle.sm_names.specs.Pages.{places, pages_of}
 use Rattle.sm_names.specs.Sameness.{same_key}
 use Rattle.sm_names.specs.Words.{first_some, when}
-use Rattle.buffer_pool.specs.Holdings.{Holdings}
 use Rattle.alloc_event.specs.declared.decision.Decision.{Decision}
 use Rattle.alloc_event.specs.declared.decision.Decision.TheVariants.{Ends, Loses, Places, Allocates}
 use Rattle.alloc_event.specs.declared.node.Node.{Node}
-use Rattle.alloc_event.specs.Forest.{Collection, pages_in}
+use Rattle.alloc_event.specs.Forest.{Collection}
 use Rattle.alloc_event.specs.Nodes.{is_of, members_of}
 use Rattle.alloc_event.specs.Questions.{demands_of, is_deserted_node, is_in_unit, is_live_node, is_next_node, is_ready_node, is_root_left, is_served}
-use Rattle.alloc_event.specs.Scenes.{IsPoolBeside}
-use Rattle.alloc_event.specs.Settling.{Handles, Settles, given_back, is_root_of, made, standing}
+use Rattle.alloc_event.specs.Settling.{is_root_of}
 
 -- the mark that the decision comes to in a pool of so many pages, of which these are held
 abbrev pub mark_of : ℕ → List Interval → Decision → Mark
@@ -113,13 +111,6 @@ pub record IsPlacing (c : Collection) (head : NodeKey) (wants : Buffers) : Type 
   pub asked_for : asked (members_of c.nodes) ≡ wants
   pub count : (1 ≤ wants.count) × (wants.count ≤ 64)
 
--- buffers that are to be placed have a size in range
-abbrev pub IsSized : Decision → Type 0
-IsSized (Ends top) = Unit {0}
-IsSized (Loses origin cause) = Unit {0}
-IsSized (Places head wants) = (1 ≤ wants.size) × (wants.size ≤ 2 ^ 30)
-IsSized (Allocates head) = Unit {0}
-
 -- the attached unit may be allocated
 pub record IsAllocating (c : Collection) (head : NodeKey) : Type 0 where
   pub attached : is_root_of c head ≡ false
@@ -131,16 +122,3 @@ IsStep c (Ends top) = is_left_of c.nodes top ≡ true
 IsStep c (Loses origin cause) = is_left_of c.nodes origin ≡ true
 IsStep c (Places head wants) = IsPlacing c head wants
 IsStep c (Allocates head) = IsAllocating c head
-
--- beside whatever else the pool held, the step's mark makes the one collection of the other
-abbrev pub IsMadeBy : Decision → Holdings → Collection → Collection → Type 0
-IsMadeBy step pool old new = (others : List Interval) → IsPoolBeside pool old others →
-    new ≡ made pool.size others (mark_of pool.size (pages_in old ++ others) step) old
-
--- beside whatever else the pool held, the forced steps lead from the one collection to the other
-abbrev pub SettlesIn : Holdings → Handles → Collection → Collection → Type 0
-SettlesIn pool handles old new = (others : List Interval) → IsPoolBeside pool old others → Settles pool.size handles others old new
-
--- none applies, nor once the buffers that are home gave their pages back
-abbrev pub RestsIn : Holdings → Handles → Collection → Type 0
-RestsIn pool handles c = (others : List Interval) → forced pool.size (standing handles others (given_back handles c)) ≡ None

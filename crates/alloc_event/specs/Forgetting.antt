@@ -23,6 +23,7 @@ pub record Unlinks (old new : Table Node) (key : NodeKey) : Type 0 where
   pub leaf : children_at new key ≡ []
   pub look : (k : NodeKey) → node_at new k ≡ node_at old k
   pub parents : (k : NodeKey) → parent_at old k ≢ Some key → parent_at new k ≡ parent_at old k
+  pub fewer : (k p : NodeKey) → parent_at new k ≡ Some p → parent_at old k ≡ Some p
   pub keys : SameKeys old new
   pub len : table_len new ≡ table_len old
 
@@ -31,6 +32,7 @@ pub record TakesOut (old new : Table Node) (key : NodeKey) : Type 0 where
   pub was : IsSome (node_at old key)
   pub look : (k : NodeKey) → node_at new k ≡ (if same_key key k then None else node_at old k)
   pub parents : (k : NodeKey) → k ≢ key → parent_at old k ≢ Some key → parent_at new k ≡ parent_at old k
+  pub fewer : (k p : NodeKey) → parent_at new k ≡ Some p → parent_at old k ≡ Some p
   pub keys : SameKeys old new
   pub shorter : table_len new + 1 ≡ table_len old
 

@@ -1,5 +1,5 @@
 -- How a forest lies in its table of nodes and its entries. No public clause cites this module.
-use Rattle.std.specs.Prelude.{◌≡◌, ◌≢◌, ℕ, ◌+◌, ◌<◌, Bool, true, false, ◌==◌, ◌&&◌, ◌||◌, not, nat_lt, ⊤, if◌then◌else◌, List, [], ◌∷◌, map, length, reverse, Option, Some, None, option_map, is_none, is_some}
+use Rattle.std.specs.Prelude.{◌≡◌, ◌≢◌, ℕ, ◌+◌, ◌<◌, Bool, true, false, ◌==◌, ◌&&◌, ◌||◌, not, nat_lt, ⊤, if◌then◌else◌, List, [], ◌∷◌, map, length, reverse, Option, Some, None, option_map, is_none}
 use Rattle.std.specs.List.{list_any, list_all, filter_map, flat_map, AllByRecursion}
 use Rattle.std.specs.Option.{option_map_or}
 use Rattle.sm_names.specs.declared.keys.NodeKey.{NodeKey}
@@ -10,13 +10,12 @@ use Rattle.node_table.specs.Table.{Table, node_at, parent_at, was_given, table_l
 use Rattle.alloc_event.specs.declared.change.Change.{Change}
 use Rattle.alloc_event.specs.declared.entry.Entry.{Entry}
 use Rattle.alloc_event.specs.declared.node.Node.{Node}
-use Rattle.alloc_event.specs.declared.scene.Scene.{Scene}
 use Rattle.sm_names.specs.Forced.{forced}
 use Rattle.alloc_event.specs.Forest.{Collection, Forest, beside}
 use Rattle.alloc_event.specs.Settling.{Handles, Settles, put, given_back, standing}
 use Rattle.alloc_event.specs.Nodes.{new_root, new_child}
 use Rattle.alloc_event.specs.Questions.{is_live_node}
-use Rattle.alloc_event.specs.Scenes.{IsSound, has_tracker_room}
+use Rattle.alloc_event.specs.Scenes.{IsSound}
 use Rattle.alloc_event.specs.Decisions.{is_left_of}
 use Rattle.alloc_event.specs.Ties.{are_rooted}
 use Rattle.alloc_event.specs.Units.{GoTogether, are_united}
@@ -35,15 +34,6 @@ shelf_of e = record { id = e.id; keys = e.keys.items; buffers = e.buffers; held 
 -- what the entries keep
 abbrev pub shelves_of : List Entry → List Shelf
 shelves_of es = map shelf_of es
-
--- what is to be kept of a scene
-abbrev pub shelf_in : Scene → Shelf
-shelf_in scene = record {
-  id = scene.id;
-  keys = map (λ (n : Node). n.key) scene.nodes.items;
-  buffers = scene.buffers;
-  held = scene.held.items;
-}
 
 -- the place of the first entry with this id
 abbrev pub place_in : ℕ → List Entry → Option ℕ
@@ -103,14 +93,6 @@ pub record IsWhole (c : Collection) : Type 0 where
   pub united : are_united (reverse c.nodes) ≡ true
   pub together : GoTogether c.nodes
 
--- the node, gone without a fault
-abbrev pub left_of : Node → Node
-left_of n = record n { gone = true }
-
--- the nodes, of which all left where none is live
-abbrev pub ended_bare : List Node → List Node
-ended_bare nodes = if list_any is_live_node nodes then nodes else map left_of nodes
-
 -- the nodes hang on their parents, and the table has the parent of each that is not gone
 pub record IsHung (t : Table Node) (nodes : List Node) : Type 0 where
   pub linked : AllByRecursion (λ (n : Node). n.gone ≡ false → parent_at t n.key ≡ n.parent) nodes
@@ -119,6 +101,11 @@ pub record IsHung (t : Table Node) (nodes : List Node) : Type 0 where
 -- the table gave the keys of the nodes' heads
 abbrev pub AreHeadsGiven : Table Node → List Node → Type 0
 AreHeadsGiven t nodes = AllByRecursion (λ (n : Node). was_given t n.head ≡ true) nodes
+
+-- the parent that the table has of a node, gone or not, is of the same collection
+abbrev pub AreKin : Table Node → Type 0
+AreKin t = (key p : NodeKey) (n q : Node) → node_at t key ≡ Some n → parent_at t key ≡ Some p → node_at t p ≡ Some q →
+    q.collection ≡ n.collection
 
 -- what holds of the table and the shelves of each forest
 pub record IsStored (t : Table Node) (ss : List Shelf) : Type 0 where
@@ -132,6 +119,8 @@ pub record IsStored (t : Table Node) (ss : List Shelf) : Type 0 where
   pub linked : (key : NodeKey) (n : Node) → node_at t key ≡ Some n → n.gone ≡ false → parent_at t key ≡ n.parent
   pub heads : (key : NodeKey) (n : Node) → node_at t key ≡ Some n → was_given t n.head ≡ true
   pub whole : AllByRecursion (λ (s : Shelf). IsWhole (collection_in t s)) ss
+  pub parents : (key p : NodeKey) → parent_at t key ≡ Some p → was_given t p ≡ true
+  pub kin : AreKin t
 
 -- this node, where it has the key of the other
 abbrev pub written : Node → Node → Node
@@ -155,10 +144,6 @@ pub record Stores (old new : Table Node) (nodes : List Node) : Type 0 where
   pub parents : (key : NodeKey) → parent_at new key ≡ parent_at old key
   pub same : SameTable old new
 
--- each node has a place
-abbrev pub have_places : Table Node → List Node → Bool
-have_places t nodes = list_all (λ (n : Node). is_some (node_at t n.key)) nodes
-
 -- each node is of this collection
 abbrev pub all_of : ℕ → List Node → Bool
 all_of id nodes = list_all (λ (n : Node). n.collection == id) nodes
@@ -170,11 +155,6 @@ pub record Finishes (pool : ℕ) (handles : Handles) (old : Table Node) (before 
   pub settles : Settles pool handles (beside (forest_of old before) c.id) c after
   pub collections : map (collection_in new) behind ≡ put (given_back handles after) (map (collection_in old) before)
   pub rests : forced pool (standing handles (beside (forest_of new behind) c.id) (given_back handles after)) ≡ None
-
--- a tracker that the change makes has room on its node
-abbrev pub has_room_for_tracker : Change → List Node → Bool
-has_room_for_tracker (Change.Effect key effect) nodes = list_all (has_tracker_room key effect) nodes
-has_room_for_tracker _ nodes = true
 
 -- a node that the change loses is there, and not gone
 abbrev pub loses_left : Change → List Node → Bool
@@ -190,8 +170,9 @@ born (Some above) attached id event client key = new_child attached key event cl
 abbrev pub named : NodeKey → Node → Node
 named key n = record n { key = key; head = if is_none n.parent || n.attached then key else n.head }
 
--- the key was given to no node before, and to this one now
+-- the key was given to no node before, and to this one now; its slot is the one that was next
 pub record Gives (old new : Table Node) (key : NodeKey) : Type 0 where
+  pub slot : key.slot ≡ old.vacant
   pub fresh : was_given old key ≡ false
   pub given : (other : NodeKey) → was_given new other ≡ (same_key key other || was_given old other)
   pub first : new.first ≡ old.first
@@ -210,6 +191,7 @@ pub record TakesOut (old new : Table Node) (key : NodeKey) (node : Node) : Type 
   pub was : node_at old key ≡ Some node
   pub look : (other : NodeKey) → node_at new other ≡ (if same_key key other then None else node_at old other)
   pub parents : (other : NodeKey) → other ≢ key → parent_at old other ≢ Some key → parent_at new other ≡ parent_at old other
+  pub fewer : (other p : NodeKey) → parent_at new other ≡ Some p → parent_at old other ≡ Some p
   pub given : (other : NodeKey) → was_given new other ≡ was_given old other
   pub first : new.first ≡ old.first
   pub limit : new.limit ≡ old.limit

@@ -9,6 +9,7 @@ use Rattle.alloc_event.specs.declared.units.Unit.{Unit}
 use Rattle.alloc_event.specs.Calm.{AreCounted}
 use Rattle.alloc_event.specs.Counts.{HaveUnits}
 use Rattle.alloc_event.specs.Forest.{Collection, IsPoolOf}
+use Rattle.alloc_event.specs.Given.{HaveGiven}
 use Rattle.alloc_event.specs.Kept.{Finishes, IsStored, SameTable, forest_of, shelves_of}
 use Rattle.alloc_event.specs.Settling.{Handles, MayChange, changed, collection_or_new, no_key}
 
@@ -17,6 +18,7 @@ pub record IsReady (t : Table Node) (es : List Entry) (us : List Unit) (id : ℕ
   pub kept : IsStored t (shelves_of es)
   pub counted : AreCounted t es
   pub units : HaveUnits us t es
+  pub given : HaveGiven t (shelves_of es)
   pub change : MayChange (forest_of t (shelves_of es)) id wanted
 
 -- the collection once the change is made, before all that it forces

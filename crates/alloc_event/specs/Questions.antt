@@ -1,4 +1,4 @@
--- Tests of kept nodes, by which the code asks what the forced steps ask of members.
+-- Tests of kept nodes that ask what the forced steps ask of members.
 use Rattle.std.specs.Prelude.{Bool, false, ◌||◌, ◌&&◌, not, if◌then◌else◌, List, reverse, ◌∷◌, None, is_none, is_some}
 use Rattle.std.specs.List.{list_any, list_all, filter_map}
 use Rattle.std.specs.Option.{option_map_or}
@@ -27,10 +27,6 @@ blocks_here key n = not n.gone && (same_key n.key key && (n.attached || (n.dispe
 -- the node is live, and the top one or below it
 abbrev pub lives_below : List Node → NodeKey → Node → Bool
 lives_below nodes top n = is_live_node n && is_below nodes top n.key
-
--- the node with this key is there and live
-abbrev pub is_live_at : List Node → NodeKey → Bool
-is_live_at nodes key = list_any (λ (n : Node). same_key key n.key && is_live_node n) nodes
 
 -- the node is a root or attached, not gone, and no live node is at or below it
 abbrev pub is_deserted_node : List Node → Node → Bool

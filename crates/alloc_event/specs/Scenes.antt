@@ -1,5 +1,5 @@
--- A collection that is taken out to be worked on, and what the forced steps ask of it and keep.
-use Rattle.std.specs.Prelude.{ℕ, ◌+◌, Bool, true, false, ◌||◌, ◌&&◌, not, nat_lt, nat_le, List, [], ◌∷◌, ◌++◌, map, drop, Option, None, ◌≡◌, is_none, is_some}
+-- The buffers of a collection and their pages, what holds of every collection, and what an effect may ask of a node.
+use Rattle.std.specs.Prelude.{ℕ, ◌+◌, Bool, true, ◌||◌, ◌&&◌, not, nat_lt, nat_le, List, [], ◌∷◌, ◌++◌, map, drop, Option, ◌≡◌, is_none, is_some}
 use Rattle.std.specs.List.{list_any, list_all}
 use Rattle.std.specs.Option.{option_map_or}
 use Rattle.sm_names.specs.declared.keys.BufferName.{BufferName}
@@ -11,21 +11,10 @@ use Rattle.sm_names.specs.Handles.{is_home, names}
 use Rattle.sm_names.specs.Sameness.{same_key}
 use Rattle.sm_names.specs.declared.keys.HeldBuffer.{HeldBuffer}
 use Rattle.sm_names.specs.Words.{sorted_by}
-use Rattle.buffer_pool.specs.Holdings.{Holdings}
 use Rattle.alloc_event.specs.declared.change.Effect.{Effect}
 use Rattle.alloc_event.specs.declared.node.Node.{Node}
-use Rattle.alloc_event.specs.declared.scene.Scene.{Scene}
-use Rattle.alloc_event.specs.Forest.{Collection, pages_in}
+use Rattle.alloc_event.specs.Forest.{Collection}
 use Rattle.alloc_event.specs.Nodes.{is_of}
-
--- the collection of the scene
-abbrev pub collection_of : Scene → Collection
-collection_of scene = record {
-  id = scene.id;
-  nodes = scene.nodes.items;
-  buffers = scene.buffers;
-  held = scene.held.items;
-}
 
 -- the collection's buffer with this index
 abbrev pub name_of : ℕ → ℕ → BufferName
@@ -49,18 +38,6 @@ by_page is = sorted_by (λ (i : Interval). i.start) is
 -- the buffer is not home, by the open handles, and whether a strong node is live
 abbrev pub is_out : (BufferName → Strength → ℕ) → Bool → HeldBuffer → Bool
 is_out handles strong_live h = not (is_home (handles h.buffer Strength.Strong) (handles h.buffer Strength.Weak) strong_live)
-
--- the pool holds the pages of the collection, these others, and no more
-abbrev pub IsPoolBeside : Holdings → Collection → List Interval → Type 0
-IsPoolBeside pool c others = pool.held ≡ sorted_by (λ i. i.start) (pages_in c ++ others)
-
--- the pool held the pages of the one collection and some others, and holds those of the other one and the same others
-abbrev pub PoolFollows : Holdings → Holdings → Collection → Collection → Type 0
-PoolFollows before after old new = (others : List Interval) → IsPoolBeside before old others → IsPoolBeside after new others
-
--- what no forced step changes of a node: the node, but for its unit's allocation and its leaving
-abbrev pub frame_of : Node → Node
-frame_of n = record n { allocated = false; gone = false; fault = None }
 
 -- no two of the nodes have one key
 abbrev pub are_distinct : List Node → Bool

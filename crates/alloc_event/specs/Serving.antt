@@ -1,26 +1,19 @@
 -- An attached unit that becomes ready and is allocated in its place, and those below it that follow. No public clause cites this module.
-use Rattle.std.specs.Prelude.{◌≡◌, ◌≢◌, ◌↔◌, ℕ, ◌+◌, ◌<◌, Bool, true, false, ◌||◌, ◌&&◌, ◌==◌, not, nat_lt, if◌then◌else◌, List, [], ◌∷◌, length, filter, AllPairs, Contains, Option, Some, None, option_map, ◌⊎◌}
-use Rattle.std.specs.List.{filter_map, list_any, sum_by}
+use Rattle.std.specs.Prelude.{◌≡◌, ◌≢◌, ◌↔◌, ℕ, ◌+◌, ◌<◌, Bool, true, false, ◌||◌, ◌&&◌, ◌==◌, not, nat_lt, if◌then◌else◌, List, [], ◌∷◌, length, filter, AllPairs, Contains, Option, None, option_map, ◌⊎◌}
+use Rattle.std.specs.List.{filter_map, list_any}
 use Rattle.std.specs.Option.{option_and_then, option_map_or}
 use Rattle.sm_names.specs.declared.keys.NodeKey.{NodeKey}
-use Rattle.sm_names.specs.declared.outcomes.Buffers.{Buffers}
 use Rattle.sm_names.specs.Demands.{Demand}
-use Rattle.sm_names.specs.Members.{greatest}
 use Rattle.sm_names.specs.Sameness.{same_key}
-use Rattle.node_table.specs.Changes.{Writes}
-use Rattle.node_table.specs.Lending.{table_with_node}
 use Rattle.node_table.specs.Table.{Table, node_at, parent_at}
 use Rattle.failure_domains.specs.Falls.{Within, stopped_at}
-use Rattle.alloc_event.specs.declared.change.Change.{Change}
 use Rattle.alloc_event.specs.declared.node.Node.{Node}
 use Rattle.alloc_event.specs.declared.units.Unit.{Unit}
-use Rattle.alloc_event.specs.Calm.{over_but}
 use Rattle.alloc_event.specs.Counts.{is_unready, unit_at}
 use Rattle.alloc_event.specs.Falls.{given_all}
-use Rattle.alloc_event.specs.InPlace.{IsDone, bit}
-use Rattle.alloc_event.specs.Kept.{SameTable, Shelf, is_strong, nodes_with, written}
+use Rattle.alloc_event.specs.InPlace.{bit}
+use Rattle.alloc_event.specs.Kept.{SameTable, is_strong, written}
 use Rattle.alloc_event.specs.Questions.{is_live_node, is_served}
-use Rattle.alloc_event.specs.Reserved.{reserved_count}
 
 -- ---- whether the unit is to be allocated
 
@@ -53,10 +46,6 @@ is_left_out t units heads n = hangs_below t units heads n && not (list_any (same
 -- the node with this key does, and is none
 abbrev pub left_out_at : Table Node → List Unit → List NodeKey → NodeKey → Bool
 left_out_at t units heads key = option_map_or (is_left_out t units heads) (node_at t key) false
-
--- or is not of this collection
-abbrev pub bars_at : Table Node → List Unit → ℕ → List NodeKey → NodeKey → Bool
-bars_at t units id heads key = option_map_or (λ (n : Node). not (n.collection == id) || is_left_out t units heads n) (node_at t key) false
 
 -- ---- which units are allocated with it
 
@@ -105,26 +94,6 @@ asked_at t heads after key =
 abbrev pub asked_with : Table Node → List NodeKey → List NodeKey → Node → List Demand
 asked_with t keys heads after = filter_map (asked_at t heads after) keys
 
--- so many buffers of this size are enough, where so many are reserved and this is asked for besides
-abbrev pub are_enough : Buffers → ℕ → List Demand → Bool
-are_enough buffers reserved asked =
-    not (nat_lt buffers.count (reserved + sum_by (λ (d : Demand). d.camping) asked)
-    || nat_lt buffers.count (greatest (λ d. d.at_least) asked)) && not (nat_lt buffers.size (greatest (λ d. d.size) asked))
-
--- the collection has these buffers; the node's unit has none of them, is attached, and the one above it has them
-pub record IsDue (t : Table Node) (given : Option Buffers) (n : Node) (buffers : Buffers) : Type 0 where
-  pub has : given ≡ Some buffers
-  pub bare : n.allocated ≡ false
-  pub turn : has_turn_at t n.head ≡ true
-
--- these keys are of nodes of the collection, of which none heads a unit right below one of these that is ready, and is none of
--- these heads; the buffers are enough for what is reserved and what the nodes ask for, and so much is reserved then
-pub record IsRoom (t : Table Node) (keys : List NodeKey) (units : List Unit) (id reserved : ℕ) (buffers : Buffers) (heads : List NodeKey)
-    (after : Node) (sum : ℕ) : Type 0 where
-  pub clear : list_any (bars_at t units id heads) keys ≡ false
-  pub enough : are_enough buffers reserved (asked_with t keys heads after) ≡ true
-  pub sum_is : sum ≡ reserved + sum_by (λ (d : Demand). d.camping) (asked_with t keys heads after)
-
 -- ---- the counts
 
 -- what a count becomes, where it may have counted a node and counts it no longer
@@ -153,25 +122,3 @@ pub record IsGivenAt (old new : Table Node) (heads keys : List NodeKey) : Type 0
   pub look : (key : NodeKey) → node_at new key ≡ option_map (given_at heads keys) (node_at old key)
   pub parents : (key : NodeKey) → parent_at new key ≡ parent_at old key
   pub same : SameTable old new
-
--- and then this node is put in its place
-pub record IsServedAt (old new : Table Node) (heads keys : List NodeKey) (n : Node) : Type 0 where
-  pub between : Table Node
-  pub given : IsGivenAt old between heads keys
-  pub becomes : new ≡ table_with_node between n.key n
-  pub writes : Writes between new n.key n
-
--- the unit with this head and those that follow have room, and are allocated so
-pub record IsServing (old new : Table Node) (keys : List NodeKey) (units : List Unit) (id reserved : ℕ) (buffers : Buffers)
-    (head : NodeKey) (after : Node) (sum : ℕ) : Type 0 where
-  pub heads : List NodeKey
-  pub gathered : IsGathered old units id head heads keys
-  pub room : IsRoom old keys units id reserved buffers heads after sum
-  pub served : IsServedAt old new heads keys (given_all heads after)
-
--- the change was made, the allocations with it, nothing more is forced, so many strong nodes are live then, and so many
--- buffers are reserved; one is over exactly if one was, also without some of them
-pub record IsServed (t now : Table Node) (us : List Unit) (ss : List Shelf) (s : Shelf) (change : Change) (lives camping : ℕ) : Type 0 where
-  pub done : IsDone t now us ss s change lives
-  pub over : (noted : List NodeKey) → list_any (over_but noted) (nodes_with now s.keys) ≡ list_any (over_but noted) (nodes_with t s.keys)
-  pub reserved : camping ≡ reserved_count (nodes_with now s.keys)

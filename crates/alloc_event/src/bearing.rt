@@ -1,5 +1,5 @@
 //! The births of nodes, where nothing else changes with them.
-ghost use Rattle.std.specs.Prelude.{◌≡◌, ◌≤◌, ◌+◌, ◌<◌, vec_len, vec_capacity, if◌then◌else◌, IfOk, IfSome, IsSome, OnOk, OnErr, length};
+ghost use Rattle.std.specs.Prelude.{◌≡◌, ◌≤◌, ◌+◌, ◌<◌, if◌then◌else◌, IfOk, IfSome, IsSome, OnOk, OnErr, length};
 ghost use Rattle.std.specs.Option.{option_and_then};
 ghost use Rattle.node_table.specs.Changes.{Births, Writes};
 ghost use Rattle.node_table.specs.Lending.{table_with_node};
@@ -9,8 +9,8 @@ ghost use Rattle.alloc_event.specs.declared.node.Node.{Node as KeptNode};
 ghost use Rattle.alloc_event.specs.Calm.{AreCounted, put_in};
 ghost use Rattle.alloc_event.specs.Counts.{HaveUnits};
 ghost use Rattle.alloc_event.specs.Kept.{AreRising, Bears, IsStored, born, forest_of, named, put_shelf, shelf_of, shelves_of};
-ghost use Rattle.alloc_event.specs.Settling.{Handles, MayChange, collection_or_new, no_key};
-ghost use Rattle.alloc_event.specs.Still.{IsStill, no_shelf, shelf_before, shelf_with};
+ghost use Rattle.alloc_event.specs.Settling.{MayChange, no_key};
+ghost use Rattle.alloc_event.specs.Still.{no_shelf, shelf_before, shelf_with};
 
 use crate::births::{new_child, new_root};
 use crate::change::Change;
@@ -19,7 +19,7 @@ use crate::forgetting::reserve_notes;
 use crate::key_list::KeyList;
 use crate::node::Node;
 use crate::store::put_entry;
-use crate::units::{Unit, bound, count_at, start};
+use crate::units::{Unit, bound, count_at, no_unit, put_unit};
 use node_table::NodeTable;
 use sm_names::{ClientId, CollectionId, NoMemory, NodeKey};
 use std::cell::Cell;
@@ -31,7 +31,7 @@ const NO_KEY: NodeKey = NodeKey {
 };
 
 /// A node that is to be born, without its key: a child of the parent, or a root of the collection.
-pub(crate) fn drafted(
+fn drafted(
     table: &NodeTable<Node>,
     parent: Option<NodeKey>,
     attached: bool,
@@ -57,15 +57,6 @@ fn name(node: &mut Node, key: NodeKey)
     if node.parent.is_none() || node.attached {
         node.head = key;
     }
-}
-
-/// The node with its key.
-pub(crate) fn named(draft: &Node, key: NodeKey) -> Node
-    ensures { result ≡ named key draft.now }
-{
-    let mut node = *draft;
-    name(&mut node, key);
-    node
 }
 
 /// The node is given its key in the table.
@@ -108,7 +99,7 @@ fn insert_copy(
 }
 
 /// One more node in the table, which is given its key.
-pub(crate) fn bear(table: &mut NodeTable<Node>, draft: &Node) -> Result<NodeKey, NoMemory>
+fn bear(table: &mut NodeTable<Node>, draft: &Node) -> Result<NodeKey, NoMemory>
     requires first { table.old.first ≡ 0 }
     requires parent { IfSome draft.now.parent (λ p. IsSome (row_at table.old p)) }
     ensures ok { IfOk result (λ key. Bears table.old table.new (named key draft.now)) }
@@ -206,7 +197,7 @@ fn bear_first(
 /// The birth of a node, where nothing else changes with it. `NoMemory` leaves the table as it was,
 /// and of the entries all but their room. It costs a constant and a binary search, growth spread
 /// over the births, and for a root the shift of the entries behind it.
-pub(crate) fn bear_still(
+fn bear_still(
     table: &mut NodeTable<Node>,
     entries: &mut Vec<Entry>,
     id: CollectionId,
@@ -218,8 +209,6 @@ pub(crate) fn bear_still(
     requires kept { IsStored table.old (shelves_of entries.old.items) }
     requires counted { AreCounted table.old entries.old.items }
     requires change { MayChange (forest_of table.old (shelves_of entries.old.items)) id (Change.Birth parent attached client event) }
-    requires still { (handles : Handles) × IsStill handles
-        (collection_or_new (forest_of table.old (shelves_of entries.old.items)) id) }
     ensures bears { IfOk result (λ key. Bears table.old table.new
         (born (option_and_then (node_at table.old) parent) attached id event client key)) }
     ensures entries { IfOk result (λ key. shelves_of entries.new.items
@@ -236,10 +225,10 @@ pub(crate) fn bear_still(
     }
 }
 
-/// The birth of a node, where nothing else changes with it, counted for its unit. `NoMemory` leaves
-/// the table as it was, and of the entries and the units all but their room. It costs a constant
-/// and a binary search, growth spread over the births, and for a root the shift of the entries
-/// behind it.
+/// The birth of a node, where nothing else changes with it, counted for its unit, whose slot the list
+/// of units reaches. `NoMemory` leaves the table and the units as they were, and of the entries all
+/// but their room. It costs a constant and a binary search, growth spread over the births, and for a
+/// root the shift of the entries behind it.
 pub(crate) fn bear_counted(
     table: &mut NodeTable<Node>,
     entries: &mut Vec<Entry>,
@@ -253,10 +242,8 @@ pub(crate) fn bear_counted(
     requires kept { IsStored table.old (shelves_of entries.old.items) }
     requires counted { AreCounted table.old entries.old.items }
     requires units { HaveUnits units.old.items table.old entries.old.items }
-    requires room { vec_len units.old < vec_capacity units.old }
+    requires reached { table.old.vacant < length units.old.items }
     requires change { MayChange (forest_of table.old (shelves_of entries.old.items)) id (Change.Birth parent attached client event) }
-    requires still { (handles : Handles) × IsStill handles
-        (collection_or_new (forest_of table.old (shelves_of entries.old.items)) id) }
     ensures bears { IfOk result (λ key. Bears table.old table.new
         (born (option_and_then (node_at table.old) parent) attached id event client key)) }
     ensures entries { IfOk result (λ key. shelves_of entries.new.items
@@ -269,7 +256,7 @@ pub(crate) fn bear_counted(
 {
     let key = bear_still(table, entries, id, parent, attached, client, event)?;
     bound(table);
-    start(units, key.slot as usize);
+    put_unit(units, key.slot as usize, no_unit());
     count_at(units, table, key);
     Ok(key)
 }

@@ -1,11 +1,11 @@
 //! A handle that is dropped: no other buffer can be home by that, and no step is forced by it but
 //! that the buffers are abandoned.
-ghost use Rattle.std.specs.Prelude.{◌≡◌, ◌&&◌, ◌++◌, List, is_ok, not, true, false};
-ghost use Rattle.std.specs.List.{filter};
+ghost use Rattle.std.specs.Prelude.{◌≡◌, ◌&&◌, ◌++◌, List, is_ok, nat_lt, not, true, false};
+ghost use Rattle.std.specs.List.{filter, list_any};
 ghost use Rattle.std.specs.Option.{option_map_or};
 ghost use Rattle.sm_names.specs.declared.keys.Interval.{Interval};
-ghost use Rattle.sm_names.specs.declared.keys.Strength.{Strength};
-ghost use Rattle.sm_names.specs.Handles.{is_home};
+ghost use Rattle.sm_names.specs.declared.keys.Strength.{Strength as Grade};
+ghost use Rattle.sm_names.specs.Handles.{is_home, names};
 ghost use Rattle.buffer_holds.specs.Counts.{total};
 ghost use Rattle.alloc_event.specs.declared.change.Change.{Change as Changed};
 ghost use Rattle.alloc_event.specs.declared.units.Unit.{Unit as Counts};
@@ -15,22 +15,21 @@ ghost use Rattle.alloc_event.specs.Dropped.{are_others_out, are_rest_out, has_gi
 ghost use Rattle.alloc_event.specs.Forest.{IsPoolOf, collection_at};
 ghost use Rattle.alloc_event.specs.Kept.{Finishes, IsStored, forest_of, shelves_of};
 ghost use Rattle.alloc_event.specs.Outcomes.{IsOutcomeIn};
-ghost use Rattle.alloc_event.specs.Scenes.{by_page, given_few, is_held_strongly, is_out, pages_held};
+ghost use Rattle.alloc_event.specs.Scenes.{by_page, given_few, is_held_strongly, is_out, name_of, pages_held};
 ghost use Rattle.alloc_event.specs.Settling.{collection_or_new};
 
 use crate::change::Change;
 use crate::changing::settle_change;
-use crate::deciding::is_strong_open;
 use crate::entry::{Entry, place_of};
-use crate::finish::part;
 use crate::node::Node;
+use crate::placing::part;
 use crate::returns::look_at;
 use crate::room::Room;
 use crate::units::Unit;
 use buffer_holds::Holds;
 use buffer_pool::Pool;
 use node_table::NodeTable;
-use sm_names::{BufferName, HeldBuffer, NoMemory, NodeKey};
+use sm_names::{BufferName, Buffers, CollectionId, HeldBuffer, NoMemory, NodeKey, Strength};
 
 /// Whether the key is of a root that is not gone and whose unit has its buffers.
 fn is_given_root(table: &NodeTable<Node>, key: NodeKey) -> bool
@@ -65,7 +64,7 @@ pub(crate) fn is_abandoned(table: &NodeTable<Node>, entry: &Entry, holds: &Holds
 /// The buffer with this name is not held any longer, and gives its pages back. It costs a pass over
 /// the names.
 fn return_named(held: &mut Vec<HeldBuffer>, pool: &mut Pool, holds: &Holds, buffer: BufferName)
-    requires home { is_home (total holds.now buffer Strength.Strong) (total holds.now buffer Strength.Weak) false ≡ true }
+    requires home { is_home (total holds.now buffer Grade.Strong) (total holds.now buffer Grade.Weak) false ≡ true }
     requires pool { (others : List Interval) × (pool.old.held ≡ by_page (pages_held held.old.items ++ others)) }
     requires others { are_rest_out (total holds.now) buffer false held.old.items ≡ true }
     ensures held { held.new.items ≡ filter (is_out (total holds.now) false) held.old.items }
@@ -177,4 +176,34 @@ pub(crate) fn settle_dropped(
         &Change::Nothing,
         room,
     )
+}
+
+/// Whether a strong handle is open on one of the collection's buffers, in a parcel or out of it.
+pub(crate) fn is_strong_open(id: CollectionId, buffers: Option<Buffers>, holds: &Holds) -> bool
+    requires { given_few buffers ≡ true }
+    ensures { result ≡ is_held_strongly (total holds.now) id buffers }
+{
+    match buffers {
+        Some(given) => is_any_open(id, given.count as u8, holds),
+        None => false,
+    }
+}
+
+/// The same of so many buffers.
+fn is_any_open(id: CollectionId, count: u8, holds: &Holds) -> bool
+    ensures { result ≡ list_any (λ b. nat_lt 0 (total holds.now b Grade.Strong)) (names id count) }
+{
+    for index in 0..count {
+        if is_open(id, index, holds) {
+            return true;
+        }
+    }
+    false
+}
+
+/// Whether a strong handle is open on this buffer.
+fn is_open(collection: CollectionId, index: u8, holds: &Holds) -> bool
+    ensures { result ≡ nat_lt 0 (total holds.now (name_of collection index) Grade.Strong) }
+{
+    holds.total(BufferName { collection, index }, Strength::Strong) > 0
 }

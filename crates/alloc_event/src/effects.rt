@@ -1,10 +1,9 @@
 //! The effects of calls, and what they change of the nodes.
 ghost use Rattle.std.specs.Prelude.{◌≡◌, true};
-ghost use Rattle.std.specs.List.{list_all};
 ghost use Rattle.std.specs.Option.{option_map};
 ghost use Rattle.alloc_event.specs.declared.change.Change.{Change as Changed};
 ghost use Rattle.alloc_event.specs.Effects.{effect_of as effect_in, if_done as where_done};
-ghost use Rattle.alloc_event.specs.Nodes.{affected, after_effect};
+ghost use Rattle.alloc_event.specs.Nodes.{affected};
 ghost use Rattle.alloc_event.specs.Scenes.{has_tracker_room};
 
 use crate::change::{Change, Effect};
@@ -60,17 +59,6 @@ pub fn effect_of(call: &Call, reply: &Reply) -> Option<Change>
         | Call::GiveHandle(_, _, _)
         | Call::TrackLifetime(_, _)
         | Call::TrackWeak(_) => None,
-    }
-}
-
-/// The effect is made on the node with this key, and on no other. If it is that of a tracker, fewer
-/// than 64 were made on the node. Costs one walk over the nodes.
-pub fn affect(nodes: &mut [Node], key: NodeKey, effect: &Effect)
-    requires { list_all (has_tracker_room key effect.now) nodes.old ≡ true }
-    ensures { nodes.new ≡ after_effect key effect.now nodes.old }
-{
-    for node in nodes.iter_mut() {
-        affect_one(node, key, effect);
     }
 }
 

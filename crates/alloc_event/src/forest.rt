@@ -68,59 +68,47 @@ impl Forest {
 
     /// Makes the change to the collection and then the steps that it forces, one after another,
     /// until none applies, and gives back the pages of buffers that are home. A birth answers the
-    /// key of the new node, which no node had before.
+    /// key of the new node, which no node had before. Each step is made in its place, and counts
+    /// that are kept of the collection and of each unit tell which one is next.
     ///
     /// `NoMemory` where a growth is refused, or no slot has a number left. The forest and the pool
     /// are then as they were.
     ///
-    /// Where a strong node of the collection is live all along, a birth, an effect and no change of
-    /// nodes cost a binary search and a constant, growth spread over the births. So does the birth of
-    /// a root, but for the shift of the collections behind its own. Of effects there are two that
-    /// cost more: the release after which nothing holds its unit, no live node of it and no unit that
-    /// hangs right below, and one that leaves its unit ready and without buffers, unless the unit
-    /// above has none either.
+    /// Each change costs a binary search and a constant, and what it touches by what it forces. The
+    /// growth of a birth is spread over the births, and that of a root shifts the collections behind
+    /// its own.
     ///
-    /// Where that unit is attached, it is allocated in its place, and with it each attached unit that
-    /// is ready below it, as far as one hangs right below another of them, if the buffers are enough
-    /// for all of them. That costs some reads of each node of these units and of each attached node
-    /// right below them, and a write of each node of the units; where others are ready below it, also
-    /// a logarithm of their number for each node. What lies deeper costs nothing. Where the buffers
-    /// are too few or too small for it, it fails in its place, at the cost of those reads and of a
-    /// loss. Where they are enough for it and for some of those that follow, each of these is allocated
-    /// or fails in its turn by birth, in its place too: that costs a logarithm of the number of the
-    /// collection's nodes for each of these units besides, and twice what a loss of each that fails
-    /// costs. Only where one fails right below a unit without a live node, nothing of this is so.
+    /// A loss costs what `fall` costs: some reads of each node that goes, and a write. Where nothing
+    /// holds a unit any more, no live node of it and no unit that hangs right below, after a
+    /// release, a loss or a refusal, the highest of the units above one another ends that nothing
+    /// holds but the one below: that costs the climb over these units, and the same for each node at
+    /// and below the highest, also for one that is gone and still kept. Where the root goes by a
+    /// loss or ends so, that is each node of the collection.
     ///
-    /// Where it is the root's and the collection has no buffers, something holds it and a strong node
-    /// stays live, what it asks for is some, within the limits and enough for each unit that follows
-    /// so, and the pool has places, all these are allocated in their places too, which costs a few reads
-    /// of each node of the collection, a write of each node of the units, and what the places cost;
-    /// where others follow, some more reads of each node, and a logarithm of their number for each.
+    /// An effect by which an attached unit becomes ready, below one that has its buffers, gives it
+    /// its turn, and then, by birth, each attached unit below it that is ready, as far as one hangs
+    /// right below another of them. That costs some reads of each node of these units and of each
+    /// attached node right below them, a write of each node that is allocated, a logarithm of the
+    /// number of the collection's nodes for each of these units, and a loss for each that is
+    /// refused. What lies deeper costs nothing else. Where births were not told of rising events,
+    /// each of these units may cost a pass over the keys of the collection in place of the
+    /// logarithm. A unit that becomes ready below one without buffers costs nothing more.
     ///
-    /// A loss costs what `fall` costs and a binary search, where something still holds the unit above
-    /// what it takes, and where that unit does not become ready by it or has its buffers. So does the
-    /// release after which nothing holds a unit, which ends with those above it that nothing else
-    /// holds, and a loss after which nothing holds the unit above what it takes, with a logarithm for
-    /// each node that goes. Where the root goes by a loss or ends so, all that is left of the
-    /// collection goes, and the buffers that are home go back, which costs a look at the handles of
-    /// each buffer besides, two where some stay held and others go, and what the pool takes.
+    /// An effect by which the root's unit becomes ready, while something holds it and it has no
+    /// buffers, is the first allocation: that costs some reads of each node of the unit and of each
+    /// attached node right below it, a write of each node of the unit, what the places in the pool
+    /// cost, and the turns of the attached units that are ready below it, as above. Where it fails,
+    /// all of the collection goes.
     ///
-    /// Of all these only the first allocation takes memory, for what is held, and a birth, which also
-    /// makes the room in which what falls is listed, and what is over is noted.
+    /// Where no strong node of the collection is live before a birth, or after another change, it
+    /// costs some looks at the handles of each buffer besides, of which there are at most 64, and
+    /// one for each turn, what goes where the buffers are abandoned, and the return of the buffers
+    /// that are home: for each a shift of those behind it where some stay held, and what the pool
+    /// takes.
     ///
-    /// So it is too where no strong node is live, before a birth or after an effect or a loss, and the
-    /// collection rests without one: its root has no buffers, or one of them has an open strong handle,
-    /// and each buffer that it holds has an open handle. To tell that costs a look at the handles of
-    /// each buffer, of which there are at most 64.
-    ///
-    /// Any other change costs a copy of the collection, a pass over its units, and the
-    /// question for the next step after each that is made. Attached units that are allocated or fail
-    /// one after another count as one step, after the root's unit from the first on and else from the
-    /// second on, which costs the nodes times a logarithm, and times another one where such a failure
-    /// leaves the collection or a unit above without a node that keeps it. A loss costs besides what `fall` costs, and a logarithm for
-    /// each node; the end of a collection without a live node one walk. Where no strong node is live
-    /// and the collection does not rest, a birth that forces nothing and sends no buffer home costs
-    /// the copy, the pass and one question, and another a copy of the whole table besides.
+    /// Of all these only a birth and the first allocation take memory: the one for its node, the
+    /// counts of its unit, and room in which what goes, what has its turn and what is over is
+    /// listed, the other for what is held.
     #[inline(always)]
     pub fn settle(
         &mut self,
@@ -145,8 +133,10 @@ impl Forest {
         } = change
         {
             self.room.make(table.len().saturating_add(1))?;
+            let keys = &mut self.room.going;
             let key = settle_birth(
                 table, entries, units, pool, holds, collection, parent, attached, client, event,
+                keys,
             )?;
             return Ok(Some(key));
         }
@@ -169,8 +159,8 @@ impl Forest {
     /// that is home, a pass over the names of the collection's buffers, a shift of those behind it,
     /// and what the pool takes. Where the root is not gone and has its buffers, it costs besides a
     /// look at the strong handles of each buffer up to the first one of which one is open. None of
-    /// these takes memory. Where no strong handle of any is open then, the collection fails, and it
-    /// costs what `settle` does.
+    /// these takes memory. Where no strong handle of any is open then, the root is lost, and it costs
+    /// what `settle` does: all that is left of the collection goes.
     pub fn settle_drop(
         &mut self,
         pool: &mut Pool,
@@ -298,8 +288,8 @@ impl Forest {
     /// Forgets the nodes of the collection that are over, and the collection where nothing is left
     /// of it. Without such a collection nothing changes. It takes no memory, and costs a binary
     /// search. Each node that is forgotten costs a binary search among the collection's nodes and a
-    /// move of the keys on its shorter side besides. Where more than 64 came to be over since the
-    /// last call, or all that was left of the collection went, it costs a pass over its nodes.
+    /// move of the keys on its shorter side besides. Where more than 64 were found to be over since
+    /// the last call, one that is found twice counted twice, it costs a pass over its nodes.
     pub fn forget_over(&mut self, id: CollectionId)
         ensures collections { self.new.collections ≡ without_over_in id self.old.collections }
         ensures keys { SameKeys self.old self.new }

@@ -11,7 +11,7 @@ ghost use Rattle.alloc_event.specs.declared.node.Node.{Node as Kept};
 ghost use Rattle.alloc_event.specs.declared.entry.Entry.{Entry as KeptEntry};
 ghost use Rattle.alloc_event.specs.Calm.{AreCounted, over_but};
 ghost use Rattle.alloc_event.specs.Forest.{without_over_in};
-ghost use Rattle.alloc_event.specs.Forgetting.{AreAllOver, AreMore, IsChild, IsForgettable, IsNotedIn, IsNoting, IsPlace, IsThinned, Unlinks, TakesOut, is_bare, is_found, is_left_by, is_own_if_over, left_at, thinned, thin_in, without_bare};
+ghost use Rattle.alloc_event.specs.Forgetting.{AreAllOver, IsChild, IsForgettable, IsNotedIn, IsNoting, IsPlace, IsThinned, Unlinks, TakesOut, is_bare, is_found, is_left_by, is_own_if_over, left_at, thinned, thin_in, without_bare};
 ghost use Rattle.alloc_event.specs.Kept.{AreRising, IsStored, Shelf, are_apart, collection_in, nodes_with, shelf_of, shelves_of};
 ghost use Rattle.alloc_event.specs.Nodes.{is_over};
 
@@ -86,13 +86,6 @@ pub(crate) fn is_found(table: &NodeTable<Node>, key: NodeKey) -> bool
     ensures { result ≡ is_found table.now key }
 {
     table.get(key).is_some()
-}
-
-/// Whether the key is one of these.
-pub(crate) fn is_listed(keys: &[NodeKey], key: NodeKey) -> bool
-    ensures { result ≡ list_any (same_key key) keys.now }
-{
-    keys.iter().any(|other| key == *other)
 }
 
 /// Whether it is known that no node of the collection is over.
@@ -375,11 +368,4 @@ pub(crate) fn reserve_notes(noted: &mut Vec<NodeKey>, nodes: usize) -> Result<()
     }
     let most = nodes.min(MOST);
     noted.reserve(most.saturating_sub(noted.len()))
-}
-
-/// Room to note nodes of a collection of so many.
-pub(crate) fn notes_for(alloc: Global, nodes: usize) -> Result<Vec<NodeKey>, AllocError> {
-    let mut noted = Vec::new(alloc);
-    reserve_notes(&mut noted, nodes)?;
-    Ok(noted)
 }

@@ -1,6 +1,7 @@
-//! Changes that force nothing, as the count of strong live nodes tells, made in their places.
+//! Changes that force nothing, as the counts of the collection and of the unit tell, made in their
+//! places.
 ghost use Rattle.std.specs.Option.{option_map_or};
-ghost use Rattle.std.specs.Prelude.{◌≡◌, ◌+◌, nat_lt, ℕ, List, None, Some, true, false, IfSome};
+ghost use Rattle.std.specs.Prelude.{◌≡◌, ◌+◌, ℕ, List, None, Some, true, false, IfSome};
 ghost use Rattle.sm_names.specs.declared.keys.NodeKey.{NodeKey as Key};
 ghost use Rattle.buffer_holds.specs.Counts.{total};
 ghost use Rattle.node_table.specs.Changes.{Writes};
@@ -22,30 +23,14 @@ ghost use Rattle.alloc_event.specs.Scenes.{given_few, has_tracker_room};
 use crate::change::{Change, Effect};
 use crate::effects::affect_one;
 use crate::entry::{Entry, place_of};
-use crate::kept::is_strong;
+use crate::kept::{is_live, is_strong};
 use crate::node::Node;
-use crate::questions::is_live;
 use crate::reserving::reserved_after;
 use crate::resting::is_kept_by;
 use crate::units::{Unit, is_held_by, is_unready, put_unit, unit_in};
 use buffer_holds::Holds;
 use node_table::NodeTable;
 use sm_names::{CollectionId, NodeKey};
-
-/// Whether the effect neither releases its node nor sets its constraints.
-pub(crate) fn is_plain(effect: &Effect) -> bool
-    ensures { result ≡ is_plain_effect effect.now }
-{
-    match *effect {
-        Effect::Bound
-        | Effect::Dispensable
-        | Effect::Weak
-        | Effect::WeakOk(_)
-        | Effect::Taken
-        | Effect::Tracked => true,
-        Effect::Constrained(_) | Effect::Released => false,
-    }
-}
 
 /// Whether the effect changes none of the counts: it neither releases its node nor makes it weak, nor
 /// sets its constraints.
@@ -118,7 +103,7 @@ fn is_unready_after(node: &Node, key: NodeKey, effect: &Effect) -> bool
 }
 
 /// Makes the effect on the node with this key, in its place.
-fn affect_at(table: &mut NodeTable<Node>, key: NodeKey, effect: &Effect)
+pub(crate) fn affect_at(table: &mut NodeTable<Node>, key: NodeKey, effect: &Effect)
     requires { (n : Kept) → node_at table.old key ≡ Some n → has_tracker_room key effect.now n ≡ true }
     ensures becomes { (n : Kept) → node_at table.old key ≡ Some n → table.new ≡ table_with_node table.old key (affected key effect.now n) }
     ensures writes { (n : Kept) → node_at table.old key ≡ Some n → Writes table.old table.new key (affected key effect.now n) }

@@ -1,16 +1,14 @@
 //! What is kept of the nodes: reading them by their keys.
 ghost use Rattle.std.specs.Prelude.{◌≡◌, ◌++◌, IfOk, map};
-ghost use Rattle.std.specs.List.{filter, flat_map, list_any};
+ghost use Rattle.std.specs.List.{filter, flat_map};
 ghost use Rattle.sm_names.specs.Words.{sorted_by};
 ghost use Rattle.alloc_event.specs.declared.entry.Entry.{Entry as Kept};
-ghost use Rattle.alloc_event.specs.Calm.{strong_count};
 ghost use Rattle.alloc_event.specs.Kept.{all_keys, nodes_with, shelves_of, is_strong};
 ghost use Rattle.alloc_event.specs.Nodes.{is_over};
 ghost use Rattle.alloc_event.specs.Questions.{is_live_node};
 
 use crate::entry::Entry;
 use crate::node::{End, Node};
-use crate::questions::is_live;
 use node_table::NodeTable;
 use sm_names::{HeldBuffer, NodeKey};
 use std::alloc::{AllocError, Global};
@@ -22,31 +20,11 @@ pub(crate) fn is_strong(node: &Node) -> bool
     is_live(node) && !node.weak
 }
 
-/// How many of the nodes are live and strong.
-pub(crate) fn count_strong(nodes: &[Node]) -> usize
-    ensures { result ≡ strong_count nodes.now }
-{
-    let mut count = 0;
-    for node in nodes {
-        if is_strong(node) {
-            count += 1;
-        }
-    }
-    count
-}
-
 /// Whether the node is gone and its end is spent.
 pub(crate) fn is_over(node: &Node) -> bool
     ensures { result ≡ is_over node.now }
 {
     node.gone && matches!(node.end, End::Spent)
-}
-
-/// Whether a node of these is over.
-pub(crate) fn is_some_over(nodes: &[Node]) -> bool
-    ensures { result ≡ list_any is_over nodes.now }
-{
-    nodes.iter().any(|node| is_over(node))
 }
 
 /// The live nodes with these keys, behind others.
@@ -99,4 +77,11 @@ pub(crate) fn held_by_page(alloc: Global, entries: &[Entry]) -> Result<Vec<HeldB
     }
     held.sort_by_key(|buffer| buffer.pages.start)?;
     Ok(held)
+}
+
+/// Whether the node is neither gone nor released.
+pub fn is_live(node: &Node) -> bool
+    ensures { result ≡ is_live_node node.now }
+{
+    !node.gone && !node.released
 }

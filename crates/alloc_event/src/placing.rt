@@ -1,70 +1,15 @@
 //! The buffers of a root unit, placed in the pool.
-ghost use Rattle.std.specs.Prelude.{◌≡◌, ◌≤◌, ◌+◌, ◌^◌, ◌++◌, [], IfOk, IfSome, None, OnErr, OnOk, length, true, vec_capacity};
+ghost use Rattle.std.specs.Prelude.{◌≡◌, ◌≤◌, ◌+◌, ◌^◌, ◌++◌, [], IfOk, IfSome, None, OnErr, length, true, vec_capacity};
 ghost use Rattle.sm_names.specs.Pages.{pages_of as pages_taken, places};
-ghost use Rattle.alloc_event.specs.Decisions.{is_unplaced, IsMadeBy, IsPlacing};
-ghost use Rattle.alloc_event.specs.declared.decision.Decision.{Decision};
 ghost use Rattle.alloc_event.specs.First.{IsLaid};
-ghost use Rattle.alloc_event.specs.Progress.{Progress};
-ghost use Rattle.alloc_event.specs.Scenes.{collection_of, given_few, laid, IsSound, PoolFollows};
+ghost use Rattle.alloc_event.specs.Parted.{are_parted};
+ghost use Rattle.alloc_event.specs.Scenes.{laid};
 
-use crate::allocating::allocate;
-use crate::losses::lose;
-use crate::marks::Marks;
-use crate::scene::Scene;
 use buffer_pool::{Pool, PoolFault};
 use sm_names::{
     BufferName, Buffers, Cause, CollectionId, Failure, Fault, HeldBuffer, Interval, NoMemory,
     NodeKey,
 };
-
-/// Places the buffers that the root unit wants, and allocates the unit. Where the pool is full the
-/// root fails in its place.
-///
-/// `NoMemory` where a growth is refused: the pool and the scene are then as they were.
-pub fn place_first(
-    scene: &mut Scene,
-    marks: &mut Marks,
-    pool: &mut Pool,
-    head: NodeKey,
-    wants: Buffers,
-) -> Result<(), NoMemory>
-    requires sound { IsSound (collection_of scene.old) }
-    requires step { IsPlacing (collection_of scene.old) head wants }
-    requires sized { (1 ≤ wants.size) × (wants.size ≤ 2 ^ 30) }
-    ensures made { OnOk result (IsMadeBy (Decision.Places head wants) pool.old
-        (collection_of scene.old) (collection_of scene.new)) }
-    ensures pool { OnOk result (PoolFollows pool.old pool.new
-        (collection_of scene.old) (collection_of scene.new)) }
-    ensures size { pool.new.size ≡ pool.old.size }
-    ensures err { OnErr result (pool.new ≡ pool.old) }
-
-    // The pool changes only where the root is allocated.
-    ensures placed { OnOk result (is_unplaced scene.new.nodes.items ≡ true → pool.new ≡ pool.old) }
-    ensures moves { OnOk result (Progress scene.old.nodes.items scene.new.nodes.items) }
-    ensures few { OnOk result (given_few scene.new.buffers ≡ true) }
-    ensures id { OnOk result (scene.new.id ≡ scene.old.id) }
-{
-    match lay_in(pool, scene.id, wants, &scene.held)? {
-        Some(held) => {
-            scene.held = held;
-            scene.buffers = Some(wants);
-            allocate(&mut scene.nodes, head);
-            Ok(())
-        }
-        None => {
-            let cause = Cause::Failed(Failure::PoolFull);
-            lose(
-                &mut scene.nodes,
-                marks,
-                Fault {
-                    cause,
-                    origin: head,
-                },
-            );
-            Ok(())
-        }
-    }
-}
 
 /// Places so many buffers of the collection in the pool, and answers them with the others behind them.
 /// `None` where the pool is full. With `None` and `NoMemory` the pool is as it was.
@@ -134,4 +79,11 @@ fn lay_out(
         held.push_reserved(*buffer);
     }
     held
+}
+
+/// No two intervals of a pool begin at one page, so that their order by page is one.
+pub(crate) fn part(pool: &Pool)
+    ensures { are_parted pool.now.held ≡ true }
+{
+    let _ = pool.free_pages();
 }

@@ -1,38 +1,17 @@
 //! What is reserved in collections: the buffers that nodes of allocated units camp on.
 ghost use Rattle.std.specs.Prelude.{◌≡◌, ◌==◌, ◌+◌, ℕ, List, Some, IfSome};
-ghost use Rattle.std.specs.List.{find};
-ghost use Rattle.node_table.specs.Table.{Table};
 ghost use Rattle.alloc_event.specs.declared.change.Change.{Change as Changed};
 ghost use Rattle.alloc_event.specs.declared.change.Effect.{Effect as Effected};
-ghost use Rattle.alloc_event.specs.declared.node.Node.{Node as Kept};
 ghost use Rattle.alloc_event.specs.declared.units.Unit.{Unit as Counts};
-ghost use Rattle.alloc_event.specs.Calm.{AreCounted};
 ghost use Rattle.alloc_event.specs.InPlace.{IsOpen};
-ghost use Rattle.alloc_event.specs.Kept.{AreRising, Shelf, forest_of, nodes_with, shelves_of};
+ghost use Rattle.alloc_event.specs.Kept.{Shelf, nodes_with};
 ghost use Rattle.alloc_event.specs.Nodes.{after_effect};
 ghost use Rattle.alloc_event.specs.Reserved.{asked_by, camped, effected, reserved_count};
-ghost use Rattle.alloc_event.specs.Settling.{collection_or_new};
 
 use crate::change::{Change, Effect};
-use crate::entry::{Entry, entry_of};
 use crate::node::Node;
 use node_table::NodeTable;
 use sm_names::{CollectionId, Constraints, NodeKey};
-
-/// How many buffers the nodes of the collection with this id camp on that are of allocated units
-/// and not gone; 0 where there is no such collection. A binary search.
-pub(crate) fn reserved_of(entries: &[Entry], id: CollectionId) -> u128
-    requires { AreRising (shelves_of entries.now) }
-    ensures nodes { (t : Table Kept) → AreCounted t entries.now →
-        result ≡ reserved_count (collection_or_new (forest_of t (shelves_of entries.now)) id).nodes }
-    ensures shelf { (t : Table Kept) (s : Shelf) → AreCounted t entries.now →
-        find (λ (x : Shelf). x.id == id) (shelves_of entries.now) ≡ Some s → result ≡ reserved_count (nodes_with t s.keys) }
-{
-    match entry_of(entries, id) {
-        Some(entry) => entry.reserved,
-        None => 0,
-    }
-}
 
 /// What is reserved, where so much of it is free again.
 pub(crate) fn without(reserved: u128, freed: u128) -> u128
@@ -42,7 +21,7 @@ pub(crate) fn without(reserved: u128, freed: u128) -> u128
 }
 
 /// What is reserved, where a node camps on so much instead of what it camped on.
-fn exchanged(reserved: u128, was: u8, is: u8) -> Option<u128>
+pub(crate) fn exchanged(reserved: u128, was: u8, is: u8) -> Option<u128>
     ensures { IfSome result (λ now. (real : ℕ) → real + was ≡ reserved + is → now ≡ real) }
 {
     let both = reserved.checked_add(is as u128)?;

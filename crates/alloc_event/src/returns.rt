@@ -5,33 +5,16 @@ ghost use Rattle.sm_names.specs.declared.keys.Interval.{Interval};
 ghost use Rattle.buffer_holds.specs.Counts.{total};
 ghost use Rattle.buffer_pool.specs.Holdings.{without, IsSound as IsSoundPool};
 ghost use Rattle.alloc_event.specs.Runs.{rest_of, HoldsRun};
-ghost use Rattle.alloc_event.specs.Scenes.{by_page, collection_of, is_out, pages_held, IsPoolBeside, PoolFollows};
-ghost use Rattle.alloc_event.specs.Settling.{given_back};
+ghost use Rattle.alloc_event.specs.Scenes.{by_page, is_out, pages_held};
 
-use crate::questions::some_strong_live;
 use crate::runs::{Run, give_run, join_run};
-use crate::scene::Scene;
 use buffer_holds::{Holds, Spot};
 use buffer_pool::Pool;
 use sm_names::HeldBuffer;
 
-/// The buffers that nothing keeps any longer give their pages back. It takes no memory, and costs
-/// a look at the handles of each buffer, two where some stay and others go, a move of the buffers
-/// behind each that goes, and what the pool takes.
-pub fn give_back(scene: &mut Scene, pool: &mut Pool, holds: &Holds)
-    requires { (others : List Interval) × IsPoolBeside pool.old (collection_of scene.old) others }
-    ensures scene { collection_of scene.new
-        ≡ given_back (total holds.now) (collection_of scene.old) }
-    ensures pool { PoolFollows pool.old pool.new
-        (collection_of scene.old) (collection_of scene.new) }
-    ensures size { pool.new.size ≡ pool.old.size }
-{
-    let strong_live = some_strong_live(&scene.nodes);
-    send_home(&mut scene.held, pool, holds, strong_live);
-}
-
 /// The buffers that are home give their pages back, and are not held any longer. It takes no memory,
-/// and costs what `give_back` does.
+/// and costs a look at the handles of each buffer, two where some stay held and others go, with a shift
+/// for each that goes, and what the pool takes.
 pub(crate) fn send_home(
     held: &mut Vec<HeldBuffer>,
     pool: &mut Pool,

@@ -1,45 +1,41 @@
-//! Room for the keys of what a failure takes, and of what is allocated together.
+//! Room for what goes, and for the units that have their turns.
 ghost use Rattle.std.specs.Prelude.{◌≡◌, ◌≤◌, OnOk, true, vec_capacity};
 
-use crate::waiters::Waiter;
+use crate::rounds::Turn;
 use sm_names::{NoMemory, NodeKey};
 use std::alloc::Global;
 
-/// Three lists of keys, with room for as many as there are nodes: births make it, so that what falls
-/// takes no memory. And one of units that wait for one event, which grows where it is first needed.
+/// Lists with room for as many as there are nodes: births make it, so that what goes or has its turn takes
+/// no memory.
 #[derive(Drop)]
 pub struct Room {
-    /// What fails, or the heads of what is allocated.
-    pub failing: Vec<NodeKey>,
-    /// What goes with it, or the nodes of what is allocated.
+    /// What goes, or the nodes of the units that have their turns.
     pub going: Vec<NodeKey>,
-    /// What falls with units that are refused.
-    pub falling: Vec<NodeKey>,
-    /// Units that wait for one event.
-    pub(crate) waiters: Vec<Waiter>,
+    /// The nodes of the root's unit.
+    pub unit: Vec<NodeKey>,
+    /// Units that may come to their turn.
+    pub(crate) turns: Vec<Turn>,
 }
 
 impl Room {
     /// Room for nothing. It takes no memory.
     pub(crate) fn new(alloc: Global) -> Room {
         Room {
-            failing: Vec::new(alloc),
             going: Vec::new(alloc),
-            falling: Vec::new(alloc),
-            waiters: Vec::new(alloc),
+            unit: Vec::new(alloc),
+            turns: Vec::new(alloc),
         }
     }
 
-    /// Makes room for the keys of so many nodes in each list of keys. It costs a constant, growth spread
-    /// over the calls.
+    /// Makes room for so many nodes in each list. It costs a constant, growth spread over the calls.
     pub(crate) fn make(&mut self, nodes: usize) -> Result<(), NoMemory>
-        ensures failing { OnOk result (nodes ≤ vec_capacity self.new.failing) }
         ensures going { OnOk result (nodes ≤ vec_capacity self.new.going) }
-        ensures falling { OnOk result (nodes ≤ vec_capacity self.new.falling) }
+        ensures unit { OnOk result (nodes ≤ vec_capacity self.new.unit) }
+        ensures turns { OnOk result (nodes ≤ vec_capacity self.new.turns) }
     {
-        if make_in(&mut self.failing, nodes)
-            && make_in(&mut self.going, nodes)
-            && make_in(&mut self.falling, nodes)
+        if make_in(&mut self.going, nodes)
+            && make_in(&mut self.unit, nodes)
+            && make_in(&mut self.turns, nodes)
         {
             Ok(())
         } else {
@@ -48,9 +44,9 @@ impl Room {
     }
 }
 
-// Makes room for the keys of so many nodes in this list, and answers whether there is.
-fn make_in(keys: &mut Vec<NodeKey>, nodes: usize) -> bool
-    ensures { result ≡ true → nodes ≤ vec_capacity keys.new }
+// Makes room for so many in this list, and answers whether there is.
+fn make_in<T>(list: &mut Vec<T>, most: usize) -> bool
+    ensures { result ≡ true → most ≤ vec_capacity list.new }
 {
-    nodes <= keys.capacity() || keys.reserve(nodes.saturating_sub(keys.len())).is_ok()
+    most <= list.capacity() || list.reserve(most.saturating_sub(list.len())).is_ok()
 }

@@ -8,12 +8,12 @@ ghost use Rattle.node_table.specs.Lending.{table_with_node};
 ghost use Rattle.node_table.specs.Table.{node_at};
 ghost use Rattle.alloc_event.specs.declared.node.Node.{Node as Kept};
 ghost use Rattle.alloc_event.specs.Calm.{strong_count};
-ghost use Rattle.alloc_event.specs.Falling.{IsOrdered, gone_by, stays_by, unreckoned};
-ghost use Rattle.alloc_event.specs.Kept.{Stores, all_of, nodes_with};
+ghost use Rattle.alloc_event.specs.Falling.{gone_by, unreckoned};
+ghost use Rattle.alloc_event.specs.Kept.{Stores, nodes_with};
 ghost use Rattle.alloc_event.specs.Nodes.{is_over};
 ghost use Rattle.alloc_event.specs.Reserved.{reserved_count};
 
-use crate::falling::{Going, go, stays_by, uncount, uncount_below};
+use crate::falling::{Going, go, uncount, uncount_below};
 use crate::kept::{is_over, is_strong};
 use crate::node::Node;
 use crate::reserving::camped;
@@ -28,54 +28,24 @@ pub(crate) struct Surveyed {
     pub strong: usize,
     /// How many buffers they camp on that are reserved.
     pub reserved: u128,
-    /// Whether all of them are of the collection.
-    pub own: bool,
-    /// Whether one of them stays live.
-    pub stays: bool,
 }
 
 /// What is to be known of the nodes with these keys. It costs their number.
-pub(crate) fn survey(
-    table: &NodeTable<Node>,
-    keys: &[NodeKey],
-    id: CollectionId,
-    going: &Going,
-) -> Surveyed
-    requires ordered { IsOrdered going.now }
+pub(crate) fn survey(table: &NodeTable<Node>, keys: &[NodeKey]) -> Surveyed
     ensures strong { result.strong ≡ strong_count (nodes_with table.now keys.now) }
     ensures reserved { result.reserved ≡ reserved_count (nodes_with table.now keys.now) }
-    ensures own { result.own ≡ all_of id (nodes_with table.now keys.now) }
-    ensures stays { result.stays ≡ list_any (stays_by going.now) (nodes_with table.now keys.now) }
 {
     let mut found = Surveyed {
         strong: 0,
         reserved: 0,
-        own: true,
-        stays: false,
     };
     for key in keys {
         if let Some(node) = table.get(*key) {
             found.strong += is_strong(node) as usize;
             found.reserved += camped(node, node.constraints) as u128;
-            found.own = found.own && node.collection == id;
-            found.stays = found.stays || stays_by(node, going);
         }
     }
     found
-}
-
-/// Whether the nodes with these keys are of this collection.
-pub(crate) fn are_of(table: &NodeTable<Node>, keys: &[NodeKey], id: CollectionId) -> bool
-    ensures { result ≡ all_of id (nodes_with table.now keys.now) }
-{
-    let mut rest = keys;
-    'on: while let Some((key, more)) = rest.split_first() {
-        match table.get(*key) {
-            Some(node) if node.collection != id => return false,
-            _ => rest = more,
-        }
-    }
-    true
 }
 
 /// Counts the node with this key no longer, if it is there and not gone: for its unit, and for the one
@@ -102,7 +72,6 @@ pub(crate) fn untally(table: &NodeTable<Node>, units: &mut Vec<Unit>, keys: &[No
 
 /// The node with this key goes, if it is there. Answers whether it is over then.
 fn go_one(table: &mut NodeTable<Node>, key: NodeKey, going: &Going) -> bool
-    requires ordered { IsOrdered going.now }
     ensures none { node_at table.old key ≡ None → table.new ≡ table.old }
     ensures becomes { (n : Kept) → node_at table.old key ≡ Some n → table.new ≡ table_with_node table.old key (gone_by going.now n) }
     ensures writes { (n : Kept) → node_at table.old key ≡ Some n → Writes table.old table.new key (gone_by going.now n) }
@@ -122,7 +91,6 @@ fn go_one(table: &mut NodeTable<Node>, key: NodeKey, going: &Going) -> bool
 pub(crate) fn go_all(table: &mut NodeTable<Node>, keys: &[NodeKey], going: &Going) -> bool
     requires named { (key : Key) (n : Kept) → node_at table.old key ≡ Some n → n.key ≡ key }
     requires once { AllPairs (λ (a b : Key). a ≢ b) keys.now }
-    requires ordered { IsOrdered going.now }
     ensures stores { Stores table.old table.new (map (gone_by going.now) (nodes_with table.old keys.now)) }
     ensures over { result ≡ list_any is_over (map (gone_by going.now) (nodes_with table.old keys.now)) }
 {

@@ -1,15 +1,14 @@
 //! What is counted of units: how many of their nodes are live, for how many they wait, and how many
 //! units hang right below them.
-ghost use Rattle.std.specs.Prelude.{◌≡◌, ◌<◌, ◌≤◌, [], ◌∷◌, map, set, vec_len, vec_capacity};
+ghost use Rattle.std.specs.Prelude.{◌≡◌, ◌<◌, ◌≤◌, [], ◌∷◌, set, length, OnOk};
 ghost use Rattle.node_table.specs.Table.{table_len};
-ghost use Rattle.alloc_event.specs.Counts.{AreUnitsBut, HaveUnits, cleared, head_above, head_of, hung, is_held_by, is_unready, no_unit, raised, reckoned, started, tallied, unit_at, with_below, with_node};
-ghost use Rattle.alloc_event.specs.Kept.{IsStored, collection_in, nodes_with, shelves_of};
+ghost use Rattle.alloc_event.specs.Counts.{Extends, head_above, head_of, hung, is_held_by, is_unready, no_unit, raised, reckoned, tallied, unit_at, with_below, with_node};
+ghost use Rattle.alloc_event.specs.Kept.{nodes_with};
 
-use crate::entry::{Entry, entry_of};
+use crate::kept::is_live;
 use crate::node::Node;
-use crate::questions::is_live;
 use node_table::NodeTable;
-use sm_names::{CollectionId, NodeKey};
+use sm_names::{CollectionId, NoMemory, NodeKey};
 
 /// The counts of one unit.
 #[derive(Clone, Copy)]
@@ -66,16 +65,19 @@ pub(crate) fn put_unit(units: &mut Vec<Unit>, slot: usize, unit: Unit)
     }
 }
 
-/// Counts the slot from nothing on. One right behind the list is added to it, which has room.
-pub(crate) fn start(units: &mut Vec<Unit>, slot: usize)
-    requires { vec_len units.old < vec_capacity units.old }
-    ensures { units.new.items ≡ started slot units.old.items }
+/// Makes the list reach to this slot. The slots that this adds count nothing. `NoMemory` comes where
+/// that was refused room; the counts are then what they were. It costs what is added, growth spread
+/// over the calls.
+pub(crate) fn reach(units: &mut Vec<Unit>, slot: usize) -> Result<(), NoMemory>
+    ensures ok { OnOk result (slot < length units.new.items) }
+    ensures extends { Extends units.old.items units.new.items }
 {
-    if slot == units.len() {
-        units.push(no_unit()).unwrap();
-    } else {
-        put_unit(units, slot, no_unit());
+    'on: while units.len() <= slot {
+        if units.push(no_unit()).is_err() {
+            return Err(NoMemory);
+        }
     }
+    Ok(())
 }
 
 /// One more, if it counts and there is room for it.
@@ -142,17 +144,6 @@ fn count_below(units: &mut Vec<Unit>, head: Option<NodeKey>)
     }
 }
 
-/// Counts the slots of these keys from nothing on.
-fn clear(units: &mut Vec<Unit>, keys: &[NodeKey])
-    ensures { units.new.items ≡ cleared keys.now units.old.items }
-{
-    let mut rest = keys;
-    'on: while let Some((key, more)) = rest.split_first() {
-        put_unit(units, key.slot as usize, no_unit());
-        rest = more;
-    }
-}
-
 /// Counts the node with this key for its unit, unless it is gone.
 fn count_own(units: &mut Vec<Unit>, table: &NodeTable<Node>, key: NodeKey)
     ensures { units.new.items ≡ tallied (nodes_with table.now (key ∷ [])) units.old.items }
@@ -182,50 +173,9 @@ pub(crate) fn count_at(units: &mut Vec<Unit>, table: &NodeTable<Node>, key: Node
     hang_at(units, table, key);
 }
 
-/// Counts the nodes with these keys for their units.
-fn tally(units: &mut Vec<Unit>, table: &NodeTable<Node>, keys: &[NodeKey])
-    ensures { units.new.items ≡ tallied (nodes_with table.now keys.now) units.old.items }
-{
-    let mut rest = keys;
-    'on: while let Some((key, more)) = rest.split_first() {
-        count_own(units, table, *key);
-        rest = more;
-    }
-}
-
-/// Counts the nodes with these keys for the units right above those that they head.
-fn hang(units: &mut Vec<Unit>, table: &NodeTable<Node>, keys: &[NodeKey])
-    ensures { units.new.items ≡ hung table.now (nodes_with table.now keys.now) units.old.items }
-{
-    let mut rest = keys;
-    'on: while let Some((key, more)) = rest.split_first() {
-        hang_at(units, table, *key);
-        rest = more;
-    }
-}
-
 /// No table has more nodes than a number can tell.
 pub(crate) fn bound(table: &NodeTable<Node>)
     ensures { table_len table.now ≤ 18446744073709551615 }
 {
     let _ = table.len();
-}
-
-/// Counts the units of the collection anew, which costs the number of its nodes.
-pub(crate) fn recount(
-    units: &mut Vec<Unit>,
-    table: &NodeTable<Node>,
-    entries: &[Entry],
-    id: CollectionId,
-)
-    requires kept { IsStored table.now (shelves_of entries.now) }
-    requires others { AreUnitsBut units.old.items id (map (collection_in table.now) (shelves_of entries.now)) }
-    ensures { HaveUnits units.new.items table.now entries.now }
-{
-    if let Some(entry) = entry_of(entries, id) {
-        let keys = entry.keys.as_slice();
-        clear(units, keys);
-        tally(units, table, keys);
-        hang(units, table, keys);
-    }
 }

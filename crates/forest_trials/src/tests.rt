@@ -1,14 +1,6 @@
 //! Collections of three units, settled.
-ghost use Rattle.std.specs.Prelude.{◌≡◌, [], IfOk};
-ghost use Rattle.alloc_event.specs.Scenes.{collection_of, IsSound};
-
-use alloc_event::births::{new_child, new_root};
-use alloc_event::marks::no_marks;
-use alloc_event::returns::give_back;
-use alloc_event::scene::Scene;
-use alloc_event::settling::settle_scene;
-use buffer_holds::Holds;
-use buffer_pool::Pool;
+use self::ground::{Ground, HERE};
+use self::plays::on_ground;
 use sm_names::{Buffers, Cause, Constraints, Failure, Fault, NodeKey};
 use std::alloc::Global;
 use std::test::Fail;
@@ -50,56 +42,31 @@ fn demand(camping: u8, at_least: u8, size: u32) -> Result<Constraints, Fail> {
     }
 }
 
-// The three units. Each asks for what is given, the root may be released, and all may be weak.
+// The three units, which may be weak. Each asks for what is given, the root's last. Where the root is
+// released, a child of its unit is released last, and has its unit ready.
 fn three_units(
-    alloc: Global,
+    ground: &mut Ground,
     asks: [Constraints; 3],
     released: bool,
     weak: bool,
-) -> Result<Scene, Fail>
-    ensures sound { IfOk result (λ scene. IsSound (collection_of scene)) }
-    ensures held { IfOk result (λ scene. scene.held.items ≡ []) }
-{
-    let mut root = new_root(ROOT, 5, 5, 1);
-    root.released = released;
-    root.weak = weak;
-    let mut middle = new_child(true, MIDDLE, 6, 1, &root);
-    let mut low = new_child(true, LOW, 7, 1, &middle);
-    root.constraints = Some(asks[0]);
-    middle.constraints = Some(asks[1]);
-    low.constraints = Some(asks[2]);
-    Ok(Scene {
-        id: 5,
-        nodes: [root, middle, low].to_vec(alloc)?,
-        buffers: None,
-        held: Vec::new(alloc),
-    })
-}
-
-// 16 pages.
-fn new_pool(alloc: Global) -> Result<Pool, Fail>
-    ensures { IfOk result (λ pool. pool.held ≡ []) }
-{
-    match Pool::new(alloc, 16) {
-        Ok(pool) => Ok(pool),
-        Err(_) => Err(Fail::from("no memory for a pool")),
+) -> Result<(), Fail> {
+    let root = ground.bear(None, false)?;
+    let middle = ground.bear(Some(root), true)?;
+    let low = ground.bear(Some(middle), true)?;
+    if weak {
+        ground.weaken(root)?;
+        ground.weaken(middle)?;
+        ground.weaken(low)?;
     }
-}
-
-// All forced steps, and then the pages that go back, where nothing was held and no handle is open.
-fn settle(alloc: Global, scene: &mut Scene, pool: &mut Pool) -> Result<(), Fail>
-    requires sound { IsSound (collection_of scene.old) }
-    requires held { scene.old.held.items ≡ [] }
-    requires pool { pool.old.held ≡ [] }
-{
-    let holds = Holds::new(alloc, 8);
-    match settle_scene(scene, &mut no_marks(alloc), pool, &holds) {
-        Ok(()) => {
-            give_back(scene, pool, &holds);
-            Ok(())
-        }
-        Err(_) => Err(Fail::from("no memory to settle")),
+    ground.ask(low, asks[2])?;
+    ground.ask(middle, asks[1])?;
+    if !released {
+        return ground.ask(root, asks[0]);
     }
+    let child = ground.bear(Some(root), false)?;
+    ground.ask(root, asks[0])?;
+    ground.release(root)?;
+    ground.release(child)
 }
 
 /// What is seen of three units: which nodes are gone, which fault one of them has, the buffers that
@@ -113,20 +80,28 @@ struct Wanted {
     free_pages: u32,
 }
 
-fn is_as_wanted(scene: &Scene, pool: &Pool, wanted: &Wanted) -> bool {
-    if scene.nodes.len() != 3 {
-        return false;
-    }
-    for (at, node) in scene.nodes.iter().enumerate() {
-        if at < 3 && node.gone != wanted.gone[at]
-            || at == wanted.fault.0 && node.fault != wanted.fault.1
-        {
-            return false;
+fn is_as_wanted(ground: &Ground, wanted: &Wanted) -> bool {
+    let keys = [ROOT, MIDDLE, LOW];
+    for (at, key) in keys.iter().enumerate() {
+        match ground.forest().node(*key) {
+            Some(node) => {
+                if at < 3 && node.gone != wanted.gone[at]
+                    || at == wanted.fault.0 && node.fault != wanted.fault.1
+                {
+                    return false;
+                }
+            }
+            None => return false,
         }
     }
-    scene.buffers == wanted.buffers
-        && scene.held.len() == wanted.held
-        && pool.free_pages() == wanted.free_pages
+    match ground.forest().collection(HERE) {
+        Some(summary) => {
+            summary.buffers == wanted.buffers
+                && summary.held == wanted.held
+                && ground.free_pages() == wanted.free_pages
+        }
+        None => false,
+    }
 }
 
 // Whether three units that ask for this come to what is wanted.
@@ -137,10 +112,10 @@ fn settles(
     weak: bool,
     wanted: &Wanted,
 ) -> Result<bool, Fail> {
-    let mut scene = three_units(alloc, asks, released, weak)?;
-    let mut pool = new_pool(alloc)?;
-    settle(alloc, &mut scene, &mut pool)?;
-    Ok(is_as_wanted(&scene, &pool, wanted))
+    on_ground(alloc, |_, ground| {
+        three_units(ground, asks, released, weak)?;
+        Ok(is_as_wanted(ground, wanted))
+    })
 }
 
 fn failed(failure: Failure, origin: NodeKey) -> Option<Fault> {

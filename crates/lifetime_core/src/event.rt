@@ -64,7 +64,7 @@ pub(crate) fn changes_nothing(call: &Call, reply: &Reply) -> bool
 /// fire and for what is forgotten, and answers the key of a new node, if there is one.
 ///
 /// `NoMemory` where memory is refused; then the contents are as they were, but for the order of the
-/// rows of handles. It costs the work on one collection, and a few look-ups.
+/// rows of handles. It costs what `Forest::settle` costs for one collection, and a few look-ups.
 #[inline(always)]
 pub(crate) fn take_effect(
     contents: &mut Contents,

@@ -403,19 +403,19 @@ impl Core {
     /// the rows of handles, which `NoMemory` may change.
     ///
     /// It costs a binary search among the clients, a few look-ups of a node, of a collection and of
-    /// handles, and the work on one collection: that of the node or the buffer that the call names,
-    /// or the new one. A call that changes nothing there costs only the look-ups, and so does a
-    /// DropHandle beside which another handle of that buffer and strength is open. Where none is, a
-    /// DropHandle costs what `Forest::settle_drop` does: where a strong node is live nothing more,
+    /// handles, and what `Forest::settle` costs for one collection: that of the node or the buffer that
+    /// the call names, or the new one. A call that changes nothing there costs only the look-ups, and so
+    /// does a DropHandle beside which another handle of that buffer and strength is open. Where none is,
+    /// a DropHandle costs what `Forest::settle_drop` does: where a strong node is live nothing more,
     /// where the root is gone or has no buffers a look at the handles of that buffer alone, and else
     /// a look for an open strong handle among the buffers of the collection besides; where there is
     /// none the collection fails. A buffer that comes home costs a pass over their names. A node that
     /// is forgotten costs a binary search among the nodes of its collection and a move of the keys on
-    /// its shorter side; where more than 64 go in one event whose ends were spent before, or all
-    /// that is left of a collection goes, all its nodes are looked at instead. A Take costs at most
-    /// five look-ups more for each buffer, and fewer where the counts of the buffers stand one after
-    /// the other, as the first Take left them. An event that changes something in a collection costs
-    /// one test for each node and each buffer that trackers wait for there, two for a node of which
+    /// its shorter side; where more than 64 are found to be over in one event, one that is found twice
+    /// counted twice, all nodes of the collection are looked at instead. A Take costs at most five
+    /// look-ups more for each buffer, and fewer where the counts of the buffers stand one after the
+    /// other, as the first Take left them. An event that changes something in a collection costs one
+    /// test for each node and each buffer that trackers wait for there, two for a node of which
     /// lifetimes are waited for too, however many wait for the same. A TrackLifetime or TrackWeak
     /// costs a test of its own tracker, unless that fires.
     pub fn step(&mut self, client: ClientId, call: Call) -> Result<Reply, StepFault>

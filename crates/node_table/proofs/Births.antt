@@ -7,7 +7,7 @@ use Rattle.sm_names.specs.declared.keys.NodeKey.{NodeKey}
 use Rattle.sm_names.specs.Sameness.{same_key}
 use Rattle.node_table.specs.Table.{Row, Table, row_at, parent_at, parent_in, children_at, children_in, next_at, was_given}
 use Rattle.node_table.specs.Changes.{Births, at_parent, with_child}
-use Rattle.node_table.specs.Sound.{row_in, rows_of, run_in, first_in, last_in, prev_in, next_in, given_count, table_of, IsSound, IsRun, IsLinked, at_slot, Bumped}
+use Rattle.node_table.specs.Sound.{row_in, rows_of, run_in, first_in, last_in, prev_in, next_in, given_count, table_of, with_vacant, IsSound, IsRun, IsLinked, at_slot, Bumped}
 use Rattle.node_table.specs.declared.slot.Slot.{Slot}
 use Rattle.node_table.proofs.Rows.{count-gain}
 use Rattle.node_table.proofs.Keys.{eq-true, eq-false, same-fields, key_cases, same_key-equal, same_key-apart}
@@ -170,11 +170,12 @@ module _ {N : Type 0} (old new : List (Option (Slot N))) (nexts nexts2 : List �
               | inr apart ↦ rw (bumped.others k.slot apart) refl
             ]
 
-    pub births : Births before after parent node key
-    births =
+    pub births : (vacant vacant2 : ℕ) → key.slot ≡ vacant → Births (with_vacant vacant before) (with_vacant vacant2 after) parent node key
+    births vacant vacant2 slot =
         record {
           fresh = let none : nat_lt key.generation key.generation ≡ false =
               grind (arith, nat_tests) in rw (next, none) (and-false (nat_le first key.generation));
+          slot = slot;
           next = sym next;
           born = born-row;
           others = others;

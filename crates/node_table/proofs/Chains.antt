@@ -4,7 +4,7 @@ use Rattle.sm_names.specs.declared.keys.NodeKey.{NodeKey}
 use Rattle.node_table.specs.Table.{Row, Table, row_at, parent_at, children_at, children_in}
 use Rattle.node_table.specs.Forest.{next_key, siblings_at}
 use Rattle.std.specs.Option.{option_map_or}
-use Rattle.node_table.specs.Sound.{IsSound, IsRun, run_from, run_in, first_in, last_in, prev_in, next_in, rows_of, table_of, entry_in, link_in, core_of, with_children, given_count}
+use Rattle.node_table.specs.Sound.{IsSound, IsRun, run_from, run_in, first_in, last_in, prev_in, next_in, rows_of, table_of, with_vacant, entry_in, link_in, core_of, with_children, given_count}
 use Rattle.node_table.specs.declared.slot.Entry.{Entry}
 use Rattle.node_table.specs.declared.slot.Slot.{Slot}
 use Rattle.node_table.proofs.Keys.{eq-true, same-fields}
@@ -131,9 +131,9 @@ module _ {N : Type 0} where
     runs_short i = run_from-short (next_in slots) (given_count first nexts) (first_in slots i)
 
     -- a child is followed by its next sibling
-    pub next_shown : (t : Table N) → table_of slots nexts first limit ≡ t → (key : NodeKey) → IsSome (parent_at t key) →
+    pub next_shown : (vacant : ℕ) (t : Table N) → with_vacant vacant (table_of slots nexts first limit) ≡ t → (key : NodeKey) → IsSome (parent_at t key) →
         next_in slots key.slot ≡ next_key key (siblings_at t key)
-    next_shown t is key = subst (λ u. IsSome (parent_at u key) → next_in slots key.slot ≡ next_key key (siblings_at u key)) is
+    next_shown vacant t is key = subst (λ u. IsSome (parent_at u key) → next_in slots key.slot ≡ next_key key (siblings_at u key)) is
         (by_parent (parent_at (table_of slots nexts first limit) key) refl)
       where
         by_parent : (o : Option NodeKey) → parent_at (table_of slots nexts first limit) key ≡ o → IsSome o →

@@ -3,7 +3,7 @@ use Rattle.std.proofs.Common.{◌≡◌, ◌≢◌, ℕ, ◌+◌, ◌<◌, List,
 use Rattle.sm_names.specs.declared.keys.NodeKey.{NodeKey}
 use Rattle.node_table.specs.Table.{Row, Table, row_at, parent_at, parent_in, children_at, children_in, next_at}
 use Rattle.node_table.specs.Changes.{Cuts, at_parent, without_child, without_parent}
-use Rattle.node_table.specs.Sound.{row_of, rows_of, run_in, first_in, last_in, prev_in, next_in, link_in, entry_in, parent_of, given_count, table_of, IsRun, IsSound, IsLinked, EditsRows, at_slot}
+use Rattle.node_table.specs.Sound.{row_of, rows_of, run_in, first_in, last_in, prev_in, next_in, link_in, entry_in, parent_of, given_count, table_of, with_vacant, IsRun, IsSound, IsLinked, EditsRows, at_slot}
 use Rattle.node_table.specs.declared.slot.Entry.{Entry}
 use Rattle.node_table.specs.declared.slot.Slot.{Slot}
 use Rattle.node_table.proofs.Keys.{eq-true}
@@ -34,7 +34,7 @@ module _ {N : Type 0} (old : List (Option (Slot N))) (nexts : List ℕ) (first c
     before = table_of old nexts first limit
 
     abbrev half : Table N
-    half = record { rows = mid-rows; nexts = nexts; first = first; limit = limit }
+    half = record { rows = mid-rows; nexts = nexts; first = first; limit = limit; vacant = 0 }
 
     pub loosened-rows : EditsRows old-rows mid-rows (Some key) without_parent
     loosened-rows = edit-one old-rows key without_parent (slot-there before key there)
@@ -133,12 +133,13 @@ module _ {N : Type 0} (old : List (Option (Slot N))) (nexts : List ℕ) (first c
               chained = chained;
             }
 
-        pub cuts : Cuts before after key
-        cuts =
+        pub cuts : (vacant vacant2 : ℕ) → vacant2 ≡ vacant → Cuts (with_vacant vacant before) (with_vacant vacant2 after) key
+        cuts vacant vacant2 same =
             record {
               loose = loose;
               others = λ k differ. others k differ
                   ∙ ap (λ (p : Option NodeKey). option_map (at_parent p (without_child key) k) (row_at before k)) (sym had-parent);
               keys = record { given = λ k. refl; nexts = λ slot. refl; limit = refl };
+              vacant = same;
               len = count-kept;
             }

@@ -1,10 +1,10 @@
 -- A cut on the slots: the table after it is sound, and is what a cut makes of it.
-use Rattle.std.proofs.Common.{◌≡◌, ℕ, List, Some, None, is_some, IsSome, option_map, slice_index_or, refl, ◌∙◌}
+use Rattle.std.proofs.Common.{◌≡◌, ℕ, List, Some, None, is_some, IsSome, option_map, slice_index_or, refl, ap, ◌∙◌}
 use Rattle.slab.specs.Slab.{Slab, get}
 use Rattle.sm_names.specs.declared.keys.NodeKey.{NodeKey}
 use Rattle.node_table.specs.Table.{Row, row_at}
 use Rattle.node_table.specs.Changes.{Cuts}
-use Rattle.node_table.specs.Sound.{IsSound, Edits, Joins, loosened, prev_in, next_in, parent_of, table_of, entry_in, core_of}
+use Rattle.node_table.specs.Sound.{IsSound, Edits, Joins, loosened, prev_in, next_in, parent_of, table_of, table_in, entry_in, core_of}
 use Rattle.node_table.specs.declared.slot.Slot.{Slot}
 use Rattle.node_table.proofs.Slots.{option_map-keeps}
 use Rattle.node_table.proofs.Steps.{kinds}
@@ -19,7 +19,11 @@ module _ {N : Type 0} (old mid : Slab (Slot N)) (nexts : List ℕ) (first count 
     -- the cut was made, and the table is sound
     abbrev pub IsCut : Slab (Slot N) → Type 0
     IsCut new =
-        IsSound new.slots nexts first count limit × Cuts (table_of old.slots nexts first limit) (table_of new.slots nexts first limit) key
+        IsSound new.slots nexts first count limit × Cuts (table_in old nexts first limit) (table_in new nexts first limit) key
+
+    -- an entry was changed, and the vacant slot is what it was
+    same : mid.vacant_key ≡ old.vacant_key
+    same = ap (λ (s : Slab (Slot N)). s.vacant_key) edits.becomes
 
     -- a root leaves none
     pub root-cut : None ≡ parent_of old.slots key.slot → IsCut mid
@@ -30,7 +34,7 @@ module _ {N : Type 0} (old mid : Slab (Slot N)) (nexts : List ℕ) (first count 
         let rows = rows-left old mid nexts first count limit key sound there edits None was mid (λ i. refl) each in
         let chained = chained-left old mid nexts first count limit key sound there edits None was mid (λ i. refl) each in (
           sound-cut old.slots nexts first count limit None key sound there was mid.slots alike rows chained,
-          cuts old.slots nexts first count limit None key sound there was mid.slots alike rows chained,
+          cuts old.slots nexts first count limit None key sound there was mid.slots alike rows chained old.vacant_key mid.vacant_key same,
         )
 
     -- a child leaves its siblings, which are joined
@@ -45,5 +49,6 @@ module _ {N : Type 0} (old mid : Slab (Slot N)) (nexts : List ℕ) (first count 
         let rows = rows-left old mid nexts first count limit key sound there edits (Some above) was new cores each in
         let chained = chained-left old mid nexts first count limit key sound there edits (Some above) was new cores each in (
           sound-cut old.slots nexts first count limit (Some above) key sound there was new.slots alike rows chained,
-          cuts old.slots nexts first count limit (Some above) key sound there was new.slots alike rows chained,
+          cuts old.slots nexts first count limit (Some above) key sound there was new.slots alike rows chained old.vacant_key new.vacant_key
+              (joins.same_rows.vacant_key ∙ same),
         )

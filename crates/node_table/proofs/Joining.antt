@@ -7,7 +7,7 @@ use Rattle.node_table.proofs.Rows.{count-same}
 use Rattle.sm_names.specs.declared.keys.NodeKey.{NodeKey}
 use Rattle.node_table.specs.Table.{Row, row_at}
 use Rattle.node_table.specs.Changes.{Births, with_child}
-use Rattle.node_table.specs.Sound.{IsSound, IsRun, run_from, LinksLast, Bumped, run_in, first_in, last_in, prev_in, next_in, last_under, rows_of, table_of, entry_in, link_in, core_of, with_children, given_count, at_slot, unless}
+use Rattle.node_table.specs.Sound.{IsSound, IsRun, run_from, LinksLast, Bumped, run_in, first_in, last_in, prev_in, next_in, last_under, rows_of, table_of, table_in, entry_in, link_in, core_of, with_children, given_count, at_slot, unless}
 use Rattle.node_table.specs.declared.slot.Entry.{Entry}
 use Rattle.node_table.specs.declared.slot.Slot.{Slot}
 use Rattle.node_table.specs.declared.slot.Slot.TheVariants.{Taken}
@@ -302,14 +302,14 @@ module _ {N : Type 0} (old mid new : Slab (Slot N)) (nexts nexts2 : List ℕ) (f
     born-kinds i differ = ap is_some (updates.others i differ) ∙ linked.same_rows.kinds i
 
     -- the table after the birth is sound, and is what a birth makes of it
-    pub born : slice_index_or nexts key.slot first ≡ key.generation → count < limit
+    pub born : slice_index_or nexts key.slot first ≡ key.generation → key.slot ≡ old.vacant_key → count < limit
         → IsSound new.slots nexts2 first (count + 1) limit
-        × Births (table_of old.slots nexts first limit) (table_of new.slots nexts2 first limit) parent node key
-    born next room = (
+        × Births (table_in old nexts first limit) (table_in new nexts2 first limit) parent node key
+    born next slot room = (
       sound-born old.slots new.slots nexts nexts2 first count limit parent key node sound next was_vacant bumped born-taken born-kinds
           other-row new-row chained-born in_table room,
       births old.slots new.slots nexts nexts2 first count limit parent key node sound next was_vacant bumped born-taken born-kinds other-row
-          new-row chained-born in_table room,
+          new-row chained-born in_table room old.vacant_key new.vacant_key slot,
     )
 
 module _ {N : Type 0} where

@@ -4,7 +4,7 @@ use Rattle.std.proofs.lemmas.Bool.Decides.{nat_tests}
 use Rattle.sm_names.specs.declared.keys.NodeKey.{NodeKey}
 use Rattle.node_table.specs.Table.{Table, empty_table, row_at, was_given, parent_at, parent_in, children_at, children_in}
 use Rattle.node_table.specs.Forest.{IsForest}
-use Rattle.node_table.specs.Sound.{IsSound, table_of}
+use Rattle.node_table.specs.Sound.{IsSound, table_of, with_vacant}
 use Rattle.node_table.specs.declared.slot.Slot.{Slot}
 use Rattle.node_table.proofs.Depths.{parent-there, deeper, shallow, next-there, slot-there, none-then}
 
@@ -28,8 +28,8 @@ module _ {N : Type 0} (slots : List (Option (Slot N))) (nexts : List ℕ) (first
       given-between first key.generation (slice_index_or nexts key.slot first) (omega arith) (omega arith)
 
   -- each table is a forest
-  pub forest : (t : Table N) → table_of slots nexts first limit ≡ t → IsForest t
-  forest t is =
+  pub forest : (vacant : ℕ) (t : Table N) → with_vacant vacant (table_of slots nexts first limit) ≡ t → IsForest t
+  forest vacant t is =
       subst (λ (u : Table N). IsForest u) is
       (record {
         linked = sound.forest.linked;

@@ -5,7 +5,7 @@ use Rattle.slab.specs.Slab.{Slab, get}
 use Rattle.sm_names.specs.declared.keys.NodeKey.{NodeKey}
 use Rattle.node_table.specs.Table.{Row, Table, row_at, node_at, parent_at, parent_in, children_at, children_in, next_at}
 use Rattle.node_table.specs.Changes.{Cuts, Removes, without_parent}
-use Rattle.node_table.specs.Sound.{row_in, row_of, rows_of, core_of, with_children, entry_in, link_in, run_in, first_in, last_in, prev_in, next_in, given_count, IsRun, table_of, IsSound}
+use Rattle.node_table.specs.Sound.{row_in, row_of, rows_of, core_of, with_children, entry_in, link_in, run_in, first_in, last_in, prev_in, next_in, given_count, IsRun, table_in, IsSound}
 use Rattle.node_table.specs.declared.slot.Entry.{Entry}
 use Rattle.node_table.specs.declared.slot.Slot.{Slot}
 use Rattle.node_table.specs.declared.slot.Slot.TheVariants.{Taken}
@@ -27,7 +27,7 @@ node-through (Some row) = refl
 module _ {N : Type 0} (whole : Table N) (old new : Slab (Slot N)) (nexts : List ℕ) (first count limit : ℕ) (key : NodeKey) (e : Entry N)
     (there : IsSome (row_at whole key))
     (leaf : children_at whole key ≡ [])
-    (cut : Cuts whole (table_of old.slots nexts first limit) key)
+    (cut : Cuts whole (table_in old nexts first limit) key)
     (sound : IsSound old.slots nexts first count limit)
     (was : get old key.slot ≡ Some (Taken e))
     (empty : entry_in (get new key.slot) ≡ None)
@@ -37,10 +37,10 @@ module _ {N : Type 0} (whole : Table N) (old new : Slab (Slot N)) (nexts : List 
   where
     -- the table after the cut, and in the end
     abbrev before : Table N
-    before = table_of old.slots nexts first limit
+    before = table_in old nexts first limit
 
     abbrev after : Table N
-    after = table_of new.slots nexts first limit
+    after = table_in new nexts first limit
 
     had-next : slice_index_or nexts key.slot first ≡ key.generation + 1
     had-next = next-there before key (ap is_some cut.loose ∙ is_some-option_map without_parent (row_at whole key) ∙ there)

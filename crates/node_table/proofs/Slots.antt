@@ -126,13 +126,13 @@ module _ {N : Type 0} where
   -- the row of each key after an edit of the parent's row
   pub edited-key : (old new : List (Option (Row N))) (nexts : List ℕ) (first limit : ℕ) (parent : Option NodeKey) (f : Row N → Row N) →
       EditsRows old new parent f → IfSome parent (λ p.
-      IsSome (row_at (record { rows = old; nexts = nexts; first = first; limit = limit }) p)) → (key : NodeKey) →
-      row_at (record { rows = new; nexts = nexts; first = first; limit = limit }) key ≡ option_map (at_parent parent f key)
-      (row_at (record { rows = old; nexts = nexts; first = first; limit = limit }) key)
+      IsSome (row_at (record { rows = old; nexts = nexts; first = first; limit = limit; vacant = 0 }) p)) → (key : NodeKey) →
+      row_at (record { rows = new; nexts = nexts; first = first; limit = limit; vacant = 0 }) key ≡ option_map (at_parent parent f key)
+      (row_at (record { rows = old; nexts = nexts; first = first; limit = limit; vacant = 0 }) key)
   edited-key old new nexts first limit parent f edits there key =
       rw (edits key.slot)
       (map-then _ _ (at_slot parent f key.slot) (at_parent parent f key)
-      (slot_as_parent (record { rows = old; nexts = nexts; first = first; limit = limit }) parent f key there))
+      (slot_as_parent (record { rows = old; nexts = nexts; first = first; limit = limit; vacant = 0 }) parent f key there))
 
   -- there are as many nodes after an edit
   pub edited-count : (old new : List (Option (Row N))) (parent : Option NodeKey) (f : Row N → Row N) → EditsRows old new parent f →

@@ -6,7 +6,7 @@ use Rattle.sm_names.specs.declared.keys.NodeKey.{NodeKey}
 use Rattle.node_table.specs.Table.{Row, Table, row_at, node_at, parent_in, children_in, next_at}
 use Rattle.node_table.specs.Changes.{Writes, at_parent, with_node}
 use Rattle.node_table.specs.Lending.{table_with_node}
-use Rattle.node_table.specs.Sound.{row_in, rows_of, run_in, first_in, last_in, prev_in, next_in, link_in, given_count, IsRun, table_of, IsSound, EditsRows, Edits, at_slot}
+use Rattle.node_table.specs.Sound.{row_in, rows_of, run_in, first_in, last_in, prev_in, next_in, link_in, given_count, IsRun, table_of, table_in, IsSound, EditsRows, Edits, at_slot}
 use Rattle.node_table.specs.declared.slot.Entry.{Entry}
 use Rattle.node_table.specs.declared.slot.Slot.{Slot}
 use Rattle.node_table.specs.declared.slot.Slot.TheVariants.{Taken}
@@ -63,8 +63,8 @@ module _ {N : Type 0} (slots : Slab (Slot N)) (nexts : List ℕ) (first count li
         ∙ ap (λ (o : Option (Row N)). slice_set (rows_of slots.slots most) key.slot (option_map (with_node node) o))
         (sym (row-at slots.slots most key.slot ∙ ap (row_in (next_in slots.slots) most) was)))
 
-    pub table-written : table_of written.slots nexts first limit ≡ table_with_node (table_of slots.slots nexts first limit) key node
-    table-written = ap (λ (rows : List (Option (Row N))). record { rows = rows; nexts = nexts; first = first; limit = limit }) rows-written
+    pub table-written : table_in written nexts first limit ≡ table_with_node (table_in slots nexts first limit) key node
+    table-written = ap (λ (rows : List (Option (Row N))). record { rows = rows; nexts = nexts; first = first; limit = limit; vacant = slots.vacant_key }) rows-written
 
     edits-rows : EditsRows (rows_of slots.slots most) (rows_of written.slots most) (Some key) (with_node node)
     edits-rows i =
@@ -167,6 +167,7 @@ module _ {N : Type 0} (t : Table N) (key : NodeKey) (node : N) (there : IsSome (
             ∙ through (next_at t key.slot == key.generation + 1) (slice_index_or t.rows key.slot None);
         others = others;
         keys = record { given = λ k. refl; nexts = λ slot. refl; limit = refl };
+        vacant = refl;
         len = count-same t.rows after.rows (λ i. elim (cases_eq i key.slot) [
           | inl at ↦ rw (at, here) (is_some-option_map (with_node node) (slice_index_or t.rows key.slot None))
           | inr apart ↦ ap is_some (away i apart)

@@ -32,10 +32,11 @@ module _ {N : Type 0} where
     pub nexts : (slot : ℕ) → next_at new slot ≡ next_at old slot
     pub limit : new.limit ≡ old.limit
 
-  -- a node was born under the next key of some slot, which no node had before; its parent has it as
+  -- a node was born under the next key of the vacant slot, which no node had before; its parent has it as
   -- the last child, and no other row changed
   pub record Births (old new : Table N) (parent : Option NodeKey) (node : N) (key : NodeKey) : Type 0 where
     pub fresh : was_given old key ≡ false
+    pub slot : key.slot ≡ old.vacant
     pub next : key.generation ≡ next_at old key.slot
     pub born : row_at new key ≡ Some (record { parent = parent; children = []; node = node })
     pub others : (other : NodeKey) → other ≢ key
@@ -51,6 +52,7 @@ module _ {N : Type 0} where
     pub others : (other : NodeKey) → other ≢ key
         → row_at new other ≡ option_map (at_parent (parent_at old key) (without_child key) other) (row_at old other)
     pub keys : SameKeys old new
+    pub vacant : new.vacant ≡ old.vacant
     pub len : table_len new ≡ table_len old
 
   -- the key is gone with this node, its parent lost that child, and no other row changed
@@ -67,4 +69,5 @@ module _ {N : Type 0} where
     pub written : row_at new key ≡ option_map (with_node node) (row_at old key)
     pub others : (other : NodeKey) → other ≢ key → row_at new other ≡ row_at old other
     pub keys : SameKeys old new
+    pub vacant : new.vacant ≡ old.vacant
     pub len : table_len new ≡ table_len old

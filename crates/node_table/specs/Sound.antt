@@ -108,10 +108,18 @@ module _ {N : Type 0} where
   abbrev pub rows_of : List (Option (Slot N)) → ℕ → List (Option (Row N))
   rows_of slots most = map (row_in (next_in slots) most) slots
 
-  -- the table that these slots make
+  -- the table that these slots make, but for the slot of the next birth
   abbrev pub table_of : List (Option (Slot N)) → List ℕ → ℕ → ℕ → Table N
   table_of slots nexts first limit =
-      record { rows = rows_of slots (given_count first nexts); nexts = nexts; first = first; limit = limit }
+      record { rows = rows_of slots (given_count first nexts); nexts = nexts; first = first; limit = limit; vacant = 0 }
+
+  -- the table whose next birth uses this slot
+  abbrev pub with_vacant : ℕ → Table N → Table N
+  with_vacant slot t = record t { vacant = slot }
+
+  -- the table that this slab makes
+  abbrev pub table_in : Slab (Slot N) → List ℕ → ℕ → ℕ → Table N
+  table_in slots nexts first limit = with_vacant slots.vacant_key (table_of slots.slots nexts first limit)
 
   -- the slot is taken by a node
   abbrev pub HasEntry : Slab (Slot N) → ℕ → Type 0

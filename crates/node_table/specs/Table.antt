@@ -12,12 +12,13 @@ pub record Row (N : Type 0) : Type 0 where
   pub node : N
 
 -- the row or nothing of each slot, the generation that each slot gives next, the generation that a
--- slot gives first, and how many nodes fit
+-- slot gives first, how many nodes fit, and the slot that the next birth uses
 pub record Table (N : Type 0) : Type 0 where
   pub rows : List (Option (Row N))
   pub nexts : List ℕ
   pub first : ℕ
   pub limit : ℕ
+  pub vacant : ℕ
 
 -- a key is stored as the pair of its fields
 abbrev pub key_code : Coded NodeKey
@@ -36,16 +37,16 @@ row_code {N} code =
 -- a table is stored as the tuple of its fields
 abbrev pub table_code : {N : Type 0} → Coded N → Coded (Table N)
 table_code {N} code =
-    code_by (List (Option (Row N)) × (List ℕ × (ℕ × ℕ)))
-    (coded× (coded_list (coded_option (row_code code))) (coded× (coded_list coded_ℕ) (coded× coded_ℕ coded_ℕ)))
-    (λ t. (t.rows, (t.nexts, (t.first, t.limit))))
-    (λ p. record { rows = p.0; nexts = p.1.0; first = p.1.1.0; limit = p.1.1.1 })
+    code_by (List (Option (Row N)) × (List ℕ × (ℕ × (ℕ × ℕ))))
+    (coded× (coded_list (coded_option (row_code code))) (coded× (coded_list coded_ℕ) (coded× coded_ℕ (coded× coded_ℕ coded_ℕ))))
+    (λ t. (t.rows, (t.nexts, (t.first, (t.limit, t.vacant)))))
+    (λ p. record { rows = p.0; nexts = p.1.0; first = p.1.1.0; limit = p.1.1.1.0; vacant = p.1.1.1.1 })
     (λ _. refl)
 
 module _ {N : Type 0} where
   -- a table that never had a node
   abbrev pub empty_table : ℕ → ℕ → Table N
-  empty_table first limit = record { rows = []; nexts = []; first = first; limit = limit }
+  empty_table first limit = record { rows = []; nexts = []; first = first; limit = limit; vacant = 0 }
 
   -- the generation that a slot gives next
   abbrev pub next_at : Table N → ℕ → ℕ

@@ -40,9 +40,9 @@ impl<N> Model for NodeTable<N> {
 
     ghost coded = { table_code N.code };
 
-    ghost use Rattle.node_table.specs.Sound.{table_of, IsSound};
+    ghost use Rattle.node_table.specs.Sound.{table_in, IsSound};
 
-    ghost view = { λ t. table_of t.slots.slots t.nexts.items t.first t.limit };
+    ghost view = { λ t. table_in t.slots t.nexts.items t.first t.limit };
 
     ghost invariant = { λ t. IsSound t.slots.slots t.nexts.items t.first t.count t.limit };
 }
@@ -81,6 +81,13 @@ impl<N> NodeTable<N> {
         ensures { result ≡ table_len self.now }
     {
         self.count
+    }
+
+    /// The slot that the next node is stored in, if it is stored. It costs a constant.
+    pub fn next_slot(&self) -> usize
+        ensures { result ≡ self.now.vacant }
+    {
+        self.slots.vacant_key()
     }
 
     /// Whether `key` is there: it was given, and its node was not removed. It costs a constant.

@@ -4,29 +4,27 @@ use Rattle.std.proofs.lemmas.Bool.{not-true}
 use Rattle.std.specs.List.{list_any, list_all, find, filter}
 use Rattle.std.specs.Option.{option_map, option_map_or, option_and_then}
 use Rattle.std.proofs.Math.Bool.{or-true}
-use Rattle.sm_names.specs.declared.keys.Interval.{Interval}
 use Rattle.sm_names.specs.declared.keys.NodeKey.{NodeKey}
 use Rattle.sm_names.specs.declared.outcomes.Buffers.{Buffers}
 use Rattle.sm_names.specs.declared.outcomes.Cause.{Cause}
-use Rattle.sm_names.specs.Forced.{forced, is_deserted, is_next_head}
+use Rattle.sm_names.specs.Forced.{is_deserted, is_next_head}
 use Rattle.sm_names.specs.Members.{Member, is_ready, root_left}
 use Rattle.sm_names.specs.Sameness.{same_key}
 use Rattle.sm_names.specs.Words.{first_some, when, times}
 use Rattle.sm_names.proofs.ListLaws.{In, In-filter, In-filter-back, filter-swap, map-In, filter-all}
-use Rattle.sm_names.proofs.SamenessLaws.{both_ways, either_way, none_is, or_left}
+use Rattle.sm_names.proofs.SamenessLaws.{both_ways, either_way, none_is}
 use Rattle.sm_names.proofs.PlaceLaws.{map-None}
 use Rattle.alloc_event.specs.declared.decision.Decision.{Decision}
 use Rattle.alloc_event.specs.declared.decision.Decision.TheVariants.{Ends, Loses}
 use Rattle.alloc_event.specs.declared.node.Node.{Node}
 use Rattle.alloc_event.specs.Calm.{IsCalm, strong_count}
-use Rattle.alloc_event.specs.Decisions.{decided, first_step, has_strong, later_step, mark_of, waiting}
-use Rattle.alloc_event.specs.Forest.{Collection, pages_in, with_nodes}
+use Rattle.alloc_event.specs.Decisions.{decided, first_step, has_strong, later_step, waiting}
+use Rattle.alloc_event.specs.Forest.{Collection, with_nodes}
 use Rattle.alloc_event.specs.Kept.{IsWhole}
 use Rattle.alloc_event.specs.Nodes.{above_among, member_of, members_of, node_of}
 use Rattle.alloc_event.specs.Questions.{is_allocated_node, is_below, is_deserted_node, is_live_node, is_next_node, is_ready_node, is_root_left, lives_below}
-use Rattle.alloc_event.specs.Settling.{Handles, standing}
 use Rattle.alloc_event.proofs.tables.Chains.{one_line}
-use Rattle.alloc_event.proofs.calm.Forcing.{deserted_tie, forced_made, next_tie, ready_tie, root_tie}
+use Rattle.alloc_event.proofs.calm.Forcing.{deserted_tie, next_tie, ready_tie, root_tie}
 use Rattle.alloc_event.proofs.tables.KeptRoots.{map-reverse_aux, rooted_filter}
 use Rattle.alloc_event.proofs.tables.Rooted.{IsRooted, left_in, line_of, whole_rooted}
 use Rattle.alloc_event.proofs.calm.Steps.{found_by_key}
@@ -93,32 +91,6 @@ calm_none c none = none_decided c.nodes c.buffers true (or-true (has_strong c.no
 pub none_calm : (c : Collection) → IsCalm c → AreNone c.nodes c.buffers
 none_calm c calm = decided_parts c.nodes c.buffers true calm
 
--- a collection in which nothing is forced is calm
-pub calm_rested : (pool : ℕ) (handles : Handles) (others : List Interval) (c : Collection) →
-    forced pool (standing handles others c) ≡ None → IsCalm c
-calm_rested pool handles others c h =
-    calm_none c (decided_parts c.nodes c.buffers (standing handles others c).strong_open
-    (map-None (mark_of pool (pages_in c ++ others)) (decided c.nodes c.buffers (standing handles others c).strong_open)
-    (sym (forced_made handles pool others c) ∙ h)))
-
--- and its root is not lost
-pub kept_rested : (pool : ℕ) (handles : Handles) (others : List Interval) (c : Collection) →
-    forced pool (standing handles others c) ≡ None →
-    option_and_then (λ (root : Node). when (root.allocated && (not (has_strong c.nodes) && not (standing handles others c).strong_open))
-    (Loses root.key Cause.NoStrong)) (find is_root_left c.nodes) ≡ None
-kept_rested pool handles others c h =
-    (four_none _ _ _ _ (map-None (mark_of pool (pages_in c ++ others)) (decided c.nodes c.buffers (standing handles others c).strong_open)
-    (sym (forced_made handles pool others c) ∙ h))).1
-
--- in a calm collection nothing is forced while a strong node lives
-pub rests_strong : (c : Collection) → IsCalm c → has_strong c.nodes ≡ true → (pool : ℕ) (handles : Handles) (others : List Interval) →
-    forced pool (standing handles others c) ≡ None
-rests_strong c calm strong pool handles others =
-    forced_made handles pool others c
-    ∙ ap (option_map (mark_of pool (pages_in c ++ others)))
-    (none_decided c.nodes c.buffers (standing handles others c).strong_open (or_left (has_strong c.nodes)
-    (standing handles others c).strong_open strong) (none_calm c calm))
-
 -- ---- counts
 
 -- some pass exactly where the count is not 0
@@ -140,7 +112,7 @@ count_none test (n ∷ ns) none = elim (either_way (test n)) [
 -- ---- nodes that are gone are left out
 
 -- the tie of the root that waits
-wait_tie : (nodes : List Node) →
+pub wait_tie : (nodes : List Node) →
     option_map_or (λ (root : Member). not root.allocated && is_ready root.key (members_of nodes)) (root_left (members_of nodes))
     false ≡ is_some (waiting nodes)
 wait_tie nodes =

@@ -1,25 +1,19 @@
 -- The nodes of a unit go together, whatever is changed or forced.
-use Rattle.std.proofs.Common.{◌≡◌, ℕ, zero, suc, ◌<◌, refl, ap, sym, ◌∙◌, subst, Bool, true, false, not, ◌&&◌, ◌||◌, ◌⊎◌, inl, inr, is_none, length, List, [], ◌∷◌, ◌++◌, map, reverse, filter, Option, Some, None, arith}
-use Rattle.std.specs.List.{list_any, list_all}
+use Rattle.std.proofs.Common.{◌≡◌, ℕ, zero, suc, ◌<◌, refl, ap, sym, ◌∙◌, subst, Bool, true, false, ◌&&◌, ◌||◌, ◌⊎◌, inl, inr, is_none, length, List, [], ◌∷◌, ◌++◌, map, reverse, filter, Some, arith}
+use Rattle.std.specs.List.{list_all}
 use Rattle.sm_names.specs.declared.keys.NodeKey.{NodeKey}
-use Rattle.sm_names.specs.declared.outcomes.Fault.{Fault}
-use Rattle.sm_names.specs.Losses.{top as topmost}
 use Rattle.sm_names.specs.Sameness.{same_key}
-use Rattle.sm_names.proofs.ListLaws.{In, In-append, In-filter, In-list_any, In-map}
-use Rattle.sm_names.proofs.ReachLaws.{IsChain}
-use Rattle.sm_names.proofs.SamenessLaws.{and_left, and_right, both_ways, either_way, or_cases, or_none_left, or_none_right, same_key-true}
+use Rattle.sm_names.proofs.ListLaws.{In, In-append, In-filter, In-map}
+use Rattle.sm_names.proofs.SamenessLaws.{both_ways, either_way, or_none_left, or_none_right}
 use Rattle.alloc_event.specs.declared.change.Effect.{Effect}
 use Rattle.alloc_event.specs.declared.node.Node.{Node}
 use Rattle.alloc_event.specs.Decisions.{is_left_of}
-use Rattle.alloc_event.specs.Nodes.{affected, after_allocation, after_effect, after_end, after_loss, ended, given_buffers, is_taken, lost, node_of}
-use Rattle.alloc_event.specs.Questions.{blocks_here, is_below}
+use Rattle.alloc_event.specs.Nodes.{affected, after_allocation, after_effect, given_buffers}
 use Rattle.alloc_event.specs.Scenes.{are_distinct, heads_itself}
 use Rattle.alloc_event.specs.Ties.{are_rooted}
 use Rattle.alloc_event.specs.Units.{GoTogether, are_united, is_head}
-use Rattle.alloc_event.proofs.calm.Steps.{found_by_key}
-use Rattle.alloc_event.proofs.failures.Takings.{highest_of, taken_found}
-use Rattle.alloc_event.proofs.tables.Rooted.{distinct_one, left_in, left_node, left_parent}
-use Rattle.alloc_event.proofs.tallies.Holding.{chain, has_parent, line, own_head, shared, step, still_here, up}
+use Rattle.alloc_event.proofs.tables.Rooted.{distinct_one, left_parent}
+use Rattle.alloc_event.proofs.tallies.Holding.{has_parent, line, own_head, shared, step, still_here}
 
 -- ---- some nodes
 
@@ -222,96 +216,3 @@ module _ (nodes : List Node) (formed : AreFormed nodes) where
   pub goes_up : (taken : Node → Bool) → StepsUp nodes taken → GoesUp nodes taken
   goes_up taken steps n h on there unit own here stays bare e =
       climbs taken steps h there own stays bare (suc (length (line_at n.key))) n on unit here (omega arith) e
-
-  chain_at : (key : NodeKey) → is_left_of nodes key ≡ true →
-      IsChain (up nodes formed.distinct formed.heads formed.rooted formed.united) key (line_at key)
-  chain_at = chain nodes formed.distinct formed.heads formed.rooted formed.united
-
-  -- the node's parent is found
-  goes_to : (n : Node) → In n nodes → n.gone ≡ false → (p : NodeKey) → n.parent ≡ Some p →
-      up nodes formed.distinct formed.heads formed.rooted formed.united n.key ≡ Some p
-  goes_to n on here p is =
-      (subst (λ (l : List NodeKey). IsChain (up nodes formed.distinct formed.heads formed.rooted formed.united) n.key l)
-      (step_at n on here p is) (chain_at n.key (left_in nodes n on here))).0
-
-  -- a failure stops where it is blocked, or there is no parent
-  stops : (parent : NodeKey → Option NodeKey) (blocks : NodeKey → Bool) (key : NodeKey) (above : List NodeKey) → IsChain parent key above →
-      (blocks (topmost blocks key above) ≡ true) ⊎ (parent (topmost blocks key above) ≡ None)
-  stops parent blocks key [] way = inr way
-  stops parent blocks key (p ∷ above) way =
-      elim (either_way (blocks key)) [
-        | inl e ↦ rw e (inl e)
-        | inr e ↦ rw e (stops parent blocks p above way.1)
-      ]
-
-  -- what lies above a node but it itself lies above its parent
-  above_parent : (top : NodeKey) (n q : Node) (p : NodeKey) → In n nodes → n.gone ≡ false → n.parent ≡ Some p → q.key ≡ p →
-      list_any (same_key top) (line_at n.key) ≡ true → is_below nodes top q.key ≡ true
-  above_parent top n q p on here is key far =
-      subst (λ (k : NodeKey). list_any (same_key top) (k ∷ line_at k) ≡ true) (sym key)
-      (sym (ap (list_any (same_key top)) (step_at n on here p is)) ∙ far)
-
-  -- a node that blocks is attached or has its buffers
-  not_blocked : (n : Node) → In n nodes → n.attached ≡ false → n.allocated ≡ false → list_any (blocks_here n.key) nodes ≡ true → ⊥
-  not_blocked n on loose bare h =
-      let x = In-list_any (blocks_here n.key) nodes h in
-      let two = and_right (not x.0.gone) _ x.2 in
-      let same : x.0 ≡ n = one x.0 n x.1 on (same_key-true x.0.key n.key (and_left (same_key x.0.key n.key) _ two)) in
-      let blocks : (n.attached || (n.dispensable && n.allocated)) ≡ true =
-      subst (λ (m : Node). (m.attached || (m.dispensable && m.allocated)) ≡ true) same (and_right (same_key x.0.key n.key) _ two) in
-      from n.attached n.dispensable n.allocated loose bare blocks
-    where
-      from : (a d b : Bool) → a ≡ false → b ≡ false → (a || (d && b)) ≡ true → ⊥
-      from true d b ea eb h = cc
-      from false true true ea eb h = cc
-      from false true false ea eb h = cc
-      from false false b ea eb h = cc
-
-  loss_steps : (origin : NodeKey) → is_left_of nodes origin ≡ true → StepsUp nodes (is_taken nodes origin)
-  loss_steps origin left n q p on there is key here loose bare e =
-      let x = left_node nodes origin left in
-      let found : node_of nodes origin ≡ Some x.node =
-      subst (λ (k : NodeKey). node_of nodes k ≡ Some x.node) x.is (found_by_key nodes x.node formed.distinct x.on) in
-      let below : is_below nodes (highest_of nodes origin) n.key ≡ true = sym (taken_found nodes x.node n origin found) ∙ e in
-      taken_found nodes x.node q origin found
-      ∙ elim (or_cases (same_key (highest_of nodes origin) n.key) (list_any (same_key (highest_of nodes origin)) (line_at n.key)) below) [
-        | inl own ↦
-            let top : highest_of nodes origin ≡ n.key = same_key-true (highest_of nodes origin) n.key own in
-            elim (stops (up nodes formed.distinct formed.heads formed.rooted formed.united) (λ k. list_any (blocks_here k) nodes) origin
-            (line_at origin) (chain_at origin left)) [
-              | inl blocked ↦ absurd (not_blocked n on loose bare
-                  (ap (λ (k : NodeKey). list_any (blocks_here k) nodes) (sym top) ∙ blocked))
-              | inr none ↦
-                  let no : Some p ≡ None =
-                  sym (goes_to n on here p is)
-                  ∙ (ap (up nodes formed.distinct formed.heads formed.rooted formed.united) (sym top) ∙ none) in
-                  cc
-            ]
-        | inr far ↦ above_parent (highest_of nodes origin) n q p on here is key far
-      ]
-
-  -- a loss takes a unit without buffers as a whole, or none of it
-  pub together_loss : (fault : Fault) → is_left_of nodes fault.origin ≡ true → GoTogether (after_loss fault nodes)
-  together_loss fault left =
-      together_taken nodes (lost (is_taken nodes fault.origin) fault) (is_taken nodes fault.origin)
-      (record { key = λ n. refl; head = λ n. refl; allocated = λ n. refl; gone = λ n. refl })
-      (goes_up (is_taken nodes fault.origin) (loss_steps fault.origin left)) formed.together
-
-  -- and so does an end, which begins at a head
-  pub together_end : (t : Node) → In t nodes → is_head t ≡ true → GoTogether (after_end t.key nodes)
-  together_end t top_on head =
-      together_taken nodes (ended nodes t.key) (λ n. is_below nodes t.key n.key)
-      (record { key = λ n. refl; head = λ n. refl; allocated = λ n. refl; gone = λ n. refl })
-      (goes_up (λ n. is_below nodes t.key n.key) steps) formed.together
-    where
-      no_head : (n : Node) (p : NodeKey) → n.parent ≡ Some p → n.attached ≡ false → is_head n ≡ false
-      no_head n p is loose = rw (is, loose) refl
-
-      steps : StepsUp nodes (λ n. is_below nodes t.key n.key)
-      steps n q p on there is key here loose bare e =
-          elim (or_cases (same_key t.key n.key) (list_any (same_key t.key) (line_at n.key)) e) [
-            | inl own ↦
-                both_ways (is_head t) head
-                (ap is_head (one t n top_on on (same_key-true t.key n.key own)) ∙ no_head n p is loose)
-            | inr far ↦ above_parent t.key n q p on here is key far
-          ]

@@ -8,7 +8,6 @@ use Rattle.sm_names.proofs.ListLaws.{In, In-reverse, list_all-filter}
 use Rattle.sm_names.proofs.SamenessLaws.{and_both, and_left, and_right, either_way}
 use Rattle.sm_names.proofs.SizeLaws.{all_on}
 use Rattle.alloc_event.specs.declared.node.Node.{Node}
-use Rattle.alloc_event.specs.Scenes.{frame_of}
 use Rattle.alloc_event.specs.Units.{are_united, shares_unit}
 use Rattle.alloc_event.proofs.tables.KeptRoots.{filter-reverse_aux, map-reverse_aux}
 
@@ -35,14 +34,6 @@ module _ (f : Node → Node) (keeps : KeepsUnit f) where
   -- nodes that are changed so stay united
   pub united_mapped : (ns : List Node) → are_united (reverse (map f ns)) ≡ are_united (reverse ns)
   united_mapped ns = ap are_united (sym (map-reverse_aux f ns [])) ∙ united_map (reverse ns)
-
--- nodes with the same frames are as united
-pub united_frames : (new old : List Node) → map frame_of new ≡ map frame_of old → are_united (reverse old) ≡ true →
-    are_united (reverse new) ≡ true
-united_frames new old same united =
-    let keeps : KeepsUnit frame_of = record { key = λ n. refl; parent = λ n. refl; attached = λ n. refl; head = λ n. refl } in
-    sym (united_mapped frame_of keeps new) ∙ ap (λ (ns : List Node). are_united (reverse ns)) same ∙ united_mapped frame_of keeps old
-    ∙ united
 
 -- ---- some of the nodes
 

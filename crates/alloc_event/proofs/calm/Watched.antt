@@ -1,7 +1,7 @@
 -- A collection with a strong live node: nothing is forced in it, and no buffer is home.
-use Rattle.std.proofs.Common.{◌≡◌, ℕ, zero, suc, Bool, true, false, ◌&&◌, ◌==◌, not, nat_lt, List, [], ◌∷◌, Some, cond, refl, sym, ap, subst, ◌∙◌, arith}
+use Rattle.std.proofs.Common.{◌≡◌, ℕ, zero, suc, Bool, true, false, ◌&&◌, ◌==◌, not, nat_lt, List, [], ◌∷◌, Some, cond, refl, sym, subst, ◌∙◌, arith}
 use Rattle.std.proofs.lemmas.Bool.{lt-ltb}
-use Rattle.std.specs.List.{find, filter, list_all, list_any}
+use Rattle.std.specs.List.{find, list_all, list_any}
 use Rattle.sm_names.specs.declared.keys.Strength.{Strength}
 use Rattle.sm_names.specs.Handles.{is_home}
 use Rattle.sm_names.specs.Members.{some_strong_live}
@@ -14,7 +14,7 @@ use Rattle.alloc_event.specs.Decisions.{has_strong}
 use Rattle.alloc_event.specs.Forest.{Collection}
 use Rattle.alloc_event.specs.Kept.{is_strong}
 use Rattle.alloc_event.specs.Nodes.{members_of}
-use Rattle.alloc_event.specs.Settling.{Handles, given_back, is_home_in}
+use Rattle.alloc_event.specs.Settling.{Handles, is_home_in}
 use Rattle.alloc_event.proofs.calm.Calming.{count_none, count_some}
 use Rattle.alloc_event.proofs.calm.Forcing.{strong_tie}
 
@@ -56,18 +56,10 @@ all_pass : {A : Type 0} (p : A → Bool) (xs : List A) → ((x : A) → p x ≡ 
 all_pass p [] each = refl
 all_pass p (x ∷ xs) each = rw (each x) (all_pass p xs each)
 
-all_stay : {A : Type 0} (p : A → Bool) (xs : List A) → ((x : A) → p x ≡ true) → filter p xs ≡ xs
-all_stay p [] each = refl
-all_stay p (x ∷ xs) each = rw (each x) (ap (λ ys. x ∷ ys) (all_stay p xs each))
-
 module _ (handles : Handles) (c : Collection) (strong : has_strong c.nodes ≡ true) where
   away : (h : HeldBuffer) → not (is_home_in handles c h.buffer) ≡ true
   away h = none_home (handles h.buffer Strength.Strong) (handles h.buffer Strength.Weak) (some_strong_live (members_of c.nodes))
       (strong_tie c.nodes ∙ strong)
-
-  -- so no pages go back
-  pub nothing_back : given_back handles c ≡ c
-  nothing_back = λ i. record c { held = all_stay (λ (h : HeldBuffer). not (is_home_in handles c h.buffer)) c.held away i }
 
   pub all_out : list_all (λ (h : HeldBuffer). not (is_home_in handles c h.buffer)) c.held ≡ true
   all_out = all_pass (λ (h : HeldBuffer). not (is_home_in handles c h.buffer)) c.held away

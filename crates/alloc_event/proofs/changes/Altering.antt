@@ -1,30 +1,25 @@
 -- A change to a collection that is there: what it keeps of the nodes, and where they lie.
-use Rattle.std.proofs.Common.{◌≡◌, ℕ, ◌<◌, ◌==◌, nat_lt, Bool, true, false, ◌||◌, ◌&&◌, not, List, [], ◌∷◌, map, reverse, Option, Some, None, option_map, is_some, cond, refl, sym, ap, subst, ◌∙◌, inl, inr, arith}
+use Rattle.std.proofs.Common.{◌≡◌, ℕ, ◌<◌, ◌==◌, nat_lt, Bool, true, false, ◌||◌, ◌&&◌, not, List, [], ◌∷◌, map, Option, Some, None, option_map, is_some, cond, refl, sym, ap, subst, ◌∙◌, inl, inr, arith}
 use Rattle.std.specs.List.{list_any, list_all, find, cons_option, AllByRecursion}
-use Rattle.std.specs.Option.{option_map_or, unwrap_or}
+use Rattle.std.specs.Option.{option_map_or}
 use Rattle.std.proofs.lemmas.Bool.{eqb-true, eq-eqb, ne_eqb, ltb-true, lt-ltb, false≢true}
 use Rattle.std.proofs.lemmas.List.Folds.{list_any-append}
 use Rattle.sm_names.specs.declared.keys.NodeKey.{NodeKey}
 use Rattle.sm_names.specs.Sameness.{same_key}
 use Rattle.sm_names.proofs.SamenessLaws.{and_left, and_right, or_cases, same_key-true}
-use Rattle.node_table.specs.Table.{Table, node_at, was_given}
+use Rattle.node_table.specs.Table.{Table, node_at}
 use Rattle.alloc_event.specs.declared.change.Change.{Change}
 use Rattle.alloc_event.specs.declared.change.Effect.{Effect}
 use Rattle.alloc_event.specs.declared.node.Node.{Node}
 use Rattle.alloc_event.specs.Forest.{Collection, with_nodes, node_at as forest_node}
-use Rattle.alloc_event.specs.Kept.{AreHeadsGiven, Shelf, AreRising, IsHung, IsStored, IsWhole, put_shelf, collection_in, nodes_with, forest_of, all_keys, are_filed, is_filed, all_of, has_room_for_tracker, loses_left}
+use Rattle.alloc_event.specs.Kept.{Shelf, AreRising, IsStored, IsWhole, put_shelf, collection_in, nodes_with, forest_of, all_keys, are_filed, is_filed, all_of}
 use Rattle.alloc_event.specs.Nodes.{affected, lost, is_taken}
-use Rattle.alloc_event.specs.Scenes.{IsSound, has_tracker_room}
-use Rattle.alloc_event.specs.Ties.{IsTied}
-use Rattle.alloc_event.specs.Units.{GoTogether, are_united}
-use Rattle.alloc_event.specs.Settling.{MayChange, changed, collection_or_new, is_birth, no_key, fits, is_there, has_collection}
-use Rattle.alloc_event.proofs.changes.Finishing.{keys_in, looked-keys}
-use Rattle.alloc_event.proofs.tables.Hanging.{hung_changed, looked_hung, looked_tied, looked_heads}
+use Rattle.alloc_event.specs.Scenes.{has_tracker_room}
+use Rattle.alloc_event.specs.Settling.{changed, is_birth, no_key, fits, is_there, has_collection}
+use Rattle.alloc_event.proofs.changes.Finishing.{keys_in}
 use Rattle.alloc_event.proofs.shelves.Putting.{cases_place, above-weaker}
 use Rattle.alloc_event.proofs.shelves.Showing.{node_is, collection_is, filed_found}
-use Rattle.alloc_event.proofs.calm.Lasting.{together_changed, whole_formed}
-use Rattle.alloc_event.proofs.calm.United.{united_mapped}
-use Rattle.alloc_event.proofs.tables.Writing.{IsSameNode, IsSound-map}
+use Rattle.alloc_event.proofs.tables.Writing.{IsSameNode}
 
 -- ---- what a change keeps
 
@@ -63,16 +58,6 @@ change_makes Change.Nothing key c h = record {
   same = λ n. record { key = refl; parent = refl; attached = refl; collection = refl; head = refl };
   is = λ i. record c { nodes = sym (unchanged c.nodes) i };
 }
-
--- the keys stay
-made-keys : (f : Node → Node) → ((n : Node) → IsSameNode (f n) n) → (ns : List Node) → keys_in (map f ns) ≡ keys_in ns
-made-keys f same [] = refl
-made-keys f same (n ∷ ns) = λ i. (same n).key i ∷ made-keys f same ns i
-
--- the collection stays
-made-of : (f : Node → Node) → ((n : Node) → IsSameNode (f n) n) → (id : ℕ) (ns : List Node) → all_of id (map f ns) ≡ all_of id ns
-made-of f same id [] = refl
-made-of f same id (n ∷ ns) = λ i. ((same n).collection i == id) && made-of f same id ns i
 
 -- ---- the shelf of a collection
 
@@ -188,18 +173,6 @@ change_kept t ss ok id (Change.Effect key effect) h fit = there_kept t ss ok id 
 change_kept t ss ok id (Change.Loss origin cause) h fit = there_kept t ss ok id origin fit
 change_kept t ss ok id Change.Nothing h fit = collection_kept t ss id fit
 
--- by what the first key finds
-looked-all-by : (test : Node → Bool) (o : Option Node) (ns : List Node) → ((n : Node) → o ≡ Some n → test n ≡ true) →
-    list_all test ns ≡ true → list_all test (cons_option o ns) ≡ true
-looked-all-by test None ns each on = on
-looked-all-by test (Some n) ns each on = rw (each n refl, on) refl
-
--- each node that is found passes a test
-looked-all : (t : Table Node) (test : Node → Bool) → ((key : NodeKey) (n : Node) → node_at t key ≡ Some n → test n ≡ true) →
-    (keys : List NodeKey) → list_all test (nodes_with t keys) ≡ true
-looked-all t test each [] = refl
-looked-all t test each (k ∷ ks) = looked-all-by test (node_at t k) (nodes_with t ks) (each k) (looked-all t test each ks)
-
 -- by whether it is that node
 tracker_room-by : (key : NodeKey) (n : Node) (same : Bool) → same_key key n.key ≡ same → (key ≡ n.key → n.trackers < 64) →
     (not same || nat_lt n.trackers 64) ≡ true
@@ -220,14 +193,7 @@ tracker_room t ss ok asked (Effect.Constrained demand) few key n is = refl
 tracker_room t ss ok asked Effect.Taken few key n is = refl
 tracker_room t ss ok asked Effect.Released few key n is = refl
 
--- so for the whole change
-pub change_room : (t : Table Node) (ss : List Shelf) → IsStored t ss → (id : ℕ) (change : Change) → MayChange (forest_of t ss) id change →
-    (keys : List NodeKey) → has_room_for_tracker change (nodes_with t keys) ≡ true
-change_room t ss ok id (Change.Effect on effect) may keys =
-    looked-all t (has_tracker_room on effect) (tracker_room t ss ok on effect (λ n is. may.trackers on n (ap (Change.Effect on) is))) keys
-change_room t ss ok id _ may keys = refl
-
--- ---- a scene that is changed
+-- ---- a collection that is changed
 
 -- the shelf that would show the collection
 abbrev pub shelf_by : Collection → Shelf
@@ -255,94 +221,7 @@ found_whole t id (x ∷ xs) s all found = found_whole-by t id x xs s (x.id == id
 module _ (t : Table Node) (ss : List Shelf) (ok : IsStored t ss) (id : ℕ) (s : Shelf)
     (found : find (λ (x : Shelf). x.id == id) ss ≡ Some s) (change : Change) (birth : is_birth change ≡ false)
     (c now : Collection) (loaded : c ≡ collection_in t s) (became : now ≡ changed change no_key c) where
-  -- what is made of the nodes
-  made : MakesNodes c (changed change no_key c)
-  made = change_makes change no_key c birth
-
-  -- as of the collection that was there
-  is_made : now ≡ with_nodes (map made.of) (collection_in t s)
-  is_made = became ∙ made.is ∙ ap (with_nodes (map made.of)) loaded
-
-  -- it was whole
-  before : IsWhole (collection_in t s)
-  before = found_whole t id ss s ok.whole found
-
-  -- its nodes hung on their parents
-  hung : IsHung t (nodes_with t s.keys)
-  hung = looked_hung t ok.named ok.linked s.keys before.rooted
 
   -- its keys are filed
   own : list_all (is_filed t s.id) s.keys ≡ true
   own = found_filed t id ss s ok.filed found
-
-  -- it has its shelf still
-  shelf_same : shelf_by now ≡ s
-  shelf_same = ap shelf_by is_made ∙ λ i. record s {
-    keys = (made-keys made.of made.same (nodes_with t s.keys) ∙ looked-keys t s.id ok.named s.keys own) i;
-  }
-
-  -- the shelves stay
-  shelves_same : put_shelf (shelf_by now) ss ≡ ss
-  shelves_same =
-      ap (λ x. put_shelf x ss) shelf_same
-      ∙ found_put s ss ok.rising (subst (λ (i : ℕ). find (λ (x : Shelf). x.id == i) ss ≡ Some s) (sym (found_id id ss s found)) found)
-
-  -- all that holds of forests holds
-  pub altered-kept : IsStored t (put_shelf (shelf_by now) ss)
-  altered-kept = subst (IsStored t) (sym shelves_same) ok
-
-  -- the forest is the same
-  pub altered-forest : forest_of t (put_shelf (shelf_by now) ss) ≡ forest_of t ss
-  altered-forest = ap (forest_of t) shelves_same
-
-  -- the collection is sound
-  pub altered-sound : IsSound now
-  altered-sound = subst IsSound (sym is_made) (IsSound-map made.of made.same (collection_in t s) before.sound)
-
-  -- its nodes hang on their parents
-  pub altered-hung : IsHung t now.nodes
-  altered-hung =
-      subst (λ (d : Collection). IsHung t d.nodes) (sym (became ∙ ap (changed change no_key) loaded))
-      (hung_changed t change no_key (collection_in t s) birth before.sound.distinct hung)
-
-  -- and are of their units
-  pub altered-united : are_united (reverse now.nodes) ≡ true
-  altered-united =
-      subst (λ (d : Collection). are_united (reverse d.nodes) ≡ true) (sym is_made)
-      (united_mapped made.of (record {
-        key = λ n. (made.same n).key;
-        parent = λ n. (made.same n).parent;
-        attached = λ n. (made.same n).attached;
-        head = λ n. (made.same n).head;
-      }) (nodes_with t s.keys) ∙ before.united)
-
-  -- its units go together
-  pub altered-together : loses_left change (nodes_with t s.keys) ≡ true → GoTogether now.nodes
-  altered-together left =
-      subst (λ (d : Collection). GoTogether d.nodes) (sym (became ∙ ap (changed change no_key) loaded))
-      (together_changed change no_key (collection_in t s) birth left (whole_formed (collection_in t s) before))
-
-  -- the heads of its nodes were given
-  pub altered-heads : AreHeadsGiven t now.nodes
-  altered-heads =
-      subst (λ (d : Collection). AreHeadsGiven t d.nodes) (sym is_made)
-      (heads_made (nodes_with t s.keys) (looked_heads t ok.named ok.heads s.keys))
-    where
-      heads_made : (ns : List Node) → AreHeadsGiven t ns → AreHeadsGiven t (map made.of ns)
-      heads_made [] all = tt
-      heads_made (n ∷ ns) all = (ap (was_given t) (made.same n).head ∙ all.0, heads_made ns all.1)
-
-  -- and the nodes before are tied to the table
-  pub altered-tied : IsTied t c.nodes
-  altered-tied = subst (λ (d : Collection). IsTied t d.nodes) (sym loaded) (looked_tied t ok.named s.keys hung)
-
-  -- each node is of it
-  pub altered-of : all_of now.id now.nodes ≡ true
-  altered-of = subst (λ (d : Collection). all_of d.id d.nodes ≡ true) (sym is_made) (made-of made.of made.same s.id (nodes_with t s.keys)
-      ∙ looked-of t s.id s.keys own)
-
-  -- it is the one with the id
-  pub altered-is : changed change no_key (collection_or_new (forest_of t ss) id) ≡ now
-  altered-is =
-      ap (λ (o : Option Collection). changed change no_key (unwrap_or o (record { id = id; nodes = []; buffers = None; held = [] })))
-      (collection_is t id ss ∙ ap (option_map (collection_in t)) found) ∙ ap (changed change no_key) (sym loaded) ∙ sym became

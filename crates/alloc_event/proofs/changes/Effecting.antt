@@ -20,7 +20,7 @@ use Rattle.alloc_event.specs.declared.change.Effect.{Effect}
 use Rattle.alloc_event.specs.declared.node.Node.{Node}
 use Rattle.alloc_event.specs.declared.units.Unit.{Unit}
 use Rattle.alloc_event.specs.Calm.{IsCalm, strong_count, over_but}
-use Rattle.alloc_event.specs.Counts.{AreUnits, HasUnits, heads_below, is_unready, lives_in, no_unit, unit_at, unit_of, waits_in}
+use Rattle.alloc_event.specs.Counts.{AreUnits, HasUnit, HasUnits, heads_below, is_unready, lives_in, no_unit, unit_at, unit_of, waits_in}
 use Rattle.alloc_event.specs.Dropped.{has_given_root}
 use Rattle.alloc_event.specs.Due.{is_due_at, is_served_at}
 use Rattle.alloc_event.specs.Forest.{Collection, beside, with_nodes}
@@ -168,19 +168,19 @@ module _ (t now : Table Node) (us : List Unit) (key : NodeKey) (effect : Effect)
     (becomes : now ≡ table_with_node t (affected key effect n).key (affected key effect n))
     (writes : Writes t now (affected key effect n).key (affected key effect n))
     (ss : List Shelf) (s : Shelf) (strong : ℕ) (opens : IsOpen t us ss s (Change.Effect key effect) strong) where
-  abbrev f : Node → Node
+  abbrev pub f : Node → Node
   f = affected key effect
 
   abbrev nodes : List Node
   nodes = nodes_with t s.keys
 
-  same : (m : Node) → IsSameNode (f m) m
+  pub same : (m : Node) → IsSameNode (f m) m
   same = same_affected key effect
 
-  own : (f n).key ≡ key
+  pub own : (f n).key ≡ key
   own = (same n).key ∙ opens.kept.named key n was
 
-  alone : (m : Node) → same_key n.key m.key ≡ false → f m ≡ m
+  pub alone : (m : Node) → same_key n.key m.key ≡ false → f m ≡ m
   alone m other = alone_affected key effect m (subst (λ (k : NodeKey). same_key k m.key ≡ false) (opens.kept.named key n was) other)
 
   apart : (m : Node) → m.key ≢ key → f m ≡ m
@@ -190,21 +190,21 @@ module _ (t now : Table Node) (us : List Unit) (key : NodeKey) (effect : Effect)
   ]
 
   -- what the table has then
-  look : (k : NodeKey) → node_at now k ≡ option_map f (node_at t k)
+  pub look : (k : NodeKey) → node_at now k ≡ option_map f (node_at t k)
   look = look-changed t now f key n (f n) (subst (λ (k : NodeKey). Writes t now k (f n)) own writes) was refl opens.kept.named apart
 
-  kept_now : IsStored now ss
+  pub kept_now : IsStored now ss
   kept_now = kept-map f same (λ m. (remains_affected key effect m).gone) (together_effect key effect) t now
       (ap (λ (x : Table Node). x.first) becomes) (ap (λ (x : Table Node). x.nexts) becomes) writes.len look
       (parents-written t now (f n).key (f n) writes) ss opens.kept
 
-  nodes_now : nodes_with now s.keys ≡ map f nodes
+  pub nodes_now : nodes_with now s.keys ≡ map f nodes
   nodes_now = looked-map f (node_at t) (node_at now) look s.keys
 
   pub now_is : collection_in now s ≡ with_nodes (map f) (collection_in t s)
   now_is = λ i. record (collection_in t s) { nodes = nodes_now i }
 
-  whole : IsWhole (collection_in t s)
+  pub whole : IsWhole (collection_in t s)
   whole = found_whole t s.id ss s opens.kept.whole opens.found
 
   -- the node is one of the collection
@@ -215,7 +215,7 @@ module _ (t now : Table Node) (us : List Unit) (key : NodeKey) (effect : Effect)
   left = left_node nodes key (loss_left t ss opens.kept s.id (Change.Loss key Cause.Lost)
       (record { named = fit; room = λ e. cc; heads = refl; trackers = λ k m e. cc }) s opens.found)
 
-  at_key : (m : Node) → In m nodes → node_at t m.key ≡ Some m
+  pub at_key : (m : Node) → In m nodes → node_at t m.key ≡ Some m
   at_key m there = in_all (λ (x : Node). node_at t x.key ≡ Some x) nodes (looked_there t opens.kept.named s.keys) m there
 
   is_left : n ≡ left.node
@@ -223,10 +223,10 @@ module _ (t now : Table Node) (us : List Unit) (key : NodeKey) (effect : Effect)
       let both : Some n ≡ Some left.node = sym was ∙ (ap (node_at t) (sym left.is) ∙ at_key left.node left.on) in
       cc
 
-  on : In n nodes
+  pub on : In n nodes
   on = subst (λ (m : Node). In m nodes) (sym is_left) left.on
 
-  here : n.gone ≡ false
+  pub here : n.gone ≡ false
   here = ap (λ (m : Node). m.gone) is_left ∙ left.here
 
   -- how many strong nodes are live then
@@ -234,18 +234,18 @@ module _ (t now : Table Node) (us : List Unit) (key : NodeKey) (effect : Effect)
   strong_is = times_changed is_strong f nodes n whole.sound.distinct on (λ m there other. alone m other)
       ∙ ap (λ (k : ℕ). k + bit (is_strong (f n))) (sym opens.strong)
 
-  filed : is_filed t s.id (f n).key ≡ true
+  pub filed : is_filed t s.id (f n).key ≡ true
   filed =
       ap (is_filed t s.id) own ∙ ap (λ (o : Option Node). option_map_or (λ (m : Node). m.collection == s.id) o false) was
       ∙ and_left (n.collection == s.id) (not n.gone)
       (ap (λ (o : Option Node). option_map_or (λ (m : Node). m.collection == s.id && not m.gone) o false) (sym (node_is t ss opens.kept key
       ∙ was)) ∙ fit)
 
-  stores : Stores t now (f n ∷ [])
+  pub stores : Stores t now (f n ∷ [])
   stores = Stores-more t t now [] (f n) opens.kept.named (Stores-none t) becomes writes
 
   -- the other collections stay
-  beside_same : (x : Shelf) → x.id ≢ s.id → list_all (is_filed t x.id) x.keys ≡ true → collection_in now x ≡ collection_in t x
+  pub beside_same : (x : Shelf) → x.id ≢ s.id → list_all (is_filed t x.id) x.keys ≡ true → collection_in now x ≡ collection_in t x
   beside_same x differ own_filed = collection-beside t now s.id (f n ∷ []) stores opens.kept.named
       (and_both (is_filed t s.id (f n).key) true filed refl) x differ own_filed
 
@@ -281,14 +281,14 @@ module _ (t now : Table Node) (us : List Unit) (key : NodeKey) (effect : Effect)
 
   -- ---- the units
 
-  in_shelves : In s ss
+  pub in_shelves : In s ss
   in_shelves = (In-find (λ (x : Shelf). x.id == s.id) ss s opens.found).0
 
-  unit_has : HasUnits us nodes
+  pub unit_has : HasUnits us nodes
   unit_has = all_at (λ (c : Collection). HasUnits us c.nodes) (map (collection_in t) ss) opens.units (collection_in t s)
       (In-map-back (collection_in t) ss s in_shelves)
 
-  units_join : (after : List Unit) → Stays t s.id us after → HasUnits after (map f nodes) → AreUnits after (map (collection_in now) ss)
+  pub units_join : (after : List Unit) → Stays t s.id us after → HasUnits after (map f nodes) → AreUnits after (map (collection_in now) ss)
   units_join after stays has =
       but_join after s.id (map (collection_in now) ss)
       (but_moved t now after s.id ss (λ x there differ.
@@ -323,17 +323,17 @@ module _ (t now : Table Node) (us : List Unit) (key : NodeKey) (effect : Effect)
 
   -- ---- where the counts of the unit change
 
-  head : (h : Node) × In h nodes × (h.key ≡ n.head) × (h.gone ≡ false) × (is_head h ≡ true)
+  pub head : (h : Node) × In h nodes × (h.key ≡ n.head) × (h.gone ≡ false) × (is_head h ≡ true)
   head = head_there nodes whole.sound.distinct whole.sound.heads whole.rooted whole.united n on here
 
-  head_at : node_at t n.head ≡ Some head.0
+  pub head_at : node_at t n.head ≡ Some head.0
   head_at = ap (node_at t) (sym head.2) ∙ at_key head.0 head.1
 
-  unit_is : n.head.slot < length us → unit_at us n.head.slot ≡ unit_of nodes n.head
-  unit_is = subst (λ (k : NodeKey). k.slot < length us → unit_at us k.slot ≡ unit_of nodes k) head.2
-      (in_all (λ (m : Node). m.key.slot < length us → unit_at us m.key.slot ≡ unit_of nodes m.key) nodes unit_has head.0 head.1)
+  unit_is : unit_at us n.head.slot ≡ unit_of nodes n.head
+  unit_is = subst (λ (k : NodeKey). unit_at us k.slot ≡ unit_of nodes k) head.2
+      (in_all (HasUnit us nodes) nodes unit_has head.0 head.1).1
 
-  count_is : (test : Node → Bool) → times test (map f nodes) + bit (test n) ≡ times test nodes + bit (test (f n))
+  pub count_is : (test : Node → Bool) → times test (map f nodes) + bit (test n) ≡ times test nodes + bit (test (f n))
   count_is test = times_changed test f nodes n whole.sound.distinct on (λ m there other. alone m other)
 
   own_unit : same_key n.head n.head ≡ true
@@ -347,14 +347,14 @@ module _ (t now : Table Node) (us : List Unit) (key : NodeKey) (effect : Effect)
   live_is within =
       ap (λ (b : Bool). times (lives_in n.head) (map f nodes) + bit b) (sym (lives_own n.head n own_unit))
       ∙ (count_is (lives_in n.head)
-      ∙ (λ i. (sym (unit_is within) i).live + bit (lives_own n.head (f n) own_unit_now i)))
+      ∙ (λ i. (sym unit_is i).live + bit (lives_own n.head (f n) own_unit_now i)))
 
   pub unready_is : n.head.slot < length us →
       times (waits_in n.head) (map f nodes) + bit (is_unready n) ≡ (unit_at us n.head.slot).unready + bit (is_unready (f n))
   unready_is within =
       ap (λ (b : Bool). times (waits_in n.head) (map f nodes) + bit b) (sym (waits_own n.head n own_unit))
       ∙ (count_is (waits_in n.head)
-      ∙ (λ i. (sym (unit_is within) i).unready + bit (waits_own n.head (f n) own_unit_now i)))
+      ∙ (λ i. (sym unit_is i).unready + bit (waits_own n.head (f n) own_unit_now i)))
 
   -- a unit that is not due has its buffers, or the one above it has none
   turnless : (h : Node) → In h nodes → (o : Option NodeKey) → h.parent ≡ o → option_map_or (is_served_at t) o true ≡ false →
@@ -383,12 +383,12 @@ module _ (t now : Table Node) (us : List Unit) (key : NodeKey) (effect : Effect)
 
   module _ (within : n.head.slot < length us) (next : Unit) (live_next : next.live ≡ times (lives_in n.head) (map f nodes))
       (unready_next : next.unready ≡ times (waits_in n.head) (map f nodes)) (below_next : next.below ≡ (unit_at us n.head.slot).below) where
-    abbrev after_one : List Unit
+    abbrev pub after_one : List Unit
     after_one = set us n.head.slot next
 
-    stays_one : Stays t s.id us after_one
+    pub stays_one : Stays t s.id us after_one
     stays_one k m at differ inside = (
-      subst (λ (l : ℕ). k.slot < l) (length-set us n.head.slot next) inside,
+      subst (λ (l : ℕ). k.slot < l) (sym (length-set us n.head.slot next)) inside,
       get_or-set_other us n.head.slot k.slot next no_unit (λ slots.
           let one : k ≡ n.head = one_slot t k n.head m head.0 at head_at slots in
           let both : Some m ≡ Some head.0 = sym at ∙ (ap (node_at t) one ∙ head_at) in
@@ -414,29 +414,33 @@ module _ (t now : Table Node) (us : List Unit) (key : NodeKey) (effect : Effect)
         λ i. record { live = l i; unready = w i; below = b i }
 
     below_now : next.below ≡ times (heads_below (map f nodes) n.head) (map f nodes)
-    below_now = below_next ∙ ap (λ (u : Unit). u.below) (unit_is within) ∙ sym (below_same n.head)
+    below_now = below_next ∙ ap (λ (u : Unit). u.below) unit_is ∙ sym (below_same n.head)
 
-    has_one : HasUnits after_one (map f nodes)
-    has_one = all_in (λ (m : Node). m.key.slot < length after_one → unit_at after_one m.key.slot ≡ unit_of (map f nodes) m.key)
+    pub has_one : HasUnits after_one (map f nodes)
+    has_one = all_in (HasUnit after_one (map f nodes))
         (map f nodes) (λ m there.
         let x = In-map f nodes m there in
         let key : x.0.key ≡ m.key = sym (ap (λ (y : Node). y.key) x.2 ∙ (same x.0).key) in
-        subst (λ (k : NodeKey). k.slot < length after_one → unit_at after_one k.slot ≡ unit_of (map f nodes) k) key
+        subst (λ (k : NodeKey). (k.slot < length after_one) × (unit_at after_one k.slot ≡ unit_of (map f nodes) k)) key
         (one_of x.0 x.1 (either_way (same_key n.head x.0.key))))
       where
         one_of : (x : Node) → In x nodes → (same_key n.head x.key ≡ true) ⊎ (same_key n.head x.key ≡ false) →
-            x.key.slot < length after_one → unit_at after_one x.key.slot ≡ unit_of (map f nodes) x.key
-        one_of x there (inl e) inside =
-            subst (λ (k : NodeKey). unit_at after_one k.slot ≡ unit_of (map f nodes) k) (same_key-true n.head x.key e)
-            (get_or-set_same us n.head.slot next no_unit within
-            ∙ (λ i. record { live = live_next i; unready = unready_next i; below = below_now i }))
-        one_of x there (inr e) inside =
-            get_or-set_other us n.head.slot x.key.slot next no_unit (λ slots.
-            let one : x.key ≡ n.head = one_slot t x.key n.head x head.0 (at_key x there) head_at slots in
-            both_ways (same_key n.head x.key) (ap (same_key n.head) one ∙ own_unit) e)
-            ∙ (in_all (λ (m : Node). m.key.slot < length us → unit_at us m.key.slot ≡ unit_of nodes m.key) nodes unit_has x there
-            (subst (λ (l : ℕ). x.key.slot < l) (length-set us n.head.slot next) inside)
-            ∙ sym (other_unit x.key e))
+            HasUnit after_one (map f nodes) x
+        one_of x there (inl e) =
+            subst (λ (k : NodeKey). (k.slot < length after_one) × (unit_at after_one k.slot ≡ unit_of (map f nodes) k))
+            (same_key-true n.head x.key e) (
+              subst (λ (l : ℕ). n.head.slot < l) (sym (length-set us n.head.slot next)) within,
+              get_or-set_same us n.head.slot next no_unit within
+                  ∙ (λ i. record { live = live_next i; unready = unready_next i; below = below_now i }),
+            )
+        one_of x there (inr e) =
+            let had = in_all (HasUnit us nodes) nodes unit_has x there in (
+              subst (λ (l : ℕ). x.key.slot < l) (sym (length-set us n.head.slot next)) had.0,
+              get_or-set_other us n.head.slot x.key.slot next no_unit (λ slots.
+                  let one : x.key ≡ n.head = one_slot t x.key n.head x head.0 (at_key x there) head_at slots in
+                  both_ways (same_key n.head x.key) (ap (same_key n.head) one ∙ own_unit) e)
+                  ∙ (had.1 ∙ sym (other_unit x.key e)),
+            )
 
     -- something holds the unit, and where it is due it does not become ready
     pub counted_made : (lives : ℕ) → lives ≡ strong_count (map f nodes) →

@@ -1,24 +1,20 @@
 -- What stays true where a collection that was worked on is put back.
 use Rattle.std.proofs.Common.{◌≡◌, ◌≢◌, ℕ, ◌<◌, ◌==◌, Bool, true, false, ◌&&◌, List, [], ◌∷◌, map, Option, Some, None, option_map, is_some, cond, refl, sym, ap, subst, ◌∙◌, inl, inr, arith}
-use Rattle.std.specs.List.{list_any, list_all, AllByRecursion, cons_option}
+use Rattle.std.specs.List.{list_all, AllByRecursion, cons_option}
 use Rattle.std.specs.Option.{option_map_or}
-use Rattle.std.proofs.lemmas.Bool.{eqb-true, eqb-false, cases_eq, false≢true, ltb-true, not-true}
+use Rattle.std.proofs.lemmas.Bool.{eqb-true, eqb-false, cases_eq, false≢true, ltb-true}
 use Rattle.sm_names.specs.declared.keys.NodeKey.{NodeKey}
 use Rattle.sm_names.specs.Sameness.{same_key}
 use Rattle.sm_names.proofs.ListLaws.{In}
-use Rattle.sm_names.proofs.SamenessLaws.{and_left, and_right, or_none_left, or_none_right, same_key-true}
-use Rattle.sm_names.proofs.StandingLaws.{and_both}
+use Rattle.sm_names.proofs.SamenessLaws.{and_left, and_right, same_key-true}
 use Rattle.node_table.specs.Table.{Table, node_at, parent_at, was_given}
-use Rattle.node_table.proofs.Keys.{same_key-equal}
 use Rattle.alloc_event.specs.declared.node.Node.{Node}
 use Rattle.alloc_event.specs.Forest.{Collection}
-use Rattle.alloc_event.specs.Nodes.{is_of}
-use Rattle.alloc_event.specs.Kept.{AreHeadsGiven, Shelf, AreRising, IsStored, IsWhole, Stores, put_shelf, collection_in, nodes_with, all_keys, are_filed, is_filed, all_of, stored, written, have_places}
-use Rattle.alloc_event.specs.Scenes.{are_distinct, frame_of}
+use Rattle.alloc_event.specs.Kept.{AreHeadsGiven, Shelf, AreRising, IsStored, IsWhole, Stores, put_shelf, collection_in, nodes_with, all_keys, are_filed, is_filed, all_of, stored, written}
 use Rattle.alloc_event.specs.Settling.{put}
+use Rattle.alloc_event.proofs.tables.Kin.{kin_kept}
 use Rattle.alloc_event.proofs.tables.Writing.{given-same}
 use Rattle.alloc_event.proofs.tables.Hanging.{in_all}
-use Rattle.alloc_event.proofs.lists.Lookups.{looked-map, same_key-swap}
 use Rattle.alloc_event.proofs.shelves.Putting.{cases_place, rising-put, keys-put, filed-same, filed-put, above-weaker}
 use Rattle.alloc_event.proofs.tables.Storing.{stored-key, stored_one}
 
@@ -27,45 +23,6 @@ abbrev pub keys_in : List Node → List NodeKey
 keys_in ns = map (λ (n : Node). n.key) ns
 
 -- ---- what is written over what
-
--- keys that are not one are so in either order
-pub swapped : (a b : NodeKey) → same_key a b ≡ false → same_key b a ≡ false
-swapped a b e = same_key-swap b a ∙ e
-
--- no node of these has the key
-stored-lacks : (ns : List Node) (n : Node) → list_any (is_of n.key) ns ≡ false → stored ns n ≡ n
-stored-lacks [] n none = refl
-stored-lacks (m ∷ ms) n none =
-    rw (or_none_left (same_key m.key n.key) _ none) (stored-lacks ms n (or_none_right (same_key m.key n.key) _ none))
-
--- whether a node has the key is seen by the keys
-any-keys : (key : NodeKey) (ns ms : List Node) → keys_in ns ≡ keys_in ms → list_any (is_of key) ns ≡ list_any (is_of key) ms
-any-keys key [] [] same = refl
-any-keys key [] (m ∷ ms) same = absurd (cc)
-any-keys key (n ∷ ns) [] same = absurd (cc)
-any-keys key (n ∷ ns) (m ∷ ms) same =
-    let first : n.key ≡ m.key = cc in
-    let on : keys_in ns ≡ keys_in ms = cc in
-    rw (first, any-keys key ns ms on) refl
-
--- a node in front changes none of the others
-stored-others : (n : Node) (ns olds : List Node) → list_any (is_of n.key) olds ≡ false → map (stored (n ∷ ns)) olds ≡ map (stored ns) olds
-stored-others n ns [] none = refl
-stored-others n ns (o ∷ os) none =
-    let other : same_key n.key o.key ≡ false = swapped o.key n.key (or_none_left (same_key o.key n.key) (list_any (is_of n.key) os) none) in
-    rw other (ap (λ l. stored ns o ∷ l) (stored-others n ns os (or_none_right (same_key o.key n.key) (list_any (is_of n.key) os) none)))
-
--- nodes that are written over those with their keys are what is there then
-pub stored-all : (ns olds : List Node) → keys_in olds ≡ keys_in ns → are_distinct ns ≡ true → map (stored ns) olds ≡ ns
-stored-all [] [] same distinct = refl
-stored-all [] (o ∷ os) same distinct = absurd (cc)
-stored-all (n ∷ ns) [] same distinct = absurd (cc)
-stored-all (n ∷ ns) (o ∷ os) same distinct =
-    let first : n.key ≡ o.key = cc in
-    let on : keys_in os ≡ keys_in ns = cc in
-    let none : list_any (is_of n.key) ns ≡ false = not-true _ (and_left _ _ distinct) in
-    let rest : map (stored ns) os ≡ ns = stored-all ns os on (and_right _ _ distinct) in
-    rw (same_key-equal n.key o.key first, stored-lacks ns n none, stored-others n ns os (any-keys n.key os ns on ∙ none), rest) refl
 
 -- the first of them
 looked-key : (id : ℕ) (key : NodeKey) (o : Option Node) (ns : List Node) (keys : List NodeKey) → ((n : Node) → o ≡ Some n → n.key ≡ key) →
@@ -84,20 +41,6 @@ pub looked-keys : (t : Table Node) (id : ℕ) → ((key : NodeKey) (n : Node) �
 looked-keys t id named [] filed = refl
 looked-keys t id named (k ∷ ks) filed =
     looked-key id k (node_at t k) (nodes_with t ks) ks (named k) (and_left _ _ filed) (looked-keys t id named ks (and_right _ _ filed))
-
--- the nodes that were stored are found
-pub nodes-stored : (t now : Table Node) (id : ℕ) (ns : List Node) (keys : List NodeKey) →
-    ((key : NodeKey) → node_at now key ≡ option_map (stored ns) (node_at t key)) → ((key : NodeKey) (n : Node) → node_at t key ≡ Some n →
-    n.key ≡ key) → list_all (is_filed t id) keys ≡ true → keys_in ns ≡ keys → are_distinct ns ≡ true → nodes_with now keys ≡ ns
-nodes-stored t now id ns keys look named filed own distinct =
-    looked-map (stored ns) (node_at t) (node_at now) look keys
-    ∙ stored-all ns (nodes_with t keys) (looked-keys t id named keys filed ∙ sym own) distinct
-
--- each node has a place where its key is filed
-pub places-filed : (t : Table Node) (id : ℕ) (ns : List Node) → list_all (is_filed t id) (keys_in ns) ≡ true → have_places t ns ≡ true
-places-filed t id [] filed = refl
-places-filed t id (n ∷ ns) filed =
-    and_both (place-filed id (node_at t n.key) (and_left _ _ filed)) (places-filed t id ns (and_right _ _ filed))
 
 -- ---- collections
 
@@ -152,15 +95,19 @@ nodes-beside t now id ns look named own other differ (k ∷ ks) filed =
 -- what holds while a collection is put back: its nodes are in the table, in the places of those with their keys
 module _ (t now : Table Node) (id : ℕ) (ns : List Node) (stores : Stores t now ns) (named : (key : NodeKey) (n : Node) →
     node_at t key ≡ Some n → n.key ≡ key) (own : list_all (is_filed t id) (keys_in ns) ≡ true) where
+  -- a node that is written over is of its collection still
+  stored-own : all_of id ns ≡ true → (key : NodeKey) (n : Node) → node_at t key ≡ Some n → (stored ns n).collection ≡ n.collection
+  stored-own all key n is = elim (cases_eq n.collection id) [
+    | inl equal ↦ stored-of id ns n all equal ∙ sym equal
+    | inr differ ↦ ap (λ (m : Node). m.collection) (stored-beside t id ns n own (ap (node_at t) (named key n is) ∙ is) differ)
+  ]
+
   -- by the node that was there
   filed-still-by : all_of id ns ≡ true → (other : ℕ) (key : NodeKey) (o : Option Node) → node_at t key ≡ o →
       option_map_or (λ (n : Node). n.collection == other) (option_map (stored ns) o) false ≡ option_map_or (λ (n : Node).
       n.collection == other) o false
   filed-still-by all other key None is = refl
-  filed-still-by all other key (Some n) is = elim (cases_eq n.collection id) [
-    | inl equal ↦ ap (λ (c : ℕ). c == other) (stored-of id ns n all equal ∙ sym equal)
-    | inr differ ↦ ap (λ (m : Node). m.collection == other) (stored-beside t id ns n own (ap (node_at t) (named key n is) ∙ is) differ)
-  ]
+  filed-still-by all other key (Some n) is = ap (λ (c : ℕ). c == other) (stored-own all key n is)
 
   -- each key is filed where it was
   filed-still : all_of id ns ≡ true → (other : ℕ) (key : NodeKey) → is_filed now other key ≡ is_filed t other key
@@ -264,6 +211,11 @@ module _ (t now : Table Node) (id : ℕ) (ns : List Node) (stores : Stores t now
         linked = linked-put linked ok.linked;
         heads = heads-put heads stores.same.first stores.same.nexts ok.heads;
         whole = whole;
+        parents = λ key p up. given-same t now stores.same.first stores.same.nexts p ∙ ok.parents key p (sym (stores.parents key) ∙ up);
+        kin = kin_kept t now
+            (λ key n is. let was = found-before key (node_at t key) n (sym (stores.look key) ∙ is) in
+            (was.0, was.1, ap (λ (x : Node). x.collection) (sym was.3) ∙ stored-own all key was.0 was.1))
+            (λ key p up. sym (stores.parents key) ∙ up) ok.kin;
       }
 
 -- ---- wholeness
@@ -288,23 +240,3 @@ whole-put new old (c ∷ cs) ids ok all = cases_place c.id new.id (AllByRecursio
     (λ same. let parts = rw (ids, same) at all in rw same (ok, parts.1))
     (λ other above. let parts = rw (ids, other, above) at all in rw (other, above) (ok, parts.1))
     (λ other below. let parts = rw (ids, other, below) at all in rw (other, below) (parts.0, whole-put new old cs ids ok parts.1))
-
--- ---- frames
-
--- a frame has the key
-keys-frames : (ns : List Node) → keys_in ns ≡ keys_in (map frame_of ns)
-keys-frames [] = refl
-keys-frames (n ∷ ns) = ap (λ ks. n.key ∷ ks) (keys-frames ns)
-
--- and is of the collection
-of-frames : (id : ℕ) (ns : List Node) → all_of id ns ≡ all_of id (map frame_of ns)
-of-frames id [] = refl
-of-frames id (n ∷ ns) = ap (λ b. (n.collection == id) && b) (of-frames id ns)
-
--- the keys stay
-pub frames-keys : (ns ms : List Node) → map frame_of ns ≡ map frame_of ms → keys_in ns ≡ keys_in ms
-frames-keys ns ms same = keys-frames ns ∙ ap keys_in same ∙ sym (keys-frames ms)
-
--- and the collection
-pub frames-of : (id : ℕ) (ns ms : List Node) → map frame_of ns ≡ map frame_of ms → all_of id ns ≡ all_of id ms
-frames-of id ns ms same = of-frames id ns ∙ ap (all_of id) same ∙ sym (of-frames id ms)

@@ -2,28 +2,26 @@
 use Rattle.std.proofs.Common.{◌≡◌, ℕ, zero, suc, ◌<◌, refl, ap, sym, ◌∙◌, subst, Bool, true, false, not, ◌&&◌, ◌||◌, is_none, ◌⊎◌, inl, inr, List, [], ◌∷◌, map, length, Option, Some, None, arith}
 use Rattle.std.proofs.lemmas.Bool.{not-true, not-false}
 use Rattle.std.specs.List.{list_any, list_all, find}
-use Rattle.std.specs.Option.{option_map, option_map_or, option_and_then}
+use Rattle.std.specs.Option.{option_map, option_map_or}
 use Rattle.std.proofs.Math.Bool.{or-true}
 use Rattle.sm_names.specs.declared.keys.NodeKey.{NodeKey}
-use Rattle.sm_names.specs.declared.outcomes.Buffers.{Buffers}
 use Rattle.sm_names.specs.Sameness.{same_key}
-use Rattle.sm_names.specs.Words.{times, when}
-use Rattle.sm_names.proofs.ListLaws.{In, In-find, In-list_any, In-map, In-map-back, find-none, list_any-map, none-find}
-use Rattle.sm_names.proofs.SamenessLaws.{and_both, and_left, and_right, both_ways, either_way, false_if, or_cases, same_key-true, or_none_right, or_none_left, some-injective}
+use Rattle.sm_names.specs.Words.{times}
+use Rattle.sm_names.proofs.ListLaws.{In, In-list_any, In-map, In-map-back, list_any-map}
+use Rattle.sm_names.proofs.SamenessLaws.{and_both, and_left, and_right, both_ways, either_way, false_if, same_key-true, or_none_right, or_none_left, some-injective}
 use Rattle.sm_names.proofs.StandingLaws.{In-any}
 use Rattle.sm_names.proofs.SizeLaws.{all_on}
 use Rattle.alloc_event.specs.declared.node.Node.{Node}
-use Rattle.alloc_event.specs.Calm.{IsCalm}
 use Rattle.alloc_event.specs.Counts.{waits_in}
-use Rattle.alloc_event.specs.Decisions.{is_left_of, later_step, waiting}
-use Rattle.alloc_event.specs.Forest.{Collection, with_nodes}
+use Rattle.alloc_event.specs.Decisions.{is_left_of, waiting}
+use Rattle.alloc_event.specs.Forest.{Collection}
 use Rattle.alloc_event.specs.Kept.{IsWhole}
 use Rattle.alloc_event.specs.Nodes.{is_of}
-use Rattle.alloc_event.specs.Questions.{is_allocated_node, is_deserted_node, is_next_node, is_ready_node, is_root_left}
+use Rattle.alloc_event.specs.Questions.{is_allocated_node, is_next_node, is_ready_node, is_root_left}
 use Rattle.alloc_event.specs.Scenes.{are_distinct, heads_itself}
 use Rattle.alloc_event.specs.Units.{is_head}
-use Rattle.alloc_event.proofs.calm.Calming.{AreNone, calm_none, count_none, later, none_calm}
-use Rattle.alloc_event.proofs.tallies.Holding.{are_held, hangs_in, held_where, holds_unit, is_held, line, none_deserted, own_head, shared, step, still_here}
+use Rattle.alloc_event.proofs.calm.Calming.{count_none}
+use Rattle.alloc_event.proofs.tallies.Holding.{hangs_in, line, own_head, shared, step, still_here}
 use Rattle.alloc_event.proofs.calm.Keeping.{some_pass}
 use Rattle.alloc_event.proofs.tables.Rooted.{left_parent}
 use Rattle.alloc_event.proofs.calm.Steps.{all-In}
@@ -88,7 +86,7 @@ module _ (c : Collection) (whole : IsWhole c) (falls : NodeKey → Bool) (top ab
     ]
   ]
 
-  crossed : (x : Node) → In x nodes → x.gone ≡ false → falls x.key ≡ true → (h : NodeKey) → x.head ≡ h → falls h ≡ false →
+  pub crossed : (x : Node) → In x nodes → x.gone ≡ false → falls x.key ≡ true → (h : NodeKey) → x.head ≡ h → falls h ≡ false →
       (h ≡ above.head) × (top.attached ≡ false)
   crossed x on here f h is out =
       let r = crossing (suc (length (line nodes distinct heads whole.rooted whole.united x.key))) x on here f (ap falls is
@@ -96,7 +94,7 @@ module _ (c : Collection) (whole : IsWhole c) (falls : NodeKey → Bool) (top ab
       (sym is ∙ r.0, r.1)
 
   -- so is the unit below whose node it hangs
-  hung_above : (x : Node) → In x nodes → x.gone ≡ false → falls x.key ≡ true → (h : NodeKey) → falls h ≡ false → (o : Option NodeKey) →
+  pub hung_above : (x : Node) → In x nodes → x.gone ≡ false → falls x.key ≡ true → (h : NodeKey) → falls h ≡ false → (o : Option NodeKey) →
       x.parent ≡ o →
       option_map_or (λ p. list_any (λ (q : Node). is_of p q && same_key q.head h) nodes) o false ≡ true → h ≡ above.head
   hung_above x on here f h out None is hangs = cc
@@ -118,10 +116,10 @@ module _ (c : Collection) (whole : IsWhole c) (falls : NodeKey → Bool) (top ab
 
   module _ (f : Node → Node) (same : (n : Node) → IsSameNode (f n) n) (alloc : (n : Node) → (f n).allocated ≡ n.allocated)
       (goes : (n : Node) → (f n).gone ≡ (falls n.key || n.gone)) (alone : (n : Node) → falls n.key ≡ false → f n ≡ n) where
-    abbrev now : List Node
+    abbrev pub now : List Node
     now = map f nodes
 
-    stays : (n : Node) → (f n).gone ≡ false → (falls n.key ≡ false) × (n.gone ≡ false)
+    pub stays : (n : Node) → (f n).gone ≡ false → (falls n.key ≡ false) × (n.gone ≡ false)
     stays n h = (or_none_left (falls n.key) n.gone (sym (goes n) ∙ h), or_none_right (falls n.key) n.gone (sym (goes n) ∙ h))
 
     unit_same : (p head : NodeKey) → list_any (λ (q : Node). is_of p q && same_key q.head head) now ≡ list_any (λ (q : Node).
@@ -130,54 +128,14 @@ module _ (c : Collection) (whole : IsWhole c) (falls : NodeKey → Bool) (top ab
         (λ (q : Node). is_of p q && same_key q.head head) f nodes
         (λ q there. λ i. same_key ((same q).key i) p && same_key ((same q).head i) head)
 
-    hangs_same : (head : NodeKey) (n : Node) → hangs_in now head n ≡ hangs_in nodes head n
+    pub hangs_same : (head : NodeKey) (n : Node) → hangs_in now head n ≡ hangs_in nodes head n
     hangs_same head n = λ i. option_map_or (λ p. unit_same p head i) n.parent false
-
-    -- ---- each unit is held
-
-    module _ (lives : list_any (holds_unit now above.head) now ≡ true) (held : are_held nodes ≡ true) where
-      by_holder : (m x : Node) → In x nodes → falls m.key ≡ false → holds_unit nodes m.key x ≡ true →
-          (falls x.key ≡ true) ⊎ (falls x.key ≡ false) → list_any (holds_unit now m.key) now ≡ true
-      by_holder m x on out holds (inr e) =
-          In-any (holds_unit now m.key) now (f x) (In-map-back f nodes x on)
-          (subst (λ (n : Node). holds_unit now m.key n ≡ true) (sym (alone x e))
-          ((λ i. not x.gone && ((same_key x.head m.key && not x.released) || (x.attached && hangs_same m.key x i))) ∙ holds))
-      by_holder m x on out holds (inl e) =
-          let here : x.gone ≡ false = not-true x.gone (and_left (not x.gone) _ holds) in
-          let is : m.key ≡ above.head =
-          elim (or_cases (same_key x.head m.key && not x.released) (x.attached && hangs_in nodes m.key x)
-          (and_right (not x.gone) _ holds)) [
-            | inl own ↦ (crossed x on here e m.key (same_key-true x.head m.key (and_left (same_key x.head m.key) _ own)) out).0
-            | inr under ↦ hung_above x on here e m.key out x.parent refl (and_right x.attached _ under)
-          ] in
-          subst (λ (k : NodeKey). list_any (holds_unit now k) now ≡ true) (sym is) lives
-
-      held_one : (m : Node) → In m nodes → (falls m.key ≡ false) → (m.gone ≡ false) → (is_head m ≡ true) ⊎ (is_head m ≡ false) →
-          is_held now m ≡ true
-      held_one m on out here (inr h) = rw (here, h) refl
-      held_one m on out here (inl h) =
-          let all : is_held nodes m ≡ true = all-In (is_held nodes) nodes m on held in
-          let some : list_any (holds_unit nodes m.key) nodes ≡ true = rw (here, h) at all in
-          let x = In-list_any (holds_unit nodes m.key) nodes some in
-          let is = by_holder m x.0 x.1 out x.2 (either_way (falls x.0.key)) in
-          rw (here, h) is
-
-      held_now : are_held now ≡ true
-      held_now = all_on (is_held now) now (λ m there.
-          let x = In-map f nodes m there in
-          ap (is_held now) x.2 ∙ from x.0 x.1 (either_way (f x.0).gone))
-        where
-          from : (x : Node) → In x nodes → ((f x).gone ≡ true) ⊎ ((f x).gone ≡ false) → is_held now (f x) ≡ true
-          from x on (inl e) = rw e refl
-          from x on (inr e) =
-              let s = stays x e in
-              subst (λ (n : Node). is_held now n ≡ true) (sym (alone x s.0)) (held_one x on s.0 s.1 (either_way (is_head x)))
 
     -- ---- no unit becomes ready
 
     module _ (guard : (top.attached ≡ true) ⊎ ((times (waits_in above.head) nodes ≡ 0) ⊎ ((0 < times (waits_in above.head) now)
         ⊎ ((h : Node) → In h nodes → h.key ≡ above.head → h.allocated ≡ true)))) where
-      ready_before : (h : Node) → In h nodes → (f h).gone ≡ false → h.allocated ≡ false →
+      pub ready_before : (h : Node) → In h nodes → (f h).gone ≡ false → h.allocated ≡ false →
           list_all (is_ready_node h.key) now ≡ true → list_all (is_ready_node h.key) nodes ≡ true
       ready_before h on here waiting all =
           all_on (is_ready_node h.key) nodes (λ m there.
@@ -209,7 +167,7 @@ module _ (c : Collection) (whole : IsWhole c) (falls : NodeKey → Bool) (top ab
               let r = crossed m there g e h.key (same_key-true m.head h.key s) (stays h here).0 in
               own m there r.0 r.1 guard
 
-      root_one : (x : Node) → In x nodes → is_root_left (f x) ≡ is_root_left x
+      pub root_one : (x : Node) → In x nodes → is_root_left (f x) ≡ is_root_left x
       root_one x on = from (either_way (falls x.key)) (either_way x.gone)
         where
           no_root : (b g : Bool) → b ≡ false → (b && g) ≡ false
@@ -236,30 +194,6 @@ module _ (c : Collection) (whole : IsWhole c) (falls : NodeKey → Bool) (top ab
               no_root (is_none (f x).parent) (not (f x).gone) (ap is_none (same x).parent ∙ has_parent g e)
               ∙ sym (no_root (is_none x.parent) (not x.gone) (has_parent g e))
 
-      waiting_none : waiting nodes ≡ None → waiting now ≡ None
-      waiting_none none = ap (option_and_then (λ (root : Node). when (not root.allocated && list_all (is_ready_node root.key) now) root))
-          (find-In is_root_left is_root_left f nodes root_one)
-          ∙ from (find is_root_left nodes) refl none
-        where
-          from : (o : Option Node) → find is_root_left nodes ≡ o →
-              option_and_then (λ (root : Node). when (not root.allocated && list_all (is_ready_node root.key) nodes) root) o ≡ None →
-              option_and_then (λ (root : Node). when (not root.allocated && list_all (is_ready_node root.key) now) root)
-              (option_map f o) ≡ None
-          from None is h = refl
-          from (Some root) is h =
-              let there = In-find is_root_left nodes root is in
-              let left : is_root_left (f root) ≡ true = root_one root there.0 ∙ there.1 in
-              let here : (f root).gone ≡ false = not-true (f root).gone (and_right (is_none (f root).parent) _ left) in
-              ap (λ (b : Bool). when b (f root)) (false_if (not (f root).allocated && list_all (is_ready_node (f root).key) now) (λ e.
-              let waits : not root.allocated ≡ true = ap not (sym (alloc root)) ∙ and_left (not (f root).allocated) _ e in
-              let all : list_all (is_ready_node root.key) nodes ≡ true =
-              ready_before root there.0 here (not-true root.allocated waits)
-              (ap (λ (k : NodeKey). list_all (is_ready_node k) now) (sym (same root).key) ∙ and_right (not (f root).allocated) _ e) in
-              let both : (not root.allocated && list_all (is_ready_node root.key) nodes) ≡ true =
-              and_both (not root.allocated) _ waits all in
-              let some : Some root ≡ None = sym (ap (λ (b : Bool). when b root) both) ∙ h in
-              cc))
-
       -- who is in an allocated unit now was so before
       allocated_before : (p : NodeKey) → list_any (is_allocated_node p) now ≡ true → list_any (is_allocated_node p) nodes ≡ true
       allocated_before p h =
@@ -278,7 +212,7 @@ module _ (c : Collection) (whole : IsWhole c) (falls : NodeKey → Bool) (top ab
       above_before None h = h
       above_before (Some p) h = allocated_before p h
 
-      next_before : (n : Node) → In n nodes → is_next_node now (f n) ≡ true → is_next_node nodes n ≡ true
+      pub next_before : (n : Node) → In n nodes → is_next_node now (f n) ≡ true → is_next_node nodes n ≡ true
       next_before n on h =
           let attached = and_left (f n).attached _ h in
           let one = and_right (f n).attached _ h in
@@ -296,33 +230,3 @@ module _ (c : Collection) (whole : IsWhole c) (falls : NodeKey → Bool) (top ab
           (sym (same n).parent) ∙ up_now))
           (ready_before n on here (not-true n.allocated (ap not (sym (alloc n)) ∙ waits)) (ap (λ (k : NodeKey).
           list_all (is_ready_node k) now) (sym (same n).key) ∙ all)))))
-
-      later_none : (buffers : Option Buffers) → later nodes buffers ≡ None → later now buffers ≡ None
-      later_none None none = refl
-      later_none (Some b) none =
-          ap (option_map (λ (n : Node). later_step now b n.key))
-          (find-none (is_next_node now) now (false_if (list_any (is_next_node now) now) (λ e.
-          let x = In-list_any (is_next_node now) now e in
-          let y = In-map f nodes x.0 x.1 in
-          let was : is_next_node nodes y.0 ≡ true = next_before y.0 y.1 (ap (is_next_node now) (sym y.2) ∙ x.2) in
-          both_ways (list_any (is_next_node nodes) nodes) (In-any (is_next_node nodes) nodes y.0 y.1 was)
-          (none-find (is_next_node nodes) nodes (none_made (find (is_next_node nodes) nodes) none)))))
-        where
-          none_made : (o : Option Node) → option_map (λ (n : Node). later_step nodes b n.key) o ≡ None → o ≡ None
-          none_made None h = refl
-          none_made (Some n) h = cc
-
-      -- so nothing is forced
-      pub calm_fallen : IsWhole (with_nodes (map f) c) → list_any (holds_unit now above.head) now ≡ true → IsCalm c →
-          IsCalm (with_nodes (map f) c)
-      calm_fallen whole' holds calm =
-          let was : AreNone nodes c.buffers = none_calm c calm in
-          let held : are_held nodes ≡ true =
-          held_where nodes distinct heads whole.rooted whole.united (none-find (is_deserted_node nodes) nodes was.no_end) in
-          let held' : are_held now ≡ true = held_now holds held in
-          calm_none (with_nodes (map f) c) (record {
-            no_end = find-none (is_deserted_node now) now
-                (none_deserted now whole'.sound.distinct whole'.sound.heads whole'.rooted whole'.united held');
-            no_root = waiting_none was.no_root;
-            no_head = later_none c.buffers was.no_head;
-          })

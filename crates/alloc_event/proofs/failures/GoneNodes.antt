@@ -14,8 +14,6 @@ use Rattle.alloc_event.specs.Counts.{lives_in, waits_in}
 use Rattle.alloc_event.specs.Falling.{gone_by}
 use Rattle.alloc_event.specs.Kept.{all_of, is_filed, is_strong, nodes_with, stored, written}
 use Rattle.alloc_event.specs.Reserved.{camped}
-use Rattle.alloc_event.proofs.changes.Altering.{same_affected}
-use Rattle.alloc_event.proofs.changes.Effecting.{remains_affected}
 use Rattle.alloc_event.proofs.changes.Finishing.{keys_in}
 use Rattle.alloc_event.proofs.lists.Lookups.{same_key-swap}
 use Rattle.alloc_event.proofs.tallies.Reckoning.{lives_gone, waits_gone}
@@ -27,28 +25,15 @@ use Rattle.alloc_event.proofs.tables.Writing.{IsSameNode}
 
 pub gone_same : (going : Going) (n : Node) → IsSameNode (gone_by going n) n
 gone_same (Going.Fails fault) n = record { key = refl; parent = refl; attached = refl; collection = refl; head = refl }
-gone_same (Going.Leaves key) n = record { key = refl; parent = refl; attached = refl; collection = refl; head = refl }
-gone_same (Going.Ends fault keys) n = record { key = refl; parent = refl; attached = refl; collection = refl; head = refl }
-gone_same (Going.Refused key effect fault) n =
-    let s = same_affected key effect n in
-    record { key = s.key; parent = s.parent; attached = s.attached; collection = s.collection; head = s.head }
-gone_same (Going.EndsRefused key effect fault keys) n =
-    let s = same_affected key effect n in
-    record { key = s.key; parent = s.parent; attached = s.attached; collection = s.collection; head = s.head }
+gone_same Going.Leaves n = record { key = refl; parent = refl; attached = refl; collection = refl; head = refl }
 
 pub gone_is : (going : Going) (n : Node) → (gone_by going n).gone ≡ true
 gone_is (Going.Fails fault) n = refl
-gone_is (Going.Leaves key) n = refl
-gone_is (Going.Ends fault keys) n = refl
-gone_is (Going.Refused key effect fault) n = refl
-gone_is (Going.EndsRefused key effect fault keys) n = refl
+gone_is Going.Leaves n = refl
 
 gone_given : (going : Going) (n : Node) → (gone_by going n).allocated ≡ n.allocated
 gone_given (Going.Fails fault) n = refl
-gone_given (Going.Leaves key) n = refl
-gone_given (Going.Ends fault keys) n = refl
-gone_given (Going.Refused key effect fault) n = (remains_affected key effect n).allocated
-gone_given (Going.EndsRefused key effect fault keys) n = (remains_affected key effect n).allocated
+gone_given Going.Leaves n = refl
 
 -- the nodes with these keys go
 abbrev pub goes_of : Going → List NodeKey → Node → Node

@@ -12,8 +12,8 @@ use Rattle.sm_names.specs.Losses.{Reach, top}
 use Rattle.sm_names.specs.Members.{Member, is_under}
 use Rattle.sm_names.specs.Sameness.{same_key}
 use Rattle.sm_names.proofs.ListLaws.{In, In-filter, In-filter-back, In-find, In-list_any, In-map, In-map-back, is_some-find, map-In}
-use Rattle.sm_names.proofs.ReachLaws.{top_on}
-use Rattle.sm_names.proofs.SamenessLaws.{and_both, and_left, and_right, both_ways, either_way, or_right, same_key-comm, same_key-refl, same_key-true}
+use Rattle.sm_names.proofs.ReachLaws.{IsChain, top_on}
+use Rattle.sm_names.proofs.SamenessLaws.{and_both, and_left, and_right, either_way, or_right, same_key-comm, same_key-refl, same_key-true}
 use Rattle.sm_names.proofs.StandingLaws.{In-any, both_tests, top-same}
 use Rattle.node_table.specs.Table.{Table, node_at, parent_at}
 use Rattle.failure_domains.specs.Falls.{blocked_at}
@@ -25,7 +25,6 @@ use Rattle.alloc_event.specs.Ties.{IsFall, IsTied, is_blocking}
 use Rattle.alloc_event.specs.Questions.{is_below}
 use Rattle.alloc_event.proofs.tables.Hanging.{in_all}
 use Rattle.alloc_event.proofs.tables.Rooted.{AreOne, HasLine, IsLeft, left_in, left_node, line_of}
-use Rattle.alloc_event.proofs.tallies.Holding.{on_line, through}
 
 -- keys are told apart by their test
 pub key_equivalence : IsEquivalence same_key
@@ -96,7 +95,7 @@ module _ (t : Table Node) (nodes : List Node) (tied : IsTied t nodes) where
           ap is_blocking (one_node x.node f.0 x.on g.0 (x.is ∙ sym is)) ∙ and_right (same_key f.0.key key) (is_blocking f.0) both
 
   -- the highest node that a failure of the origin goes to, by the table and by the members
-  abbrev highest_at : NodeKey → NodeKey
+  abbrev pub highest_at : NodeKey → NodeKey
   highest_at origin = top (blocked_at is_blocking t) origin (line origin)
 
   abbrev highest_among : NodeKey → NodeKey
@@ -110,8 +109,18 @@ module _ (t : Table Node) (nodes : List Node) (tied : IsTied t nodes) where
       each k (inl is) = blocks_same k (subst (λ (j : NodeKey). is_left_of nodes j ≡ true) (sym is) left)
       each k (inr on) = blocks_same k ((line_at origin left).left k on)
 
+  -- which is left
+  pub highest_left : (origin : NodeKey) → is_left_of nodes origin ≡ true → is_left_of nodes (highest_at origin) ≡ true
+  highest_left origin left =
+      let x = In-list_any (same_key (highest_at origin)) (origin ∷ line origin) (top_on (blocked_at is_blocking t) origin (line origin)) in
+      subst (λ (k : NodeKey). is_left_of nodes k ≡ true) (sym (same_key-true (highest_at origin) x.0 x.2)) (left_at x.0 x.1)
+    where
+      left_at : (k : NodeKey) → In k (origin ∷ line origin) → is_left_of nodes k ≡ true
+      left_at k (inl is) = subst (λ (j : NodeKey). is_left_of nodes j ≡ true) (sym is) left
+      left_at k (inr on) = (line_at origin left).left k on
+
   -- a failure takes what lies at or below the highest node that it goes to
-  fall_line : (origin : NodeKey) → is_left_of nodes origin ≡ true → (keys : List NodeKey) → IsFall t origin keys →
+  pub fall_line : (origin : NodeKey) → is_left_of nodes origin ≡ true → (keys : List NodeKey) → IsFall t origin keys →
       (n : Node) → In n nodes → n.gone ≡ false → list_any (same_key n.key) keys ≡ is_below nodes (highest_at origin) n.key
   fall_line origin left keys fall n on here =
       both_tests _ _
@@ -124,32 +133,6 @@ module _ (t : Table Node) (nodes : List Node) (tied : IsTied t nodes) where
           reached_by_line (parent_at t) (blocked_at is_blocking t) origin (line origin) (line_at origin left).chain
           n.key (line n.key) (line_at n.key (left_in nodes n on here)).chain
 
-  -- where it doesn't take a node, and begins below it, all that it takes lies below that node
-  pub fall_within : (origin : NodeKey) → is_left_of nodes origin ≡ true → (keys : List NodeKey) → IsFall t origin keys →
-      (a : Node) → In a nodes → a.gone ≡ false → list_any (same_key a.key) keys ≡ false → is_below nodes a.key origin ≡ true →
-      (n : Node) → In n nodes → n.gone ≡ false → list_any (same_key n.key) keys ≡ true → is_below nodes a.key n.key ≡ true
-  fall_within origin left keys fall a on here out under n there stays taken =
-      elim (on_line (parent_at t) a.key (highest_at origin) origin (line origin) (line a.key) (line (highest_at origin))
-      (line_at origin left).chain (line_at a.key (left_in nodes a on here)).chain (line_at (highest_at origin) mid).chain under at) [
-        | inl e ↦
-            through (parent_at t) a.key (highest_at origin) n.key (line n.key) (line (highest_at origin))
-            (line_at n.key (left_in nodes n there stays)).chain (line_at (highest_at origin) mid).chain
-            (sym (fall_line origin left keys fall n there stays) ∙ taken) e
-        | inr e ↦ both_ways (list_any (same_key a.key) keys) (fall_line origin left keys fall a on here ∙ e) out
-      ]
-    where
-      at : list_any (same_key (highest_at origin)) (origin ∷ line origin) ≡ true
-      at = top_on (blocked_at is_blocking t) origin (line origin)
-
-      left_at : (k : NodeKey) → In k (origin ∷ line origin) → is_left_of nodes k ≡ true
-      left_at k (inl is) = subst (λ (j : NodeKey). is_left_of nodes j ≡ true) (sym is) left
-      left_at k (inr on) = (line_at origin left).left k on
-
-      mid : is_left_of nodes (highest_at origin) ≡ true
-      mid =
-          let x = In-list_any (same_key (highest_at origin)) (origin ∷ line origin) at in
-          subst (λ (k : NodeKey). is_left_of nodes k ≡ true) (sym (same_key-true (highest_at origin) x.0 x.2)) (left_at x.0 x.1)
-
   -- which is the origin, if it blocks
   pub fall_below : (origin : NodeKey) → is_left_of nodes origin ≡ true → blocked_at is_blocking t origin ≡ true → (keys : List NodeKey) →
       IsFall t origin keys →
@@ -160,6 +143,18 @@ module _ (t : Table Node) (nodes : List Node) (tied : IsTied t nodes) where
       from : (ks : List NodeKey) → top (blocked_at is_blocking t) origin ks ≡ origin
       from [] = refl
       from (p ∷ ks) = rw blocks refl
+
+  -- or a root
+  pub fall_root : (origin : NodeKey) → is_left_of nodes origin ≡ true → parent_at t origin ≡ None → (keys : List NodeKey) →
+      IsFall t origin keys →
+      (n : Node) → In n nodes → n.gone ≡ false → list_any (same_key n.key) keys ≡ is_below nodes origin n.key
+  fall_root origin left none keys fall n on here =
+      fall_line origin left keys fall n on here
+      ∙ ap (λ (k : NodeKey). is_below nodes k n.key) (from (line origin) (line_at origin left).chain)
+    where
+      from : (ks : List NodeKey) → IsChain (parent_at t) origin ks → top (blocked_at is_blocking t) origin ks ≡ origin
+      from [] chain = refl
+      from (p ∷ ks) chain = let no : Some p ≡ None = sym chain.0 ∙ none in cc
 
   -- a failure takes of the nodes that are not gone those that a loss takes
   pub fall_takes : (origin : NodeKey) → is_left_of nodes origin ≡ true → (keys : List NodeKey) → IsFall t origin keys →

@@ -1,12 +1,11 @@
 -- What the allocation of a root unit makes of a collection and of the pool.
-use Rattle.std.proofs.Common.{ℕ, ◌+◌, ◌≡◌, refl, ap, sym, ◌∙◌, subst, Bool, if◌then◌else◌, is_none, List, [], ◌∷◌, ◌++◌, map, length, Option, Some, None, append_assoc}
+use Rattle.std.proofs.Common.{ℕ, ◌+◌, ◌≡◌, refl, ap, sym, ◌∙◌, subst, Bool, if◌then◌else◌, is_none, List, [], ◌∷◌, ◌++◌, map, length, Option, Some, append_assoc}
 use Rattle.std.proofs.lemmas.List.{map-append}
 use Rattle.std.specs.List.{range_with_len}
 use Rattle.std.specs.Option.{option_map_or}
 use Rattle.sm_names.specs.declared.keys.Interval.{Interval}
 use Rattle.sm_names.specs.declared.keys.NodeKey.{NodeKey}
 use Rattle.sm_names.specs.declared.outcomes.Buffers.{Buffers}
-use Rattle.sm_names.specs.declared.outcomes.Cause.{Cause}
 use Rattle.sm_names.specs.declared.outcomes.Failure.{Failure}
 use Rattle.sm_names.specs.Apart.{at_pages}
 use Rattle.sm_names.specs.Forced.{outcome}
@@ -21,7 +20,7 @@ use Rattle.buffer_pool.specs.Holdings.{with_buffers}
 use Rattle.alloc_event.specs.declared.decision.Decision.TheVariants.{Places}
 use Rattle.alloc_event.specs.Decisions.{mark_of, IsPlacing}
 use Rattle.alloc_event.specs.Forest.{Collection, pages_in, with_nodes}
-use Rattle.alloc_event.specs.Nodes.{after_allocation, after_loss}
+use Rattle.alloc_event.specs.Nodes.{after_allocation}
 use Rattle.alloc_event.specs.Scenes.{by_page, laid, name_of}
 use Rattle.alloc_event.specs.Settling.{is_root_of, made}
 use Rattle.alloc_event.proofs.lists.ByPage.{any_sorted, with_buffers_sorted}
@@ -111,10 +110,3 @@ module _ (pool : ℕ) (others : List Interval) (c : Collection) (head : NodeKey)
       ∙ (ap (λ (w : Buffers). first w (is_root_of c head)) h.asked_for
       ∙ (ap (first wants) h.root
       ∙ ap (given wants) found))
-
-  -- without them the root fails
-  pub full_made : places pool (pages_of wants.size) wants.count (pages_in c ++ others) ≡ None →
-      made pool others step c ≡ with_nodes
-      (after_loss (record { cause = Cause.Failed Failure.PoolFull; origin = head })) c
-  full_made none = ap (λ (o : Option (List ℕ)). made pool others (outcome head (when (is_none o) Failure.PoolFull)) c)
-      none

@@ -117,6 +117,8 @@ kept-beside t id ss ok none =
       linked = ok.linked;
       heads = ok.heads;
       whole = all-beside (λ (s : Shelf). IsWhole (collection_in t s)) id ss ok.whole;
+      parents = ok.parents;
+      kin = ok.kin;
     }
 
 -- a list of no key

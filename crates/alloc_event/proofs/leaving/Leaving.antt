@@ -17,6 +17,7 @@ use Rattle.alloc_event.specs.Nodes.{is_of}
 use Rattle.alloc_event.proofs.changes.Altering.{filed_at, kept_of}
 use Rattle.alloc_event.proofs.shelves.Entries.{none_in}
 use Rattle.alloc_event.proofs.tables.Hanging.{looked_gone}
+use Rattle.alloc_event.proofs.tables.Kin.{kin_kept}
 use Rattle.alloc_event.proofs.tables.LeftParents.{childless}
 use Rattle.alloc_event.proofs.lists.Lookups.{looked-without, looked-kept}
 use Rattle.alloc_event.proofs.shelves.Showing.{shelf_found}
@@ -151,6 +152,8 @@ module _ (t now : Table Node) (key : NodeKey) (node : Node) (out : TakesOut t no
         linked = linked-without gone ss ok;
         heads = λ k n is. out.given n.head ∙ ok.heads k n (found-without k n is);
         whole = whole-without gone ok.named ss ok.whole;
+        parents = λ k p up. out.given p ∙ ok.parents k p (out.fewer k p up);
+        kin = kin_kept t now (λ k n is. (n, found-without k n is, refl)) out.fewer ok.kin;
       }
 
 -- ---- the entries

@@ -18,6 +18,7 @@ use Rattle.alloc_event.specs.Nodes.{is_of}
 use Rattle.alloc_event.specs.Scenes.{IsSound, are_distinct, heads_itself}
 use Rattle.alloc_event.proofs.tables.Hanging.{looked_gone}
 use Rattle.alloc_event.proofs.tables.KeptRoots.{rooted_filter}
+use Rattle.alloc_event.proofs.tables.Kin.{kin_kept}
 use Rattle.alloc_event.proofs.tables.LeftParents.{childless}
 use Rattle.alloc_event.proofs.lists.Lookups.{looked-without}
 use Rattle.alloc_event.proofs.tables.Rooted.{whole_rooted}
@@ -302,4 +303,6 @@ module _ (t now : Table Node) (key : NodeKey) (out : TakesOut t now key) where
     linked = linked-kept goes ss ok;
     heads = λ k n is. out.keys.given n.head ∙ ok.heads k n (still k n is).1;
     whole = whole-kept goes ok.named ss ok.whole;
+    parents = λ k p up. out.keys.given p ∙ ok.parents k p (out.fewer k p up);
+    kin = kin_kept t now (λ k n is. (n, (still k n is).1, refl)) out.fewer ok.kin;
   }

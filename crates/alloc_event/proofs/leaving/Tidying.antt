@@ -281,4 +281,6 @@ bare-kept t id ss ok = record {
   linked = ok.linked;
   heads = ok.heads;
   whole = bare-whole t id ss ok.whole;
+  parents = ok.parents;
+  kin = ok.kin;
 }

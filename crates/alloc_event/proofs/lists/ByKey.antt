@@ -1,8 +1,7 @@
 -- A binary search of keys in order finds each key that is there.
-use Rattle.std.proofs.Common.{◌≡◌, ℕ, suc, ◌<◌, inl, inr, refl, ap, sym, ◌∙◌, subst, false, List, [], ◌∷◌, length, get_or, MatchOption, Result, Ok, Err, is_ok, arith}
+use Rattle.std.proofs.Common.{◌≡◌, ℕ, suc, ◌<◌, inl, inr, refl, ap, sym, ◌∙◌, subst, List, [], ◌∷◌, length, get_or, Result, Ok, Err, is_ok, arith}
 use Rattle.std.specs.List.{list_any}
 use Rattle.std.specs.List.Sorted.{IsBinarySearchResult, IsSearchInRange, IsSorted}
-use Rattle.std.specs.Result.{result_ok}
 use Rattle.std.specs.Ordering.{MatchOrdering, nat_cmp, ordering_then}
 use Rattle.std.specs.declared.cmp.Ordering.{Ordering}
 use Rattle.std.specs.declared.cmp.Ordering.TheVariants.{Less, Equal, Greater}
@@ -17,7 +16,6 @@ use Rattle.sm_names.proofs.ListLaws.{In, In-get_or, In-list_any}
 use Rattle.sm_names.proofs.SamenessLaws.{false_if, same_key-refl, same_key-true}
 use Rattle.sm_names.proofs.StandingLaws.{In-any}
 use Rattle.alloc_event.specs.Falling.{key_order}
-use Rattle.alloc_event.specs.Forgetting.{IsPlace}
 
 both_tie : (a b : Ordering) → ordering_then a b ≡ Equal → (a ≡ Equal) × (b ≡ Equal)
 both_tie Equal b h = (refl, h)
@@ -67,10 +65,3 @@ found keys key (Err i) up within at =
       | inr (inl low) ↦ not_less (sym (parted.0 p.0 key (omega arith) low) ∙ ties)
       | inr (inr high) ↦ not_greater (sym (parted.1 p.0 key (omega arith) p.1) ∙ ties)
     ])
-
--- where it stands, if it does
-pub placed : (keys : List NodeKey) (key : NodeKey) (r : Result ℕ ℕ) → IsSorted key_order keys → IsSearchInRange r (length keys) →
-    IsBinarySearchResult (λ y. key_order y key) keys r →
-    MatchOption (result_ok r) (list_any (same_key key) keys ≡ false) (λ at. IsPlace keys key at)
-placed keys key (Ok i) up within at = record { within = within; is = tied (get_or keys i key) key (at key) }
-placed keys key (Err i) up within at = found keys key (Err i) up within at

@@ -5,6 +5,7 @@ use Rattle.std.proofs.lemmas.Bool.{ne_eqb, lt-ltb, le-leb, false≢true, cases_e
 use Rattle.std.proofs.lemmas.List.{get_or_past}
 use Rattle.sm_names.specs.declared.keys.NodeKey.{NodeKey}
 use Rattle.sm_names.specs.Sameness.{same_key}
+use Rattle.sm_names.proofs.SamenessLaws.{either_way}
 use Rattle.node_table.specs.Table.{Row, Table, row_at, node_at, parent_at, parent_in, next_at, was_given}
 use Rattle.node_table.specs.Changes.{Births, Writes, at_parent, with_child}
 use Rattle.node_table.specs.Lending.{table_with_node}
@@ -23,6 +24,13 @@ ungiven t key first fresh = elim (cases_eq (next_at t key.slot) (key.generation 
       let below : nat_lt key.generation (next_at t key.slot) ≡ true = lt-ltb _ _ (omega arith) in
       absurd (false≢true (sym fresh ∙ rw (low, below) refl))
   | inr other ↦ rw (ne_eqb _ _ other) refl
+]
+
+-- a key that has a node was given
+pub given_there : (t : Table Node) (key : NodeKey) (n : Node) → t.first ≡ 0 → node_at t key ≡ Some n → was_given t key ≡ true
+given_there t key n first is = elim (either_way (was_given t key)) [
+  | inl given ↦ given
+  | inr fresh ↦ absurd (let none = ungiven t key first fresh in cc)
 ]
 
 -- the tables give the same generation first
@@ -81,6 +89,7 @@ bears_node t u now parent draft node first up b becomes w = record {
   parents = born_parents t u now parent draft node up b w;
   none = ungiven t node.key first b.fresh;
   gives = record {
+    slot = b.slot;
     fresh = b.fresh;
     given = λ other. w.keys.given other ∙ b.given other;
     first = ap (λ (x : Table Node). x.first) becomes ∙ first_born t u parent draft node.key b;

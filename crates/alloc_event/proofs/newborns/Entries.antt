@@ -1,5 +1,5 @@
 -- The entries once a node is born of which nothing else follows.
-use Rattle.std.proofs.Common.{◌≡◌, ℕ, ◌+◌, ◌==◌, Bool, false, if◌then◌else◌, List, [], Option, Some, None, option_map, get_or, set, Result, Ok, Err, IfOk, OnOk, OnErr, sym, ap, subst, ◌∙◌, arith}
+use Rattle.std.proofs.Common.{◌≡◌, ℕ, ◌+◌, ◌==◌, Bool, false, if◌then◌else◌, List, [], Option, Some, None, option_map, get_or, set, Result, Ok, Err, IfOk, OnOk, OnErr, refl, sym, ap, subst, ◌∙◌, arith}
 use Rattle.std.proofs.lemmas.List.{get_or_default}
 use Rattle.std.specs.List.{find, list_any}
 use Rattle.std.specs.Option.{option_map_or, unwrap_or}
@@ -7,12 +7,12 @@ use Rattle.sm_names.specs.declared.keys.NodeKey.{NodeKey}
 use Rattle.node_table.specs.Table.{Table}
 use Rattle.alloc_event.specs.declared.entry.Entry.{Entry}
 use Rattle.alloc_event.specs.declared.node.Node.{Node}
-use Rattle.alloc_event.specs.Calm.{AreCounted, IsCounted, put_in, strong_count, over_but}
+use Rattle.alloc_event.specs.Calm.{AreCounted, IsCalm, IsCounted, put_in, strong_count, over_but}
 use Rattle.alloc_event.specs.Forest.{Collection}
 use Rattle.alloc_event.specs.Kept.{Bears, IsStored, Shelf, born, collection_in, forest_of, place_in, put_shelf, shelf_of, shelves_of, nodes_with}
 use Rattle.alloc_event.specs.Reserved.{reserved_count}
-use Rattle.alloc_event.specs.Settling.{Handles, collection_or_new}
-use Rattle.alloc_event.specs.Still.{IsStill, no_shelf, shelf_before, shelf_with}
+use Rattle.alloc_event.specs.Settling.{collection_or_new}
+use Rattle.alloc_event.specs.Still.{no_shelf, shelf_before, shelf_with}
 use Rattle.alloc_event.proofs.newborns.Forest.{still_collection}
 use Rattle.alloc_event.proofs.shelves.Counted.{counted_but, counted_put, counted_set, moved_all, recounted, set_shelves, shelves_put}
 use Rattle.alloc_event.proofs.shelves.Entries.{IsPlace, set_put}
@@ -88,15 +88,15 @@ module _ (t : Table Node) (es : List Entry) (ok : IsStored t (shelves_of es)) (a
 
       module _ (now : Table Node) (parent : Option NodeKey) (attached : Bool) (client event : ℕ) (above : Option Node)
           (over : Above t (shelves_of es) id parent above)
-          (bears : Bears t now (born above attached id event client key)) (handles : Handles)
-          (still : IsStill handles (collection_or_new (forest_of t (shelves_of es)) id))
+          (bears : Bears t now (born above attached id event client key))
           (strong : new.strong ≡ old.strong + more_strong above) (reserved : new.reserved ≡ old.reserved) (tidy : new.tidy ≡ old.tidy)
           (noted : new.noted.items ≡ old.noted.items) where
         pub among_counted : AreCounted now (set es at new)
         among_counted = subst (AreCounted now) (sym put_is)
             (counted_put now new es ok.rising
             (counted_but now new.id es (moved_all t now es ok.filed (λ e filed. still_collection t now _ bears (shelf_of e) filed) all))
-            (counted_born t now (shelves_of es) ok id parent attached client event above over key bears handles still new shelf_is
+            (counted_born t now (shelves_of es) ok id parent attached client event above over key bears
+            (subst IsCalm (sym at_is) counted.calm) new shelf_is
             (strong ∙ ap (λ (n : ℕ). n + more_strong above) (counted.strong ∙ ap (λ (c : Collection). strong_count c.nodes) (sym at_is)))
             (reserved ∙ counted.reserved ∙ ap (λ (c : Collection). reserved_count c.nodes) (sym at_is))
             (λ h. (λ i. list_any (over_but (noted i)) (at_is i).nodes) ∙ counted.tidy (sym tidy ∙ h))))
@@ -119,14 +119,14 @@ module _ (t : Table Node) (es : List Entry) (ok : IsStored t (shelves_of es)) (a
 
     module _ (now : Table Node) (parent : Option NodeKey) (attached : Bool) (client event : ℕ) (above : Option Node)
         (over : Above t (shelves_of es) id parent above)
-        (bears : Bears t now (born above attached id event client key)) (handles : Handles)
-        (still : IsStill handles (collection_or_new (forest_of t (shelves_of es)) id)) (strong : new.strong ≡ more_strong above)
+        (bears : Bears t now (born above attached id event client key)) (strong : new.strong ≡ more_strong above)
         (reserved : new.reserved ≡ 0) where
       pub first_counted : AreCounted now (put_in new es)
       first_counted =
           counted_put now new es ok.rising
           (counted_but now new.id es (moved_all t now es ok.filed (λ e filed. still_collection t now _ bears (shelf_of e) filed) all))
-          (counted_born t now (shelves_of es) ok id parent attached client event above over key bears handles still new first_is
+          (counted_born t now (shelves_of es) ok id parent attached client event above over key bears
+          (subst IsCalm (sym empty_is) refl) new first_is
           (let base : strong_count (collection_or_new (forest_of t (shelves_of es)) id).nodes ≡ 0 =
           ap (λ (c : Collection). strong_count c.nodes) empty_is in
           omega (arith, strong, base))

@@ -1,5 +1,5 @@
 -- What stays true of a forest with one node more.
-use Rattle.std.proofs.Common.{◌≡◌, ℕ, suc, ◌<◌, ◌==◌, Bool, true, false, ◌||◌, List, [], ◌∷◌, ◌++◌, map, length, Option, Some, None, refl, sym, ap, subst, ◌∙◌, inl, inr, arith, append_assoc}
+use Rattle.std.proofs.Common.{◌≡◌, ℕ, suc, ◌<◌, ◌==◌, ◌⊎◌, Bool, true, false, ◌||◌, List, [], ◌∷◌, ◌++◌, map, length, Option, Some, None, refl, sym, ap, subst, ◌∙◌, inl, inr, arith, append_assoc}
 use Rattle.std.specs.List.{list_any, list_all, find, flat_map, cons_option, AllByRecursion}
 use Rattle.std.specs.Option.{option_map_or}
 use Rattle.std.proofs.lemmas.Bool.{eq-eqb, ltb-true, false≢true}
@@ -8,17 +8,18 @@ use Rattle.std.proofs.lemmas.List.Folds.{list_any-append}
 use Rattle.sm_names.specs.declared.keys.NodeKey.{NodeKey}
 use Rattle.sm_names.specs.Sameness.{same_key}
 use Rattle.sm_names.specs.declared.keys.HeldBuffer.{HeldBuffer}
-use Rattle.sm_names.proofs.SamenessLaws.{and_left, and_right, or_right, same_key-true}
+use Rattle.sm_names.proofs.SamenessLaws.{and_left, and_right, or_right, same_key-true, some-injective}
 use Rattle.node_table.specs.Table.{Table, node_at, parent_at, was_given}
 use Rattle.node_table.proofs.Keys.{key_cases, same_key-equal, same_key-apart}
 use Rattle.alloc_event.specs.declared.node.Node.{Node}
 use Rattle.alloc_event.specs.Forest.{Collection, all_held}
-use Rattle.alloc_event.specs.Kept.{Shelf, AreRising, IsStored, IsWhole, Bears, put_shelf, collection_in, nodes_with, forest_of, all_keys, are_apart, are_filed, is_filed}
+use Rattle.alloc_event.specs.Kept.{Shelf, AreKin, AreRising, IsStored, IsWhole, Bears, put_shelf, collection_in, nodes_with, forest_of, all_keys, are_apart, are_filed, is_filed}
 use Rattle.alloc_event.specs.Settling.{put}
 use Rattle.alloc_event.proofs.lists.SameIntervals.{or_swap, part_swap}
 use Rattle.alloc_event.proofs.changes.Altering.{none_above}
 use Rattle.alloc_event.proofs.changes.Finishing.{whole-map, whole-unmap}
 use Rattle.alloc_event.proofs.lists.Lookups.{same_key-swap}
+use Rattle.alloc_event.proofs.newborns.Bearing.{given_there}
 use Rattle.alloc_event.proofs.shelves.Putting.{cases_place, rising-put, above-weaker, put-map}
 
 -- ---- keys in another order
@@ -214,26 +215,26 @@ module _ (t now : Table Node) (node : Node) (bears : Bears t now node) where
   none_there id (k ∷ ks) filed =
       both_none (not_this id k (same_key node.key k) refl (and_left _ _ filed)) (none_there id ks (and_right _ _ filed))
 
+  -- a node that is found is the new one, or was found
+  found_more : (key : NodeKey) (n : Node) → node_at now key ≡ Some n → ((node.key ≡ key) × (node ≡ n)) ⊎ (node_at t key ≡ Some n)
+  found_more key n is = elim (key_cases node.key key) [
+    | inl same ↦ inl (same, some-injective node n (sym (bears.look key ∙ rw (same_key-equal node.key key same) refl) ∙ is))
+    | inr differ ↦ inr (sym (bears.look key ∙ rw (same_key-apart node.key key differ) refl) ∙ is)
+  ]
+
   -- each node knows its key
   named_more : {ss : List Shelf} → IsStored t ss → (key : NodeKey) (n : Node) → node_at now key ≡ Some n → n.key ≡ key
-  named_more ok key n is = elim (key_cases node.key key) [
-    | inl same ↦
-        let one : Some node ≡ Some n = sym (bears.look key ∙ rw (same_key-equal node.key key same) refl) ∙ is in
-        let node_is : node ≡ n = cc in
-        ap (λ (m : Node). m.key) (sym node_is) ∙ same
-    | inr differ ↦
-        let was : node_at t key ≡ Some n = sym (bears.look key ∙ rw (same_key-apart node.key key differ) refl) ∙ is in
-        ok.named key n was
+  named_more ok key n is = elim (found_more key n is) [
+    | inl new ↦ ap (λ (m : Node). m.key) (sym new.1) ∙ new.0
+    | inr was ↦ ok.named key n was
   ]
 
   -- each node has its key among all
   there_more : {ss : List Shelf} → IsStored t ss → (key : NodeKey) (n : Node) → node_at now key ≡ Some n →
       list_any (same_key key) (node.key ∷ all_keys ss) ≡ true
-  there_more ok key n is = elim (key_cases node.key key) [
-    | inl same ↦ rw (same_key-equal key node.key (sym same)) refl
-    | inr differ ↦
-        let was : node_at t key ≡ Some n = sym (bears.look key ∙ rw (same_key-apart node.key key differ) refl) ∙ is in
-        or_right _ _ (ok.there key n was)
+  there_more ok key n is = elim (found_more key n is) [
+    | inl new ↦ rw (same_key-equal key node.key (sym new.0)) refl
+    | inr was ↦ or_right _ _ (ok.there key n was)
   ]
 
   -- each node that is not gone has its parent
@@ -252,15 +253,45 @@ module _ (t now : Table Node) (node : Node) (bears : Bears t now node) where
   -- the head of each node was given
   heads_more : {ss : List Shelf} → IsStored t ss → was_given now node.head ≡ true → (key : NodeKey) (n : Node) → node_at now key ≡ Some n →
       was_given now n.head ≡ true
-  heads_more ok head key n is = elim (key_cases node.key key) [
-    | inl same ↦
-        let one : Some node ≡ Some n = sym (bears.look key ∙ rw (same_key-equal node.key key same) refl) ∙ is in
-        let node_is : node ≡ n = cc in
-        ap (λ (m : Node). was_given now m.head) (sym node_is) ∙ head
-    | inr differ ↦
-        let was : node_at t key ≡ Some n = sym (bears.look key ∙ rw (same_key-apart node.key key differ) refl) ∙ is in
-        bears.gives.given n.head ∙ or_right (same_key node.key n.head) (was_given t n.head) (ok.heads key n was)
+  heads_more ok head key n is = elim (found_more key n is) [
+    | inl new ↦ ap (λ (m : Node). was_given now m.head) (sym new.1) ∙ head
+    | inr was ↦ bears.gives.given n.head ∙ or_right (same_key node.key n.head) (was_given t n.head) (ok.heads key n was)
   ]
+
+  module _ {ss : List Shelf} (ok : IsStored t ss) (above : (p : NodeKey) → node.parent ≡ Some p →
+      (q : Node) × (node_at t p ≡ Some q) × (q.collection ≡ node.collection)) where
+    -- the key of each parent was given
+    parents_more : (key p : NodeKey) → parent_at now key ≡ Some p → was_given now p ≡ true
+    parents_more key p up =
+        let was : was_given t p ≡ true = elim (key_cases node.key key) [
+          | inl same ↦
+              let q = above p (sym (bears.parents key ∙ rw (same_key-equal node.key key same) refl) ∙ up) in
+              given_there t p q.0 ok.first q.1
+          | inr differ ↦ ok.parents key p (sym (bears.parents key ∙ rw (same_key-apart node.key key differ) refl) ∙ up)
+        ] in
+        bears.gives.given p ∙ or_right (same_key node.key p) (was_given t p) was
+
+    -- each node is of the collection of its parent
+    kin_more : AreKin now
+    kin_more key p n q is up high = elim (key_cases node.key key) [
+      | inl same ↦
+          let one : node ≡ n = some-injective node n (sym (bears.look key ∙ rw (same_key-equal node.key key same) refl) ∙ is) in
+          let at = above p (sym (bears.parents key ∙ rw (same_key-equal node.key key same) refl) ∙ up) in
+          elim (found_more p q high) [
+            | inl new ↦ ap (λ (m : Node). m.collection) (sym new.1 ∙ one)
+            | inr was ↦
+                let own : at.0 ≡ q = some-injective at.0 q (sym at.1 ∙ was) in
+                ap (λ (m : Node). m.collection) (sym own) ∙ at.2 ∙ ap (λ (m : Node). m.collection) one
+          ]
+      | inr differ ↦
+          let low : node_at t key ≡ Some n = sym (bears.look key ∙ rw (same_key-apart node.key key differ) refl) ∙ is in
+          let mother : parent_at t key ≡ Some p =
+          sym (bears.parents key ∙ rw (same_key-apart node.key key differ) refl) ∙ up in
+          elim (found_more p q high) [
+            | inl new ↦ absurd (false≢true (sym bears.gives.fresh ∙ ap (was_given t) new.0 ∙ ok.parents key p mother))
+            | inr was ↦ ok.kin key p n q low mother was
+          ]
+    ]
 
   -- no shelf has the key yet
   none_yet : (ss : List Shelf) → are_filed t ss ≡ true → list_any (same_key node.key) (all_keys ss) ≡ false
@@ -283,9 +314,9 @@ module _ (t now : Table Node) (node : Node) (bears : Bears t now node) where
   -- all that holds of forests holds
   pub kept-born : (new : Shelf) (ss : List Shelf) → IsStored t ss → new.keys ≡ keys_before new.id ss ++ node.key ∷ [] →
       list_all (is_filed t new.id) (keys_before new.id ss) ≡ true → node.collection ≡ new.id → was_given now node.head ≡ true →
-      IsWhole (collection_in now new) →
-      IsStored now (put_shelf new ss)
-  kept-born new ss ok keys own of head whole =
+      IsWhole (collection_in now new) → ((p : NodeKey) → node.parent ≡ Some p → (q : Node) × (node_at t p ≡ Some q) ×
+      (q.collection ≡ node.collection)) → IsStored now (put_shelf new ss)
+  kept-born new ss ok keys own of head whole above =
       let same = keys-born new node.key ss ok.rising keys in
       record {
         first = bears.gives.first ∙ ok.first;
@@ -300,4 +331,6 @@ module _ (t now : Table Node) (node : Node) (bears : Bears t now node) where
         whole = whole-unmap now (put_shelf new ss) (subst (AllByRecursion IsWhole) (sym (put-map now new ss
             ∙ ap (put (collection_in now new)) (still_collections ss ok.filed)))
             (whole-born (collection_in now new) (map (collection_in t) ss) whole (whole-map t ss ok.whole)));
+        parents = parents_more ok above;
+        kin = kin_more ok above;
       }

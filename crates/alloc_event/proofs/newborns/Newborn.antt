@@ -1,34 +1,32 @@
 -- The collection that a node is born into.
-use Rattle.std.proofs.Common.{◌≡◌, ℕ, ◌<◌, ◌==◌, Bool, true, false, ◌||◌, ◌&&◌, ◌⊎◌, not, List, [], ◌∷◌, ◌++◌, map, drop, reverse, Option, Some, None, option_map, is_some, IsSome, IfSome, refl, sym, ap, subst, ◌∙◌, inl, inr}
-use Rattle.std.specs.List.{list_any, list_all, find, filter, flat_map, AllByRecursion}
+use Rattle.std.proofs.Common.{◌≡◌, ℕ, ◌<◌, ◌==◌, Bool, true, false, ◌||◌, ◌&&◌, ◌⊎◌, not, List, [], ◌∷◌, ◌++◌, drop, reverse, Option, Some, None, option_map, is_some, IsSome, IfSome, refl, sym, ap, subst, ◌∙◌, inl, inr}
+use Rattle.std.specs.List.{list_any, list_all, find, AllByRecursion}
 use Rattle.std.specs.Option.{option_map_or, option_and_then, unwrap_or}
 use Rattle.std.proofs.lemmas.Bool.{eqb-true, eq-eqb, false≢true, not-true}
 use Rattle.std.proofs.lemmas.List.{map-append}
 use Rattle.std.proofs.lemmas.List.Folds.{list_any-append}
 use Rattle.sm_names.specs.declared.keys.NodeKey.{NodeKey}
-use Rattle.sm_names.specs.declared.outcomes.Buffers.{Buffers}
 use Rattle.sm_names.specs.Sameness.{same_key}
-use Rattle.sm_names.specs.declared.keys.HeldBuffer.{HeldBuffer}
 use Rattle.sm_names.proofs.ListLaws.{In, In-find}
-use Rattle.sm_names.proofs.SamenessLaws.{and_left, and_right, both_ways, either_way, or_cases, or_left, or_none_left, or_none_right, or_right, same_key-refl, same_key-true}
+use Rattle.sm_names.proofs.SamenessLaws.{and_left, and_right, both_ways, either_way, or_cases, or_left, or_none_left, or_none_right, or_right, same_key-refl, same_key-true, some-injective}
 use Rattle.sm_names.proofs.StandingLaws.{In-any}
 use Rattle.node_table.specs.Table.{Table, node_at, row_at, was_given}
 use Rattle.node_table.proofs.Keys.{same_key-equal}
 use Rattle.alloc_event.specs.declared.change.Change.{Change}
 use Rattle.alloc_event.specs.declared.node.Node.{Node}
 use Rattle.alloc_event.specs.Decisions.{is_left_of}
-use Rattle.alloc_event.specs.Forest.{Collection, all_held, pages_in}
-use Rattle.alloc_event.specs.Kept.{AreHeadsGiven, Shelf, AreRising, IsHung, IsStored, IsWhole, Bears, Gives, SameTable, Finishes, born, put_shelf, collection_in, nodes_with, forest_of, all_keys, are_filed, is_filed, all_of}
+use Rattle.alloc_event.specs.Forest.{Collection, all_held}
+use Rattle.alloc_event.specs.Kept.{Shelf, AreRising, IsStored, IsWhole, Bears, Gives, SameTable, born, put_shelf, collection_in, nodes_with, forest_of, all_keys, are_filed, is_filed}
 use Rattle.alloc_event.specs.Nodes.{is_of, node_of, new_root}
 use Rattle.alloc_event.specs.Scenes.{IsSound, are_distinct, heads_itself}
-use Rattle.alloc_event.specs.Settling.{Handles, Settles, put, given_back, MayChange, collection_or_new, with_birth, has_collection}
+use Rattle.alloc_event.specs.Settling.{MayChange, collection_or_new, with_birth, has_collection}
 use Rattle.alloc_event.specs.Ties.{are_rooted}
 use Rattle.alloc_event.specs.Units.{GoTogether, are_united, shares_unit}
-use Rattle.alloc_event.proofs.changes.Altering.{filed_at, kept_of, found_id, found_filed, found_whole, shelf_by, looked-of, none_above}
+use Rattle.alloc_event.proofs.changes.Altering.{filed_at, kept_of, found_id, found_filed, found_whole, shelf_by, none_above}
 use Rattle.alloc_event.proofs.newborns.Bearing.{born_key}
 use Rattle.alloc_event.proofs.newborns.Forest.{keys_before, held_before, kept-born, helds-born, helds_in, born_looked, none_there, all-append}
 use Rattle.alloc_event.proofs.changes.Finishing.{keys_in, looked-keys}
-use Rattle.alloc_event.proofs.tables.Hanging.{in_all, looked_heads, looked_hung, looked_there}
+use Rattle.alloc_event.proofs.tables.Hanging.{in_all, looked_there}
 use Rattle.alloc_event.proofs.tables.KeptRoots.{rooted_birth}
 use Rattle.alloc_event.proofs.lists.Lookups.{node_of-looked, same_key-swap}
 use Rattle.alloc_event.proofs.tables.Rooted.{distinct_one, left_in, whole_rooted}
@@ -272,6 +270,17 @@ above_key t ss ok id None (Some _) at = elim at [ ]
 above_key t ss ok id (Some _) None at = elim at [ ]
 above_key t ss ok id (Some _) (Some _) (Child up n is own here) = ap Some (ok.named up n is)
 
+-- its parent is there, and of its collection
+parent_there : (t : Table Node) (ss : List Shelf) → IsStored t ss → (id : ℕ) (parent : Option NodeKey) (attached : Bool)
+    (client event : ℕ) (above : Option Node) → Above t ss id parent above → (key p : NodeKey) →
+    (born above attached id event client key).parent ≡ Some p →
+    (q : Node) × (node_at t p ≡ Some q) × (q.collection ≡ (born above attached id event client key).collection)
+parent_there t ss ok id None attached client event None (Root none) key p up = absurd (cc)
+parent_there t ss ok id None attached client event (Some _) at key p up = elim at [ ]
+parent_there t ss ok id (Some _) attached client event None at key p up = elim at [ ]
+parent_there t ss ok id (Some _) attached client event (Some _) (Child mother n is own here) key p up =
+    (n, ap (node_at t) (sym (some-injective n.key p up) ∙ ok.named mother n is) ∙ is, refl)
+
 module _ (t now : Table Node) (ss : List Shelf) (ok : IsStored t ss) (id : ℕ) (parent : Option NodeKey) (attached : Bool) (client event : ℕ)
     (above : Option Node) (at : Above t ss id parent above) (key : NodeKey)
     (bears : Bears t now (born above attached id event client key)) where
@@ -343,14 +352,6 @@ module _ (t now : Table Node) (ss : List Shelf) (ok : IsStored t ss) (id : ℕ) 
   born_head : was_given now node.head ≡ true
   born_head = head_given t now ss ok id parent attached client event above at key bears
 
-  -- each node is of it
-  pub born_all_of : all_of born_collection.id born_collection.nodes ≡ true
-  born_all_of =
-      subst (λ (i : ℕ). all_of i (c0.nodes ++ node ∷ []) ≡ true) (sym before.id_is)
-      (all-append (λ (n : Node). n.collection == id) c0.nodes (node ∷ []) (ap (all_of id) before.nodes
-      ∙ looked-of t id (keys_before id ss) before.filed)
-      (rw (eq-eqb node.collection id born_of) refl))
-
   -- its keys are those before, and that of the node
   born_keys : keys_in born_collection.nodes ≡ keys_before id ss ++ node.key ∷ []
   born_keys =
@@ -374,19 +375,7 @@ module _ (t now : Table Node) (ss : List Shelf) (ok : IsStored t ss) (id : ℕ) 
       (subst (λ (i : ℕ). list_all (is_filed t i) (keys_before i ss) ≡ true) (sym before.id_is) before.filed)
       (born_of ∙ sym before.id_is) born_head (subst IsWhole (sym born_shown)
       (record { sound = born_sound; rooted = born_rooted; united = born_united; together = born_together }))
-
-  -- its nodes hang in the table
-  pub born_hung : IsHung now born_collection.nodes
-  born_hung =
-      let shown = ap (λ (c : Collection). c.nodes) born_shown in
-      subst (IsHung now) shown (looked_hung now born_kept.named born_kept.linked (keys_in born_collection.nodes)
-      (subst (λ (ns : List Node). are_rooted (reverse ns) ≡ true) (sym shown) born_rooted))
-
-  -- and the heads of all
-  pub born_heads_given : AreHeadsGiven now born_collection.nodes
-  born_heads_given =
-      let shown = ap (λ (c : Collection). c.nodes) born_shown in
-      subst (AreHeadsGiven now) shown (looked_heads now born_kept.named born_kept.heads (keys_in born_collection.nodes))
+      (parent_there t ss ok id parent attached client event above at key)
 
   -- the pages stay
   pub born_held : all_held (forest_of now (put_shelf (shelf_by born_collection) ss)) ≡ all_held (forest_of t ss)
@@ -435,30 +424,12 @@ above_there t ss id None (Some _) at = elim at [ ]
 above_there t ss id (Some _) None at = elim at [ ]
 above_there t ss id (Some _) (Some _) (Child up n is own here) = row_there t up (ap is_some is)
 
--- a scene with one more node
-pub grown_scene : (from : Collection) (id : ℕ) (nodes old : List Node) (buffers : Option Buffers) (held : List HeldBuffer) (n node : Node) →
-    record { id = id; nodes = old; buffers = buffers; held = held } ≡ from → nodes ≡ old ++ n ∷ [] → n ≡ node →
-    record { id = id; nodes = nodes; buffers = buffers; held = held } ≡ grown from node
-grown_scene from id nodes old buffers held n node was added is =
-    (λ i. record { id = id; nodes = (added ∙ ap (λ (m : Node). old ++ m ∷ []) is) i; buffers = buffers; held = held })
-    ∙ ap (λ (c : Collection). grown c node) was
-
 -- the same keys are given by a table with the same numbers
 pub Gives-same : (t u now : Table Node) (key : NodeKey) → Gives t u key → SameTable u now → Gives t now key
 Gives-same t u now key gives same = record {
+  slot = gives.slot;
   fresh = gives.fresh;
   given = λ other. rw (same.first, same.nexts) (gives.given other);
   first = same.first ∙ gives.first;
   limit = same.limit ∙ gives.limit;
-}
-
--- what was finished beside the same collections
-pub Finishes-before : (pool : ℕ) (handles : Handles) (t u now : Table Node) (ss behind : List Shelf) (c : Collection) →
-    map (collection_in u) ss ≡ map (collection_in t) ss → Finishes pool handles u ss now behind c → Finishes pool handles t ss now behind c
-Finishes-before pool handles t u now ss behind c same f = record {
-  after = f.after;
-  settles = subst (λ (cs : List Collection). Settles pool handles (flat_map pages_in (filter (λ (d : Collection). not (d.id == c.id)) cs)) c
-      f.after) same f.settles;
-  collections = f.collections ∙ ap (put (given_back handles f.after)) same;
-  rests = f.rests;
 }

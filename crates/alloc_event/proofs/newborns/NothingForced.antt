@@ -53,7 +53,7 @@ module _ (nodes : List Node) (b : Node) (fresh : list_any (is_of b.key) nodes �
       λ i. record (member_of nodes n) { above = above_same n there.0 i })))
 
   -- none of the others is its child
-  childless : HaveOthers nodes b.key → (m : Member) → In m (members_of nodes) → m.parent ≡ Some b.key → ⊥
+  pub childless : HaveOthers nodes b.key → (m : Member) → In m (members_of nodes) → m.parent ≡ Some b.key → ⊥
   childless others m on up =
       let from = In-map (member_of nodes) (filter (λ (n : Node). not n.gone) nodes) m on in
       let left = In-filter (λ (n : Node). not n.gone) nodes from.0 from.1 in

@@ -28,8 +28,8 @@ use Rattle.alloc_event.specs.Still.{IsStill, no_shelf, shelf_before, shelf_with}
 use Rattle.alloc_event.specs.Ties.{are_rooted}
 use Rattle.alloc_event.proofs.changes.Altering.{shelf_by}
 use Rattle.alloc_event.proofs.newborns.NothingForced.{HaveOthers, births_force_nothing, birth_settles, members_more}
+use Rattle.alloc_event.proofs.newborns.Calmness.{births_calm}
 use Rattle.alloc_event.proofs.newborns.Forest.{still_collections}
-use Rattle.alloc_event.proofs.calm.Calming.{calm_rested}
 use Rattle.alloc_event.proofs.tallies.Reserved.{reserved_append, reserved_one}
 use Rattle.alloc_event.proofs.changes.Finishing.{keys_in, looked-keys}
 use Rattle.alloc_event.proofs.newborns.Newborn.{Above, before_is, born_collection, born_fresh, born_held, born_here, born_is, born_kept, born_shown, key_is}
@@ -88,147 +88,149 @@ still_out handles c b fresh here out =
 
 module _ (t now : Table Node) (ss : List Shelf) (ok : IsStored t ss) (id : ℕ) (parent : Option NodeKey) (attached : Bool) (client event : ℕ)
     (above : Option Node) (at : Above t ss id parent above) (key : NodeKey) (bears : Bears t now (born above attached id event client key))
-    (handles : Handles) (still : IsStill handles (collection_or_new (forest_of t ss) id)) where
-  abbrev c0 : Collection
-  c0 = collection_or_new (forest_of t ss) id
+  where
+    abbrev c0 : Collection
+    c0 = collection_or_new (forest_of t ss) id
 
-  abbrev node : Node
-  node = born above attached id event client key
+    abbrev node : Node
+    node = born above attached id event client key
 
-  -- the collection then
-  abbrev after : Collection
-  after = with_birth parent attached client event key c0
+    -- the collection then
+    abbrev after : Collection
+    after = with_birth parent attached client event key c0
 
-  grown_is : after ≡ record c0 { nodes = c0.nodes ++ node ∷ [] }
-  grown_is = born_is t now ss ok id parent attached client event above at key bears
+    pub grown_is : after ≡ record c0 { nodes = c0.nodes ++ node ∷ [] }
+    grown_is = born_is t now ss ok id parent attached client event above at key bears
 
-  own : node.key ≡ key
-  own = key_is t now ss ok id parent attached client event above at key bears
+    own : node.key ≡ key
+    own = key_is t now ss ok id parent attached client event above at key bears
 
-  fresh : list_any (is_of key) c0.nodes ≡ false
-  fresh = subst (λ (k : NodeKey). list_any (is_of k) c0.nodes ≡ false) own (born_fresh t now ss ok id parent attached client event above at
-      key bears)
+    fresh : list_any (is_of key) c0.nodes ≡ false
+    fresh = subst (λ (k : NodeKey). list_any (is_of k) c0.nodes ≡ false) own (born_fresh t now ss ok id parent attached client event above at
+        key bears)
 
-  others : HaveOthers c0.nodes key
-  others = no_children c0.nodes key (before_is t ss ok id).whole.rooted fresh
+    others : HaveOthers c0.nodes key
+    others = no_children c0.nodes key (before_is t ss ok id).whole.rooted fresh
 
-  -- no pages go back
-  stays : given_back handles after ≡ after
-  stays = ap (given_back handles) grown_is
-      ∙ still_out handles c0 node (born_fresh t now ss ok id parent attached client event above at key bears)
-      (born_here above attached id event client key) still.out
-      ∙ sym grown_is
+    -- the collection is as calm as it was
+    pub calm_after : IsCalm (collection_or_new (forest_of t ss) id) → IsCalm after
+    calm_after calm = births_calm c0 calm parent attached client event key fresh others
 
-  -- nothing is forced
-  pub quiet_finishes : (pool : ℕ) → Finishes pool handles t ss now
-      (put_shelf (shelf_by (born_collection t now ss ok id parent attached client event above at key bears)) ss) after
-  quiet_finishes pool = record {
-    after = after;
-    settles = birth_settles pool handles (beside (forest_of t ss) after.id) c0 (still.rest pool (beside (forest_of t ss) after.id)) parent
-        attached client event key fresh others;
-    collections = put-map now (shelf_by (born_collection t now ss ok id parent attached client event above at key bears)) ss
-        ∙ (λ i. put (born_shown t now ss ok id parent attached client event above at key bears i) (still_collections t now node bears ss
-        ok.filed i))
-        ∙ ap (λ c. put c (map (collection_in t) ss)) (sym (stays ∙ grown_is));
-    rests =
-        let behind =
-        beside (forest_of now (put_shelf (shelf_by (born_collection t now ss ok id parent attached client event above at key bears))
-        ss)) after.id in
-        ap (λ c. forced pool (standing handles behind c)) stays
-        ∙ births_force_nothing pool handles behind c0 (still.rest pool behind) parent attached client event key fresh others;
-  }
+    -- the shelf that showed the collection
+    before_shelf : shelf_by c0 ≡ shelf_before id ss
+    before_shelf =
+        ap (λ (o : Option Collection). shelf_by (unwrap_or o (record { id = id; nodes = []; buffers = None; held = [] })))
+        (collection_is t id ss)
+        ∙ from (find (λ (s : Shelf). s.id == id) ss) refl
+      where
+        from : (o : Option Shelf) → find (λ (s : Shelf). s.id == id) ss ≡ o →
+            shelf_by (unwrap_or (option_map (collection_in t) o) (record { id = id; nodes = []; buffers = None; held = [] })) ≡ unwrap_or o
+            (no_shelf id)
+        from None found = refl
+        from (Some s) found = λ i. record s { keys = looked-keys t s.id ok.named s.keys (filed_found t id ss ok.filed s found) i }
 
-  -- the collection is as calm as it was
-  calm_after : IsCalm after
-  calm_after = calm_rested 0 handles [] after (births_force_nothing 0 handles [] c0 (still.rest 0 []) parent attached client event key fresh
-      others)
+    -- with the key behind it shows the collection with the node
+    shelf_is : shelf_with (shelf_before id ss) key ≡ shelf_by (born_collection t now ss ok id parent attached client event above at key bears)
+    shelf_is =
+        ap (λ (s : Shelf). shelf_with s key) (sym before_shelf)
+        ∙ λ i. record {
+          id = c0.id;
+          keys = sym (map-append (λ (n : Node). n.key) c0.nodes (node ∷ []) ∙ ap (λ (k : NodeKey). keys_in c0.nodes ++ k ∷ []) own) i;
+          buffers = c0.buffers;
+          held = c0.held;
+        }
 
-  -- the shelf that showed the collection
-  before_shelf : shelf_by c0 ≡ shelf_before id ss
-  before_shelf =
-      ap (λ (o : Option Collection). shelf_by (unwrap_or o (record { id = id; nodes = []; buffers = None; held = [] })))
-      (collection_is t id ss)
-      ∙ from (find (λ (s : Shelf). s.id == id) ss) refl
-    where
-      from : (o : Option Shelf) → find (λ (s : Shelf). s.id == id) ss ≡ o →
-          shelf_by (unwrap_or (option_map (collection_in t) o) (record { id = id; nodes = []; buffers = None; held = [] })) ≡ unwrap_or o
-          (no_shelf id)
-      from None found = refl
-      from (Some s) found = λ i. record s { keys = looked-keys t s.id ok.named s.keys (filed_found t id ss ok.filed s found) i }
+    -- how many strong nodes the node adds
+    strong_more : (up : Option Node) → strong_count (born up attached id event client key ∷ []) ≡ (if option_map_or (λ (n : Node).
+        n.weak) up false then 0 else 1)
+    strong_more None = refl
+    strong_more (Some up) = from up.weak
+      where
+        from : (b : Bool) → (if not b then 0 + 1 else 0) ≡ (if b then 0 else 1)
+        from true = refl
+        from false = refl
 
-  -- with the key behind it shows the collection with the node
-  shelf_is : shelf_with (shelf_before id ss) key ≡ shelf_by (born_collection t now ss ok id parent attached client event above at key bears)
-  shelf_is =
-      ap (λ (s : Shelf). shelf_with s key) (sym before_shelf)
-      ∙ λ i. record {
-        id = c0.id;
-        keys = sym (map-append (λ (n : Node). n.key) c0.nodes (node ∷ []) ∙ ap (λ (k : NodeKey). keys_in c0.nodes ++ k ∷ []) own) i;
-        buffers = c0.buffers;
-        held = c0.held;
+    -- it camps on nothing
+    reserved_more : reserved_count c0.nodes ≡ reserved_count (c0.nodes ++ node ∷ [])
+    reserved_more =
+        let all = reserved_append c0.nodes (node ∷ []) in
+        let one : reserved_count (node ∷ []) ≡ 0 = reserved_one node (asks_none above) in
+        omega (arith, all, one)
+      where
+        asks_none : (up : Option Node) → (born up attached id event client key).constraints ≡ None
+        asks_none None = refl
+        asks_none (Some up) = refl
+
+    -- an entry with the key and the counts is counted
+    pub counted_born : IsCalm (collection_or_new (forest_of t ss) id) → (e : Entry) → shelf_of e ≡ shelf_with (shelf_before id ss) key →
+        e.strong ≡ strong_count c0.nodes + (if option_map_or (λ (n : Node). n.weak) above false then 0 else 1) →
+        e.reserved ≡ reserved_count c0.nodes →
+        (e.tidy ≡ true → list_any (over_but e.noted.items) c0.nodes ≡ false) → IsCounted now e
+    counted_born calm e is strong reserved tidy =
+        let shown : collection_in now (shelf_of e) ≡ born_collection t now ss ok id parent attached client event above at key bears =
+        ap (collection_in now) (is ∙ shelf_is) ∙ born_shown t now ss ok id parent attached client event above at key bears in
+        record {
+          calm = subst IsCalm (sym (shown ∙ sym grown_is)) (calm_after calm);
+          strong = strong ∙ ap (λ (n : ℕ). strong_count c0.nodes + n) (sym (strong_more above))
+              ∙ sym (times-append is_strong c0.nodes (node ∷ [])) ∙ ap (λ (c : Collection). strong_count c.nodes) (sym shown);
+          reserved = reserved ∙ reserved_more ∙ ap (λ (c : Collection). reserved_count c.nodes) (sym shown);
+          tidy = λ h. ap (λ (c : Collection). list_any (over_but e.noted.items) c.nodes) shown
+              ∙ list_any-append (over_but e.noted.items) c0.nodes (node ∷ [])
+              ∙ or_both (list_any (over_but e.noted.items) c0.nodes) _ (tidy h)
+              (ap (λ (b : Bool). b || false) (not_over_but e.noted.items node (rw (born_here above attached id event client key) refl)));
+        }
+
+    module _ (behind : List Shelf) (placed : behind ≡ put_shelf (shelf_with (shelf_before id ss) key) ss) where
+      -- the shelves show the collection with the node
+      pub behind_is : behind ≡ put_shelf (shelf_by (born_collection t now ss ok id parent attached client event above at key bears)) ss
+      behind_is = placed ∙ ap (λ (s : Shelf). put_shelf s ss) shelf_is
+
+      -- and the collections are those with it
+      pub behind_shown : map (collection_in now) behind ≡ put (born_collection t now ss ok id parent attached client event above at key bears)
+          (map (collection_in t) ss)
+      behind_shown = ap (map (collection_in now)) behind_is
+          ∙ put-map now (shelf_by (born_collection t now ss ok id parent attached client event above at key bears)) ss
+          ∙ (λ i. put (born_shown t now ss ok id parent attached client event above at key bears i) (still_collections t now node bears ss
+          ok.filed i))
+
+      -- all that holds of forests holds
+      pub quiet_kept : IsStored now behind
+      quiet_kept = subst (IsStored now) (sym behind_is) (born_kept t now ss ok id parent attached client event above at key bears)
+
+      -- the pages stay
+      pub quiet_held : all_held (forest_of now behind) ≡ all_held (forest_of t ss)
+      quiet_held = ap (λ (b : List Shelf). all_held (forest_of now b)) behind_is
+          ∙ born_held t now ss ok id parent attached client event above at key bears
+
+    -- where nothing is forced and no buffer is home
+    module _ (handles : Handles) (still : IsStill handles (collection_or_new (forest_of t ss) id)) where
+      -- no pages go back
+      stays : given_back handles after ≡ after
+      stays = ap (given_back handles) grown_is
+          ∙ still_out handles c0 node (born_fresh t now ss ok id parent attached client event above at key bears)
+          (born_here above attached id event client key) still.out
+          ∙ sym grown_is
+
+      -- nothing is forced
+      pub quiet_finishes : (pool : ℕ) → Finishes pool handles t ss now
+          (put_shelf (shelf_by (born_collection t now ss ok id parent attached client event above at key bears)) ss) after
+      quiet_finishes pool = record {
+        after = after;
+        settles = birth_settles pool handles (beside (forest_of t ss) after.id) c0 (still.rest pool (beside (forest_of t ss) after.id)) parent
+            attached client event key fresh others;
+        collections = put-map now (shelf_by (born_collection t now ss ok id parent attached client event above at key bears)) ss
+            ∙ (λ i. put (born_shown t now ss ok id parent attached client event above at key bears i) (still_collections t now node bears ss
+            ok.filed i))
+            ∙ ap (λ c. put c (map (collection_in t) ss)) (sym (stays ∙ grown_is));
+        rests =
+            let behind =
+            beside (forest_of now (put_shelf (shelf_by (born_collection t now ss ok id parent attached client event above at key bears))
+            ss)) after.id in
+            ap (λ c. forced pool (standing handles behind c)) stays
+            ∙ births_force_nothing pool handles behind c0 (still.rest pool behind) parent attached client event key fresh others;
       }
 
-  -- how many strong nodes the node adds
-  strong_more : (up : Option Node) → strong_count (born up attached id event client key ∷ []) ≡ (if option_map_or (λ (n : Node).
-      n.weak) up false then 0 else 1)
-  strong_more None = refl
-  strong_more (Some up) = from up.weak
-    where
-      from : (b : Bool) → (if not b then 0 + 1 else 0) ≡ (if b then 0 else 1)
-      from true = refl
-      from false = refl
-
-  -- it camps on nothing
-  reserved_more : reserved_count c0.nodes ≡ reserved_count (c0.nodes ++ node ∷ [])
-  reserved_more =
-      let all = reserved_append c0.nodes (node ∷ []) in
-      let one : reserved_count (node ∷ []) ≡ 0 = reserved_one node (asks_none above) in
-      omega (arith, all, one)
-    where
-      asks_none : (up : Option Node) → (born up attached id event client key).constraints ≡ None
-      asks_none None = refl
-      asks_none (Some up) = refl
-
-  -- an entry with the key and the counts is counted
-  pub counted_born : (e : Entry) → shelf_of e ≡ shelf_with (shelf_before id ss) key →
-      e.strong ≡ strong_count c0.nodes + (if option_map_or (λ (n : Node). n.weak) above false then 0 else 1) →
-      e.reserved ≡ reserved_count c0.nodes →
-      (e.tidy ≡ true → list_any (over_but e.noted.items) c0.nodes ≡ false) → IsCounted now e
-  counted_born e is strong reserved tidy =
-      let shown : collection_in now (shelf_of e) ≡ born_collection t now ss ok id parent attached client event above at key bears =
-      ap (collection_in now) (is ∙ shelf_is) ∙ born_shown t now ss ok id parent attached client event above at key bears in
-      record {
-        calm = subst IsCalm (sym (shown ∙ sym grown_is)) calm_after;
-        strong = strong ∙ ap (λ (n : ℕ). strong_count c0.nodes + n) (sym (strong_more above))
-            ∙ sym (times-append is_strong c0.nodes (node ∷ [])) ∙ ap (λ (c : Collection). strong_count c.nodes) (sym shown);
-        reserved = reserved ∙ reserved_more ∙ ap (λ (c : Collection). reserved_count c.nodes) (sym shown);
-        tidy = λ h. ap (λ (c : Collection). list_any (over_but e.noted.items) c.nodes) shown
-            ∙ list_any-append (over_but e.noted.items) c0.nodes (node ∷ [])
-            ∙ or_both (list_any (over_but e.noted.items) c0.nodes) _ (tidy h)
-            (ap (λ (b : Bool). b || false) (not_over_but e.noted.items node (rw (born_here above attached id event client key) refl)));
-      }
-
-  module _ (behind : List Shelf) (placed : behind ≡ put_shelf (shelf_with (shelf_before id ss) key) ss) where
-    -- the shelves show the collection with the node
-    pub behind_is : behind ≡ put_shelf (shelf_by (born_collection t now ss ok id parent attached client event above at key bears)) ss
-    behind_is = placed ∙ ap (λ (s : Shelf). put_shelf s ss) shelf_is
-
-    -- and the collections are those with it
-    pub behind_shown : map (collection_in now) behind ≡ put (born_collection t now ss ok id parent attached client event above at key bears)
-        (map (collection_in t) ss)
-    behind_shown = ap (map (collection_in now)) behind_is
-        ∙ put-map now (shelf_by (born_collection t now ss ok id parent attached client event above at key bears)) ss
-        ∙ (λ i. put (born_shown t now ss ok id parent attached client event above at key bears i) (still_collections t now node bears ss
-        ok.filed i))
-
-    -- nothing more is forced
-    pub quiet_ok : (pool : ℕ) → Finishes pool handles t ss now behind after
-    quiet_ok pool = subst (λ (b : List Shelf). Finishes pool handles t ss now b after) (sym behind_is) (quiet_finishes pool)
-
-    -- all that holds of forests holds
-    pub quiet_kept : IsStored now behind
-    quiet_kept = subst (IsStored now) (sym behind_is) (born_kept t now ss ok id parent attached client event above at key bears)
-
-    -- the pages stay
-    pub quiet_held : all_held (forest_of now behind) ≡ all_held (forest_of t ss)
-    quiet_held = ap (λ (b : List Shelf). all_held (forest_of now b)) behind_is
-        ∙ born_held t now ss ok id parent attached client event above at key bears
+      module _ (behind : List Shelf) (placed : behind ≡ put_shelf (shelf_with (shelf_before id ss) key) ss) where
+        -- nothing more is forced
+        pub quiet_ok : (pool : ℕ) → Finishes pool handles t ss now behind after
+        quiet_ok pool = subst (λ (b : List Shelf). Finishes pool handles t ss now b after) (sym (behind_is behind placed)) (quiet_finishes pool)

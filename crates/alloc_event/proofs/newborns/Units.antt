@@ -1,7 +1,7 @@
 -- The counts of units, once a node is born and counted.
-use Rattle.std.proofs.Common.{◌≡◌, ◌≢◌, ℕ, ◌+◌, ◌<◌, ◌≤◌, ◌==◌, nat_lt, Bool, true, false, if◌then◌else◌, List, [], ◌∷◌, ◌++◌, map, length, reverse, Option, Some, None, refl, sym, ap, subst, ◌∙◌, inl, inr, arith}
+use Rattle.std.proofs.Common.{◌≡◌, ◌≢◌, ℕ, ◌+◌, ◌<◌, ◌≤◌, ◌==◌, nat_lt, Bool, true, false, if◌then◌else◌, List, [], ◌∷◌, ◌++◌, map, length, reverse, set, Option, Some, None, refl, sym, ap, subst, ◌∙◌, ◌⊎◌, inl, inr, arith}
 use Rattle.std.proofs.lemmas.Bool.{eqb-true}
-use Rattle.std.proofs.lemmas.List.{length-append}
+use Rattle.std.proofs.lemmas.List.{get_or-set_other, get_or-set_same, length-append, length-set}
 use Rattle.std.specs.List.{cons_option, list_all, list_any}
 use Rattle.std.specs.Option.{unwrap_or}
 use Rattle.sm_names.specs.declared.keys.NodeKey.{NodeKey}
@@ -13,13 +13,13 @@ use Rattle.sm_names.proofs.StandingLaws.{In-any}
 use Rattle.node_table.specs.Table.{Table, node_at, table_len}
 use Rattle.alloc_event.specs.declared.node.Node.{Node}
 use Rattle.alloc_event.specs.declared.units.Unit.{Unit}
-use Rattle.alloc_event.specs.Counts.{AreUnits, AreUnitsBut, HasUnits, head_above, heads_below, lives_in, reckoned, started, tallied, unit_at, unit_of, waits_in}
+use Rattle.alloc_event.specs.Counts.{AreUnits, AreUnitsBut, HasUnit, HasUnits, head_above, heads_below, lives_in, no_unit, reckoned, tallied, unit_at, unit_of, waits_in}
 use Rattle.alloc_event.specs.Forest.{Collection, collection_at}
 use Rattle.alloc_event.specs.Kept.{Bears, IsStored, IsWhole, Shelf, all_keys, born, collection_in, forest_of, is_filed, nodes_with, put_shelf}
 use Rattle.alloc_event.specs.Nodes.{is_of}
 use Rattle.alloc_event.specs.Scenes.{are_distinct}
-use Rattle.alloc_event.specs.Settling.{Handles, collection_or_new, put}
-use Rattle.alloc_event.specs.Still.{IsStill, shelf_before, shelf_with}
+use Rattle.alloc_event.specs.Settling.{collection_or_new, put}
+use Rattle.alloc_event.specs.Still.{shelf_before, shelf_with}
 use Rattle.alloc_event.specs.Ties.{are_rooted}
 use Rattle.alloc_event.proofs.changes.Altering.{looked-of, shelf_by}
 use Rattle.alloc_event.proofs.tables.Hanging.{all_in, in_all, looked_there}
@@ -27,7 +27,7 @@ use Rattle.alloc_event.proofs.tallies.Holding.{head_there}
 use Rattle.alloc_event.proofs.tallies.Hung.{above_node, hung_hangs, hung_is, hung_long, hung_other, is_above, is_hung}
 use Rattle.alloc_event.proofs.newborns.Newborn.{Above, IsBefore, before_is, born_collection, born_fresh, born_here, born_shown, key_is}
 use Rattle.alloc_event.proofs.newborns.Quiet.{behind_is, behind_shown, quiet_kept}
-use Rattle.alloc_event.proofs.tallies.Reckoning.{lives_gone, lives_other, started_other, started_own, tallied_adds, tallied_long, tallied_other, waits_gone, waits_other}
+use Rattle.alloc_event.proofs.tallies.Reckoning.{lives_gone, lives_other, tallied_adds, tallied_long, tallied_other, waits_gone, waits_other}
 use Rattle.alloc_event.proofs.shelves.Showing.{filed-length}
 use Rattle.alloc_event.proofs.tallies.Slots.{Stays, all_at, but_put, one_slot, units_own}
 use Rattle.alloc_event.proofs.tallies.Untold.{times_same}
@@ -40,13 +40,16 @@ module _ (t : Table Node) (ss : List Shelf) (kept : IsStored t ss) (id : ℕ) (s
     (distinct : are_distinct old ≡ true) (rooted : are_rooted (reverse old) ≡ true)
     (olds : (n : Node) → In n old → n.gone ≡ false → (h : Node) × In h old × (h.key ≡ n.head)) (of : (n : Node) →
     In n (nodes_with t s.keys) → n.collection ≡ id)
-    (us : List Unit) (has : HasUnits us old) (but : AreUnitsBut us id (map (collection_in t) ss))
+    (us : List Unit) (own_inside : node.key.slot < length us) (has : HasUnits us old) (but : AreUnitsBut us id (map (collection_in t) ss))
     (few : length (nodes_with t s.keys) ≤ 18446744073709551615) where
   abbrev nodes : List Node
   nodes = nodes_with t s.keys
 
   abbrev us1 : List Unit
-  us1 = started node.key.slot us
+  us1 = set us node.key.slot no_unit
+
+  long1 : length us1 ≡ length us
+  long1 = length-set us node.key.slot no_unit
 
   abbrev own_new : List Unit
   own_new = tallied (node ∷ []) us1
@@ -131,30 +134,37 @@ module _ (t : Table Node) (ss : List Shelf) (kept : IsStored t ss) (id : ℕ) (s
   long : length new ≡ length us1
   long = hung_long t (node ∷ []) own_new ∙ tallied_long (node ∷ []) us1
 
+  -- the slot of each node's key is in the list
+  slot_in : (n : Node) → In n nodes → n.key.slot < length us1
+  slot_in n there = subst (λ (l : ℕ). n.key.slot < l) (sym long1) (by_place (In-append old (node ∷ []) n (subst (In n) grown there)))
+    where
+      by_place : In n old ⊎ In n (node ∷ []) → n.key.slot < length us
+      by_place (inl o) = (in_all (HasUnit us old) old has n o).0
+      by_place (inr (inl is)) = subst (λ (m : Node). m.key.slot < length us) (sym is) own_inside
+      by_place (inr (inr none)) = absurd none
+
   -- what each slot had before the node was counted
-  before : (n : Node) → In n nodes → n.key.slot < length us1 → unit_at us1 n.key.slot ≡ unit_of old n.key
-  before n there inside = elim (In-append old (node ∷ []) n (subst (In n) grown there)) [
+  before : (n : Node) → In n nodes → unit_at us1 n.key.slot ≡ unit_of old n.key
+  before n there = elim (In-append old (node ∷ []) n (subst (In n) grown there)) [
     | inl o ↦
-        let x = started_other node.key.slot n.key.slot us (old_slot n o) inside in
-        x.1 ∙ in_all (λ (m : Node). m.key.slot < length us → unit_at us m.key.slot ≡ unit_of old m.key) old has n o x.0
+        get_or-set_other us node.key.slot n.key.slot no_unit no_unit (old_slot n o) ∙ (in_all (HasUnit us old) old has n o).1
     | inr b ↦ last b
   ]
     where
       last : In n (node ∷ []) → unit_at us1 n.key.slot ≡ unit_of old n.key
       last (inl is) =
-          let within : node.key.slot < length us1 = subst (λ (m : Node). m.key.slot < length us1) is inside in
           let l : times (lives_in node.key) old ≡ 0 = times-zero (lives_in node.key) old (λ m o. (none_counted m o).0) in
           let w : times (waits_in node.key) old ≡ 0 = times-zero (waits_in node.key) old (λ m o. (none_counted m o).1) in
           let b : times (heads_below old node.key) old ≡ 0 =
           sym (below_old node.key) ∙ times-zero (is_hung t node.key) old none_hung in
           subst (λ (m : Node). unit_at us1 m.key.slot ≡ unit_of old m.key) (sym is)
-          (started_own node.key.slot us within ∙ (λ i. record { live = sym l i; unready = sym w i; below = sym b i }))
+          (get_or-set_same us node.key.slot no_unit no_unit own_inside ∙ (λ i. record { live = sym l i; unready = sym w i; below = sym b i }))
       last (inr none) = absurd none
 
   has_new : HasUnits new nodes
-  has_new = all_in (λ (n : Node). n.key.slot < length new → unit_at new n.key.slot ≡ unit_of nodes n.key) nodes (λ n there within.
-      let inside : n.key.slot < length us1 = subst (λ (l : ℕ). n.key.slot < l) long within in
-      let was = before n there inside in
+  has_new = all_in (HasUnit new nodes) nodes (λ n there.
+      let inside = slot_in n there in
+      let was = before n there in
       let l0 : (unit_at us1 n.key.slot).live ≡ times (lives_in n.key) old = ap (λ (u : Unit). u.live) was in
       let w0 : (unit_at us1 n.key.slot).unready ≡ times (waits_in n.key) old = ap (λ (u : Unit). u.unready) was in
       let b0 : (unit_at us1 n.key.slot).below ≡ times (heads_below old n.key) old = ap (λ (u : Unit). u.below) was in
@@ -183,7 +193,7 @@ module _ (t : Table Node) (ss : List Shelf) (kept : IsStored t ss) (id : ℕ) (s
       let l : (unit_at new n.key.slot).live ≡ times (lives_in n.key) nodes = omega arith in
       let w : (unit_at new n.key.slot).unready ≡ times (waits_in n.key) nodes = omega arith in
       let h : (unit_at new n.key.slot).below ≡ times (heads_below nodes n.key) nodes = omega arith in
-      λ i. record { live = l i; unready = w i; below = h i })
+      (subst (λ (m : ℕ). n.key.slot < m) (sym long) inside, λ i. record { live = l i; unready = w i; below = h i }))
     where
       long_more : (ns : List Node) → length (ns ++ node ∷ []) ≡ length ns + 1
       long_more [] = refl
@@ -205,9 +215,11 @@ module _ (t : Table Node) (ss : List Shelf) (kept : IsStored t ss) (id : ℕ) (s
 
   stays_new : Stays t id us new
   stays_new k n is differ within =
-      let inside : k.slot < length us1 = subst (λ (l : ℕ). k.slot < l) long within in
-      let x = started_other node.key.slot k.slot us (apart node.key node (at node born_on) (of node born_on)) inside in
-      (x.0, hung_other t (node ∷ []) own_new k.slot aboves ∙ tallied_other (node ∷ []) us1 k.slot heads ∙ x.1)
+      let long_too : length us ≡ length new = sym (long ∙ long1) in (
+        subst (λ (l : ℕ). k.slot < l) long_too within,
+        hung_other t (node ∷ []) own_new k.slot aboves ∙ tallied_other (node ∷ []) us1 k.slot heads
+            ∙ get_or-set_other us node.key.slot k.slot no_unit no_unit (apart node.key node (at node born_on) (of node born_on)),
+      )
     where
       apart : (j : NodeKey) (m : Node) → node_at t j ≡ Some m → m.collection ≡ id → k.slot ≢ j.slot
       apart j m found owned slots =
@@ -256,7 +268,7 @@ keys_fewer s (x ∷ xs) (inr on) =
 
 module _ (t now : Table Node) (ss : List Shelf) (ok : IsStored t ss) (id : ℕ) (parent : Option NodeKey) (attached : Bool) (client event : ℕ)
     (above : Option Node) (up : Above t ss id parent above) (key : NodeKey) (bears : Bears t now (born above attached id event client key))
-    (handles : Handles) (still : IsStill handles (collection_or_new (forest_of t ss) id)) (behind : List Shelf)
+    (behind : List Shelf)
     (placed : behind ≡ put_shelf (shelf_with (shelf_before id ss) key) ss) where
   abbrev c0 : Collection
   c0 = collection_or_new (forest_of t ss) id
@@ -271,10 +283,10 @@ module _ (t now : Table Node) (ss : List Shelf) (ok : IsStored t ss) (id : ℕ) 
   before_it = before_is t ss ok id
 
   kept_now : IsStored now behind
-  kept_now = quiet_kept t now ss ok id parent attached client event above up key bears handles still behind placed
+  kept_now = quiet_kept t now ss ok id parent attached client event above up key bears behind placed
 
   shelf_on : In (shelf_by with_it) behind
-  shelf_on = subst (In (shelf_by with_it)) (sym (behind_is t now ss ok id parent attached client event above up key bears handles still
+  shelf_on = subst (In (shelf_by with_it)) (sym (behind_is t now ss ok id parent attached client event above up key bears
       behind placed)) (in_put_shelf (shelf_by with_it) ss)
 
   shown_nodes : nodes_with now (shelf_by with_it).keys ≡ c0.nodes ++ child ∷ []
@@ -304,18 +316,19 @@ module _ (t now : Table Node) (ss : List Shelf) (ok : IsStored t ss) (id : ℕ) 
       omega arith
 
   -- all have their counts, once the slot of the node is started and the node counted
-  pub newborn_units : (us : List Unit) → AreUnits us (map (collection_in t) ss) → table_len now ≤ 18446744073709551615 →
-      AreUnits (reckoned now (nodes_with now (key ∷ [])) (started key.slot us)) (map (collection_in now) behind)
-  newborn_units us all few =
+  pub newborn_units : (us : List Unit) → AreUnits us (map (collection_in t) ss) → key.slot < length us →
+      table_len now ≤ 18446744073709551615 →
+      AreUnits (reckoned now (nodes_with now (key ∷ [])) (set us key.slot no_unit)) (map (collection_in now) behind)
+  newborn_units us all inside few =
       let own : c0.id ≡ id = before_it.id_is in
       let named : child.key ≡ key = key_is t now ss ok id parent attached client event above up key bears in
       let one : nodes_with now (key ∷ []) ≡ child ∷ [] = ap (λ (o : Option Node). cons_option o []) found_key in
       let but : AreUnitsBut us id (map (collection_in now) behind) =
-      subst (AreUnitsBut us id) (sym (behind_shown t now ss ok id parent attached client event above up key bears handles still behind
+      subst (AreUnitsBut us id) (sym (behind_shown t now ss ok id parent attached client event above up key bears behind
       placed))
       (subst (λ (i : ℕ). AreUnitsBut us i (put with_it (map (collection_in t) ss))) own (but_put us with_it (map (collection_in t) ss)
       all)) in
-      let made : AreUnits (reckoned now (child ∷ []) (started child.key.slot us)) (map (collection_in now) behind) =
+      let made : AreUnits (reckoned now (child ∷ []) (set us child.key.slot no_unit)) (map (collection_in now) behind) =
       born_units now behind kept_now id (shelf_by with_it) shelf_on own c0.nodes child shown_nodes (born_here above attached id event client
       key)
       (born_fresh t now ss ok id parent attached client event above up key bears)
@@ -324,6 +337,6 @@ module _ (t now : Table Node) (ss : List Shelf) (ok : IsStored t ss) (id : ℕ) 
       before_it.whole.united n on here in (h.0, h.1, h.2))
       (λ n on. eqb-true n.collection (shelf_by with_it).id (all-In (λ (m : Node). m.collection == (shelf_by with_it).id)
       (nodes_with now (shelf_by with_it).keys) n on (looked-of now (shelf_by with_it).id (shelf_by with_it).keys filed_keys)) ∙ own)
-      us (had us all) but (few_nodes few) in
-      subst (λ (ns : List Node). AreUnits (reckoned now ns (started key.slot us)) (map (collection_in now) behind)) (sym one)
-      (subst (λ (k : NodeKey). AreUnits (reckoned now (child ∷ []) (started k.slot us)) (map (collection_in now) behind)) named made)
+      us (subst (λ (k : NodeKey). k.slot < length us) (sym named) inside) (had us all) but (few_nodes few) in
+      subst (λ (ns : List Node). AreUnits (reckoned now ns (set us key.slot no_unit)) (map (collection_in now) behind)) (sym one)
+      (subst (λ (k : NodeKey). AreUnits (reckoned now (child ∷ []) (set us k.slot no_unit)) (map (collection_in now) behind)) named made)

@@ -1,6 +1,6 @@
 -- A unit that is to be allocated, as the table tells before it is.
-use Rattle.std.proofs.Common.{◌≡◌, ℕ, zero, suc, ◌≤◌, ◌<◌, nat_lt, refl, ap, sym, ◌∙◌, subst, Bool, true, false, not, ◌&&◌, ◌||◌, ◌==◌, inl, inr, is_none, get_or, length, List, [], ◌∷◌, Option, Some, None, arith}
-use Rattle.std.proofs.lemmas.Bool.{eq-eqb, ltb-false, ltb-true, not-true}
+use Rattle.std.proofs.Common.{◌≡◌, ◌≤◌, refl, ap, sym, ◌∙◌, subst, Bool, true, false, not, ◌&&◌, ◌||◌, ◌==◌, inl, inr, is_none, List, [], ◌∷◌, Option, Some, None, arith}
+use Rattle.std.proofs.lemmas.Bool.{eq-eqb, not-true}
 use Rattle.std.specs.List.{cons_option, find, list_all, list_any}
 use Rattle.std.specs.Option.{option_map_or}
 use Rattle.sm_names.specs.declared.keys.NodeKey.{NodeKey}
@@ -10,7 +10,7 @@ use Rattle.sm_names.proofs.SamenessLaws.{and_both, and_left, and_right, both_way
 use Rattle.node_table.specs.Table.{Table, node_at, parent_at}
 use Rattle.alloc_event.specs.declared.node.Node.{Node}
 use Rattle.alloc_event.specs.declared.units.Unit.{Unit}
-use Rattle.alloc_event.specs.Counts.{HasUnits, no_unit, unit_at, unit_of, waits_in}
+use Rattle.alloc_event.specs.Counts.{HasUnit, HasUnits, unit_at, waits_in}
 use Rattle.alloc_event.specs.Forest.{Collection}
 use Rattle.alloc_event.specs.Kept.{IsStored, IsWhole, Shelf, collection_in, nodes_with}
 use Rattle.alloc_event.specs.Nodes.{is_of}
@@ -52,12 +52,6 @@ key_listed t named (k ∷ ks) n on = by (λ there. key_listed t named ks n there
         (subst (λ (j : NodeKey). same_key n.key j ≡ true) (ap (λ (x : Node). x.key) is ∙ named k m at) (same_key-refl n.key))
     by rest (Some m) at (inr there) = or_right (same_key n.key k) (list_any (same_key n.key) ks) (rest there)
 
--- beyond the end
-get_or_beyond : (us : List Unit) (i : ℕ) (d : Unit) → length us ≤ i → get_or us i d ≡ d
-get_or_beyond [] i d out = refl
-get_or_beyond (u ∷ us) zero d out = absurd (omega (arith, out))
-get_or_beyond (u ∷ us) (suc i) d out = get_or_beyond us i d (omega (arith, out))
-
 -- a node with a parent is no root
 pub no_root : (c : Collection) → IsSound c → (h : Node) → In h c.nodes → (p : NodeKey) → h.parent ≡ Some p → is_root_of c h.key ≡ false
 no_root c sound h on p up =
@@ -83,15 +77,6 @@ pub record IsBareHead (nodes : List Node) (k : NodeKey) : Type 0 where
   pub here : head.gone ≡ false
   pub waits : head.allocated ≡ false
 
--- of an attached one, and the node above it
-pub record IsWaitingHead (nodes : List Node) (k : NodeKey) : Type 0 where
-  pub bare : IsBareHead nodes k
-  pub attached : bare.head.attached ≡ true
-  pub above : Node
-  pub above_on : In above nodes
-  pub up : bare.head.parent ≡ Some above.key
-  pub above_here : above.gone ≡ false
-
 -- the head of a unit that is to be allocated, and the node above it
 pub record IsDueHead (t : Table Node) (nodes : List Node) (k : NodeKey) : Type 0 where
   pub head : Node
@@ -110,16 +95,6 @@ pub record IsDueHead (t : Table Node) (nodes : List Node) (k : NodeKey) : Type 0
 abbrev pub due_bare : (t : Table Node) (nodes : List Node) (k : NodeKey) → IsDueHead t nodes k → IsBareHead nodes k
 due_bare t nodes k due =
     record { head = due.head; on = due.on; key = due.key; own = due.own; here = due.here; waits = due.waits }
-
-abbrev pub due_waiting : (t : Table Node) (nodes : List Node) (k : NodeKey) → IsDueHead t nodes k → IsWaitingHead nodes k
-due_waiting t nodes k due = record {
-  bare = due_bare t nodes k due;
-  attached = due.attached;
-  above = due.above;
-  above_on = due.above_on;
-  up = due.up;
-  above_here = due.above_here;
-}
 
 module _ (t : Table Node) (ss : List Shelf) (kept : IsStored t ss) (s : Shelf) (found : find (λ (x : Shelf). x.id == s.id) ss ≡ Some s)
     (k : NodeKey) where
@@ -145,15 +120,9 @@ module _ (t : Table Node) (ss : List Shelf) (kept : IsStored t ss) (s : Shelf) (
   -- a unit that is ready waits for none
   waits_for_none : (us : List Unit) → HasUnits us nodes → (m : Node) → In m nodes → list_all (is_ready_node m.key) nodes ≡ true →
       (unit_at us m.key.slot).unready ≡ 0
-  waits_for_none us counts m on ready = elim (either_way (nat_lt m.key.slot (length us))) [
-    | inl e ↦
-        let is : unit_at us m.key.slot ≡ unit_of nodes m.key =
-        in_all (λ (x : Node). x.key.slot < length us → unit_at us x.key.slot ≡ unit_of nodes x.key) nodes counts m on
-        (ltb-true m.key.slot (length us) e) in
-        ap (λ (u : Unit). u.unready) is ∙ times-zero (waits_in m.key) nodes (λ x there.
-        ap not (all-In (is_ready_node m.key) nodes x there ready))
-    | inr e ↦ ap (λ (u : Unit). u.unready) (get_or_beyond us m.key.slot no_unit (ltb-false m.key.slot (length us) e))
-  ]
+  waits_for_none us counts m on ready =
+      ap (λ (u : Unit). u.unready) (in_all (HasUnit us nodes) nodes counts m on).1
+      ∙ times-zero (waits_in m.key) nodes (λ x there. ap not (all-In (is_ready_node m.key) nodes x there ready))
 
   pub due_head : has_turn_at t k ≡ true → (n : Node) → In n nodes → n.gone ≡ false → n.head ≡ k → IsDueHead t nodes k
   due_head turn n on here own =

@@ -1,5 +1,5 @@
 -- An effect and with it the allocation of units without buffers, in their places: the nodes in between, and then.
-use Rattle.std.proofs.Common.{◌≡◌, ◌≢◌, ℕ, ◌+◌, ◌<◌, ◌==◌, refl, ap, sym, ◌∙◌, subst, Bool, true, false, not, ◌&&◌, ◌||◌, if◌then◌else◌, inl, inr, List, [], ◌∷◌, map, set, Option, Some, None, option_map}
+use Rattle.std.proofs.Common.{◌≡◌, ◌≢◌, ℕ, ◌+◌, ◌<◌, ◌==◌, refl, ap, sym, ◌∙◌, subst, Bool, true, false, not, ◌&&◌, ◌||◌, if◌then◌else◌, inl, inr, List, [], ◌∷◌, map, Option, Some, None, option_map}
 use Rattle.std.proofs.lemmas.Bool.{eqb-false, eqb-true}
 use Rattle.std.specs.List.{AllByRecursion, list_all, list_any, sum_by}
 use Rattle.std.specs.Option.{option_map_or}
@@ -7,11 +7,8 @@ use Rattle.sm_names.specs.declared.keys.NodeKey.{NodeKey}
 use Rattle.sm_names.specs.declared.outcomes.Cause.{Cause}
 use Rattle.sm_names.specs.Demands.{Demand}
 use Rattle.sm_names.specs.Sameness.{same_key}
-use Rattle.sm_names.specs.Words.{times}
-use Rattle.sm_names.proofs.ListLaws.{In, In-find, In-map, In-map-back, map-In, map-map}
+use Rattle.sm_names.proofs.ListLaws.{In, In-find, In-map-back, map-In, map-map}
 use Rattle.sm_names.proofs.SamenessLaws.{both_ways, either_way, false_if, same_key-true}
-use Rattle.sm_names.proofs.StandingLaws.{In-any}
-use Rattle.sm_names.proofs.SizeLaws.{all_on}
 use Rattle.node_table.specs.Changes.{Writes}
 use Rattle.node_table.specs.Lending.{table_with_node}
 use Rattle.node_table.specs.Table.{Table, node_at}
@@ -19,36 +16,33 @@ use Rattle.alloc_event.specs.declared.change.Change.{Change}
 use Rattle.alloc_event.specs.declared.change.Effect.{Effect}
 use Rattle.alloc_event.specs.declared.node.Node.{Node}
 use Rattle.alloc_event.specs.declared.units.Unit.{Unit}
-use Rattle.alloc_event.specs.Calm.{IsCalm, over_but, strong_count}
-use Rattle.alloc_event.specs.Counts.{AreUnits, HasUnits, lives_in, unit_at, waits_in, is_unready}
-use Rattle.alloc_event.specs.Due.{is_due_at, is_served_at}
+use Rattle.alloc_event.specs.Calm.{IsCalm, strong_count}
+use Rattle.alloc_event.specs.Counts.{AreUnits, HasUnits, lives_in, waits_in}
 use Rattle.alloc_event.specs.Forest.{Collection, with_nodes}
-use Rattle.alloc_event.specs.InPlace.{IsMade, IsOpen, bit}
-use Rattle.alloc_event.specs.Kept.{IsStored, IsWhole, SameTable, Shelf, collection_in, forest_of, is_filed, is_strong, nodes_with, written}
+use Rattle.alloc_event.specs.InPlace.{IsOpen}
+use Rattle.alloc_event.specs.Kept.{IsStored, IsWhole, Shelf, collection_in, forest_of, is_filed, is_strong, nodes_with}
 use Rattle.alloc_event.specs.Falls.{given_all}
 use Rattle.alloc_event.specs.Nodes.{affected, given_buffers}
-use Rattle.alloc_event.specs.Questions.{demands_of, is_live_node, is_ready_node}
 use Rattle.alloc_event.specs.Reserved.{reserved_count}
 use Rattle.alloc_event.specs.Scenes.{IsSound, heads_itself}
-use Rattle.alloc_event.specs.Serving.{AreLess, IsGivenAt, asked_with, given_at, is_in_some}
+use Rattle.alloc_event.specs.Serving.{AreLess, IsGivenAt, given_at}
 use Rattle.alloc_event.specs.Units.{GoTogether}
 use Rattle.alloc_event.specs.Settling.{is_there}
-use Rattle.alloc_event.proofs.calm.Calming.{any_map, count_none, times_map}
+use Rattle.alloc_event.proofs.calm.Calming.{times_map}
 use Rattle.alloc_event.proofs.calm.Steps.{all-In}
 use Rattle.alloc_event.proofs.calm.Together.{together_given}
 use Rattle.alloc_event.proofs.changes.Altering.{filed_at, found_filed, looked-of, same_affected}
-use Rattle.alloc_event.proofs.changes.Effecting.{alone_affected, counted_made, live_before, live_is, now_is, remains_affected, strong_before, strong_is, unready_before, unready_is}
+use Rattle.alloc_event.proofs.changes.Effecting.{alone_affected, now_is, remains_affected}
 use Rattle.alloc_event.proofs.lists.Lookups.{looked-map, same_key-swap}
 use Rattle.alloc_event.proofs.serves.Before.{key_listed, whole_before}
-use Rattle.alloc_event.proofs.serves.Enough.{reserved_all}
 use Rattle.alloc_event.proofs.serves.Giving.{given_in, given_out, kept_given, same_given}
 use Rattle.alloc_event.proofs.serves.Rounds.{none_given}
-use Rattle.alloc_event.proofs.serves.Sums.{asked_is, reserved_same}
+use Rattle.alloc_event.proofs.serves.Sums.{reserved_same}
 use Rattle.alloc_event.proofs.shelves.Showing.{node_is}
 use Rattle.alloc_event.proofs.tables.Hanging.{all_in, in_all, looked_there}
 use Rattle.alloc_event.proofs.tables.LeftParents.{loss_left}
 use Rattle.alloc_event.proofs.tables.Rooted.{IsLeft, distinct_one, left_node}
-use Rattle.alloc_event.proofs.tables.Writing.{IsSameNode, IsSound-map, IsWhole-map, collections-map, filed-map, kept-with}
+use Rattle.alloc_event.proofs.tables.Writing.{IsSameNode, IsSound-map, IsWhole-map, collections-map, kept-with}
 use Rattle.alloc_event.proofs.tallies.Slots.{all_at, one_shelf, units_with}
 use Rattle.alloc_event.proofs.serves.Allocated.{after_all}
 use Rattle.alloc_event.proofs.tallies.Holding.{head_there}
@@ -76,9 +70,6 @@ affected_given key (Effect.Constrained demand) hs n = refl
 affected_given key Effect.Taken hs n = refl
 affected_given key Effect.Released hs n = refl
 affected_given key Effect.Tracked hs n = refl
-
-over_given : (hs noted : List NodeKey) (m : Node) → over_but noted (given_all hs m) ≡ over_but noted m
-over_given hs noted m = refl
 
 -- units that are allocated go together
 together_all : (hs : List NodeKey) (nodes : List Node) → GoTogether nodes → GoTogether (after_all hs nodes)
@@ -111,18 +102,6 @@ pub record StandsIn (t : Table Node) (us : List Unit) (s : Shelf) (key : NodeKey
   pub head_key : head.key ≡ n.head
   pub head_here : head.gone ≡ false
   pub head_own : head.head ≡ n.head
-
--- the units with these heads were allocated, and the effect was made
-pub record IsMadeAfter (t between now : Table Node) (us new : List Unit) (ss : List Shelf) (s : Shelf) (key : NodeKey) (effect : Effect)
-    (n : Node) (hs : List NodeKey) (lives : ℕ) : Type 0 where
-  pub made : IsMade between now new ss s (Change.Effect key effect) lives
-  pub others : (x : Shelf) → x.id ≢ s.id → list_all (is_filed t x.id) x.keys ≡ true → collection_in now x ≡ collection_in t x
-  pub allocated : collection_in now s ≡ with_nodes (after_all hs) (with_nodes (map (affected key effect)) (collection_in t s))
-  pub ready : list_all (is_ready_node n.head) (map (affected key effect) (nodes_with t s.keys)) ≡ true
-  pub same : SameTable t now
-  pub over : (noted : List NodeKey) → list_any (over_but noted) (nodes_with now s.keys) ≡ list_any (over_but noted) (nodes_with t s.keys)
-  pub reserved : reserved_count (nodes_with now s.keys) ≡ reserved_count (nodes_with t s.keys)
-      + sum_by (λ (d : Demand). d.camping) (asked_with t s.keys hs (affected key effect n))
 
 module _ (t : Table Node) (us : List Unit) (key : NodeKey) (effect : Effect) (n : Node) (was : node_at t key ≡ Some n)
     (ss : List Shelf) (s : Shelf) (strong : ℕ) (opens : IsOpen t us ss s (Change.Effect key effect) strong) where
@@ -206,22 +185,6 @@ module _ (t : Table Node) (us : List Unit) (key : NodeKey) (effect : Effect) (n 
           | inl e ↦ both_ways n.allocated (ap (λ (x : Node). x.allocated) (sym (one m there e)) ∙ given) (bare n on first)
           | inr e ↦ ap (λ (x : Node). x.constraints) (alone m e)
         ])))
-
-    pub asks_are : asked_with t s.keys hs (f n) ≡ demands_of (is_in_some hs) (map f nodes)
-    asks_are = asked_is t s.keys hs (f n) ∙ ap (demands_of (is_in_some hs)) (map-In (written (f n)) f nodes (λ m there.
-        let swap : same_key (f n).key m.key ≡ same_key n.key m.key = ap (λ (j : NodeKey). same_key j m.key) (same n).key in
-        elim (either_way (same_key n.key m.key)) [
-          | inl e ↦ (λ i. if (swap ∙ e) i then f n else m) ∙ ap f (sym (one m there e))
-          | inr e ↦ (λ i. if (swap ∙ e) i then f n else m) ∙ sym (alone m e)
-        ]))
-
-    -- a node of one of the units has no buffers
-    pub bare_then : (m : Node) → In m (map f nodes) → list_any (same_key m.head) hs ≡ true → m.allocated ≡ false
-    bare_then m there own =
-        let x = In-map f nodes m there in
-        ap (λ (y : Node). y.allocated) x.2 ∙ ((remains_affected key effect x.0).allocated
-        ∙ bare x.0 x.1 (ap (λ (i : NodeKey). list_any (same_key i) hs)
-        (sym (same x.0).head ∙ ap (λ (y : Node). y.head) (sym x.2)) ∙ own))
 
     -- ---- the units are allocated, without the effect
 
@@ -325,17 +288,6 @@ module _ (t : Table Node) (us : List Unit) (key : NodeKey) (effect : Effect) (n 
             (λ j m. kept_given (waits_in j) hs (λ x. refl) s.keys m) (map (collection_in t) ss) opens.units);
       }
 
-      due_between : is_due_at between k ≡ false
-      due_between =
-          let p = stands_in in
-          let at : node_at between k ≡ Some (given_all hs p.head) =
-          given.look k ∙ (ap (option_map g) (ap (node_at t) (sym p.head_key) ∙ at_key p.head p.head_on)
-          ∙ ap Some (given_in hs s.keys p.head (listed p.head p.head_on))) in
-          let unit : list_any (same_key p.head.head) hs ≡ true = ap (λ (j : NodeKey). list_any (same_key j) hs) p.head_own ∙ first in
-          let served : is_served_at between k ≡ true =
-          ap (λ (o : Option Node). option_map_or (λ (m : Node). m.allocated) o false) at ∙ rw unit refl in
-          rw served refl
-
       -- ---- and then the effect is made
 
       module _ (now : Table Node) (becomes : now ≡ table_with_node between (given_all hs (f n)).key (given_all hs (f n)))
@@ -353,25 +305,6 @@ module _ (t : Table Node) (us : List Unit) (key : NodeKey) (effect : Effect) (n 
         writes' : Writes between now (f n').key (f n')
         writes' = subst (λ (m : Node). Writes between now m.key m) (sym commutes) writes
 
-        live_next : next.live ≡ times (lives_in k) (map f (nodes_with between s.keys))
-        live_next = less.live_is _ (live_before key effect n)
-            (live_is between now us key effect n' node_between becomes' writes' ss s strong open_between less.inside
-            ∙ ap (λ (m : Node). (unit_at us k.slot).live + bit (is_live_node m)) commutes)
-
-        unready_next : next.unready ≡ times (waits_in k) (map f (nodes_with between s.keys))
-        unready_next = less.unready_is _ (unready_before key effect n)
-            (unready_is between now us key effect n' node_between becomes' writes' ss s strong open_between less.inside
-            ∙ ap (λ (m : Node). (unit_at us k.slot).unready + bit (is_unready m)) commutes)
-
-        lives_is : lives ≡ strong_count (map f (nodes_with between s.keys))
-        lives_is = less.left_is _ (strong_before key effect n)
-            (strong_is between now us key effect n' node_between becomes' writes' ss s strong open_between
-            ∙ ap (λ (m : Node). strong + bit (is_strong m)) commutes)
-
-        made_between : IsMade between now (set us k.slot next) ss s (Change.Effect key effect) lives
-        made_between = counted_made between now us key effect n' node_between becomes' writes' ss s strong open_between less.inside next
-            live_next unready_next less.below_is lives lives_is less.held (inr (inr due_between))
-
         -- the nodes are as the effect and then the allocations make them
         nodes_now : map f (nodes_with between s.keys) ≡ after_all hs (map f nodes)
         nodes_now = ap (map f) nodes_between ∙ swap_maps f (given_all hs) nodes (affected_given key effect hs)
@@ -379,37 +312,3 @@ module _ (t : Table Node) (us : List Unit) (key : NodeKey) (effect : Effect) (n 
         allocated : collection_in now s ≡ with_nodes (after_all hs) c1
         allocated = now_is between now us key effect n' node_between becomes' writes' ss s strong open_between
             ∙ (λ i. record c0 { nodes = nodes_now i })
-
-        waited : times (waits_in k) (map f nodes) ≡ 0
-        waited = sym (times_map (waits_in k) (waits_in k) (given_all hs) (map f nodes) (λ m. refl))
-            ∙ (sym (ap (times (waits_in k)) nodes_now) ∙ (sym unready_next ∙ less.ready))
-
-        ready : list_all (is_ready_node k) (map f nodes) ≡ true
-        ready = all_on (is_ready_node k) (map f nodes) (λ m there. elim (either_way (is_ready_node k m)) [
-          | inl e ↦ e
-          | inr e ↦ both_ways (list_any (waits_in k) (map f nodes)) (In-any (waits_in k) (map f nodes) m there (ap not e))
-              (count_none (waits_in k) (map f nodes) waited)
-        ])
-
-        pub made_after : IsMadeAfter t between now us (set us n.head.slot next) ss s key effect n hs lives
-        made_after = record {
-          made = made_between;
-          others = λ x differ filed.
-              made_between.done.others x differ (filed-map g same_g t between given.look x.id x.keys ∙ filed)
-              ∙ others_between x differ filed;
-          allocated = allocated;
-          ready = ready;
-          same = record {
-            first = made_between.done.same.first ∙ given.same.first;
-            nexts = made_between.done.same.nexts ∙ given.same.nexts;
-            limit = made_between.done.same.limit ∙ given.same.limit;
-            len = made_between.done.same.len ∙ given.same.len;
-          };
-          over = λ noted. made_between.over noted
-              ∙ (ap (list_any (over_but noted)) nodes_between
-              ∙ any_map (over_but noted) (over_but noted) (given_all hs) nodes (over_given hs noted));
-          reserved =
-              ap (λ (c : Collection). reserved_count c.nodes) allocated
-              ∙ (reserved_all (map f nodes) hs bare_then
-              ∙ (λ i. sym reserved_is i + sum_by (λ (d : Demand). d.camping) (sym asks_are i)));
-        }

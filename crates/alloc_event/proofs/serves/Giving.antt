@@ -43,21 +43,6 @@ given_out heads keys n e = λ i. if e i then given_all heads n else n
 pub given_other : (heads : List NodeKey) (n : Node) → list_any (same_key n.head) heads ≡ false → n ≡ given_all heads n
 given_other heads n e = λ i. record n { allocated = sym e i || n.allocated }
 
--- two lists of keys give the same, where they do so to each node
-pub given_alike : (t between : Table Node) (heads some keys : List NodeKey) →
-    ((key : NodeKey) (n : Node) → node_at t key ≡ Some n → given_at heads some n ≡ given_at heads keys n) →
-    IsGivenAt t between heads some → IsGivenAt t between heads keys
-given_alike t between heads some keys same given = record {
-  look = λ key. given.look key ∙ each (node_at t key) (same key);
-  parents = given.parents;
-  same = given.same;
-}
-  where
-    each : (o : Option Node) → ((n : Node) → o ≡ Some n → given_at heads some n ≡ given_at heads keys n) →
-        option_map (given_at heads some) o ≡ option_map (given_at heads keys) o
-    each None same = refl
-    each (Some n) same = ap Some (same n refl)
-
 -- once more makes no difference
 or_twice : (a b : Bool) → (a || (a || b)) ≡ (a || b)
 or_twice true b = refl

@@ -12,20 +12,13 @@ use Rattle.node_table.specs.Table.{Table, node_at}
 use Rattle.alloc_event.specs.declared.node.Node.{Node}
 use Rattle.alloc_event.specs.Kept.{nodes_with, written}
 use Rattle.alloc_event.specs.Questions.{demands_of, is_served}
-use Rattle.alloc_event.specs.Serving.{IsLess, asked_with, is_in_some}
+use Rattle.alloc_event.specs.Serving.{asked_with, is_in_some}
 use Rattle.alloc_event.proofs.lists.Filters.{above_greatest}
-
--- tests that are others
-pub less_by : (count counted result : ℕ) (was w is i : Bool) → IsLess count was is result → count ≡ counted → was ≡ w → is ≡ i →
-    IsLess counted w i result
-less_by count counted result was w is i told ec ew ei =
-    subst (λ (n : ℕ). IsLess n w i result) ec
-    (subst (λ (b : Bool). IsLess count b i result) ew (subst (λ (b : Bool). IsLess count was b result) ei told))
 
 -- ---- what is found by keys, one after another
 
 -- what is made of what the keys find
-joined : {A : Type 0} (look : NodeKey → Option Node) (f : Node → Option A) (keys : List NodeKey) →
+pub joined : {A : Type 0} (look : NodeKey → Option Node) (f : Node → Option A) (keys : List NodeKey) →
     filter_map (λ key. option_and_then f (look key)) keys ≡ filter_map f (filter_map look keys)
 joined look f [] = refl
 joined {A = A} look f (k ∷ ks) = ap (cons_option (option_and_then f (look k))) (joined look f ks) ∙ by (look k)
@@ -36,7 +29,7 @@ joined {A = A} look f (k ∷ ks) = ap (cons_option (option_and_then f (look k)))
     by (Some n) = refl
 
 -- and of that what else is made
-mapped : {A : Type 0} (g : Node → Node) (f : Node → Option A) (ns : List Node) →
+pub mapped : {A : Type 0} (g : Node → Node) (f : Node → Option A) (ns : List Node) →
     filter_map (λ n. f (g n)) ns ≡ filter_map f (map g ns)
 mapped g f [] = refl
 mapped g f (n ∷ ns) = ap (cons_option (f (g n))) (mapped g f ns)

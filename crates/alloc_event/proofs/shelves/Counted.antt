@@ -219,26 +219,6 @@ filed_every t id (e ∷ es) all = (
   filed_every t id es (and_right (list_all (is_filed t e.id) e.keys.items) _ all),
 )
 
-pub filed_but : (t : Table Node) (new : Shelf) (es : List Entry) → AreRising (shelves_of es) →
-    are_filed t (put_shelf new (shelves_of es)) ≡ true →
-    AllByRecursion (λ (e : Entry). e.id ≢ new.id → list_all (is_filed t e.id) e.keys.items ≡ true) es
-filed_but t new [] rising filed = tt
-filed_but t new (e ∷ es) rising filed =
-    cases_place e.id new.id (AllByRecursion (λ (x : Entry). x.id ≢ new.id → list_all (is_filed t x.id) x.keys.items ≡ true) (e ∷ es))
-    (λ same.
-    let all : are_filed t (new ∷ shelves_of es) ≡ true = rw same at filed in (
-      λ differ. absurd (differ (eqb-true e.id new.id same)),
-      filed_every t new.id es (and_right (list_all (is_filed t new.id) new.keys) _ all),
-    ))
-    (λ other above.
-    let all : are_filed t (new ∷ shelf_of e ∷ shelves_of es) ≡ true = rw (other, above) at filed in
-    filed_every t new.id (e ∷ es) (and_right (list_all (is_filed t new.id) new.keys) _ all))
-    (λ other below.
-    let all : are_filed t (shelf_of e ∷ put_shelf new (shelves_of es)) ≡ true = rw (other, below) at filed in (
-      λ differ. and_left (list_all (is_filed t e.id) e.keys.items) _ all,
-      filed_but t new es rising.1 (and_right (list_all (is_filed t e.id) e.keys.items) _ all),
-    ))
-
 -- ---- keys without a node
 
 -- keys that find nothing are not missed

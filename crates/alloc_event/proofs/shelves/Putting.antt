@@ -5,7 +5,6 @@ use Rattle.std.proofs.lemmas.Bool.{lt-ltb, le-ltb, eq-eqb, ne_eqb, eqb-true, cas
 use Rattle.std.proofs.lemmas.List.{map-append}
 use Rattle.sm_names.specs.declared.keys.NodeKey.{NodeKey}
 use Rattle.sm_names.specs.declared.keys.HeldBuffer.{HeldBuffer}
-use Rattle.sm_names.proofs.SamenessLaws.{and_left, and_right}
 use Rattle.node_table.specs.Table.{Table}
 use Rattle.alloc_event.specs.declared.node.Node.{Node}
 use Rattle.alloc_event.specs.Forest.{Collection, pages_in}
@@ -70,15 +69,6 @@ keys-put one other (s ∷ ss) ids keys = cases_place s.id other.id (all_keys (pu
     (λ same. rw (ids, keys, same) refl)
     (λ differ above. rw (ids, keys, differ, above) refl)
     (λ differ below. rw (ids, differ, below) (ap (λ ks. s.keys ++ ks) (keys-put one other ss ids keys)))
-
--- the shelf that is put is filed
-pub filed-own : (t : Table Node) (new : Shelf) (ss : List Shelf) → are_filed t (put_shelf new ss) ≡ true →
-    list_all (is_filed t new.id) new.keys ≡ true
-filed-own t new [] h = and_left _ _ h
-filed-own t new (s ∷ ss) h = cases_place s.id new.id (list_all (is_filed t new.id) new.keys ≡ true)
-    (λ same. and_left _ _ (rw same at h))
-    (λ other above. and_left _ _ (rw (other, above) at h))
-    (λ other below. filed-own t new ss (and_right _ _ (rw (other, below) at h)))
 
 -- what two tables that file the same say of keys
 filed-same-keys : (t now : Table Node) → ((id : ℕ) (key : NodeKey) → is_filed now id key ≡ is_filed t id key) →

@@ -1,15 +1,15 @@
 -- Nodes that are written one after another, each in the place of the one with its key.
-use Rattle.std.proofs.Common.{◌≡◌, ℕ, zero, suc, ◌<◌, Bool, true, false, List, [], ◌∷◌, ◌++◌, length, get_or, ◌⊎◌, inl, inr, Option, Some, None, option_map, is_some, cond, if◌then◌else◌, refl, ap, ◌∙◌, arith, IsSome}
+use Rattle.std.proofs.Common.{◌≡◌, ◌<◌, Bool, true, false, List, [], ◌∷◌, ◌++◌, ◌⊎◌, inl, inr, Option, Some, None, option_map, is_some, cond, if◌then◌else◌, refl, ap, ◌∙◌, arith, IsSome}
 use Rattle.std.proofs.lemmas.Bool.{false≢true}
 use Rattle.sm_names.specs.declared.keys.NodeKey.{NodeKey}
 use Rattle.sm_names.specs.Sameness.{same_key}
 use Rattle.sm_names.proofs.ListLaws.{In}
-use Rattle.sm_names.proofs.SamenessLaws.{and_left, and_right, either_way, same_key-true}
+use Rattle.sm_names.proofs.SamenessLaws.{either_way, same_key-true}
 use Rattle.node_table.specs.Table.{Row, Table, row_at, node_at}
 use Rattle.node_table.specs.Changes.{Writes}
 use Rattle.node_table.specs.Lending.{table_with_node}
 use Rattle.alloc_event.specs.declared.node.Node.{Node}
-use Rattle.alloc_event.specs.Kept.{written, stored, Stores, have_places}
+use Rattle.alloc_event.specs.Kept.{written, stored, Stores}
 use Rattle.alloc_event.proofs.lists.Lookups.{nothing}
 use Rattle.alloc_event.proofs.tables.Writing.{look-written, parents-written}
 
@@ -62,11 +62,6 @@ some_there : (b : Bool) (n m : Node) → cond {A = Option Node} b (Some n) (Some
 some_there true n m = refl
 some_there false n m = refl
 
--- what is there is so as another
-kept_there : (f : Node → Node) (o : Option Node) → is_some (option_map f o) ≡ is_some o
-kept_there f None = refl
-kept_there f (Some n) = refl
-
 -- nothing is written
 pub Stores-none : (t : Table Node) → Stores t t []
 Stores-none t = record {
@@ -97,15 +92,3 @@ Stores-more t u now ns n named stores becomes w = record {
     len = w.len ∙ stores.same.len;
   };
 }
-
--- each node of the list has a place
-pub place_at : (t : Table Node) (ns : List Node) (i : ℕ) (d : Node) → have_places t ns ≡ true → i < length ns →
-    is_some (node_at t (get_or ns i d).key) ≡ true
-place_at t [] i d all within = absurd (omega arith)
-place_at t (n ∷ ns) zero d all within = and_left _ _ all
-place_at t (n ∷ ns) (suc i) d all within = place_at t ns i d (and_right _ _ all) (omega arith)
-
--- and has it still
-pub place_stored : (t u : Table Node) (ns : List Node) (key : NodeKey) → Stores t u ns → is_some (node_at t key) ≡ true →
-    IsSome (row_at u key)
-place_stored t u ns key stores there = row_there u key (ap is_some (stores.look key) ∙ kept_there (stored ns) (node_at t key) ∙ there)

@@ -61,6 +61,19 @@ still_parent (Some above) key other None = refl
 still_parent (Some above) key other (Some row) =
     elim (same_key above other) as (λ b. (cond b (without_child key row) row).parent ≡ row.parent) [ true ↦ refl | false ↦ refl ]
 
+-- a row whose parent is taken has none
+no_parent : (o : Option (Row Node)) → parent_in (option_map without_parent o) ≡ None
+no_parent None = refl
+no_parent (Some row) = refl
+
+-- a cut gives no parent
+cut_parent : (t now : Table Node) (key : NodeKey) → Cuts t now key → (k p : NodeKey) → parent_at now k ≡ Some p → parent_at t k ≡ Some p
+cut_parent t now key cuts k p up = elim (key_cases k key) [
+  | inl same ↦
+      let none : parent_at now k ≡ None = ap (parent_at now) same ∙ ap parent_in cuts.loose ∙ no_parent (row_at t key) in absurd (cc)
+  | inr other ↦ sym (ap parent_in (cuts.others k other) ∙ still_parent (parent_at t key) key k (row_at t k)) ∙ up
+]
+
 -- a cut changes no node
 pub cut_look : (t now : Table Node) (key : NodeKey) → Cuts t now key → (k : NodeKey) → node_at now k ≡ node_at t k
 cut_look t now key cuts k = elim (key_cases k key) [
@@ -131,6 +144,7 @@ cut_fewer t now key child is cuts =
 pub record CutsOff (old new : Table Node) (key : NodeKey) : Type 0 where
   pub look : (k : NodeKey) → node_at new k ≡ node_at old k
   pub parents : (k : NodeKey) → parent_at old k ≢ Some key → parent_at new k ≡ parent_at old k
+  pub fewer : (k p : NodeKey) → parent_at new k ≡ Some p → parent_at old k ≡ Some p
   pub keys : SameKeys old new
   pub len : table_len new ≡ table_len old
 
@@ -143,6 +157,7 @@ CutsOff-more t u now key child off is cuts = record {
     | inl same ↦ absurd (other (sym (off.parents k other) ∙ ap (parent_at u) same ∙ is.parent_is))
     | inr differ ↦ ap parent_in (cuts.others k differ) ∙ still_parent (parent_at u child) child k (row_at u k) ∙ off.parents k other
   ];
+  fewer = λ k p up. off.fewer k p (cut_parent u now child cuts k p up);
   keys = SameKeys-trans t u now off.keys cuts.keys;
   len = cuts.len ∙ off.len;
 }
@@ -156,6 +171,14 @@ removed_look t now key n removes k = elim (key_cases k key) [
       (ap node_in (removes.others k other) ∙ still_node (parent_at t key) key k (row_at t k))
 ]
 
+-- a removal gives no parent
+removed_parent : (t now : Table Node) (key : NodeKey) (n : Node) → Removes t now key n → (k p : NodeKey) → parent_at now k ≡ Some p →
+    parent_at t k ≡ Some p
+removed_parent t now key n removes k p up = elim (key_cases k key) [
+  | inl same ↦ let none : parent_at now k ≡ None = ap (parent_at now) same ∙ ap parent_in removes.gone in absurd (cc)
+  | inr other ↦ sym (ap parent_in (removes.others k other) ∙ still_parent (parent_at t key) key k (row_at t k)) ∙ up
+]
+
 -- a node is taken out once it has no child
 pub takes_out : (t u now : Table Node) (key : NodeKey) (n : Node) → IsSome (node_at t key) → Unlinks t u key → Removes u now key n →
     TakesOut t now key
@@ -164,6 +187,7 @@ takes_out t u now key n was un removes = record {
   look = λ k. removed_look u now key n removes k ∙ ap (λ (o : Option Node). if same_key key k then None else o) (un.look k);
   parents = λ k differ other. ap parent_in (removes.others k differ) ∙ still_parent (parent_at u key) key k (row_at u k)
       ∙ un.parents k other;
+  fewer = λ k p up. un.fewer k p (removed_parent u now key n removes k p up);
   keys = SameKeys-trans t u now un.keys removes.keys;
   shorter = removes.shorter ∙ un.len;
 }
@@ -186,6 +210,7 @@ taken t now key node out was = record {
   was = was;
   look = out.look;
   parents = out.parents;
+  fewer = out.fewer;
   given = out.keys.given;
   first = same_first t now out.keys;
   limit = out.keys.limit;

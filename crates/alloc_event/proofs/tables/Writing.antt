@@ -14,6 +14,7 @@ use Rattle.alloc_event.specs.Nodes.{is_of}
 use Rattle.alloc_event.specs.Scenes.{IsSound, are_distinct, heads_itself}
 use Rattle.alloc_event.specs.Units.{GoTogether}
 use Rattle.alloc_event.proofs.tables.KeptRoots.{rooted_same}
+use Rattle.alloc_event.proofs.tables.Kin.{kin_kept}
 use Rattle.alloc_event.proofs.lists.Lookups.{looked-map}
 use Rattle.alloc_event.proofs.tables.Rooted.{whole_rooted}
 use Rattle.alloc_event.proofs.calm.United.{united_mapped}
@@ -148,6 +149,11 @@ module _ (f : Node → Node) (same : (n : Node) → IsSameNode (f n) n) where
         given-same t now first nexts n.head
         ∙ (ap (was_given t) (ap (λ (x : Node). x.head) (sym was.2) ∙ (same was.0).head) ∙ ok.heads key was.0 was.1);
     whole = whole;
+    parents = λ key p up. given-same t now first nexts p ∙ ok.parents key p (sym (parents key) ∙ up);
+    kin = kin_kept t now
+        (λ key n is. let was = found-map t now each key n is in
+        (was.0, was.1, ap (λ (x : Node). x.collection) (sym was.2) ∙ (same was.0).collection))
+        (λ key p up. sym (parents key) ∙ up) ok.kin;
   }
 
   -- so where no node goes

@@ -119,22 +119,6 @@ module _ (up : NodeKey → Option NodeKey) where
     | inr e ↦ let r = no_longer b p low high below.1 above e in omega arith
   ]
 
-  -- of two keys on a line one lies at or above the other
-  pub on_line : (a b c : NodeKey) (low la lb : List NodeKey) → IsChain up c low → IsChain up a la → IsChain up b lb →
-      list_any (same_key a) (c ∷ low) ≡ true → list_any (same_key b) (c ∷ low) ≡ true →
-      (list_any (same_key a) (b ∷ lb) ≡ true) ⊎ (list_any (same_key b) (a ∷ la) ≡ true)
-  on_line a b c [] la lb below ca cb ha hb = elim (or_cases (same_key a c) false ha) [
-    | inl e ↦ inr (at_same b c a la [] ca below (sym (same_key-true a c e)) hb)
-    | inr e ↦ cc
-  ]
-  on_line a b c (p ∷ low) la lb below ca cb ha hb = elim (or_cases (same_key a c) (list_any (same_key a) (p ∷ low)) ha) [
-    | inl e ↦ inr (at_same b c a la (p ∷ low) ca below (sym (same_key-true a c e)) hb)
-    | inr e ↦ elim (or_cases (same_key b c) (list_any (same_key b) (p ∷ low)) hb) [
-      | inl d ↦ inl (at_same a c b lb (p ∷ low) cb below (sym (same_key-true b c d)) ha)
-      | inr d ↦ on_line a b p low la lb below.1 ca cb e d
-    ]
-  ]
-
 module _ (nodes : List Node) (distinct : are_distinct nodes ≡ true) (heads : list_all heads_itself nodes ≡ true)
     (rooted : are_rooted (reverse nodes) ≡ true) (united : are_united (reverse nodes) ≡ true) where
   -- the parent of a key
@@ -243,30 +227,6 @@ module _ (nodes : List Node) (distinct : are_distinct nodes ≡ true) (heads : l
   pub head_there : (n : Node) → In n nodes → n.gone ≡ false → (h : Node) × In h nodes × (h.key ≡ n.head) × (h.gone ≡ false) ×
       (is_head h ≡ true)
   head_there n on here = head_found (suc (length (line n.key))) n on here (omega arith)
-
-  -- a head that lies above a node lies at or above the head of its unit
-  pub head_above : (fuel : ℕ) (a : Node) → In a nodes → a.gone ≡ false → (y : Node) → In y nodes → is_head y ≡ true →
-      is_below nodes y.key a.key ≡ true → length (line a.key) < fuel → is_below nodes y.key a.head ≡ true
-  head_above zero a on here y there head h few = absurd (omega arith)
-  head_above (suc fuel) a on here y there head h few = elim (either_way (is_head a)) [
-    | inl e ↦ subst (λ (k : NodeKey). is_below nodes y.key k ≡ true) (sym (own_head a on e)) h
-    | inr e ↦
-        let up' = has_parent a e in
-        let x = shared a on here e up'.0 up'.1 in
-        let left : is_left_of nodes x.0.key ≡ true =
-        subst (λ (k : NodeKey). is_left_of nodes k ≡ true) (sym x.2) (left_parent nodes rooted a up'.0 on here up'.1) in
-        let next : line a.key ≡ up'.0 ∷ line up'.0 = step a on here up'.0 up'.1 in
-        let long : length (line a.key) ≡ length (up'.0 ∷ line up'.0) = ap length next in
-        let same : length (line x.0.key) ≡ length (line up'.0) = ap (λ (k : NodeKey). length (line k)) x.2 in
-        elim (or_cases (same_key y.key a.key) (list_any (same_key y.key) (line a.key)) h) [
-          | inl is ↦ both_ways (is_head a) (ap is_head (sym (one y a there on (same_key-true y.key a.key is))) ∙ head) e
-          | inr far ↦
-              subst (λ (k : NodeKey). is_below nodes y.key k ≡ true) x.3
-              (head_above fuel x.0 x.1 (still_here x.0 x.1 left) y there head
-              (subst (λ (k : NodeKey). is_below nodes y.key k ≡ true) (sym x.2) (sym (ap (list_any (same_key y.key)) next)
-              ∙ far)) (omega arith))
-        ]
-  ]
 
   -- ---- heads
 

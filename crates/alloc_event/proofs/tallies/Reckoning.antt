@@ -1,7 +1,7 @@
 -- What the counts of a unit are, once nodes were counted for their units.
-use Rattle.std.proofs.Common.{◌≡◌, ◌≢◌, ℕ, ◌+◌, ◌<◌, ◌≤◌, ◌==◌, nat_lt, refl, ap, sym, ◌∙◌, subst, Bool, true, false, not, ◌&&◌, ◌||◌, ◌⊎◌, inl, inr, if◌then◌else◌, List, [], ◌∷◌, ◌++◌, length, set, is_some, arith}
+use Rattle.std.proofs.Common.{◌≡◌, ◌≢◌, ℕ, ◌+◌, ◌<◌, ◌≤◌, ◌==◌, nat_lt, refl, ap, sym, ◌∙◌, subst, Bool, true, false, not, ◌&&◌, ◌||◌, ◌⊎◌, inl, inr, if◌then◌else◌, List, [], ◌∷◌, length, set, is_some, arith}
 use Rattle.std.proofs.lemmas.Bool.{eqb-false, eqb-true, lt-ltb}
-use Rattle.std.proofs.lemmas.List.{get_or-append-add, get_or-set_other, get_or-set_same, get_or_append_left, length-append, length-set}
+use Rattle.std.proofs.lemmas.List.{get_or-set_other, get_or-set_same, length-set}
 use Rattle.sm_names.specs.declared.keys.NodeKey.{NodeKey}
 use Rattle.sm_names.specs.Sameness.{same_key}
 use Rattle.sm_names.specs.Words.{times}
@@ -11,7 +11,7 @@ use Rattle.alloc_event.specs.declared.node.Node.{Node}
 use Rattle.alloc_event.specs.declared.units.Unit.{Unit}
 use Rattle.alloc_event.specs.InPlace.{bit}
 use Rattle.alloc_event.specs.Questions.{is_live_node}
-use Rattle.alloc_event.specs.Counts.{cleared, is_unready, lives_in, no_unit, raised, started, tallied, unit_at, waits_in, with_node}
+use Rattle.alloc_event.specs.Counts.{cleared, is_unready, lives_in, no_unit, raised, tallied, unit_at, waits_in, with_node}
 
 -- a key of another slot is another key
 pub other_slot : (a b : NodeKey) → a.slot ≢ b.slot → same_key a b ≡ false
@@ -229,56 +229,3 @@ cleared_own (k ∷ ks) us key (inl is) within =
 cleared_own (k ∷ ks) us key (inr on) within =
     let long = length-set us k.slot no_unit in
     cleared_own ks (set us k.slot no_unit) key on (omega arith)
-
--- ---- slots that are started
-
-started_cases : (slot : ℕ) (us : List Unit) → ((slot ≡ length us) × (started slot us ≡ us ++ no_unit ∷ [])) ⊎
-    ((slot ≢ length us) × (started slot us ≡ set us slot no_unit))
-started_cases slot us = elim (either_way (slot == length us)) [
-  | inl e ↦ inl (eqb-true slot (length us) e, ap (λ (b : Bool). if b then us ++ no_unit ∷ [] else set us slot no_unit) e)
-  | inr e ↦ inr (eqb-false slot (length us) e, ap (λ (b : Bool). if b then us ++ no_unit ∷ [] else set us slot no_unit) e)
-]
-
-one_longer : (us : List Unit) → length (us ++ no_unit ∷ []) ≡ length us + 1
-one_longer us = length-append us (no_unit ∷ [])
-
--- a slot that is started counts nothing yet
-pub started_own : (slot : ℕ) (us : List Unit) → slot < length (started slot us) → unit_at (started slot us) slot ≡ no_unit
-started_own slot us within = elim (started_cases slot us) [
-  | inl e ↦
-      let at : length us + 0 ≡ slot = omega (arith, e.0) in
-      ap (λ (l : List Unit). unit_at l slot) e.1
-      ∙ subst (λ (s : ℕ). unit_at (us ++ no_unit ∷ []) s ≡ no_unit) at (get_or-append-add us (no_unit ∷ []) 0 no_unit)
-  | inr e ↦
-      let long = length-set us slot no_unit in
-      let inside : slot < length (set us slot no_unit) = subst (λ (l : List Unit). slot < length l) e.1 within in
-      ap (λ (l : List Unit). unit_at l slot) e.1 ∙ get_or-set_same us slot no_unit no_unit (omega arith)
-]
-
--- and the others count what they did
-pub started_other : (slot other : ℕ) (us : List Unit) → other ≢ slot → other < length (started slot us) → (other < length us) ×
-    (unit_at (started slot us) other ≡ unit_at us other)
-started_other slot other us differ within = elim (started_cases slot us) [
-  | inl e ↦
-      let long = one_longer us in
-      let inside : other < length (us ++ no_unit ∷ []) = subst (λ (l : List Unit). other < length l) e.1 within in
-      let less : other < length us = from (lt-or-eq other (length us) (omega arith)) e.0 in
-      (less, ap (λ (l : List Unit). unit_at l other) e.1 ∙ get_or_append_left us (no_unit ∷ []) no_unit other less)
-  | inr e ↦
-      let long = length-set us slot no_unit in
-      let inside : other < length (set us slot no_unit) = subst (λ (l : List Unit). other < length l) e.1 within in
-      (omega arith, ap (λ (l : List Unit). unit_at l other) e.1 ∙ get_or-set_other us slot other no_unit no_unit differ)
-]
-  where
-    lt-or-eq : (a b : ℕ) → a < b + 1 → (a < b) ⊎ (a ≡ b)
-    lt-or-eq a b h = elim (either_way (a == b)) [
-      | inl e ↦ inr (eqb-true a b e)
-      | inr e ↦ inl (under a b h (eqb-false a b e))
-    ]
-      where
-        under : (a b : ℕ) → a < b + 1 → a ≢ b → a < b
-        under a b h apart = omega (arith, h, apart)
-
-    from : (other < length us) ⊎ (other ≡ length us) → slot ≡ length us → other < length us
-    from (inl less) is = less
-    from (inr same) is = absurd (differ (same ∙ sym is))

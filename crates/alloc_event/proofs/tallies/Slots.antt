@@ -1,6 +1,6 @@
 -- The counts in the slots of keys: which stay where others change.
-use Rattle.std.proofs.Common.{◌≡◌, ◌≢◌, ℕ, ◌+◌, ◌<◌, ◌≤◌, ◌==◌, nat_le, nat_lt, refl, ap, sym, ◌∙◌, subst, Bool, true, false, ◌&&◌, ◌⊎◌, inl, inr, if◌then◌else◌, slice_index_or, List, [], ◌∷◌, ◌++◌, map, filter, length, reverse, Option, Some, None, option_map, not, arith}
-use Rattle.std.proofs.lemmas.Bool.{eq-eqb, eqb-false, eqb-true}
+use Rattle.std.proofs.Common.{◌≡◌, ◌≢◌, ℕ, ◌+◌, ◌<◌, ◌≤◌, ◌==◌, nat_lt, refl, ap, sym, ◌∙◌, subst, Bool, true, false, ◌&&◌, ◌⊎◌, inl, inr, if◌then◌else◌, slice_index_or, List, [], ◌∷◌, ◌++◌, map, filter, length, reverse, Option, Some, None, option_map, not, arith}
+use Rattle.std.proofs.lemmas.Bool.{eqb-false, eqb-true}
 use Rattle.std.specs.List.{AllByRecursion, find, list_all, list_any}
 use Rattle.std.specs.Option.{option_map_or, unwrap_or}
 use Rattle.sm_names.specs.declared.keys.Interval.{Interval}
@@ -8,19 +8,19 @@ use Rattle.sm_names.specs.declared.keys.NodeKey.{NodeKey}
 use Rattle.sm_names.specs.Marks.{Mark, Called, Loss, Allocated, Ended}
 use Rattle.sm_names.specs.Sameness.{same_key}
 use Rattle.sm_names.specs.Words.{times}
-use Rattle.sm_names.proofs.ListLaws.{In, In-filter, In-filter-back, In-find, In-list_any, In-map, In-map-back, none-find}
-use Rattle.sm_names.proofs.SamenessLaws.{and_left, and_right, both_ways, either_way, false_if, or_left, same_key-refl, same_key-true}
+use Rattle.sm_names.proofs.ListLaws.{In, In-filter, In-filter-back, In-find, In-list_any, In-map, In-map-back}
+use Rattle.sm_names.proofs.SamenessLaws.{and_left, and_right, both_ways, either_way, false_if, same_key-true}
 use Rattle.sm_names.proofs.StandingLaws.{In-any}
-use Rattle.node_table.specs.Table.{Row, Table, next_at, node_at, was_given}
+use Rattle.node_table.specs.Table.{Row, Table, next_at, node_at}
 use Rattle.alloc_event.specs.declared.change.Change.{Change}
 use Rattle.alloc_event.specs.declared.node.Node.{Node}
 use Rattle.alloc_event.specs.declared.units.Unit.{Unit}
-use Rattle.alloc_event.specs.Counts.{AreUnits, AreUnitsBut, HasUnits, cleared, hangs_in, head_above, heads_below, lives_in, no_unit, reckoned, started, tallied, unit_at, unit_of, waits_in}
-use Rattle.alloc_event.specs.Forest.{Collection, Forest, beside, collection_at, is_left, tidied, with_nodes, without_over_in}
-use Rattle.alloc_event.specs.Kept.{AreRising, Finishes, Gives, IsStored, IsWhole, Shelf, are_filed, collection_in, forest_of, is_filed, nodes_with}
-use Rattle.alloc_event.specs.Nodes.{is_of, is_over, is_spent, new_child, node_of}
+use Rattle.alloc_event.specs.Counts.{AreUnits, AreUnitsBut, HasUnit, HasSlots, HasUnits, HaveSlots, cleared, hangs_in, head_above, heads_below, lives_in, no_unit, reckoned, tallied, unit_at, unit_of, waits_in}
+use Rattle.alloc_event.specs.Forest.{Collection, Forest, collection_at, is_left, tidied, with_nodes, without_over_in}
+use Rattle.alloc_event.specs.Kept.{AreRising, IsStored, IsWhole, Shelf, are_filed, collection_in, is_filed, nodes_with}
+use Rattle.alloc_event.specs.Nodes.{is_of, is_over, is_spent}
 use Rattle.alloc_event.specs.Scenes.{are_distinct}
-use Rattle.alloc_event.specs.Settling.{Forces, Handles, Rests, Settles, changed, collection_or_new, given_back, is_birth, is_root_of, made, put, with_birth}
+use Rattle.alloc_event.specs.Settling.{Forces, Handles, Rests, Settles, changed, collection_or_new, is_birth, is_root_of, made, put}
 use Rattle.alloc_event.specs.Ties.{are_rooted}
 use Rattle.alloc_event.proofs.changes.Altering.{found_filed, found_id, found_whole, looked-of}
 use Rattle.alloc_event.proofs.calm.Calming.{times_map}
@@ -28,7 +28,7 @@ use Rattle.alloc_event.proofs.changes.Finishing.{looked-keys}
 use Rattle.alloc_event.proofs.tables.Hanging.{all_in, in_all, looked_gone, looked_there}
 use Rattle.alloc_event.proofs.tallies.Holding.{head_there}
 use Rattle.alloc_event.proofs.tallies.Hung.{above_node, below_mapped, hung_hangs, hung_is, hung_long, hung_other, is_hung}
-use Rattle.alloc_event.proofs.tallies.Reckoning.{cleared_long, cleared_other, cleared_own, started_other, tallied_adds, tallied_long, tallied_other}
+use Rattle.alloc_event.proofs.tallies.Reckoning.{cleared_long, cleared_other, cleared_own, tallied_adds, tallied_long, tallied_other}
 use Rattle.alloc_event.proofs.shelves.Showing.{filed-length}
 use Rattle.alloc_event.proofs.calm.Steps.{all-In}
 use Rattle.alloc_event.proofs.tables.Rooted.{distinct_one, left_node, left_parent}
@@ -81,22 +81,21 @@ one_shelf (s ∷ ss) rising x y (inr here) (inr there) same = one_shelf ss risin
 
 -- the counts in the slots of other collections' keys stay
 abbrev pub Stays : Table Node → ℕ → List Unit → List Unit → Type 0
-Stays t id us new = (k : NodeKey) (n : Node) → node_at t k ≡ Some n → n.collection ≢ id → k.slot < length new → (k.slot < length us) ×
+Stays t id us new = (k : NodeKey) (n : Node) → node_at t k ≡ Some n → n.collection ≢ id → k.slot < length us → (k.slot < length new) ×
     (unit_at new k.slot ≡ unit_at us k.slot)
 
 module _ (t : Table Node) (named : (key : NodeKey) (n : Node) → node_at t key ≡ Some n →
     n.key ≡ key) (us new : List Unit) (id : ℕ) (stays : Stays t id us new) where
   units_stay : (x : ℕ) → x ≢ id → (keys : List NodeKey) → list_all (is_filed t x) keys ≡ true → HasUnits us (nodes_with t keys) →
       HasUnits new (nodes_with t keys)
-  units_stay x differ keys filed has = all_in (λ (n : Node). n.key.slot < length new →
-      unit_at new n.key.slot ≡ unit_of (nodes_with t keys) n.key) (nodes_with t keys) (λ n on within.
+  units_stay x differ keys filed has = all_in (HasUnit new (nodes_with t keys)) (nodes_with t keys) (λ n on.
       let at : node_at t n.key ≡ Some n =
       in_all (λ (m : Node). node_at t m.key ≡ Some m) (nodes_with t keys) (looked_there t named keys) n on in
       let own : n.collection ≡ x =
       eqb-true n.collection x (all-In (λ (m : Node). m.collection == x) (nodes_with t keys) n on (looked-of t x keys filed)) in
-      let s = stays n.key n at (λ h. differ (sym own ∙ h)) within in
-      s.1 ∙ in_all (λ (m : Node). m.key.slot < length us → unit_at us m.key.slot ≡ unit_of (nodes_with t keys) m.key) (nodes_with t keys)
-      has n on s.0)
+      let was = in_all (HasUnit us (nodes_with t keys)) (nodes_with t keys) has n on in
+      let s = stays n.key n at (λ h. differ (sym own ∙ h)) was.0 in
+      (s.0, s.1 ∙ was.1))
 
   pub but_stays : (ss : List Shelf) → are_filed t ss ≡ true → AreUnitsBut us id (map (collection_in t) ss) →
       AreUnitsBut new id (map (collection_in t) ss)
@@ -166,7 +165,7 @@ made_id pool others (Allocated head) c = elim (either_way (is_root_of c head)) [
 made_id pool others (Ended top) c = refl
 
 -- no forced step makes a collection another
-settles_id : (pool : ℕ) (handles : Handles) (others : List Interval) (c after : Collection) → Settles pool handles others c after →
+pub settles_id : (pool : ℕ) (handles : Handles) (others : List Interval) (c after : Collection) → Settles pool handles others c after →
     after.id ≡ c.id
 settles_id pool handles others _ _ (Rests c rest) = refl
 settles_id pool handles others _ _ (Forces c after mark forces settles) =
@@ -188,102 +187,18 @@ or_new_id f id = from (collection_at f id) refl
     from None is = refl
     from (Some c) is = eqb-true c.id id (In-find (λ (d : Collection). d.id == id) f.collections c is).1
 
-pub birth_id : (parent : Option NodeKey) (attached : Bool) (client event : ℕ) (key : NodeKey) (c : Collection) →
-    (with_birth parent attached client event key c).id ≡ c.id
-birth_id None attached client event key c = refl
-birth_id (Some above) attached client event key c = from (node_of c.nodes above)
-  where
-    from : (o : Option Node) → (option_map_or (λ (n : Node). record c { nodes = c.nodes ++ new_child attached key event client n ∷ [] }) o
-        c).id ≡ c.id
-    from None = refl
-    from (Some n) = refl
-
--- the collections but the one that was settled have their counts still
-pub but_finished : (pool : ℕ) (handles : Handles) (old : Table Node) (before : List Shelf) (new : Table Node) (behind : List Shelf)
-    (c : Collection) (id : ℕ) → c.id ≡ id →
-    Finishes pool handles old before new behind c → (us : List Unit) → AreUnits us (map (collection_in old) before) →
-    AreUnitsBut us id (map (collection_in new) behind)
-but_finished pool handles old before new behind c id own fin us all =
-    let same : fin.after.id ≡ id = settles_id pool handles (beside (forest_of old before) c.id) c fin.after fin.settles ∙ own in
-    subst (AreUnitsBut us id) (sym fin.collections)
-    (subst (λ (i : ℕ). AreUnitsBut us i (put (given_back handles fin.after) (map (collection_in old) before))) same
-    (but_put us (given_back handles fin.after) (map (collection_in old) before) all))
-
--- ---- a key that is new
-
--- where a key was given that was new, keys that have nodes before and after have other slots
-fresh_slot : (old new : Table Node) (key : NodeKey) → Gives old new key → (k : NodeKey) (n m : Node) → node_at old k ≡ Some n →
-    node_at new k ≡ Some m → k.slot ≢ key.slot
-fresh_slot old new key gives k n m was is slots =
-    let a : next_at old k.slot ≡ next_at new k.slot = last_given old k n was ∙ sym (last_given new k m is) in
-    let b : next_at old key.slot ≡ next_at new key.slot = subst (λ (s : ℕ). next_at old s ≡ next_at new s) slots a in
-    let given : was_given new key ≡ true = gives.given key ∙ or_left (same_key key key) (was_given old key) (same_key-refl key) in
-    let same : was_given new key ≡ was_given old key = λ i. nat_le (gives.first i) key.generation && nat_lt key.generation (sym b i) in
-    both_ways (was_given old key) (sym same ∙ given) gives.fresh
-
--- a collection that is put among others is the one or of the others
-in_put : (c d : Collection) (cs : List Collection) → In d (put c cs) → d.id ≢ c.id → In d cs
-in_put c d [] (inl is) differ = absurd (differ (ap (λ (x : Collection). x.id) is))
-in_put c d [] (inr none) differ = absurd none
-in_put c d (e ∷ es) on differ = from (e.id == c.id) (nat_lt c.id e.id) (λ there. in_put c d es there differ) on
-  where
-    from : (here above : Bool) → (In d (put c es) → In d es) →
-        In d (if here then c ∷ es else (if above then c ∷ e ∷ es else e ∷ put c es)) → In d (e ∷ es)
-    from true above rest (inl is) = absurd (differ (ap (λ (x : Collection). x.id) is))
-    from true above rest (inr there) = inr there
-    from false true rest (inl is) = absurd (differ (ap (λ (x : Collection). x.id) is))
-    from false true rest (inr there) = there
-    from false false rest (inl is) = inl is
-    from false false rest (inr there) = inr (rest there)
-
--- so the others have their counts where the new key's slot is started
-pub but_started : (pool : ℕ) (handles : Handles) (old : Table Node) (before : List Shelf) (new : Table Node) (behind : List Shelf)
-    (c : Collection) (id : ℕ) → c.id ≡ id →
-    IsStored old before → IsStored new behind → (key : NodeKey) → Gives old new key → Finishes pool handles old before new behind c →
-    (us : List Unit) → AreUnits us (map (collection_in old) before) → AreUnitsBut (started key.slot us) id (map (collection_in new) behind)
-but_started pool handles old before new behind c id own kept_old kept_new key gives fin us all =
-    all_of_shelves behind (λ x on. on) (but_finished pool handles old before new behind c id own fin us all)
-  where
-    same : fin.after.id ≡ id
-    same = settles_id pool handles (beside (forest_of old before) c.id) c fin.after fin.settles ∙ own
-
-    -- a node of another collection had its key before
-    was_there : (x : Shelf) → In x behind → x.id ≢ id → (n : Node) → In n (nodes_with new x.keys) → node_at old n.key ≡ Some n
-    was_there x on differ n there =
-        let d : In (collection_in new x) (put (given_back handles fin.after) (map (collection_in old) before)) =
-        subst (In (collection_in new x)) fin.collections (In-map-back (collection_in new) behind x on) in
-        let e = In-map (collection_in old) before (collection_in new x) (in_put (given_back handles fin.after) (collection_in new x)
-        (map (collection_in old) before) d (λ h. differ (h ∙ same))) in
-        in_all (λ (m : Node). node_at old m.key ≡ Some m) (nodes_with old e.0.keys) (looked_there old kept_old.named e.0.keys) n
-        (subst (In n) (ap (λ (y : Collection). y.nodes) e.2) there)
-
-    all_of_shelves : (xs : List Shelf) → ((x : Shelf) → In x xs → In x behind) → AreUnitsBut us id (map (collection_in new) xs) →
-        AreUnitsBut (started key.slot us) id (map (collection_in new) xs)
-    all_of_shelves [] within but = tt
-    all_of_shelves (x ∷ xs) within but = (
-      λ differ. all_in (λ (n : Node). n.key.slot < length (started key.slot us) →
-          unit_at (started key.slot us) n.key.slot ≡ unit_of (nodes_with new x.keys) n.key) (nodes_with new x.keys) (λ n there inside.
-          let s = started_other key.slot n.key.slot us
-          (fresh_slot old new key gives n.key n n (was_there x (within x (inl refl)) differ n there)
-          (in_all (λ (m : Node). node_at new m.key ≡ Some m) (nodes_with new x.keys) (looked_there new kept_new.named x.keys) n there))
-          inside in
-          s.1 ∙ in_all (λ (m : Node). m.key.slot < length us → unit_at us m.key.slot ≡ unit_of (nodes_with new x.keys) m.key)
-          (nodes_with new x.keys) (but.0 differ) n there s.0),
-      all_of_shelves xs (λ y on. within y (inr on)) but.1,
-    )
-
 -- ---- nodes that count as before
 
 pub units_mapped : (us : List Unit) (f : Node → Node) (nodes : List Node) → ((n : Node) → (f n).key ≡ n.key) →
     ((k : NodeKey) → unit_of (map f nodes) k ≡ unit_of nodes k) →
     HasUnits us nodes → HasUnits us (map f nodes)
 units_mapped us f nodes keys same has =
-    all_in (λ (n : Node). n.key.slot < length us → unit_at us n.key.slot ≡ unit_of (map f nodes) n.key) (map f nodes) (λ n on.
+    all_in (HasUnit us (map f nodes)) (map f nodes) (λ n on.
     let x = In-map f nodes n on in
     let key : x.0.key ≡ n.key = sym (ap (λ (m : Node). m.key) x.2 ∙ keys x.0) in
-    subst (λ (k : NodeKey). k.slot < length us → unit_at us k.slot ≡ unit_of (map f nodes) k) key
-    (λ within. in_all (λ (m : Node). m.key.slot < length us → unit_at us m.key.slot ≡ unit_of nodes m.key) nodes has x.0 x.1 within
-    ∙ sym (same x.0.key)))
+    let had = in_all (HasUnit us nodes) nodes has x.0 x.1 in
+    subst (λ (k : NodeKey). (k.slot < length us) × (unit_at us k.slot ≡ unit_of (map f nodes) k)) key
+    (had.0, had.1 ∙ sym (same x.0.key)))
 
 times_filter : (p test : Node → Bool) (ns : List Node) → ((n : Node) → In n ns → p n ≡ false → test n ≡ false) →
     times test (filter p ns) ≡ times test ns
@@ -348,9 +263,9 @@ pub units_filter : (us : List Unit) (p : Node → Bool) (nodes : List Node) → 
     are_rooted (reverse nodes) ≡ true → ((n : Node) → In n nodes → p n ≡ false → n.gone ≡ true) →
     HasUnits us nodes → HasUnits us (filter p nodes)
 units_filter us p nodes distinct rooted over has =
-    all_in (λ (n : Node). n.key.slot < length us → unit_at us n.key.slot ≡ unit_of (filter p nodes) n.key) (filter p nodes) (λ n on within.
-    in_all (λ (m : Node). m.key.slot < length us → unit_at us m.key.slot ≡ unit_of nodes m.key) nodes has n (In-filter p nodes n on).0
-    within ∙ sym (same n.key))
+    all_in (HasUnit us (filter p nodes)) (filter p nodes) (λ n on.
+    let had = in_all (HasUnit us nodes) nodes has n (In-filter p nodes n on).0 in
+    (had.0, had.1 ∙ sym (same n.key)))
   where
     same : (k : NodeKey) → unit_of (filter p nodes) k ≡ unit_of nodes k
     same k =
@@ -366,7 +281,7 @@ units_filter us p nodes distinct rooted over has =
 
 module _ (t : Table Node) (ss : List Shelf) (kept : IsStored t ss) (id : ℕ) (s : Shelf) (found : find (λ
     (x : Shelf). x.id == id) ss ≡ Some s)
-    (us : List Unit) (few : length s.keys ≤ 18446744073709551615) where
+    (us : List Unit) (few : length s.keys ≤ 18446744073709551615) (slots : HaveSlots us (map (collection_in t) ss)) where
   abbrev nodes : List Node
   nodes = nodes_with t s.keys
 
@@ -404,9 +319,16 @@ module _ (t : Table Node) (ss : List Shelf) (kept : IsStored t ss) (id : ℕ) (s
       let a = head_of x.0 x.1 x.2 in
       (a.0, a.1, a.2 ∙ x.3)
 
+  -- the slot of each node's key is in the list
+  slot_in : (n : Node) → In n nodes → n.key.slot < length us
+  slot_in n on =
+      in_all (λ (m : Node). m.key.slot < length us) nodes (all_at (λ (c : Collection). HasSlots us c.nodes) (map (collection_in t) ss) slots
+      (collection_in t s) (In-map-back (collection_in t) ss s (In-find (λ (x : Shelf). x.id == id) ss s found).0)) n on
+
   -- each node's key has its unit's counts
   has : HasUnits new nodes
-  has = all_in (λ (n : Node). n.key.slot < length new → unit_at new n.key.slot ≡ unit_of nodes n.key) nodes (λ n on within.
+  has = all_in (HasUnit new nodes) nodes (λ n on.
+      let inside = slot_in n on in
       let key : In n.key s.keys =
       subst (In n.key) (looked-keys t s.id kept.named s.keys filed) (In-map-back (λ (m : Node). m.key) nodes n on) in
       let short = cleared_long s.keys us in
@@ -436,7 +358,7 @@ module _ (t : Table Node) (ss : List Shelf) (kept : IsStored t ss) (id : ℕ) (s
       let l : (unit_at new n.key.slot).live ≡ times (lives_in n.key) nodes = omega arith in
       let w : (unit_at new n.key.slot).unready ≡ times (waits_in n.key) nodes = omega arith in
       let h : (unit_at new n.key.slot).below ≡ times (heads_below nodes n.key) nodes = omega arith in
-      λ i. record { live = l i; unready = w i; below = h i })
+      (subst (λ (m : ℕ). n.key.slot < m) (sym long) inside, λ i. record { live = l i; unready = w i; below = h i }))
 
   filed_at : (k : NodeKey) → In k s.keys → (m : Node) × (node_at t k ≡ Some m) × (m.collection ≡ id)
   filed_at k on = from (node_at t k) refl (all-In (is_filed t s.id) s.keys k on filed)
@@ -467,20 +389,6 @@ module _ (t : Table Node) (ss : List Shelf) (kept : IsStored t ss) (id : ℕ) (s
             apart k m.head n h.0 is differ (ap (node_at t) (sym h.2) ∙ at h.0 h.1) (of h.0 h.1))
             ∙ cleared_other s.keys us k.slot (λ j on. let x = filed_at j on in apart k j n x.0 is differ x.1 x.2),
       )
-
-  -- so have all
-  pub recounted_all : AreUnitsBut us id (map (collection_in t) ss) → AreUnits new (map (collection_in t) ss)
-  recounted_all but = units_own t ss kept id us new stays but s (In-find (λ (y : Shelf). y.id == id) ss s found).0 (found_id id ss s found)
-      has
-
--- where the collection is not there nothing is to be counted
-pub recounted_none : (t : Table Node) (ss : List Shelf) (id : ℕ) → find (λ (x : Shelf). x.id == id) ss ≡ None → (us : List Unit) →
-    AreUnitsBut us id (map (collection_in t) ss) → AreUnits us (map (collection_in t) ss)
-recounted_none t ss id none us but = but_join us id (map (collection_in t) ss) but (λ c on same.
-    let x = In-map (collection_in t) ss c on in
-    let own : (x.0.id == id) ≡ true = eq-eqb x.0.id id (sym (ap (λ (d : Collection). d.id) x.2) ∙ same) in
-    both_ways (list_any (λ (y : Shelf). y.id == id) ss) (In-any (λ (y : Shelf). y.id == id) ss x.0 x.1 own) (none-find (λ (y : Shelf).
-    y.id == id) ss none))
 
 -- ---- forests whose nodes are changed or forgotten
 

@@ -121,6 +121,7 @@ fn loses_children(rt: &impl Abort, table: &mut NodeTable<u8>) -> Result<(), Fail
     assert_eq!(rt; table.next_sibling(first), Some(second));
     assert!(rt; table.next_sibling(third).is_none() && table.next_sibling(root).is_none());
     assert_eq!(rt; take(rt, table, second), 2);
+    assert_eq!(rt; table.next_slot(), second.slot as usize);
     assert!(rt; has_children(table, root, [first, third].as_slice()));
     assert_eq!(rt; take(rt, table, first), 1);
     assert_eq!(rt; take(rt, table, third), 3);

@@ -1,5 +1,8 @@
 -- The node is born, and counted for its unit.
+use Rattle.std.proofs.Common.{ℕ, ◌<◌, length, ap, sym, subst, ◌∙◌}
+use Rattle.sm_names.specs.declared.keys.NodeKey.{NodeKey}
 use Rattle.alloc_event.specs.Kept.{shelves_of}
+use Rattle.alloc_event.proofs.newborns.Bearing.{born_key}
 use Rattle.alloc_event.proofs.newborns.Units.{newborn_units}
 use Rattle.alloc_event.proofs.newborns.Newborn.{above_is}
 use Rattle.alloc_event.proofs.bearing.bear_counted.Goals as goal
@@ -9,8 +12,11 @@ returns-clause-units c =
     let ss = shelves_of c.args.entries.now.items in
     let at = above_is c.args.table.now ss c.requires.kept c.args.id c.args.parent c.args.attached c.args.client c.args.event
     c.requires.change in
-    rw (c.count_at.ensures, c.start.ensures)
+    let key_is = born_key _ c.args.attached c.args.id c.args.event c.args.client c.in_ok-key.key in
+    let slot_is = ap (λ (k : NodeKey). k.slot) (sym key_is) ∙ c.in_ok-key.ensures.bears.gives.slot in
+    let inside = subst (λ (slot : ℕ). slot < length c.args.units.now.items) (sym slot_is) c.requires.reached in
+    rw (c.count_at.ensures, c.put_unit.ensures, c.no_unit.ensures)
     (newborn_units c.args.table.now c.bear_still.new.table ss c.requires.kept c.args.id c.args.parent c.args.attached c.args.client
     c.args.event _ at c.in_ok-key.key c.in_ok-key.ensures.bears
-    c.requires.still.0 c.requires.still.1 (shelves_of c.bear_still.new.entries.items) c.in_ok-key.ensures.entries c.args.units.now.items
-    c.requires.units c.bound.ensures)
+    (shelves_of c.bear_still.new.entries.items) c.in_ok-key.ensures.entries c.args.units.now.items
+    c.requires.units inside c.bound.ensures)

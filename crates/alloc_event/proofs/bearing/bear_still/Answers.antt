@@ -92,7 +92,7 @@ returns-in-Some-clause-counted c =
     c.bear_among.new.table c.args.parent c.args.attached c.args.client c.args.event _
     (above_is c.args.table.now (shelves_of c.args.entries.now.items) c.requires.kept c.args.id c.args.parent c.args.attached c.args.client
     c.args.event c.requires.change)
-    bears c.requires.still.0 c.requires.still.1 (rw weak at strong) c.bear_among.ensures.reserved c.bear_among.ensures.tidy
+    bears (rw weak at strong) c.bear_among.ensures.reserved c.bear_among.ensures.tidy
     c.bear_among.ensures.noted)
 
 pub returns-in-Some-clause-err_entries : goal.returns-in-Some-clause-err_entries
@@ -137,4 +137,4 @@ returns-in-None-clause-counted c =
     c.bear_first.new.table c.args.parent c.args.attached c.args.client c.args.event _
     (above_is c.args.table.now (shelves_of c.args.entries.now.items) c.requires.kept c.args.id c.args.parent c.args.attached c.args.client
     c.args.event c.requires.change)
-    bears c.requires.still.0 c.requires.still.1 (rw weak at e.3) e.4))
+    bears (rw weak at e.3) e.4))

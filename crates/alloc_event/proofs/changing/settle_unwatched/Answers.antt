@@ -1,62 +1,84 @@
--- Where nothing else changes the node is born in its place; else the collection is worked on.
-use Rattle.std.proofs.Common.{map, List, Result, Ok, Err, IfOk, sym, ◌∙◌, ap, subst}
-use Rattle.sm_names.specs.declared.keys.HeldBuffer.{HeldBuffer}
-use Rattle.sm_names.specs.Words.{sorted_by}
+-- The node is born, and what is left to be done then is done.
+use Rattle.std.proofs.Common.{◌≡◌, ℕ, Some}
+use Rattle.std.specs.Option.{option_and_then}
 use Rattle.buffer_holds.specs.Counts.{total}
-use Rattle.alloc_event.specs.Kept.{shelves_of}
-use Rattle.alloc_event.specs.Scenes.{IsSound}
-use Rattle.alloc_event.specs.Still.{IsStill}
-use Rattle.alloc_event.proofs.lists.SameIntervals.{start_of}
-use Rattle.alloc_event.proofs.newborns.Entries.{on_two}
-use Rattle.alloc_event.proofs.newborns.Newborn.{above_is, before_is}
-use Rattle.alloc_event.proofs.newborns.Quiet.{quiet_held, quiet_kept, quiet_ok}
+use Rattle.node_table.specs.Table.{node_at}
+use Rattle.alloc_event.specs.Closing.{Closes}
+use Rattle.alloc_event.specs.Kept.{place_in, shelves_of}
+use Rattle.alloc_event.proofs.newborns.Newborn.{Above, above_is}
+use Rattle.alloc_event.proofs.under.Births.{calm_close, child_there, finishes_born, given_born_all, given_closed, gives_born, kept_born, pool_born}
 use Rattle.alloc_event.proofs.changing.settle_unwatched.Goals as goal
 
--- what two facts of an answer make true of it
-by_both : {A E : Type 0} {P Q R : A → Type 0} (r : Result A E) → IfOk r P → IfOk r Q → ((a : A) → P a → Q a → R a) → IfOk r R
-by_both (Ok a) p q both = both a p q
-by_both (Err e) p q both = tt
-
-pub is_still-requires : goal.is_still-requires
-is_still-requires c =
-    let loaded = rw c.deref.ensures.value at c.in-Ok.ensures in
-    subst IsSound (sym loaded) (before_is c.args.table.now (shelves_of c.args.entries.now.items) c.requires.kept c.args.id).whole.sound
-
-pub bear_still-requires-clause-still : goal.bear_still-requires-clause-still
-bear_still-requires-clause-still c =
-    let loaded = rw c.deref.ensures.value at c.in-Ok.ensures in
-    (total c.args.holds.now, subst (IsStill (total c.args.holds.now)) loaded (c.is_still.ensures c.if-is_still.true))
-
-pub returns-then-is_still-clause-ok : goal.returns-then-is_still-clause-ok
-returns-then-is_still-clause-ok c =
-    let loaded = rw c.deref.ensures.value at c.in-Ok.ensures in
-    let still = subst (IsStill (total c.args.holds.now)) loaded (c.is_still.ensures c.if-is_still.true) in
-    let at = above_is c.args.table.now (shelves_of c.args.entries.now.items) c.requires.kept c.args.id c.args.parent c.args.attached
+pub close_there-requires-clause-kept : goal.close_there-requires-clause-kept
+close_there-requires-clause-kept c =
+    let up = above_is c.args.table.now (shelves_of c.args.entries.now.items) c.requires.kept c.args.id c.args.parent c.args.attached
     c.args.client c.args.event c.requires.change in
-    by_both c.bear_still.result c.bear_still.ensures.bears c.bear_still.ensures.entries (λ key bears placed.
-    quiet_ok c.args.table.now c.bear_still.new.table (shelves_of c.args.entries.now.items) c.requires.kept c.args.id c.args.parent
-    c.args.attached c.args.client c.args.event _ at key bears
-    (total c.args.holds.now) still (shelves_of c.bear_still.new.entries.items) placed c.args.pool.now.size)
+    kept_born c.args.table.now c.bear_counted.new.table c.args.entries.now.items c.bear_counted.new.entries.items c.requires.kept c.args.id
+    c.args.parent c.args.attached c.args.client c.args.event _ up c.in_ok-key.key c.in_ok-key.ensures.bears c.in_ok-key.ensures.entries
 
-pub returns-then-is_still-clause-kept : goal.returns-then-is_still-clause-kept
-returns-then-is_still-clause-kept c =
-    let loaded = rw c.deref.ensures.value at c.in-Ok.ensures in
-    let still = subst (IsStill (total c.args.holds.now)) loaded (c.is_still.ensures c.if-is_still.true) in
-    let at = above_is c.args.table.now (shelves_of c.args.entries.now.items) c.requires.kept c.args.id c.args.parent c.args.attached
-    c.args.client c.args.event c.requires.change in
-    on_two c.bear_still.result c.bear_still.ensures.bears c.bear_still.ensures.entries (λ key bears placed.
-    quiet_kept c.args.table.now c.bear_still.new.table (shelves_of c.args.entries.now.items) c.requires.kept c.args.id c.args.parent
-    c.args.attached c.args.client c.args.event _ at key bears
-    (total c.args.holds.now) still (shelves_of c.bear_still.new.entries.items) placed)
+pub close_there-requires-clause-may : goal.close_there-requires-clause-may
+close_there-requires-clause-may c at told =
+    calm_close (total c.args.holds.now) c.bear_counted.new.table c.bear_counted.new.units.items c.bear_counted.new.entries.items c.args.id at
+    told (close_there-requires-clause-kept c) c.in_ok-key.ensures.counted c.bear_counted.ensures.units
+    (given_born_all c.args.table.now c.bear_counted.new.table c.args.entries.now.items c.bear_counted.new.entries.items c.requires.kept
+    c.args.id c.args.parent c.args.attached c.args.client c.args.event _
+    (above_is c.args.table.now (shelves_of c.args.entries.now.items) c.requires.kept c.args.id c.args.parent c.args.attached
+    c.args.client c.args.event c.requires.change) c.in_ok-key.key c.in_ok-key.ensures.bears c.in_ok-key.ensures.entries
+    c.requires.given)
 
-pub returns-then-is_still-clause-pool : goal.returns-then-is_still-clause-pool
-returns-then-is_still-clause-pool c =
-    let loaded = rw c.deref.ensures.value at c.in-Ok.ensures in
-    let still = subst (IsStill (total c.args.holds.now)) loaded (c.is_still.ensures c.if-is_still.true) in
-    let at = above_is c.args.table.now (shelves_of c.args.entries.now.items) c.requires.kept c.args.id c.args.parent c.args.attached
+pub close_there-requires-clause-pool : goal.close_there-requires-clause-pool
+close_there-requires-clause-pool c =
+    let up = above_is c.args.table.now (shelves_of c.args.entries.now.items) c.requires.kept c.args.id c.args.parent c.args.attached
     c.args.client c.args.event c.requires.change in
-    on_two c.bear_still.result c.bear_still.ensures.bears c.bear_still.ensures.entries (λ key bears placed.
-    c.requires.pool ∙ ap (λ (hs : List HeldBuffer). sorted_by start_of (map (λ (h : HeldBuffer). h.pages) hs))
-    (sym (quiet_held c.args.table.now c.bear_still.new.table (shelves_of c.args.entries.now.items) c.requires.kept c.args.id c.args.parent
-    c.args.attached c.args.client c.args.event _ at key bears
-    (total c.args.holds.now) still (shelves_of c.bear_still.new.entries.items) placed)))
+    pool_born c.args.table.now c.bear_counted.new.table c.args.entries.now.items c.bear_counted.new.entries.items c.requires.kept c.args.id
+    c.args.parent c.args.attached c.args.client c.args.event _ up c.in_ok-key.key c.in_ok-key.ensures.bears c.in_ok-key.ensures.entries
+    c.args.pool.now c.requires.pool
+
+-- what is closed at the place of the collection
+module _ (c : goal.After-close_there) where
+  up : Above c.args.table.now (shelves_of c.args.entries.now.items) c.args.id c.args.parent (option_and_then (node_at c.args.table.now)
+      c.args.parent)
+  up = above_is c.args.table.now (shelves_of c.args.entries.now.items) c.requires.kept c.args.id c.args.parent c.args.attached
+      c.args.client c.args.event c.requires.change
+
+  there : (at : ℕ) × (place_in c.args.id c.bear_counted.new.entries.items ≡ Some at)
+  there =
+      child_there c.args.table.now c.bear_counted.new.table c.args.entries.now.items c.bear_counted.new.entries.items c.requires.kept
+      c.args.id c.args.parent c.args.attached c.args.client c.args.event _ up c.in_ok-key.key c.in_ok-key.ensures.bears
+      c.in_ok-key.ensures.entries
+
+  closed : Closes (total c.args.holds.now) c.args.pool.now c.close_there.new.pool c.bear_counted.new.table c.close_there.new.table
+      c.bear_counted.new.entries.items c.close_there.new.entries.items c.close_there.new.units.items c.args.id
+  closed = c.close_there.ensures.closes there.0 there.1
+
+pub returns-clause-ok : goal.returns-clause-ok
+returns-clause-ok c =
+    finishes_born c.args.table.now c.bear_counted.new.table c.args.entries.now.items c.bear_counted.new.entries.items c.requires.kept
+    c.args.id c.args.parent c.args.attached c.args.client c.args.event _ (up c) c.in_ok-key.key c.in_ok-key.ensures.bears
+    c.in_ok-key.ensures.entries c.args.pool.now.size (total c.args.holds.now) c.close_there.new.table
+    (shelves_of c.close_there.new.entries.items) (closed c).settled.finishes
+
+pub returns-clause-keys : goal.returns-clause-keys
+returns-clause-keys c =
+    gives_born c.args.table.now c.bear_counted.new.table c.args.entries.now.items c.bear_counted.new.entries.items c.requires.kept
+    c.args.id c.args.parent c.args.attached c.args.client c.args.event _ (up c) c.in_ok-key.key c.in_ok-key.ensures.bears
+    c.in_ok-key.ensures.entries c.close_there.new.table (closed c).same
+
+pub returns-clause-kept : goal.returns-clause-kept
+returns-clause-kept c = (closed c).settled.kept
+
+pub returns-clause-counted : goal.returns-clause-counted
+returns-clause-counted c = (closed c).settled.counted
+
+pub returns-clause-units : goal.returns-clause-units
+returns-clause-units c = (closed c).units
+
+pub returns-clause-pool : goal.returns-clause-pool
+returns-clause-pool c = (closed c).settled.holds
+
+pub returns-clause-given : goal.returns-clause-given
+returns-clause-given c =
+    given_closed c.args.table.now c.bear_counted.new.table c.args.entries.now.items c.bear_counted.new.entries.items c.requires.kept
+    c.args.id c.args.parent c.args.attached c.args.client c.args.event _ (up c) c.in_ok-key.key c.in_ok-key.ensures.bears
+    c.in_ok-key.ensures.entries c.args.pool.now.size (total c.args.holds.now) c.close_there.new.table
+    (shelves_of c.close_there.new.entries.items) (closed c).settled.finishes c.requires.given

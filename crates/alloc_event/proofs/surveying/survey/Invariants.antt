@@ -1,8 +1,6 @@
-use Rattle.std.proofs.Common.{◌≡◌, ◌≤◌, ◌+◌, ◌*◌, ◌&&◌, ◌||◌, drop}
-use Rattle.std.specs.List.{list_any}
+use Rattle.std.proofs.Common.{◌≡◌, ◌≤◌, ◌+◌, ◌*◌, drop}
 use Rattle.alloc_event.specs.Calm.{strong_count}
-use Rattle.alloc_event.specs.Falling.{stays_by}
-use Rattle.alloc_event.specs.Kept.{all_of, nodes_with}
+use Rattle.alloc_event.specs.Kept.{nodes_with}
 use Rattle.alloc_event.specs.Reserved.{camped}
 use Rattle.alloc_event.proofs.tallies.Amounts.{amount_of}
 use Rattle.alloc_event.proofs.surveying.survey.Given as goal
@@ -15,7 +13,4 @@ invariant-loop-key l = record {
   reserved : l.found.reserved + amount_of camped (nodes_with l.table (drop l.key-index l.keys))
       ≡ amount_of camped (nodes_with l.table l.keys);
   little : l.found.reserved ≤ 255 * l.key-index;
-  own : (l.found.own && all_of l.id (nodes_with l.table (drop l.key-index l.keys))) ≡ all_of l.id (nodes_with l.table l.keys);
-  stays : (l.found.stays || list_any (stays_by l.going) (nodes_with l.table (drop l.key-index l.keys)))
-      ≡ list_any (stays_by l.going) (nodes_with l.table l.keys);
 }

@@ -1,15 +1,17 @@
 -- The node leaves the table, and its key the entry of its collection.
-use Rattle.std.proofs.Common.{◌≡◌, true, false, Some, None, is_some, get_or, refl, sym, ◌∙◌, ap, subst, arith}
+use Rattle.std.proofs.Common.{◌≡◌, not, map, true, false, Some, None, is_some, get_or, refl, sym, ◌∙◌, ap, subst, arith}
 use Rattle.std.proofs.lemmas.List.{get_or_default}
 use Rattle.std.specs.Option.{option_map_or}
 use Rattle.sm_names.proofs.SamenessLaws.{and_left, same_key-refl}
 use Rattle.node_table.specs.Table.{node_at}
 use Rattle.alloc_event.specs.declared.entry.Entry.{Entry}
+use Rattle.alloc_event.specs.declared.node.Node.{Node}
 use Rattle.alloc_event.specs.Forest.{Forest, node_at as forest_node}
 use Rattle.alloc_event.specs.Calm.{IsCounted}
 use Rattle.alloc_event.specs.Counts.{AreUnits}
+use Rattle.alloc_event.specs.Given.{AreServedByGiven}
 use Rattle.alloc_event.specs.Kept.{collection_in, nodes_with, place_in, shelf_of, shelves_of}
-use Rattle.alloc_event.specs.Nodes.{is_over}
+use Rattle.alloc_event.specs.Nodes.{is_of, is_over}
 use Rattle.alloc_event.proofs.shelves.Counted.{counted_set, dropped_all, drops_one, recounted}
 use Rattle.alloc_event.proofs.shelves.Entries.{place_is}
 use Rattle.alloc_event.proofs.leaving.Leaving.{goes, kept-without, collections-without, set_without, shelf_without, never_none}
@@ -17,6 +19,7 @@ use Rattle.alloc_event.proofs.lists.Lookups.{looked-kept}
 use Rattle.alloc_event.proofs.shelves.Showing.{node_is}
 use Rattle.alloc_event.proofs.tallies.Slots.{units_without}
 use Rattle.alloc_event.proofs.tables.TakingOut.{SameKeys-shown, taken}
+use Rattle.alloc_event.proofs.under.GivenKept.{given_filtered}
 use Rattle.alloc_event.proofs.forest.Forest.forget.Goals as goal
 
 pub take_out-node-requires : goal.take_out-node-requires
@@ -76,6 +79,10 @@ invariant_of-self c =
           (units_without c.self.inside.table c.self.inside.units.items c.args.key c.self.invariant.kept.named
           (goes c.self.inside.table c.take_out-node.new.table c.args.key c.take_out-node.result out (and_left _ _ over))
           (shelves_of c.self.inside.entries.items) c.self.invariant.kept.whole c.self.invariant.units));
+      given = rw same (subst AreServedByGiven (sym (collections-without c.self.inside.table c.take_out-node.new.table
+          c.args.key c.take_out-node.result out c.self.invariant.kept.named (shelves_of c.self.inside.entries.items)))
+          (given_filtered (λ (n : Node). not (is_of c.args.key n)) (map (collection_in c.self.inside.table)
+          (shelves_of c.self.inside.entries.items)) c.self.invariant.given));
     }
 
 pub invariant_of-self-in_default : goal.invariant_of-self-in_default

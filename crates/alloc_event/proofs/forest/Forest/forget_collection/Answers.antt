@@ -4,12 +4,14 @@ use Rattle.std.specs.Option.{option_map_or}
 use Rattle.std.proofs.lemmas.Bool.{false≢true}
 use Rattle.alloc_event.specs.Counts.{AreUnits}
 use Rattle.alloc_event.specs.Forest.{Collection, Forest, collection_at, is_left}
+use Rattle.alloc_event.specs.Given.{AreServedByGiven}
 use Rattle.alloc_event.specs.Kept.{collection_in, place_in, shelves_of}
 use Rattle.alloc_event.proofs.shelves.Counted.{counted_removed}
 use Rattle.alloc_event.proofs.leaving.Emptying.{remove_shelf, collections_beside, kept-beside, left_none}
 use Rattle.alloc_event.proofs.shelves.Entries.{place_is, none_in}
 use Rattle.alloc_event.proofs.shelves.Showing.{collection_none}
 use Rattle.alloc_event.proofs.tallies.Slots.{units_some}
+use Rattle.alloc_event.proofs.under.GivenKept.{given_some}
 use Rattle.alloc_event.proofs.forest.Forest.forget_collection.Goals as goal
 
 pub remove-requires : goal.remove-requires
@@ -34,6 +36,10 @@ invariant_of-self c =
           (sym (collections_beside c.self.inside.table c.args.id (shelves_of c.self.inside.entries.items)))
           (units_some c.self.inside.units.items (λ (d : Collection). not (d.id == c.args.id)) (map (collection_in c.self.inside.table)
           (shelves_of c.self.inside.entries.items)) c.self.invariant.units));
+      given = rw same (subst AreServedByGiven
+          (sym (collections_beside c.self.inside.table c.args.id (shelves_of c.self.inside.entries.items)))
+          (given_some (λ (d : Collection). not (d.id == c.args.id)) (map (collection_in c.self.inside.table)
+          (shelves_of c.self.inside.entries.items)) c.self.invariant.given));
     }
 
 pub returns-in-Some-clause-collections : goal.returns-in-Some-clause-collections

@@ -1,10 +1,12 @@
 -- The forest is what the table and the entries are then.
 use Rattle.std.proofs.Common.{map, subst, sym}
 use Rattle.alloc_event.specs.Counts.{AreUnits}
+use Rattle.alloc_event.specs.Given.{AreServedByGiven}
 use Rattle.alloc_event.specs.Kept.{collection_in, shelves_of}
 use Rattle.alloc_event.proofs.changes.Finishing.{whole-map}
 use Rattle.alloc_event.proofs.tallies.Slots.{units_over}
 use Rattle.alloc_event.proofs.tables.TakingOut.{SameKeys-shown}
+use Rattle.alloc_event.proofs.under.GivenKept.{given_over}
 use Rattle.alloc_event.proofs.forest.Forest.forget_over.Goals as goal
 
 pub invariant_of-self : goal.invariant_of-self
@@ -14,6 +16,8 @@ invariant_of-self c = record {
   units = subst (AreUnits c.self.inside.units.items) (sym c.forget_over.ensures.collections)
       (units_over c.self.inside.units.items c.args.id (map (collection_in c.self.inside.table) (shelves_of c.self.inside.entries.items))
       (whole-map c.self.inside.table (shelves_of c.self.inside.entries.items) c.self.invariant.kept.whole) c.self.invariant.units);
+  given = subst AreServedByGiven (sym c.forget_over.ensures.collections)
+      (given_over c.args.id (map (collection_in c.self.inside.table) (shelves_of c.self.inside.entries.items)) c.self.invariant.given);
 }
 
 pub returns-clause-keys : goal.returns-clause-keys

@@ -9,6 +9,7 @@ use Rattle.node_table.specs.Table.{Table, node_at}
 use Rattle.alloc_event.specs.declared.node.Node.{Node}
 use Rattle.alloc_event.specs.Counts.{AreUnits}
 use Rattle.alloc_event.specs.Forest.{Forest, node_at as forest_node, on_collections, with_nodes}
+use Rattle.alloc_event.specs.Given.{AreServedByGiven}
 use Rattle.alloc_event.specs.Kept.{IsStored, Shelf, are_filed, collection_in, forest_of, shelves_of}
 use Rattle.alloc_event.specs.Nodes.{is_over, with_end}
 use Rattle.alloc_event.proofs.shelves.Counted.{ends_tidy, mapped_all}
@@ -16,6 +17,7 @@ use Rattle.alloc_event.proofs.leaving.Ends.{ends-kept, ends-look, ends-shown}
 use Rattle.alloc_event.proofs.shelves.Showing.{node_is}
 use Rattle.alloc_event.proofs.tallies.Slots.{units_with}
 use Rattle.sm_names.proofs.SamenessLaws.{some_is}
+use Rattle.alloc_event.proofs.under.GivenKept.{given_mapped}
 use Rattle.alloc_event.proofs.forest.Forest.set_end.Goals as goal
 
 -- a node that the forest has is in the table
@@ -93,6 +95,9 @@ invariant_of-self c =
           (λ n. record { key = refl; parent = refl; attached = refl; collection = refl; head = refl }) (λ n. refl) (λ k n. refl)
           (λ k n. refl)
           (map (collection_in c.self.inside.table) (shelves_of c.self.inside.entries.items)) c.self.invariant.units);
+      given = subst AreServedByGiven (sym (ap (λ (f : Forest). f.collections) (shown c)))
+          (given_mapped (with_end c.args.key c.args.end) (λ n h. h)
+          (map (collection_in c.self.inside.table) (shelves_of c.self.inside.entries.items)) c.self.invariant.given);
     }
 
 pub returns-in-Some : goal.returns-in-Some

@@ -1,11 +1,12 @@
 -- What was finished is told of the forest.
-use Rattle.std.proofs.Common.{Some, None, refl, sym, subst}
+use Rattle.std.proofs.Common.{Some, None, is_ok, refl, sym, subst}
 use Rattle.buffer_holds.specs.Counts.{total}
 use Rattle.alloc_event.specs.declared.change.Change.{Change}
 use Rattle.alloc_event.specs.Forest.{Forest}
 use Rattle.alloc_event.specs.Kept.{forest_of, shelves_of}
 use Rattle.alloc_event.specs.Settling.{Settled}
 use Rattle.alloc_event.proofs.changes.Tellings.{settled_birth, settled_change, no_birth}
+use Rattle.alloc_event.proofs.under.GivenKept.{forest_after}
 use Rattle.alloc_event.proofs.forest.Forest.settle.Goals as goal
 
 pub returns-in-Birth-clause-ok : goal.returns-in-Birth-clause-ok
@@ -20,6 +21,14 @@ returns-in-Birth-clause-ok c =
     (Some c.in_ok-key.key)) (sym c.in-Birth.is) settled in
     subst (λ (f : Forest). Settled c.args.pool.now.size (total c.args.holds.now) f (forest_of c.settle_birth.new.table
     (shelves_of c.settle_birth.new.entries.items)) c.args.collection c.args.change (Some c.in_ok-key.key)) c.self.view_is told
+
+-- what holds of each forest holds then
+pub invariant_of-self-2 : goal.invariant_of-self-2
+invariant_of-self-2 c =
+    forest_after (is_ok c.settle_change.result) (total c.args.holds.now) c.args.pool.now c.settle_change.new.pool c.self.inside.table
+    c.settle_change.new.table c.self.inside.entries.items c.settle_change.new.entries.items c.self.inside.units.items
+    c.settle_change.new.units.items c.args.collection c.args.change (no_birth c.args.change c.in_default.not-Birth) c.self.invariant
+    c.settle_change.ensures.outcome c.settle_change.ensures.units
 
 pub returns : goal.returns
 returns c =

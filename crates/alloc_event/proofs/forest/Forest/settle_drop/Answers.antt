@@ -1,5 +1,5 @@
 -- What was finished is told of the forest.
-use Rattle.std.proofs.Common.{None, refl, subst}
+use Rattle.std.proofs.Common.{None, is_ok, refl, subst}
 use Rattle.buffer_holds.specs.Counts.{total}
 use Rattle.alloc_event.specs.declared.change.Change.{Change}
 use Rattle.alloc_event.specs.Forest.{Forest}
@@ -7,7 +7,16 @@ use Rattle.alloc_event.specs.Kept.{forest_of, shelves_of}
 use Rattle.alloc_event.specs.Settling.{Settled}
 use Rattle.alloc_event.proofs.Outcomes.{on_ok}
 use Rattle.alloc_event.proofs.changes.Tellings.{settled_change}
+use Rattle.alloc_event.proofs.under.GivenKept.{forest_after}
 use Rattle.alloc_event.proofs.forest.Forest.settle_drop.Goals as goal
+
+-- what holds of each forest holds then
+pub invariant_of-self : goal.invariant_of-self
+invariant_of-self c =
+    forest_after (is_ok c.settle_dropped.result) (total c.args.holds.now) c.args.pool.now c.settle_dropped.new.pool c.self.inside.table
+    c.settle_dropped.new.table c.self.inside.entries.items c.settle_dropped.new.entries.items c.self.inside.units.items
+    c.settle_dropped.new.units.items c.args.buffer.collection Change.Nothing refl c.self.invariant c.settle_dropped.ensures.outcome
+    c.settle_dropped.ensures.units
 
 pub returns-clause-ok : goal.returns-clause-ok
 returns-clause-ok c = on_ok c.settle_dropped.result (λ made.

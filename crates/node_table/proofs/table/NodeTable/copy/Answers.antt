@@ -18,6 +18,7 @@ returns g c =
     let slots = c.in-Ok.ensures.cases in
     let nexts = c.in-Ok-clone.ensures.cases in
     rw (
+      slots.vacant_key,
       copied c.self.inside.slots.slots c.in-Ok.slots.slots slots.slots,
       each_same c.self.inside.nexts.items c.in-Ok-clone.nexts.items nexts.0,
     ) c.self.view_is

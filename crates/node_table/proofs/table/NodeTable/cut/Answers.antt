@@ -1,7 +1,7 @@
 use Rattle.std.proofs.Common.{sym, subst, ◌∙◌, IsSome}
 use Rattle.node_table.specs.Table.{row_at}
 use Rattle.node_table.specs.Changes.{Cuts}
-use Rattle.node_table.specs.Sound.{table_of}
+use Rattle.node_table.specs.Sound.{table_in}
 use Rattle.node_table.proofs.Slots.{entry-there}
 use Rattle.node_table.proofs.Leaving.{parent-entry, prev-entry, next-entry}
 use Rattle.node_table.proofs.Cutting.{root-cut, child-cut}
@@ -46,7 +46,7 @@ invariant_of-self g c =
 
 pub returns-in-Some : goal.returns-in-Some
 returns-in-Some g c =
-    subst (λ t. Cuts t (table_of c.join.new.slots.slots c.self.inside.nexts.items c.self.inside.first c.self.inside.limit) c.args.key)
+    subst (λ t. Cuts t (table_in c.join.new.slots c.self.inside.nexts.items c.self.inside.first c.self.inside.limit) c.args.key)
     c.self.view_is
     (child-cut c.self.inside.slots c.loosen-place.new.slots c.self.inside.nexts.items c.self.inside.first c.self.inside.count
     c.self.inside.limit
@@ -64,7 +64,7 @@ invariant_of-self-in-None g c =
 
 pub returns-in-None : goal.returns-in-None
 returns-in-None g c =
-    subst (λ t. Cuts t (table_of c.loosen-place.new.slots.slots c.self.inside.nexts.items c.self.inside.first c.self.inside.limit)
+    subst (λ t. Cuts t (table_in c.loosen-place.new.slots c.self.inside.nexts.items c.self.inside.first c.self.inside.limit)
     c.args.key)
     c.self.view_is
     (root-cut c.self.inside.slots c.loosen-place.new.slots c.self.inside.nexts.items c.self.inside.first c.self.inside.count

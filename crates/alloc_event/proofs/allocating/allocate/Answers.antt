@@ -1,9 +1,0 @@
-use Rattle.std.proofs.Common.{arith}
-use Rattle.alloc_event.specs.Nodes.{given_buffers}
-use Rattle.alloc_event.proofs.lists.Loops.{map_step}
-use Rattle.alloc_event.proofs.allocating.allocate.Goals as goal
-
-pub loop-node-preserved : goal.loop-node-preserved
-loop-node-preserved c =
-    map_step (given_buffers c.args.head) c.args.nodes.now c.loop-node.nodes c.loop-node.node-index c.node-item.result _
-    (omega arith) c.loop-node.invariant c.node-item.is c.give_buffers.ensures

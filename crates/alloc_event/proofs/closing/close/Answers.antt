@@ -1,0 +1,71 @@
+-- What is left to be done is done at the place of the collection.
+use Rattle.std.proofs.Common.{◌≡◌, [], refl, arith, set}
+use Rattle.buffer_holds.specs.Counts.{total}
+use Rattle.alloc_event.specs.declared.entry.Entry.{Entry}
+use Rattle.alloc_event.specs.Closing.{IsClosed}
+use Rattle.alloc_event.specs.Forest.{beside}
+use Rattle.alloc_event.specs.Kept.{forest_of, shelves_of}
+use Rattle.alloc_event.proofs.shelves.Entries.{place_is}
+use Rattle.alloc_event.proofs.under.Closing.{closes_strong, closes_weak, out_is, pages_mid, under_is}
+use Rattle.alloc_event.proofs.under.Ready.{whole_under}
+use Rattle.alloc_event.proofs.closing.close.Goals as goal
+
+pub index_mut-entry-requires : goal.index_mut-entry-requires
+index_mut-entry-requires c =
+    omega (arith, (place_is c.requires.may.entry.id c.args.entries.now.items c.args.at c.requires.may.place).within)
+
+pub returns-then-entry-gt0-clause-closes : goal.returns-then-entry-gt0-clause-closes
+returns-then-entry-gt0-clause-closes c id told =
+    closes_strong (total c.args.holds.now) c.args.table.now c.args.units.now.items c.args.entries.now.items c.args.at c.requires.may id told
+    c.index_mut-entry.result.now c.index_mut-entry.ensures.value c.if-entry-gt0.true c.args.pool.now c.part.ensures c.requires.pool
+
+pub lose_abandoned-requires-clause-few : goal.lose_abandoned-requires-clause-few
+lose_abandoned-requires-clause-few c =
+    let es = c.args.entries.now.items in
+    let under = under_is (total c.args.holds.now) c.args.table.now c.args.units.now.items es c.args.at c.requires.may
+    c.requires.may.entry.id c.requires.may.place c.index_mut-entry.result.now c.index_mut-entry.ensures.value in
+    let whole = whole_under c.args.table.now c.args.units.now.items (shelves_of es) c.index_mut-entry.result.now [] c.requires.may.due under
+    in
+    whole.sound.few
+
+pub send_home-requires : goal.send_home-requires
+send_home-requires c =
+    let es = c.args.entries.now.items in
+    let handles = total c.args.holds.now in
+    let t = c.args.table.now in
+    let us = c.args.units.now.items in
+    let old = c.index_mut-entry.result.now in
+    let is = c.index_mut-entry.ensures.value in
+    let id = c.requires.may.entry.id in
+    let place = c.requires.may.place in
+    let closed : IsClosed handles t c.lose_abandoned.new.table c.lose_abandoned.new.units.items (shelves_of es) old
+    c.lose_abandoned.new.entry =
+    c.lose_abandoned.ensures.closed (shelves_of es) c.requires.may.due
+    (under_is handles t us es c.args.at c.requires.may id place old is) (out_is handles t us es c.args.at c.requires.may id place old is)
+    (omega (arith, c.if-entry-gt0.false)) in (
+      beside (forest_of c.lose_abandoned.new.table (shelves_of (set es c.args.at c.lose_abandoned.new.entry))) c.lose_abandoned.new.entry.id,
+      pages_mid handles t us es c.args.at c.requires.may id place old is c.lose_abandoned.new.table c.lose_abandoned.new.units.items
+          c.lose_abandoned.new.entry closed c.args.pool.now.held c.part-2.ensures c.requires.pool,
+    )
+
+pub returns-clause-closes : goal.returns-clause-closes
+returns-clause-closes c id told =
+    let es = c.args.entries.now.items in
+    let handles = total c.args.holds.now in
+    let t = c.args.table.now in
+    let us = c.args.units.now.items in
+    let old = c.index_mut-entry.result.now in
+    let is = c.index_mut-entry.ensures.value in
+    let weak : old.strong ≡ 0 = omega (arith, c.if-entry-gt0.false) in
+    let closed : IsClosed handles t c.lose_abandoned.new.table c.lose_abandoned.new.units.items (shelves_of es) old
+    c.lose_abandoned.new.entry =
+    c.lose_abandoned.ensures.closed (shelves_of es) c.requires.may.due
+    (under_is handles t us es c.args.at c.requires.may id told old is) (out_is handles t us es c.args.at c.requires.may id told old is)
+    weak in
+    let last : Entry = record (c.lose_abandoned.new.entry) { held = c.send_home.new.held } in
+    closes_weak handles t us es c.args.at c.requires.may id told old is c.lose_abandoned.new.table c.lose_abandoned.new.units.items
+    c.lose_abandoned.new.entry closed weak last refl c.send_home.ensures.held c.args.pool.now c.send_home.new.pool c.part-3.ensures
+    (c.send_home.ensures.pool (beside (forest_of c.lose_abandoned.new.table (shelves_of (set es c.args.at c.lose_abandoned.new.entry)))
+    c.lose_abandoned.new.entry.id)
+    (pages_mid handles t us es c.args.at c.requires.may id told old is c.lose_abandoned.new.table c.lose_abandoned.new.units.items
+    c.lose_abandoned.new.entry closed c.args.pool.now.held c.part-2.ensures c.requires.pool))

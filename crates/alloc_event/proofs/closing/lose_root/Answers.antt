@@ -1,0 +1,18 @@
+-- The first node is the root, which is lost with all that is left.
+use Rattle.std.proofs.Common.{◌≡◌, ◌∙◌, sym, ap, [], List, Some, slice_get}
+use Rattle.sm_names.specs.declared.keys.NodeKey.{NodeKey}
+use Rattle.alloc_event.proofs.under.Closing.{closed_lost, may_go}
+use Rattle.alloc_event.proofs.closing.lose_root.Goals as goal
+
+pub returns : goal.returns
+returns c =
+    let first : slice_get c.args.entry.now.keys.items 0 ≡ Some c.in-Some.root =
+    ap (λ (ks : List NodeKey). slice_get ks 0) (sym c.as_slice.ensures.items) ∙ sym c.first.ensures.value ∙ sym c.copied.ensures
+    ∙ c.in-Some.is in
+    record {
+      closed = λ handles ss due under abandoned.
+          closed_lost handles c.args.table.now c.args.units.now.items ss c.args.entry.now due under abandoned c.in-Some.root first
+          c.go_down.new.table c.go_down.new.units.items c.go_down.new.entry c.go_down.result
+          (c.go_down.ensures.went ss [] due under (may_go handles c.args.table.now c.args.units.now.items ss c.args.entry.now due under
+          abandoned c.in-Some.root first));
+    }

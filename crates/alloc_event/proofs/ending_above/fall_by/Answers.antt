@@ -1,0 +1,24 @@
+-- What fell is gone, and what nothing holds then ended.
+use Rattle.std.proofs.Common.{◌≡◌, refl, sym, ◌∙◌, subst, true}
+use Rattle.alloc_event.specs.Kept.{Shelf, nodes_with}
+use Rattle.alloc_event.specs.UnderWay.{is_head_left}
+use Rattle.alloc_event.proofs.under.Felled.{felled_alone, felled_on, head_row, lent_there}
+use Rattle.alloc_event.proofs.ending_above.fall_by.Goals as goal
+
+pub returns-in_default-clause-felled : goal.returns-in_default-clause-felled
+returns-in_default-clause-felled c handles ss due u left =
+    felled_alone handles _ _ _ ss _ _ _ due (c.in_default.ensures.went ss _ due u (left, refl))
+
+pub returns-then-is_some-clause-felled : goal.returns-then-is_some-clause-felled
+returns-then-is_some-clause-felled c handles ss due u left =
+    let went = c.in-Some.ensures.went ss _ due u (left, refl) in
+    let still : is_head_left (nodes_with c.go_down.new.table c.go_down.new.entry.keys.items) c.in-Some.above ≡ true =
+    subst (λ (s : Shelf). is_head_left (nodes_with c.go_down.new.table s.keys) c.in-Some.above ≡ true) (sym went.shelf) went.left in
+    felled_on handles _ _ _ ss _ _ _ due _ went _ _ _ (c.end_above.ensures.led handles ss due went.under still)
+    (c.end_above.ensures.ended ss due went.under still)
+
+pub returns-else-is_some-clause-felled : goal.returns-else-is_some-clause-felled
+returns-else-is_some-clause-felled c handles ss due u left =
+    let went = c.in-Some.ensures.went ss _ due u (left, refl) in
+    let row = head_row c.go_down.new.table c.go_down.ensures.named c.args.entry.now.keys.items c.in-Some.above went.left in
+    absurd (lent_there c.get.result row.0 (c.get.ensures ∙ row.1) (sym c.is_some.ensures ∙ c.if-is_some.false))

@@ -1,0 +1,94 @@
+-- The root's unit has its buffers, and those that follow it had their turns.
+use Rattle.std.proofs.Common.{◌≡◌, ℕ, ◌+◌, ◌∷◌, [], List, Some, length, refl, ap, sym, subst, ◌∙◌, arith}
+use Rattle.sm_names.specs.declared.keys.HeldBuffer.{HeldBuffer}
+use Rattle.sm_names.specs.declared.keys.NodeKey.{NodeKey}
+use Rattle.buffer_holds.specs.Counts.{total}
+use Rattle.node_table.specs.Table.{Table}
+use Rattle.alloc_event.specs.declared.entry.Entry.{Entry}
+use Rattle.alloc_event.specs.declared.node.Node.{Node}
+use Rattle.alloc_event.specs.declared.rooting.Verdict.{Verdict}
+use Rattle.alloc_event.specs.declared.rounds.Turn.{Turn}
+use Rattle.alloc_event.specs.declared.units.Unit.{Unit}
+use Rattle.alloc_event.specs.Kept.{Shelf, nodes_with, put_shelf, shelf_of}
+use Rattle.alloc_event.specs.Nodes.{after_allocation}
+use Rattle.alloc_event.specs.Reserved.{reserved_count}
+use Rattle.alloc_event.specs.Rooting.{IsComing, IsRooted}
+use Rattle.alloc_event.specs.Serving.{IsGivenAt}
+use Rattle.alloc_event.specs.UnderWay.{AreTurns, IsUnderWay}
+use Rattle.alloc_event.proofs.under.RootGiven.{root_left, rooted_given, turns_then, under_then, waits_no_more}
+use Rattle.alloc_event.proofs.rooting.give_first.Goals as goal
+
+-- the list has the root's unit
+pub returns-in_default-clause-rooted : goal.returns-in_default-clause-rooted
+returns-in_default-clause-rooted c ss under coming reserved =
+    let listed = c.list_turns.ensures.listed ss [] (c.args.head ∷ [])
+    (subst (λ (us : List Unit). IsUnderWay c.args.table.now us ss c.args.entry.now [] (c.args.head ∷ [])) (sym c.deref.ensures.value) under)
+    (root_left (nodes_with c.args.table.now c.args.entry.now.keys.items) c.args.head coming) in
+    let long : length c.list_turns.new.turns.items ≡ length listed.1.1 + 1 = ap length listed.1.2 ∙ omega arith in
+    let same : length c.deref-3.result.now ≡ length c.list_turns.new.turns.items = ap length c.deref-3.ensures.value in
+    let none : length c.deref-3.result.now ≡ 0 = c.in_default.ensures.cases in
+    absurd (omega (arith, long, same, none))
+
+module _ (c : goal.After-take_turns) (ss : List Shelf)
+    (under : IsUnderWay c.args.table.now c.args.units.now.items ss c.args.entry.now [] (c.args.head ∷ []))
+    (coming : IsComing (nodes_with c.args.table.now c.args.entry.now.keys.items) c.args.head)
+    (reserved : c.args.reserved ≡ reserved_count (after_allocation c.args.head (nodes_with c.args.table.now c.args.entry.now.keys.items)))
+  where
+    abbrev t : Table Node
+    t = c.args.table.now
+
+    abbrev us : List Unit
+    us = c.args.units.now.items
+
+    abbrev e : Entry
+    e = c.args.entry.now
+
+    abbrev ws : List Turn
+    ws = c.in-Some.rest.now
+
+    abbrev held : List HeldBuffer
+    held = c.args.held.items
+
+    abbrev new : Entry
+    new = record (c.args.entry.now) { reserved = c.args.reserved; buffers = Some c.args.buffers; held = c.args.held }
+
+    abbrev ks : List NodeKey
+    ks = c.list_unit.new.keys.items
+
+    given : IsGivenAt c.args.table.now c.give.new.table (c.args.head ∷ []) c.list_unit.new.keys.items
+    given = rw c.deref-2.ensures.value at c.give.ensures
+
+    listed : AreTurns c.args.table.now c.args.entry.now.keys.items c.list_turns.new.turns.items
+        × ((place : ℕ) × (rest : List Turn) × (c.list_turns.new.turns.items ≡ record { place = place; head = c.args.head } ∷ rest))
+    listed = c.list_turns.ensures.listed ss [] (c.args.head ∷ [])
+        (subst (λ (xs : List Unit). IsUnderWay c.args.table.now xs ss c.args.entry.now [] (c.args.head ∷ [])) (sym c.deref.ensures.value)
+        under)
+        (root_left (nodes_with t e.keys.items) c.args.head coming)
+
+    rest_is : listed.1.1 ≡ c.in-Some.rest.now
+    rest_is =
+        let both : record { place = listed.1.0; head = c.args.head } ∷ listed.1.1 ≡ c.in-Some.field-0-0.now ∷ c.in-Some.rest.now =
+        sym listed.1.2 ∙ (sym c.deref-3.ensures.value ∙ c.in-Some.ensures.cases.0) in
+        cc
+
+    turns : AreTurns c.args.table.now c.args.entry.now.keys.items (record { place = listed.1.0; head = c.args.head } ∷ c.in-Some.rest.now)
+    turns = subst (AreTurns t e.keys.items)
+        (listed.1.2 ∙ ap (λ (xs : List Turn). record { place = listed.1.0; head = c.args.head } ∷ xs) rest_is) listed.0
+
+    pub rooted_so : IsRooted (total c.args.holds.now) c.args.table.now c.take_turns.new.table c.take_turns.new.units.items ss
+        c.args.entry.now c.take_turns.new.entry c.args.head (Verdict.Given c.args.buffers c.args.held)
+    rooted_so =
+        let now = c.give.new.table in
+        let few = c.requires.few in
+        rooted_given t now us ss e c.args.head under coming ks c.list_unit.ensures.listed given c.args.buffers few held ws listed.1.0
+        turns new refl refl refl refl reserved
+        (total c.args.holds.now) c.take_turns.new.table c.take_turns.new.units.items c.take_turns.new.entry
+        (c.take_turns.ensures.out (put_shelf (shelf_of new) ss)
+        (under_then t now us ss e c.args.head under coming ks c.list_unit.ensures.listed given c.args.buffers few held ws listed.1.0
+        turns new refl refl refl refl reserved)
+        (turns_then t now us ss e c.args.head under coming ks c.list_unit.ensures.listed given c.args.buffers few held ws listed.1.0 turns)
+        (waits_no_more t now us ss e c.args.head under coming ks c.list_unit.ensures.listed given c.args.buffers few held) refl)
+        (Verdict.Given c.args.buffers c.args.held) (λ d. refl) refl
+
+pub returns-clause-rooted : goal.returns-clause-rooted
+returns-clause-rooted c ss under coming reserved = rooted_so c ss under coming reserved

@@ -1,0 +1,12 @@
+use Rattle.std.proofs.Common.{◌≡◌, inr}
+use Rattle.std.specs.List.{sum_by}
+use Rattle.sm_names.specs.Demands.{Demand}
+use Rattle.alloc_event.specs.Rooting.{served_with}
+use Rattle.alloc_event.proofs.rooting.reserved_with.Goals as goal
+
+pub returns-else-entry-eq0 : goal.returns-else-entry-eq0
+returns-else-entry-eq0 c =
+    let counted : c.reserved_then.result
+    ≡ sum_by (λ (d : Demand). d.camping) (served_with c.args.table.now c.args.entry.now.keys.items c.args.head c.args.after.now) =
+    rw c.as_slice.ensures.items at c.reserved_then.ensures in
+    inr counted

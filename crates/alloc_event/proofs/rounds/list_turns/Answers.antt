@@ -1,0 +1,17 @@
+-- What the walk finds is listed by birth.
+use Rattle.std.proofs.Common.{ap, ◌∙◌, filter, List}
+use Rattle.sm_names.specs.declared.keys.NodeKey.{NodeKey}
+use Rattle.alloc_event.specs.Serving.{is_head_at}
+use Rattle.alloc_event.proofs.under.Listing.{turns_listed}
+use Rattle.alloc_event.proofs.rounds.list_turns.Goals as goal
+
+pub returns-clause-listed : goal.returns-clause-listed
+returns-clause-listed c ss loose due under left =
+    let t = c.args.table.now in
+    let us = c.args.units.now in
+    let e = c.args.entry.now in
+    let ks = c.walk_turns.new.keys.items in
+    turns_listed t us ss e loose due under c.args.head left ks c.walk_turns.ensures.walked c.list_heads.new.turns.items
+    c.order_turns.new.turns.items
+    (c.list_heads.ensures.heads ∙ ap (λ (l : List NodeKey). filter (is_head_at t us e.id c.args.head) l) c.deref.ensures.value)
+    c.list_heads.ensures.placed c.order_turns.ensures.same c.order_turns.ensures.rising

@@ -1,0 +1,42 @@
+-- One unit after another.
+use Rattle.std.proofs.Common.{◌≡◌, ◌+◌, ◌<◌, List, ◌∷◌, drop, get_or, length, true, false, refl, sym, ◌∙◌, subst, arith}
+use Rattle.std.proofs.lemmas.List.{drop_more}
+use Rattle.buffer_holds.specs.Counts.{total}
+use Rattle.alloc_event.specs.declared.rounds.Turn.{Turn}
+use Rattle.alloc_event.proofs.under.Leading.{HaveTurns, turns_more, turns_none}
+use Rattle.alloc_event.proofs.rounds.take_turns.Goals as goal
+
+abbrev none : Turn
+none = record { place = 0; head = record { slot = 0; generation = 0 } }
+
+pub loop-turn-init : goal.loop-turn-init
+loop-turn-init c = record {
+  named = c.requires.named;
+  len = refl;
+  room = omega arith;
+  had = turns_none (total c.args.holds.now) c.args.table.now c.args.units.now.items c.args.entry.now c.args.buffers c.args.turns.now;
+}
+
+pub loop-turn-preserved : goal.loop-turn-preserved
+loop-turn-preserved c =
+    let turns = c.args.turns.now in
+    let i = c.loop-turn.turn-index in
+    let h = total c.args.holds.now in
+    let w : Turn = get_or turns i none in
+    let was = c.loop-turn.invariant in
+    let within : i < length turns = c.loop-turn-test.true in
+    let front : drop i turns ≡ w ∷ drop (i + 1) turns = drop_more turns i none within in
+    let had : HaveTurns h c.args.table.now c.loop-turn.table c.args.units.now.items c.loop-turn.units.items c.args.entry.now
+    c.loop-turn.entry c.args.buffers turns (w ∷ drop (i + 1) turns) =
+    subst (λ (l : List Turn). HaveTurns h c.args.table.now c.loop-turn.table c.args.units.now.items c.loop-turn.units.items
+    c.args.entry.now c.loop-turn.entry c.args.buffers turns l) front was.had in
+    record {
+      named = c.take_turn.ensures.named;
+      len = c.take_turn.ensures.len ∙ was.len;
+      room = omega (arith, c.take_turn.ensures.room, was.room);
+      had = turns_more h c.args.table.now c.loop-turn.table c.take_turn.new.table c.args.units.now.items c.loop-turn.units.items
+          c.take_turn.new.units.items c.args.entry.now c.loop-turn.entry c.take_turn.new.entry c.args.buffers turns w
+          (drop (i + 1) turns) had
+          (λ given. sym (c.is_left_alone.ensures given) ∙ c.if-is_left_alone.false)
+          (c.take_turn.ensures.taken h);
+    }

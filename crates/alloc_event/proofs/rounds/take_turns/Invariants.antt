@@ -1,0 +1,17 @@
+use Rattle.std.proofs.Common.{◌≡◌, ◌≤◌, drop, Some, vec_capacity}
+use Rattle.buffer_holds.specs.Counts.{total}
+use Rattle.sm_names.specs.declared.keys.NodeKey.{NodeKey}
+use Rattle.node_table.specs.Table.{node_at, table_len}
+use Rattle.alloc_event.specs.declared.node.Node.{Node}
+use Rattle.alloc_event.proofs.under.Leading.{HaveTurns}
+use Rattle.alloc_event.proofs.rounds.take_turns.Given as goal
+
+-- the units so far had their turn
+abbrev pub invariant-loop-turn : goal.invariant-loop-turn
+invariant-loop-turn l = record {
+  named : (key : NodeKey) (n : Node) → node_at l.table key ≡ Some n → n.key ≡ key;
+  len : table_len l.table ≡ table_len l.initial.table;
+  room : vec_capacity l.initial.keys ≤ vec_capacity l.keys;
+  had : HaveTurns (total l.holds) l.initial.table l.table l.initial.units.items l.units.items l.initial.entry l.entry l.buffers
+      l.turns (drop l.turn-index l.turns);
+}

@@ -1,0 +1,49 @@
+-- The collection is closed.
+use Rattle.std.proofs.Common.{◌≡◌, ◌<◌, List, Some, refl, sym, ◌∙◌, arith}
+use Rattle.buffer_holds.specs.Counts.{total}
+use Rattle.alloc_event.specs.declared.change.Change.{Change}
+use Rattle.alloc_event.specs.declared.entry.Entry.{Entry}
+use Rattle.alloc_event.specs.declared.units.Unit.{Unit}
+use Rattle.alloc_event.specs.Kept.{place_in}
+use Rattle.alloc_event.proofs.shelves.Entries.{place_is}
+use Rattle.alloc_event.proofs.under.Stepping.{closes_now, entry_there, is_there, outcome_closed}
+use Rattle.alloc_event.proofs.steps.settle_nothing.Goals as goal
+
+pub unreachable-requires : goal.unreachable-requires
+unreachable-requires c =
+    is_there c.args.table.now c.args.units.now.items c.args.entries.now.items c.args.id (Change.Nothing)
+    refl c.requires.ready (sym (rw c.deref.ensures.value at c.place_of.ensures) ∙ c.in_default.is)
+
+pub close-requires-clause-may : goal.close-requires-clause-may
+close-requires-clause-may c =
+    let told : place_in c.args.id c.args.entries.now.items ≡ Some c.in-Some.at =
+    sym (rw c.deref.ensures.value at c.place_of.ensures) ∙ c.in-Some.is in
+    let handles = total c.args.holds.now in
+    let t = c.args.table.now in
+    let us : List Unit = c.args.units.now.items in
+    let es : List Entry = c.args.entries.now.items in
+    let e = entry_there es c.in-Some.at ((place_is c.args.id es c.in-Some.at told).within) in
+    closes_now handles t us es c.args.id c.in-Some.at e.0 told e.1 Change.Nothing c.requires.ready refl
+
+pub returns-clause-outcome : goal.returns-clause-outcome
+returns-clause-outcome c =
+    let told : place_in c.args.id c.args.entries.now.items ≡ Some c.in-Some.at =
+    sym (rw c.deref.ensures.value at c.place_of.ensures) ∙ c.in-Some.is in
+    let handles = total c.args.holds.now in
+    let t = c.args.table.now in
+    let us : List Unit = c.args.units.now.items in
+    let es : List Entry = c.args.entries.now.items in
+    let e = entry_there es c.in-Some.at ((place_is c.args.id es c.in-Some.at told).within) in
+    outcome_closed handles t us es c.args.id c.in-Some.at e.0 told e.1 Change.Nothing c.requires.ready refl refl c.args.pool.now c.close.new.pool c.close.new.table c.close.new.entries.items c.close.new.units.items
+    (c.close.ensures.closes c.args.id told) c.close.ensures.size
+
+pub returns-clause-units : goal.returns-clause-units
+returns-clause-units c =
+    let told : place_in c.args.id c.args.entries.now.items ≡ Some c.in-Some.at =
+    sym (rw c.deref.ensures.value at c.place_of.ensures) ∙ c.in-Some.is in
+    let handles = total c.args.holds.now in
+    let t = c.args.table.now in
+    let us : List Unit = c.args.units.now.items in
+    let es : List Entry = c.args.entries.now.items in
+    let e = entry_there es c.in-Some.at ((place_is c.args.id es c.in-Some.at told).within) in
+    (c.close.ensures.closes c.args.id told).units

@@ -1,7 +1,0 @@
-use Rattle.std.proofs.Common.{◌≡◌, take}
-use Rattle.alloc_event.specs.Kept.{nodes_with}
-use Rattle.alloc_event.proofs.store.load_nodes.Given as goal
-
--- so far the nodes with these keys
-abbrev pub invariant-loop-key : goal.invariant-loop-key
-invariant-loop-key l = l.nodes.items ≡ nodes_with l.table (take l.key-index l.keys)

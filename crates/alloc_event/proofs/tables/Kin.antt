@@ -1,0 +1,15 @@
+-- Nodes stay of the collections of their parents.
+use Rattle.std.proofs.Common.{◌≡◌, Some, sym, ◌∙◌}
+use Rattle.sm_names.specs.declared.keys.NodeKey.{NodeKey}
+use Rattle.node_table.specs.Table.{Table, node_at, parent_at}
+use Rattle.alloc_event.specs.declared.node.Node.{Node}
+use Rattle.alloc_event.specs.Kept.{AreKin}
+
+-- where each node that is there was there, of the same collection, and no key has another parent
+pub kin_kept : (t now : Table Node) → ((key : NodeKey) (n : Node) → node_at now key ≡ Some n →
+    (m : Node) × (node_at t key ≡ Some m) × (n.collection ≡ m.collection)) →
+    ((key p : NodeKey) → parent_at now key ≡ Some p → parent_at t key ≡ Some p) → AreKin t → AreKin now
+kin_kept t now was fewer kin key p n q is up above =
+    let low = was key n is in
+    let high = was p q above in
+    high.2 ∙ kin key p low.0 high.0 low.1 (fewer key p up) high.1 ∙ sym low.2

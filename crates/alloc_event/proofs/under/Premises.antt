@@ -1,0 +1,47 @@
+-- Slots and parents, as what holds of each forest says it.
+use Rattle.std.proofs.Common.{◌≡◌, ◌<◌, ◌∙◌, inl, inr, refl, sym, ap, subst, List, [], ◌∷◌, length, map, Option, Some, None, false, true}
+use Rattle.std.proofs.lemmas.List.Folds.{list_any-append}
+use Rattle.std.specs.List.{cons_option, list_any}
+use Rattle.sm_names.specs.Sameness.{same_key}
+use Rattle.sm_names.proofs.ListLaws.{In}
+use Rattle.sm_names.proofs.SamenessLaws.{or_cases, same_key-true}
+use Rattle.alloc_event.proofs.tables.Hanging.{in_all}
+use Rattle.sm_names.specs.declared.keys.NodeKey.{NodeKey}
+use Rattle.node_table.specs.Table.{Table, node_at, parent_at}
+use Rattle.alloc_event.specs.declared.entry.Entry.{Entry}
+use Rattle.alloc_event.specs.declared.node.Node.{Node}
+use Rattle.alloc_event.specs.declared.units.Unit.{Unit}
+use Rattle.alloc_event.specs.Counts.{AreUnits, HasUnit, HaveUnits}
+use Rattle.alloc_event.specs.Kept.{IsStored, Shelf, all_keys, collection_in, nodes_with, shelves_of}
+
+-- each slot is in the list
+pub inside_of : (t : Table Node) (us : List Unit) (es : List Entry) → IsStored t (shelves_of es) → HaveUnits us t es →
+    (key : NodeKey) (n : Node) → node_at t key ≡ Some n → key.slot < length us
+inside_of t us es kept units key n is = from (shelves_of es) units (kept.there key n is)
+  where
+    from : (ss : List Shelf) → AreUnits us (map (collection_in t) ss) → list_any (same_key key) (all_keys ss) ≡ true →
+        key.slot < length us
+    from [] all h = let no : false ≡ true = h in absurd (cc)
+    from (s ∷ ss) all h = elim (or_cases _ _ (sym (list_any-append (same_key key) s.keys (all_keys ss)) ∙ h)) [
+      | inl here ↦
+          let own = in_all (λ (m : Node). HasUnit us (nodes_with t s.keys) m) (nodes_with t s.keys) all.0 n
+          (on_keys s.keys here) in
+          subst (λ (k : NodeKey). k.slot < length us) (kept.named key n is) own.0
+      | inr behind ↦ from ss all.1 behind
+    ]
+      where
+        further : (o : Option Node) (ns : List Node) → In n ns → In n (cons_option o ns)
+        further None ns on = on
+        further (Some m) ns on = inr on
+
+        on_keys : (ks : List NodeKey) → list_any (same_key key) ks ≡ true → In n (nodes_with t ks)
+        on_keys [] h = let no : false ≡ true = h in absurd (cc)
+        on_keys (k ∷ ks) h = elim (or_cases (same_key key k) (list_any (same_key key) ks) h) [
+          | inl here ↦ rw (ap (node_at t) (sym (same_key-true key k here)) ∙ is) (inl refl)
+          | inr behind ↦ further (node_at t k) (nodes_with t ks) (on_keys ks behind)
+        ]
+
+-- a parent is of the same collection
+pub kin_of : (t : Table Node) (ss : List Shelf) → IsStored t ss → (key p : NodeKey) (n q : Node) → node_at t key ≡ Some n →
+    parent_at t key ≡ Some p → node_at t p ≡ Some q → q.collection ≡ n.collection
+kin_of t ss kept = kept.kin

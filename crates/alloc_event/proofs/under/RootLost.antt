@@ -1,0 +1,167 @@
+-- A root whose unit comes to its allocation, and is lost instead.
+use Rattle.std.proofs.Common.{◌≡◌, refl, ap, sym, ◌∙◌, subst, Bool, true, false, not, ◌&&◌, ◌||◌, is_none, inl, List, [], ◌∷◌, Option, Some, None}
+use Rattle.std.proofs.lemmas.Bool.{not-true}
+use Rattle.std.specs.List.{find, list_all, list_any}
+use Rattle.std.specs.Option.{option_and_then, option_map_or}
+use Rattle.sm_names.specs.declared.keys.NodeKey.{NodeKey}
+use Rattle.sm_names.specs.declared.outcomes.Cause.{Cause}
+use Rattle.sm_names.specs.declared.outcomes.Failure.{Failure}
+use Rattle.sm_names.specs.declared.outcomes.Fault.{Fault}
+use Rattle.sm_names.specs.Sameness.{same_key}
+use Rattle.sm_names.specs.Words.{when}
+use Rattle.sm_names.proofs.ListLaws.{In, In-find}
+use Rattle.sm_names.proofs.SamenessLaws.{and_left, and_right}
+use Rattle.sm_names.proofs.SizeLaws.{all_on}
+use Rattle.node_table.specs.Table.{Table}
+use Rattle.alloc_event.specs.declared.entry.Entry.{Entry}
+use Rattle.alloc_event.specs.declared.node.Node.{Node}
+use Rattle.alloc_event.specs.declared.rooting.Verdict.{Verdict}
+use Rattle.alloc_event.specs.declared.units.Unit.{Unit}
+use Rattle.alloc_event.specs.Decisions.{is_left_of, waiting}
+use Rattle.alloc_event.specs.Forest.{Collection, with_nodes}
+use Rattle.alloc_event.specs.Kept.{Shelf, collection_in, nodes_with, put_shelf, shelf_of}
+use Rattle.alloc_event.specs.Nodes.{after_loss}
+use Rattle.alloc_event.specs.Questions.{is_ready_node, is_root_left}
+use Rattle.alloc_event.specs.Rooting.{IsComing, IsRooted}
+use Rattle.alloc_event.specs.Settling.{Handles, Settles}
+use Rattle.alloc_event.specs.UnderWay.{IsUnderWay, IsWent, MayGo, are_held_but, is_held, is_next_but, waits_among}
+use Rattle.alloc_event.proofs.changes.Altering.{found_put}
+use Rattle.alloc_event.proofs.failures.AllGone.{AreGone, none_passes}
+use Rattle.alloc_event.proofs.tables.Rooted.{left_in}
+use Rattle.alloc_event.proofs.under.Ready.{whole_under}
+use Rattle.alloc_event.proofs.under.Roots.{all_lost}
+
+-- ---- the root that waits
+
+-- a root whose unit waits for its buffers alone
+pub record IsReadyRoot (nodes : List Node) (root : Node) : Type 0 where
+  pub found : find is_root_left nodes ≡ Some root
+  pub on : In root nodes
+  pub top : root.parent ≡ None
+  pub here : root.gone ≡ false
+  pub bare : root.allocated ≡ false
+  pub ready : list_all (is_ready_node root.key) nodes ≡ true
+
+pub ready_root : (nodes : List Node) (root : Node) → waiting nodes ≡ Some root → IsReadyRoot nodes root
+ready_root nodes root waits = from (find is_root_left nodes) refl waits
+  where
+    none_is : (o : Option NodeKey) → is_none o ≡ true → o ≡ None
+    none_is None h = refl
+    none_is (Some p) h = let no : false ≡ true = h in absurd (cc)
+
+    when_some : (b : Bool) (r : Node) → when b r ≡ Some root → (b ≡ true) × (r ≡ root)
+    when_some true r h = (refl, cc)
+    when_some false r h = cc
+
+    from : (o : Option Node) → find is_root_left nodes ≡ o →
+        option_and_then (λ (r : Node). when (not r.allocated && list_all (is_ready_node r.key) nodes) r) o ≡ Some root →
+        IsReadyRoot nodes root
+    from None is h = let no : None ≡ Some root = h in absurd (cc)
+    from (Some r) is h =
+        let both = when_some (not r.allocated && list_all (is_ready_node r.key) nodes) r h in
+        let found : find is_root_left nodes ≡ Some root = is ∙ ap Some both.1 in
+        let x = In-find is_root_left nodes root found in
+        record {
+          found = found;
+          on = x.0;
+          top = none_is root.parent (and_left (is_none root.parent) (not root.gone) x.1);
+          here = not-true root.gone (and_right (is_none root.parent) (not root.gone) x.1);
+          bare = ap (λ (m : Node). m.allocated) (sym both.1)
+              ∙ not-true r.allocated (and_left (not r.allocated) (list_all (is_ready_node r.key) nodes) both.0);
+          ready = ap (λ (m : Node). list_all (is_ready_node m.key) nodes) (sym both.1)
+              ∙ and_right (not r.allocated) (list_all (is_ready_node r.key) nodes) both.0;
+        }
+
+-- ---- nodes that are all gone
+
+-- no unit of them is loose or due
+module _ (nodes : List Node) (gone : AreGone nodes) where
+  pub gone_held : are_held_but [] nodes ≡ true
+  gone_held = all_on (λ (n : Node). list_any (same_key n.key) [] || is_held nodes n) nodes (λ n on. rw (gone n on) refl)
+
+  pub gone_next : (due : List NodeKey) → list_any (is_next_but due nodes) nodes ≡ false
+  gone_next due = none_passes (is_next_but due nodes) (λ n e. rw e (by n.attached (not (list_any (same_key n.key) due)))) nodes gone
+    where
+      by : (a b : Bool) → ((a && false) && b) ≡ false
+      by true b = refl
+      by false b = refl
+
+  pub gone_waits : (due : List NodeKey) → waits_among due nodes ≡ true
+  gone_waits due = from (waiting nodes) refl
+    where
+      from : (o : Option Node) → waiting nodes ≡ o → option_map_or (λ (n : Node). list_any (same_key n.key) due) o true ≡ true
+      from None is = refl
+      from (Some r) is =
+          let root = ready_root nodes r is in
+          let no : true ≡ false = sym (gone r root.on) ∙ root.here in
+          absurd (cc)
+
+pub all_gone_under : (t : Table Node) (us : List Unit) (ss : List Shelf) (e : Entry) (loose due : List NodeKey) →
+    AreGone (nodes_with t e.keys.items) → IsUnderWay t us ss e loose due → IsUnderWay t us ss e [] []
+all_gone_under t us ss e loose due gone under = record {
+  kept = under.kept;
+  found = under.found;
+  units = under.units;
+  inside = under.inside;
+  kin = under.kin;
+  strong = under.strong;
+  reserved = under.reserved;
+  tidy = under.tidy;
+  bare = under.bare;
+  held = gone_held (nodes_with t e.keys.items) gone;
+  next = gone_next (nodes_with t e.keys.items) gone [];
+  root = gone_waits (nodes_with t e.keys.items) gone [];
+}
+
+-- ---- the loss
+
+module _ (t : Table Node) (us : List Unit) (ss : List Shelf) (e : Entry) (head : NodeKey) (why : Failure)
+    (under : IsUnderWay t us ss e [] (head ∷ [])) (coming : IsComing (nodes_with t e.keys.items) head) where
+  abbrev nodes : List Node
+  nodes = nodes_with t e.keys.items
+
+  abbrev fault : Fault
+  fault = record { cause = Cause.Failed why; origin = head }
+
+  root : IsReadyRoot (nodes_with t e.keys.items) coming.root
+  root = ready_root nodes coming.root coming.waits
+
+  -- it may go
+  pub root_goes : MayGo (nodes_with t e.keys.items) head (Some (record { cause = Cause.Failed why; origin = head }))
+  root_goes = (
+    subst (λ (k : NodeKey). is_left_of nodes k ≡ true) coming.own (left_in nodes coming.root root.on root.here),
+    refl,
+  )
+
+  module _ (handles : Handles) (now : Table Node) (after : List Unit) (new : Entry) (above : Option NodeKey)
+      (went : IsWent t now after ss e new head (Some (record { cause = Cause.Failed why; origin = head })) above [] (head ∷ [])) where
+    gone : AreGone (nodes_with now e.keys.items)
+    gone =
+        subst AreGone (sym went.nodes)
+        (all_lost (collection_in t (shelf_of e)) (whole_under t us ss e [] (head ∷ []) under) coming.root root.on root.here root.top fault
+        (sym coming.own))
+
+    gone_new : AreGone (nodes_with now new.keys.items)
+    gone_new = subst (λ (s : Shelf). AreGone (nodes_with now s.keys)) (sym went.shelf) gone
+
+    same_shelves : put_shelf (shelf_of new) ss ≡ ss
+    same_shelves = found_put (shelf_of new) ss went.under.kept.rising went.under.found
+
+    lost_is : with_nodes (after_loss (record { cause = Cause.Failed why; origin = head })) (collection_in t (shelf_of e))
+        ≡ collection_in now (shelf_of new)
+    lost_is =
+        (λ i. record (collection_in t (shelf_of e)) { nodes = sym went.nodes i })
+        ∙ ap (collection_in now) (sym went.shelf)
+
+    -- all are gone, and no step is left
+    pub rooted_lost : IsRooted handles t now after ss e new head (Verdict.Fails why)
+    rooted_lost = record {
+      due = [];
+      under = subst (λ (xs : List Shelf). IsUnderWay now after xs new [] []) (sym same_shelves)
+          (all_gone_under now after ss new _ (head ∷ []) gone_new went.under);
+      shelf = went.shelf;
+      leads = λ pool others last settles.
+          subst (λ (c : Collection). Settles pool handles others c last) (sym lost_is) settles;
+      beside = went.beside;
+      out = inl refl;
+    }

@@ -1,0 +1,71 @@
+-- A unit that comes to its turn, and what its nodes ask for: it is allocated where the buffers are enough, and refused where not.
+use Rattle.std.proofs.Common.{◌≡◌, ℕ, ◌+◌, ap, sym, ◌∙◌, true, false, List, [], ◌∷◌, Some, None}
+use Rattle.std.specs.List.{filter_map, sum_by}
+use Rattle.sm_names.specs.declared.keys.NodeKey.{NodeKey}
+use Rattle.sm_names.specs.declared.outcomes.Buffers.{Buffers}
+use Rattle.sm_names.specs.declared.outcomes.Cause.{Cause}
+use Rattle.sm_names.specs.declared.outcomes.Failure.{Failure}
+use Rattle.sm_names.specs.Demands.{Demand}
+use Rattle.sm_names.specs.Members.{greatest}
+use Rattle.node_table.specs.Table.{Table, node_at}
+use Rattle.alloc_event.specs.declared.asks.Asks.{Asks}
+use Rattle.alloc_event.specs.declared.entry.Entry.{Entry}
+use Rattle.alloc_event.specs.declared.node.Node.{Node}
+use Rattle.alloc_event.specs.declared.rounds.Turn.{Turn}
+use Rattle.alloc_event.specs.declared.units.Unit.{Unit}
+use Rattle.alloc_event.specs.Decisions.{late_failure}
+use Rattle.alloc_event.specs.Kept.{Shelf, nodes_with, shelf_of}
+use Rattle.alloc_event.specs.Refusing.{refusal}
+use Rattle.alloc_event.specs.Serving.{IsGivenAt, given_at}
+use Rattle.alloc_event.specs.Settling.{Handles}
+use Rattle.alloc_event.specs.TakingTurn.{IsUnitListed, asked_there, is_next_there}
+use Rattle.alloc_event.specs.UnderWay.{AreTurns, IsFelled, IsLed, IsUnderWay, is_abandoned_in, turn_heads, waits_among}
+use Rattle.alloc_event.proofs.serves.Giving.{same_given}
+use Rattle.alloc_event.proofs.under.Given.{given_led, was_there}
+use Rattle.alloc_event.proofs.under.Listed.{refusal_is, sum_is}
+use Rattle.alloc_event.proofs.under.Refused.{refused_led}
+use Rattle.alloc_event.proofs.under.NextThere.{none_waits}
+use Rattle.alloc_event.proofs.under.Turns.{bare}
+
+-- what is asked for by the nodes with these keys
+pub record AreAsked (t : Table Node) (k : NodeKey) (ks : List NodeKey) (asks : Asks) : Type 0 where
+  pub camping : asks.camping ≡ sum_by (λ (d : Demand). d.camping) (filter_map (asked_there t k) ks)
+  pub at_least : asks.at_least ≡ greatest (λ (d : Demand). d.at_least) (filter_map (asked_there t k) ks)
+  pub size : asks.size ≡ greatest (λ (d : Demand). d.size) (filter_map (asked_there t k) ks)
+
+module _ (t : Table Node) (us : List Unit) (ss : List Shelf) (e : Entry) (k : NodeKey) (place : ℕ) (ws : List Turn)
+    (u : IsUnderWay t us ss e [] (k ∷ turn_heads ws)) (turns : AreTurns t e.keys.items (record { place = place; head = k } ∷ ws))
+    (next : is_next_there t us k ≡ true) (no_wait : waits_among [] (nodes_with t e.keys.items) ≡ true)
+    (ks : List NodeKey) (listed : IsUnitListed t k ks) (asks : Asks) (asked : AreAsked t k ks asks)
+    (handles : Handles) (b : Buffers) (has : e.buffers ≡ Some b) (stays : is_abandoned_in handles t e ≡ false) where
+  abbrev nodes : List Node
+  nodes = nodes_with t e.keys.items
+
+  late : refusal b e.reserved asks.camping asks.at_least asks.size ≡ late_failure k nodes b
+  late = refusal_is t ss u.kept (shelf_of e) u.found u.kin k (bare t us ss e k place ws u turns next) ks listed b e.reserved asks.camping
+      asks.at_least asks.size u.reserved asked.camping asked.at_least asked.size
+
+  pub allocated_by : (now : Table Node) → IsGivenAt t now (k ∷ []) ks → refusal b e.reserved asks.camping asks.at_least asks.size ≡ None →
+      IsLed handles t now us ss e (record e { reserved = e.reserved + asks.camping }) [] (turn_heads ws)
+      × (AreTurns now e.keys.items ws × (waits_among [] (nodes_with now e.keys.items) ≡ true))
+  allocated_by now given enough =
+      given_led t now us ss e k place ws u turns next (none_waits nodes no_wait) ks listed given asks.camping
+      (asked.camping ∙ sum_is t ss u.kept (shelf_of e) u.found u.kin k (bare t us ss e k place ws u turns next) ks listed)
+      handles b has stays (sym late ∙ enough)
+
+  pub refused_by : (now : Table Node) (new : List Unit) (after : Entry) (why : Failure) →
+      IsFelled handles t now new ss e after (record { cause = Cause.Failed why; origin = k }) (k ∷ turn_heads ws) →
+      refusal b e.reserved asks.camping asks.at_least asks.size ≡ Some why →
+      IsLed handles t now new ss e after [] (turn_heads ws)
+      × (AreTurns now e.keys.items ws × (waits_among [] (nodes_with now e.keys.items) ≡ true))
+  refused_by now new after why felled short =
+      refused_led t now us new ss e after k place ws u turns next (none_waits nodes no_wait) why handles felled b has stays
+      (sym late ∙ short)
+
+-- each node that is given its buffers keeps its key
+pub given_named : (t now : Table Node) (hs ks : List NodeKey) → IsGivenAt t now hs ks →
+    ((key : NodeKey) (n : Node) → node_at t key ≡ Some n → n.key ≡ key) →
+    (key : NodeKey) (n : Node) → node_at now key ≡ Some n → n.key ≡ key
+given_named t now hs ks given named key n is =
+    let x = was_there (given_at hs ks) t now given.look key n is in
+    ap (λ (m : Node). m.key) (sym x.2) ∙ ((same_given hs ks x.0).key ∙ named key x.0 x.1)

@@ -1,0 +1,307 @@
+-- What is lost or ends with a node is gone, and the collection is still under way.
+use Rattle.std.proofs.Common.{◌≡◌, ◌==◌, refl, ap, sym, ◌∙◌, subst, Bool, true, false, not, ◌&&◌, ◌||◌, ◌⊎◌, inl, inr, is_none, List, map, reverse, Option, Some, None, option_map}
+use Rattle.std.specs.List.{list_all, list_any}
+use Rattle.std.specs.Option.{option_map_or}
+use Rattle.sm_names.specs.declared.keys.NodeKey.{NodeKey}
+use Rattle.sm_names.specs.declared.outcomes.Fault.{Fault}
+use Rattle.sm_names.specs.Sameness.{same_key}
+use Rattle.sm_names.proofs.ListLaws.{In, In-map, In-map-back, map-In}
+use Rattle.sm_names.proofs.SamenessLaws.{and_both, either_way, none_or_some, or_cases, or_left, or_right, same_key-refl}
+use Rattle.sm_names.proofs.StandingLaws.{In-any}
+use Rattle.node_table.specs.Table.{Table, node_at, parent_at}
+use Rattle.alloc_event.specs.declared.entry.Entry.{Entry}
+use Rattle.alloc_event.specs.declared.falling.Going.{Going}
+use Rattle.alloc_event.specs.declared.node.Node.{Node}
+use Rattle.alloc_event.specs.declared.units.Unit.{Unit}
+use Rattle.alloc_event.specs.Counts.{head_of}
+use Rattle.alloc_event.specs.Decisions.{is_left_of}
+use Rattle.alloc_event.specs.Falling.{gone_by}
+use Rattle.alloc_event.specs.GoingDown.{IsGoneSo, head_over}
+use Rattle.alloc_event.specs.Kept.{IsWhole, Shelf, all_of, collection_in, is_filed, nodes_with, shelf_of}
+use Rattle.alloc_event.specs.Nodes.{after_end, after_loss, ended, is_of, lost}
+use Rattle.alloc_event.specs.Questions.{is_below}
+use Rattle.alloc_event.specs.Ties.{IsFall, are_rooted, is_blocking}
+use Rattle.alloc_event.specs.UnderWay.{IsBeside, IsUnderWay, IsWent, and_loose, are_held_but, gone_down, is_head_left, is_next_but, waits_among}
+use Rattle.alloc_event.specs.Units.{is_head}
+use Rattle.alloc_event.proofs.changes.Altering.{found_filed, looked-of}
+use Rattle.alloc_event.proofs.calm.Steps.{all-In}
+use Rattle.alloc_event.proofs.failures.AllGone.{AreGone}
+use Rattle.alloc_event.proofs.failures.GoneNodes.{given_of, goes_in, goes_not, goes_of, gone_of, same_of}
+use Rattle.alloc_event.proofs.failures.Ties.{fall_below, fall_root, losses_by_fall}
+use Rattle.alloc_event.proofs.tables.KeptRoots.{rooted_end, rooted_loss}
+use Rattle.alloc_event.proofs.tables.Rooted.{IsLeft, distinct_one, left_node}
+use Rattle.alloc_event.proofs.tallies.Holding.{head_there, own_head, shared}
+use Rattle.alloc_event.proofs.under.Crossed.{held_but, next_but, root_but}
+use Rattle.alloc_event.proofs.under.Emptied.{all_taken, held_gone, next_gone, root_gone}
+use Rattle.alloc_event.proofs.under.Fallen.{beside_same, nodes_then, under_now}
+use Rattle.alloc_event.proofs.under.Owned.{own_taken}
+use Rattle.alloc_event.proofs.under.Tops.{blocks, entire, head_out, on_ties, parent, stands_first, top, top_here, top_on, up_falls}
+use Rattle.alloc_event.proofs.tables.OfShelf.{at_key, linked}
+
+module _ (t : Table Node) (us : List Unit) (ss : List Shelf) (old : Entry) (loose due : List NodeKey)
+    (opens : IsUnderWay t us ss old loose due) (now : Table Node) (after : List Unit) (new : Entry) (going : Going)
+    (origin : NodeKey) (keys : List NodeKey) (gone : IsGoneSo t now us after old new going origin keys)
+    (left : is_left_of (nodes_with t old.keys.items) origin ≡ true) where
+  abbrev pub nodes : List Node
+  nodes = nodes_with t old.keys.items
+
+  abbrev s : Shelf
+  s = shelf_of old
+
+  abbrev falls : NodeKey → Bool
+  falls k = list_any (same_key k) keys
+
+  abbrev pub goes : Node → Node
+  goes = goes_of going keys
+
+  whole : IsWhole (collection_in t s)
+  whole = entire t ss s opens.kept opens.found gone.forest origin left keys gone.taken
+
+  at : (n : Node) → In n nodes → node_at t n.key ≡ Some n
+  at = at_key t ss s opens.kept opens.found
+
+  -- what goes is of the collection
+  own : all_of old.id (nodes_with t keys) ≡ true
+  own =
+      let x = left_node nodes origin left in
+      own_taken t gone.forest opens.kin old.id origin
+      (ap (λ (o : Option Node). option_map_or (λ (n : Node). n.collection == old.id) o true) (ap (node_at t) (sym x.is) ∙ at x.node x.on)
+      ∙ all-In (λ (n : Node). n.collection == old.id) nodes x.node x.on
+      (looked-of t old.id old.keys.items (found_filed t old.id ss s opens.kept.filed opens.found))) keys gone.taken
+
+  nodes_now : nodes_with now old.keys.items ≡ map goes nodes
+  nodes_now = nodes_then t us ss old loose due opens going origin keys gone.taken own now gone.stores
+
+  beside : IsBeside t now ss old.id
+  beside = record {
+    same = gone.stores.same;
+    others = λ x on differ. beside_same t us ss old loose due opens going origin keys gone.taken own now gone.stores x differ
+        (all-In (λ (y : Shelf). list_all (is_filed t y.id) y.keys) ss x on opens.kept.filed);
+  }
+
+  -- the highest of what goes
+  abbrev highest : Node
+  highest = top t ss s opens.kept opens.found gone.forest origin left keys gone.taken
+
+  highest_on : In highest nodes
+  highest_on = top_on t ss s opens.kept opens.found gone.forest origin left keys gone.taken
+
+  highest_here : highest.gone ≡ false
+  highest_here = top_here t ss s opens.kept opens.found gone.forest origin left keys gone.taken
+
+  -- the head of the unit above stands above it
+  over_is : head_over t keys ≡ option_map_or (head_of t) highest.parent None
+  over_is =
+      let first = stands_first t ss s opens.kept opens.found gone.forest origin left keys gone.taken in
+      ap (head_over t) first.1
+      ∙ ap (λ (o : Option NodeKey). option_map_or (head_of t) o None) (linked t ss s opens.kept opens.found highest highest_on highest_here)
+
+  module _ (fault : Option Fault) (becomes : map goes nodes ≡ gone_down fault origin nodes)
+      (rooted : are_rooted (reverse (map goes nodes)) ≡ true) where
+    -- where the units are held then, but those, and none came to its turn
+    went_so : (above : Option NodeKey) → are_held_but (and_loose above loose) (map goes nodes) ≡ true →
+        list_any (is_next_but due (map goes nodes)) (map goes nodes) ≡ false → waits_among due (map goes nodes) ≡ true →
+        option_map_or (is_head_left (map goes nodes)) above true ≡ true →
+        IsWent t now after ss old new origin fault above loose due
+    went_so above held next root heads = record {
+      under = under_now t us ss old loose due opens going origin keys gone.taken own now after new gone rooted (and_loose above loose)
+          held next root;
+      shelf = gone.shelf;
+      nodes = nodes_now ∙ becomes;
+      left = ap (λ (ns : List Node). option_map_or (is_head_left ns) above true) nodes_now ∙ heads;
+      beside = beside;
+    }
+
+    -- the root goes, and so does all that is left
+    by_root : highest.parent ≡ None → IsWent t now after ss old new origin fault None loose due
+    by_root none =
+        let all : AreGone (map goes nodes) = λ n on.
+        let x = In-map goes nodes n on in
+        ap (λ (m : Node). m.gone) x.2 ∙ (gone_of going keys x.0 ∙ elim (either_way x.0.gone) [
+          | inl e ↦ or_right (falls x.0.key) x.0.gone e
+          | inr e ↦ or_left (falls x.0.key) x.0.gone
+              (all_taken t ss s opens.kept opens.found gone.forest origin left keys gone.taken none x.0 x.1 e)
+        ]) in
+        went_so None (held_gone loose (map goes nodes) all) (next_gone due (map goes nodes) all) (root_gone due (map goes nodes) all) refl
+
+    -- what goes hung on a node, whose unit stays
+    module _ (p : NodeKey) (up : highest.parent ≡ Some p) where
+      abbrev over : Node
+      over = (parent t ss s opens.kept opens.found gone.forest origin left keys gone.taken p up).node
+
+      over_on : In over nodes
+      over_on = (parent t ss s opens.kept opens.found gone.forest origin left keys gone.taken p up).on
+
+      over_key : over.key ≡ p
+      over_key = (parent t ss s opens.kept opens.found gone.forest origin left keys gone.taken p up).is
+
+      over_here : over.gone ≡ false
+      over_here = (parent t ss s opens.kept opens.found gone.forest origin left keys gone.taken p up).here
+
+      over_one : (q : Node) → In q nodes → q.key ≡ over.key → q ≡ over
+      over_one q on is = distinct_one nodes whole.sound.distinct q over on over_on is
+
+      up_over : highest.parent ≡ Some over.key
+      up_over = up ∙ ap Some (sym over_key)
+
+      ups : (x : Node) → In x nodes → x.gone ≡ false → falls x.key ≡ true → (x ≡ highest) ⊎ ((q : NodeKey) × (x.parent ≡ Some q) ×
+          (falls q ≡ true))
+      ups x on here h = elim (up_falls t ss s opens.kept opens.found gone.forest origin left keys gone.taken x on here h) [
+        | inl e ↦ inl (distinct_one nodes whole.sound.distinct x highest on highest_on e)
+        | inr more ↦ inr more
+      ]
+
+      -- it is attached, or dispensable in a unit that has its buffers
+      guard : (highest.attached ≡ true) ⊎ ((h : Node) → In h nodes → h.key ≡ over.head → h.allocated ≡ true)
+      guard = elim (either_way highest.attached) [
+        | inl e ↦ inl e
+        | inr e ↦ inr (λ h on is.
+            let block : is_blocking highest ≡ true =
+            blocks t ss s opens.kept opens.found gone.forest origin left keys gone.taken p up in
+            let given : highest.allocated ≡ true = allocated_by highest.attached highest.dispensable highest.allocated e block in
+            let no_head : is_head highest ≡ false = (λ i. is_none (up i) || highest.attached) ∙ e in
+            let q = shared nodes whole.sound.distinct whole.sound.heads whole.rooted whole.united highest highest_on highest_here no_head
+            over.key up_over in
+            let unit : highest.head ≡ h.key =
+            sym q.3 ∙ (ap (λ (n : Node). n.head) (over_one q.0 q.1 q.2) ∙ sym is) in
+            let x = head_there nodes whole.sound.distinct whole.sound.heads whole.rooted whole.united over over_on over_here in
+            let same : x.0 ≡ h = distinct_one nodes whole.sound.distinct x.0 h x.1 on (x.2 ∙ sym is) in
+            let head : is_head h ≡ true = ap is_head (sym same) ∙ x.4 in
+            let here : h.gone ≡ false = ap (λ (n : Node). n.gone) (sym same) ∙ x.3 in
+            sym (whole.together.alike highest h highest_on on unit
+            (own_head nodes whole.sound.distinct whole.sound.heads whole.rooted whole.united h on head) here) ∙ given)
+      ]
+        where
+          allocated_by : (a d b : Bool) → a ≡ false → (a || (d && b)) ≡ true → b ≡ true
+          allocated_by true d b e h = cc
+          allocated_by false true b e h = h
+          allocated_by false false b e h = cc
+
+      -- the head of the unit above is left
+      head_left : is_head_left (map goes nodes) over.head ≡ true
+      head_left =
+          let x = head_there nodes whole.sound.distinct whole.sound.heads whole.rooted whole.united over over_on over_here in
+          let out : falls x.0.key ≡ false =
+          head_out t ss s opens.kept opens.found gone.forest origin left keys gone.taken p up x.0 x.1 x.3 x.2 in
+          In-any (λ (n : Node). is_of over.head n && (not n.gone && is_head n)) (map goes nodes) (goes x.0) (In-map-back goes nodes x.0 x.1)
+          (ap (λ (n : Node). is_of over.head n && (not n.gone && is_head n)) (goes_not going keys x.0 out)
+          ∙ and_both (is_of over.head x.0) (not x.0.gone && is_head x.0)
+          (ap (λ (k : NodeKey). same_key k over.head) x.2 ∙ same_key-refl over.head)
+          (and_both (not x.0.gone) (is_head x.0) (ap not x.3) x.4))
+
+      by_parent : IsWent t now after ss old new origin fault (Some over.head) loose due
+      by_parent =
+          went_so (Some over.head)
+          (held_but (collection_in t s) whole falls highest over ups (λ on here. up_over) over_one goes (same_of going keys)
+          (given_of going keys) (gone_of going keys) (goes_not going keys) loose opens.held)
+          (next_but (collection_in t s) whole falls highest over ups (λ on here. up_over) over_one goes (same_of going keys)
+          (given_of going keys) (gone_of going keys) (goes_not going keys) guard due opens.next)
+          (root_but (collection_in t s) whole falls highest over ups (λ on here. up_over) over_one goes (same_of going keys)
+          (given_of going keys) (gone_of going keys) (goes_not going keys) guard due opens.root)
+          head_left
+
+      over_found : option_map_or (head_of t) highest.parent None ≡ Some over.head
+      over_found =
+          ap (λ (o : Option NodeKey). option_map_or (head_of t) o None) up_over
+          ∙ ap (option_map (λ (n : Node). n.head)) (at over over_on)
+
+    pub went : IsWent t now after ss old new origin fault (head_over t keys) loose due
+    went = elim (none_or_some highest.parent) [
+      | inl none ↦
+          subst (λ (o : Option NodeKey). IsWent t now after ss old new origin fault o loose due)
+          (sym (over_is ∙ ap (λ (o : Option NodeKey). option_map_or (head_of t) o None) none)) (by_root none)
+      | inr some ↦
+          subst (λ (o : Option NodeKey). IsWent t now after ss old new origin fault o loose due)
+          (sym (over_is ∙ over_found some.0 some.1)) (by_parent some.0 some.1)
+    ]
+
+-- ---- by a fault
+
+module _ (t : Table Node) (us : List Unit) (ss : List Shelf) (old : Entry) (loose due : List NodeKey)
+    (opens : IsUnderWay t us ss old loose due) (now : Table Node) (after : List Unit) (new : Entry) (origin : NodeKey)
+    (keys : List NodeKey) where
+  pub went_lost : (fault : Fault) → IsGoneSo t now us after old new (Going.Fails fault) origin keys →
+      is_left_of (nodes_with t old.keys.items) origin ≡ true → fault.origin ≡ origin →
+      IsWent t now after ss old new origin (Some fault) (head_over t keys) loose due
+  went_lost fault gone left is =
+      went t us ss old loose due opens now after new (Going.Fails fault) origin keys gone left (Some fault) becomes
+      (ap (λ (ns : List Node). are_rooted (reverse ns)) becomes
+      ∙ (rooted_loss nodes_were (record { one = distinct_one nodes_were all.sound.distinct; rooted = all.rooted }) fault).rooted)
+    where
+      nodes_were : List Node
+      nodes_were = nodes_with t old.keys.items
+
+      all : IsWhole (collection_in t (shelf_of old))
+      all = entire t ss (shelf_of old) opens.kept opens.found gone.forest origin left keys gone.taken
+
+      one_fails : (n : Node) → goes_of (Going.Fails fault) keys n ≡ lost (λ m. list_any (same_key m.key) keys) fault n
+      one_fails n = elim (either_way (list_any (same_key n.key) keys)) [
+        | inl e ↦ goes_in (Going.Fails fault) keys n e ∙ (λ i. lost (λ _. sym e i) fault n)
+        | inr e ↦ goes_not (Going.Fails fault) keys n e ∙ (λ i. lost (λ _. sym e i) fault n)
+      ]
+
+      becomes : map (goes_of (Going.Fails fault) keys) nodes_were ≡ after_loss fault nodes_were
+      becomes =
+          map-In (goes_of (Going.Fails fault) keys) (lost (λ m. list_any (same_key m.key) keys) fault) nodes_were (λ n on. one_fails n)
+          ∙ losses_by_fall t nodes_were (on_ties t ss (shelf_of old) opens.kept opens.found gone.forest origin left keys gone.taken) fault
+          (ap (is_left_of nodes_were) is ∙ left) keys
+          (subst (λ (k : NodeKey). IsFall t k keys) (sym is) gone.taken.fall)
+
+  -- ---- without one
+
+  -- they leave
+  pub went_ended : (going : Going) → ((n : Node) → gone_by going n ≡ record n { gone = true }) → IsGoneSo t now us after old new going origin keys →
+      is_left_of (nodes_with t old.keys.items) origin ≡ true →
+      ((n : Node) → In n (nodes_with t old.keys.items) → n.key ≡ origin → is_head n ≡ true) →
+      IsWent t now after ss old new origin None (head_over t keys) loose due
+  went_ended going leaves gone left heads =
+      went t us ss old loose due opens now after new going origin keys gone left None becomes
+      (ap (λ (ns : List Node). are_rooted (reverse ns)) becomes
+      ∙ (rooted_end nodes_were (record { one = distinct_one nodes_were all.sound.distinct; rooted = all.rooted }) origin).rooted)
+    where
+      nodes_were : List Node
+      nodes_were = nodes_with t old.keys.items
+
+      all : IsWhole (collection_in t (shelf_of old))
+      all = entire t ss (shelf_of old) opens.kept opens.found gone.forest origin left keys gone.taken
+
+      one_leaves : (n : Node) → goes_of going keys n ≡ record n { gone = list_any (same_key n.key) keys || n.gone }
+      one_leaves n = elim (either_way (list_any (same_key n.key) keys)) [
+        | inl e ↦ goes_in going keys n e ∙ (leaves n ∙ (λ i. record n { gone = sym e i || n.gone }))
+        | inr e ↦ goes_not going keys n e ∙ (λ i. record n { gone = sym e i || n.gone })
+      ]
+
+      -- the origin
+      o : IsLeft nodes_were origin
+      o = left_node nodes_were origin left
+
+      takes_below : (n : Node) → In n nodes_were → n.gone ≡ false → list_any (same_key n.key) keys ≡ is_below nodes_were origin n.key
+      takes_below =
+          let ties = on_ties t ss (shelf_of old) opens.kept opens.found gone.forest origin left keys gone.taken in
+          let at_o : node_at t origin ≡ Some o.node =
+          ap (node_at t) (sym o.is) ∙ at_key t ss (shelf_of old) opens.kept opens.found o.node o.on in
+          elim (or_cases (is_none o.node.parent) o.node.attached (heads o.node o.on o.is)) [
+            | inl none ↦
+                fall_root t nodes_were ties origin left
+                (ap (parent_at t) (sym o.is)
+                ∙ (linked t ss (shelf_of old) opens.kept opens.found o.node o.on o.here ∙ no_parent o.node.parent none)) keys gone.taken.fall
+            | inr attached ↦
+                fall_below t nodes_were ties origin left
+                (ap (λ (x : Option Node). option_map_or is_blocking x false) at_o
+                ∙ ap (λ (b : Bool). b || (o.node.dispensable && o.node.allocated)) attached) keys gone.taken.fall
+          ]
+        where
+          no_parent : (x : Option NodeKey) → is_none x ≡ true → x ≡ None
+          no_parent None h = refl
+          no_parent (Some p) h = cc
+
+      becomes : map (goes_of going keys) nodes_were ≡ after_end origin nodes_were
+      becomes = map-In (goes_of going keys) (ended nodes_were origin) nodes_were (λ n on. one_leaves n ∙ by n on (either_way n.gone))
+        where
+          by : (n : Node) → In n nodes_were → (n.gone ≡ true) ⊎ (n.gone ≡ false) →
+              record n { gone = list_any (same_key n.key) keys || n.gone } ≡ ended nodes_were origin n
+          by n on (inl e) =
+              let both : (list_any (same_key n.key) keys || n.gone) ≡ (is_below nodes_were origin n.key || n.gone) =
+              or_right (list_any (same_key n.key) keys) n.gone e ∙ sym (or_right (is_below nodes_were origin n.key) n.gone e) in
+              λ i. record n { gone = both i }
+          by n on (inr e) = λ i. record n { gone = takes_below n on e i || n.gone }
