@@ -48,7 +48,6 @@ pub made_in_pool : {made : Bool} {handles : Handles} {pool : Holdings} {t now : 
 made_in_pool is held outcome = in_pool held (rw is at outcome)
 
 module _ {t now last : Table Node} {es behind final : List Entry} (same : IsUnchanged t now es behind) where
-
   -- and where the pool is the same too
   pub later_in : {made : Bool} {handles : Handles} {pool between after : Holdings} {id : ℕ} {change : Change} → between ≡ pool →
       IsOutcomeIn made handles between after now last behind final id change →

@@ -14,13 +14,19 @@ use Rattle.sm_names.specs.Members.{asked, greatest}
 use Rattle.sm_names.specs.Pages.{places, pages_of}
 use Rattle.sm_names.specs.Sameness.{same_key}
 use Rattle.sm_names.specs.Words.{first_some, when}
-use Rattle.alloc_event.specs.declared.decision.Decision.{Decision}
-use Rattle.alloc_event.specs.declared.decision.Decision.TheVariants.{Ends, Loses, Places, Allocates}
 use Rattle.alloc_event.specs.declared.node.Node.{Node}
 use Rattle.alloc_event.specs.Forest.{Collection}
 use Rattle.alloc_event.specs.Nodes.{is_of, members_of}
 use Rattle.alloc_event.specs.Questions.{demands_of, is_deserted_node, is_in_unit, is_live_node, is_next_node, is_ready_node, is_root_left, is_served}
 use Rattle.alloc_event.specs.Settling.{is_root_of}
+
+-- a forced step that is to be made, before the pool was asked for places: the node leaves, and all below it; or it fails; or the root
+-- unit is given these buffers if the pool has places for them, or else the root fails; or the attached unit with this head is allocated
+pub data Decision : Type 0 where
+  Ends : NodeKey → Decision
+  Loses : NodeKey → Cause → Decision
+  Places : NodeKey → Buffers → Decision
+  Allocates : NodeKey → Decision
 
 -- the mark that the decision comes to in a pool of so many pages, of which these are held
 abbrev pub mark_of : ℕ → List Interval → Decision → Mark

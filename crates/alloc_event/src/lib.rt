@@ -9,7 +9,6 @@ pub mod births;
 pub mod change;
 mod changing;
 mod closing;
-pub mod decision;
 mod dropped;
 pub mod effects;
 mod ending_above;

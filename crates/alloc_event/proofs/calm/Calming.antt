@@ -14,11 +14,9 @@ use Rattle.sm_names.specs.Words.{first_some, when, times}
 use Rattle.sm_names.proofs.ListLaws.{In, In-filter, In-filter-back, filter-swap, map-In, filter-all}
 use Rattle.sm_names.proofs.SamenessLaws.{both_ways, either_way, none_is}
 use Rattle.sm_names.proofs.PlaceLaws.{map-None}
-use Rattle.alloc_event.specs.declared.decision.Decision.{Decision}
-use Rattle.alloc_event.specs.declared.decision.Decision.TheVariants.{Ends, Loses}
 use Rattle.alloc_event.specs.declared.node.Node.{Node}
 use Rattle.alloc_event.specs.Calm.{IsCalm, strong_count}
-use Rattle.alloc_event.specs.Decisions.{decided, first_step, has_strong, later_step, waiting}
+use Rattle.alloc_event.specs.Decisions.{Decision, Ends, Loses, decided, first_step, has_strong, later_step, waiting}
 use Rattle.alloc_event.specs.Forest.{Collection, with_nodes}
 use Rattle.alloc_event.specs.Kept.{IsWhole}
 use Rattle.alloc_event.specs.Nodes.{above_among, member_of, members_of, node_of}

@@ -14,10 +14,8 @@ use Rattle.sm_names.specs.Members.{Member, is_live, is_root, is_settled, is_unde
 use Rattle.sm_names.specs.Pages.{places, pages_of}
 use Rattle.sm_names.specs.Sameness.{same_key}
 use Rattle.sm_names.specs.Words.{first_some, when}
-use Rattle.alloc_event.specs.declared.decision.Decision.{Decision}
-use Rattle.alloc_event.specs.declared.decision.Decision.TheVariants.{Ends, Loses, Places, Allocates}
 use Rattle.alloc_event.specs.declared.node.Node.{Node}
-use Rattle.alloc_event.specs.Decisions.{mark_of, wanted_by, has_strong, early_failure, late_failure, waiting, first_step, later_step, decisions, decided}
+use Rattle.alloc_event.specs.Decisions.{Allocates, Decision, Ends, Loses, Places, decided, decisions, early_failure, first_step, has_strong, late_failure, later_step, mark_of, waiting, wanted_by}
 use Rattle.alloc_event.specs.Forest.{Collection, pages_in}
 use Rattle.alloc_event.specs.Nodes.{member_of, members_of}
 use Rattle.alloc_event.specs.Questions.{demands_of, is_allocated_node, is_below, is_deserted_node, is_in_unit, is_next_node, is_ready_node, is_root_left, is_served, lives_below}

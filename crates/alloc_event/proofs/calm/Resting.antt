@@ -13,12 +13,10 @@ use Rattle.sm_names.specs.Members.{some_strong_live}
 use Rattle.sm_names.specs.Words.{first_some, when}
 use Rattle.sm_names.proofs.SamenessLaws.{and_both, and_left, and_right, both_ways, either_way, or_cases, or_left, or_right}
 use Rattle.node_table.specs.Table.{Table, node_at}
-use Rattle.alloc_event.specs.declared.decision.Decision.{Decision}
-use Rattle.alloc_event.specs.declared.decision.Decision.TheVariants.{Ends, Loses}
 use Rattle.alloc_event.specs.declared.entry.Entry.{Entry}
 use Rattle.alloc_event.specs.declared.node.Node.{Node}
 use Rattle.alloc_event.specs.Calm.{AreCounted, IsCalm, strong_count}
-use Rattle.alloc_event.specs.Decisions.{decided, first_step, has_strong, mark_of}
+use Rattle.alloc_event.specs.Decisions.{Decision, Ends, Loses, decided, first_step, has_strong, mark_of}
 use Rattle.alloc_event.specs.Dropped.{has_given_root}
 use Rattle.alloc_event.specs.Forest.{Collection, pages_in}
 use Rattle.alloc_event.specs.Kept.{IsStored, IsWhole, Shelf, collection_in, forest_of, is_filed, nodes_with, shelf_of, shelves_of}

@@ -12,9 +12,8 @@ use Rattle.sm_names.specs.Words.{first_some, when}
 use Rattle.sm_names.proofs.ListLaws.{In, In-find}
 use Rattle.sm_names.proofs.SamenessLaws.{and_left, and_right, and_both, or_left, or_right, both_ways, false_if, same_key-true, same_key-refl}
 use Rattle.sm_names.proofs.StandingLaws.{In-any}
-use Rattle.alloc_event.specs.declared.decision.Decision.TheVariants.{Ends, Loses, Places, Allocates}
 use Rattle.alloc_event.specs.declared.node.Node.{Node}
-use Rattle.alloc_event.specs.Decisions.{wanted_by, has_strong, early_failure, late_failure, first_step, later_step, decided, is_left_of, has_waiting, IsStep}
+use Rattle.alloc_event.specs.Decisions.{Allocates, Ends, IsStep, Loses, Places, decided, early_failure, first_step, has_strong, has_waiting, is_left_of, late_failure, later_step, wanted_by}
 use Rattle.alloc_event.specs.Forest.{Collection}
 use Rattle.alloc_event.specs.Nodes.{is_of, node_of}
 use Rattle.alloc_event.specs.Questions.{is_deserted_node, is_next_node, is_ready_node, is_root_left, is_allocated_node}

@@ -221,7 +221,6 @@ found_whole t id (x ∷ xs) s all found = found_whole-by t id x xs s (x.id == id
 module _ (t : Table Node) (ss : List Shelf) (ok : IsStored t ss) (id : ℕ) (s : Shelf)
     (found : find (λ (x : Shelf). x.id == id) ss ≡ Some s) (change : Change) (birth : is_birth change ≡ false)
     (c now : Collection) (loaded : c ≡ collection_in t s) (became : now ≡ changed change no_key c) where
-
   -- its keys are filed
   own : list_all (is_filed t s.id) s.keys ≡ true
   own = found_filed t id ss s ok.filed found

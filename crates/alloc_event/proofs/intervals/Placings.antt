@@ -17,8 +17,7 @@ use Rattle.sm_names.specs.Timelines.{laid_out}
 use Rattle.sm_names.specs.Words.{when}
 use Rattle.sm_names.proofs.PlaceLaws.{places_same}
 use Rattle.buffer_pool.specs.Holdings.{with_buffers}
-use Rattle.alloc_event.specs.declared.decision.Decision.TheVariants.{Places}
-use Rattle.alloc_event.specs.Decisions.{mark_of, IsPlacing}
+use Rattle.alloc_event.specs.Decisions.{IsPlacing, Places, mark_of}
 use Rattle.alloc_event.specs.Forest.{Collection, pages_in, with_nodes}
 use Rattle.alloc_event.specs.Nodes.{after_allocation}
 use Rattle.alloc_event.specs.Scenes.{by_page, laid, name_of}

@@ -8,10 +8,8 @@ use Rattle.sm_names.specs.Sameness.{same_key}
 use Rattle.sm_names.specs.Words.{when}
 use Rattle.sm_names.proofs.ListLaws.{In-find}
 use Rattle.sm_names.proofs.SamenessLaws.{and_left, both_ways, false_if, same_key-true}
-use Rattle.alloc_event.specs.declared.decision.Decision.{Decision}
-use Rattle.alloc_event.specs.declared.decision.Decision.TheVariants.{Loses}
 use Rattle.alloc_event.specs.declared.node.Node.{Node}
-use Rattle.alloc_event.specs.Decisions.{has_strong, waiting}
+use Rattle.alloc_event.specs.Decisions.{Decision, Loses, has_strong, waiting}
 use Rattle.alloc_event.specs.Falls.{given_all}
 use Rattle.alloc_event.specs.Forest.{Collection}
 use Rattle.alloc_event.specs.Questions.{is_deserted_node, is_ready_node, is_root_left}

@@ -29,6 +29,5 @@ head_own c sound n on attached =
     by false false own e h = cc
 
 module _ (c : Collection) (sound : IsSound c) (hs : List NodeKey) (children : AreChildren c hs) where
-
   abbrev nodes : List Node
   nodes = c.nodes

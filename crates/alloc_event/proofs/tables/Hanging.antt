@@ -27,7 +27,6 @@ all_in P (x ∷ xs) each = (each x (inl refl), all_in P xs (λ y on. each y (inr
 -- ---- links
 
 module _ (t : Table Node) where
-
   module _ (named : (key : NodeKey) (n : Node) → node_at t key ≡ Some n → n.key ≡ key) where
     -- what holds of each node of the table holds of those that keys find
     looked_each : (P : Node → Type 0) → ((key : NodeKey) (n : Node) → node_at t key ≡ Some n → P n) → (keys : List NodeKey) →

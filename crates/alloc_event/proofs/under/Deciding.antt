@@ -13,12 +13,11 @@ use Rattle.sm_names.specs.Words.{first_some, when}
 use Rattle.sm_names.proofs.ListLaws.{find-none}
 use Rattle.sm_names.proofs.SamenessLaws.{either_way}
 use Rattle.node_table.specs.Table.{Table}
-use Rattle.alloc_event.specs.declared.decision.Decision.TheVariants.{Allocates, Ends, Loses}
 use Rattle.alloc_event.specs.declared.entry.Entry.{Entry}
 use Rattle.alloc_event.specs.declared.node.Node.{Node}
 use Rattle.alloc_event.specs.declared.rounds.Turn.{Turn}
 use Rattle.alloc_event.specs.declared.units.Unit.{Unit}
-use Rattle.alloc_event.specs.Decisions.{decided, first_step, has_strong, late_failure, later_step, mark_of, waiting}
+use Rattle.alloc_event.specs.Decisions.{Allocates, Ends, Loses, decided, first_step, has_strong, late_failure, later_step, mark_of, waiting}
 use Rattle.alloc_event.specs.Dropped.{has_given_root}
 use Rattle.alloc_event.specs.Forest.{pages_in}
 use Rattle.alloc_event.specs.Kept.{IsWhole, Shelf, collection_in, is_filed, nodes_with, shelf_of}

@@ -15,13 +15,12 @@ use Rattle.sm_names.proofs.ReachLaws.{IsChain}
 use Rattle.sm_names.proofs.SamenessLaws.{and_both, and_left, and_right, either_way, or_none_left, or_none_right, or_right, same_key-true}
 use Rattle.sm_names.proofs.SizeLaws.{all_on}
 use Rattle.node_table.specs.Table.{Table, node_at, parent_at, table_len}
-use Rattle.alloc_event.specs.declared.decision.Decision.TheVariants.{Ends}
 use Rattle.alloc_event.specs.declared.entry.Entry.{Entry}
 use Rattle.alloc_event.specs.declared.node.Node.{Node}
 use Rattle.alloc_event.specs.declared.units.Unit.{Unit}
 use Rattle.alloc_event.specs.Climbing.{climbed, is_held_once, unit_over}
 use Rattle.alloc_event.specs.Counts.{HasUnit, HasUnits, heads_below, is_held_by, lives_in, unit_at, unit_of}
-use Rattle.alloc_event.specs.Decisions.{decided, is_left_of, mark_of}
+use Rattle.alloc_event.specs.Decisions.{Ends, decided, is_left_of, mark_of}
 use Rattle.alloc_event.specs.Forest.{Collection, pages_in}
 use Rattle.alloc_event.specs.Kept.{IsWhole, Shelf, all_keys, collection_in, nodes_with, shelf_of}
 use Rattle.alloc_event.specs.Nodes.{after_end, is_of}

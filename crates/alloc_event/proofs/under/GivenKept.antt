@@ -20,14 +20,12 @@ use Rattle.buffer_pool.specs.Holdings.{Holdings}
 use Rattle.node_table.specs.Table.{Table}
 use Rattle.alloc_event.specs.declared.change.Change.{Change}
 use Rattle.alloc_event.specs.declared.change.Effect.{Effect}
-use Rattle.alloc_event.specs.declared.decision.Decision.{Decision}
-use Rattle.alloc_event.specs.declared.decision.Decision.TheVariants.{Ends, Loses, Places}
 use Rattle.alloc_event.specs.declared.entry.Entry.{Entry}
 use Rattle.alloc_event.specs.declared.node.Node.{Node}
 use Rattle.alloc_event.specs.declared.units.Unit.{Unit}
 use Rattle.alloc_event.specs.Calm.{IsForest}
 use Rattle.alloc_event.specs.Counts.{HaveUnits}
-use Rattle.alloc_event.specs.Decisions.{decided, early_failure, first_step, has_strong, later_step, mark_of, wanted_by}
+use Rattle.alloc_event.specs.Decisions.{Decision, Ends, Loses, Places, decided, early_failure, first_step, has_strong, later_step, mark_of, wanted_by}
 use Rattle.alloc_event.specs.Forest.{Collection, beside, collection_at, is_left, pages_in, tidied, with_nodes, without_over_in}
 use Rattle.alloc_event.specs.Given.{AreServedByGiven, IsServedByGiven}
 use Rattle.alloc_event.specs.Kept.{Finishes, IsStored, Shelf, born, collection_in, forest_of, shelves_of}

@@ -23,13 +23,11 @@ use Rattle.buffer_pool.specs.Holdings.{Holdings, with_buffers}
 use Rattle.node_table.specs.Table.{Table, node_at}
 use Rattle.alloc_event.specs.declared.change.Change.{Change}
 use Rattle.alloc_event.specs.declared.change.Effect.{Effect}
-use Rattle.alloc_event.specs.declared.decision.Decision.{Decision}
-use Rattle.alloc_event.specs.declared.decision.Decision.TheVariants.{Ends, Loses, Places}
 use Rattle.alloc_event.specs.declared.entry.Entry.{Entry}
 use Rattle.alloc_event.specs.declared.node.Node.{Node}
 use Rattle.alloc_event.specs.declared.rooting.Verdict.{Verdict}
 use Rattle.alloc_event.specs.declared.units.Unit.{Unit}
-use Rattle.alloc_event.specs.Decisions.{IsPlacing, IsStep, decided, early_failure, first_step, has_strong, mark_of, waiting, wanted_by}
+use Rattle.alloc_event.specs.Decisions.{Decision, Ends, IsPlacing, IsStep, Loses, Places, decided, early_failure, first_step, has_strong, mark_of, waiting, wanted_by}
 use Rattle.alloc_event.specs.Forest.{Collection, pages_in}
 use Rattle.alloc_event.specs.InPlace.{IsOpen}
 use Rattle.alloc_event.specs.Kept.{Shelf, nodes_with, written}

@@ -176,7 +176,6 @@ module _ (handles : Handles) (t : Table Node) (es : List Entry) (id at : ℕ) (o
       (wanted_then t us key effect n planned.was ss (shelf_of old) old.strong opens under.kin bare1 planned.keys planned.listed i)))
 
   module _ (before between : Holdings) (verdict : Verdict) (found : IsVerdict before between id old.held.items plan.wants verdict) where
-
     module _ (parted : are_parted before.held ≡ true)
         (of : before.held ≡ sorted_by start_of (map (λ (h : HeldBuffer). h.pages) (all_held (forest_of t (shelves_of es)))))
         (then : Table Node) (units : List Unit) (new : Entry)

@@ -15,10 +15,8 @@ use Rattle.sm_names.specs.Words.{first_some, when}
 use Rattle.sm_names.proofs.ListLaws.{In, In-map, In-reverse, In-reverse-back}
 use Rattle.sm_names.proofs.SamenessLaws.{and_left, and_right, either_way, or_left, or_right}
 use Rattle.node_table.specs.Table.{Table, node_at}
-use Rattle.alloc_event.specs.declared.decision.Decision.{Decision}
-use Rattle.alloc_event.specs.declared.decision.Decision.TheVariants.{Ends, Loses}
 use Rattle.alloc_event.specs.declared.node.Node.{Node}
-use Rattle.alloc_event.specs.Decisions.{decided, first_step, has_strong, waiting}
+use Rattle.alloc_event.specs.Decisions.{Decision, Ends, Loses, decided, first_step, has_strong, waiting}
 use Rattle.alloc_event.specs.Dropped.{has_given_root}
 use Rattle.alloc_event.specs.Forest.{Collection}
 use Rattle.alloc_event.specs.Kept.{IsWhole, nodes_with}
