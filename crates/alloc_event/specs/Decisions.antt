@@ -1,5 +1,5 @@
 -- Which step is forced next, by the nodes as they are kept, and the mark that it comes to.
-use Rattle.std.specs.Prelude.{ℕ, ◌≤◌, ◌^◌, ◌+◌, Bool, true, false, ◌||◌, ◌&&◌, ◌==◌, not, nat_lt, max, List, [], ◌∷◌, ◌++◌, Option, ◌≡◌, is_none}
+use Rattle.std.specs.Prelude.{ℕ, ◌≤◌, ◌+◌, Bool, true, false, ◌||◌, ◌&&◌, ◌==◌, not, nat_lt, max, List, [], ◌∷◌, Option, ◌≡◌, is_none}
 use Rattle.std.specs.List.{list_any, list_all, find, sum_by}
 use Rattle.std.specs.Option.{option_map, option_map_or, option_and_then}
 use Rattle.sm_names.specs.declared.keys.Interval.{Interval}

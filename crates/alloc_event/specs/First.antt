@@ -1,5 +1,5 @@
 -- The first allocation of a collection, made in its place with those of the units that follow. No public clause cites this module.
-use Rattle.std.specs.Prelude.{◌≡◌, ℕ, ◌≤◌, ◌^◌, ◌++◌, ◌⊎◌, max, List, [], ◌∷◌, length, Some}
+use Rattle.std.specs.Prelude.{◌≡◌, ℕ, ◌++◌, max, List, length, Some}
 use Rattle.std.specs.List.{sum_by}
 use Rattle.sm_names.specs.declared.keys.HeldBuffer.{HeldBuffer}
 use Rattle.sm_names.specs.declared.outcomes.Buffers.{Buffers}

@@ -1,5 +1,5 @@
 -- The buffers of a collection and their pages, what holds of every collection, and what an effect may ask of a node.
-use Rattle.std.specs.Prelude.{ℕ, ◌+◌, Bool, true, ◌||◌, ◌&&◌, not, nat_lt, nat_le, List, [], ◌∷◌, ◌++◌, map, drop, Option, ◌≡◌, is_none, is_some}
+use Rattle.std.specs.Prelude.{ℕ, ◌+◌, Bool, true, ◌||◌, ◌&&◌, not, nat_lt, nat_le, List, [], ◌∷◌, map, drop, Option, ◌≡◌, is_none, is_some}
 use Rattle.std.specs.List.{list_any, list_all}
 use Rattle.std.specs.Option.{option_map_or}
 use Rattle.sm_names.specs.declared.keys.BufferName.{BufferName}

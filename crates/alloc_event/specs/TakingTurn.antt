@@ -1,5 +1,5 @@
 -- An attached unit that comes to its turn. No public clause cites this module.
-use Rattle.std.specs.Prelude.{◌≡◌, ◌≢◌, ◌↔◌, Bool, ◌&&◌, ◌==◌, List, [], AllPairs, Contains, Option}
+use Rattle.std.specs.Prelude.{◌≢◌, ◌↔◌, Bool, ◌&&◌, ◌==◌, List, AllPairs, Contains, Option}
 use Rattle.std.specs.Option.{option_and_then}
 use Rattle.sm_names.specs.declared.keys.NodeKey.{NodeKey}
 use Rattle.sm_names.specs.Demands.{Demand}

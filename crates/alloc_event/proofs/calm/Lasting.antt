@@ -1,5 +1,4 @@
 -- The nodes of a unit go together through all forced steps.
-use Rattle.std.proofs.Common.{◌≡◌, ◌∙◌, ◌&&◌, ◌++◌}
 use Rattle.alloc_event.specs.Forest.{Collection}
 use Rattle.alloc_event.specs.Kept.{IsWhole}
 use Rattle.alloc_event.proofs.calm.Together.{AreFormed}

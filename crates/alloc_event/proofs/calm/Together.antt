@@ -1,5 +1,5 @@
 -- The nodes of a unit go together, whatever is changed or forced.
-use Rattle.std.proofs.Common.{◌≡◌, ℕ, zero, suc, ◌<◌, refl, ap, sym, ◌∙◌, subst, Bool, true, false, ◌&&◌, ◌||◌, ◌⊎◌, inl, inr, is_none, length, List, [], ◌∷◌, ◌++◌, map, reverse, filter, Some, arith}
+use Rattle.std.proofs.Common.{◌≡◌, ℕ, zero, suc, ◌<◌, refl, ap, sym, ◌∙◌, subst, Bool, true, false, ◌||◌, ◌⊎◌, inl, inr, is_none, length, List, [], ◌∷◌, ◌++◌, map, reverse, filter, Some, arith}
 use Rattle.std.specs.List.{list_all}
 use Rattle.sm_names.specs.declared.keys.NodeKey.{NodeKey}
 use Rattle.sm_names.specs.Sameness.{same_key}

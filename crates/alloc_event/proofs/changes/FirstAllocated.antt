@@ -1,5 +1,5 @@
 -- A shelf that is put in the place of another with its id.
-use Rattle.std.proofs.Common.{◌≡◌, ◌≢◌, ℕ, ◌<◌, ◌==◌, nat_lt, refl, ap, ◌∙◌, true, false, ◌&&◌, ◌||◌, inl, inr, List, [], ◌∷◌, ◌++◌, map, Some, arith}
+use Rattle.std.proofs.Common.{◌≡◌, ◌≢◌, ℕ, ◌<◌, ◌==◌, nat_lt, refl, ap, ◌∙◌, true, false, inl, inr, List, [], ◌∷◌, map, Some, arith}
 use Rattle.std.proofs.lemmas.Bool.{eq-eqb, eqb-false, eqb-true, le-ltb}
 use Rattle.std.specs.List.{AllByRecursion, find}
 use Rattle.sm_names.proofs.ListLaws.{In, In-find, map-In}

@@ -1,5 +1,5 @@
 -- One collection that changed with the steps that follow, among the others that stay.
-use Rattle.std.proofs.Common.{◌≡◌, ◌≢◌, ◌<◌, ◌==◌, nat_lt, refl, ◌∙◌, false, inl, inr, List, [], ◌∷◌, map, Some, arith}
+use Rattle.std.proofs.Common.{◌≡◌, ◌≢◌, ◌<◌, ◌==◌, nat_lt, refl, false, inl, inr, List, [], ◌∷◌, map, Some, arith}
 use Rattle.std.proofs.lemmas.Bool.{eqb-false, eqb-true, le-ltb}
 use Rattle.std.specs.List.{find}
 use Rattle.sm_names.proofs.ListLaws.{In, In-find, map-In}

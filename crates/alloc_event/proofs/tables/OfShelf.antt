@@ -1,5 +1,5 @@
 -- The nodes of a collection that is kept, in the table.
-use Rattle.std.proofs.Common.{◌≡◌, ◌==◌, ◌∙◌, false, ◌&&◌, ◌||◌, ◌⊎◌, List, [], ◌∷◌, Some}
+use Rattle.std.proofs.Common.{◌≡◌, ◌==◌, false, List, Some}
 use Rattle.std.specs.List.{find}
 use Rattle.sm_names.proofs.ListLaws.{In}
 use Rattle.node_table.specs.Table.{Table, node_at, parent_at}

@@ -1,5 +1,5 @@
 -- The nodes of a collection stand as its keys do, each behind its parent and the head of its parent's unit.
-use Rattle.std.proofs.Common.{◌≡◌, ℕ, zero, suc, ◌<◌, ◌==◌, refl, ap, sym, ◌∙◌, subst, Bool, true, false, ◌||◌, inl, inr, is_none, List, [], ◌∷◌, Option, Some, None, option_map, arith, not, ◌&&◌, ◌+◌, if◌then◌else◌, ◌++◌, ◌⊎◌}
+use Rattle.std.proofs.Common.{◌≡◌, ℕ, zero, suc, ◌<◌, ◌==◌, refl, ap, sym, ◌∙◌, subst, Bool, true, false, ◌||◌, inl, inr, is_none, List, [], ◌∷◌, Option, Some, None, option_map, arith, not}
 use Rattle.std.specs.List.{cons_option, find, list_all, slice_get, list_any}
 use Rattle.std.specs.Option.{option_map_or}
 use Rattle.sm_names.specs.declared.keys.NodeKey.{NodeKey}

@@ -1,5 +1,5 @@
 -- An effect that is made in its place, whatever it forces: only its node's unit may be held by nothing then, or come to its turn.
-use Rattle.std.proofs.Common.{◌≡◌, ◌≢◌, ℕ, ◌+◌, ◌<◌, nat_lt, ◌==◌, is_none, refl, ap, sym, ◌∙◌, subst, Bool, true, false, not, ◌&&◌, ◌||◌, ◌⊎◌, inl, inr, IsSome, List, [], ◌∷◌, map, length, set, Option, Some, None}
+use Rattle.std.proofs.Common.{◌≡◌, ℕ, ◌+◌, ◌<◌, nat_lt, ◌==◌, is_none, refl, ap, sym, ◌∙◌, subst, Bool, true, false, not, ◌&&◌, ◌||◌, inl, inr, IsSome, List, [], ◌∷◌, map, length, set, Option, Some, None}
 use Rattle.std.proofs.lemmas.Bool.{eq-eqb, ltb-true}
 use Rattle.std.proofs.lemmas.List.{length-set}
 use Rattle.std.specs.List.{find, list_all, list_any}
@@ -35,7 +35,7 @@ use Rattle.alloc_event.specs.Units.{is_head}
 use Rattle.alloc_event.proofs.calm.Calming.{any_map, calm_none, later}
 use Rattle.alloc_event.proofs.calm.Steps.{all-In}
 use Rattle.alloc_event.proofs.changes.Altering.{found_whole, same_affected}
-use Rattle.alloc_event.proofs.changes.Effecting.{alone, alone_affected, at_key, beside_same, has_one, head, kept_now, look, nodes_now, on, remains_affected, same, stays_one, units_join, whole}
+use Rattle.alloc_event.proofs.changes.Effecting.{alone, alone_affected, at_key, beside_same, has_one, head, kept_now, look, nodes_now, on, remains_affected, same, stays_one, units_join}
 use Rattle.alloc_event.proofs.shelves.Showing.{node_is}
 use Rattle.alloc_event.proofs.tables.Rooted.{distinct_one}
 use Rattle.alloc_event.proofs.tables.Writing.{IsSameNode, look-changed, parents-written}

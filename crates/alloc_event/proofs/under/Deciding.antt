@@ -32,7 +32,7 @@ use Rattle.alloc_event.proofs.calm.Watched.{strong_lives}
 use Rattle.alloc_event.proofs.changes.Altering.{found_filed}
 use Rattle.alloc_event.proofs.serves.Allocated.{AreCalm, losing}
 use Rattle.alloc_event.proofs.tallies.Holding.{none_deserted}
-use Rattle.alloc_event.proofs.under.Turns.{head, head_key, is_first, whole}
+use Rattle.alloc_event.proofs.under.Turns.{head_key, is_first, whole}
 
 -- ---- the root is not lost
 

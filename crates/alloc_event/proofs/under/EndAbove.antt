@@ -1,5 +1,5 @@
 -- Where nothing holds a unit, the counts tell how far up nothing but the unit below holds one, and the highest of those ends.
-use Rattle.std.proofs.Common.{◌≡◌, ℕ, zero, suc, ◌<◌, ◌≤◌, nat_lt, refl, ap, sym, ◌∙◌, subst, Bool, true, false, not, ◌&&◌, ◌||◌, ◌==◌, is_some, inl, inr, List, [], ◌∷◌, ◌++◌, map, length, reverse, Option, Some, None, option_map, arith}
+use Rattle.std.proofs.Common.{◌≡◌, ℕ, zero, suc, ◌≤◌, nat_lt, refl, ap, sym, ◌∙◌, subst, Bool, true, false, not, ◌&&◌, ◌||◌, ◌==◌, is_some, inl, inr, List, [], ◌∷◌, ◌++◌, map, length, reverse, Option, Some, None, option_map, arith}
 use Rattle.std.proofs.lemmas.Bool.{eq-eqb, eqb-true, ltb-false, not-true}
 use Rattle.std.proofs.lemmas.List.{length-append, length-reverse}
 use Rattle.std.specs.List.{cons_option, find, list_any}

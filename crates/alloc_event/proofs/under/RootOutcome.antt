@@ -1,5 +1,5 @@
 -- The root's unit comes to its allocation by an effect, and all that follows is made: the forest then.
-use Rattle.std.proofs.Common.{◌≡◌, ◌≤◌, ℕ, ◌==◌, refl, ap, sym, ◌∙◌, subst, true, false, not, ◌&&◌, inl, inr, List, [], ◌∷◌, ◌++◌, map, get_or, set, Option, Some, None, option_map}
+use Rattle.std.proofs.Common.{◌≡◌, ℕ, ◌==◌, refl, ap, sym, ◌∙◌, subst, true, false, not, ◌&&◌, inl, inr, List, [], ◌∷◌, ◌++◌, map, get_or, set, Option, Some, None, option_map}
 use Rattle.std.proofs.lemmas.Bool.{eqb-true, not-true}
 use Rattle.std.proofs.lemmas.List.{get_or-set_same}
 use Rattle.std.specs.List.{find, list_any, sum_by}

@@ -1,5 +1,5 @@
 -- The node is written, and its unit counted.
-use Rattle.std.proofs.Common.{◌≡◌, ◌+◌, ◌<◌, ℕ, false, length, [], ◌∷◌, List, map, Some, refl, sym, ap, subst, ◌∙◌}
+use Rattle.std.proofs.Common.{◌≡◌, ◌+◌, ◌<◌, ℕ, false, length, List, map, Some, refl, sym, ap, subst, ◌∙◌}
 use Rattle.sm_names.specs.declared.keys.NodeKey.{NodeKey}
 use Rattle.sm_names.specs.Words.{times}
 use Rattle.node_table.specs.Changes.{Writes}

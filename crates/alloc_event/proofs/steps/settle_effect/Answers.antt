@@ -1,5 +1,5 @@
 -- The root's unit waits for its buffers only where it is allocated or refused first.
-use Rattle.std.proofs.Common.{◌≡◌, ◌==◌, [], List, Some, Ok, true, false, ap, subst, ◌∙◌}
+use Rattle.std.proofs.Common.{◌≡◌, ◌==◌, [], List, Some, Ok, true, ap, subst, ◌∙◌}
 use Rattle.std.specs.List.{find}
 use Rattle.node_table.specs.Table.{Table}
 use Rattle.alloc_event.specs.declared.change.Change.{Change}

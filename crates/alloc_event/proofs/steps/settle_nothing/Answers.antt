@@ -1,5 +1,5 @@
 -- The collection is closed.
-use Rattle.std.proofs.Common.{◌≡◌, ◌<◌, List, Some, refl, sym, ◌∙◌, arith}
+use Rattle.std.proofs.Common.{◌≡◌, List, Some, refl, sym, ◌∙◌}
 use Rattle.buffer_holds.specs.Counts.{total}
 use Rattle.alloc_event.specs.declared.change.Change.{Change}
 use Rattle.alloc_event.specs.declared.entry.Entry.{Entry}
