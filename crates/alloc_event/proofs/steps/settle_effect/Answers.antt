@@ -24,5 +24,6 @@ settle_played-requires-clause-waits c e found held =
     let same = c.allocate_root.ensures.outcome.unchanged (ap was_made none) in
     let nodes = ap (λ (t : Table Node). after_effect c.args.key c.args.effect.now (nodes_with t e.keys.items)) same.table in
     ap waiting nodes
-    ∙ c.allocate_root.ensures.waits none e (subst (λ (es : List Entry). find (λ (x : Entry). x.id == c.args.id) es ≡ Some e) same.entries found)
+    ∙ c.allocate_root.ensures.waits none e (subst (λ (es : List Entry). find (λ (x : Entry). x.id == c.args.id) es ≡ Some e) same.entries
+    found)
     (subst (λ (ns : List Node). are_held_but [] ns ≡ true) nodes held)

@@ -41,12 +41,14 @@ close-requires-clause-may c =
     let is = c.index_mut.ensures.value in
     let change : Change = Change.Loss c.args.fault.origin c.args.fault.cause in
     let under = begins handles t us es c.args.id c.in-Some.at e told is change c.requires.ready refl in
-    let played : IsPlayedFrom handles (after_loss c.args.fault (nodes_with t e.keys.items)) t c.play_loss.new.table c.play_loss.new.units.items (shelves_of es) e
+    let played : IsPlayedFrom handles (after_loss c.args.fault (nodes_with t e.keys.items)) t c.play_loss.new.table
+    c.play_loss.new.units.items (shelves_of es) e
     c.play_loss.new.entry =
     c.play_loss.ensures.out (shelves_of es) under
     (loss_left t (shelves_of es) c.requires.ready.kept c.args.id change c.requires.ready.change (shelf_of e)
     (shelf_here es c.args.id c.in-Some.at e told is)) in
-    may_play handles t us es c.args.id c.in-Some.at e told is change c.requires.ready refl (after_loss c.args.fault (nodes_with t e.keys.items)) refl
+    may_play handles t us es c.args.id c.in-Some.at e told is change c.requires.ready refl (after_loss c.args.fault (nodes_with t
+    e.keys.items)) refl
     c.play_loss.new.table c.play_loss.new.units.items c.play_loss.new.entry played
 
 pub close-requires-clause-pool : goal.close-requires-clause-pool
@@ -61,12 +63,14 @@ close-requires-clause-pool c =
     let is = c.index_mut.ensures.value in
     let change : Change = Change.Loss c.args.fault.origin c.args.fault.cause in
     let under = begins handles t us es c.args.id c.in-Some.at e told is change c.requires.ready refl in
-    let played : IsPlayedFrom handles (after_loss c.args.fault (nodes_with t e.keys.items)) t c.play_loss.new.table c.play_loss.new.units.items (shelves_of es) e
+    let played : IsPlayedFrom handles (after_loss c.args.fault (nodes_with t e.keys.items)) t c.play_loss.new.table
+    c.play_loss.new.units.items (shelves_of es) e
     c.play_loss.new.entry =
     c.play_loss.ensures.out (shelves_of es) under
     (loss_left t (shelves_of es) c.requires.ready.kept c.args.id change c.requires.ready.change (shelf_of e)
     (shelf_here es c.args.id c.in-Some.at e told is)) in
-    pool_played handles t us es c.args.id c.in-Some.at e told is change c.requires.ready refl (after_loss c.args.fault (nodes_with t e.keys.items)) refl
+    pool_played handles t us es c.args.id c.in-Some.at e told is change c.requires.ready refl (after_loss c.args.fault (nodes_with t
+    e.keys.items)) refl
     c.play_loss.new.table c.play_loss.new.units.items c.play_loss.new.entry played c.args.pool.now c.requires.pool
 
 pub returns-clause-outcome : goal.returns-clause-outcome
@@ -81,14 +85,17 @@ returns-clause-outcome c =
     let is = c.index_mut.ensures.value in
     let change : Change = Change.Loss c.args.fault.origin c.args.fault.cause in
     let under = begins handles t us es c.args.id c.in-Some.at e told is change c.requires.ready refl in
-    let played : IsPlayedFrom handles (after_loss c.args.fault (nodes_with t e.keys.items)) t c.play_loss.new.table c.play_loss.new.units.items (shelves_of es) e
+    let played : IsPlayedFrom handles (after_loss c.args.fault (nodes_with t e.keys.items)) t c.play_loss.new.table
+    c.play_loss.new.units.items (shelves_of es) e
     c.play_loss.new.entry =
     c.play_loss.ensures.out (shelves_of es) under
     (loss_left t (shelves_of es) c.requires.ready.kept c.args.id change c.requires.ready.change (shelf_of e)
     (shelf_here es c.args.id c.in-Some.at e told is)) in
-    outcome_played handles t us es c.args.id c.in-Some.at e told is change c.requires.ready refl (after_loss c.args.fault (nodes_with t e.keys.items)) refl
+    outcome_played handles t us es c.args.id c.in-Some.at e told is change c.requires.ready refl (after_loss c.args.fault (nodes_with t
+    e.keys.items)) refl
     c.play_loss.new.table c.play_loss.new.units.items c.play_loss.new.entry played c.args.pool.now c.close.new.pool c.close.new.table
-    c.close.new.entries.items c.close.new.units.items (c.close.ensures.closes c.args.id (placed_played handles t us es c.args.id c.in-Some.at e told is change c.requires.ready refl (after_loss c.args.fault (nodes_with t e.keys.items)) refl
+    c.close.new.entries.items c.close.new.units.items (c.close.ensures.closes c.args.id (placed_played handles t us es c.args.id
+    c.in-Some.at e told is change c.requires.ready refl (after_loss c.args.fault (nodes_with t e.keys.items)) refl
     c.play_loss.new.table c.play_loss.new.units.items c.play_loss.new.entry played)) c.close.ensures.size
 
 pub returns-clause-units : goal.returns-clause-units
@@ -103,10 +110,12 @@ returns-clause-units c =
     let is = c.index_mut.ensures.value in
     let change : Change = Change.Loss c.args.fault.origin c.args.fault.cause in
     let under = begins handles t us es c.args.id c.in-Some.at e told is change c.requires.ready refl in
-    let played : IsPlayedFrom handles (after_loss c.args.fault (nodes_with t e.keys.items)) t c.play_loss.new.table c.play_loss.new.units.items (shelves_of es) e
+    let played : IsPlayedFrom handles (after_loss c.args.fault (nodes_with t e.keys.items)) t c.play_loss.new.table
+    c.play_loss.new.units.items (shelves_of es) e
     c.play_loss.new.entry =
     c.play_loss.ensures.out (shelves_of es) under
     (loss_left t (shelves_of es) c.requires.ready.kept c.args.id change c.requires.ready.change (shelf_of e)
     (shelf_here es c.args.id c.in-Some.at e told is)) in
-    (c.close.ensures.closes c.args.id (placed_played handles t us es c.args.id c.in-Some.at e told is change c.requires.ready refl (after_loss c.args.fault (nodes_with t e.keys.items)) refl
+    (c.close.ensures.closes c.args.id (placed_played handles t us es c.args.id c.in-Some.at e told is change c.requires.ready refl
+    (after_loss c.args.fault (nodes_with t e.keys.items)) refl
     c.play_loss.new.table c.play_loss.new.units.items c.play_loss.new.entry played)).units

@@ -34,7 +34,8 @@ returns-clause-outcome c =
     let us : List Unit = c.args.units.now.items in
     let es : List Entry = c.args.entries.now.items in
     let e = entry_there es c.in-Some.at ((place_is c.args.id es c.in-Some.at told).within) in
-    outcome_closed handles t us es c.args.id c.in-Some.at e.0 told e.1 Change.Nothing c.requires.ready refl refl c.args.pool.now c.close.new.pool c.close.new.table c.close.new.entries.items c.close.new.units.items
+    outcome_closed handles t us es c.args.id c.in-Some.at e.0 told e.1 Change.Nothing c.requires.ready refl refl c.args.pool.now
+    c.close.new.pool c.close.new.table c.close.new.entries.items c.close.new.units.items
     (c.close.ensures.closes c.args.id told) c.close.ensures.size
 
 pub returns-clause-units : goal.returns-clause-units

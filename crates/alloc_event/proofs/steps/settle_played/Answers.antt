@@ -49,11 +49,13 @@ close-requires-clause-may c =
     let under = begins handles t us es c.args.id c.in-Some.at e told is change c.requires.ready refl in
     let there = node_there t (shelves_of es) c.requires.ready.kept c.args.id c.args.key c.requires.ready.change.named in
     let own = own_id handles t us es c.args.id c.in-Some.at e told is change c.requires.ready refl in
-    let played : IsPlayedFrom handles (after_effect c.args.key c.args.effect.now (nodes_with t e.keys.items)) t c.play_effect.new.table c.play_effect.new.units.items (shelves_of es) e
+    let played : IsPlayedFrom handles (after_effect c.args.key c.args.effect.now (nodes_with t e.keys.items)) t c.play_effect.new.table
+    c.play_effect.new.units.items (shelves_of es) e
     c.play_effect.new.entry =
     c.play_effect.ensures.out (shelves_of es) there.0 there.1 there.2 (there.3 ∙ sym own) under
     (c.requires.waits e ((place_is c.args.id es c.in-Some.at told).found e ∙ ap Some (sym is))) in
-    may_play handles t us es c.args.id c.in-Some.at e told is change c.requires.ready refl (after_effect c.args.key c.args.effect.now (nodes_with t e.keys.items)) refl
+    may_play handles t us es c.args.id c.in-Some.at e told is change c.requires.ready refl (after_effect c.args.key c.args.effect.now
+    (nodes_with t e.keys.items)) refl
     c.play_effect.new.table c.play_effect.new.units.items c.play_effect.new.entry played
 
 pub close-requires-clause-pool : goal.close-requires-clause-pool
@@ -70,11 +72,13 @@ close-requires-clause-pool c =
     let under = begins handles t us es c.args.id c.in-Some.at e told is change c.requires.ready refl in
     let there = node_there t (shelves_of es) c.requires.ready.kept c.args.id c.args.key c.requires.ready.change.named in
     let own = own_id handles t us es c.args.id c.in-Some.at e told is change c.requires.ready refl in
-    let played : IsPlayedFrom handles (after_effect c.args.key c.args.effect.now (nodes_with t e.keys.items)) t c.play_effect.new.table c.play_effect.new.units.items (shelves_of es) e
+    let played : IsPlayedFrom handles (after_effect c.args.key c.args.effect.now (nodes_with t e.keys.items)) t c.play_effect.new.table
+    c.play_effect.new.units.items (shelves_of es) e
     c.play_effect.new.entry =
     c.play_effect.ensures.out (shelves_of es) there.0 there.1 there.2 (there.3 ∙ sym own) under
     (c.requires.waits e ((place_is c.args.id es c.in-Some.at told).found e ∙ ap Some (sym is))) in
-    pool_played handles t us es c.args.id c.in-Some.at e told is change c.requires.ready refl (after_effect c.args.key c.args.effect.now (nodes_with t e.keys.items)) refl
+    pool_played handles t us es c.args.id c.in-Some.at e told is change c.requires.ready refl (after_effect c.args.key c.args.effect.now
+    (nodes_with t e.keys.items)) refl
     c.play_effect.new.table c.play_effect.new.units.items c.play_effect.new.entry played c.args.pool.now c.requires.pool
 
 pub returns-clause-outcome : goal.returns-clause-outcome
@@ -91,13 +95,16 @@ returns-clause-outcome c =
     let under = begins handles t us es c.args.id c.in-Some.at e told is change c.requires.ready refl in
     let there = node_there t (shelves_of es) c.requires.ready.kept c.args.id c.args.key c.requires.ready.change.named in
     let own = own_id handles t us es c.args.id c.in-Some.at e told is change c.requires.ready refl in
-    let played : IsPlayedFrom handles (after_effect c.args.key c.args.effect.now (nodes_with t e.keys.items)) t c.play_effect.new.table c.play_effect.new.units.items (shelves_of es) e
+    let played : IsPlayedFrom handles (after_effect c.args.key c.args.effect.now (nodes_with t e.keys.items)) t c.play_effect.new.table
+    c.play_effect.new.units.items (shelves_of es) e
     c.play_effect.new.entry =
     c.play_effect.ensures.out (shelves_of es) there.0 there.1 there.2 (there.3 ∙ sym own) under
     (c.requires.waits e ((place_is c.args.id es c.in-Some.at told).found e ∙ ap Some (sym is))) in
-    outcome_played handles t us es c.args.id c.in-Some.at e told is change c.requires.ready refl (after_effect c.args.key c.args.effect.now (nodes_with t e.keys.items)) refl
+    outcome_played handles t us es c.args.id c.in-Some.at e told is change c.requires.ready refl (after_effect c.args.key
+    c.args.effect.now (nodes_with t e.keys.items)) refl
     c.play_effect.new.table c.play_effect.new.units.items c.play_effect.new.entry played c.args.pool.now c.close.new.pool c.close.new.table
-    c.close.new.entries.items c.close.new.units.items (c.close.ensures.closes c.args.id (placed_played handles t us es c.args.id c.in-Some.at e told is change c.requires.ready refl (after_effect c.args.key c.args.effect.now (nodes_with t e.keys.items)) refl
+    c.close.new.entries.items c.close.new.units.items (c.close.ensures.closes c.args.id (placed_played handles t us es c.args.id
+    c.in-Some.at e told is change c.requires.ready refl (after_effect c.args.key c.args.effect.now (nodes_with t e.keys.items)) refl
     c.play_effect.new.table c.play_effect.new.units.items c.play_effect.new.entry played)) c.close.ensures.size
 
 pub returns-clause-units : goal.returns-clause-units
@@ -114,9 +121,11 @@ returns-clause-units c =
     let under = begins handles t us es c.args.id c.in-Some.at e told is change c.requires.ready refl in
     let there = node_there t (shelves_of es) c.requires.ready.kept c.args.id c.args.key c.requires.ready.change.named in
     let own = own_id handles t us es c.args.id c.in-Some.at e told is change c.requires.ready refl in
-    let played : IsPlayedFrom handles (after_effect c.args.key c.args.effect.now (nodes_with t e.keys.items)) t c.play_effect.new.table c.play_effect.new.units.items (shelves_of es) e
+    let played : IsPlayedFrom handles (after_effect c.args.key c.args.effect.now (nodes_with t e.keys.items)) t c.play_effect.new.table
+    c.play_effect.new.units.items (shelves_of es) e
     c.play_effect.new.entry =
     c.play_effect.ensures.out (shelves_of es) there.0 there.1 there.2 (there.3 ∙ sym own) under
     (c.requires.waits e ((place_is c.args.id es c.in-Some.at told).found e ∙ ap Some (sym is))) in
-    (c.close.ensures.closes c.args.id (placed_played handles t us es c.args.id c.in-Some.at e told is change c.requires.ready refl (after_effect c.args.key c.args.effect.now (nodes_with t e.keys.items)) refl
+    (c.close.ensures.closes c.args.id (placed_played handles t us es c.args.id c.in-Some.at e told is change c.requires.ready refl
+    (after_effect c.args.key c.args.effect.now (nodes_with t e.keys.items)) refl
     c.play_effect.new.table c.play_effect.new.units.items c.play_effect.new.entry played)).units
