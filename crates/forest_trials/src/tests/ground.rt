@@ -6,15 +6,12 @@ ghost use Rattle.alloc_event.specs.Settling.{MayChange, has_collection, is_there
 ghost use Rattle.forest_trials.specs.declared.tests.ground.TheConstants.{LIMIT};
 
 use alloc_event::change::{Change, Effect};
-use alloc_event::effects::effect_of;
 use alloc_event::forest::Forest;
 use alloc_event::node::Node;
 use alloc_event::summary::Summary;
 use buffer_holds::Holds;
 use buffer_pool::Pool;
-use sm_names::{
-    BufferName, Call, Cause, CollectionId, Constraints, NoMemory, NodeKey, Reply, Strength,
-};
+use sm_names::{Cause, CollectionId, NoMemory, NodeKey};
 use std::alloc::Global;
 use std::test::Fail;
 
@@ -42,14 +39,6 @@ pub struct View {
     here: Option<Summary>,
     first: [Option<Node>; 4],
     free_pages: u32,
-}
-
-// The collection's buffer with this index.
-fn buffer(index: u8) -> BufferName {
-    BufferName {
-        collection: HERE,
-        index,
-    }
 }
 
 // Whether the effect is one more tracker of the node.
@@ -176,92 +165,10 @@ impl Ground {
         }
     }
 
-    // The call takes effect, and was answered Done.
-    fn settle_done(&mut self, call: Call) -> Result<(), Fail> {
-        match effect_of(&call, &Reply::Done) {
-            Some(effect) => {
-                self.change(effect)?;
-                Ok(())
-            }
-            None => Err(Fail::from("a call without an effect")),
-        }
-    }
-
-    /// The node asks for this.
-    pub fn ask(&mut self, key: NodeKey, asked: Constraints) -> Result<(), Fail> {
-        self.settle_done(Call::SetConstraints(key, asked))
-    }
-
-    /// The node is released.
-    pub fn release(&mut self, key: NodeKey) -> Result<(), Fail> {
-        self.settle_done(Call::Release(key))
-    }
-
-    /// The node's failure goes no further up, once its unit has its buffers.
-    pub fn make_dispensable(&mut self, key: NodeKey) -> Result<(), Fail> {
-        self.settle_done(Call::SetDispensable(key))
-    }
-
-    /// The node is weak.
-    pub fn weaken(&mut self, key: NodeKey) -> Result<(), Fail> {
-        self.settle_done(Call::SetWeak(key))
-    }
-
-    /// The node may take weak handles.
-    pub fn allow_weak(&mut self, key: NodeKey) -> Result<(), Fail> {
-        self.settle_done(Call::SetWeakOk(key, false))
-    }
-
     /// The node fails.
     pub fn lose(&mut self, key: NodeKey) -> Result<(), Fail> {
         self.change(Change::Loss(key, Cause::Lost))?;
         Ok(())
-    }
-
-    /// Only handles changed.
-    pub fn look_again(&mut self) -> Result<(), Fail> {
-        self.change(Change::Nothing)?;
-        Ok(())
-    }
-
-    // Client 3 opens such a handle of the collection's buffer with this index.
-    fn open_as(&mut self, index: u8, strength: Strength) -> Result<(), Fail> {
-        for _ in 0..2 {
-            if let Ok(()) = self.holds.add(3, buffer(index), strength) {
-                return Ok(());
-            }
-        }
-        Err(Fail::from("no handle"))
-    }
-
-    /// Client 3 opens a strong handle of the collection's buffer with this index.
-    pub fn open_at(&mut self, index: u8) -> Result<(), Fail> {
-        self.open_as(index, Strength::Strong)
-    }
-
-    /// And closes it.
-    pub fn close_at(&mut self, index: u8) -> bool {
-        self.holds.sub(3, buffer(index), Strength::Strong)
-    }
-
-    /// A strong handle of the first buffer.
-    pub fn open(&mut self) -> Result<(), Fail> {
-        self.open_at(0)
-    }
-
-    /// And closes it.
-    pub fn close(&mut self) -> bool {
-        self.close_at(0)
-    }
-
-    /// A weak one.
-    pub fn open_weak(&mut self) -> Result<(), Fail> {
-        self.open_as(0, Strength::Weak)
-    }
-
-    /// And closes it.
-    pub fn close_weak(&mut self) -> bool {
-        self.holds.sub(3, buffer(0), Strength::Weak)
     }
 
     /// The forest.
@@ -272,10 +179,5 @@ impl Ground {
     /// The forest, out of its ground.
     pub fn into_forest(self) -> Forest {
         self.forest
-    }
-
-    /// How many pages are free.
-    pub fn free_pages(&self) -> u32 {
-        self.pool.free_pages()
     }
 }

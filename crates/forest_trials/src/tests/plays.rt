@@ -16,21 +16,6 @@ pub fn on_ground<T: Drop, F: FnOnce(Global, &mut Ground) -> Result<T, Fail>>(
     play(alloc, &mut ground)
 }
 
-/// Makes a root with what is below it, and plays on that.
-pub fn on_root<
-    T: Drop,
-    M: FnOnce(Global, &mut Ground) -> Result<NodeKey, Fail>,
-    F: FnOnce(&mut Ground, NodeKey) -> Result<T, Fail>,
->(alloc: Global, make: M, play: F) -> Result<T, Fail>
-    requires make { M.IsAlwaysCallable make }
-    requires play { F.IsAlwaysCallable play }
-{
-    on_ground(alloc, |alloc, ground| {
-        let root = make(alloc, ground)?;
-        play(ground, root)
-    })
-}
-
 /// Plays on an empty ground, and then on its forest, with what the play answered.
 pub fn on_forest<
     K: Drop,
@@ -74,51 +59,4 @@ pub fn family(
     keys.push(root)?;
     bear_each(ground, &mut keys, root, children, attached)?;
     Ok(keys)
-}
-
-/// Plays on a family.
-pub fn on_family<T: Drop, F: FnOnce(&mut Ground, &[NodeKey]) -> Result<T, Fail>>(
-    alloc: Global,
-    children: usize,
-    attached: bool,
-    play: F,
-) -> Result<T, Fail>
-    requires { F.IsAlwaysCallable play }
-{
-    on_ground(alloc, |alloc, ground| {
-        let keys = family(alloc, ground, children, attached)?;
-        play(ground, &keys)
-    })
-}
-
-/// So many nodes, each below the one before, of one unit or each of a unit of its own.
-pub fn chain(
-    alloc: Global,
-    ground: &mut Ground,
-    nodes: usize,
-    attached: bool,
-) -> Result<Vec<NodeKey>, Fail> {
-    let mut keys = Vec::new(alloc);
-    let mut above = None;
-    for _ in 0..nodes {
-        let key = ground.bear(above, attached && above.is_some())?;
-        keys.push(key)?;
-        above = Some(key);
-    }
-    Ok(keys)
-}
-
-/// Plays on a chain.
-pub fn on_chain<T: Drop, F: FnOnce(&mut Ground, &[NodeKey]) -> Result<T, Fail>>(
-    alloc: Global,
-    nodes: usize,
-    attached: bool,
-    play: F,
-) -> Result<T, Fail>
-    requires { F.IsAlwaysCallable play }
-{
-    on_ground(alloc, |alloc, ground| {
-        let keys = chain(alloc, ground, nodes, attached)?;
-        play(ground, &keys)
-    })
 }

@@ -1,0 +1,273 @@
+//! The lines of a tree. Nodes are called by their numbers, in the order in which they are born.
+use crate::ground::Ground;
+use crate::texts::{count_text, node_text, pool_text, tally_of, turn_text};
+use sm_names::{Constraints, NodeKey};
+use std::alloc::Global;
+use std::test::Fail;
+
+/// A ground, and the keys of the nodes that were born on it.
+#[derive(Drop)]
+pub struct Player {
+    ground: Ground,
+    keys: Vec<NodeKey>,
+}
+
+fn demand(camping: &str, at_least: &str, size: &str) -> Result<Constraints, Fail> {
+    match Constraints::new(camping.parse()?, at_least.parse()?, size.parse()?) {
+        Some(demand) => Ok(demand),
+        None => Err(Fail::from("a number is out of its range")),
+    }
+}
+
+fn key_of(keys: &[NodeKey], number: &str) -> Result<NodeKey, Fail> {
+    let at: usize = number.parse()?;
+    match keys.get(at) {
+        Some(key) => Ok(*key),
+        None => Err(Fail::from("no such node")),
+    }
+}
+
+// The keys of the nodes from this number to that one, which may be the lesser.
+fn keys_of(alloc: Global, keys: &[NodeKey], first: &str, last: &str) -> Result<Vec<NodeKey>, Fail> {
+    let (first, last): (usize, usize) = (first.parse()?, last.parse()?);
+    let mut found = Vec::new(alloc);
+    match keys.get(first.min(last)..=first.max(last)) {
+        Some(some) => found.extend_from_slice(some)?,
+        None => return Err(Fail::from("no such nodes")),
+    }
+    if last < first {
+        found.reverse();
+    }
+    Ok(found)
+}
+
+// So many nodes below one, each beside the one before, or below it; of one unit, or each of its own.
+fn bear_each(
+    ground: &mut Ground,
+    keys: &mut Vec<NodeKey>,
+    parent: NodeKey,
+    count: &str,
+    attached: bool,
+    deep: bool,
+) -> Result<(), Fail> {
+    let count: usize = count.parse()?;
+    let mut above = parent;
+    for _ in 0..count {
+        let key = ground.bear(Some(above), attached)?;
+        keys.push(key)?;
+        if deep {
+            above = key;
+        }
+    }
+    Ok(())
+}
+
+// So many units of two nodes below one.
+fn bear_pairs(
+    ground: &mut Ground,
+    keys: &mut Vec<NodeKey>,
+    parent: NodeKey,
+    count: &str,
+) -> Result<(), Fail> {
+    let count: usize = count.parse()?;
+    for _ in 0..count {
+        let head = ground.bear(Some(parent), true)?;
+        keys.push(head)?;
+        let child = ground.bear(Some(head), false)?;
+        keys.push(child)?;
+    }
+    Ok(())
+}
+
+/// What is done with a node.
+#[derive(Clone, Copy)]
+enum Act {
+    Ask(Constraints),
+    Release,
+    Lose,
+    Weaken,
+    AllowWeak,
+    MakeDispensable,
+    BearBelow,
+}
+
+// What these words ask for.
+fn act_of(words: &[&str]) -> Result<Act, Fail> {
+    match *words {
+        ["ask", _, _, camping, at_least, size] => Ok(Act::Ask(demand(camping, at_least, size)?)),
+        ["release", _, _] => Ok(Act::Release),
+        ["lose", _, _] => Ok(Act::Lose),
+        ["weaken", _, _] => Ok(Act::Weaken),
+        ["allowweak", _, _] => Ok(Act::AllowWeak),
+        ["dispensable", _, _] => Ok(Act::MakeDispensable),
+        ["below", _, _] => Ok(Act::BearBelow),
+        _ => Err(Fail::from("a line that says nothing")),
+    }
+}
+
+fn act_on(
+    ground: &mut Ground,
+    keys: &mut Vec<NodeKey>,
+    key: NodeKey,
+    act: &Act,
+) -> Result<(), Fail> {
+    match *act {
+        Act::Ask(asked) => ground.ask(key, asked),
+        Act::Release => ground.release(key),
+        Act::Lose => ground.lose(key),
+        Act::Weaken => ground.weaken(key),
+        Act::AllowWeak => ground.allow_weak(key),
+        Act::MakeDispensable => ground.make_dispensable(key),
+        Act::BearBelow => {
+            let below = ground.bear(Some(key), false)?;
+            keys.push(below)?;
+            Ok(())
+        }
+    }
+}
+
+fn act_on_each(
+    ground: &mut Ground,
+    keys: &mut Vec<NodeKey>,
+    these: &[NodeKey],
+    act: &Act,
+) -> Result<(), Fail> {
+    for key in these {
+        act_on(ground, keys, *key, act)?;
+    }
+    Ok(())
+}
+
+// The same, and what each of them changed of the whole tree.
+fn act_in_turn(
+    alloc: Global,
+    ground: &mut Ground,
+    keys: &mut Vec<NodeKey>,
+    these: &[NodeKey],
+    act: &Act,
+) -> Result<String, Fail> {
+    let mut before = tally_of(ground.forest(), keys);
+    let mut changes = Vec::new(alloc);
+    for key in these {
+        act_on(ground, keys, *key, act)?;
+        let now = tally_of(ground.forest(), keys);
+        changes.push(now.less(before))?;
+        before = now;
+    }
+    turn_text(alloc, &changes)
+}
+
+// A handle is opened or closed.
+fn handle(ground: &mut Ground, words: &[&str]) -> Result<(), Fail> {
+    let is_there = match *words {
+        ["open", index] => {
+            ground.open_at(index.parse()?)?;
+            true
+        }
+        ["openweak"] => {
+            ground.open_weak()?;
+            true
+        }
+        ["close", index] => ground.close_at(index.parse()?),
+        ["closeweak"] => ground.close_weak(),
+        _ => return Err(Fail::from("a line that says nothing")),
+    };
+    if is_there {
+        Ok(())
+    } else {
+        Err(Fail::from("no handle to close"))
+    }
+}
+
+impl Player {
+    /// A player on an empty ground.
+    pub fn new(alloc: Global) -> Result<Player, Fail> {
+        Ok(Player {
+            ground: Ground::new(alloc)?,
+            keys: Vec::new(alloc),
+        })
+    }
+
+    fn begin(&mut self, alloc: Global) -> Result<(), Fail> {
+        self.ground = Ground::new(alloc)?;
+        self.keys.clear();
+        Ok(())
+    }
+
+    fn bear_root(&mut self) -> Result<(), Fail> {
+        let key = self.ground.bear(None, false)?;
+        self.keys.push(key)?;
+        Ok(())
+    }
+
+    fn bear(&mut self, how: &str, above: &str, count: &str) -> Result<(), Fail> {
+        let above = key_of(&self.keys, above)?;
+        if how == "pairs" {
+            return bear_pairs(&mut self.ground, &mut self.keys, above, count);
+        }
+        let (attached, deep) = (
+            how == "unit" || how == "chain",
+            how == "chain" || how == "line",
+        );
+        bear_each(
+            &mut self.ground,
+            &mut self.keys,
+            above,
+            count,
+            attached,
+            deep,
+        )
+    }
+
+    // Each of the nodes that are named is acted on.
+    fn act_on_all(&mut self, alloc: Global, words: &[&str]) -> Result<(), Fail> {
+        let act = act_of(words)?;
+        let [_, first, last, ..] = *words else {
+            return Err(Fail::from("no nodes"));
+        };
+        let these = keys_of(alloc, &self.keys, first, last)?;
+        act_on_each(&mut self.ground, &mut self.keys, &these, &act)
+    }
+
+    // The same, one by one.
+    fn act_one_by_one(&mut self, alloc: Global, words: &[&str]) -> Result<String, Fail> {
+        let act = act_of(words)?;
+        let [_, first, last, ..] = *words else {
+            return Err(Fail::from("no nodes"));
+        };
+        let these = keys_of(alloc, &self.keys, first, last)?;
+        act_in_turn(alloc, &mut self.ground, &mut self.keys, &these, &act)
+    }
+
+    // What the line asks to see.
+    fn see(&self, alloc: Global, words: &[&str]) -> Result<String, Fail> {
+        let forest = self.ground.forest();
+        match *words {
+            ["node", node] => node_text(alloc, forest, key_of(&self.keys, node)?),
+            ["count", first, last] => {
+                count_text(alloc, forest, &keys_of(alloc, &self.keys, first, last)?)
+            }
+            _ => pool_text(alloc, &self.ground),
+        }
+    }
+
+    /// Takes a line, which begins a tree, changes it, or asks what is seen.
+    pub fn take(&mut self, alloc: Global, words: &[&str]) -> Result<String, Fail> {
+        match *words {
+            ["node", ..] | ["count", ..] | ["pool"] => return self.see(alloc, words),
+            ["turn", ..] => {
+                return self.act_one_by_one(alloc, words.get(1..).unwrap_or(&[]));
+            }
+            [] => {}
+            ["tree", ..] => self.begin(alloc)?,
+            ["root"] => self.bear_root()?,
+            ["look"] => self.ground.look_again()?,
+            [how, above, count] if matches!(how, "child" | "unit" | "chain" | "line" | "pairs") => {
+                self.bear(how, above, count)?;
+            }
+            ["open" | "close", _] | ["openweak" | "closeweak"] => handle(&mut self.ground, words)?,
+            _ => self.act_on_all(alloc, words)?,
+        }
+        Ok(String::new(alloc))
+    }
+}
