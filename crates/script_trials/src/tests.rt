@@ -1,11 +1,5 @@
-//! What the contracts leave open: that the definitions say what is meant, and that scripts run.
-mod examples;
+//! What the rows of `script_rows` do not show: readers and writers that fail, and what is told at the end.
 mod exits;
 mod faults;
-mod firings;
 mod fixture;
-mod gifts;
-mod handles;
 mod lines;
-mod runs;
-mod worked;

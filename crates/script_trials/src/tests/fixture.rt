@@ -49,8 +49,3 @@ pub fn check(
     }
     Ok(())
 }
-
-/// Asserts what a script gives that runs to its end, with 16 pages and all limits full.
-pub fn check_all(rt: &impl Abort, alloc: Global, script: &str, replies: &str) -> Result<(), Fail> {
-    check(rt, alloc, 16, Limits::full(), script, replies, Ok(()))
-}
