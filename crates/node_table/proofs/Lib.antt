@@ -16,4 +16,5 @@ pub mod Cutting
 pub mod Joining
 pub mod Removals
 pub mod Writes
+pub mod Copies
 pub mod Listing

@@ -7,6 +7,7 @@ ghost use Rattle.node_table.specs.Sound.{HasEntry, Edits, LinksLast, Joins, entr
 
 use slab::Slab;
 use sm_names::NodeKey;
+use std::alloc::AllocError;
 use std::mem;
 
 /// What a slot that gave a key has.
@@ -217,5 +218,31 @@ pub(crate) fn take_entry<N>(slots: &mut Slab<Slot<N>>, slot: usize, is_retired: 
     match taken {
         Slot::Taken(entry) => entry,
         Slot::Retired => unreachable!(),
+    }
+}
+
+impl<N: Copy> Clone for Entry<N> {
+    ghost is_clone = { λ entry copy. copy ≡ entry };
+
+    fn clone(&self) -> Result<Self, AllocError> {
+        Ok(Entry {
+            parent: self.parent,
+            first: self.first,
+            last: self.last,
+            prev: self.prev,
+            next: self.next,
+            node: self.node,
+        })
+    }
+}
+
+impl<N: Copy> Clone for Slot<N> {
+    ghost is_clone = { λ slot copy. copy ≡ slot };
+
+    fn clone(&self) -> Result<Self, AllocError> {
+        match self {
+            Slot::Retired => Ok(Slot::Retired),
+            Slot::Taken(entry) => Ok(Slot::Taken(entry.clone()?)),
+        }
     }
 }

@@ -296,3 +296,25 @@ impl<N> NodeTable<N> {
         }
     }
 }
+
+impl<N: Copy> NodeTable<N> {
+    /// A table with the same nodes, links and given keys. It costs the number of slots.
+    /// Where it gets no memory, it answers `NoMemory`.
+    pub fn copy(&self) -> Result<Self, NoMemory>
+        ensures { IfOk result (λ table. table ≡ self.now) }
+    {
+        let Ok(slots) = self.slots.clone() else {
+            return Err(NoMemory);
+        };
+        let Ok(nexts) = self.nexts.clone() else {
+            return Err(NoMemory);
+        };
+        Ok(NodeTable {
+            slots,
+            nexts,
+            count: self.count,
+            limit: self.limit,
+            first: self.first,
+        })
+    }
+}

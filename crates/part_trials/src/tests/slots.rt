@@ -96,11 +96,17 @@ fn cuts(rt: &impl Abort, table: &mut NodeTable<u8>) -> Result<(), Fail> {
         *node = 42;
     }
     assert!(rt; is_cut(table, root, child, below));
-    Ok(())
+    match table.copy() {
+        Ok(copy) => {
+            assert!(rt; is_cut(&copy, root, child, below));
+            Ok(())
+        }
+        Err(_) => Err(Fail::from("no copy")),
+    }
 }
 
 #[test]
-fn a_cut_node_stays(rt: HostRuntime) -> Result<(), Fail> {
+fn a_cut_node_stays_and_so_in_a_copy(rt: HostRuntime) -> Result<(), Fail> {
     let mut table = NodeTable::new(rt.alloc(), 8);
     cuts(&rt, &mut table)
 }
