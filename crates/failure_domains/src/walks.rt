@@ -1,6 +1,6 @@
 //! The two walks of a failure: up from its origin, and then down to all that lies below. And a walk
 //! down within a bound.
-ghost use Rattle.std.specs.Prelude.{◌≡◌, ◌≢◌, ◌↔◌, ◌+◌, ◌++◌, ◌^◌, ◌<◌, ◌≤◌, None, false, IsSome, OnSome, OnOk, IfOk, AllPairs, IsOk, Contains, length, vec_len, vec_capacity};
+ghost use Rattle.std.specs.Prelude.{[], ◌≡◌, ◌≢◌, ◌↔◌, ◌+◌, ◌++◌, ◌^◌, ◌<◌, ◌≤◌, None, false, IsSome, OnSome, OnOk, OnErr, IfOk, AllPairs, IsOk, Contains, length, vec_len, vec_capacity};
 ghost use Rattle.sm_names.specs.declared.keys.NodeKey.{NodeKey as Key};
 ghost use Rattle.sm_names.specs.Losses.{Reach};
 ghost use Rattle.node_table.specs.Table.{row_at, parent_at, children_at, table_len};
@@ -59,12 +59,16 @@ pub fn fall_into<N: Link>(
         visits ≡ vec_len keys.new + links_climbed N.blocks table.now origin) }
     ensures few_visits { IfOk result (λ visits.
         visits ≤ vec_len keys.new + depth_at table.now origin) }
+    ensures err { OnErr result (keys.new.items ≡ []) }
     ensures room { table_len table.now ≤ vec_capacity keys.old → IsOk result }
     ensures capacity { vec_capacity keys.old ≤ vec_capacity keys.new }
     ensures forest { OnOk result (IsForest table.now) }
 {
     let (top, steps) = climb(table, origin);
-    let below = walk(table, top, keys, &Unbounded)?;
+    let Ok(below) = walk(table, top, keys, &Unbounded) else {
+        keys.clear();
+        return Err(NoMemory);
+    };
     Ok(steps + below)
 }
 
@@ -118,10 +122,14 @@ pub fn walk_within<N, B: Bound<N>>(
         ↔ Within (parent_at table.now) (stopped_at (B.stops bound.now) table.now top) top key) }
     ensures once { OnOk result (AllPairs (λ (a b : Key). a ≢ b) keys.new.items) }
     ensures layers { OnOk result (IsByLayers (children_within (B.stops bound.now) table.now top) keys.new.items) }
+    ensures err { OnErr result (keys.new.items ≡ []) }
     ensures room { table_len table.now ≤ vec_capacity keys.old → IsOk result }
     ensures capacity { vec_capacity keys.old ≤ vec_capacity keys.new }
 {
-    walk(table, top, keys, bound)?;
+    let Ok(_) = walk(table, top, keys, bound) else {
+        keys.clear();
+        return Err(NoMemory);
+    };
     Ok(())
 }
 

@@ -20,7 +20,7 @@ whole_walk t top keys walk = subst (λ d. IsWalk d (depth_at t) top (length keys
 pub overflow_add-result : goal.overflow_add-result
 overflow_add-result g c =
     let climb = c.climb-steps in
-    let walk = c.in_ok-below in
+    let walk = c.in-Ok in
     let short : climb.result.1 < length c.walk.new.keys.items =
     climb_is_short g.N.Link.blocks c.args.table.now walk.ensures.forest c.args.origin
     climb.result.0 climb.result.1 climb.ensures.path c.walk.new.keys.items
@@ -31,7 +31,7 @@ overflow_add-result g c =
 pub returns-clause-keys : goal.returns-clause-keys
 returns-clause-keys g c =
     let climb = c.climb-steps in
-    let walk = c.in_ok-below in
+    let walk = c.in-Ok in
     keys_are_taken g.N.Link.blocks c.args.table.now walk.ensures.forest c.args.origin
     climb.result.0 climb.result.1 climb.ensures.path c.walk.new.keys.items
     (whole_walk c.args.table.now climb.result.0 c.walk.new.keys.items walk.ensures.keys) climb.ensures.top
@@ -41,7 +41,7 @@ pub returns-clause-visits : goal.returns-clause-visits
 returns-clause-visits g c =
     let t = c.args.table.now in
     let climb = c.climb-steps in
-    let walk = c.in_ok-below in
+    let walk = c.in-Ok in
     let links : links_climbed g.N.Link.blocks t c.args.origin
     ≡ climb.result.1 + links_climbed g.N.Link.blocks t climb.result.0 =
     climb_links g.N.Link.blocks t walk.ensures.forest c.args.origin climb.result.0 climb.result.1 climb.ensures.path in
@@ -55,7 +55,7 @@ returns-clause-few_visits g c =
     let t = c.args.table.now in
     let visits = returns-clause-visits g c in
     let few : links_climbed g.N.Link.blocks t c.args.origin ≤ depth_at t c.args.origin =
-    links_within-most g.N.Link.blocks t c.in_ok-below.ensures.forest (depth_at t c.args.origin) c.args.origin in
+    links_within-most g.N.Link.blocks t c.in-Ok.ensures.forest (depth_at t c.args.origin) c.args.origin in
     omega (arith, visits)
 
 -- the keys stand by layers
@@ -64,4 +64,4 @@ returns-clause-layers g c =
     let t = c.args.table.now in
     let top : NodeKey = c.climb-steps.result.0 in
     walk_by_layers t top (children_at t) c.walk.new.keys.items
-    (whole_walk t top c.walk.new.keys.items c.in_ok-below.ensures.keys)
+    (whole_walk t top c.walk.new.keys.items c.in-Ok.ensures.keys)
