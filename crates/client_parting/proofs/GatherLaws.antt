@@ -1,18 +1,19 @@
 -- Parts, one after another.
-use Rattle.std.proofs.Common.{ℕ, ◌≡◌, ◌<◌, ◌+◌, ◌∙◌, sym, ap, subst, inl, inr, List, [], ◌∷◌, ◌++◌, append_assoc, append-nil, length, arith}
-use Rattle.std.proofs.lemmas.List.Elements.{All-push, All-weaker}
+use Rattle.std.proofs.Common.{refl, ℕ, ◌≡◌, ◌<◌, ◌+◌, ◌∙◌, sym, ap, subst, inl, inr, List, [], ◌∷◌, ◌++◌, append_assoc, append-nil, length, arith}
+use Rattle.std.proofs.lemmas.List.Elements.{All-push, All-weaker, Contains-append_left, Contains-append_right}
 use Rattle.client_parting.specs.declared.gathering.Holding.{Holding}
 use Rattle.client_parting.specs.Gatherings.{IsFirstMismatch, IsFound, Matches, id_of, own_of}
-use Rattle.record_parts.specs.declared.own.Own.{Own}
 use Rattle.record_parts.specs.Parts.{DifferAt, part}
 use Rattle.sm_names.specs.Marks.{Entry}
-use Rattle.std.specs.List.{All}
+use Rattle.std.specs.List.{All, Contains}
 use Rattle.std.specs.Prelude.{Option, Some, None}
 
 -- the own list of this client is not its part, and those of lesser clients are
 pub record Mismatch {E S W : Type 0} (history : List Entry) (seen : List (Holding E S W)) (client event : ℕ) : Type 0 where
-  pub own : List Own
-  pub differs : DifferAt event own (part client history)
+  pub its : Holding E S W
+  pub is : id_of its ≡ client
+  pub there : Contains seen its
+  pub differs : DifferAt event (own_of its) (part client history)
   pub before : All (λ p. id_of p < client → Matches history p) seen
 
 -- what was found: nothing, and the lists are the parts, or the mismatch of the least client
@@ -39,7 +40,9 @@ found_same history parts rest others p found so on same = record {
     still : (o : Option (ℕ × ℕ)) → Found history so.seen o → Found history (so.seen ++ p ∷ []) o
     still None all = All-push (Matches history) so.seen p all same
     still (Some at) m = record {
-      own = m.own;
+      its = m.its;
+      is = m.is;
+      there = Contains-append_left so.seen (p ∷ []) m.its m.there;
       differs = m.differs;
       before = All-push (λ q. id_of q < at.0 → Matches history q) so.seen p m.before (λ _. same);
     }
@@ -57,7 +60,9 @@ found_other history parts rest others p event found now so on differs is = recor
   where
     mine : All (λ q. id_of q < id_of p → Matches history q) so.seen → Mismatch history (so.seen ++ p ∷ []) (id_of p) event
     mine before = record {
-      own = own_of p;
+      its = p;
+      is = refl;
+      there = Contains-append_right so.seen (p ∷ []) p (0, omega arith, refl);
       differs = differs;
       before = All-push (λ q. id_of q < id_of p → Matches history q) so.seen p before (λ less. absurd (omega (arith, less)));
     }
@@ -68,7 +73,9 @@ found_other history parts rest others p event found now so on differs is = recor
         (mine (All-weaker (Matches history) (λ q. id_of q < id_of p → Matches history q) (λ q m less. m) so.seen all))
     other (Some at) m (inl kept) =
         let still : Mismatch history (so.seen ++ p ∷ []) at.0 at.1 = record {
-          own = m.own;
+          its = m.its;
+          is = m.is;
+          there = Contains-append_left so.seen (p ∷ []) m.its m.there;
           differs = m.differs;
           before = All-push (λ q. id_of q < at.0 → Matches history q) so.seen p m.before (λ less. absurd (omega (arith, less, kept.0)));
         } in
@@ -80,10 +87,13 @@ found_other history parts rest others p event found now so on differs is = recor
 
 pub found_first : {E S W : Type 0} (history : List Entry) (parts rest : List (Holding E S W)) (at : ℕ × ℕ) → length rest ≡ 0 →
     FoundSoFar history parts rest (Some at) → IsFirstMismatch history parts at.1
-found_first history parts [] at none so = record {
-  client = at.0;
-  own = so.is.own;
-  differs = so.is.differs;
-  before = subst (All (λ p. id_of p < at.0 → Matches history p)) (sym (so.all ∙ append-nil so.seen)) so.is.before;
-}
+found_first history parts [] at none so =
+    let all = sym (so.all ∙ append-nil so.seen) in
+    record {
+      its = so.is.its;
+      there = subst (λ l. Contains l so.is.its) all so.is.there;
+      differs = subst (λ i. DifferAt at.1 (own_of so.is.its) (part i history)) (sym so.is.is) so.is.differs;
+      before = subst (λ i. All (λ p. id_of p < i → Matches history p) parts) (sym so.is.is)
+          (subst (All (λ p. id_of p < at.0 → Matches history p)) all so.is.before);
+    }
 found_first history parts (p ∷ ps) at none so = absurd (omega (arith, none))

@@ -1,6 +1,6 @@
 -- All parts, against the record.
 use Rattle.std.specs.Prelude.{ℕ, ◌≡◌, ◌≤◌, ◌<◌, List, map, length, Option, Some, None, ◌⊎◌, ◌-◌, ⊤}
-use Rattle.std.specs.List.{All, count_by, sum_by}
+use Rattle.std.specs.List.{All, Contains, count_by, sum_by}
 use Rattle.sm_names.specs.declared.keys.Strength.{Strength}
 use Rattle.sm_names.specs.declared.keys.Strength.TheVariants.{Strong, Weak}
 use Rattle.sm_names.specs.Legality.{IsLegal}
@@ -53,13 +53,13 @@ IsFound None client event now = now ≡ (client, event)
 IsFound (Some found) client event now =
     ((found.0 ≤ client) × (now ≡ found)) ⊎ ((client < found.0) × (now ≡ (client, event)))
 
--- some client's own list is not its part, this is the first event where they differ, and the own list of each client
--- with a lesser id is its part
+-- the own list of one that is here is not its client's part, this is the first event where they differ, and the own list
+-- of each with a lesser id is its client's part
 pub record IsFirstMismatch {E S W : Type 0} (history : List Entry) (parts : List (Holding E S W)) (event : ℕ) : Type 0 where
-  pub client : ℕ
-  pub own : List Own
-  pub differs : DifferAt event own (part client history)
-  pub before : All (λ p. id_of p < client → Matches history p) parts
+  pub its : Holding E S W
+  pub there : Contains parts its
+  pub differs : DifferAt event (own_of its) (part (id_of its) history)
+  pub before : All (λ p. id_of p < id_of its → Matches history p) parts
 
 -- all open handles of both strengths are here
 abbrev pub AllHere : {E S W : Type 0} → View → List (Holding E S W) → Type 0
