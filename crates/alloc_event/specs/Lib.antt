@@ -29,6 +29,7 @@ pub mod Runs
 pub mod Scenes
 pub mod Serving
 pub mod Settling
+pub mod Snapshots
 pub mod Still
 pub mod TakingTurn
 pub mod Ties

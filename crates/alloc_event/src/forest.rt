@@ -6,18 +6,21 @@ ghost use Rattle.std.specs.Option.{option_map, option_map_or};
 ghost use Rattle.sm_names.specs.Members.{some_strong_live};
 ghost use Rattle.alloc_event.specs.declared.change.Change.{Change as Changed};
 ghost use Rattle.alloc_event.specs.Dropped.{are_others_out};
-ghost use Rattle.alloc_event.specs.Forest.{Collection, IsPoolOf, SameKeys, collection_at, node_at, node_count, empty_forest, summary_of, live_keys, held_by_page, on_collections, with_nodes, is_left, without_over_in};
+ghost use Rattle.alloc_event.specs.Forest.{Collection, IsPoolOf, SameKeys, all_nodes, collection_at, node_at, node_count, empty_forest, summary_of, live_keys, held_by_page, on_collections, with_nodes, is_left, without_over_in};
 ghost use Rattle.alloc_event.specs.Nodes.{members_of, with_end, is_of, is_over};
+ghost use Rattle.alloc_event.specs.Scenes.{IsSound};
 ghost use Rattle.alloc_event.specs.Settling.{MayChange, Settled};
+ghost use Rattle.alloc_event.specs.Snapshots.{collection_of};
 
 use crate::change::Change;
 use crate::changing::{settle_birth, settle_change};
 use crate::dropped::settle_dropped;
 use crate::entry::{Entry, entry_of, place_of};
 use crate::forgetting::{forget_over, note_over, take_out};
-use crate::kept::{held_by_page, live_by_birth};
+use crate::kept::{copy_out, held_by_page, kept_nodes, live_by_birth};
 use crate::node::{End, Node};
 use crate::room::Room;
+use crate::snapshot::Snapshot;
 use crate::store::put_end;
 use crate::summary::Summary;
 use crate::units::Unit;
@@ -232,6 +235,32 @@ impl Forest {
     {
         match live_by_birth(*self.entries.allocator(), &self.table, &self.entries) {
             Ok(keys) => Ok(keys),
+            Err(_) => Err(NoMemory),
+        }
+    }
+
+    /// All kept nodes with their ends, collection by collection by rising id, and by birth within each.
+    /// `NoMemory` where the list is refused room. It costs the number of nodes.
+    pub fn nodes(&self) -> Result<Vec<Node>, NoMemory>
+        ensures { IfOk result (λ nodes. nodes.items ≡ all_nodes self.now) }
+    {
+        match kept_nodes(*self.entries.allocator(), &self.table, &self.entries) {
+            Ok(nodes) => Ok(nodes),
+            Err(_) => Err(NoMemory),
+        }
+    }
+
+    /// The collection with this id, with its kept nodes and its buffers; `None` if it is not there.
+    /// `NoMemory` where the lists are refused room. It costs a binary search, and a copy.
+    pub fn snapshot(&self, id: CollectionId) -> Result<Option<Snapshot>, NoMemory>
+        ensures value { IfOk result (λ copied. option_map collection_of copied ≡ collection_at self.now id) }
+        ensures sound { IfOk result (λ copied. IfSome copied (λ s. IsSound (collection_of s))) }
+    {
+        let Some(entry) = entry_of(&self.entries, id) else {
+            return Ok(None);
+        };
+        match copy_out(*self.entries.allocator(), &self.table, entry) {
+            Ok(copied) => Ok(Some(copied)),
             Err(_) => Err(NoMemory),
         }
     }

@@ -3,12 +3,14 @@ ghost use Rattle.std.specs.Prelude.{◌≡◌, ◌++◌, IfOk, map};
 ghost use Rattle.std.specs.List.{filter, flat_map};
 ghost use Rattle.sm_names.specs.Words.{sorted_by};
 ghost use Rattle.alloc_event.specs.declared.entry.Entry.{Entry as Kept};
-ghost use Rattle.alloc_event.specs.Kept.{all_keys, nodes_with, shelves_of, is_strong};
+ghost use Rattle.alloc_event.specs.Kept.{all_keys, collection_in, nodes_with, shelf_of, shelves_of, is_strong};
 ghost use Rattle.alloc_event.specs.Nodes.{is_over};
 ghost use Rattle.alloc_event.specs.Questions.{is_live_node};
+ghost use Rattle.alloc_event.specs.Snapshots.{collection_of};
 
 use crate::entry::Entry;
 use crate::node::{End, Node};
+use crate::snapshot::Snapshot;
 use node_table::NodeTable;
 use sm_names::{HeldBuffer, NodeKey};
 use std::alloc::{AllocError, Global};
@@ -43,6 +45,37 @@ fn add_live(
         }
     }
     Ok(())
+}
+
+/// The nodes with these keys, behind others.
+fn add_kept(
+    nodes: &mut Vec<Node>,
+    table: &NodeTable<Node>,
+    keys: &[NodeKey],
+) -> Result<(), AllocError>
+    ensures { IfOk result (λ _. nodes.new.items ≡ nodes.old.items ++ nodes_with table.now keys.now) }
+{
+    for key in keys {
+        if let Some(node) = table.get(*key) {
+            nodes.push(*node)?;
+        }
+    }
+    Ok(())
+}
+
+/// The kept nodes of all collections, collection by collection, and by birth within each.
+pub(crate) fn kept_nodes(
+    alloc: Global,
+    table: &NodeTable<Node>,
+    entries: &[Entry],
+) -> Result<Vec<Node>, AllocError>
+    ensures { IfOk result (λ nodes. nodes.items ≡ nodes_with table.now (all_keys (shelves_of entries.now))) }
+{
+    let mut nodes = Vec::with_capacity(alloc, table.len())?;
+    for entry in entries {
+        add_kept(&mut nodes, table, entry.keys.as_slice())?;
+    }
+    Ok(nodes)
 }
 
 /// The keys of the live nodes of all collections, by birth.
@@ -84,4 +117,24 @@ pub fn is_live(node: &Node) -> bool
     ensures { result ≡ is_live_node node.now }
 {
     !node.gone && !node.released
+}
+
+/// The collection of the entry, with its nodes and buffers.
+pub(crate) fn copy_out(
+    alloc: Global,
+    table: &NodeTable<Node>,
+    entry: &Entry,
+) -> Result<Snapshot, AllocError>
+    ensures { IfOk result (λ copied. collection_of copied ≡ collection_in table.now (shelf_of entry.now)) }
+{
+    let mut nodes = Vec::new(alloc);
+    add_kept(&mut nodes, table, entry.keys.as_slice())?;
+    let mut held = Vec::new(alloc);
+    held.extend_from_slice(&entry.held)?;
+    Ok(Snapshot {
+        id: entry.id,
+        nodes,
+        buffers: entry.buffers,
+        held,
+    })
 }

@@ -1,6 +1,6 @@
 -- Which history a core's state shows.
 use Rattle.std.specs.Prelude.{ℕ, true, ◌||◌, ◌&&◌, ◌==◌, not, if◌then◌else◌, List, map, reverse, ◌≡◌, is_none}
-use Rattle.std.specs.List.{filter, list_any}
+use Rattle.std.specs.List.{filter, flat_map, list_any}
 use Rattle.sm_names.specs.declared.keys.NodeKey.{NodeKey}
 use Rattle.sm_names.specs.Births.{Birth, births, head, was_born}
 use Rattle.sm_names.specs.Ends.{binds, spent, holder, in_transit, clients, is_shut, parcels}
@@ -77,6 +77,10 @@ collection_after pool marks collection = record {
 abbrev pub kept_ids : Timeline → List ℕ
 kept_ids marks = map (λ (b : Birth). b.collection)
     (filter (λ (b : Birth). is_none b.parent && is_kept_collection marks b.collection) (reverse (births marks)))
+
+-- the nodes that are kept, as the marks make them: collection by collection, the earliest first, and by birth within each
+abbrev pub kept_nodes : Timeline → List Node
+kept_nodes marks = flat_map (λ id. filter (λ n. not (is_over n)) (nodes_after marks id)) (kept_ids marks)
 
 -- the client, as the marks make it
 abbrev pub client_after : Timeline → ℕ → Client

@@ -1,5 +1,5 @@
 //! The clients, and the parcels that wait for them.
-ghost use Rattle.std.specs.Prelude.{◌≡◌, ◌==◌, ◌++◌, OnOk, OnErr, [], ◌∷◌, map, length, true, false};
+ghost use Rattle.std.specs.Prelude.{◌≡◌, ◌==◌, ◌++◌, IfOk, OnOk, OnErr, [], ◌∷◌, map, length, true, false};
 ghost use Rattle.std.specs.List.{find, list_any, position, slice_get};
 ghost use Rattle.std.specs.Option.{option_map_or};
 ghost use Rattle.sm_names.specs.Marks.{Called};
@@ -10,6 +10,7 @@ ghost use Rattle.lifetime_core.specs.Tasks.{takes_room};
 ghost use Rattle.lifetime_core.specs.Whole.{Rise};
 
 use sm_names::{Call, ClientId, NoMemory, Parcel, Reply};
+use std::alloc::{AllocError, Global};
 use std::collections::VecDeque;
 use std::marker::Model;
 
@@ -204,4 +205,15 @@ fn collect(clients: &mut Vec<Client>, client: ClientId)
         let row = &mut clients[at];
         row.waiting.pop_front();
     }
+}
+
+/// The numbers of the clients, in their order.
+pub(crate) fn ids_of(alloc: Global, clients: &[Client]) -> Result<Vec<ClientId>, AllocError>
+    ensures { IfOk result (λ ids. ids.items ≡ map (λ (c : Row). c.id) clients.now) }
+{
+    let mut ids = Vec::with_capacity(alloc, clients.len())?;
+    for client in clients {
+        ids.push(client.id)?;
+    }
+    Ok(ids)
 }

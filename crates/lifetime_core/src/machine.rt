@@ -1,13 +1,15 @@
 //! Every call on one state.
 ghost use Rattle.std.specs.Prelude.{◌≡◌, ◌+◌, ◌<◌, ◌≤◌, ◌↔◌, ◌∷◌, ◌++◌, ◌==◌, nat_le};
-ghost use Rattle.std.specs.Prelude.{[], List, length, slice_get, option_map, if◌then◌else◌, IfOk, IfErr, IfSome};
-ghost use Rattle.std.specs.Prelude.{AllPairs, OnErr, false, true, None, is_some, option_copied};
+ghost use Rattle.std.specs.Prelude.{[], List, length, map, reverse, slice_get, option_map, if◌then◌else◌, IfOk, IfErr, IfSome};
+ghost use Rattle.std.specs.Prelude.{AllPairs, OnErr, false, true, None, Some, is_some, option_copied};
 ghost use Rattle.sm_names.specs.declared.outcomes.Fault.{Fault};
 ghost use Rattle.sm_names.specs.declared.keys.BufferName.{BufferName as Buffer};
 ghost use Rattle.sm_names.specs.declared.keys.Strength.{Strength};
 ghost use Rattle.sm_names.specs.Answers.{IsAnswer, answer as answer_of, is_at_limit};
 ghost use Rattle.sm_names.specs.Handles.{is_doomed};
-ghost use Rattle.sm_names.specs.Kept.{is_kept};
+ghost use Rattle.sm_names.specs.Ends.{clients as clients_after};
+ghost use Rattle.sm_names.specs.Handles.{buffers_of as given_after, moving as moving_after, open_of as open_after, open_total as total_after};
+ghost use Rattle.sm_names.specs.Kept.{is_kept, is_kept_collection};
 ghost use Rattle.sm_names.specs.Losses.{live as is_live_after, fault as fault_after};
 ghost use Rattle.sm_names.specs.Marks.{Entry};
 ghost use Rattle.sm_names.specs.Members.{some_strong_live};
@@ -19,31 +21,34 @@ ghost use Rattle.std.specs.List.{cons_option, list_any};
 ghost use Rattle.std.specs.Option.{option_and_then, option_map_or};
 ghost use Rattle.trackers.specs.Table.{empty, is_untaken, reader_of, cell_of, without};
 ghost use Rattle.sm_names.specs.declared.keys.HeldBuffer.{HeldBuffer as Held};
-ghost use Rattle.alloc_event.specs.Forest.{empty_forest, node_count, live_keys, node_at, held_by_page};
-ghost use Rattle.alloc_event.specs.Forest.{Collection as Shelved, collection_at};
+ghost use Rattle.alloc_event.specs.Forest.{all_nodes, empty_forest, node_count, live_keys, node_at, held_by_page};
+ghost use Rattle.alloc_event.specs.Forest.{Collection as Shelved, collection_at, collection_at as shelved_at};
+ghost use Rattle.alloc_event.specs.Scenes.{IsSound as IsSoundCollection};
+ghost use Rattle.alloc_event.specs.Snapshots.{collection_of};
 ghost use Rattle.alloc_event.specs.Nodes.{is_spent, members_of};
 ghost use Rattle.alloc_event.specs.Settling.{no_key};
-ghost use Rattle.buffer_holds.specs.Counts.{total};
+ghost use Rattle.buffer_holds.specs.Counts.{moving, of, total};
 ghost use Rattle.lifetime_core.specs.Kinds.{fits_call};
 ghost use Rattle.lifetime_core.specs.Reads.{buffers_in, end_in, open_end_of};
 ghost use Rattle.lifetime_core.specs.Reads.{readings_of};
 ghost use Rattle.lifetime_core.specs.Reads.{is_live_in, fault_in, views_of};
-ghost use Rattle.lifetime_core.specs.Shown.{Shows};
-ghost use Rattle.lifetime_core.specs.Steps.{Follows};
-ghost use Rattle.lifetime_core.specs.State.{IsSame};
+ghost use Rattle.lifetime_core.specs.Shown.{Shows, collection_after, kept_nodes, node_after};
+ghost use Rattle.sm_names.specs.Births.{birth_of};
+ghost use Rattle.lifetime_core.specs.Steps.{Follows, Work, work_of};
+ghost use Rattle.lifetime_core.specs.State.{Client as ClientRow, IsSame};
 ghost use Rattle.lifetime_core.specs.Tasks.{IsAsked};
 ghost use Rattle.lifetime_core.specs.Theorem.{GoesOn, Leads, Stepped, Stops, entries};
 ghost use Rattle.lifetime_core.specs.Theorem.{tracker_told, trackers_told};
 
 use crate::by_kind::take_by_kind;
-use crate::clients::{count_waiting, first_waiting, has_joined, is_shut};
+use crate::clients::{count_waiting, first_waiting, has_joined, ids_of, is_shut};
 use crate::event::{Asked, Contents, changes_nothing, take_effect};
 use crate::reading::{cause, is_live, with_end};
 use crate::sweeping::{place_to_sweep, sweep, tracking_of};
 use crate::table::{answer, with_key};
 use crate::task::{carried_end, changed_by, put_end, task_of};
 use crate::traits::{key_of, traits_of};
-use alloc_event::{Forest, Node};
+use alloc_event::{Change, Forest, Node, Snapshot};
 use buffer_holds::{Holds, Spot};
 use buffer_pool::Pool;
 use sm_names::{
@@ -575,5 +580,114 @@ impl Core {
             result ≡ free_after self.now.pool (timeline self.now.pool history) }
     {
         self.contents.pool.free_pages()
+    }
+
+    /// The kept nodes of all collections with their ends, as they stand: collection by collection, the
+    /// earliest first, and by birth within each. A node is kept while it is not gone or its end is not
+    /// spent.
+    ///
+    /// `NoMemory` where the list is refused. It costs a copy of these nodes.
+    pub fn nodes(&self) -> Result<Vec<Node>, NoMemory>
+        ensures value { IfOk result (λ nodes. nodes.items ≡ all_nodes self.now.forest) }
+        ensures shown { IfOk result (λ nodes. (history : List Entry) → Shows self.now history →
+            nodes.items ≡ kept_nodes (timeline self.now.pool history)) }
+    {
+        self.contents.forest.nodes()
+    }
+
+    /// What the collection was given. `None` where it was given no buffers, and where it is not kept:
+    /// it has no kept node, and no buffer that is not home. It costs a binary search.
+    pub fn given(&self, collection: CollectionId) -> Option<Buffers>
+        ensures value { result ≡ buffers_in self.now collection }
+        ensures shown { (history : List Entry) → Shows self.now history →
+            let marks = timeline self.now.pool history in
+            result ≡ (if is_kept_collection marks collection
+            then given_after marks collection else None) }
+    {
+        self.buffers_of(collection)
+    }
+
+    /// The clients that joined, the earliest first. `NoMemory` where the list is refused. It costs
+    /// their number.
+    pub fn clients(&self) -> Result<Vec<ClientId>, NoMemory>
+        ensures value { IfOk result (λ ids. ids.items
+            ≡ map (λ (c : ClientRow). c.id) self.now.clients) }
+        ensures shown { IfOk result (λ ids. (history : List Entry) → Shows self.now history →
+            ids.items ≡ reverse (clients_after (timeline self.now.pool history))) }
+    {
+        match ids_of(*self.contents.clients.allocator(), &self.contents.clients) {
+            Ok(ids) => Ok(ids),
+            Err(_) => Err(NoMemory),
+        }
+    }
+
+    /// How many handles of this buffer and strength the client has open: those in parcels are
+    /// nobody's. It costs one look-up.
+    pub fn open_handles(&self, client: ClientId, buffer: BufferName, strength: Strength) -> u32
+        ensures value { result ≡ of self.now.holds client buffer strength }
+        ensures shown { (history : List Entry) → Shows self.now history →
+            result ≡ open_after (timeline self.now.pool history) client buffer strength }
+    {
+        self.contents.holds.of(client, buffer, strength)
+    }
+
+    /// How many handles of this buffer and strength are in parcels. It costs one look-up.
+    pub fn handles_in_parcels(&self, buffer: BufferName, strength: Strength) -> u32
+        ensures value { result ≡ moving self.now.holds buffer strength }
+        ensures shown { (history : List Entry) → Shows self.now history →
+            result ≡ moving_after (timeline self.now.pool history) buffer strength }
+    {
+        self.contents.holds.moving(buffer, strength)
+    }
+
+    /// How many handles of this buffer and strength are open, those in parcels among them. It costs a
+    /// look at the clients that have some.
+    pub fn total_handles(&self, buffer: BufferName, strength: Strength) -> u32
+        ensures value { result ≡ total self.now.holds buffer strength }
+        ensures shown { (history : List Entry) → Shows self.now history →
+            result ≡ total_after (timeline self.now.pool history) buffer strength }
+    {
+        self.open_total(buffer, strength)
+    }
+
+    /// The collection as it stands: its kept nodes by birth, what it was given, and those of its
+    /// buffers, by index, whose pages were not given back. `None` where it is not kept.
+    ///
+    /// `NoMemory` where the lists are refused. It costs a binary search, and a copy.
+    pub fn collection(&self, id: CollectionId) -> Result<Option<Snapshot>, NoMemory>
+        ensures value { IfOk result (λ copied. option_map collection_of copied
+            ≡ shelved_at self.now.forest id) }
+        ensures sound { IfOk result (λ copied.
+            IfSome copied (λ s. IsSoundCollection (collection_of s))) }
+        ensures shown { IfOk result (λ copied. (history : List Entry) → Shows self.now history →
+            let marks = timeline self.now.pool history in
+            option_map collection_of copied ≡ (if is_kept_collection marks id
+            then Some (collection_after self.now.pool marks id) else None)) }
+    {
+        self.contents.forest.snapshot(id)
+    }
+
+    /// The node as it stands, with its end. `None` where no kept node has the key: it was given to
+    /// none, or to one that is gone and whose end is spent. It costs one look-up.
+    pub fn node(&self, key: NodeKey) -> Option<Node>
+        ensures value { result ≡ node_at self.now.forest key }
+        ensures shown { (history : List Entry) → Shows self.now history →
+            let marks = timeline self.now.pool history in
+            result ≡ (if is_kept marks key
+            then option_map (node_after marks) (birth_of marks key) else None) }
+    {
+        self.contents.forest.node(key).copied()
+    }
+
+    /// What the call would change of a collection, before all that this forces, if it were made now;
+    /// `None` where it would change none. It changes nothing, takes no memory, and costs what the
+    /// look-ups of a call cost.
+    pub fn change_of(&self, client: ClientId, call: &Call) -> Option<(CollectionId, Change)>
+        ensures { result ≡ option_map (λ (w : Work). (w.collection, w.change))
+            (work_of self.now client call.now
+            (answer_of self.now.limits (readings_of self.now) client no_key call.now)) }
+    {
+        let task = self.asked_of(client, call).task?;
+        Some((task.collection, task.change?))
     }
 }

@@ -120,7 +120,7 @@ module _ (place : NodeKey → End → End) where
       from (Some n) = refl
 
   -- a mark makes of the collection with its ends elsewhere what it makes of the collection
-  made_placed : (pool : ℕ) (others : List Interval) (mark : Mark) (c : Collection) →
+  pub made_placed : (pool : ℕ) (others : List Interval) (mark : Mark) (c : Collection) →
       made pool others mark (placed_in c) ≡ placed_in (made pool others mark c)
   made_placed pool others (Called client reply call) c = refl
   made_placed pool others (Loss origin cause) c =

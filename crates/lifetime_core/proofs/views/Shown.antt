@@ -1,23 +1,32 @@
 -- What is read and seen of a state that shows a history.
-use Rattle.std.proofs.Common.{◌≡◌, refl, ap, ◌∙◌, Bool, true, false, cond, List, [], length, Option, None}
-use Rattle.std.specs.Option.{option_map}
+use Rattle.std.proofs.Common.{ℕ, ◌≡◌, refl, ap, ◌∙◌, Bool, true, false, cond, List, [], ◌∷◌, length, map, reverse, Option, Some, None}
+use Rattle.std.proofs.lemmas.List.Folds.{flat_map-map}
+use Rattle.std.specs.List.{flat_map}
+use Rattle.std.specs.Option.{option_map, option_map_or}
+use Rattle.sm_names.specs.declared.keys.BufferName.{BufferName}
+use Rattle.sm_names.specs.declared.keys.Strength.{Strength}
 use Rattle.sm_names.specs.declared.keys.NodeKey.{NodeKey}
 use Rattle.sm_names.specs.declared.outcomes.Cause.{Cause}
 use Rattle.sm_names.specs.declared.outcomes.Fault.{Fault}
-use Rattle.sm_names.specs.Kept.{is_kept}
+use Rattle.sm_names.specs.Ends.{clients}
+use Rattle.sm_names.specs.Handles.{buffers_of, open_of, open_total, moving as moving_of}
+use Rattle.sm_names.specs.Kept.{is_kept, is_kept_collection}
 use Rattle.sm_names.specs.Losses.{fault, live}
 use Rattle.sm_names.specs.Marks.{Entry}
 use Rattle.sm_names.specs.Timelines.{timeline}
 use Rattle.sm_names.specs.Views.{live_nodes, held_by_page, free_pages}
 use Rattle.sm_names.proofs.GrowthLaws.{Grows, legal_grows}
-use Rattle.alloc_event.specs.Forest.{live_keys, held_by_page as held_in}
-use Rattle.lifetime_core.specs.Reads.{is_live_in, fault_in, views_of}
-use Rattle.lifetime_core.specs.Shown.{Shows}
-use Rattle.lifetime_core.specs.State.{State}
+use Rattle.buffer_holds.specs.Counts.{of, moving, total}
+use Rattle.sm_names.specs.Births.{birth_of}
+use Rattle.alloc_event.specs.Forest.{Collection, all_nodes, collection_at, node_at, live_keys, held_by_page as held_in}
+use Rattle.lifetime_core.specs.Reads.{buffers_in, is_live_in, fault_in, views_of}
+use Rattle.lifetime_core.specs.Shown.{Shows, client_after, collection_after, kept_ids, kept_nodes, node_after}
+use Rattle.lifetime_core.specs.State.{Client, HandleCounts, State}
 use Rattle.lifetime_core.proofs.theorem.EventCount.{events-timeline}
 use Rattle.lifetime_core.proofs.views.Seen.{free_is}
 use Rattle.lifetime_core.proofs.views.Held.{HavePages, held_by_page_is}
 use Rattle.lifetime_core.proofs.views.Live.{live_is, fault_is, live_keys_are}
+use Rattle.lifetime_core.proofs.views.Nodes.{collection_is, node_is}
 
 -- why and where, as a pair
 abbrev pub told_of : Fault → Cause × NodeKey
@@ -58,3 +67,56 @@ module _ (s : State) (history : List Entry) (shows : Shows s history) where
   -- the free pages
   pub free_shown : (views_of s).free ≡ free_pages s.pool (timeline s.pool history)
   free_shown = free_is s (timeline s.pool history) shows.shown s.limits grown
+
+  -- the kept nodes
+  pub nodes_shown : all_nodes s.forest ≡ kept_nodes (timeline s.pool history)
+  nodes_shown =
+      ap (flat_map (λ (c : Collection). c.nodes)) shows.shown.collections
+      ∙ flat_map-map (λ (c : Collection). c.nodes) (collection_after s.pool (timeline s.pool history)) (kept_ids (timeline s.pool history))
+
+  -- what a collection was given
+  pub given_shown : (id : ℕ) → buffers_in s id
+      ≡ cond (is_kept_collection (timeline s.pool history) id) (buffers_of (timeline s.pool history) id) None
+  given_shown id =
+      ap (λ (o : Option Collection). option_map_or (λ (c : Collection). c.buffers) o None)
+      (collection_is s (timeline s.pool history) shows.shown s.limits grown id)
+      ∙ inside (is_kept_collection (timeline s.pool history) id)
+    where
+      inside : (k : Bool) → option_map_or (λ (c : Collection). c.buffers)
+          (cond k (Some (collection_after s.pool (timeline s.pool history) id)) None) None
+          ≡ cond k (buffers_of (timeline s.pool history) id) None
+      inside true = refl
+      inside false = refl
+
+  -- the clients
+  pub clients_shown : map (λ (c : Client). c.id) s.clients ≡ reverse (clients (timeline s.pool history))
+  clients_shown = ap (map (λ (c : Client). c.id)) shows.shown.clients ∙ ids (reverse (clients (timeline s.pool history)))
+    where
+      ids : (ns : List ℕ) → map (λ (c : Client). c.id) (map (client_after (timeline s.pool history)) ns) ≡ ns
+      ids [] = refl
+      ids (n ∷ ns) = ap (λ (l : List ℕ). n ∷ l) (ids ns)
+
+  -- the handles that a client has open
+  pub open_shown : (client : ℕ) (buffer : BufferName) (strength : Strength) →
+      of s.holds client buffer strength ≡ open_of (timeline s.pool history) client buffer strength
+  open_shown client buffer strength = ap (λ (h : HandleCounts). h.of client buffer strength) shows.shown.handles
+
+  -- the handles that are in parcels
+  pub moving_shown : (buffer : BufferName) (strength : Strength) →
+      moving s.holds buffer strength ≡ moving_of (timeline s.pool history) buffer strength
+  moving_shown buffer strength = ap (λ (h : HandleCounts). h.moving buffer strength) shows.shown.handles
+
+  -- the handles that are open
+  pub total_shown : (buffer : BufferName) (strength : Strength) →
+      total s.holds buffer strength ≡ open_total (timeline s.pool history) buffer strength
+  total_shown buffer strength = ap (λ (h : HandleCounts). h.total buffer strength) shows.shown.handles
+
+  -- a collection, if it is kept
+  pub collection_shown : (id : ℕ) → collection_at s.forest id
+      ≡ cond (is_kept_collection (timeline s.pool history) id) (Some (collection_after s.pool (timeline s.pool history) id)) None
+  collection_shown id = collection_is s (timeline s.pool history) shows.shown s.limits grown id
+
+  -- a node, if it is kept
+  pub node_shown : (key : NodeKey) → node_at s.forest key
+      ≡ cond (is_kept (timeline s.pool history) key) (option_map (node_after (timeline s.pool history)) (birth_of (timeline s.pool history) key)) None
+  node_shown key = node_is s (timeline s.pool history) shows.shown s.limits grown key

@@ -1,0 +1,10 @@
+-- The nodes of all collections are those of all keys.
+use Rattle.std.proofs.Common.{sym, ◌∙◌}
+use Rattle.alloc_event.specs.Kept.{shelves_of}
+use Rattle.alloc_event.proofs.shelves.Showing.{nodes_of_all}
+use Rattle.alloc_event.proofs.forest.Forest.nodes.Goals as goal
+
+pub returns-in-Ok : goal.returns-in-Ok
+returns-in-Ok c =
+    let listed = rw c.deref.ensures.value at c.in-Ok.ensures in
+    rw (← c.self.view_is) (listed ∙ sym (nodes_of_all c.self.inside.table (shelves_of c.self.inside.entries.items)))

@@ -1,0 +1,6 @@
+use Rattle.std.proofs.Common.{◌∙◌}
+use Rattle.lifetime_core.proofs.views.Shown.{given_shown}
+use Rattle.lifetime_core.proofs.machine.Core.given.Goals as goal
+
+pub returns-clause-shown : goal.returns-clause-shown
+returns-clause-shown c history shows = c.buffers_of.ensures.value ∙ given_shown c.args.self.now history shows c.args.collection

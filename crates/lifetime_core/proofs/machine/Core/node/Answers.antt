@@ -1,0 +1,10 @@
+use Rattle.std.proofs.Common.{ap, ◌∙◌}
+use Rattle.alloc_event.specs.Forest.{node_at}
+use Rattle.lifetime_core.specs.State.{State}
+use Rattle.lifetime_core.proofs.views.Shown.{node_shown}
+use Rattle.lifetime_core.proofs.machine.Core.node.Goals as goal
+
+pub returns-clause-shown : goal.returns-clause-shown
+returns-clause-shown c history shows =
+    rw (c.copied.ensures, c.node.ensures)
+    (ap (λ (s : State). node_at s.forest c.args.key) c.self.view_is ∙ node_shown c.args.self.now history shows c.args.key)

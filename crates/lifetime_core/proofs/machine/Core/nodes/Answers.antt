@@ -1,0 +1,12 @@
+use Rattle.std.proofs.Common.{ap, ◌∙◌}
+use Rattle.std.proofs.lemmas.Result.{IfOk-weaker}
+use Rattle.alloc_event.specs.Forest.{all_nodes}
+use Rattle.lifetime_core.specs.State.{State}
+use Rattle.lifetime_core.proofs.views.Shown.{nodes_shown}
+use Rattle.lifetime_core.proofs.machine.Core.nodes.Goals as goal
+
+pub returns-clause-shown : goal.returns-clause-shown
+returns-clause-shown c =
+    IfOk-weaker c.nodes.result _ _
+    (λ nodes is history shows. is ∙ (ap (λ (s : State). all_nodes s.forest) c.self.view_is ∙ nodes_shown c.args.self.now history shows))
+    c.nodes.ensures
