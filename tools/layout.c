@@ -5,9 +5,9 @@
     _Static_assert(offsetof(type, field) == (offset), #type "." #field)
 #define SIZE(type, size) _Static_assert(sizeof(type) == (size), #type)
 
-SIZE(sysmem, 16);
-AT(sysmem, is_open, 0);
-AT(sysmem, core, 8);
+SIZE(sysmem_core, 16);
+AT(sysmem_core, is_open, 0);
+AT(sysmem_core, core, 8);
 
 SIZE(sysmem_call, 48);
 AT(sysmem_call, kind, 0);

@@ -35,7 +35,7 @@ static sysmem_call some_call(const std::vector<sysmem_key> &keys, uint64_t event
 }
 
 // Opens a core, every second time with a seed of its own.
-static uint32_t open_one(sysmem &core, uint32_t events) {
+static uint32_t open_one(sysmem_core &core, uint32_t events) {
     uint32_t nodes = 1 + upto(24), collections = 1 + upto(6);
     uint32_t trackers = 1 + upto(12), handles = 1 + upto(4);
     if (upto(2) == 0) return sysmem_open(&core, 64, events, nodes, collections, trackers, handles);
@@ -44,7 +44,7 @@ static uint32_t open_one(sysmem &core, uint32_t events) {
     return sysmem_open_seeded(&core, 64, events, nodes, collections, trackers, handles, seed);
 }
 
-static void look(sysmem &core, std::vector<sysmem_key> &keys) {
+static void look(sysmem_core &core, std::vector<sysmem_key> &keys) {
     sysmem_key live[5];
     sysmem_held_buffer held[5];
     sysmem_fired_tracker fired[5];
@@ -61,6 +61,8 @@ static void look(sysmem &core, std::vector<sysmem_key> &keys) {
     for (uint64_t i = 0; i < count && i < 5; i++) seen += held[i].pages;
     expect(seen + pages <= 64 && (count > 5 || seen + pages == 64), "pages");
     expect(sysmem_fired(&core, fired, upto(6), &count) == SYSMEM_DONE, "fired");
+    uint64_t all = 0, from = upto(8);
+    expect(sysmem_fired_from(&core, from, fired, 5, &all) == SYSMEM_DONE && all == count, "fired from");
     expect(sysmem_events(&core, &events) == SYSMEM_DONE, "events");
     uint32_t code = sysmem_cause(&core, &keys[0], &cause, &live[0]);
     expect(code == SYSMEM_DONE || code == SYSMEM_NOT_FAILED, "cause");
@@ -70,7 +72,7 @@ int main(int count, char **words) {
     long left = count > 1 ? std::atol(words[1]) : 10000;
     uint64_t told[9] = {};
     while (left > 0) {
-        sysmem core{};
+        sysmem_core core{};
         uint64_t events = 200 + upto(2000);
         expect(open_one(core, static_cast<uint32_t>(events)) == SYSMEM_DONE, "open");
         std::vector<sysmem_key> keys(6);

@@ -4,7 +4,7 @@
 #include <stdio.h>
 #include <stdlib.h>
 
-static sysmem core;
+static sysmem_core core;
 
 static const char *name(uint32_t about, uint32_t number) {
     static char text[40];

@@ -22,7 +22,7 @@ public:
         check(sysmem_open(&core, pages, events, 1024, 256, 4096, 1024));
     }
     ~Sysmem() { sysmem_close(&core); }
-    Sysmem(Sysmem &&other) noexcept : core(std::exchange(other.core, sysmem{})) {}
+    Sysmem(Sysmem &&other) noexcept : core(std::exchange(other.core, sysmem_core{})) {}
     Sysmem &operator=(Sysmem &&other) noexcept {
         std::swap(core, other.core);
         return *this;
@@ -52,7 +52,7 @@ private:
     static void check(uint32_t code) {
         if (code != SYSMEM_DONE) throw std::runtime_error(sysmem_text(SYSMEM_ABOUT_CODE, code));
     }
-    sysmem core{};
+    sysmem_core core{};
 };
 
 #endif

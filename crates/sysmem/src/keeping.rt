@@ -40,12 +40,19 @@ pub(crate) fn take(alloc: Global, handle: &mut Handle) -> Option<Box<Core>>
     }
 }
 
-// Puts the core in. What was there is forgotten.
+// A value that may go to another thread.
+fn for_any_thread<T: Send>(value: T) -> T
+    ensures { result ≡ value }
+{
+    value
+}
+
+// Puts the core in. What was there is forgotten. The next call may be another thread's.
 pub(crate) fn put(handle: &mut Handle, core: Box<Core>)
     ensures core { handle.new.place.core ≡ Some core.value }
 {
-    *handle = Handle {
+    *handle = for_any_thread(Handle {
         is_open: true,
         place: keep(unbox(core)),
-    };
+    });
 }

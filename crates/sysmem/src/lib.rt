@@ -23,7 +23,7 @@ pub use names::sysmem_name;
 pub use opening::{sysmem_close, sysmem_open, sysmem_open_seeded};
 pub use stepping::sysmem_step;
 pub use views::{
-    FiredWords, HeldWords, KeyWords, sysmem_cause, sysmem_events, sysmem_fired, sysmem_free_pages,
-    sysmem_held, sysmem_is_live, sysmem_live,
+    FiredWords, HeldWords, KeyWords, sysmem_cause, sysmem_events, sysmem_fired, sysmem_fired_from,
+    sysmem_free_pages, sysmem_held, sysmem_is_live, sysmem_live,
 };
 pub use words::{CallWords, ReplyWords};

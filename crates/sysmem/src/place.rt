@@ -28,6 +28,9 @@ impl Model for Place {
     ghost also_owns = { λ p. keeps p.alloc p.at p.core };
 }
 
+// A core keeps nothing of a thread, and any thread may free its block.
+unsafe impl Send for Place {}
+
 // No core.
 pub(crate) fn nowhere(alloc: Global) -> Place
     ensures { result.core ≡ None }

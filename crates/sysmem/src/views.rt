@@ -1,5 +1,5 @@
 //! What a core shows.
-ghost use Rattle.std.specs.Prelude.{◌≡◌, ◌≢◌, ◌↔◌, None, IsSomeAnd, length, map};
+ghost use Rattle.std.specs.Prelude.{◌≡◌, ◌≢◌, ◌↔◌, None, IsSomeAnd, drop, length, map};
 ghost use Rattle.std.specs.Prelude.{if◌then◌else◌, ◌⊎◌};
 ghost use Rattle.lifetime_core.specs.Reads.{views_of, is_live_in, fault_in};
 ghost use Rattle.sysmem.specs.Laying.{laid};
@@ -177,14 +177,48 @@ pub extern "C" fn sysmem_fired(
         × (count.new ≡ length (views_of core).fired)) }
     ensures failed { result ≢ 0 → (out.new ≡ out.old) × (count.new ≡ count.old) }
 {
+    sysmem_fired_from(alloc, handle, 0, out, count)
+}
+
+/// Writes the trackers that fired, but for the first `from`, as `sysmem_fired` does. The count is of
+/// all.
+///
+/// `NOT_OPEN` where the handle has no core: nothing is written then. It takes no memory, and costs
+/// what it writes.
+#[unsafe(no_mangle)]
+pub extern "C" fn sysmem_fired_from(
+    alloc: Global,
+    handle: &mut Handle,
+    from: u64,
+    out: &mut [FiredWords],
+    count: &mut u64,
+) -> u32
+    ensures same { handle.new.place.core ≡ handle.old.place.core }
+    ensures not_open { (result ≡ 1) ↔ (handle.old.place.core ≡ None) }
+    ensures done { result ≡ 0 → IsSomeAnd handle.old.place.core
+        (λ core. (out.new ≡ laid (map fired_words (drop from (views_of core).fired)) out.old)
+        × (count.new ≡ length (views_of core).fired)) }
+    ensures failed { result ≢ 0 → (out.new ≡ out.old) × (count.new ≡ count.old) }
+{
     let Some(core) = take(alloc, handle) else {
         return NOT_OPEN;
     };
     let fired = core.fired();
     *count = fired.len() as u64;
-    lay(out, fired);
+    lay(out, after(fired, from));
     put(handle, core);
     DONE
+}
+
+// What is behind the first items.
+fn after(items: &[Fired], from: u64) -> &[Fired]
+    ensures { result.now ≡ drop from items.now }
+{
+    if from < items.len() as u64 {
+        &items[from as usize..]
+    } else {
+        &[]
+    }
 }
 
 /// Writes 1 where the node is live, and else 0. `NOT_OPEN` where the handle has no core. It costs

@@ -1,0 +1,28 @@
+-- A place may go to another thread, since the core that it keeps may, and any thread may free its block.
+use mir.Raw.{raw}
+use base.Shift.{Keyless}
+use denote.Memory.{lone}
+use denote.RawPtr.{Ptr}
+use denote.Struct.Struct.{exits_of}
+use denote.Struct.Owning.{shape, fields, to}
+use denote.Param.Send.{IsSend, AllSend, owning_send, struct_send, sendable}
+use Rattle.std.specs.Prelude.{Option, Some, None}
+use Rattle.std.specs.Global.{Global}
+use Rattle.std.proofs.Crossing as heap
+use Rattle.std_alloc.proofs.SendSync.{quiet, lies}
+use Rattle.std_heap.proofs.Global.TheSendSync as handle
+use Rattle.lifetime_core.specs.State.{State}
+use Rattle.lifetime_core.specs.contracts.machine.Core as core
+use Rattle.lifetime_core.proofs.machine.Core.TheSendSync.{the_send as core_send}
+use Rattle.sysmem.specs.Keeping.{keeps}
+use Rattle.sysmem.specs.contracts.place.Place.{the_row, the_type}
+
+keeps_keyless : (alloc : Global) (at : Ptr) (kept : Option State) → Keyless (keeps alloc at kept)
+keeps_keyless alloc at None = tt
+keeps_keyless alloc at (Some state) = (lies core.the_row core_send at state, heap.frees.frees alloc (raw (lone core.the_row.mir)) at)
+
+pub send : IsSend the_row
+send =
+    let all : AllSend (fields the_type) = (search sendable, (handle.the_field_send, tt)) in
+    owning_send the_type all (λ d. keeps_keyless d.alloc d.at d.core)
+    (λ k. quiet (to the_type) (exits_of k (fields the_type)) ((struct_send (shape the_type) all).leaving k))
