@@ -43,29 +43,11 @@ for name in "${names[@]}"; do
 done
 for ((lane = 2; lane <= lanes; lane++)); do cp -a "$room/1" "$room/$lane"; done
 
-# Changes the texts that an edit names: each stands once in its file.
-apply() {
-  python3 - "$1" <<'PYTHON'
-import sys
-path = old = None
-for line in open(sys.argv[1], encoding="utf-8").read().split("\n"):
-    if line.startswith("file: "):
-        path = line[6:].strip()
-    elif line.startswith("old: "):
-        old = line[5:]
-    elif line.startswith("new:"):
-        text = open(path, encoding="utf-8").read()
-        if text.count(old) != 1:
-            sys.exit(f"an 'old:' text is in {path} {text.count(old)} times, and not once")
-        open(path, "w", encoding="utf-8").write(text.replace(old, line[4:].removeprefix(" ")))
-PYTHON
-}
-
 # Tries one edit in the copy of this lane, and puts the crate back.
 try_edit() {
   local lane=$1 name=$2 edit=$3 crate="$room/$1/crates/$2" log="$room/$1.log" said
   tar -c -C "$crate" --exclude=./out . >"$room/$lane.tar"
-  if ! said=$(cd "$crate" && apply "${edit#"crates/$name/"}" 2>&1); then
+  if ! said=$(tools/edits_apply.py --make "$crate" "$edit" 2>&1); then
     said="BAD EDIT: $said"
   elif (cd "$crate" && rt check --jobs 1 >"$log" 2>&1); then
     said="NOT REFUSED"
