@@ -1,67 +1,94 @@
 #!/usr/bin/env bash
-# Runs every test, the examples and the program's own run, without a proof: what a newcomer can see pass in minutes.
-#   tools/test.sh [-j LANES] [CRATE..]
-# `rt ci` proves all this first. LANES (the number of processors) crates are built and run side by side, each of which takes
-# about 1 GB. The last line counts.
-set -eu
+usage='Runs every test, each program on its own input, and the examples. Nothing is proved: that is what `rt ci` does.
+
+  tools/test.sh [-j LANES] [ITEM ..]
+
+An ITEM is a crate that has tests or is a program, or `edits`: that each wrong edit still applies. With none, all
+of them run. LANES of them (one for each processor, if not said) are built and run side by side, in 1 GB each.
+
+A line for each item counts its tests; what failed is printed above it. The last line is `N passed, M failed`, and the
+status is 0 if nothing failed.'
+set -euo pipefail
 cd "$(dirname "$0")/.."
 lanes=$(nproc)
-if [ "${1-}" = -j ]; then
-  lanes=$2
-  shift 2
-fi
+items=()
+while [ $# -gt 0 ]; do
+  case $1 in
+    -h | --help) echo "$usage" && exit ;;
+    -j) lanes=${2-} && shift ;;
+    -j*) lanes=${1#-j} ;;
+    -*) echo "test.sh: $1 is not known; --help tells what it takes" >&2 && exit 2 ;;
+    *) items+=("$1") ;;
+  esac
+  shift
+done
+[[ $lanes =~ ^[1-9][0-9]*$ ]] || { echo 'test.sh: -j takes a number of lanes' >&2 && exit 2; }
+
+# All items. Those that take longest come first, so that no lane waits for them at the end.
+first=(thread_trials sysmem_main core_trials script_rows forest_rows)
+mapfile -t others < <({
+  grep -rl --include='*.rt' '^ *#\[test\]' crates/*/src
+  ls crates/*/src/main.rt
+} | cut -d / -f 2 | sort -u | grep -vxF "$(printf '%s\n' "${first[@]}")")
+all=("${first[@]}" "${others[@]}" edits)
+[ ${#items[@]} -gt 0 ] || items=("${all[@]}")
+for item in "${items[@]}"; do
+  printf '%s\n' "${all[@]}" | grep -qxF "$item" || { echo "test.sh: $item has no tests" >&2 && exit 2; }
+done
 room=$(mktemp -d)
 trap 'rm -rf "$room"' EXIT
 export room
 
-# The crates with tests and the programs, those that take longest first.
-crates=("$@")
-if [ ${#crates[@]} = 0 ]; then
-  crates=(thread_trials sysmem_main)
-  for name in $( (
-    grep -rl --include='*.rt' '^ *#\[test\]' crates/*/src
-    ls crates/*/src/main.rt
-  ) | cut -d / -f 2 | sort -u); do
-    [ "$name" = thread_trials ] || [ "$name" = sysmem_main ] || crates+=("$name")
-  done
-fi
-
-# The tests of one crate, or a program on its own run, and sysmem_main on the examples too.
-try_one() {
-  local name=$1 log="$room/$1.log" status=0
-  if [ "$name" = sysmem_main ]; then
-    mkdir "$room/cases"
-    local file case
-    for file in examples/*.script; do
-      case=$(basename "$file" .script)
-      cp "$file" "$room/cases/$case"
-      cp "examples/$case.out" "$room/cases/$case.stdout"
-      echo run >"$room/cases/$case.args"
-    done
-    cp examples/apart.actors "$room/cases/apart"
-    cp examples/apart.out "$room/cases/apart.stdout"
-    echo threads >"$room/cases/apart.args"
-    cp crates/sysmem_main/stdin "$room/cases/own"
-    cp crates/sysmem_main/stdout "$room/cases/own.stdout"
-    echo run >"$room/cases/own.args"
-    (cd crates/sysmem_main && rt try --cases "$room/cases" >"$log" 2>&1) || status=$?
-  elif [ -f "crates/$name/src/main.rt" ]; then
-    mkdir "$room/$name"
-    cp "crates/$name/stdin" "$room/$name/own"
-    cp "crates/$name/stdout" "$room/$name/own.stdout"
-    (cd "crates/$name" && rt try --cases "$room/$name" >"$log" 2>&1) || status=$?
-  else
-    (cd "crates/$name" && rt try --test --seconds 600 >"$log" 2>&1) || status=$?
-  fi
-  if [ "$status" = 0 ]; then
-    echo "$name: passed ($(grep -c -E '\.\.\. ok$|^case=' "$log") in all)"
-  else
-    tail -n 30 "$log"
-    echo "$name: FAILED"
-  fi
+# Writes a case of a program: its name, its input, its words, and the output that is wanted, if there is one.
+add_case() {
+  cp "$2" "$room/$item.cases/$1"
+  printf '%s\n' $3 >"$room/$item.cases/$1.args"
+  [ -z "${4-}" ] || cp "$4" "$room/$item.cases/$1.stdout"
 }
-export -f try_one
-printf '%s\n' "${crates[@]}" | xargs -P "$lanes" -I{} bash -c 'try_one {}' | tee "$room/said"
-failed=$(grep -c ': FAILED$' "$room/said" || true)
-echo "$((${#crates[@]} - failed)) passed, $failed failed"
-[ "$failed" = 0 ]
+
+# Runs a program on its own input, and sysmem_main on the examples too.
+try_program() {
+  local crate="crates/$item" script
+  mkdir "$room/$item.cases"
+  add_case own "$crate/stdin" "$(cat "$crate/args" 2>/dev/null)" "$crate/stdout"
+  if [ "$item" = sysmem_main ]; then
+    for script in examples/*.script; do
+      add_case "$(basename "$script" .script)" "$script" run "${script%.script}.out"
+    done
+    add_case apart examples/apart.actors threads examples/apart.out
+    add_case shared examples/shared.actors threads
+  fi
+  (cd "$crate" && rt try --cases "$room/$item.cases")
+}
+
+# Whether the actors of examples/shared.actors, whose number of events is open, have all come to their end.
+is_shared() {
+  sed -n '/^== shared$/,/^case=shared /p' "$1" >"$1.shared"
+  [ "$(grep -c ' strong 0 weak 0$' "$1.shared")" = 4 ] && grep -qx 'gather ok' "$1.shared"
+}
+
+# Tries an item, and prints how many of its tests passed, and what failed.
+try_item() {
+  local item=$1 log="$room/$1.log" status=0 passed failed
+  if [ "$item" = edits ]; then
+    tools/edits_apply.py >"$log" 2>&1 || status=$?
+    passed=$((status == 0)) failed=$((status != 0))
+  elif [ -f "crates/$item/src/main.rt" ]; then
+    try_program >"$log" 2>&1 || status=$?
+    passed=$(grep -cE '^case=\S+ run=ended status=0 .*output=expected' "$log")
+    if [ "$item" = sysmem_main ] && is_shared "$log"; then passed=$((passed + 1)); fi
+    failed=$(($(find "$room/$item.cases" -name '*.args' | wc -l) - passed))
+  else
+    (cd "crates/$item" && rt try --test --seconds 600) >"$log" 2>&1 || status=$?
+    passed=$(grep -c '^test .* \.\.\. ok$' "$log")
+    failed=$(grep '^test .* \.\.\. ' "$log" | grep -vc ' ok$')
+  fi
+  if [ "$status" != 0 ] && [ "$failed" = 0 ]; then failed=1; fi
+  if [ "$failed" != 0 ]; then grep -v -e '^test .* \.\.\. ok$' "$log"; fi
+  echo "$item: $passed passed, $failed failed"
+}
+export -f try_item try_program add_case is_shared
+
+printf '%s\n' "${items[@]}" | xargs -P "$lanes" -I{} bash -c 'try_item {} >"$room/{}.said"; cat "$room/{}.said"' || true
+awk '{ passed += $(NF - 3); failed += $(NF - 1) } END { print passed + 0 " passed, " failed + 0 " failed"; exit failed > 0 }' \
+  < <(for item in "${items[@]}"; do tail -n 1 "$room/$item.said" 2>/dev/null || echo "0 passed, 1 failed"; done)
