@@ -1,6 +1,5 @@
 //! One tracker, as the table keeps it.
-ghost use Rattle.std.specs.Prelude.{◌≡◌, true, false, Some, IfSome, IfOk, IsTrue};
-ghost use Rattle.std.specs.Bool.{OnTrue};
+ghost use Rattle.std.specs.Prelude.{◌≡◌, ◌↔◌, true, false, Some, None, IfSome, IfOk, IsTrue};
 ghost use Rattle.trackers.specs.Held.{is_met};
 ghost use Rattle.trackers.specs.Row.{TrackerRow, Waits, Over, firing_of_row, reader_of_row, is_waiting};
 
@@ -152,18 +151,26 @@ impl Row {
         self.reader.take()
     }
 
-    /// Holds what a reader of this cell knows against the firing that set it. The answer is false
-    /// where none did.
+    /// Whether the tracker fired, and what a reader of its cell knows is that firing.
     pub(crate) fn agree(&mut self, reader: &mut Tracker) -> bool
         requires { reader.old.cell ≡ self.old.cell }
         ensures kept { self.new ≡ self.old }
         ensures reader_kept { reader.new ≡ reader.old }
-        ensures same { OnTrue result (IfSome reader.old.known
-            (λ f. firing_of_row self.old ≡ Some f)) }
+        ensures waiting { firing_of_row self.old ≡ None → result ≡ false }
+        ensures same { IfSome reader.old.known
+            (λ f. (result ≡ true) ↔ (firing_of_row self.old ≡ Some f)) }
     {
-        match self.stage {
-            Stage::Over { was_set: true, .. } => reader.compare(&mut self.note),
-            _ => false,
+        let Stage::Over { event, was_set } = self.stage else {
+            return false;
+        };
+        let fired = Fired {
+            tracker: self.id,
+            event,
+        };
+        if was_set {
+            reader.compare(&mut self.note, fired)
+        } else {
+            reader.holds(fired)
         }
     }
 }

@@ -1,6 +1,5 @@
 //! All trackers of a service.
-ghost use Rattle.std.specs.Prelude.{◌≡◌, ◌≢◌, ℕ, ◌+◌, ◌^◌, ◌<◌, ◌≤◌, ◌==◌, ◌↔◌, [], ◌∷◌, ◌++◌, length, vec_len, vec_capacity, false, if◌then◌else◌, Some, None, All, OnOk, OnErr, IfSome, Err};
-ghost use Rattle.std.specs.Bool.{OnTrue};
+ghost use Rattle.std.specs.Prelude.{◌≡◌, ◌≢◌, ℕ, ◌+◌, ◌^◌, ◌<◌, ◌≤◌, ◌==◌, ◌↔◌, [], ◌∷◌, ◌++◌, length, vec_len, vec_capacity, true, false, if◌then◌else◌, Some, None, All, OnOk, OnErr, IfSome, Err};
 ghost use Rattle.trackers.specs.declared.waiting.Waiting.{Waiting};
 ghost use Rattle.trackers.specs.Table.{Table, Cell, empty, is_due, firings, still_waiting, firing_of, cell_of, is_untaken, without, reader_of, Attaches};
 ghost use Rattle.trackers.specs.Filing.{Wish, entries_of, weigh};
@@ -165,14 +164,17 @@ impl Trackers {
         }
     }
 
-    /// Shows that what a reader of one of these cells knows is the firing of its tracker. The
-    /// answer is true where that firing set the cell, which is wherever there was one: nothing else sets a
-    /// cell, but no contract of a cell says so. Both sides are `&mut`, since what is known of a
-    /// cell is read through one; neither changes. It takes no memory, and a binary search.
+    /// Whether what a reader of one of these cells knows is the firing of its tracker. The answer is
+    /// `false` where the tracker has not fired. Of a reader that knows no firing, as one that was not
+    /// polled since, the cell is looked at instead. Nothing but the firing sets a cell, so that the
+    /// answer is `true` wherever there was one; but no contract of a cell says so. Both sides are
+    /// `&mut`, since what is known of a cell is read through one; neither changes. It takes no memory,
+    /// and a binary search.
     pub fn agree(&mut self, tracker: &mut Tracker) -> bool
         requires own { cell_of self.old.cells tracker.old.tracker ≡ Some tracker.old.cell }
-        ensures same { OnTrue result (IfSome tracker.old.known
-            (λ f. firing_of self.old.fired tracker.old.tracker ≡ Some f)) }
+        ensures waiting { firing_of self.old.fired tracker.old.tracker ≡ None → result ≡ false }
+        ensures same { IfSome tracker.old.known
+            (λ f. (result ≡ true) ↔ (firing_of self.old.fired tracker.old.tracker ≡ Some f)) }
         ensures kept { self.new ≡ self.old }
         ensures tracker_kept { tracker.new ≡ tracker.old }
     {

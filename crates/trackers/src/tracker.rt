@@ -1,8 +1,7 @@
 //! The reader of one tracker.
-ghost use Rattle.std.specs.Prelude.{◌≡◌, Some, None, IfSome};
-ghost use Rattle.std.specs.Bool.{OnTrue};
+ghost use Rattle.std.specs.Prelude.{◌≡◌, ◌↔◌, true, Some, None, IfSome};
 ghost use Rattle.std.specs.Arc.{arc_value};
-ghost use Rattle.once_cell.specs.Once.{cell_name, Agrees};
+ghost use Rattle.once_cell.specs.Once.{cell_name};
 ghost use Rattle.trackers.specs.Table.{Reader};
 
 use once_cell::race::{Note, OnceBox};
@@ -87,18 +86,35 @@ impl Tracker {
         self.told = Some(fired);
     }
 
-    /// Holds what the reader knows against a note of its cell. The answer is false where the reader
-    /// was told.
-    pub(crate) fn compare(&mut self, note: &mut Note<Fired>) -> bool
-        requires { note.old.cell ≡ self.old.cell }
+    /// Whether the firing that the reader knows, if it knows one, is this one, to which its cell was set.
+    /// It reads no cell: two notes of one cell know the same.
+    pub(crate) fn compare(&mut self, note: &mut Note<Fired>, fired: Fired) -> bool
+        requires cell { note.old.cell ≡ self.old.cell }
+        requires set { note.old.known ≡ Some fired }
         ensures kept { self.new ≡ self.old }
         ensures note_kept { note.new ≡ note.old }
-        ensures same { OnTrue result (IfSome self.old.known (Agrees note.old.known)) }
+        ensures same { IfSome self.old.known (λ f. (result ≡ true) ↔ (fired ≡ f)) }
     {
-        if self.told.is_some() {
-            return false;
+        if let Some(told) = self.told {
+            return told == fired;
         }
         note.compare(self.note.again());
         true
+    }
+
+    /// Whether the firing that the reader knows, or that its cell holds, is this one: one read of the
+    /// cell. The reader learns nothing.
+    pub(crate) fn holds(&mut self, fired: Fired) -> bool
+        ensures kept { self.new ≡ self.old }
+        ensures same { IfSome self.old.known (λ f. (result ≡ true) ↔ (fired ≡ f)) }
+    {
+        if let Some(told) = self.told {
+            return told == fired;
+        }
+        let mut note = self.note.again();
+        match self.cell.get_as(&mut note) {
+            Some(seen) => *seen == fired,
+            None => false,
+        }
     }
 }
