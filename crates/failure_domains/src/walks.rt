@@ -42,8 +42,8 @@ pub fn fall<N: Link>(alloc: Global, table: &NodeTable<N>, origin: NodeKey) -> Re
 /// The same, written into this list in the place of what stands there. Answers the visits.
 ///
 /// Where the list has room for as many keys as there are nodes, it takes no memory and never
-/// fails. It never loses room. On `NoMemory`, which comes only where it was refused more, it has a
-/// first part of the keys.
+/// fails. It never loses room. On `NoMemory`, which comes only where it was refused more, it is
+/// empty.
 pub fn fall_into<N: Link>(
     table: &NodeTable<N>,
     origin: NodeKey,
@@ -108,8 +108,8 @@ fn way_up<N: Link>(table: &NodeTable<N>, key: NodeKey) -> Option<NodeKey>
 ///
 /// It takes a constant time for each key, and none for what lies below a node that stops it. Where
 /// the list has room for as many keys as there are nodes, it takes no memory and never fails. It
-/// never loses room. On `NoMemory`, which comes only where it was refused more, it has a first part
-/// of the keys. The table stays as it is.
+/// never loses room. On `NoMemory`, which comes only where it was refused more, it is empty. The
+/// table stays as it is.
 pub fn walk_within<N, B: Bound<N>>(
     table: &NodeTable<N>,
     top: NodeKey,
