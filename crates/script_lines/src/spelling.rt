@@ -1,5 +1,5 @@
 //! Texts, put together piece by piece.
-ghost use Rattle.std.specs.Prelude.{◌≡◌, ◌++◌, OnOk, decimal};
+ghost use Rattle.std.specs.Prelude.{◌≡◌, ◌++◌, OnOk, OnErr, decimal};
 ghost use Rattle.script_lines.specs.Labels.{label_text};
 
 use crate::label::Label;
@@ -9,14 +9,16 @@ use std::alloc::AllocError;
 /// Puts the text behind what is there; nothing where memory is refused. Takes a time in proportion to
 /// its length, once in a while to all that is there, which then moves.
 pub fn push(text: &mut Vec<u8>, more: &str) -> Result<(), AllocError>
-    ensures { OnOk result (text.new.items ≡ text.old.items ++ more.now) }
+    ensures ok { OnOk result (text.new.items ≡ text.old.items ++ more.now) }
+    ensures err { OnErr result (text.new.items ≡ text.old.items) }
 {
     text.extend_from_slice(more.as_bytes())
 }
 
 /// Puts the number behind what is there, in decimal; nothing where memory is refused. Costs what `push` costs.
 pub fn push_number(text: &mut Vec<u8>, number: u64) -> Result<(), AllocError>
-    ensures { OnOk result (text.new.items ≡ text.old.items ++ decimal number) }
+    ensures ok { OnOk result (text.new.items ≡ text.old.items ++ decimal number) }
+    ensures err { OnErr result (text.new.items ≡ text.old.items) }
 {
     let mut buffer = Buffer::new();
     text.extend_from_slice(buffer.format(number).as_bytes())
@@ -24,7 +26,8 @@ pub fn push_number(text: &mut Vec<u8>, number: u64) -> Result<(), AllocError>
 
 /// Puts the label behind what is there, if there is one; nothing where memory is refused. Costs what `push` costs.
 pub fn push_label(text: &mut Vec<u8>, label: Option<Label>) -> Result<(), AllocError>
-    ensures { OnOk result (text.new.items ≡ text.old.items ++ label_text label) }
+    ensures ok { OnOk result (text.new.items ≡ text.old.items ++ label_text label) }
+    ensures err { OnErr result (text.new.items ≡ text.old.items) }
 {
     match label {
         Some(label) => {

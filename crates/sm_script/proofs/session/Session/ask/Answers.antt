@@ -10,7 +10,7 @@ returns-clause-ok c = λ scene at. record {
     limits = c.in_ok-keep_reader.ensures.limits ∙ c.in-Ok.ensures.after.limits;
   };
   text = as_line (reply_text scene.names c.args.binds c.in-Ok.reply);
-  gained = c.in_ok-push.ensures
+  gained = c.in_ok-push.ensures.ok
       ∙ ap (λ front. front ++ 10 ∷ []) (c.in_ok-push_reply.ensures scene.names at.keeps)
       ∙ append_assoc c.args.text.now.items (reply_text scene.names c.args.binds c.in-Ok.reply) (10 ∷ []);
   next = next_scene scene c.args.client c.args.call c.args.binds c.in-Ok.reply;
