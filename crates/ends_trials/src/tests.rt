@@ -7,6 +7,7 @@ mod drafting;
 mod limits;
 mod memory;
 mod remains;
+mod retried;
 mod retrying;
 mod stage;
 mod typed;
@@ -17,8 +18,10 @@ fn drafts_are_made_when_they_are_synced(rt: HostRuntime) {
 }
 
 #[test]
-fn one_client_makes_every_call(rt: HostRuntime) {
-    let _ = stage(&rt, rt.alloc(), Scene::Typed);
+fn every_call_is_made_again_after_memory_was_refused(rt: HostRuntime) {
+    if stage(&rt, rt.alloc(), Scene::Typed) {
+        let _ = println!(rt; "memory was refused");
+    }
 }
 
 #[test]
@@ -37,7 +40,7 @@ fn what_is_left_goes_when_the_service_has_ended(rt: HostRuntime) {
 }
 
 #[test]
-fn calls_are_made_again_after_memory_was_refused(rt: HostRuntime) {
+fn drafts_and_gifts_are_made_again_after_memory_was_refused(rt: HostRuntime) {
     if stage(&rt, rt.alloc(), Scene::Memory) {
         let _ = println!(rt; "memory was refused");
     }

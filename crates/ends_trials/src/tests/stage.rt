@@ -73,7 +73,11 @@ fn play<
     let service = Service::<E, S, W>::new(alloc, blanks, 16, limits).ok()?;
     match scene {
         Scene::Drafts => leave(drafts(rt, alloc, &service), service),
-        Scene::Typed => leave(typed(rt, alloc, &service), service),
+        Scene::Typed => {
+            let (client, refused) = typed(rt, alloc, &service);
+            leave(client, service);
+            return Some(refused);
+        }
         Scene::LastEvent => last_event(rt, alloc, service),
         Scene::Remains => remains(rt, alloc, service),
         Scene::Crowd => crowd(rt, alloc, service),

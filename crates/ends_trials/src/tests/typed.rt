@@ -1,8 +1,17 @@
-//! One client who makes every call: 28 events.
+//! One client who makes every call but those on drafts and gifts of handles, once more where memory is
+//! refused: 28 events.
 ghost use Rattle.std.specs.Prelude.{◌≡◌};
 
-use super::asking::{assert_done, constraints, joined, made, spent, stands, told};
-use client_ends::{Client, CollectionEnd, End, Handle, TokenEnd, join};
+use super::asking::{constraints, stands};
+use super::retried::{
+    Flag, attach_again, check_again, flag_again, shut_again, track_lifetime_again,
+    track_node_again, track_weak_again,
+};
+use super::retrying::{
+    bind_again, close_again, collect_again, constrain_again, double_again, drop_again,
+    duplicate_again, give_again, join_again, open_again, release_again, take_again,
+};
+use client_ends::{Client, CollectionEnd, End, Handle, TokenEnd};
 use service_lock::Service;
 use sm_names::{Fired, Reply, Strength};
 use std::alloc::Global;
@@ -16,19 +25,20 @@ fn open<E: Ledger, S: Ledger, W: Ledger, R: Wait + Abort>(
     rt: &R,
     service: &Service<E, S, W>,
     client: &mut Client<E, S, W>,
+    refused: &mut bool,
 ) -> (TokenEnd, TokenEnd, Tracker)
     ensures id { client.new.id ≡ client.old.id }
     ensures root { result.0.client ≡ client.new.id }
     ensures child { result.1.client ≡ client.new.id }
 {
-    let root = made(rt, client.open_root(rt, service));
-    let mut tracker = made(rt, root.track_node(rt, service, client));
+    let root = open_again(rt, service, client, refused);
+    let mut tracker = track_node_again(rt, service, client, &root, refused);
     assert!(rt; tracker.poll().is_none());
-    assert_done(rt, root.set_weak_ok(rt, service, client, true));
-    let child = made(rt, root.duplicate(rt, service, client));
-    assert_done(rt, child.set_dispensable(rt, service, client));
-    assert_done(rt, child.set_weak(rt, service, client));
-    assert_done(rt, child.sync(rt, service, client));
+    flag_again(rt, service, client, &root, Flag::WeakOkForChildren, refused);
+    let child = duplicate_again(rt, service, client, &root, refused);
+    flag_again(rt, service, client, &child, Flag::Dispensable, refused);
+    flag_again(rt, service, client, &child, Flag::Weak, refused);
+    flag_again(rt, service, client, &child, Flag::Nothing, refused);
     (root, child, tracker)
 }
 
@@ -39,6 +49,7 @@ fn allocate<E: Ledger, S: Ledger, W: Ledger, R: Wait + Abort>(
     client: &mut Client<E, S, W>,
     root: &CollectionEnd,
     child: &CollectionEnd,
+    refused: &mut bool,
 ) -> (TokenEnd, Tracker)
     requires root { root.now.client ≡ client.old.id }
     requires child { child.now.client ≡ client.old.id }
@@ -46,17 +57,17 @@ fn allocate<E: Ledger, S: Ledger, W: Ledger, R: Wait + Abort>(
     ensures token { result.0.client ≡ client.new.id }
 {
     let one = constraints(rt, 1, 1, 4096);
-    assert_done(rt, root.set_constraints(rt, service, client, one));
+    constrain_again(rt, service, client, root, one, refused);
     let none = constraints(rt, 0, 0, 1);
-    assert_done(rt, child.set_constraints(rt, service, client, none));
-    let token = made(rt, root.attach_token(rt, service, client));
-    let mut tracker = made(rt, root.track_lifetime(rt, service, client, 0));
+    constrain_again(rt, service, client, child, none, refused);
+    let token = attach_again(rt, service, client, root, refused);
+    let mut tracker = track_lifetime_again(rt, service, client, root, refused);
     assert!(rt; tracker.poll().is_none());
     let allocated = Reply::Allocated {
         count: 1,
         size: 4096,
     };
-    assert!(rt; told(rt, root.check(rt, service, client)) == allocated);
+    assert!(rt; check_again(rt, service, client, root, refused) == allocated);
     (token, tracker)
 }
 
@@ -68,12 +79,13 @@ fn take_one<E: Ledger, S: Ledger, W: Ledger, R: Wait + Abort>(
     client: &mut Client<E, S, W>,
     collection: &CollectionEnd,
     strength: Strength,
+    refused: &mut bool,
 ) -> Handle<E, S, W>
     requires { collection.now.client ≡ client.old.id }
     ensures id { client.new.id ≡ client.old.id }
     ensures handle { result.client ≡ client.new.id }
 {
-    let mut handles = made(rt, collection.take(rt, alloc, service, client));
+    let mut handles = take_again(rt, alloc, service, client, collection, refused);
     let handle = match handles.pop() {
         Some(handle) => handle,
         None => panic!(rt; "no handle"),
@@ -94,20 +106,21 @@ fn handles<E: Ledger, S: Ledger, W: Ledger, R: Wait + Abort>(
     client: &mut Client<E, S, W>,
     root: &CollectionEnd,
     child: &CollectionEnd,
+    refused: &mut bool,
 ) -> Tracker
     requires root { root.now.client ≡ client.old.id }
     requires child { child.now.client ≡ client.old.id }
     ensures id { client.new.id ≡ client.old.id }
 {
-    let strong = take_one(rt, alloc, service, client, root, Strength::Strong);
-    let weak = take_one(rt, alloc, service, client, child, Strength::Weak);
-    let twin = made(rt, strong.duplicate(rt, service, client));
-    let mut tracker = made(rt, weak.track_weak(rt, service, client));
+    let strong = take_one(rt, alloc, service, client, root, Strength::Strong, refused);
+    let weak = take_one(rt, alloc, service, client, child, Strength::Weak, refused);
+    let twin = double_again(rt, service, client, &strong, refused);
+    let mut tracker = track_weak_again(rt, service, client, &weak, refused);
     assert!(rt; tracker.poll().is_none());
     assert!(rt; stands(rt, service, client, 19, 2, 1));
-    spent(rt, strong.drop_handle(rt, service, client));
-    spent(rt, twin.drop_handle(rt, service, client));
-    spent(rt, weak.drop_handle(rt, service, client));
+    drop_again(rt, service, client, strong, refused);
+    drop_again(rt, service, client, twin, refused);
+    drop_again(rt, service, client, weak, refused);
     tracker
 }
 
@@ -117,19 +130,19 @@ fn round<E: Ledger, S: Ledger, W: Ledger, R: Wait + Abort>(
     service: &Service<E, S, W>,
     client: &mut Client<E, S, W>,
     root: CollectionEnd,
+    refused: &mut bool,
 ) -> CollectionEnd
     requires { root.client ≡ client.old.id }
     ensures id { client.new.id ≡ client.old.id }
     ensures root { result.client ≡ client.new.id }
 {
-    let id = client.id();
-    spent(rt, root.give(rt, service, client, id));
-    let root = match client.collect(rt, service) {
-        Ok(Some(End::Collection(root))) => root,
+    give_again(rt, service, client, root, refused);
+    let root = match collect_again(rt, service, client, refused) {
+        End::Collection(root) => root,
         _ => panic!(rt; "not collected"),
     };
     assert!(rt; root.client() == client.id());
-    assert!(rt; told(rt, client.shut(rt, service)) == Reply::Shut(0));
+    assert!(rt; shut_again(rt, service, client, refused) == Reply::Shut(0));
     root
 }
 
@@ -141,28 +154,29 @@ fn fires<R: Abort>(rt: &R, tracker: &mut Tracker) {
     }
 }
 
-/// One client who makes every call.
+/// Such a client, and whether memory was refused.
 pub fn typed<E: Ledger, S: Ledger, W: Ledger, R: Wait + Abort>(
     rt: &R,
     alloc: Global,
     service: &Service<E, S, W>,
-) -> Client<E, S, W> {
-    let mut client = joined(rt, join(rt, alloc, service));
+) -> (Client<E, S, W>, bool) {
+    let mut refused = false;
+    let mut client = join_again(rt, alloc, service, &mut refused);
     assert!(rt; client.last().is_none());
-    let (root, child, mut gone) = open(rt, service, &mut client);
-    let root = spent(rt, root.bind(rt, service, &mut client));
-    let child = spent(rt, child.bind(rt, service, &mut client));
-    let (token, mut left) = allocate(rt, service, &mut client, &root, &child);
-    let mut doomed = handles(rt, alloc, service, &mut client, &root, &child);
-    spent(rt, child.release(rt, service, &mut client));
-    spent(rt, token.close(rt, service, &mut client));
-    let root = round(rt, service, &mut client, root);
+    let (root, child, mut gone) = open(rt, service, &mut client, &mut refused);
+    let root = bind_again(rt, service, &mut client, root, &mut refused);
+    let child = bind_again(rt, service, &mut client, child, &mut refused);
+    let (token, mut left) = allocate(rt, service, &mut client, &root, &child, &mut refused);
+    let mut doomed = handles(rt, alloc, service, &mut client, &root, &child, &mut refused);
+    release_again(rt, service, &mut client, child, &mut refused);
+    close_again(rt, service, &mut client, token, &mut refused);
+    let root = round(rt, service, &mut client, root, &mut refused);
     assert!(rt; gone.poll().is_none() && left.poll().is_none() && doomed.poll().is_none());
-    assert!(rt; spent(rt, root.release(rt, service, &mut client)) == Reply::Done);
+    release_again(rt, service, &mut client, root, &mut refused);
     fires(rt, &mut gone);
     fires(rt, &mut left);
     fires(rt, &mut doomed);
     assert!(rt; client.last() == Some(Reply::Done));
     assert!(rt; stands(rt, service, &client, 28, 0, 0));
-    client
+    (client, refused)
 }
