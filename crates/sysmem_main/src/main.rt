@@ -1,10 +1,11 @@
 //! The program: `sysmem run` answers a script, `sysmem threads` runs its clients side by side.
 #![tactic(auto)]
 
-ghost use Rattle.std.specs.Prelude.{◌≡◌};
+ghost use Rattle.std.specs.Prelude.{◌≡◌, ◌≤◌};
 ghost use Rattle.std.specs.Process.{exit_status};
+ghost use Rattle.std.specs.IoError.{error_kind};
 ghost use Rattle.clap.specs.Words.{kind_of};
-ghost use Rattle.sysmem_main.specs.Statuses.{refusal_status};
+ghost use Rattle.sysmem_main.specs.Statuses.{refusal_status, unread_status};
 
 mod words;
 
@@ -49,12 +50,16 @@ fn no_memory(rt: &impl Eprint) -> ExitCode
 }
 
 // The words could not be read: for want of memory, or since one of them is no text.
-fn unread(rt: &impl Eprint, error: &io::Error) -> ExitCode {
-    if error.kind() == io::ErrorKind::OutOfMemory {
-        return no_memory(rt);
+fn unread(rt: &impl Eprint, error: &io::Error) -> ExitCode
+    ensures { exit_status result ≡ unread_status (error_kind error.now) }
+{
+    match error.kind() {
+        io::ErrorKind::OutOfMemory => no_memory(rt),
+        _ => {
+            let _ = rt.eprintln("the command line can't be read");
+            ExitCode::from(2)
+        }
     }
-    let _ = rt.eprintln("the command line can't be read");
-    ExitCode::from(2)
 }
 
 // What labels and counts are hashed from: random bytes. Where there are none, all runs hash alike,
@@ -65,7 +70,9 @@ fn random_seed(rt: &impl RandomSource) -> [u8; 16] {
     seed
 }
 
-fn main(rt: HostRuntime) -> ExitCode {
+fn main(rt: HostRuntime) -> ExitCode
+    ensures { exit_status result ≤ 5 }
+{
     let alloc = rt.alloc();
     let words: Vec<String> = match env::args(&rt) {
         Err(error) => return unread(&rt, &error),
