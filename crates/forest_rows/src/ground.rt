@@ -259,6 +259,11 @@ impl Ground {
         &self.forest
     }
 
+    /// The forest, out of its ground.
+    pub fn into_forest(self) -> Forest {
+        self.forest
+    }
+
     /// How many pages are free.
     pub fn free_pages(&self) -> u32 {
         self.pool.free_pages()

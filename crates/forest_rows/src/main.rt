@@ -3,6 +3,7 @@
 #![tactic(auto)]
 
 mod ground;
+mod past;
 mod player;
 mod texts;
 

@@ -1,14 +1,18 @@
 //! The lines of a tree. Nodes are called by their numbers, in the order in which they are born.
 use crate::ground::Ground;
-use crate::texts::{count_text, node_text, pool_text, tally_of, turn_text};
+use crate::past::Past;
+use crate::texts::{birth_text, count_text, kept_text, node_text, pool_text, tally_of, turn_text};
+use alloc_event::forest::Forest;
 use sm_names::{Constraints, NodeKey};
 use std::alloc::Global;
+use std::mem;
 use std::test::Fail;
 
-/// A ground, and the keys of the nodes that were born on it.
+/// A ground, and the keys of the nodes that were born on it; or what is left of its forest.
 #[derive(Drop)]
 pub struct Player {
     ground: Ground,
+    past: Option<Past>,
     keys: Vec<NodeKey>,
 }
 
@@ -184,14 +188,52 @@ impl Player {
     pub fn new(alloc: Global) -> Result<Player, Fail> {
         Ok(Player {
             ground: Ground::new(alloc)?,
+            past: None,
             keys: Vec::new(alloc),
         })
     }
 
     fn begin(&mut self, alloc: Global) -> Result<(), Fail> {
         self.ground = Ground::new(alloc)?;
+        self.past = None;
         self.keys.clear();
         Ok(())
+    }
+
+    // From here on the tree changes no more: its ends are spent, and it is forgotten.
+    fn leave(&mut self, alloc: Global) -> Result<(), Fail> {
+        let ground = mem::replace(&mut self.ground, Ground::new(alloc)?);
+        self.past = Some(Past::new(ground.into_forest()));
+        Ok(())
+    }
+
+    fn forest(&self) -> &Forest {
+        match &self.past {
+            Some(past) => past.forest(),
+            None => self.ground.forest(),
+        }
+    }
+
+    // What is forgotten of a tree that was left.
+    fn forget(&mut self, alloc: Global, words: &[&str]) -> Result<String, Fail> {
+        let Some(past) = &mut self.past else {
+            return Err(Fail::from("the tree was not left"));
+        };
+        match *words {
+            ["spend", first, last] => {
+                past.spend_each(&keys_of(alloc, &self.keys, first, last)?);
+            }
+            ["forget", first, last] => {
+                past.forget_each(&keys_of(alloc, &self.keys, first, last)?)?;
+            }
+            ["forget"] => past.forget_collection()?,
+            ["end", first, last] => {
+                past.end_each(&keys_of(alloc, &self.keys, first, last)?)?;
+                return Ok(format!(in alloc; ": each forgotten alone")?);
+            }
+            _ => past.forget_over(),
+        }
+        Ok(String::new(alloc))
     }
 
     fn bear_root(&mut self) -> Result<(), Fail> {
@@ -241,9 +283,11 @@ impl Player {
 
     // What the line asks to see.
     fn see(&self, alloc: Global, words: &[&str]) -> Result<String, Fail> {
-        let forest = self.ground.forest();
+        let forest = self.forest();
         match *words {
             ["node", node] => node_text(alloc, forest, key_of(&self.keys, node)?),
+            ["born", node] => birth_text(alloc, forest, key_of(&self.keys, node)?),
+            ["kept"] => kept_text(alloc, forest),
             ["count", first, last] => {
                 count_text(alloc, forest, &keys_of(alloc, &self.keys, first, last)?)
             }
@@ -254,7 +298,8 @@ impl Player {
     /// Takes a line, which begins a tree, changes it, or asks what is seen.
     pub fn take(&mut self, alloc: Global, words: &[&str]) -> Result<String, Fail> {
         match *words {
-            ["node", ..] | ["count", ..] | ["pool"] => return self.see(alloc, words),
+            ["node" | "born" | "count", ..] | ["kept" | "pool"] => return self.see(alloc, words),
+            ["spend" | "forget" | "end" | "over", ..] => return self.forget(alloc, words),
             ["turn", ..] => {
                 return self.act_one_by_one(alloc, words.get(1..).unwrap_or(&[]));
             }
@@ -262,6 +307,7 @@ impl Player {
             ["tree", ..] => self.begin(alloc)?,
             ["root"] => self.bear_root()?,
             ["look"] => self.ground.look_again()?,
+            ["leave"] => self.leave(alloc)?,
             [how, above, count] if matches!(how, "child" | "unit" | "chain" | "line" | "pairs") => {
                 self.bear(how, above, count)?;
             }

@@ -1,8 +1,9 @@
 //! What is told of a forest.
 use crate::ground::{Ground, HERE};
+use alloc_event::births::{new_child, new_root};
 use alloc_event::forest::Forest;
 use alloc_event::node::Node;
-use sm_names::NodeKey;
+use sm_names::{CollectionId, NodeKey};
 use std::alloc::Global;
 use std::test::Fail;
 
@@ -92,11 +93,7 @@ pub fn pool_text(alloc: Global, ground: &Ground) -> Result<String, Fail> {
         return Ok(format!(in alloc; ": no collection, {free} free")?);
     };
     let held = summary.held;
-    let strong = if ground.forest().strong_live(HERE) {
-        "strong"
-    } else {
-        "weak"
-    };
+    let strong = strength_text(ground.forest(), HERE);
     match summary.buffers {
         Some(given) => Ok(format!(in alloc;
             ": {} of {}, {held} held, {free} free, {strong}",
@@ -104,4 +101,43 @@ pub fn pool_text(alloc: Global, ground: &Ground) -> Result<String, Fail> {
         )?),
         None => Ok(format!(in alloc; ": none, {held} held, {free} free, {strong}")?),
     }
+}
+
+// Whether a strong node of this collection is live.
+fn strength_text(forest: &Forest, collection: CollectionId) -> &'static str {
+    if forest.strong_live(collection) {
+        "strong"
+    } else {
+        "weak"
+    }
+}
+
+/// How many nodes and collections are kept, and whether a strong node is live here, and in the collection after.
+pub fn kept_text(alloc: Global, forest: &Forest) -> Result<String, Fail> {
+    let (here, next) = (strength_text(forest, HERE), strength_text(forest, HERE + 1));
+    Ok(format!(in alloc;
+        ": {} nodes, {} collections, {here}, the next {next}",
+        forest.len(),
+        forest.collections()
+    )?)
+}
+
+/// Where and when a node was born, if it is as it was then and client 3 has its end.
+pub fn birth_text(alloc: Global, forest: &Forest, key: NodeKey) -> Result<String, Fail> {
+    let Some(node) = forest.node(key) else {
+        return Ok(format!(in alloc; ": forgotten")?);
+    };
+    let event = node.event;
+    let Some(parent) = node.parent else {
+        let is_new = *node == new_root(key, HERE, event, 3);
+        let what = if is_new { "root" } else { "root, changed" };
+        return Ok(format!(in alloc; ": {what}, event {event}")?);
+    };
+    let Some(above) = forest.node(parent) else {
+        return Ok(format!(in alloc; ": its parent is forgotten")?);
+    };
+    let is_new = *node == new_child(node.attached, key, event, 3, above);
+    let what = if node.attached { "attached" } else { "child" };
+    let changed = if is_new { "" } else { ", changed" };
+    Ok(format!(in alloc; ": {what} of {}{changed}, event {event}", parent.slot)?)
 }
