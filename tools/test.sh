@@ -84,7 +84,7 @@ try_item() {
     failed=$(grep '^test .* \.\.\. ' "$log" | grep -vc ' ok$')
   fi
   if [ "$status" != 0 ] && [ "$failed" = 0 ]; then failed=1; fi
-  if [ "$failed" != 0 ]; then grep -v -e '^test .* \.\.\. ok$' "$log"; fi
+  if [ "$failed" != 0 ]; then grep -vE '^test .* \.\.\. ok$|^case=.* output=expected' "$log"; fi
   echo "$item: $passed passed, $failed failed"
 }
 export -f try_item try_program add_case is_shared
