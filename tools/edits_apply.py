@@ -40,7 +40,7 @@ def edited(crate, edit):
             count = texts[path].count(old)
             if count != 1:
                 raise DoesNotApply(f"'{old.strip()}' stands in {path} {count} times")
-            texts[path] = texts[path].replace(old, line[len("new:"):].removeprefix(" "))
+            texts[path] = texts[path].replace(old, re.sub(r"\A ", "", line[len("new:"):]))
             old = None
         elif line.strip() and not line.startswith(("#", "--", "//")):
             raise DoesNotApply(f"a line begins with none of 'file: ', 'old: ' and 'new:': {line.strip()}")
