@@ -3,7 +3,7 @@ use super::acts::{Act, Row, Said};
 use super::holdings::Holdings;
 use super::log::Log;
 use lifetime_core::Core;
-use sm_names::{Call, ClientId, HeldBuffer, Limits, NodeKey, Parcel, Reply};
+use sm_names::{Call, ClientId, HeldBuffer, Limits, NodeKey, Parcel, Reply, StepFault};
 use std::alloc::Global;
 
 /// A core of 16 pages, the node of each call that made one, and what its clients hold.
@@ -17,6 +17,8 @@ pub struct Player {
     pub clients: ClientId,
     // Whether memory was refused.
     pub refused: bool,
+    // The fault of the newest call that was not taken.
+    pub fault: Option<StepFault>,
 }
 
 // So many nodes have room from the first.
@@ -35,6 +37,7 @@ fn fresh(alloc: Global, limits: Limits, refused: bool) -> Option<Player> {
         log,
         clients: 0,
         refused,
+        fault: None,
     })
 }
 
@@ -75,10 +78,16 @@ impl Player {
         0
     }
 
-    /// Makes the call, and answers the reply. `None` where the call is not taken, where a new node
-    /// has the key of another, and where a client lost what it did not hold.
+    /// Makes the call, and answers the reply. `None` where the call is not taken, and then `fault` says
+    /// why; where a new node has the key of another, and where a client lost what it did not hold.
     pub fn ask(&mut self, client: ClientId, call: Call) -> Option<Reply> {
-        let reply = self.core.step(client, call).ok()?;
+        let reply = match self.core.step(client, call) {
+            Ok(reply) => reply,
+            Err(fault) => {
+                self.fault = Some(fault);
+                return None;
+            }
+        };
         self.log.add_entry(client, call, reply);
         match reply {
             Reply::Joined(newest) => {

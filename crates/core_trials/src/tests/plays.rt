@@ -17,7 +17,7 @@ use super::placing::{HOLES, RELEASED_PARENT, RELEASED_TREE, TWO_BUFFERS};
 use super::player::Player;
 use super::scripts::Script;
 use super::views::{ends_so, is_over, looks_so, see_the_same};
-use sm_names::Limits;
+use sm_names::{Limits, StepFault};
 use std::alloc::Global;
 
 // Scripts that no test has alone.
@@ -69,8 +69,8 @@ fn has_made(alloc: Global, limits: Limits, player: &mut Player, rows: &[Row], ma
     })
 }
 
-// Whether the next call is answered as the row says. Where memory is refused, nothing is changed and
-// the call is made again.
+// Whether the next call is answered as the row says. Where memory is refused, which is the fault, nothing
+// is changed and the call is made again.
 fn takes(alloc: Global, limits: Limits, player: &mut Player, rows: &[Row], place: usize) -> bool {
     let Some((client, act, wanted)) = rows.get(place) else {
         return false;
@@ -79,7 +79,8 @@ fn takes(alloc: Global, limits: Limits, player: &mut Player, rows: &[Row], place
         Some(said) => said == *wanted,
         None => {
             player.refused = true;
-            has_made(alloc, limits, player, rows, place)
+            player.fault == Some(StepFault::NoMemory)
+                && has_made(alloc, limits, player, rows, place)
                 && player.answer(*client, *act) == Some(*wanted)
         }
     }

@@ -1,7 +1,7 @@
 //! Scripts as runs: `Core::run` answers as the steps did, wherever a script is cut, and once all its
 //! clients have vanished nothing is left.
-use super::failing::{FAILING_SUBTREES, NESTED_LOSS};
-use super::giving::{HANDLE_PARCEL, PARCEL};
+use super::failing::{FAILING_SUBTREES, NESTED_LOSS, ORPHAN_SHARE};
+use super::giving::{HANDLE_PARCEL, PARCEL, SHUT_RECEIVER};
 use super::holding::WEAK_HOLDERS;
 use super::lending::{on_core, on_player};
 use super::log::Log;
@@ -16,7 +16,9 @@ use std::alloc::Global;
 const RUN: &[&Script] = &[
     &NESTED_LOSS,
     &FAILING_SUBTREES,
+    &ORPHAN_SHARE,
     &WEAK_HOLDERS,
+    &SHUT_RECEIVER,
     &PARCEL,
     &HANDLE_PARCEL,
 ];
