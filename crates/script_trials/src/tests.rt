@@ -3,3 +3,4 @@ mod exits;
 mod faults;
 mod fixture;
 mod lines;
+mod turns;

@@ -35,6 +35,7 @@ fn each_outcome_has_its_status(rt: HostRuntime) -> Result<(), Fail> {
         ("a join\nshow free\n", "joined\nfree 16\n", "", 0),
         ("a join\na fly\n", "joined\n", "bad line 2\n", 3),
         ("a join\nshow free", "joined\n", "bad line 2\n", 3),
+        ("a join\na ope", "joined\n", "bad line 2\n", 3),
     ];
     for (script, replies, told, status) in cases {
         check_exit(&rt, rt.alloc(), script, replies, told, status)?;
