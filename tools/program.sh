@@ -45,6 +45,7 @@ hears() {
 try 0 '' '' '' run
 try 0 'joined\n' '' 'a join\n' run
 try 3 'joined\n' 'bad line 2' 'a join\nshow free' run
+try 3 'joined\n' 'bad line 2' 'a join\na ope' run
 try 3 'joined\n' 'bad line 2' 'a join\na fly\n' run
 try 3 '' 'bad line 1' 'a  join\n' run
 
@@ -88,6 +89,29 @@ count() {
     echo "not so: $*"
   fi
 }
+
+# A pipe whose other end writes a line only once the line before was answered.
+answers_in_turn() {
+  local asked wanted said answered=0 pid
+  coproc SYSMEM { exec "$program" run 2>"$room/told"; }
+  pid=$SYSMEM_PID
+  exec 3>&"${SYSMEM[1]}" 4<&"${SYSMEM[0]}"
+  while IFS='|' read -r asked wanted; do
+    printf '%s\n' "$asked" >&3
+    IFS= read -r -t 10 -u 4 said && [ "$said" = "$wanted" ] && answered=$((answered + 1))
+  done <<'LINES'
+a join|joined
+a open r|token r
+a bind r|done
+a constrain r 1 0 4096|done
+a take r|taken strong r.0
+show held|held r.0 0 1
+LINES
+  eval "exec ${SYSMEM[1]}>&-"
+  exec 3>&-
+  wait "$pid" && [ "$answered" = 6 ] && hears ''
+}
+count answers_in_turn
 
 # A reader and a writer that fail.
 read_fails() {
