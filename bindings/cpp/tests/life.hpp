@@ -1,0 +1,151 @@
+// A client that makes what calls it likes, gives what it has to whoever is there, and ends in one way or
+// another.
+#include "sysmem.hpp"
+
+#include <cstdio>
+#include <cstdlib>
+#include <random>
+#include <thread>
+
+using namespace sysmem;
+
+static std::mutex board_mutex;
+static std::vector<ClientId> board; // who was seen last
+static std::atomic<std::uint64_t> told{0}, made{0};
+
+static ClientId someone(std::mt19937 &dice) {
+    std::lock_guard<std::mutex> lock(board_mutex);
+    return board.empty() ? 0 : board[dice() % board.size()];
+}
+
+struct Life {
+    Service service;
+    std::mt19937 &dice;
+    std::optional<Client> client;
+    std::vector<Token> tokens;
+    std::vector<Collection> collections;
+    std::vector<Handle> handles;
+
+    std::uint32_t upto(std::uint32_t n) { return std::uint32_t(dice() % n); }
+    template <class T> T take_out(std::vector<T> &all) {
+        std::size_t i = upto(std::uint32_t(all.size()));
+        T one = std::move(all[i]);
+        all[i] = std::move(all.back());
+        all.pop_back();
+        return one;
+    }
+    void keep(Result<Token> token) {
+        if (token) tokens.push_back(std::move(*token));
+    }
+    void track(Result<Tracker> tracker) {
+        if (!tracker) return;
+        made++;
+        tracker->on_fired([service = service](Event event) {
+            told++;
+            if (event % 16 == 0) (void)service.free_pages();
+        });
+    }
+    void step() {
+        switch (upto(20)) {
+        case 0: return keep(client->open_root("root"));
+        case 1:
+        case 2:
+            if (auto got = client->collect(); got && *got) {
+                if (Token *t = std::get_if<Token>(&**got)) tokens.push_back(std::move(*t));
+                if (Collection *c = std::get_if<Collection>(&**got)) collections.push_back(std::move(*c));
+                if (Handle *h = std::get_if<Handle>(&**got)) handles.push_back(std::move(*h));
+            }
+            return;
+        case 3:
+            if (!tokens.empty()) keep(tokens.back().duplicate("child"));
+            return;
+        case 4:
+            if (!tokens.empty()) (void)take_out(tokens).give(someone(dice));
+            return;
+        case 5:
+        case 6:
+            if (!tokens.empty())
+                if (auto bound = take_out(tokens).bind()) collections.push_back(std::move(*bound));
+            return;
+        case 7:
+            if (!collections.empty()) keep(collections.back().attach_token());
+            return;
+        case 8:
+        case 9:
+        case 10:
+            if (!collections.empty())
+                (void)collections[upto(std::uint32_t(collections.size()))].set_constraints(
+                    {std::uint8_t(upto(3)), 0, 1 + upto(8192)});
+            return;
+        case 11:
+        case 12:
+            if (!collections.empty())
+                if (auto taken = collections[upto(std::uint32_t(collections.size()))].take(); taken && *taken)
+                    for (Handle &h : **taken) handles.push_back(std::move(h));
+            return;
+        case 13:
+            if (!handles.empty()) (void)take_out(handles).give(someone(dice));
+            return;
+        case 14:
+            if (!handles.empty())
+                if (auto more = handles.back().duplicate()) handles.push_back(std::move(*more));
+            return;
+        case 15:
+            if (!handles.empty()) take_out(handles).drop();
+            return;
+        case 16:
+            if (!collections.empty()) (void)take_out(collections).release();
+            return;
+        case 17:
+            if (!tokens.empty()) (void)take_out(tokens).release();
+            return;
+        case 18:
+            if (!collections.empty()) {
+                track(collections.back().track_node());
+                track(collections.back().track_lifetime(upto(3)));
+            }
+            return;
+        case 19:
+            if (!collections.empty())
+                (void)collections.back().wait_allocated(std::chrono::microseconds(upto(50)));
+            if (!tokens.empty() && upto(3) == 0) (void)tokens.back().set_weak();
+            return;
+        }
+    }
+    // In which order a client and its values go is all one.
+    void end() {
+        if (upto(2) == 0) client.reset();
+        handles.clear();
+        tokens.clear();
+        if (upto(2) == 0)
+            for (Collection &c : collections) (void)std::move(c).release();
+        collections.clear();
+        client.reset();
+    }
+};
+
+// A client that others may give to.
+static std::unique_ptr<Life> begin(Service &service, std::mt19937 &dice) {
+    auto client = service.join("client");
+    if (!client) return nullptr;
+    auto life =
+        std::make_unique<Life>(Life{service, dice, std::move(*client), {}, {}, {}});
+    std::lock_guard<std::mutex> lock(board_mutex);
+    if (board.size() < 16) board.push_back(life->client->id());
+    else board[dice() % 16] = life->client->id();
+    return life;
+}
+
+template <class F>
+static void come(Service &service, std::mt19937 &dice, int steps, F before_the_end) {
+    auto life = begin(service, dice);
+    if (!life) return;
+    for (int s = 0; s < steps; s++) life->step();
+    before_the_end();
+    life->end();
+}
+
+static bool is_nothing_left(Service &service, std::uint32_t pages) {
+    return service.live().value().empty() && service.held().value().empty() &&
+           service.free_pages() == pages && service.is_settled() && told == made;
+}

@@ -1,0 +1,373 @@
+// What each destructor does, what errors tell, and how trackers and waits are told.
+#include "sysmem.hpp"
+
+#include <cstdio>
+#include <cstdlib>
+#include <thread>
+#ifdef __linux__
+#include <fcntl.h>
+#include <poll.h>
+#endif
+
+using namespace sysmem;
+using namespace std::chrono_literals;
+
+static void expect(bool holds, const char *what, int line) {
+    if (holds) return;
+    std::fprintf(stderr, "line %d: %s\n", line, what);
+    std::exit(1);
+}
+#define EXPECT(c) expect(static_cast<bool>(c), #c, __LINE__)
+
+static Collection bound(const Client &client, Constraints wanted, std::string label = {}) {
+    Collection c = client.open_root(std::move(label)).value().bind().value();
+    c.set_constraints(wanted).value();
+    return c;
+}
+
+// A token that goes out of scope fails its tree, and the peers are told by whom.
+static void an_abrupt_close() {
+    Service service = Service::open().value();
+    Client app = service.join("app").value(), display = service.join("display").value();
+    Token root = app.open_root("app").value();
+    root.duplicate("display").value().give(display.id()).value();
+    Collection mine = std::move(root).bind().value();
+    EXPECT(!root);
+    mine.set_constraints({2, 0, 4096}).value();
+    Key theirs{};
+    {
+        Token token = std::get<Token>(*display.collect().value());
+        theirs = token.key();
+        EXPECT(service.live().value().size() == 2 && !*mine.check());
+    }
+    auto told = mine.check();
+    EXPECT(!told && told.error().is(Cause::Lost) && told.error().origin == theirs);
+    EXPECT(told.error().message().find("(display)") != std::string::npos);
+    EXPECT(service.cause(mine.key())->second == theirs);
+    EXPECT(service.live().value().empty());
+#ifdef __cpp_exceptions
+    try {
+        (void)mine.take().value();
+        EXPECT(false);
+    } catch (const Failure &failure) {
+        EXPECT(failure.error.is(Cause::Lost));
+    }
+#endif
+}
+
+// A release leaves the others alone, and pages stay as long as a handle does.
+static void a_good_end() {
+    Service service = Service::open().value();
+    Client a = service.join().value(), b = service.join().value();
+    std::optional<Handle> last;
+    {
+        Collection c = bound(a, {2, 0, 8192});
+        std::vector<Handle> handles = *c.take().value();
+        EXPECT(handles.size() == 2 && service.free_pages() == 12);
+        std::move(handles[1]).give(b.id()).value();
+        EXPECT(!handles[1]);
+        std::move(c).release().value();
+        EXPECT(!c && service.live().value().empty());
+    }
+    EXPECT(service.free_pages() == 14 && service.held().value().size() == 1);
+    last.emplace(std::get<Handle>(*b.collect().value()));
+    Handle more = last->duplicate().value();
+    last.reset();
+    EXPECT(service.free_pages() == 14);
+    more.drop();
+    EXPECT(service.free_pages() == 16);
+}
+
+// A client that vanishes lets go of what it has and of what waits for it; its values are dead.
+static void a_vanishing() {
+    Service service = Service::open().value();
+    Client a = service.join().value();
+    std::optional<Client> b = service.join().value();
+    Token root = a.open_root().value();
+    root.duplicate("parcel").value().give(b->id()).value();
+    Collection kept = bound(*b, {1, 0, 4096});
+    std::vector<Handle> handles = *kept.take().value();
+    Token other = b->open_root().value();
+    EXPECT(service.live().value().size() == 4 && service.free_pages() == 15);
+    b.reset();
+    EXPECT(service.live().value().empty() && service.free_pages() == 16);
+    auto told = root.sync();
+    EXPECT(!told && told.error().is(Cause::Lost) && told.error().label == "parcel");
+    auto dead = kept.check();
+    EXPECT(!dead && dead.error().is(Refusal::NoSuchEnd));
+    auto before = service.events();
+    EXPECT(!handles[0].duplicate() && handles[0].duplicate().error().is(Refusal::NoSuchHandle));
+    EXPECT(service.events() == before + 2); // a call on a dead value is a call
+    before = service.events();
+    handles.clear();
+    other.close();
+    { Collection gone = std::move(kept); }
+    EXPECT(service.events() == before);
+    auto nobody = std::move(root).give(99);
+    EXPECT(!nobody && nobody.error().is(Refusal::NoSuchClient) && root);
+    EXPECT(a.shut().value() == 0 && !a.open_root() && a.open_root().error().is(Refusal::ClientShut));
+}
+
+#ifdef __cpp_exceptions
+// An exception is a crash of what it leaves.
+static void a_crash() {
+    Service service = Service::open().value();
+    Client app = service.join().value();
+    Token root = app.open_root().value();
+    try {
+        Client display = service.join("display").value();
+        root.duplicate("display").value().give(display.id()).value();
+        Token theirs = std::get<Token>(*display.collect().value());
+        throw 1;
+    } catch (int) {
+    }
+    EXPECT(root.sync().error().label == "display");
+}
+#endif
+
+// A value that is assigned to takes the other's place.
+static void moves() {
+    Service service = Service::open().value();
+    std::optional<Client> a = service.join("a").value();
+    Client b = service.join("b").value();
+    Token one = a->open_root("one").value(), two = b.open_root("two").value();
+    Key first = one.key(), second = two.key();
+    one = std::move(two);
+    EXPECT(one.key() == second && one.client() == b.id() && two.key() == first);
+    { Token gone = std::move(two); }
+    EXPECT(!service.is_live(first) && service.is_live(second) && !two);
+    a = std::move(b); // a's client is b's, and goes with `b`
+    EXPECT(a->label() == "b" && a->id() == one.client());
+    b.vanish();
+    EXPECT(!b && service.is_live(second));
+    a.reset();
+    EXPECT(!service.is_live(second) && one.sync().error().is(Refusal::NoSuchEnd));
+}
+
+// Labels are of nodes; at most 4,096 are kept, and those of nodes that were forgotten go first.
+static void labels() {
+    Service service = Service::open().value();
+    Client a = service.join("a").value();
+    Token root = a.open_root("root").value();
+    EXPECT(service.label(root.key()) == "root" && service.label({99, 0}).empty());
+    service.set_label(root.key(), "camera");
+    Key child = root.duplicate().value().key(); // and closed
+    service.set_label(child, "child");
+    for (std::uint32_t i = 0; i < 5000; i++) service.set_label({i + 2000, 7}, "nobody");
+    EXPECT(service.label(root.key()) == "camera" && service.label({6999, 7}) == "nobody");
+    EXPECT(service.label({2000, 7}).empty());
+}
+
+// A Result has what std::expected has.
+static void results() {
+    Service service = Service::open().value();
+    Client a = service.join().value();
+    EXPECT(a.shut().value_or(7) == 0 && service.join().value_or(std::move(a)).id() == 3);
+    auto one = Service::open().and_then([](const Service &s) { return s.join("x"); });
+    EXPECT(one->label() == "x" && (*one).id() == 1);
+    auto shut = one->shut().transform([](std::uint64_t n) { return n + 1; });
+    EXPECT(shut.value() == 1 && *shut == 1);
+    auto bad = one->open_root().transform([](Token t) { return t.key(); });
+    EXPECT(!bad.has_value() && bad.error().is(Refusal::ClientShut));
+    EXPECT(one->open_root().and_then([](Token t) { return t.sync(); }).error().is(Refusal::ClientShut));
+    EXPECT(bad.value_or(Key{3, 4}) == (Key{3, 4}));
+    Result<void> done;
+    EXPECT(*done.transform([] { return 5; }) == 5 && done.and_then([] { return Result<void>(); }));
+    done.value();
+    EXPECT(name(Cause::LateWeak) == "misused LateWeak" && name(Misuse::LateWeak) == "LateWeak");
+}
+
+// What was given away is not closed again: who vanishes then makes one event, its Shut.
+static void what_was_given() {
+    Service service = Service::open().value();
+    Client a = service.join().value(), b = service.join().value();
+    Collection c = bound(a, {1, 0, 4096});
+    std::vector<Handle> handles = *c.take().value();
+    std::move(handles[0]).give(b.id()).value();
+    std::move(c).give(b.id()).value();
+    Event before = service.events();
+    a.vanish();
+    EXPECT(service.events() == before + 1 && service.free_pages() == 15);
+    EXPECT(std::holds_alternative<Handle>(*b.collect().value()));
+    EXPECT(std::holds_alternative<Collection>(*b.collect().value()));
+    EXPECT(service.free_pages() == 16);
+}
+
+// A refused value stays; misuses fail the node; faults change nothing.
+static void what_is_refused() {
+    Options few;
+    few.nodes = 1;
+    few.events = 40;
+    Service service = Service::open(few).value();
+    EXPECT(!Service::open({0, 1, 1, 1, 1, 1, {}}));
+    Client a = service.join().value();
+    Token root = a.open_root().value();
+    auto full = root.duplicate();
+    EXPECT(!full && full.error().is(Refusal::TooManyNodes));
+    Collection c = std::move(root).bind().value();
+    auto bad = c.set_constraints({65, 0, 4096});
+    EXPECT(!bad && bad.error().kind == Error::Kind::Fault && bad.error().detail == SYSMEM_BAD_CALL);
+    c.set_constraints({1, 0, 4096}).value();
+    auto again = c.set_constraints({1, 0, 4096});
+    EXPECT(!again && again.error().is(Misuse::SecondConstraints));
+    EXPECT(!c.check() && c.check().error().is(Cause::SecondConstraints));
+    while (a.shut()) {
+    }
+    EXPECT(service.events() == 40 && !service.join() && service.join().error().is_history_full());
+}
+
+// Trackers are polled, waited for, and told; callbacks may call the service.
+static void trackers() {
+    Service service = Service::open().value();
+    Client a = service.join().value(), b = service.join().value();
+    Token root = a.open_root().value();
+    root.duplicate().value().give(b.id()).value();
+    Tracker node = root.track_node().value();
+    Collection mine = std::move(root).bind().value();
+    std::atomic<Event> heard{0};
+    std::atomic<std::uint32_t> free_then{0};
+    node.on_fired([&](Event event) {
+        free_then = service.free_pages();
+        heard = event;
+    });
+    EXPECT(!node.poll() && !node.wait_for(1ms));
+
+    // Another thread brings its constraints; this one waits for the buffers, and checks at most three
+    // times.
+    mine.set_constraints({1, 0, 4096}).value();
+    Event before = service.events();
+    std::thread peer([&] {
+        Collection theirs = std::get<Token>(*b.collect_for(5s).value()).bind().value();
+        std::this_thread::sleep_for(20ms);
+        theirs.set_constraints({1, 0, 8192}).value();
+        std::move(theirs).release().value();
+    });
+    auto begin = std::chrono::steady_clock::now();
+    auto given = mine.wait_allocated(5s);
+    peer.join();
+    EXPECT(std::chrono::steady_clock::now() - begin < 4s); // told, and not by the end of its time
+    EXPECT(service.events() <= before + 4 + 3);
+    EXPECT(given && *given && (*given)->count == 2 && (*given)->size == 8192);
+    Tracker life = mine.track_lifetime(0).value();
+#ifdef __linux__
+    pollfd fds[] = {{life.fd(), POLLIN, 0}, {node.fd(), POLLIN, 0}};
+    EXPECT(poll(fds, 2, 0) == 0);
+#endif
+    std::vector<Handle> handles = *mine.take().value();
+    std::thread waits([&] { EXPECT(life.wait_for(20s) && life.wait() > 0); });
+    std::this_thread::sleep_for(20ms);
+    mine.close();
+    EXPECT(heard == *node.poll() && heard > 0 && free_then == 12);
+    EXPECT(!life.poll());
+    begin = std::chrono::steady_clock::now();
+    handles.clear();
+    waits.join();
+    EXPECT(std::chrono::steady_clock::now() - begin < 4s);
+#ifdef __linux__
+    EXPECT(poll(fds, 2, 0) == 2 && life.fd() == fds[0].fd);
+#endif
+    EXPECT(life.poll() && service.fired().value().size() == 2);
+    Event late = 0;
+    life.on_fired([&](Event event) { late = event; });
+    EXPECT(late == *life.poll());
+#ifdef __linux__
+    {
+        Tracker copy = life;
+        int fd = fds[0].fd;
+        life = node;
+        EXPECT(copy.fd() == fd && fcntl(fd, F_GETFD) >= 0);
+        copy = node;
+        EXPECT(fcntl(fd, F_GETFD) < 0);
+    }
+#endif
+
+    // A wait for what does not come ends with its time, and with a failure where the node is gone.
+    Collection alone = a.open_root().value().bind().value();
+    EXPECT(!*alone.wait_allocated(5ms) && !*alone.wait_allocated(5ms));
+    EXPECT(!*a.collect_for(1ms));
+}
+
+// Of a tracker's callbacks the last one counts; those of one event run in the order of the trackers. One may
+// own values: the call that it makes is another event.
+static void callbacks() {
+    Service service = Service::open().value();
+    Client a = service.join().value();
+    Token root = a.open_root().value();
+    std::vector<int> heard;
+    {
+        Tracker first = root.track_node().value(), second = root.track_node().value();
+        first.on_fired([&](Event) { heard.push_back(0); });
+        first.on_fired([&](Event) { heard.push_back(1); });
+        second.on_fired([&, other = std::make_shared<Token>(a.open_root().value())](Event) {
+            heard.push_back(2);
+            other->close();
+        });
+    }
+    EXPECT(service.live().value().size() == 2);
+    root.close();
+    EXPECT((heard == std::vector<int>{1, 2}) && service.live().value().empty());
+
+    // A callback that owns the Service keeps the core until it fires.
+    std::optional<Service> own = Service::open().value();
+    std::optional<Client> b = own->join().value();
+    Token token = b->open_root().value();
+    std::uint64_t events = 0;
+    token.track_node().value().on_fired([&, service = *own](Event) { events = service.events(); });
+    own.reset();
+    b.reset();
+    EXPECT(events == 5);
+}
+
+// A weak holder is told to let go.
+static void weak_handles() {
+    Service service = Service::open().value();
+    Client app = service.join().value(), eye = service.join().value();
+    Token root = app.open_root().value();
+    Token watcher = root.duplicate().value();
+    watcher.set_weak().value();
+    Collection strong = std::move(root).bind().value();
+    std::move(watcher).give(eye.id()).value();
+    Collection weak = std::get<Token>(*eye.collect().value()).bind().value();
+    strong.set_constraints({1, 0, 4096}).value();
+    weak.set_constraints({0, 0, 1}).value();
+    std::vector<Handle> mine = *strong.take().value(), theirs = *weak.take().value();
+    EXPECT(theirs[0].strength() == Strength::Weak);
+    Tracker close_weak = theirs[0].track_weak().value();
+    std::move(strong).release().value();
+    EXPECT(!close_weak.poll());
+    mine.clear();
+    EXPECT(close_weak.poll() && service.free_pages() == 15);
+    theirs.clear();
+    EXPECT(service.free_pages() == 16);
+}
+
+// The core is there as long as a value of it is.
+static void what_outlives_a_service() {
+    std::optional<Service> service = Service::open().value();
+    std::optional<Client> a = service->join("a").value();
+    std::optional<Tracker> tracker = a->open_root().value().track_node().value();
+    service.reset();
+    EXPECT(tracker->poll());
+    a.reset();
+    EXPECT(tracker->poll());
+}
+
+int main() {
+    an_abrupt_close();
+    a_good_end();
+    a_vanishing();
+#ifdef __cpp_exceptions
+    a_crash();
+#endif
+    moves();
+    labels();
+    results();
+    what_was_given();
+    what_is_refused();
+    trackers();
+    callbacks();
+    weak_handles();
+    what_outlives_a_service();
+    std::puts("each value does what it should");
+    return 0;
+}
