@@ -1,0 +1,240 @@
+//! Tokens and collections.
+use crate::ffi::CallWords;
+use crate::state::{kind, of_key, reply, Owner, State, Wait};
+use crate::{
+    Allocation, Back, Buffer, ClientId, CollectionId, Constraints, Error, Handle, Key, Strength,
+    Tracker,
+};
+use std::fmt;
+use std::marker::PhantomData;
+use std::sync::{Arc, Condvar, PoisonError};
+use std::time::{Duration, Instant};
+
+/// As long as anybody waits: no `Instant` is so far off that it is none.
+const FOREVER: Duration = Duration::from_secs(1 << 31);
+
+mod sealed {
+    pub trait Kind {}
+}
+pub(crate) use sealed::Kind;
+
+/// The kind of a [`Token`].
+#[derive(Debug)]
+pub enum OfToken {}
+/// The kind of a [`Collection`].
+#[derive(Debug)]
+pub enum OfCollection {}
+impl Kind for OfToken {}
+impl Kind for OfCollection {}
+
+/// An end that is no collection yet.
+pub type Token = End<OfToken>;
+/// An end that was bound.
+pub type Collection = End<OfCollection>;
+
+/// What a client has of a node. Dropping it is an abrupt close.
+pub struct End<K: Kind> {
+    pub(crate) owner: Owner,
+    pub(crate) row: u32,
+    pub(crate) key: Key,
+    pub(crate) collection: CollectionId,
+    pub(crate) is_here: bool,
+    pub(crate) kind: PhantomData<fn() -> K>,
+}
+
+impl<K: Kind> End<K> {
+    /// The node.
+    pub fn key(&self) -> Key {
+        self.key
+    }
+
+    /// The node's collection.
+    pub fn collection(&self) -> CollectionId {
+        self.collection
+    }
+
+    /// Whose end it is.
+    pub fn client(&self) -> ClientId {
+        self.owner.client
+    }
+
+    fn asks(&self, kind: u32) -> CallWords {
+        of_key(kind, self.key)
+    }
+
+    fn make(&self, call: &CallWords) -> Result<(), Error> {
+        self.owner.make(call, self.collection)
+    }
+
+    /// Asks whether the node is well.
+    pub fn sync(&self) -> Result<(), Error> {
+        self.make(&self.asks(kind::SYNC))
+    }
+
+    /// Makes the node weak, and so the children that it gets from now on.
+    pub fn set_weak(&self) -> Result<(), Error> {
+        self.make(&self.asks(kind::SET_WEAK))
+    }
+
+    /// The node copes with weak handles; with `children`, so do all nodes below the children that it
+    /// gets from now on, those included.
+    pub fn set_weak_ok(&self, children: bool) -> Result<(), Error> {
+        let children = u8::from(children);
+        self.make(&CallWords { children, ..self.asks(kind::SET_WEAK_OK) })
+    }
+
+    /// A tracker that fires once the node is gone.
+    pub fn track_node(&self) -> Result<Tracker, Error> {
+        self.owner.track(&self.asks(kind::TRACK_NODE), self.collection)
+    }
+
+    /// Gives the end to that client. It comes back where that is refused.
+    pub fn give(mut self, to: ClientId) -> Result<(), Back<Self>> {
+        match self.try_give(to) {
+            Ok(()) => {
+                self.is_here = false;
+                Ok(())
+            }
+            Err(error) => Err(Back { error, value: self }),
+        }
+    }
+
+    fn try_give(&self, to: ClientId) -> Result<(), Error> {
+        let mut state = self.owner.shared.lock();
+        let call = CallWords { client: to, ..self.asks(kind::GIVE) };
+        state.ask(&self.owner, &call, 0)?;
+        state.given(self.owner.place, self.row, to);
+        Ok(())
+    }
+
+    /// Leaves without a failure. The end is gone whatever is answered: `PeerClosed` tells that the
+    /// node had failed before, `NoMemory` that the release is made before the next call of anybody.
+    pub fn release(mut self) -> Result<(), Error> {
+        self.is_here = false;
+        let mut state = self.owner.shared.lock();
+        state.release(&self.owner, self.row, self.key, self.collection)
+    }
+
+    /// Does what dropping does: a node that was not released fails.
+    pub fn close(self) {}
+}
+
+impl End<OfToken> {
+    /// A child token. The label may be empty.
+    pub fn duplicate(&self, label: &str) -> Result<Token, Error> {
+        self.owner.birth(&self.asks(kind::DUPLICATE), label)
+    }
+
+    /// A failure of the node, once its unit has buffers, goes no further up.
+    pub fn set_dispensable(&self) -> Result<(), Error> {
+        self.make(&self.asks(kind::SET_DISPENSABLE))
+    }
+
+    /// The end as a collection. The token comes back where that is refused.
+    pub fn bind(mut self) -> Result<Collection, Back<Token>> {
+        match self.make(&self.asks(kind::BIND)) {
+            Ok(()) => {
+                self.is_here = false;
+                let (row, key, collection) = (self.row, self.key, self.collection);
+                let (owner, kind) = (self.owner.clone(), PhantomData);
+                Ok(End { owner, row, key, collection, is_here: true, kind })
+            }
+            Err(error) => Err(Back { error, value: self }),
+        }
+    }
+}
+
+impl End<OfCollection> {
+    /// A token of a unit of its own, whose failure goes no further up.
+    pub fn attach_token(&self, label: &str) -> Result<Token, Error> {
+        self.owner.birth(&self.asks(kind::ATTACH_TOKEN), label)
+    }
+
+    /// Says what the node needs of the buffers.
+    pub fn set_constraints(&self, wanted: Constraints) -> Result<(), Error> {
+        let Constraints { camping, at_least, size } = wanted;
+        let call = self.asks(kind::SET_CONSTRAINTS);
+        self.make(&CallWords { camping, at_least, size, ..call })
+    }
+
+    /// What was allocated, or `None` yet.
+    pub fn check(&self) -> Result<Option<Allocation>, Error> {
+        self.look(&mut self.owner.shared.lock())
+    }
+
+    fn look(&self, state: &mut State) -> Result<Option<Allocation>, Error> {
+        let told = state.ask(&self.owner, &self.asks(kind::CHECK), self.collection)?;
+        let given = Allocation { count: told.count, size: told.size };
+        Ok((told.kind != reply::PENDING).then_some(given))
+    }
+
+    /// Waits until the buffers are there or the node is gone; `None` where the time is over. It checks
+    /// again, by an event, after each event of the collection that may have brought either.
+    pub fn wait_allocated(&self, time: Duration) -> Result<Option<Allocation>, Error> {
+        let until = Instant::now() + time.min(FOREVER);
+        let shared = &self.owner.shared;
+        let changed = Arc::new(Condvar::new());
+        let mut mine = None;
+        loop {
+            let mut state = shared.lock();
+            let now = self.look(&mut state);
+            if now != Ok(None) {
+                if let Some(number) = mine {
+                    state.end_wait(number);
+                }
+                return now;
+            }
+            let (collection, is_changed, changed) = (self.collection, false, changed.clone());
+            let number = *mine.get_or_insert_with(|| {
+                state.wait(Wait { collection, is_changed, changed: changed.clone() })
+            });
+            state.waiter(number).is_changed = false;
+            drop(state);
+            let left = until.saturating_duration_since(Instant::now());
+            let waits =
+                changed.wait_timeout_while(shared.raw(), left, |s| !s.waiter(number).is_changed);
+            let (mut state, _) = waits.unwrap_or_else(PoisonError::into_inner);
+            if !state.waiter(number).is_changed {
+                state.end_wait(number);
+                return Ok(None);
+            }
+        }
+    }
+
+    /// A handle on each buffer that something strong keeps, or `None` yet.
+    pub fn take(&self) -> Result<Option<Vec<Handle>>, Error> {
+        let mut state = self.owner.shared.lock();
+        let told = state.ask(&self.owner, &self.asks(kind::TAKE), self.collection)?;
+        if told.kind == reply::PENDING {
+            return Ok(None);
+        }
+        let mut taken = Vec::with_capacity(told.set.count_ones() as usize);
+        let mut left = told.set;
+        while left != 0 {
+            let buffer = Buffer { collection: told.id, index: left.trailing_zeros() as u8 };
+            taken.push(self.owner.handle(&mut state, buffer, Strength::of(told.detail)));
+            left &= left - 1;
+        }
+        Ok(Some(taken))
+    }
+
+    /// A tracker that fires once at most so many buffers are left, after the allocation; or once the
+    /// node is gone before it.
+    pub fn track_lifetime(&self, left: u32) -> Result<Tracker, Error> {
+        self.owner.track(&CallWords { left, ..self.asks(kind::TRACK_LIFETIME) }, self.collection)
+    }
+}
+
+impl<K: Kind> Drop for End<K> {
+    fn drop(&mut self) {
+        if self.is_here {
+            self.owner.shared.lock().part(self.owner.place, self.row);
+        }
+    }
+}
+
+impl<K: Kind> fmt::Debug for End<K> {
+    fn fmt(&self, f: &mut fmt::Formatter<'_>) -> fmt::Result {
+        write!(f, "End({} of client {})", self.key, self.owner.client)
+    }
+}

@@ -1,0 +1,246 @@
+//! `sysmem.h`, as Rust sees it, and the core as a value.
+use std::ffi::c_void;
+use std::ptr::null_mut;
+
+#[repr(C)]
+pub(crate) struct Handle {
+    is_open: bool,
+    core: *mut c_void,
+}
+
+#[repr(C)]
+#[derive(Clone, Copy, Default)]
+pub(crate) struct CallWords {
+    pub kind: u32,
+    pub slot: u32,
+    pub generation: u32,
+    pub strength: u32,
+    pub collection: u64,
+    pub client: u64,
+    pub size: u32,
+    pub left: u32,
+    pub index: u8,
+    pub camping: u8,
+    pub at_least: u8,
+    pub children: u8,
+}
+
+#[repr(C)]
+#[derive(Clone, Copy, Debug, Default, PartialEq)]
+pub(crate) struct ReplyWords {
+    pub kind: u32,
+    pub slot: u32,
+    pub generation: u32,
+    pub detail: u32,
+    pub id: u64,
+    pub set: u64,
+    pub count: u32,
+    pub size: u32,
+    pub index: u8,
+}
+
+#[repr(C)]
+#[derive(Clone, Copy, Default)]
+pub(crate) struct KeyWords {
+    pub slot: u32,
+    pub generation: u32,
+}
+
+#[repr(C)]
+#[derive(Clone, Copy, Default)]
+pub(crate) struct HeldWords {
+    pub collection: u64,
+    pub index: u32,
+    pub start: u32,
+    pub pages: u32,
+}
+
+#[repr(C)]
+#[derive(Clone, Copy, Default)]
+pub(crate) struct FiredWords {
+    pub tracker: u64,
+    pub event: u64,
+}
+
+// The library's sizes, as `tools/layout.c` has them; the order of the fields is the header's.
+const _: () = {
+    use std::mem::size_of;
+    assert!(size_of::<Handle>() == 16);
+    assert!(size_of::<CallWords>() == 48);
+    assert!(size_of::<ReplyWords>() == 48);
+    assert!(size_of::<KeyWords>() == 8);
+    assert!(size_of::<HeldWords>() == 24);
+    assert!(size_of::<FiredWords>() == 16);
+};
+
+type View<T> = unsafe extern "C" fn(*mut Handle, *mut T, usize, *mut u64) -> u32;
+
+extern "C" {
+    fn sysmem_open(
+        handle: *mut Handle,
+        pages: u32,
+        events: u32,
+        nodes: u32,
+        collections: u32,
+        trackers: u32,
+        handles: u32,
+    ) -> u32;
+    fn sysmem_open_seeded(
+        handle: *mut Handle,
+        pages: u32,
+        events: u32,
+        nodes: u32,
+        collections: u32,
+        trackers: u32,
+        handles: u32,
+        seed: *const u8,
+    ) -> u32;
+    fn sysmem_step(
+        handle: *mut Handle,
+        client: u64,
+        asked: *const CallWords,
+        told: *mut ReplyWords,
+    ) -> u32;
+    fn sysmem_live(handle: *mut Handle, out: *mut KeyWords, room: usize, count: *mut u64) -> u32;
+    fn sysmem_held(handle: *mut Handle, out: *mut HeldWords, room: usize, count: *mut u64) -> u32;
+    fn sysmem_fired(handle: *mut Handle, out: *mut FiredWords, room: usize, count: *mut u64)
+        -> u32;
+    fn sysmem_fired_from(
+        handle: *mut Handle,
+        from: u64,
+        out: *mut FiredWords,
+        room: usize,
+        count: *mut u64,
+    ) -> u32;
+    fn sysmem_is_live(handle: *mut Handle, key: *const KeyWords, live: *mut u32) -> u32;
+    fn sysmem_cause(
+        handle: *mut Handle,
+        key: *const KeyWords,
+        cause: *mut u32,
+        origin: *mut KeyWords,
+    ) -> u32;
+    fn sysmem_free_pages(handle: *mut Handle, pages: *mut u32) -> u32;
+    fn sysmem_events(handle: *mut Handle, events: *mut u64) -> u32;
+    fn sysmem_name(about: u32, number: u32, out: *mut u8, room: usize, count: *mut u64) -> u32;
+    fn sysmem_close(handle: *mut Handle) -> u32;
+}
+
+#[cfg(test)]
+thread_local! {
+    /// Whether calls of this thread are refused memory.
+    pub(crate) static REFUSING: std::cell::Cell<bool> = const { std::cell::Cell::new(false) };
+}
+
+/// An open core. Each function takes `&mut`, so that one call at a time is made on it.
+pub(crate) struct Core(Handle);
+
+// SAFETY: the library has proved that its handle may go to another thread.
+unsafe impl Send for Core {}
+
+impl Core {
+    pub fn open(pages: u32, limits: [u32; 5], seed: Option<[u8; 16]>) -> Result<Core, u32> {
+        let mut core = Core(Handle { is_open: false, core: null_mut() });
+        let [e, n, c, t, h] = limits;
+        // SAFETY: the handle is of zeros, and a seed has 16 bytes.
+        let code = unsafe {
+            match seed {
+                Some(seed) => sysmem_open_seeded(&mut core.0, pages, e, n, c, t, h, seed.as_ptr()),
+                None => sysmem_open(&mut core.0, pages, e, n, c, t, h),
+            }
+        };
+        if code == 0 {
+            Ok(core)
+        } else {
+            Err(code)
+        }
+    }
+
+    /// Makes a call, and writes its reply where this answers 0.
+    #[inline]
+    pub fn step(&mut self, client: u64, asked: &CallWords, told: &mut ReplyWords) -> u32 {
+        #[cfg(test)]
+        if REFUSING.with(|refusing| refusing.get()) {
+            return 6;
+        }
+        // SAFETY: the pointers are of this handle, this call and this reply.
+        unsafe { sysmem_step(&mut self.0, client, asked, told) }
+    }
+
+    pub fn live(&mut self) -> Result<Vec<KeyWords>, u32> {
+        self.view(sysmem_live)
+    }
+
+    pub fn held(&mut self) -> Result<Vec<HeldWords>, u32> {
+        self.view(sysmem_held)
+    }
+
+    pub fn fired(&mut self) -> Result<Vec<FiredWords>, u32> {
+        self.view(sysmem_fired)
+    }
+
+    fn view<T: Copy + Default>(&mut self, look: View<T>) -> Result<Vec<T>, u32> {
+        let mut count = 0;
+        let mut all = vec![T::default()];
+        loop {
+            // SAFETY: `out` has as many places as are told.
+            match unsafe { look(&mut self.0, all.as_mut_ptr(), all.len(), &mut count) } {
+                0 if count as usize > all.len() => all.resize(count as usize, T::default()),
+                0 => break,
+                code => return Err(code),
+            }
+        }
+        all.truncate(count as usize);
+        Ok(all)
+    }
+
+    /// The firing with this place in the list, and how many there are.
+    pub fn fired_at(&mut self, place: u64) -> (FiredWords, u64) {
+        let (mut one, mut count) = (FiredWords::default(), 0);
+        // SAFETY: `out` has one place.
+        unsafe { sysmem_fired_from(&mut self.0, place, &mut one, 1, &mut count) };
+        (one, count)
+    }
+
+    pub fn is_live(&mut self, key: KeyWords) -> bool {
+        let mut live = 0;
+        // SAFETY: the pointers are of this handle, this key and this number.
+        unsafe { sysmem_is_live(&mut self.0, &key, &mut live) };
+        live == 1
+    }
+
+    pub fn cause(&mut self, key: KeyWords) -> Option<(u32, KeyWords)> {
+        let (mut cause, mut origin) = (0, KeyWords::default());
+        // SAFETY: as above.
+        let code = unsafe { sysmem_cause(&mut self.0, &key, &mut cause, &mut origin) };
+        (code == 0).then_some((cause, origin))
+    }
+
+    pub fn free_pages(&mut self) -> u32 {
+        let mut pages = 0;
+        // SAFETY: as above.
+        unsafe { sysmem_free_pages(&mut self.0, &mut pages) };
+        pages
+    }
+
+    pub fn events(&mut self) -> u64 {
+        let mut events = 0;
+        // SAFETY: as above.
+        unsafe { sysmem_events(&mut self.0, &mut events) };
+        events
+    }
+}
+
+impl Drop for Core {
+    fn drop(&mut self) {
+        // SAFETY: the handle is this core's; one that is not open is answered so.
+        unsafe { sysmem_close(&mut self.0) };
+    }
+}
+
+/// The name of a code (`about` 0), a refusal (1), a misuse (2) or a cause (3).
+pub(crate) fn name(about: u32, number: u32) -> String {
+    let (mut text, mut count) = ([0; 33], 0);
+    // SAFETY: the text has room for as many bytes as are told.
+    unsafe { sysmem_name(about, number, text.as_mut_ptr(), text.len(), &mut count) };
+    String::from_utf8_lossy(&text[..count as usize]).into_owned()
+}

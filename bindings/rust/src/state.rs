@@ -1,0 +1,688 @@
+//! What lies behind the values: the core, its lock, and what each client has.
+use crate::ffi::{CallWords, Core, ReplyWords};
+use crate::record::Recorder;
+use crate::words::*;
+use std::collections::{BTreeMap, HashMap};
+use std::ops::{Deref, DerefMut};
+use std::sync::atomic::{AtomicU64, Ordering};
+use std::sync::{Arc, Condvar, Mutex, MutexGuard, PoisonError};
+
+pub(crate) mod kind {
+    pub const JOIN: u32 = 0;
+    pub const SHUT: u32 = 1;
+    pub const OPEN_ROOT: u32 = 2;
+    pub const DUPLICATE: u32 = 3;
+    pub const ATTACH_TOKEN: u32 = 4;
+    pub const SYNC: u32 = 5;
+    pub const GIVE: u32 = 6;
+    pub const COLLECT: u32 = 7;
+    pub const BIND: u32 = 8;
+    pub const SET_DISPENSABLE: u32 = 9;
+    pub const SET_WEAK: u32 = 10;
+    pub const SET_WEAK_OK: u32 = 11;
+    pub const SET_CONSTRAINTS: u32 = 12;
+    pub const CHECK: u32 = 13;
+    pub const TAKE: u32 = 14;
+    pub const RELEASE: u32 = 15;
+    pub const CLOSE: u32 = 16;
+    pub const DUP_HANDLE: u32 = 17;
+    pub const DROP_HANDLE: u32 = 18;
+    pub const GIVE_HANDLE: u32 = 19;
+    pub const TRACK_NODE: u32 = 20;
+    pub const TRACK_LIFETIME: u32 = 21;
+    pub const TRACK_WEAK: u32 = 22;
+}
+
+pub(crate) mod reply {
+    pub const JOINED: u32 = 1;
+    pub const IS_SHUT: u32 = 2;
+    pub const NEW_TOKEN: u32 = 3;
+    pub const COLLECTED: u32 = 4;
+    pub const COLLECTED_HANDLE: u32 = 5;
+    pub const EMPTY: u32 = 6;
+    pub const PENDING: u32 = 7;
+    pub const ALLOCATED: u32 = 8;
+    pub const TAKEN: u32 = 9;
+    pub const TRACKER: u32 = 10;
+    pub const REFUSED: u32 = 11;
+    pub const MISUSED: u32 = 12;
+    pub const PEER_CLOSED: u32 = 13;
+}
+
+pub(crate) fn of_key(kind: u32, key: Key) -> CallWords {
+    CallWords { kind, slot: key.slot, generation: key.generation, ..Default::default() }
+}
+
+pub(crate) fn of_buffer(kind: u32, buffer: Buffer, strength: Strength) -> CallWords {
+    let Buffer { collection, index } = buffer;
+    CallWords { kind, collection, index, strength: strength as u32, ..Default::default() }
+}
+
+pub(crate) fn of_kind(kind: u32) -> CallWords {
+    CallWords { kind, ..Default::default() }
+}
+
+/// Whether an allocation or a failure may come of a call that was answered so.
+fn may_change(kind: u32, told: u32) -> bool {
+    use kind::*;
+    told == reply::MISUSED
+        || matches!(kind, SET_CONSTRAINTS | SET_WEAK | RELEASE | CLOSE | DROP_HANDLE)
+}
+
+/// An end or a handle that a client has: what the call says that lets go of it.
+#[derive(Clone, Copy)]
+enum Row {
+    /// And the next free row.
+    Free(u32),
+    End {
+        key: Key,
+        collection: CollectionId,
+        is_release: bool,
+        is_late: bool,
+    },
+    Handle {
+        buffer: Buffer,
+        strength: Strength,
+        is_late: bool,
+    },
+}
+
+const NONE: u32 = u32::MAX;
+
+impl Row {
+    /// The call and its collection.
+    fn parting(&self) -> Option<(CallWords, CollectionId)> {
+        match *self {
+            Row::Free(_) => None,
+            Row::End { key, collection, is_release, .. } => {
+                let kind = if is_release { kind::RELEASE } else { kind::CLOSE };
+                Some((of_key(kind, key), collection))
+            }
+            Row::Handle { buffer, strength, .. } => {
+                Some((of_buffer(kind::DROP_HANDLE, buffer, strength), buffer.collection))
+            }
+        }
+    }
+
+    /// Whether its value is gone, and the call is to be made once memory is there.
+    fn is_late(&self) -> bool {
+        matches!(self, Row::End { is_late: true, .. } | Row::Handle { is_late: true, .. })
+    }
+
+    fn put_off(&mut self) {
+        if let Row::End { is_late, .. } | Row::Handle { is_late, .. } = self {
+            *is_late = true;
+        }
+    }
+}
+
+/// What a client has. It is there as long as its `Client`, a value of it or something to be made
+/// for it is.
+pub(crate) struct Account {
+    client: ClientId,
+    pub label: Arc<str>,
+    rows: Vec<Row>,
+    /// The first free row.
+    free: u32,
+    /// How many values there are, the `Client` among them.
+    values: usize,
+    /// How many parcels wait.
+    pub parcels: u64,
+    pub given: Arc<Condvar>,
+    stage: Stage,
+    /// Something is to be made once memory is there.
+    is_late: bool,
+}
+
+/// How far a client is with its vanishing.
+#[derive(Clone, Copy, PartialEq)]
+enum Stage {
+    Here,
+    /// It vanished, and was not shut yet.
+    Leaving,
+    /// It was shut; this many rows were its own then, and `parcels` are to be collected behind them.
+    Shut(usize),
+    /// Nothing is left of it.
+    Gone,
+}
+
+impl Account {
+    fn add(&mut self, row: Row) -> u32 {
+        if self.free == NONE {
+            self.rows.push(row);
+            return self.rows.len() as u32 - 1;
+        }
+        let at = self.free;
+        if let Row::Free(next) = std::mem::replace(&mut self.rows[at as usize], row) {
+            self.free = next;
+        }
+        at
+    }
+
+    fn erase(&mut self, row: u32) {
+        self.rows[row as usize] = Row::Free(self.free);
+        self.free = row;
+    }
+}
+
+/// Whether a tracker fired.
+#[derive(Default)]
+pub(crate) struct Watch {
+    pub event: AtomicU64,
+    pub changed: Condvar,
+}
+
+pub(crate) type Then = Box<dyn FnOnce(Event) + Send>;
+
+pub(crate) struct Waiter {
+    pub watch: Arc<Watch>,
+    pub then: Option<Then>,
+}
+
+/// Somebody who waits for a change of a collection.
+pub(crate) struct Wait {
+    pub collection: CollectionId,
+    pub is_changed: bool,
+    pub changed: Arc<Condvar>,
+}
+
+/// The place of an account in the state's list.
+pub(crate) type Place = usize;
+
+pub(crate) struct State {
+    pub core: Core,
+    accounts: Vec<Option<Account>>,
+    free_accounts: Vec<Place>,
+    /// Those that did not vanish, by id.
+    clients: Vec<(ClientId, Place)>,
+    pub waiting: BTreeMap<TrackerId, Waiter>,
+    /// How many firings were handed on.
+    pub seen: u64,
+    /// The accounts with something to be made.
+    late: Vec<Place>,
+    pub labels: HashMap<Key, String>,
+    /// Who waits, by numbers of their own.
+    waits: BTreeMap<u64, Wait>,
+    recorder: Option<Recorder>,
+    /// Whether there is a wait or a recorder.
+    is_watched: bool,
+}
+
+impl State {
+    pub fn new(core: Core, record: Option<Record>) -> State {
+        State {
+            core,
+            accounts: Vec::new(),
+            free_accounts: Vec::new(),
+            clients: Vec::new(),
+            waiting: BTreeMap::new(),
+            seen: 0,
+            late: Vec::new(),
+            labels: HashMap::new(),
+            waits: BTreeMap::new(),
+            is_watched: record.is_some(),
+            recorder: record.map(Recorder::new),
+        }
+    }
+
+    /// Makes one call, which may change this collection, and writes its reply where this answers 0.
+    /// `wanted` is what the program calls what it makes.
+    #[inline]
+    fn step_named(
+        &mut self,
+        who: ClientId,
+        call: &CallWords,
+        collection: CollectionId,
+        wanted: &str,
+        told: &mut ReplyWords,
+    ) -> u32 {
+        let code = self.core.step(who, call, told);
+        if self.is_watched && code == DONE {
+            self.tell(who, call, collection, told, wanted);
+        }
+        code
+    }
+
+    /// The same for a call that lets go of something.
+    fn step(
+        &mut self,
+        who: ClientId,
+        call: &CallWords,
+        collection: CollectionId,
+    ) -> Result<ReplyWords, u32> {
+        let mut told = ReplyWords::default();
+        match self.step_named(who, call, collection, "", &mut told) {
+            DONE => Ok(told),
+            code => Err(code),
+        }
+    }
+
+    /// Tells an event to those who wait for a change of its collection, and to the recorder.
+    #[cold]
+    fn tell(
+        &mut self,
+        who: ClientId,
+        call: &CallWords,
+        collection: CollectionId,
+        told: &ReplyWords,
+        wanted: &str,
+    ) {
+        if may_change(call.kind, told.kind) {
+            for wait in self.waits.values_mut().filter(|wait| wait.collection == collection) {
+                wait.is_changed = true;
+                wait.changed.notify_all();
+            }
+        }
+        if let Some(recorder) = &mut self.recorder {
+            recorder.note(who, call, told, wanted);
+        }
+    }
+
+    /// The same. It answers the reply, or what is no success as an error.
+    #[inline]
+    pub fn ask_raw(
+        &mut self,
+        who: ClientId,
+        call: &CallWords,
+        collection: CollectionId,
+        wanted: &str,
+    ) -> Result<ReplyWords, Error> {
+        let mut told = ReplyWords::default();
+        match self.step_named(who, call, collection, wanted, &mut told) {
+            DONE if told.kind < reply::REFUSED => Ok(told),
+            code => Err(self.why(code, &told)),
+        }
+    }
+
+    /// The same for a call of nobody.
+    pub fn ask_anybody(&mut self, call: &CallWords, wanted: &str) -> Result<ReplyWords, Error> {
+        self.ask_raw(0, call, 0, wanted)
+    }
+
+    /// The same for a value of an account. Where its client vanished and could not be parted with
+    /// yet, its values are dead all the same.
+    #[inline]
+    pub fn ask(
+        &mut self,
+        owner: &Owner,
+        call: &CallWords,
+        collection: CollectionId,
+    ) -> Result<ReplyWords, Error> {
+        if !self.late.is_empty() && self.is_dead(owner.place) {
+            return Err(dead(call.kind));
+        }
+        self.ask_raw(owner.client, call, collection, "")
+    }
+
+    /// The same for a call that makes what the program calls so.
+    pub fn ask_named(
+        &mut self,
+        owner: &Owner,
+        call: &CallWords,
+        wanted: &str,
+    ) -> Result<ReplyWords, Error> {
+        if !self.late.is_empty() && self.is_dead(owner.place) {
+            return Err(dead(call.kind));
+        }
+        self.ask_raw(owner.client, call, 0, wanted)
+    }
+
+    #[cold]
+    fn why(&self, code: u32, told: &ReplyWords) -> Error {
+        match told.kind {
+            _ if code != DONE => Error::of(code),
+            reply::REFUSED => Error::Refused(Refusal::of(told.detail)),
+            reply::MISUSED => Error::Misused(Misuse::of(told.detail)),
+            _ => {
+                let origin = Key { slot: told.slot, generation: told.generation };
+                let label = self.labels.get(&origin).cloned();
+                Error::PeerClosed { cause: Cause::of(told.detail), origin, label }
+            }
+        }
+    }
+
+    #[cold]
+    fn is_dead(&self, place: Place) -> bool {
+        matches!(&self.accounts[place], Some(a) if a.is_late && a.stage != Stage::Here)
+    }
+
+    /// At most 4,096 labels are kept: then those of nodes that were forgotten go.
+    pub fn set_label(&mut self, key: Key, label: &str) {
+        if label.is_empty() {
+            return;
+        }
+        if self.labels.len() >= 4096 {
+            let core = &mut self.core;
+            self.labels
+                .retain(|key, _| core.is_live(key.words()) || core.cause(key.words()).is_some());
+        }
+        if self.labels.len() < 4096 {
+            self.labels.insert(key, label.to_string());
+        }
+    }
+
+    /// An account of a client that joined.
+    pub fn open_account(&mut self, client: ClientId, label: &str) -> Place {
+        let account = Account {
+            client,
+            label: label.into(),
+            rows: Vec::new(),
+            free: NONE,
+            values: 1,
+            parcels: 0,
+            given: Arc::new(Condvar::new()),
+            stage: Stage::Here,
+            is_late: false,
+        };
+        let place = self.free_accounts.pop().unwrap_or_else(|| {
+            self.accounts.push(None);
+            self.accounts.len() - 1
+        });
+        self.accounts[place] = Some(account);
+        self.clients.push((client, place));
+        place
+    }
+
+    /// The account of a value that is there.
+    pub fn account(&mut self, place: Place) -> &mut Account {
+        self.accounts[place].as_mut().expect("an account is there as long as a value of it")
+    }
+
+    /// The client has a new end, or a new handle: answers its row.
+    pub fn add_end(&mut self, place: Place, key: Key, collection: CollectionId) -> u32 {
+        let account = self.account(place);
+        account.values += 1;
+        account.add(Row::End { key, collection, is_release: false, is_late: false })
+    }
+
+    pub fn add_handle(&mut self, place: Place, buffer: Buffer, strength: Strength) -> u32 {
+        let account = self.account(place);
+        account.values += 1;
+        account.add(Row::Handle { buffer, strength, is_late: false })
+    }
+
+    /// A value was given away: a parcel waits for that client.
+    pub fn given(&mut self, place: Place, row: u32, to: ClientId) {
+        self.account(place).erase(row);
+        self.leave(place);
+        if let Ok(at) = self.clients.binary_search_by_key(&to, |client| client.0) {
+            let account = self.account(self.clients[at].1);
+            account.parcels += 1;
+            account.given.notify_all();
+        }
+    }
+
+    /// A value is gone.
+    pub fn leave(&mut self, place: Place) {
+        let account = self.account(place);
+        account.values -= 1;
+        if account.values == 0 && !account.is_late {
+            self.accounts[place] = None;
+            self.free_accounts.push(place);
+        }
+    }
+
+    /// Lets go of what stands in this row, whose value goes. A dead one makes no event.
+    pub fn part(&mut self, place: Place, row: u32) {
+        let account = self.account(place);
+        if account.stage == Stage::Here {
+            let client = account.client;
+            let (call, collection) = account.rows[row as usize].parting().unwrap();
+            if self.step(client, &call, collection) == Err(NO_MEMORY) {
+                self.put_off_row(place, row);
+            } else {
+                self.account(place).erase(row);
+            }
+        }
+        self.leave(place);
+    }
+
+    /// Releases the end that stands in this row, whose value goes whatever is answered.
+    pub fn release(
+        &mut self,
+        owner: &Owner,
+        row: u32,
+        key: Key,
+        collection: CollectionId,
+    ) -> Result<(), Error> {
+        let place = owner.place;
+        let is_here = self.account(place).stage == Stage::Here;
+        let answer = self.ask(owner, &of_key(kind::RELEASE, key), collection).map(|_| ());
+        if is_here && answer == Err(Error::NoMemory) {
+            if let Row::End { is_release, .. } = &mut self.account(place).rows[row as usize] {
+                *is_release = true;
+            }
+            self.put_off_row(place, row);
+        } else if is_here {
+            self.account(place).erase(row);
+        }
+        self.leave(place);
+        answer
+    }
+
+    #[cold]
+    fn put_off_row(&mut self, place: Place, row: u32) {
+        self.account(place).rows[row as usize].put_off();
+        self.put_off(place);
+    }
+
+    #[cold]
+    fn put_off(&mut self, place: Place) {
+        let account = self.account(place);
+        if !account.is_late {
+            account.is_late = true;
+            self.late.push(place);
+        }
+    }
+
+    pub fn is_settled(&self) -> bool {
+        self.late.is_empty()
+    }
+
+    /// Makes what was put off, as far as memory allows.
+    #[cold]
+    fn catch_up(&mut self) {
+        while let Some(&place) = self.late.last() {
+            if !self.settle(place) {
+                return;
+            }
+            self.late.pop();
+            let account = self.account(place);
+            account.is_late = false;
+            if account.values == 0 {
+                self.accounts[place] = None;
+                self.free_accounts.push(place);
+            }
+        }
+    }
+
+    /// The client vanishes: it is shut, collects what waits, closes its ends, what it collected
+    /// first, and drops its handles.
+    pub fn vanish(&mut self, place: Place) {
+        let account = self.account(place);
+        account.stage = Stage::Leaving;
+        let (client, is_late) = (account.client, account.is_late);
+        self.clients.retain(|other| other.0 != client);
+        if is_late || !self.settle(place) {
+            self.put_off(place);
+        }
+        self.leave(place);
+    }
+
+    /// Makes what is to be made for this client. Where memory is refused it can be called again.
+    fn settle(&mut self, place: Place) -> bool {
+        let own = match self.collect_all(place) {
+            Ok(own) => own,
+            Err(is_done) => return is_done,
+        };
+        let is_here = self.account(place).stage == Stage::Here;
+        let count = self.account(place).rows.len();
+        for handles in [false, true] {
+            for i in 0..count {
+                let at = (own + i) % count;
+                let account = self.account(place);
+                let (client, row) = (account.client, account.rows[at]);
+                if matches!(row, Row::Handle { .. }) != handles || (is_here && !row.is_late()) {
+                    continue;
+                }
+                let (call, collection) = match row.parting() {
+                    Some(parting) => parting,
+                    None => continue,
+                };
+                if self.step(client, &call, collection) == Err(NO_MEMORY) {
+                    return false;
+                }
+                self.account(place).erase(at as u32);
+            }
+        }
+        if !is_here {
+            self.account(place).stage = Stage::Gone;
+        }
+        true
+    }
+
+    /// Shuts a client that vanished, and collects what waits for it. Answers how many rows it had as
+    /// it was shut; or, where there is nothing more to be made now, whether that is all.
+    fn collect_all(&mut self, place: Place) -> Result<usize, bool> {
+        let Account { client, stage, .. } = *self.account(place);
+        if stage == Stage::Here {
+            return Ok(0);
+        }
+        if stage == Stage::Leaving {
+            let told = self.step(client, &of_kind(kind::SHUT), 0);
+            let told = told.map_err(|code| code != NO_MEMORY)?;
+            let account = self.account(place);
+            account.parcels = told.id;
+            account.stage = Stage::Shut(account.rows.len());
+        }
+        while self.account(place).parcels > 0 {
+            let told = self.step(client, &of_kind(kind::COLLECT), 0);
+            let told = told.map_err(|code| code != NO_MEMORY)?;
+            let account = self.account(place);
+            account.parcels -= 1;
+            match told.kind {
+                reply::COLLECTED => {
+                    let key = Key { slot: told.slot, generation: told.generation };
+                    let (collection, is_release, is_late) = (told.id, false, false);
+                    account.rows.push(Row::End { key, collection, is_release, is_late });
+                }
+                reply::COLLECTED_HANDLE => {
+                    let buffer = Buffer { collection: told.id, index: told.index };
+                    let strength = Strength::of(told.detail);
+                    account.rows.push(Row::Handle { buffer, strength, is_late: false });
+                }
+                _ => {}
+            }
+        }
+        match self.account(place).stage {
+            Stage::Shut(own) => Ok(own),
+            _ => Err(true),
+        }
+    }
+
+    /// Adds one who waits for a change of a collection. Answers a number for it.
+    pub fn wait(&mut self, wait: Wait) -> u64 {
+        let number = self.waits.keys().last().map_or(0, |last| last + 1);
+        self.waits.insert(number, wait);
+        self.is_watched = true;
+        number
+    }
+
+    pub fn waiter(&mut self, number: u64) -> &mut Wait {
+        self.waits.get_mut(&number).expect("a wait is there until it ends")
+    }
+
+    pub fn end_wait(&mut self, number: u64) {
+        self.waits.remove(&number);
+        self.is_watched = self.recorder.is_some() || !self.waits.is_empty();
+    }
+
+    /// What is to be told of trackers that fired by now.
+    fn take_fired(&mut self) -> Vec<(Then, Event)> {
+        let mut ready = Vec::new();
+        while !self.waiting.is_empty() {
+            let (fired, count) = self.core.fired_at(self.seen);
+            if self.seen >= count {
+                break;
+            }
+            self.seen += 1;
+            if let Some(Waiter { watch, then }) = self.waiting.remove(&fired.tracker) {
+                watch.event.store(fired.event, Ordering::Release);
+                watch.changed.notify_all();
+                ready.extend(then.map(|then| (then, fired.event)));
+            }
+        }
+        ready
+    }
+}
+
+const DONE: u32 = 0;
+const NO_MEMORY: u32 = 6;
+
+/// How a call on a value of a client that is gone is refused.
+fn dead(kind: u32) -> Error {
+    use kind::*;
+    match kind {
+        DUP_HANDLE | GIVE_HANDLE | TRACK_WEAK => Error::Refused(Refusal::NoSuchHandle),
+        _ => Error::Refused(Refusal::NoSuchEnd),
+    }
+}
+
+/// Whose a value is.
+#[derive(Clone)]
+pub(crate) struct Owner {
+    pub shared: Arc<Shared>,
+    pub client: ClientId,
+    pub place: Place,
+}
+
+pub(crate) struct Shared(pub Mutex<State>);
+
+impl Shared {
+    pub fn raw(&self) -> MutexGuard<'_, State> {
+        self.0.lock().unwrap_or_else(PoisonError::into_inner)
+    }
+
+    pub fn lock(&self) -> Guard<'_> {
+        let mut state = self.raw();
+        if !state.late.is_empty() {
+            state.catch_up();
+        }
+        Guard(Some(state))
+    }
+}
+
+/// Holds the lock. As it goes, the trackers that fired are told.
+pub(crate) struct Guard<'a>(Option<MutexGuard<'a, State>>);
+
+impl Deref for Guard<'_> {
+    type Target = State;
+    fn deref(&self) -> &State {
+        self.0.as_ref().unwrap()
+    }
+}
+
+impl DerefMut for Guard<'_> {
+    fn deref_mut(&mut self) -> &mut State {
+        self.0.as_mut().unwrap()
+    }
+}
+
+impl Guard<'_> {
+    #[cold]
+    fn tell(&mut self) {
+        let ready = self.take_fired();
+        self.0 = None;
+        for (then, event) in ready {
+            then(event);
+        }
+    }
+}
+
+impl Drop for Guard<'_> {
+    fn drop(&mut self) {
+        if !self.waiting.is_empty() {
+            self.tell();
+        }
+    }
+}
