@@ -1,0 +1,124 @@
+#!/usr/bin/env bash
+# Installs the bindings into a temporary prefix, and builds there a program of fifteen lines in C, C++ and Rust as their users
+# would: by pkg-config (against the shared library and the static one), by CMake (both) and by cargo. Then it unpacks what
+# `make dist` packs, checks its checksums, and builds the C++ program against that. It needs cc, c++, make, pkg-config, cmake
+# and cargo, and crates/sysmem/out/libsysmem.a, which `rt lib` leaves.
+set -euo pipefail
+cd "$(dirname "$0")/.."
+top=$PWD
+room=$(mktemp -d)
+trap 'rm -rf "$room"' EXIT
+prefix=$room/prefix
+say() { echo "installed: $*"; }
+
+cat >"$room/app.cpp" <<'END'
+#include <sysmem.hpp>
+#include <cstdio>
+int main() {
+    auto service = sysmem::Service::open().value();
+    auto app = service.join("app").value();
+    auto root = app.open_root("root").value();
+    {
+        auto display = service.join("display").value();
+        root.duplicate("display").value().give(display.id()).value();
+    } // the display vanishes
+    auto told = root.sync();
+    std::puts(told ? "well" : told.error().message().c_str());
+    return 0;
+}
+END
+cat >"$room/app.c" <<'END'
+#include <sysmem.h>
+#include <stdio.h>
+int main(void) {
+    sysmem_core core = {0};
+    sysmem_call call = {0};
+    sysmem_reply reply;
+    char name[32];
+    uint64_t count;
+    sysmem_open(&core, 16, 1000, 64, 8, 64, 64);
+    call.kind = SYSMEM_SYNC;
+    sysmem_step(&core, 7, &call, &reply);
+    sysmem_name(SYSMEM_ABOUT_REFUSAL, reply.detail, name, sizeof name, &count);
+    printf("%.*s\n", (int)count, name);
+    return (int)sysmem_close(&core);
+}
+END
+mkdir -p "$room/rust/src"
+cat >"$room/rust/src/main.rs" <<'END'
+use sysmem::*;
+fn main() -> Result<(), Error> {
+    let service = Service::open(Options::default())?;
+    let app = service.join()?;
+    let root = app.open_root("root")?;
+    {
+        let display = service.join()?;
+        root.duplicate("display")?.give(display.id())?;
+    } // the display vanishes
+    match root.sync() {
+        Ok(()) => println!("well"),
+        Err(told) => println!("{told}"),
+    }
+    Ok(())
+}
+END
+lost="closed: lost, by node 1.0 (display)"
+expect() { # what is wanted, the program and its words
+  local wanted=$1 told
+  shift
+  told=$("$@")
+  [ "$told" = "$wanted" ] || { echo "$1: $told"; exit 1; }
+}
+
+make -s -C bindings install prefix="$prefix" >"$room/log"
+export PKG_CONFIG_PATH=$prefix/lib/pkgconfig
+[ "$(pkg-config --modversion sysmem)" = 0.1.0 ]
+# The library lies in no folder that the loader looks in by itself.
+c++ -std=c++17 "$room/app.cpp" $(pkg-config --cflags --libs sysmem) -Wl,-rpath,"$prefix/lib" -o "$room/app"
+expect "$lost" "$room/app"
+cc -std=c99 "$room/app.c" $(pkg-config --cflags --libs sysmem) -Wl,-rpath,"$prefix/lib" -o "$room/app"
+expect NoSuchClient "$room/app"
+c++ -std=c++17 "$room/app.cpp" $(pkg-config --cflags sysmem) "$prefix/lib/libsysmem.a" -o "$room/app"
+expect "$lost" "$room/app"
+say "pkg-config: C and C++, shared and static"
+
+cat >"$room/CMakeLists.txt" <<'END'
+cmake_minimum_required(VERSION 3.16)
+project(app CXX)
+find_package(sysmem 0.1 REQUIRED)
+find_package(Threads REQUIRED)
+add_executable(with_shared app.cpp)
+target_link_libraries(with_shared sysmem::sysmem Threads::Threads)
+add_executable(with_static app.cpp)
+target_link_libraries(with_static sysmem::static Threads::Threads)
+END
+cmake -S "$room" -B "$room/cmake" -DCMAKE_PREFIX_PATH="$prefix" -DCMAKE_CXX_STANDARD=17 >"$room/log"
+cmake --build "$room/cmake" >"$room/log" 2>&1 || { cat "$room/log"; exit 1; }
+expect "$lost" "$room/cmake/with_shared"
+expect "$lost" "$room/cmake/with_static"
+say "CMake: shared and static"
+
+cat >"$room/rust/Cargo.toml" <<END
+[package]
+name = "app"
+version = "0.1.0"
+edition = "2021"
+[dependencies]
+sysmem = { path = "$prefix/share/sysmem/rust" }
+END
+(cd "$room/rust" && env -u SYSMEM_LIB_DIR -u RATTLE_KIT cargo build --offline --quiet)
+expect "$lost" "$room/rust/target/debug/app"
+say "cargo"
+
+make -s -C bindings dist >"$room/log"
+mkdir "$room/dist"
+tar -C "$room/dist" -xzf bindings/build/sysmem-*.tar.gz
+cd "$room/dist"/sysmem-*
+sha256sum --quiet -c SHA256SUMS
+export PKG_CONFIG_PATH=$PWD/lib/pkgconfig
+c++ -std=c++17 "$room/app.cpp" $(pkg-config --cflags --libs sysmem) -Wl,-rpath,"$PWD/lib" -o "$room/app"
+expect "$lost" "$room/app"
+exported=$(nm -D --defined-only lib/libsysmem.so | awk '$2 == "T" { sub(/@.*/, "", $3); print $3 }' | sort)
+declared=$(grep -o '^uint32_t sysmem_[a-z_]*' "$top/include/sysmem.h" | cut -d ' ' -f 2 | sort)
+[ "$exported" = "$declared" ] || { diff <(echo "$exported") <(echo "$declared"); exit 1; }
+say "the archive that is passed on, and the names that the shared library exports"
