@@ -4,6 +4,3 @@
 mod report;
 
 pub use report::push_report;
-
-#[cfg(test)]
-mod tests;

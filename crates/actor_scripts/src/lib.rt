@@ -12,6 +12,3 @@ mod reading;
 pub use cast::Cast;
 pub use fault::CastFault;
 pub use judging::read_actors;
-
-#[cfg(test)]
-mod tests;

@@ -11,6 +11,3 @@ mod thing;
 pub use desk::Desk;
 pub use step::{ActorScript, BufferVerb, Step, Verb};
 pub use thing::{Asked, Thing};
-
-#[cfg(test)]
-mod tests;

@@ -1,5 +1,5 @@
 //! Reports.
-use crate::push_report;
+use actor_reports::push_report;
 use record_parts::ClientLine;
 use script_lines::Label;
 use std::test::Fail;

@@ -1,35 +1,14 @@
 //! Scripts of actors, read.
-use crate::{Cast, CastFault, read_actors};
+use actor_scripts::{Cast, CastFault, read_actors};
 use actor_steps::{BufferVerb, Step, Verb};
 use script_lines::{LabelHash, MOST_BYTES};
 use sm_names::{Constraints, Strength};
 use std::alloc::Global;
 use std::io;
-use std::io::{ErrorKind, Read};
+use std::io::Read;
 use std::process::Abort;
 use std::test::Fail;
-
-// So many bytes a read, and an error at read `fails` (0: none).
-#[derive(Drop)]
-struct Drip<'a> {
-    bytes: &'a [u8],
-    step: usize,
-    reads: usize,
-    fails: usize,
-}
-
-impl Read for Drip<'_> {
-    fn read(&mut self, buf: &mut [u8]) -> io::Result<usize> {
-        self.reads = self.reads.saturating_add(1);
-        if self.reads == self.fails {
-            return Err(io::Error::from(ErrorKind::Other));
-        }
-        let most = self.step.min(buf.len()).min(self.bytes.len());
-        buf[..most].copy_from_slice(&self.bytes[..most]);
-        self.bytes = &self.bytes[most..];
-        Ok(most)
-    }
-}
+use trial_streams::Drip;
 
 // So many bytes, of remarks of 255 bytes and an end.
 #[derive(Drop)]

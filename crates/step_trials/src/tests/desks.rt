@@ -1,5 +1,5 @@
-//! What no contract says: that calls succeed where there is memory.
-use crate::{BufferVerb, Desk, Step, Verb};
+//! What an actor knows of what it was told.
+use actor_steps::{BufferVerb, Desk, Step, Verb};
 use sm_names::{Call, NodeKey, Reply, Strength};
 
 fn key() -> NodeKey {

@@ -1,0 +1,4 @@
+//! What the contracts leave open: that scripts are read, steps are found and reports are made where there is memory.
+mod casts;
+mod desks;
+mod reports;
