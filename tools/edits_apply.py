@@ -5,8 +5,9 @@
   tools/edits_apply.py --make FOLDER EDIT.edit         makes the edit in this copy of its crate
 
 An edit applies where each of its `old:` texts stands exactly once in its file, after the pairs before it, and the
-edit changes something. It reads files alone, and takes less than a second. The last line counts; the status is 1 if
-an edit does not apply.
+edit changes something. With no NAME it is also a fault where the gate tries a single edit of a crate, which costs it
+a whole check, or more than eight. It reads files alone, and takes less than a second. The last line counts; the
+status is 1 if there is a fault.
 """
 import pathlib
 import re
@@ -14,6 +15,7 @@ import sys
 
 CRATES = pathlib.Path(__file__).resolve().parent.parent / "crates"
 FOLDERS = ("must-fail", "more-edits")
+MOST = 8
 
 
 class DoesNotApply(Exception):
@@ -76,6 +78,14 @@ def misplaced():
                 yield file
 
 
+def miscounted():
+    """Crates of which the gate tries a single edit, or too many."""
+    for folder in sorted(CRATES.glob("*/must-fail")):
+        count = len(list(folder.glob("*.edit")))
+        if count == 1 or count > MOST:
+            yield folder, f"the gate tries {count} edits of a crate, and not none or 2 to {MOST}"
+
+
 def report(words):
     """Prints which edits do not apply, and a count; returns the status."""
     edits = [edit for what in words or sorted(it.name for it in CRATES.iterdir()) for edit in named(what)]
@@ -86,10 +96,11 @@ def report(words):
             edited(edit.parent.parent, edit)
         except (DoesNotApply, UnicodeDecodeError) as fault:
             faults.append((edit, fault))
-    for edit, fault in faults:
-        print(f"{edit.relative_to(CRATES)}: {fault}")
+    counts = [] if words else list(miscounted())
+    for file, fault in faults + counts:
+        print(f"{file.relative_to(CRATES)}: {fault}")
     print(f"{asked - len(faults)} edits apply, {len(faults)} do not")
-    return 1 if faults else 0
+    return 1 if faults or counts else 0
 
 
 if __name__ == "__main__":
