@@ -12,14 +12,14 @@ use crate::slots::ask_there;
 use crate::storing::{make_room, store};
 use actor_steps::{Asked, Desk, Step};
 use client_ends::{Client, End, Held};
-use service_lock::Service;
+use service_lock::{Service, Setup};
 use sm_names::{ClientId, Reply, StepFault};
 use std::alloc::Global;
 use std::sync::Wait;
 use std::sync::ledger::Ledger;
 
 // An actor while it plays: its client, its things in their slots, and what it knows.
-pub(crate) struct Actor<E: Ledger, S: Ledger, W: Ledger> {
+pub(crate) struct Actor<E: Setup, S: Ledger, W: Ledger> {
     pub client: Client<E, S, W>,
     pub slots: Vec<Option<End<E, S, W>>>,
     // Empty lists, with room for all that lies in the slots.
@@ -28,7 +28,7 @@ pub(crate) struct Actor<E: Ledger, S: Ledger, W: Ledger> {
 }
 
 // Makes the call on what lies in the slot, if one is told.
-fn ask_on<E: Ledger, S: Ledger, W: Ledger, R: Wait>(
+fn ask_on<E: Setup, S: Ledger, W: Ledger, R: Wait>(
     rt: &R,
     alloc: Global,
     service: &Service<E, S, W>,
@@ -53,7 +53,7 @@ fn ask_on<E: Ledger, S: Ledger, W: Ledger, R: Wait>(
 }
 
 // Makes the call: what it is made on leaves its slot if it is spent, and what it brings is stored.
-fn ask<E: Ledger, S: Ledger, W: Ledger, R: Wait>(
+fn ask<E: Setup, S: Ledger, W: Ledger, R: Wait>(
     rt: &R,
     alloc: Global,
     service: &Service<E, S, W>,
@@ -80,7 +80,7 @@ fn ask<E: Ledger, S: Ledger, W: Ledger, R: Wait>(
     }
 }
 
-impl<E: Ledger, S: Ledger, W: Ledger> Actor<E, S, W> {
+impl<E: Setup, S: Ledger, W: Ledger> Actor<E, S, W> {
     // An actor that has made no step.
     pub(crate) fn new(alloc: Global, client: Client<E, S, W>) -> Actor<E, S, W>
         ensures client { result.client ≡ client }

@@ -5,14 +5,14 @@ ghost use Rattle.client_actors.specs.Asking.{Lent, may_spend};
 
 use crate::brought::Brought;
 use client_ends::{Client, CollectionEnd, End, EndOf, Handle, TokenEnd, Why};
-use service_lock::Service;
+use service_lock::{Service, Setup};
 use sm_names::{Call, StepFault};
 use std::alloc::Global;
 use std::sync::Wait;
 use std::sync::ledger::Ledger;
 
 // Calls on nothing.
-pub(crate) fn on_none<E: Ledger, S: Ledger, W: Ledger, R: Wait>(
+pub(crate) fn on_none<E: Setup, S: Ledger, W: Ledger, R: Wait>(
     rt: &R,
     service: &Service<E, S, W>,
     client: &mut Client<E, S, W>,
@@ -43,7 +43,7 @@ pub(crate) fn on_none<E: Ledger, S: Ledger, W: Ledger, R: Wait>(
 }
 
 // Calls on an end of either kind.
-fn on_end<K, E: Ledger, S: Ledger, W: Ledger, R: Wait>(
+fn on_end<K, E: Setup, S: Ledger, W: Ledger, R: Wait>(
     rt: &R,
     service: &Service<E, S, W>,
     client: &mut Client<E, S, W>,
@@ -79,7 +79,7 @@ fn on_end<K, E: Ledger, S: Ledger, W: Ledger, R: Wait>(
 }
 
 // Calls on a token.
-pub(crate) fn on_token<E: Ledger, S: Ledger, W: Ledger, R: Wait>(
+pub(crate) fn on_token<E: Setup, S: Ledger, W: Ledger, R: Wait>(
     rt: &R,
     service: &Service<E, S, W>,
     client: &mut Client<E, S, W>,
@@ -108,7 +108,7 @@ pub(crate) fn on_token<E: Ledger, S: Ledger, W: Ledger, R: Wait>(
 }
 
 // Calls on a collection.
-pub(crate) fn on_collection<E: Ledger, S: Ledger, W: Ledger, R: Wait>(
+pub(crate) fn on_collection<E: Setup, S: Ledger, W: Ledger, R: Wait>(
     rt: &R,
     alloc: Global,
     service: &Service<E, S, W>,
@@ -154,7 +154,7 @@ pub(crate) fn on_collection<E: Ledger, S: Ledger, W: Ledger, R: Wait>(
 }
 
 // Calls on a handle.
-pub(crate) fn on_handle<E: Ledger, S: Ledger, W: Ledger, R: Wait>(
+pub(crate) fn on_handle<E: Setup, S: Ledger, W: Ledger, R: Wait>(
     rt: &R,
     service: &Service<E, S, W>,
     client: &mut Client<E, S, W>,

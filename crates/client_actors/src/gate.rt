@@ -1,6 +1,7 @@
 //! What is told of actors while they run, and at their end.
 use client_ends::{Client, Held};
 use client_parting::Wreck;
+use service_lock::Setup;
 use sm_names::{ClientId, Reply, StepFault};
 use std::sync::ledger::Ledger;
 
@@ -15,7 +16,7 @@ pub trait Gate {
 }
 
 /// How an actor ended. It must be spent.
-pub enum ActorEnd<E: Ledger, S: Ledger, W: Ledger> {
+pub enum ActorEnd<E: Setup, S: Ledger, W: Ledger> {
     /// It made all its steps, and vanished.
     Wrecked(Wreck<E, S, W>),
     /// It was stopped by a fault, and what it has comes back.

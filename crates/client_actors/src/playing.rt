@@ -12,14 +12,14 @@ use crate::storing::unload;
 use actor_steps::{ActorScript, Step};
 use client_ends::{Client, Held};
 use client_parting::vanish;
-use service_lock::Service;
+use service_lock::{Service, Setup};
 use sm_names::{ClientId, StepFault};
 use std::alloc::Global;
 use std::sync::Wait;
 use std::sync::ledger::Ledger;
 
 // Makes the steps in order, until a fault.
-fn play_steps<E: Ledger, S: Ledger, W: Ledger, G: Gate, R: Wait>(
+fn play_steps<E: Setup, S: Ledger, W: Ledger, G: Gate, R: Wait>(
     rt: &R,
     alloc: Global,
     service: &Service<E, S, W>,
@@ -52,7 +52,7 @@ fn play_steps<E: Ledger, S: Ledger, W: Ledger, G: Gate, R: Wait>(
 }
 
 // Takes the actor apart: what it holds, in the list of each kind in the order in which it came.
-fn leave<E: Ledger, S: Ledger, W: Ledger>(actor: Actor<E, S, W>) -> (Client<E, S, W>, Held<E, S, W>)
+fn leave<E: Setup, S: Ledger, W: Ledger>(actor: Actor<E, S, W>) -> (Client<E, S, W>, Held<E, S, W>)
     requires { IsSound actor }
     ensures client { result.0 ≡ actor.client }
     ensures held { held_in result.1 ≡ sorted (left_of actor.slots.items) }
@@ -83,7 +83,7 @@ fn leave<E: Ledger, S: Ledger, W: Ledger>(actor: Actor<E, S, W>) -> (Client<E, S
 /// Costs the events of its calls, a constant number of look-ups for each step and each thing that
 /// came or went, and memory for each thing that was ever given. A tracker is let go at once, and a
 /// look at one makes no call.
-pub fn play<E: Ledger, S: Ledger, W: Ledger, G: Gate, R: Wait>(
+pub fn play<E: Setup, S: Ledger, W: Ledger, G: Gate, R: Wait>(
     rt: &R,
     alloc: Global,
     service: &Service<E, S, W>,

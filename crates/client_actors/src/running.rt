@@ -9,7 +9,7 @@ use crate::start::Start;
 use actor_steps::ActorScript;
 use client_ends::{Held, join};
 use client_parting::Holding;
-use service_lock::Service;
+use service_lock::{Service, Setup};
 use sm_names::{ClientId, StepFault};
 use std::alloc::Global;
 use std::sync::Wait;
@@ -20,7 +20,7 @@ use std::{mem, thread};
 
 // Plays the script of that number with the client that lies there, if its thread comes to the start
 // in time.
-fn run_there<E: Ledger, S: Ledger, W: Ledger, G: Gate, R: Wait + Clock>(
+fn run_there<E: Setup, S: Ledger, W: Ledger, G: Gate, R: Wait + Clock>(
     rt: &R,
     alloc: Global,
     service: &Service<E, S, W>,
@@ -53,7 +53,7 @@ fn run_there<E: Ledger, S: Ledger, W: Ledger, G: Gate, R: Wait + Clock>(
 
 // Plays each script in a thread of its own.
 fn run_all<
-    E: Ledger + Send + Sync,
+    E: Setup + Send + Sync,
     S: Ledger + Send + Sync,
     W: Ledger + Send + Sync,
     G: Gate + Sync,
@@ -86,7 +86,7 @@ fn run_all<
 }
 
 // Joins so many clients, in order.
-fn join_all<E: Ledger, S: Ledger, W: Ledger, R: Wait>(
+fn join_all<E: Setup, S: Ledger, W: Ledger, R: Wait>(
     rt: &R,
     alloc: Global,
     service: &Service<E, S, W>,
@@ -111,7 +111,7 @@ fn join_all<E: Ledger, S: Ledger, W: Ledger, R: Wait>(
 }
 
 // Takes the ends out of their places, in order.
-fn ends_of<E: Ledger, S: Ledger, W: Ledger>(
+fn ends_of<E: Setup, S: Ledger, W: Ledger>(
     actors: Vec<Option<ActorEnd<E, S, W>>>,
     ends: Vec<ActorEnd<E, S, W>>,
 ) -> Vec<ActorEnd<E, S, W>>
@@ -134,7 +134,7 @@ fn ends_of<E: Ledger, S: Ledger, W: Ledger>(
 }
 
 // A client that joined and did not start.
-fn idle<E: Ledger, S: Ledger, W: Ledger>(
+fn idle<E: Setup, S: Ledger, W: Ledger>(
     alloc: Global,
     actor: Option<ActorEnd<E, S, W>>,
 ) -> Holding<E, S, W>
@@ -148,7 +148,7 @@ fn idle<E: Ledger, S: Ledger, W: Ledger>(
 }
 
 // The clients that joined, none of which started.
-fn clients_of<E: Ledger, S: Ledger, W: Ledger>(
+fn clients_of<E: Setup, S: Ledger, W: Ledger>(
     alloc: Global,
     actors: Vec<Option<ActorEnd<E, S, W>>>,
     parts: Vec<Holding<E, S, W>>,
@@ -185,7 +185,7 @@ fn clients_of<E: Ledger, S: Ledger, W: Ledger>(
 /// Costs an event for each client, a thread for each but one, a constant number of words for each
 /// script, and what `play` does.
 pub fn run_actors<
-    E: Ledger + Send + Sync,
+    E: Setup + Send + Sync,
     S: Ledger + Send + Sync,
     W: Ledger + Send + Sync,
     G: Gate + Sync,

@@ -8,7 +8,7 @@ use crate::asking::{on_collection, on_handle, on_token};
 use crate::brought::Brought;
 use crate::spending::spend;
 use client_ends::{Client, End, Handle, Kept, Why};
-use service_lock::Service;
+use service_lock::{Service, Setup};
 use sm_names::{Call, StepFault};
 use std::alloc::Global;
 use std::mem;
@@ -31,7 +31,7 @@ fn is_spending(call: &Call) -> bool
 }
 
 // A call that leaves the thing.
-fn lend<E: Ledger, S: Ledger, W: Ledger, R: Wait>(
+fn lend<E: Setup, S: Ledger, W: Ledger, R: Wait>(
     rt: &R,
     alloc: Global,
     service: &Service<E, S, W>,
@@ -55,7 +55,7 @@ fn lend<E: Ledger, S: Ledger, W: Ledger, R: Wait>(
 }
 
 // Puts a thing into a slot that is empty.
-fn put_back<E: Ledger, S: Ledger, W: Ledger>(on: &mut Option<End<E, S, W>>, end: End<E, S, W>)
+fn put_back<E: Setup, S: Ledger, W: Ledger>(on: &mut Option<End<E, S, W>>, end: End<E, S, W>)
     requires { on.old ≡ None }
     ensures { on.new ≡ Some end }
 {
@@ -66,7 +66,7 @@ fn put_back<E: Ledger, S: Ledger, W: Ledger>(on: &mut Option<End<E, S, W>>, end:
 }
 
 // A call that leaves what lies in the slot.
-fn lend_there<E: Ledger, S: Ledger, W: Ledger, R: Wait>(
+fn lend_there<E: Setup, S: Ledger, W: Ledger, R: Wait>(
     rt: &R,
     alloc: Global,
     service: &Service<E, S, W>,
@@ -88,7 +88,7 @@ fn lend_there<E: Ledger, S: Ledger, W: Ledger, R: Wait>(
 }
 
 // A call that may spend it.
-fn spend_there<E: Ledger, S: Ledger, W: Ledger, R: Wait>(
+fn spend_there<E: Setup, S: Ledger, W: Ledger, R: Wait>(
     rt: &R,
     service: &Service<E, S, W>,
     client: &mut Client<E, S, W>,
@@ -119,7 +119,7 @@ fn spend_there<E: Ledger, S: Ledger, W: Ledger, R: Wait>(
 }
 
 // A call on what lies in the slot.
-pub(crate) fn ask_there<E: Ledger, S: Ledger, W: Ledger, R: Wait>(
+pub(crate) fn ask_there<E: Setup, S: Ledger, W: Ledger, R: Wait>(
     rt: &R,
     alloc: Global,
     service: &Service<E, S, W>,
@@ -143,7 +143,7 @@ pub(crate) fn ask_there<E: Ledger, S: Ledger, W: Ledger, R: Wait>(
 }
 
 // Puts handles into the next slots, in order.
-pub(crate) fn store_handles<E: Ledger, S: Ledger, W: Ledger>(
+pub(crate) fn store_handles<E: Setup, S: Ledger, W: Ledger>(
     slots: &mut Vec<Option<End<E, S, W>>>,
     handles: Vec<Handle<E, S, W>>,
 )

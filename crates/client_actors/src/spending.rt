@@ -7,13 +7,13 @@ ghost use Rattle.client_actors.specs.Asking.{Spends, Spent, may_spend, thing_see
 
 use crate::brought::Brought;
 use client_ends::{Client, End, EndOf, Handle, Kept, TokenEnd, Why};
-use service_lock::Service;
+use service_lock::{Service, Setup};
 use sm_names::{Call, StepFault};
 use std::sync::Wait;
 use std::sync::ledger::Ledger;
 
 // A call that spends an end of either kind, which comes back where it is not spent.
-fn spend_end<K, E: Ledger, S: Ledger, W: Ledger, R: Wait>(
+fn spend_end<K, E: Setup, S: Ledger, W: Ledger, R: Wait>(
     rt: &R,
     service: &Service<E, S, W>,
     client: &mut Client<E, S, W>,
@@ -39,7 +39,7 @@ fn spend_end<K, E: Ledger, S: Ledger, W: Ledger, R: Wait>(
 }
 
 // A call that spends a handle.
-fn spend_handle<E: Ledger, S: Ledger, W: Ledger, R: Wait>(
+fn spend_handle<E: Setup, S: Ledger, W: Ledger, R: Wait>(
     rt: &R,
     service: &Service<E, S, W>,
     client: &mut Client<E, S, W>,
@@ -61,7 +61,7 @@ fn spend_handle<E: Ledger, S: Ledger, W: Ledger, R: Wait>(
 }
 
 // A call that spends a token: a Bind brings the collection.
-fn spend_token<E: Ledger, S: Ledger, W: Ledger, R: Wait>(
+fn spend_token<E: Setup, S: Ledger, W: Ledger, R: Wait>(
     rt: &R,
     service: &Service<E, S, W>,
     client: &mut Client<E, S, W>,
@@ -89,7 +89,7 @@ fn spend_token<E: Ledger, S: Ledger, W: Ledger, R: Wait>(
 }
 
 // A call that spends a thing, which comes back with the reason where it is not spent.
-pub(crate) fn spend<E: Ledger, S: Ledger, W: Ledger, R: Wait>(
+pub(crate) fn spend<E: Setup, S: Ledger, W: Ledger, R: Wait>(
     rt: &R,
     service: &Service<E, S, W>,
     client: &mut Client<E, S, W>,

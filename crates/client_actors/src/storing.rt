@@ -8,6 +8,7 @@ ghost use Rattle.client_actors.specs.Asking.{slots_for};
 use crate::brought::Brought;
 use crate::slots::store_handles;
 use client_ends::{End, Held};
+use service_lock::Setup;
 use sm_names::StepFault;
 use std::sync::ledger::Ledger;
 
@@ -15,7 +16,7 @@ use std::sync::ledger::Ledger;
 const MOST: usize = 64;
 
 // Makes room for what one call may bring.
-pub(crate) fn make_room<E: Ledger, S: Ledger, W: Ledger>(
+pub(crate) fn make_room<E: Setup, S: Ledger, W: Ledger>(
     slots: &mut Vec<Option<End<E, S, W>>>,
     held: &mut Held<E, S, W>,
 ) -> Result<(), StepFault>
@@ -40,7 +41,7 @@ pub(crate) fn make_room<E: Ledger, S: Ledger, W: Ledger>(
 }
 
 // Puts what was brought into the next slots. A tracker is let go.
-pub(crate) fn store<E: Ledger, S: Ledger, W: Ledger>(
+pub(crate) fn store<E: Setup, S: Ledger, W: Ledger>(
     slots: &mut Vec<Option<End<E, S, W>>>,
     brought: Brought<E, S, W>,
 )
@@ -57,7 +58,7 @@ pub(crate) fn store<E: Ledger, S: Ledger, W: Ledger>(
 }
 
 // Takes all things out of their slots, the newest first, each into the list of its kind.
-pub(crate) fn unload<E: Ledger, S: Ledger, W: Ledger>(
+pub(crate) fn unload<E: Setup, S: Ledger, W: Ledger>(
     slots: Vec<Option<End<E, S, W>>>,
     held: &mut Held<E, S, W>,
 )

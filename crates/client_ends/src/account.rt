@@ -11,7 +11,7 @@ ghost use Rattle.client_ends.specs.Taking.{grips_by, told_taken};
 use crate::spare::refused;
 use crate::taking::{Room, hand_out, taken_by};
 use record_parts::Own;
-use service_lock::{State, Units, apply, books, pass};
+use service_lock::{Setup, State, Units, apply, books, pass};
 use sm_names::{Call, ClientId, NodeKey, Reply, StepFault, Strength};
 use std::alloc::Global;
 use std::marker::Model;
@@ -48,12 +48,12 @@ fn gained(call: &Call, reply: &Reply) -> Option<Strength>
 }
 
 /// A client's shares of the books, and its own list of the events that it made after its Join.
-pub(crate) struct Account<E: Ledger, S: Ledger, W: Ledger> {
+pub(crate) struct Account<E: Setup, S: Ledger, W: Ledger> {
     pub units: Units<E, S, W>,
     own: Vec<Own>,
 }
 
-impl<E: Ledger, S: Ledger, W: Ledger> Model for Account<E, S, W> {
+impl<E: Setup, S: Ledger, W: Ledger> Model for Account<E, S, W> {
     ghost use Rattle.std.specs.Prelude.{◌≡◌, ◌+◌, vec_len};
     ghost use Rattle.client_ends.specs.Clients.{Sums};
 
@@ -64,7 +64,7 @@ impl<E: Ledger, S: Ledger, W: Ledger> Model for Account<E, S, W> {
     ghost invariant = { λ a. a.units.events ≡ vec_len a.own + 1 };
 }
 
-impl<E: Ledger, S: Ledger, W: Ledger> Account<E, S, W> {
+impl<E: Setup, S: Ledger, W: Ledger> Account<E, S, W> {
     /// The account of a client that has made its Join alone.
     pub fn new(alloc: Global, units: Units<E, S, W>) -> Account<E, S, W>
         requires { units.events ≡ 1 }

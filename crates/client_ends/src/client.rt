@@ -19,7 +19,7 @@ use crate::spare::empty;
 use crate::taking::make_room;
 use crate::why::Why;
 use record_parts::Own;
-use service_lock::{Service, State, Units, apply, take_tracker};
+use service_lock::{Service, Setup, State, Units, apply, take_tracker};
 use sm_names::{BufferName, Call, ClientId, Kind, NodeKey, Reply, StepFault, Strength};
 use std::alloc::Global;
 use std::marker::Model;
@@ -30,12 +30,12 @@ use trackers::Tracker;
 /// A client. It must be spent: at the end of the service, at the latest.
 ///
 /// A contract sees its id, the amount of its share of the book of events, and its own list.
-pub struct Client<E: Ledger, S: Ledger, W: Ledger> {
+pub struct Client<E: Setup, S: Ledger, W: Ledger> {
     id: ClientId,
     account: Account<E, S, W>,
 }
 
-impl<E: Ledger, S: Ledger, W: Ledger> Model for Client<E, S, W> {
+impl<E: Setup, S: Ledger, W: Ledger> Model for Client<E, S, W> {
     ghost use Rattle.std.specs.Prelude.{◌≡◌};
     ghost use Rattle.client_ends.specs.Clients.{Seen};
 
@@ -54,7 +54,7 @@ impl<E: Ledger, S: Ledger, W: Ledger> Model for Client<E, S, W> {
 ///
 /// A fault is no event: `HistoryFull` where the record has as many entries as may be, and else
 /// `NoMemory`. Costs one event.
-pub fn join<E: Ledger, S: Ledger, W: Ledger, R: Wait>(
+pub fn join<E: Setup, S: Ledger, W: Ledger, R: Wait>(
     rt: &R,
     alloc: Global,
     service: &Service<E, S, W>,
@@ -66,7 +66,7 @@ pub fn join<E: Ledger, S: Ledger, W: Ledger, R: Wait>(
 }
 
 // The same, under a lock that was taken: the event is the client's Join.
-fn join_in<E: Ledger, S: Ledger, W: Ledger>(
+fn join_in<E: Setup, S: Ledger, W: Ledger>(
     alloc: Global,
     state: &mut State<E, S, W>,
 ) -> Result<Client<E, S, W>, StepFault>
@@ -86,7 +86,7 @@ fn join_in<E: Ledger, S: Ledger, W: Ledger>(
     }
 }
 
-impl<E: Ledger, S: Ledger, W: Ledger> Client<E, S, W> {
+impl<E: Setup, S: Ledger, W: Ledger> Client<E, S, W> {
     /// Its id: the number of its Join. It takes no lock, nor do `own` and `last`.
     pub fn id(&self) -> ClientId
         ensures { result ≡ self.now.id }

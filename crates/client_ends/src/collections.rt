@@ -9,7 +9,7 @@ use crate::client::Client;
 use crate::ends::{CollectionEnd, TokenEnd};
 use crate::handle::Handle;
 use crate::why::Why;
-use service_lock::Service;
+use service_lock::{Service, Setup};
 use sm_names::{Call, Constraints, Reply, StepFault};
 use std::alloc::Global;
 use std::sync::Wait;
@@ -19,7 +19,7 @@ use trackers::Tracker;
 impl CollectionEnd {
     /// Makes an attached child token (`fuchsia.sysmem2.BufferCollection.AttachToken`). Costs one
     /// event.
-    pub fn attach_token<E: Ledger, S: Ledger, W: Ledger, R: Wait>(
+    pub fn attach_token<E: Setup, S: Ledger, W: Ledger, R: Wait>(
         &self,
         rt: &R,
         service: &Service<E, S, W>,
@@ -36,7 +36,7 @@ impl CollectionEnd {
 
     /// Says what the node asks of the buffers (`fuchsia.sysmem2.BufferCollection.SetConstraints`).
     /// Costs one event.
-    pub fn set_constraints<E: Ledger, S: Ledger, W: Ledger, R: Wait>(
+    pub fn set_constraints<E: Setup, S: Ledger, W: Ledger, R: Wait>(
         &self,
         rt: &R,
         service: &Service<E, S, W>,
@@ -53,7 +53,7 @@ impl CollectionEnd {
 
     /// Asks whether the node's unit is allocated: Allocated, or Pending
     /// (`fuchsia.sysmem2.BufferCollection.CheckAllBuffersAllocated`). Costs one event.
-    pub fn check<E: Ledger, S: Ledger, W: Ledger, R: Wait>(
+    pub fn check<E: Setup, S: Ledger, W: Ledger, R: Wait>(
         &self,
         rt: &R,
         service: &Service<E, S, W>,
@@ -73,7 +73,7 @@ impl CollectionEnd {
     ///
     /// `NoMemory` also where there is no room for 64 handles, asked for before the event. Costs one
     /// event and a look at each of 64 buffers.
-    pub fn take<E: Ledger, S: Ledger, W: Ledger, R: Wait>(
+    pub fn take<E: Setup, S: Ledger, W: Ledger, R: Wait>(
         &self,
         rt: &R,
         alloc: Global,
@@ -91,7 +91,7 @@ impl CollectionEnd {
     /// A tracker that fires once at most so many buffers are left
     /// (`fuchsia.sysmem2.BufferCollection.AttachLifetimeTracking`). It is read without the lock.
     /// Costs one event, and a binary search among all trackers.
-    pub fn track_lifetime<E: Ledger, S: Ledger, W: Ledger, R: Wait>(
+    pub fn track_lifetime<E: Setup, S: Ledger, W: Ledger, R: Wait>(
         &self,
         rt: &R,
         service: &Service<E, S, W>,

@@ -8,7 +8,7 @@ use crate::client::Client;
 use crate::ends::TokenEnd;
 use crate::spare::refused;
 use crate::syncing::{make_all, make_room};
-use service_lock::{Service, State};
+use service_lock::{Service, Setup, State};
 use sm_names::{ClientId, NoMemory, Reply, StepFault};
 use std::alloc::Global;
 use std::collections::VecDeque;
@@ -146,7 +146,7 @@ impl Draft {
     /// draft that comes back has the others. `HistoryFull` and `NoMemory` come as for one event;
     /// `NoMemory` also, before all events, where there is no room for the ends and replies. Costs
     /// one event for each call, and one for the Sync.
-    pub fn sync<E: Ledger, S: Ledger, W: Ledger, R: Wait>(
+    pub fn sync<E: Setup, S: Ledger, W: Ledger, R: Wait>(
         self,
         rt: &R,
         alloc: Global,
@@ -164,7 +164,7 @@ impl Draft {
 
     // The same, under a lock that was taken.
     #[tactic(auto, using(crate::proofs::DraftLaws::stopped_none))]
-    fn sync_in<E: Ledger, S: Ledger, W: Ledger>(
+    fn sync_in<E: Setup, S: Ledger, W: Ledger>(
         self,
         alloc: Global,
         state: &mut State<E, S, W>,

@@ -7,7 +7,7 @@ ghost use Rattle.client_ends.specs.Clients.{Made, MadeOr, is_done, is_over, is_t
 use crate::client::Client;
 use crate::ended::Ended;
 use crate::why::{Kept, Why};
-use service_lock::Service;
+use service_lock::{Service, Setup};
 use sm_names::{Call, ClientId, CollectionId, NodeKey, Reply, StepFault};
 use std::marker::{Model, PhantomData};
 use std::sync::Wait;
@@ -58,7 +58,7 @@ impl<K> EndOf<K> {
     }
 
     /// Lets the end go without an event, after a service was ended.
-    pub fn spend<E: Ledger, S: Ledger, W: Ledger>(self, _ended: &Ended<E, S, W>) {
+    pub fn spend<E: Setup, S: Ledger, W: Ledger>(self, _ended: &Ended<E, S, W>) {
         self.used_up();
     }
 
@@ -80,7 +80,7 @@ impl<K> EndOf<K> {
     }
 
     /// Answers once the earlier calls were received (`fuchsia.sysmem2.Node.Sync`). Costs one event.
-    pub fn sync<E: Ledger, S: Ledger, W: Ledger, R: Wait>(
+    pub fn sync<E: Setup, S: Ledger, W: Ledger, R: Wait>(
         &self,
         rt: &R,
         service: &Service<E, S, W>,
@@ -96,7 +96,7 @@ impl<K> EndOf<K> {
 
     /// The node, and children made from now on, keep no buffer alive
     /// (`fuchsia.sysmem2.Node.SetWeak`). Costs one event.
-    pub fn set_weak<E: Ledger, S: Ledger, W: Ledger, R: Wait>(
+    pub fn set_weak<E: Setup, S: Ledger, W: Ledger, R: Wait>(
         &self,
         rt: &R,
         service: &Service<E, S, W>,
@@ -112,7 +112,7 @@ impl<K> EndOf<K> {
 
     /// The node knows how to treat weak handles, with `children` also those made from now on
     /// (`fuchsia.sysmem2.Node.SetWeakOk`). Costs one event.
-    pub fn set_weak_ok<E: Ledger, S: Ledger, W: Ledger, R: Wait>(
+    pub fn set_weak_ok<E: Setup, S: Ledger, W: Ledger, R: Wait>(
         &self,
         rt: &R,
         service: &Service<E, S, W>,
@@ -129,7 +129,7 @@ impl<K> EndOf<K> {
 
     /// A tracker that fires once the node is gone (`fuchsia.sysmem2.Node.AttachNodeTracking`). It
     /// is read without the lock. Costs one event, and a binary search among all trackers.
-    pub fn track_node<E: Ledger, S: Ledger, W: Ledger, R: Wait>(
+    pub fn track_node<E: Setup, S: Ledger, W: Ledger, R: Wait>(
         &self,
         rt: &R,
         service: &Service<E, S, W>,
@@ -146,7 +146,7 @@ impl<K> EndOf<K> {
 
     /// Gives the end to another client, who collects it. Where the answer is not Done the end comes
     /// back with the reason. Costs one event.
-    pub fn give<E: Ledger, S: Ledger, W: Ledger, R: Wait>(
+    pub fn give<E: Setup, S: Ledger, W: Ledger, R: Wait>(
         self,
         rt: &R,
         service: &Service<E, S, W>,
@@ -171,7 +171,7 @@ impl<K> EndOf<K> {
     /// Leaves without a failure, and spends the end (`fuchsia.sysmem2.Node.Release`): answered
     /// Done, or PeerClosed where its node is gone. Else the end comes back with the reason. Costs
     /// one event.
-    pub fn release<E: Ledger, S: Ledger, W: Ledger, R: Wait>(
+    pub fn release<E: Setup, S: Ledger, W: Ledger, R: Wait>(
         self,
         rt: &R,
         service: &Service<E, S, W>,
@@ -194,7 +194,7 @@ impl<K> EndOf<K> {
 
     /// Closes the end: the node fails. Where the answer is not Done the end comes back with the
     /// reason. Costs one event.
-    pub fn close<E: Ledger, S: Ledger, W: Ledger, R: Wait>(
+    pub fn close<E: Setup, S: Ledger, W: Ledger, R: Wait>(
         self,
         rt: &R,
         service: &Service<E, S, W>,

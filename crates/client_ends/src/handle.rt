@@ -7,7 +7,7 @@ ghost use Rattle.client_ends.specs.Clients.{Made, MadeOr, is_done, is_tracker, l
 use crate::client::Client;
 use crate::ended::Ended;
 use crate::why::{Kept, Why};
-use service_lock::{Service, Units};
+use service_lock::{Service, Setup, Units};
 use sm_names::{BufferName, Call, ClientId, Strength};
 use std::marker::Model;
 use std::sync::Wait;
@@ -18,14 +18,14 @@ use trackers::Tracker;
 ///
 /// A contract sees who has it, its buffer, and its strength. Each call of a handle takes its
 /// holder's `Client`, and makes one event of that client.
-pub struct Handle<E: Ledger, S: Ledger, W: Ledger> {
+pub struct Handle<E: Setup, S: Ledger, W: Ledger> {
     client: ClientId,
     buffer: BufferName,
     strength: Strength,
     unit: Units<E, S, W>,
 }
 
-impl<E: Ledger, S: Ledger, W: Ledger> Model for Handle<E, S, W> {
+impl<E: Setup, S: Ledger, W: Ledger> Model for Handle<E, S, W> {
     ghost use Rattle.std.specs.Prelude.{◌≡◌};
     ghost use Rattle.client_ends.specs.Clients.{Grip, unit_of};
 
@@ -36,7 +36,7 @@ impl<E: Ledger, S: Ledger, W: Ledger> Model for Handle<E, S, W> {
     ghost invariant = { λ h. h.unit ≡ unit_of h.strength };
 }
 
-impl<E: Ledger, S: Ledger, W: Ledger> Handle<E, S, W> {
+impl<E: Setup, S: Ledger, W: Ledger> Handle<E, S, W> {
     pub(crate) fn new(
         client: ClientId,
         buffer: BufferName,

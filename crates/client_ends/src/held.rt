@@ -3,24 +3,25 @@ ghost use Rattle.std.specs.Prelude.{◌≡◌, []};
 
 use crate::ends::{CollectionEnd, TokenEnd};
 use crate::handle::Handle;
+use service_lock::Setup;
 use std::alloc::Global;
 use std::sync::ledger::Ledger;
 
 /// What comes out of a parcel: an end of either kind, or a handle. It must be spent.
-pub enum End<E: Ledger, S: Ledger, W: Ledger> {
+pub enum End<E: Setup, S: Ledger, W: Ledger> {
     Token(TokenEnd),
     Collection(CollectionEnd),
     Handle(Handle<E, S, W>),
 }
 
 /// What a client holds: each of its values must be spent.
-pub struct Held<E: Ledger, S: Ledger, W: Ledger> {
+pub struct Held<E: Setup, S: Ledger, W: Ledger> {
     pub tokens: Vec<TokenEnd>,
     pub collections: Vec<CollectionEnd>,
     pub handles: Vec<Handle<E, S, W>>,
 }
 
-impl<E: Ledger, S: Ledger, W: Ledger> Held<E, S, W> {
+impl<E: Setup, S: Ledger, W: Ledger> Held<E, S, W> {
     /// What a client holds that has been given nothing: three empty lists. Takes a constant time, and
     /// no memory.
     pub fn new(alloc: Global) -> Held<E, S, W>

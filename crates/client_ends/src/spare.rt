@@ -3,14 +3,14 @@ ghost use Rattle.std.specs.Prelude.{◌≡◌, ◌≤◌, ◌↔◌, length, IfO
 ghost use Rattle.sm_names.specs.declared.outcomes.StepFault.{StepFault as Fault};
 ghost use Rattle.client_ends.specs.Clients.{nothing};
 
-use service_lock::{State, Units, is_full, units};
+use service_lock::{Setup, State, Units, is_full, units};
 use sm_names::StepFault;
 use std::alloc::Global;
 use std::marker::Model;
 use std::sync::ledger::Ledger;
 
 /// The fault where memory was refused: a full record comes first.
-pub(crate) fn refused<E: Ledger, S: Ledger, W: Ledger>(state: &State<E, S, W>) -> StepFault
+pub(crate) fn refused<E: Setup, S: Ledger, W: Ledger>(state: &State<E, S, W>) -> StepFault
     ensures { (result ≡ Fault.HistoryFull)
         ↔ (state.now.limits.events ≤ length state.now.history) }
 {
@@ -22,7 +22,7 @@ pub(crate) fn refused<E: Ledger, S: Ledger, W: Ledger>(state: &State<E, S, W>) -
 }
 
 /// Empty units. The fault where no part is left is that of refused memory.
-pub(crate) fn empty<E: Ledger, S: Ledger, W: Ledger>(
+pub(crate) fn empty<E: Setup, S: Ledger, W: Ledger>(
     state: &mut State<E, S, W>,
 ) -> Result<Units<E, S, W>, StepFault>
     ensures empty { IfOk result (λ u. u ≡ nothing) }
@@ -38,11 +38,11 @@ pub(crate) fn empty<E: Ledger, S: Ledger, W: Ledger>(
 
 /// Empty units, for a handle that may come.
 #[derive(Drop)]
-pub(crate) struct Spare<E: Ledger, S: Ledger, W: Ledger> {
+pub(crate) struct Spare<E: Setup, S: Ledger, W: Ledger> {
     units: Units<E, S, W>,
 }
 
-impl<E: Ledger, S: Ledger, W: Ledger> Model for Spare<E, S, W> {
+impl<E: Setup, S: Ledger, W: Ledger> Model for Spare<E, S, W> {
     ghost use Rattle.std.specs.Prelude.{◌≡◌};
     ghost use Rattle.service_lock.specs.Units.{Amounts};
     ghost use Rattle.client_ends.specs.Clients.{nothing};
@@ -54,7 +54,7 @@ impl<E: Ledger, S: Ledger, W: Ledger> Model for Spare<E, S, W> {
     ghost invariant = { λ s. s.units ≡ nothing };
 }
 
-impl<E: Ledger, S: Ledger, W: Ledger> Spare<E, S, W> {
+impl<E: Setup, S: Ledger, W: Ledger> Spare<E, S, W> {
     /// The units.
     pub fn open(self) -> Units<E, S, W>
         ensures { result ≡ nothing }
@@ -65,7 +65,7 @@ impl<E: Ledger, S: Ledger, W: Ledger> Spare<E, S, W> {
 }
 
 /// Empty units for as many handles as one event may bring.
-pub(crate) fn spares<E: Ledger, S: Ledger, W: Ledger>(
+pub(crate) fn spares<E: Setup, S: Ledger, W: Ledger>(
     alloc: Global,
     state: &mut State<E, S, W>,
 ) -> Result<Vec<Spare<E, S, W>>, StepFault>

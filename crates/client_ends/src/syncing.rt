@@ -9,7 +9,7 @@ ghost use Rattle.client_ends.specs.Drafts.{Went, WentFar, WentFirst, WentOn, dra
 use crate::client::Client;
 use crate::draft::{Drafted, Part};
 use crate::ends::TokenEnd;
-use service_lock::State;
+use service_lock::{Setup, State};
 use sm_names::{Call, ClientId, NodeKey, Reply, StepFault};
 use std::alloc::AllocError;
 use std::collections::VecDeque;
@@ -61,7 +61,7 @@ fn keep(client: ClientId, reply: &Reply, part: &mut Part)
 }
 
 // Makes one call.
-fn make_next<E: Ledger, S: Ledger, W: Ledger>(
+fn make_next<E: Setup, S: Ledger, W: Ledger>(
     state: &mut State<E, S, W>,
     client: &mut Client<E, S, W>,
     call: Call,
@@ -86,7 +86,7 @@ fn make_next<E: Ledger, S: Ledger, W: Ledger>(
 }
 
 // Makes the first of the calls, which leaves them.
-fn make_first<E: Ledger, S: Ledger, W: Ledger>(
+fn make_first<E: Setup, S: Ledger, W: Ledger>(
     state: &mut State<E, S, W>,
     client: &mut Client<E, S, W>,
     key: NodeKey,
@@ -116,7 +116,7 @@ fn make_first<E: Ledger, S: Ledger, W: Ledger>(
 }
 
 // Makes the calls in order, until a fault, and leaves those that were not made.
-fn make_drafted<E: Ledger, S: Ledger, W: Ledger>(
+fn make_drafted<E: Setup, S: Ledger, W: Ledger>(
     state: &mut State<E, S, W>,
     client: &mut Client<E, S, W>,
     key: NodeKey,
@@ -143,7 +143,7 @@ fn make_drafted<E: Ledger, S: Ledger, W: Ledger>(
 
 /// Makes the calls in order, and then a Sync, until a fault, and leaves those that were not made.
 #[tactic(auto, using(crate::proofs::DraftLaws::went_all))]
-pub(crate) fn make_all<E: Ledger, S: Ledger, W: Ledger>(
+pub(crate) fn make_all<E: Setup, S: Ledger, W: Ledger>(
     state: &mut State<E, S, W>,
     client: &mut Client<E, S, W>,
     key: NodeKey,

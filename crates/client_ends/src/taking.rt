@@ -8,7 +8,7 @@ ghost use Rattle.client_ends.specs.Taking.{grip_at, grips_at, handful, told_take
 
 use crate::handle::Handle;
 use crate::spare::{Spare, refused, spares};
-use service_lock::{State, Units, pass};
+use service_lock::{Setup, State, Units, pass};
 use sm_names::{BufferName, ClientId, CollectionId, Reply, StepFault, Strength, has_buffer};
 use std::alloc::Global;
 use std::sync::ledger::Ledger;
@@ -40,12 +40,12 @@ pub(crate) fn taken_by(reply: &Reply) -> Option<Taken>
 }
 
 /// Room for the handles that a Take may bring, 64 at most, and their units.
-pub(crate) struct Room<E: Ledger, S: Ledger, W: Ledger> {
+pub(crate) struct Room<E: Setup, S: Ledger, W: Ledger> {
     pub handles: Vec<Handle<E, S, W>>,
     pub spares: Vec<Spare<E, S, W>>,
 }
 
-impl<E: Ledger, S: Ledger, W: Ledger> Room<E, S, W> {
+impl<E: Setup, S: Ledger, W: Ledger> Room<E, S, W> {
     /// The handles.
     pub fn handles(self) -> Vec<Handle<E, S, W>>
         ensures { result ≡ self.handles }
@@ -64,7 +64,7 @@ impl<E: Ledger, S: Ledger, W: Ledger> Room<E, S, W> {
 }
 
 /// Makes room, before the Take.
-pub(crate) fn make_room<E: Ledger, S: Ledger, W: Ledger>(
+pub(crate) fn make_room<E: Setup, S: Ledger, W: Ledger>(
     alloc: Global,
     state: &mut State<E, S, W>,
 ) -> Result<Room<E, S, W>, StepFault>
@@ -83,7 +83,7 @@ pub(crate) fn make_room<E: Ledger, S: Ledger, W: Ledger>(
 }
 
 // One handle, which takes its unit.
-fn hand_one<E: Ledger, S: Ledger, W: Ledger>(
+fn hand_one<E: Setup, S: Ledger, W: Ledger>(
     state: &mut State<E, S, W>,
     units: &mut Units<E, S, W>,
     spares: &mut Vec<Spare<E, S, W>>,
@@ -112,7 +112,7 @@ fn hand_one<E: Ledger, S: Ledger, W: Ledger>(
 }
 
 /// Gives each handle that was taken its unit, in the order of the buffers.
-pub(crate) fn hand_out<E: Ledger, S: Ledger, W: Ledger>(
+pub(crate) fn hand_out<E: Setup, S: Ledger, W: Ledger>(
     state: &mut State<E, S, W>,
     units: &mut Units<E, S, W>,
     room: &mut Room<E, S, W>,

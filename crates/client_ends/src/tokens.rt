@@ -7,14 +7,14 @@ ghost use Rattle.client_ends.specs.Clients.{Made, MadeOr, is_done, is_token};
 use crate::client::Client;
 use crate::ends::{CollectionEnd, TokenEnd};
 use crate::why::{Kept, Why};
-use service_lock::Service;
+use service_lock::{Service, Setup};
 use sm_names::{Call, Reply, StepFault};
 use std::sync::Wait;
 use std::sync::ledger::Ledger;
 
 impl TokenEnd {
     /// Makes a child token (`fuchsia.sysmem2.BufferCollectionToken.Duplicate`). Costs one event.
-    pub fn duplicate<E: Ledger, S: Ledger, W: Ledger, R: Wait>(
+    pub fn duplicate<E: Setup, S: Ledger, W: Ledger, R: Wait>(
         &self,
         rt: &R,
         service: &Service<E, S, W>,
@@ -31,7 +31,7 @@ impl TokenEnd {
 
     /// Once the node's unit is allocated, its failure goes no further up
     /// (`fuchsia.sysmem2.BufferCollectionToken.SetDispensable`). Costs one event.
-    pub fn set_dispensable<E: Ledger, S: Ledger, W: Ledger, R: Wait>(
+    pub fn set_dispensable<E: Setup, S: Ledger, W: Ledger, R: Wait>(
         &self,
         rt: &R,
         service: &Service<E, S, W>,
@@ -47,7 +47,7 @@ impl TokenEnd {
 
     /// Turns the token into a collection (`fuchsia.sysmem2.Allocator.BindSharedCollection`). Where
     /// the answer is not Done the token comes back with the reason. Costs one event.
-    pub fn bind<E: Ledger, S: Ledger, W: Ledger, R: Wait>(
+    pub fn bind<E: Setup, S: Ledger, W: Ledger, R: Wait>(
         self,
         rt: &R,
         service: &Service<E, S, W>,

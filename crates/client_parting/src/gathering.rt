@@ -1,21 +1,21 @@
 //! What all clients have at the end, against the record under the lock.
 ghost use Rattle.std.specs.Prelude.{◌≡◌, ◌+◌, ◌<◌, IfOk, IfErr, MatchOption};
 ghost use Rattle.std.specs.List.{All, count_by};
-ghost use Rattle.service_lock.specs.States.{View};
+ghost use Rattle.service_lock.specs.States.{IsAsked, View};
 ghost use Rattle.sm_names.specs.Sameness.{same_strength};
 ghost use Rattle.client_parting.specs.Gatherings.{IsFirstMismatch, IsFound, IsGathered, IsSo, Matches, all_handed, handed, id_of, ids_of, own_of};
 
 use crate::wreck::Wreck;
 use client_ends::{Client, EndOf, Ended, Handle, Held, Own, end};
 use record_parts::{ClientLine, Parts};
-use service_lock::{Service, State, books, entries};
+use service_lock::{Service, Setup, State, books, entries};
 use sm_names::{ClientId, NoMemory, Strength};
 use std::alloc::Global;
 use std::sync::Wait;
 use std::sync::ledger::Ledger;
 
 /// A client at the end: there, with what it holds, or gone.
-pub enum Holding<E: Ledger, S: Ledger, W: Ledger> {
+pub enum Holding<E: Setup, S: Ledger, W: Ledger> {
     Present(Client<E, S, W>, Held<E, S, W>),
     Wrecked(Wreck<E, S, W>),
 }
@@ -44,7 +44,7 @@ pub enum GatherFault {
 }
 
 // Whether the handle is of this strength.
-fn is_of<E: Ledger, S: Ledger, W: Ledger>(handle: &Handle<E, S, W>, strength: Strength) -> bool
+fn is_of<E: Setup, S: Ledger, W: Ledger>(handle: &Handle<E, S, W>, strength: Strength) -> bool
     ensures { result ≡ same_strength strength handle.now.strength }
 {
     match (strength, handle.strength()) {
@@ -55,7 +55,7 @@ fn is_of<E: Ledger, S: Ledger, W: Ledger>(handle: &Handle<E, S, W>, strength: St
 }
 
 // How many handles of this strength there are.
-fn count<E: Ledger, S: Ledger, W: Ledger>(held: &Held<E, S, W>, strength: Strength) -> u64
+fn count<E: Setup, S: Ledger, W: Ledger>(held: &Held<E, S, W>, strength: Strength) -> u64
     ensures { result
         ≡ count_by (λ h. same_strength strength h.strength) held.now.handles.items }
 {
@@ -63,7 +63,7 @@ fn count<E: Ledger, S: Ledger, W: Ledger>(held: &Held<E, S, W>, strength: Streng
     handles.iter().filter(|h| is_of(*h, strength)).count() as u64
 }
 
-impl<E: Ledger, S: Ledger, W: Ledger> Holding<E, S, W> {
+impl<E: Setup, S: Ledger, W: Ledger> Holding<E, S, W> {
     /// The client's id. Takes a constant time.
     pub fn id(&self) -> ClientId
         ensures { result ≡ id_of self.now }
@@ -96,7 +96,7 @@ impl<E: Ledger, S: Ledger, W: Ledger> Holding<E, S, W> {
 }
 
 // The ids of all.
-fn ids<E: Ledger, S: Ledger, W: Ledger>(
+fn ids<E: Setup, S: Ledger, W: Ledger>(
     alloc: Global,
     parts: &[Holding<E, S, W>],
 ) -> Result<Vec<ClientId>, NoMemory>
@@ -114,7 +114,7 @@ fn ids<E: Ledger, S: Ledger, W: Ledger>(
 }
 
 // How many handles are left of this total, if those that are here are no more.
-fn left_of<E: Ledger, S: Ledger, W: Ledger>(
+fn left_of<E: Setup, S: Ledger, W: Ledger>(
     total: u64,
     parts: &[Holding<E, S, W>],
     strength: Strength,
@@ -142,7 +142,7 @@ fn earlier(found: Option<(ClientId, u64)>, client: ClientId, event: u64) -> (Cli
 }
 
 // The first event where the own list of the least client whose list is not its part differs from it.
-fn first_mismatch<E: Ledger, S: Ledger, W: Ledger>(
+fn first_mismatch<E: Setup, S: Ledger, W: Ledger>(
     view: &Parts<'_>,
     parts: &[Holding<E, S, W>],
 ) -> Option<u64>
@@ -176,11 +176,12 @@ fn first_mismatch<E: Ledger, S: Ledger, W: Ledger>(
 ///
 /// Costs three passes over the record, one over each own list, and one over all handles; memory for
 /// two numbers and a bit for each event, a number for each part, and a line for each client.
-pub fn compare<E: Ledger, S: Ledger, W: Ledger>(
+pub fn compare<E: Setup, S: Ledger, W: Ledger>(
     alloc: Global,
     state: &State<E, S, W>,
     parts: &[Holding<E, S, W>],
 ) -> Result<Report, GatherFault>
+    ensures asked { IsAsked E.pages E.limits state.now.pool state.now.limits }
     ensures gathered { IfOk result (λ r. IsGathered state.now parts.now r) }
     ensures so { IfErr result (λ f. IsSo state.now parts.now f) }
 {
@@ -221,15 +222,17 @@ pub fn compare<E: Ledger, S: Ledger, W: Ledger>(
 
 /// Compares all parts with the record under the lock, and hands them all back, whatever the answer,
 /// which is that of `compare`. It makes no event. Costs the lock and what `compare` does.
-pub fn gather<E: Ledger, S: Ledger, W: Ledger, R: Wait>(
+pub fn gather<E: Setup, S: Ledger, W: Ledger, R: Wait>(
     rt: &R,
     alloc: Global,
     service: &Service<E, S, W>,
     parts: Vec<Holding<E, S, W>>,
 ) -> (Vec<Holding<E, S, W>>, Result<Report, GatherFault>)
     ensures parts { result.0 ≡ parts }
-    ensures gathered { IfOk result.1 (λ r. (s : View) × IsGathered s parts.items r) }
-    ensures so { IfErr result.1 (λ f. (s : View) × IsSo s parts.items f) }
+    ensures gathered { IfOk result.1 (λ r. (s : View) × IsAsked E.pages E.limits s.pool s.limits
+        × IsGathered s parts.items r) }
+    ensures so { IfErr result.1 (λ f. (s : View) × IsAsked E.pages E.limits s.pool s.limits
+        × IsSo s parts.items f) }
 {
     let guard = service.lock(rt);
     let answer = compare(alloc, guard.state(), parts.as_slice());
@@ -237,7 +240,7 @@ pub fn gather<E: Ledger, S: Ledger, W: Ledger, R: Wait>(
 }
 
 // Lets ends go.
-fn spend_ends<K, E: Ledger, S: Ledger, W: Ledger>(ended: &Ended<E, S, W>, ends: Vec<EndOf<K>>) {
+fn spend_ends<K, E: Setup, S: Ledger, W: Ledger>(ended: &Ended<E, S, W>, ends: Vec<EndOf<K>>) {
     let mut ends = ends;
     while let Some(end) = ends.pop() {
         end.spend(ended);
@@ -246,7 +249,7 @@ fn spend_ends<K, E: Ledger, S: Ledger, W: Ledger>(ended: &Ended<E, S, W>, ends: 
 }
 
 // Lets all that a client has go, and the client.
-fn spend<E: Ledger, S: Ledger, W: Ledger>(
+fn spend<E: Setup, S: Ledger, W: Ledger>(
     ended: &Ended<E, S, W>,
     client: Client<E, S, W>,
     held: Held<E, S, W>,
@@ -268,7 +271,7 @@ fn spend<E: Ledger, S: Ledger, W: Ledger>(
 
 /// Ends the service, and lets all parts go without events. It takes no lock and no memory. Costs a
 /// constant for each value.
-pub fn end_service<E: Ledger, S: Ledger, W: Ledger>(
+pub fn end_service<E: Setup, S: Ledger, W: Ledger>(
     service: Service<E, S, W>,
     parts: Vec<Holding<E, S, W>>,
 ) {

@@ -7,7 +7,7 @@ ghost use Rattle.client_parting.specs.Stacks.{CollectsFor, CollectsOne, HasRoomF
 use crate::things::{put, put_all, stack_collections, stack_ends, stack_handles, stack_tokens};
 use crate::wreck::Wreck;
 use client_ends::{Client, End, Held, Kept, Why};
-use service_lock::Service;
+use service_lock::{Service, Setup};
 use sm_names::{NoMemory, Reply, StepFault};
 use std::alloc::Global;
 use std::sync::Wait;
@@ -24,14 +24,14 @@ fn waiting_in(reply: &Reply) -> u64
 }
 
 // Lists with room for what the client collects, and for all that it has then.
-struct Room<E: Ledger, S: Ledger, W: Ledger> {
+struct Room<E: Setup, S: Ledger, W: Ledger> {
     ends: Vec<End<E, S, W>>,
     handles: Vec<End<E, S, W>>,
     stack: Vec<End<E, S, W>>,
 }
 
 // How many things there are at most, if that is a number.
-fn most<E: Ledger, S: Ledger, W: Ledger>(held: &Held<E, S, W>, waiting: usize) -> Option<usize>
+fn most<E: Setup, S: Ledger, W: Ledger>(held: &Held<E, S, W>, waiting: usize) -> Option<usize>
     ensures { IfSome result (λ most. most ≡ vec_len held.now.tokens
         + vec_len held.now.collections + vec_len held.now.handles + waiting + waiting) }
 {
@@ -41,7 +41,7 @@ fn most<E: Ledger, S: Ledger, W: Ledger>(held: &Held<E, S, W>, waiting: usize) -
 }
 
 // Makes the room, also in the lists of what the client holds.
-fn make_room<E: Ledger, S: Ledger, W: Ledger>(
+fn make_room<E: Setup, S: Ledger, W: Ledger>(
     alloc: Global,
     held: &mut Held<E, S, W>,
     waiting: usize,
@@ -80,7 +80,7 @@ fn make_room<E: Ledger, S: Ledger, W: Ledger>(
 }
 
 // Makes one Collect, and puts what it brings behind the others.
-fn collect_one<E: Ledger, S: Ledger, W: Ledger, R: Wait>(
+fn collect_one<E: Setup, S: Ledger, W: Ledger, R: Wait>(
     rt: &R,
     service: &Service<E, S, W>,
     client: &mut Client<E, S, W>,
@@ -116,7 +116,7 @@ fn collect_one<E: Ledger, S: Ledger, W: Ledger, R: Wait>(
 }
 
 // Makes so many Collects.
-fn collect_all<E: Ledger, S: Ledger, W: Ledger, R: Wait>(
+fn collect_all<E: Setup, S: Ledger, W: Ledger, R: Wait>(
     rt: &R,
     service: &Service<E, S, W>,
     client: &mut Client<E, S, W>,
@@ -140,7 +140,7 @@ fn collect_all<E: Ledger, S: Ledger, W: Ledger, R: Wait>(
 }
 
 // Makes the call that parts with the thing, which comes back where the answer is not Done.
-fn part_with<E: Ledger, S: Ledger, W: Ledger, R: Wait>(
+fn part_with<E: Setup, S: Ledger, W: Ledger, R: Wait>(
     rt: &R,
     service: &Service<E, S, W>,
     client: &mut Client<E, S, W>,
@@ -172,7 +172,7 @@ fn part_with<E: Ledger, S: Ledger, W: Ledger, R: Wait>(
 }
 
 // Parts with all that is on the stack, and keeps what is refused.
-fn part_with_all<E: Ledger, S: Ledger, W: Ledger, R: Wait>(
+fn part_with_all<E: Setup, S: Ledger, W: Ledger, R: Wait>(
     rt: &R,
     service: &Service<E, S, W>,
     client: &mut Client<E, S, W>,
@@ -201,7 +201,7 @@ fn part_with_all<E: Ledger, S: Ledger, W: Ledger, R: Wait>(
 }
 
 // The same, once all was collected.
-fn part_if<E: Ledger, S: Ledger, W: Ledger, R: Wait>(
+fn part_if<E: Setup, S: Ledger, W: Ledger, R: Wait>(
     rt: &R,
     service: &Service<E, S, W>,
     client: &mut Client<E, S, W>,
@@ -224,7 +224,7 @@ fn part_if<E: Ledger, S: Ledger, W: Ledger, R: Wait>(
 }
 
 // Puts all that the client has on the stack, and leaves the lists empty.
-fn stack_all<E: Ledger, S: Ledger, W: Ledger>(
+fn stack_all<E: Setup, S: Ledger, W: Ledger>(
     room: Room<E, S, W>,
     held: &mut Held<E, S, W>,
 ) -> Vec<End<E, S, W>>
@@ -263,7 +263,7 @@ fn stack_all<E: Ledger, S: Ledger, W: Ledger>(
 /// A value whose Close or DropHandle is not answered Done stays with the wreck.
 ///
 /// Costs one event for each of these calls, and memory for as many values as the client has then.
-pub fn vanish<E: Ledger, S: Ledger, W: Ledger, R: Wait>(
+pub fn vanish<E: Setup, S: Ledger, W: Ledger, R: Wait>(
     rt: &R,
     alloc: Global,
     service: &Service<E, S, W>,

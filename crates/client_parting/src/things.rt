@@ -5,10 +5,11 @@ ghost use Rattle.client_parting.specs.Stacks.{HasRoomFor, both, sorted_one, top_
 ghost use Rattle.client_parting.specs.Partings.{sorted};
 
 use client_ends::{CollectionEnd, End, Handle, Held, TokenEnd};
+use service_lock::Setup;
 use std::sync::ledger::Ledger;
 
 /// Puts these on the stack, the first one last, and leaves none.
-pub(crate) fn stack_ends<E: Ledger, S: Ledger, W: Ledger>(
+pub(crate) fn stack_ends<E: Setup, S: Ledger, W: Ledger>(
     stack: &mut Vec<End<E, S, W>>,
     ends: &mut Vec<End<E, S, W>>,
 )
@@ -25,7 +26,7 @@ pub(crate) fn stack_ends<E: Ledger, S: Ledger, W: Ledger>(
 }
 
 /// The same of tokens, whose list keeps its room.
-pub(crate) fn stack_tokens<E: Ledger, S: Ledger, W: Ledger>(
+pub(crate) fn stack_tokens<E: Setup, S: Ledger, W: Ledger>(
     stack: &mut Vec<End<E, S, W>>,
     tokens: &mut Vec<TokenEnd>,
 )
@@ -43,7 +44,7 @@ pub(crate) fn stack_tokens<E: Ledger, S: Ledger, W: Ledger>(
 }
 
 /// The same of collections.
-pub(crate) fn stack_collections<E: Ledger, S: Ledger, W: Ledger>(
+pub(crate) fn stack_collections<E: Setup, S: Ledger, W: Ledger>(
     stack: &mut Vec<End<E, S, W>>,
     collections: &mut Vec<CollectionEnd>,
 )
@@ -61,7 +62,7 @@ pub(crate) fn stack_collections<E: Ledger, S: Ledger, W: Ledger>(
 }
 
 /// The same of handles.
-pub(crate) fn stack_handles<E: Ledger, S: Ledger, W: Ledger>(
+pub(crate) fn stack_handles<E: Setup, S: Ledger, W: Ledger>(
     stack: &mut Vec<End<E, S, W>>,
     handles: &mut Vec<Handle<E, S, W>>,
 )
@@ -79,7 +80,7 @@ pub(crate) fn stack_handles<E: Ledger, S: Ledger, W: Ledger>(
 }
 
 /// Puts one thing last into the list of its kind.
-pub(crate) fn put<E: Ledger, S: Ledger, W: Ledger>(held: &mut Held<E, S, W>, thing: End<E, S, W>)
+pub(crate) fn put<E: Setup, S: Ledger, W: Ledger>(held: &mut Held<E, S, W>, thing: End<E, S, W>)
     requires { HasRoomFor held.old (thing_of thing ∷ []) }
     ensures put { held_in held.new ≡ both (held_in held.old) (sorted_one (thing_of thing)) }
     ensures tokens { vec_capacity held.new.tokens ≡ vec_capacity held.old.tokens }
@@ -94,7 +95,7 @@ pub(crate) fn put<E: Ledger, S: Ledger, W: Ledger>(held: &mut Held<E, S, W>, thi
 }
 
 /// Puts all that is on the stack into the lists of its kinds, in order.
-pub(crate) fn put_all<E: Ledger, S: Ledger, W: Ledger>(
+pub(crate) fn put_all<E: Setup, S: Ledger, W: Ledger>(
     held: &mut Held<E, S, W>,
     stack: Vec<End<E, S, W>>,
 )

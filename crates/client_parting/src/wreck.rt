@@ -3,18 +3,19 @@ ghost use Rattle.std.specs.Prelude.{◌≡◌, ◌+◌, length};
 ghost use Rattle.client_parting.specs.Partings.{held_in};
 
 use client_ends::{Client, Ended, Held, Own};
+use service_lock::Setup;
 use sm_names::ClientId;
 use std::marker::Model;
 use std::sync::ledger::Ledger;
 
 /// What is left of a client that is gone: its own list, and what it could not part with. It must be
 /// spent: at the end of the service, at the latest.
-pub struct Wreck<E: Ledger, S: Ledger, W: Ledger> {
+pub struct Wreck<E: Setup, S: Ledger, W: Ledger> {
     client: Client<E, S, W>,
     refused: Held<E, S, W>,
 }
 
-impl<E: Ledger, S: Ledger, W: Ledger> Model for Wreck<E, S, W> {
+impl<E: Setup, S: Ledger, W: Ledger> Model for Wreck<E, S, W> {
     ghost use Rattle.client_parting.specs.Partings.{Remains, held_in};
 
     ghost Value = { Remains };
@@ -22,7 +23,7 @@ impl<E: Ledger, S: Ledger, W: Ledger> Model for Wreck<E, S, W> {
     ghost view = { λ w. record { client = w.client; refused = held_in w.refused } };
 }
 
-impl<E: Ledger, S: Ledger, W: Ledger> Wreck<E, S, W> {
+impl<E: Setup, S: Ledger, W: Ledger> Wreck<E, S, W> {
     pub(crate) fn new(client: Client<E, S, W>, refused: Held<E, S, W>) -> Wreck<E, S, W>
         ensures { result ≡ record { client = client; refused = held_in refused } }
     {

@@ -29,19 +29,20 @@ unfolding all_open all_moving
 none_counted strength sums none left = record { standing = none; carried = left }
 
 -- an empty record, a core that shows it and empty books fit together
-pub begins : (core : State) (limits : Bound) (history : List Entry) (events strong weak : Sums) → history ≡ [] → Shows core [] →
-    core.limits ≡ limits →
+pub begins : (pages : ℕ) (asked : Bound) (core : State) (limits : Bound) (history : List Entry) (events strong weak : Sums) →
+    history ≡ [] → Shows core [] → core.pool ≡ pages → limits ≡ asked → core.limits ≡ limits →
     events.total ≡ 0 → strong.total ≡ 0 → strong.carried ≡ 0 → weak.total ≡ 0 → weak.carried ≡ 0 →
-    IsSound core limits history events strong weak
-begins core limits history events strong weak none shows limited no_event no_strong no_strong_parcel no_weak no_weak_parcel =
-    let start : IsSound core limits [] events strong weak = record {
+    IsSound pages asked core limits history events strong weak
+begins pages asked core limits history events strong weak none shows paged as_asked limited no_event no_strong no_strong_parcel no_weak no_weak_parcel =
+    let start : IsSound pages asked core limits [] events strong weak = record {
+      asked = (paged, as_asked);
       shown = shows;
       limited = limited;
       counted = no_event;
       strong = none_counted Strong strong no_strong no_strong_parcel;
       weak = none_counted Weak weak no_weak no_weak_parcel;
     } in
-    subst (λ (h : List Entry). IsSound core limits h events strong weak) (sym none) start
+    subst (λ (h : List Entry). IsSound pages asked core limits h events strong weak) (sym none) start
 
 -- the book holds what the event opens
 pub fits : (pool : ℕ) (limits : Bound) (strength : Strength) (client : ℕ) (call : Call) (reply : Reply) (history : List Entry)

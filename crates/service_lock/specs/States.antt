@@ -21,6 +21,10 @@ pub record View : Type 0 where
   pub history : List Entry
   pub untaken : List ℕ
 
+-- the pool and the limits are those that were asked for
+abbrev pub IsAsked : ℕ → Bound → ℕ → Bound → Type 0
+IsAsked asked_pages asked_limits pool limits = (pool ≡ asked_pages) × (limits ≡ asked_limits)
+
 -- the state after one more event
 abbrev pub after : View → ℕ → Call → Reply → View
 after s client call reply = record s {
@@ -33,9 +37,11 @@ pub record CountsHandles (marks : Timeline) (strength : Strength) (sums : Sums) 
   pub standing : sums.total ≡ all_open marks strength
   pub carried : sums.carried ≡ all_moving marks strength
 
--- what lies under the lock fits together: the core shows the record, and the books count its events and its handles
-pub record IsSound (core : State) (limits : Bound) (history : List Entry)
+-- what lies under the lock fits together: it is what was asked for, the core shows the record, and the books count its events
+-- and its handles
+pub record IsSound (asked_pages : ℕ) (asked_limits : Bound) (core : State) (limits : Bound) (history : List Entry)
     (events_book strong_book weak_book : Sums) : Type 0 where
+  pub asked : IsAsked asked_pages asked_limits core.pool limits
   pub shown : Shows core history
   pub limited : core.limits ≡ limits
   pub counted : events_book.total ≡ length history

@@ -9,6 +9,7 @@ ghost use Rattle.service_lock.specs.States.{after};
 ghost use Rattle.service_lock.specs.Units.{Counts, HasUnitFor};
 
 use crate::moves::{HandleMoves, moves_of};
+use crate::setup::Setup;
 use crate::shares::Units;
 use crate::state::State;
 use sm_names::{Call, ClientId, Reply, StepFault, Strength};
@@ -33,7 +34,7 @@ const ONE_EVENT: HandleMoves = HandleMoves {
 /// It costs the core's step and a place at the end of the record, which grows by doubling. A Take
 /// that is answered Taken costs a look at each of 64 bits more.
 #[tactic(auto, using(crate::proofs::MoveLaws::opened_le, crate::proofs::MoveLaws::lost_le_needed))]
-pub fn apply<E: Ledger, S: Ledger, W: Ledger>(
+pub fn apply<E: Setup, S: Ledger, W: Ledger>(
     state: &mut State<E, S, W>,
     units: &mut Units<E, S, W>,
     client: ClientId,

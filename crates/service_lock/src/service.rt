@@ -1,8 +1,10 @@
 //! The service, and its lock.
 ghost use Rattle.std.specs.Prelude.{◌≤◌};
+ghost use Rattle.service_lock.specs.States.{IsAsked};
 ghost use Rattle.service_lock.specs.Units.{AreFor};
 
 use crate::blanks::Blanks;
+use crate::setup::Setup;
 use crate::state::State;
 use sm_names::{Limits, NoMemory};
 use std::alloc::Global;
@@ -13,18 +15,18 @@ use std::sync::{Mutex, MutexGuard, Wait};
 ///
 /// Whenever the lock is taken, the record under it is a legal history, the core shows it, and the
 /// books count it: `entries`, `core` and `books` say so of each state.
-pub struct Service<E: Ledger, S: Ledger, W: Ledger> {
+pub struct Service<E: Setup, S: Ledger, W: Ledger> {
     state: Mutex<State<E, S, W>>,
 }
 
 /// The lock, held. It is free again once the guard is dropped.
 ///
 /// A type of its own, so that no crate above works with a guard over the state's own fields.
-pub struct Guard<'a, E: Ledger, S: Ledger, W: Ledger> {
+pub struct Guard<'a, E: Setup, S: Ledger, W: Ledger> {
     lock: MutexGuard<'a, State<E, S, W>>,
 }
 
-impl<'a, E: Ledger, S: Ledger, W: Ledger> Guard<'a, E, S, W> {
+impl<'a, E: Setup, S: Ledger, W: Ledger> Guard<'a, E, S, W> {
     /// The state, to be read. It costs nothing.
     pub fn state(&self) -> &State<E, S, W> {
         &*self.lock
@@ -36,14 +38,14 @@ impl<'a, E: Ledger, S: Ledger, W: Ledger> Guard<'a, E, S, W> {
     }
 }
 
-impl<E: Ledger, S: Ledger, W: Ledger> Drop for Guard<'_, E, S, W> {
+impl<E: Setup, S: Ledger, W: Ledger> Drop for Guard<'_, E, S, W> {
     fn drop(self) {
         let Guard { lock } = self;
         drop(lock);
     }
 }
 
-impl<E: Ledger, S: Ledger, W: Ledger> Service<E, S, W> {
+impl<E: Setup, S: Ledger, W: Ledger> Service<E, S, W> {
     /// A service that has seen nothing, with a pool of `pages` pages of 4,096 bytes each, from 1 to
     /// 1,048,576, these limits, and books of `PARTS` parts each. The counts of handles hash from a
     /// seed that everybody knows.
@@ -58,6 +60,7 @@ impl<E: Ledger, S: Ledger, W: Ledger> Service<E, S, W> {
     ) -> Result<Service<E, S, W>, NoMemory>
         requires pages { (1 ≤ pages) × (pages ≤ 1048576) }
         requires blanks { AreFor E.name E.parts S.name S.parts W.name W.parts blanks }
+        requires asked { IsAsked E.pages E.limits pages limits }
     {
         Service::with_seed(alloc, blanks, pages, limits, [0; 16])
     }
@@ -72,6 +75,7 @@ impl<E: Ledger, S: Ledger, W: Ledger> Service<E, S, W> {
     ) -> Result<Service<E, S, W>, NoMemory>
         requires pages { (1 ≤ pages) × (pages ≤ 1048576) }
         requires blanks { AreFor E.name E.parts S.name S.parts W.name W.parts blanks }
+        requires asked { IsAsked E.pages E.limits pages limits }
     {
         Ok(Service {
             state: Mutex::new(State::new(alloc, blanks, pages, limits, seed)?),

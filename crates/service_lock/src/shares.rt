@@ -2,6 +2,7 @@
 ghost use Rattle.std.specs.Prelude.{◌≡◌};
 ghost use Rattle.service_lock.specs.Units.{HasOne, Passed};
 
+use crate::setup::Setup;
 use crate::state::State;
 use sm_names::Strength;
 use std::marker::Model;
@@ -36,7 +37,7 @@ impl<E: Ledger, S: Ledger, W: Ledger> Model for Units<E, S, W> {
 
 /// Moves the unit of one handle of this strength, which `from` has, under the lock. It takes no
 /// memory, and does nothing when it runs.
-pub fn pass<E: Ledger, S: Ledger, W: Ledger>(
+pub fn pass<E: Setup, S: Ledger, W: Ledger>(
     _state: &mut State<E, S, W>,
     from: &mut Units<E, S, W>,
     to: &mut Units<E, S, W>,

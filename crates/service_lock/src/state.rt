@@ -7,9 +7,11 @@ ghost use Rattle.trackers.specs.Table.{firing_of, is_untaken, without};
 ghost use Rattle.lifetime_core.specs.Shown.{Shows};
 ghost use Rattle.sm_names.specs.declared.keys.Strength.{Strength};
 ghost use Rattle.event_laws.specs.HandleSums.{all_open};
+ghost use Rattle.service_lock.specs.States.{IsAsked};
 ghost use Rattle.service_lock.specs.Units.{AreFor};
 
 use crate::blanks::{Blanks, PARTS};
+use crate::setup::Setup;
 use crate::shares::Units;
 use crate::sums::Books;
 use crate::tally::Tally;
@@ -24,7 +26,7 @@ use trackers::Tracker;
 ///
 /// A contract sees the record, which is a legal history at all times, and which trackers are still to
 /// be taken. The core shows the record, and the books are what it counts.
-pub struct State<E: Ledger, S: Ledger, W: Ledger> {
+pub struct State<E: Setup, S: Ledger, W: Ledger> {
     pub(crate) core: Core,
     pub(crate) limits: Limits,
     pub(crate) log: Vec<(ClientId, Call, Reply)>,
@@ -33,7 +35,7 @@ pub struct State<E: Ledger, S: Ledger, W: Ledger> {
     pub(crate) weak: Tally<W>,
 }
 
-impl<E: Ledger, S: Ledger, W: Ledger> Model for State<E, S, W> {
+impl<E: Setup, S: Ledger, W: Ledger> Model for State<E, S, W> {
     ghost use Rattle.service_lock.specs.States.{View, IsSound};
 
     ghost Value = { View };
@@ -45,10 +47,11 @@ impl<E: Ledger, S: Ledger, W: Ledger> Model for State<E, S, W> {
       untaken = s.core.trackers.untaken;
     } };
 
-    ghost invariant = { λ s. IsSound s.core s.limits s.log.items s.events s.strong s.weak };
+    ghost invariant = { λ s. IsSound E.pages E.limits s.core s.limits s.log.items
+        s.events s.strong s.weak };
 }
 
-impl<E: Ledger, S: Ledger, W: Ledger> State<E, S, W> {
+impl<E: Setup, S: Ledger, W: Ledger> State<E, S, W> {
     /// What lies under the lock at first: a core that hashes from this seed.
     pub(crate) fn new(
         alloc: Global,
@@ -59,6 +62,7 @@ impl<E: Ledger, S: Ledger, W: Ledger> State<E, S, W> {
     ) -> Result<State<E, S, W>, NoMemory>
         requires pages { (1 ≤ pages) × (pages ≤ 1048576) }
         requires blanks { AreFor E.name E.parts S.name S.parts W.name W.parts blanks }
+        requires asked { IsAsked E.pages E.limits pages limits }
         ensures { IfOk result (λ s. s
             ≡ record { pool = pages; limits = limits; history = []; untaken = [] }) }
     {
@@ -94,7 +98,7 @@ impl<E: Ledger, S: Ledger, W: Ledger> State<E, S, W> {
 /// caller for whom a full record comes first asks `is_full` before.
 ///
 /// It costs a constant and takes no memory.
-pub fn units<E: Ledger, S: Ledger, W: Ledger>(
+pub fn units<E: Setup, S: Ledger, W: Ledger>(
     state: &mut State<E, S, W>,
 ) -> Result<Units<E, S, W>, NoMemory>
     ensures empty { IfOk result (λ u. u ≡ record { events = 0; strong = 0; weak = 0 }) }
@@ -110,19 +114,20 @@ pub fn units<E: Ledger, S: Ledger, W: Ledger>(
     })
 }
 
-/// The record: each event's client, call and reply, in order. It is a legal history at all times.
-/// It costs a constant and takes no memory.
-pub fn entries<E: Ledger, S: Ledger, W: Ledger>(
+/// The record: each event's client, call and reply, in order. It is a legal history at all times, with
+/// the pool and the limits that the service was asked for. It costs a constant and takes no memory.
+pub fn entries<E: Setup, S: Ledger, W: Ledger>(
     state: &State<E, S, W>,
 ) -> &[(ClientId, Call, Reply)]
     ensures value { result.now ≡ state.now.history }
     ensures legal { IsLegal state.now.pool state.now.limits state.now.history }
+    ensures asked { IsAsked E.pages E.limits state.now.pool state.now.limits }
 {
     state.log.as_slice()
 }
 
 /// The core, which shows the record. It costs a constant and takes no memory.
-pub fn core<E: Ledger, S: Ledger, W: Ledger>(state: &State<E, S, W>) -> &Core
+pub fn core<E: Setup, S: Ledger, W: Ledger>(state: &State<E, S, W>) -> &Core
     ensures shows { Shows result.now state.now.history }
     ensures pool { result.now.pool ≡ state.now.pool }
     ensures limits { result.now.limits ≡ state.now.limits }
@@ -132,7 +137,7 @@ pub fn core<E: Ledger, S: Ledger, W: Ledger>(state: &State<E, S, W>) -> &Core
 
 /// The sums of the books: the events of the record, and the handles of each strength that are open
 /// on all buffers after it, those in parcels among them. It costs a constant and takes no memory.
-pub fn books<E: Ledger, S: Ledger, W: Ledger>(state: &State<E, S, W>) -> Books
+pub fn books<E: Setup, S: Ledger, W: Ledger>(state: &State<E, S, W>) -> Books
     ensures events { result.events ≡ length state.now.history }
     ensures strong { result.strong
         ≡ all_open (timeline state.now.pool state.now.history) Strength.Strong }
@@ -147,7 +152,7 @@ pub fn books<E: Ledger, S: Ledger, W: Ledger>(state: &State<E, S, W>) -> Books
 }
 
 /// Whether the record has as many entries as may be. It costs a constant and takes no memory.
-pub fn is_full<E: Ledger, S: Ledger, W: Ledger>(state: &State<E, S, W>) -> bool
+pub fn is_full<E: Setup, S: Ledger, W: Ledger>(state: &State<E, S, W>) -> bool
     ensures { result ≡ nat_le state.now.limits.events (length state.now.history) }
 {
     state.limits.events() as u64 <= state.core.events()
@@ -156,7 +161,7 @@ pub fn is_full<E: Ledger, S: Ledger, W: Ledger>(state: &State<E, S, W>) -> bool
 /// The reader of the tracker with this id: `Some` once for each that a reply told of, and else
 /// `None`. It knows the firing if there was one, and tells a later one without the lock. It takes no
 /// memory, and costs a binary search among all trackers that were made.
-pub fn take_tracker<E: Ledger, S: Ledger, W: Ledger>(
+pub fn take_tracker<E: Setup, S: Ledger, W: Ledger>(
     state: &mut State<E, S, W>,
     id: TrackerId,
 ) -> Option<Tracker>

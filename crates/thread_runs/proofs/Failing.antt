@@ -1,5 +1,6 @@
 -- Why a run of actors has no report.
 use Rattle.std.proofs.Common.{ℕ, List, Option, refl}
+use Rattle.sm_names.specs.Bounds.{Bound}
 use Rattle.client_parting.specs.declared.gathering.GatherFault.{GatherFault}
 use Rattle.actor_scripts.specs.declared.cast.Cast.{Cast}
 use Rattle.actor_scripts.specs.Casts.{company_of}
@@ -8,7 +9,7 @@ use Rattle.thread_runs.specs.declared.fault.ThreadsFault.{ThreadsFault}
 use Rattle.thread_runs.specs.Gathered.{IsLate}
 use Rattle.thread_runs.specs.Runs.{HasNoReport, IsRead, RunFails}
 
-module _ (before after old : Option (List ℕ)) where
+module _ (pages : ℕ) (limits : Bound) (before after old : Option (List ℕ)) where
   module _ (cast : Cast) (so : IsReadAs before after cast) where
     pub read-as : IsRead before after (company_of cast)
     read-as = record { script = so.script; whole = so.whole; is_cast = so.is_cast }
@@ -17,7 +18,7 @@ module _ (before after old : Option (List ℕ)) where
     none = record { company = company_of cast; read = read-as; silent = refl }
 
     -- the actors have no report
-    pub fails-late : (told : ThreadsFault) → IsLate told → RunFails before after old old told
+    pub fails-late : (told : ThreadsFault) → IsLate told → RunFails pages limits before after old old told
     fails-late ThreadsFault.ReadFault late = absurd late
     fails-late ThreadsFault.WriteFault late = absurd late
     fails-late (ThreadsFault.BadLine number) late = absurd late

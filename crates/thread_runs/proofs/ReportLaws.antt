@@ -3,11 +3,13 @@ use Rattle.std.proofs.Common.{◌≡◌, ℕ, List, [], ◌∷◌, None, refl, s
 use Rattle.std.specs.Prelude.{Ok, Err, Result, IfOk, OnOk}
 use Rattle.std.specs.List.{AllZip, AllByRecursion}
 use Rattle.std.proofs.lemmas.List.Elements.{recursion_from_All}
+use Rattle.sm_names.specs.Bounds.{Bound}
+use Rattle.sm_names.specs.Legality.{IsLegal}
 use Rattle.sm_names.specs.Marks.{Entry}
 use Rattle.record_parts.specs.Lines.{line_of}
 use Rattle.record_parts.specs.Members.{joined}
 use Rattle.record_parts.specs.Parts.{part}
-use Rattle.service_lock.specs.States.{View}
+use Rattle.service_lock.specs.States.{IsAsked, View}
 use Rattle.client_parting.specs.declared.gathering.Holding.{Holding}
 use Rattle.client_parting.specs.declared.gathering.Report.{Report}
 use Rattle.client_parting.specs.Gatherings.{IsGathered, Matches, ids_of}
@@ -42,12 +44,12 @@ was-played history clients script wreck remains played is own = record {
 
 module _ {E S W : Type 0} where
   -- what was gathered is told
-  pub tells : (s : View) (labels : List Label) (parts : List (Holding E S W)) (report : Report) (text : List ℕ) →
-      IsGathered s parts report →
+  pub tells : (pages : ℕ) (limits : Bound) (s : View) (labels : List Label) (parts : List (Holding E S W)) (report : Report) (text : List ℕ) →
+      IsAsked pages limits s.pool s.limits → IsGathered s parts report →
       map client_of report.lines.items ≡ ids_of parts → text ≡ report_text labels report.events report.lines.items →
-      Tells s labels parts text
-  tells s labels parts report text so ordered told = record {
-    legal = so.legal;
+      Tells pages limits s labels parts text
+  tells pages limits s labels parts report text asked so ordered told = record {
+    legal = subst (λ (p : ℕ). IsLegal p limits s.history) asked.0 (subst (λ (b : Bound). IsLegal s.pool b s.history) asked.1 so.legal);
     ordered = sym (clients-of s.history (joined s.history)) ∙ ap (map client_of) (sym so.lines) ∙ ordered;
     own_lists = so.own_lists;
     told =
@@ -55,13 +57,15 @@ module _ {E S W : Type 0} where
         ∙ ap (report_text labels (length s.history)) so.lines;
   }
 
-  pub told-ok : {T F : Type 0} (items : T → List ℕ) (result : Result T F) (labels : List Label) (parts : List (Holding E S W))
+  pub told-ok : {T F : Type 0} (items : T → List ℕ) (result : Result T F) (pages : ℕ) (limits : Bound) (labels : List Label) (parts : List (Holding E S W))
       (report : Report) →
       OnOk result (map client_of report.lines.items ≡ ids_of parts) →
-      IfOk result (λ text. items text ≡ report_text labels report.events report.lines.items) → ((s : View) × IsGathered s parts report) →
-      IfOk result (λ text. (s : View) × Tells s labels parts (items text))
-  told-ok items (Err fault) labels parts report ordered told so = tt
-  told-ok items (Ok text) labels parts report ordered told (s, so) = (s, tells s labels parts report (items text) so ordered told)
+      IfOk result (λ text. items text ≡ report_text labels report.events report.lines.items) →
+      ((s : View) × IsAsked pages limits s.pool s.limits × IsGathered s parts report) →
+      IfOk result (λ text. (s : View) × Tells pages limits s labels parts (items text))
+  told-ok items (Err fault) pages limits labels parts report ordered told so = tt
+  told-ok items (Ok text) pages limits labels parts report ordered told (s, asked, so) =
+      (s, tells pages limits s labels parts report (items text) asked so ordered told)
 
   module _ (history : List Entry) (clients : List ℕ) where
     -- each of the actors is such a one
@@ -81,12 +85,10 @@ module _ {E S W : Type 0} where
     were-played (script ∷ scripts) (ActorEnd.NotStarted client ∷ ends) (part ∷ parts) ran left well own = cc
 
   -- it is the report of the cast
-  pub is-report : (cast : Cast) (ends : List (ActorEnd E S W)) (parts : List (Holding E S W)) → HaveRun cast.scripts.items ends →
-      AllZip IsLeft ends parts → first_fault ends ≡ None → (text : List ℕ) → ((s : View) × Tells s cast.labels.items parts text) →
-      IsReport (company_of cast) text
-  is-report cast ends parts ran left well text (s, so) = record {
-    pool = s.pool;
-    limits = s.limits;
+  pub is-report : (pages : ℕ) (limits : Bound) (cast : Cast) (ends : List (ActorEnd E S W)) (parts : List (Holding E S W)) → HaveRun cast.scripts.items ends →
+      AllZip IsLeft ends parts → first_fault ends ≡ None → (text : List ℕ) → ((s : View) × Tells pages limits s cast.labels.items parts text) →
+      IsReport pages limits (company_of cast) text
+  is-report pages limits cast ends parts ran left well text (s, so) = record {
     history = s.history;
     legal = so.legal;
     played =

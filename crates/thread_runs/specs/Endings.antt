@@ -1,5 +1,6 @@
 -- What a program that runs actors leaves.
 use Rattle.std.specs.Prelude.{◌≡◌, ℕ, List, [], ◌∷◌, ◌++◌, Option, Ok, Err, Result}
+use Rattle.sm_names.specs.Bounds.{Bound}
 use Rattle.script_runs.specs.Written.{WritesPart}
 use Rattle.thread_runs.specs.declared.fault.ThreadsFault.{ThreadsFault}
 use Rattle.thread_runs.specs.Faults.{fault_status, fault_text}
@@ -15,9 +16,13 @@ abbrev pub ending_line : Result (Unit {0}) ThreadsFault → List ℕ
 ending_line (Ok done) = []
 ending_line (Err fault) = fault_text fault ++ 10 ∷ []
 
--- actors were run: the outcome is that of the status, and was told as far as it could be
-pub record Ends (left_before left old new faults_before faults : Option (List ℕ)) (status : ℕ) : Type 0 where
+-- the limits that a program sets: the greatest
+abbrev pub program_limits : Bound
+program_limits = record { events = 4294967295; nodes = 1024; collections = 256; trackers = 4096; handles = 4294967295 }
+
+-- actors were run with a pool of so many pages: the outcome is that of the status, and was told as far as it could be
+pub record Ends (pages : ℕ) (left_before left old new faults_before faults : Option (List ℕ)) (status : ℕ) : Type 0 where
   pub outcome : Result (Unit {0}) ThreadsFault
-  pub runs : Runs left_before left old new outcome
+  pub runs : Runs pages program_limits left_before left old new outcome
   pub status_is : status ≡ ending_status outcome
   pub told : WritesPart faults_before faults (ending_line outcome)

@@ -3,6 +3,7 @@ use Rattle.std.specs.Prelude.{◌≡◌, ℕ, List, [], ◌∷◌, ◌++◌, len
 use Rattle.std.specs.List.{All, AllZip}
 use Rattle.std.specs.Option.{option_or}
 use Rattle.sm_names.specs.declared.outcomes.StepFault.{StepFault}
+use Rattle.sm_names.specs.Bounds.{Bound}
 use Rattle.sm_names.specs.Legality.{IsLegal}
 use Rattle.record_parts.specs.declared.line.ClientLine.{ClientLine}
 use Rattle.record_parts.specs.Lines.{lines_of}
@@ -52,10 +53,11 @@ pub record PartedTo {E S W : Type 0} (all rest : List (ActorEnd E S W)) (parts :
 abbrev pub client_of : ClientLine → ℕ
 client_of line = line.client
 
--- the record is a legal history, those who joined are just those of the parts, in order, each own list is its client's part, and
+-- the record is a legal history with this pool and these limits, those who joined are just those of the parts, in order, each own list is its client's part, and
 -- the text is the report
-pub record Tells {E S W : Type 0} (s : View) (labels : List Label) (parts : List (Holding E S W)) (text : List ℕ) : Type 0 where
-  pub legal : IsLegal s.pool s.limits s.history
+pub record Tells {E S W : Type 0} (pages : ℕ) (limits : Bound) (s : View) (labels : List Label) (parts : List (Holding E S W))
+    (text : List ℕ) : Type 0 where
+  pub legal : IsLegal pages limits s.history
   pub ordered : joined s.history ≡ ids_of parts
   pub own_lists : All (Matches s.history) parts
   pub told : text ≡ report_text labels (length s.history) (lines_of s.history)

@@ -25,13 +25,11 @@ pub record IsPlayed (history : List Entry) (clients : List ℕ) (steps : List St
   pub its_part : left.client.own ≡ part client history
   pub played : HasPlayed clients steps left
 
--- the text is the report of a legal history in which the actors of the company joined in their order, and nobody else, and
--- each of them played its script
-pub record IsReport (company : Company) (text : List ℕ) : Type 0 where
-  pub pool : ℕ
-  pub limits : Bound
+-- the text is the report of a legal history, with a pool of so many pages and these limits, in which the actors of the company
+-- joined in their order, and nobody else, and each of them played its script
+pub record IsReport (pages : ℕ) (limits : Bound) (company : Company) (text : List ℕ) : Type 0 where
   pub history : List Entry
-  pub legal : IsLegal pool limits history
+  pub legal : IsLegal pages limits history
   pub played : AllZip (IsPlayed history (joined history)) company.scripts (joined history)
   pub told : text ≡ report_text company.labels (length history) (lines_of history)
 
@@ -42,11 +40,11 @@ pub record IsRead (before after : Option (List ℕ)) (company : Company) : Type 
   pub is_cast : cast_of script ≡ Ok company
 
 -- all of a script was read, its actors ran, and what was written is said of their report
-pub record HasRun (before after : Option (List ℕ)) (Written : List ℕ → Type 0) : Type 0 where
+pub record HasRun (pages : ℕ) (limits : Bound) (before after : Option (List ℕ)) (Written : List ℕ → Type 0) : Type 0 where
   pub company : Company
   pub read : IsRead before after company
   pub report : List ℕ
-  pub is_report : IsReport company report
+  pub is_report : IsReport pages limits company report
   pub written : Written report
 
 -- all of a script was read, and its actors may have run, but there is no report
@@ -56,18 +54,18 @@ pub record HasNoReport (before after old new : Option (List ℕ)) : Type 0 where
   pub silent : new ≡ old
 
 -- why there was no run, or no report of it, or not all of the report was written
-abbrev pub RunFails : Option (List ℕ) → Option (List ℕ) → Option (List ℕ) → Option (List ℕ) → ThreadsFault → Type 0
-RunFails before after old new ThreadsFault.ReadFault = IsCutOff before after × (new ≡ old)
-RunFails before after old new ThreadsFault.WriteFault = HasRun before after (WritesPart old new)
-RunFails before after old new (ThreadsFault.BadLine number) = IsBad before after number × (new ≡ old)
-RunFails before after old new ThreadsFault.HistoryFull = HasNoReport before after old new
-RunFails before after old new ThreadsFault.NoMemory = IsCutOff before after × (new ≡ old)
-RunFails before after old new ThreadsFault.NoThread = HasNoReport before after old new
-RunFails before after old new (ThreadsFault.Gather GatherFault.NoMemory) = ⊥
-RunFails before after old new (ThreadsFault.Gather fault) = HasNoReport before after old new
+abbrev pub RunFails : ℕ → Bound → Option (List ℕ) → Option (List ℕ) → Option (List ℕ) → Option (List ℕ) → ThreadsFault → Type 0
+RunFails pages limits before after old new ThreadsFault.ReadFault = IsCutOff before after × (new ≡ old)
+RunFails pages limits before after old new ThreadsFault.WriteFault = HasRun pages limits before after (WritesPart old new)
+RunFails pages limits before after old new (ThreadsFault.BadLine number) = IsBad before after number × (new ≡ old)
+RunFails pages limits before after old new ThreadsFault.HistoryFull = HasNoReport before after old new
+RunFails pages limits before after old new ThreadsFault.NoMemory = IsCutOff before after × (new ≡ old)
+RunFails pages limits before after old new ThreadsFault.NoThread = HasNoReport before after old new
+RunFails pages limits before after old new (ThreadsFault.Gather GatherFault.NoMemory) = ⊥
+RunFails pages limits before after old new (ThreadsFault.Gather fault) = HasNoReport before after old new
 
 -- a run of actors: their report was written, or there is a fault. Where the script could not be read or has a bad line, that
 -- is the fault, unless memory was refused before
-abbrev pub Runs : Option (List ℕ) → Option (List ℕ) → Option (List ℕ) → Option (List ℕ) → Result (Unit {0}) ThreadsFault → Type 0
-Runs before after old new result =
-    MatchResult result (λ _. HasRun before after (Appends old new)) (RunFails before after old new)
+abbrev pub Runs : ℕ → Bound → Option (List ℕ) → Option (List ℕ) → Option (List ℕ) → Option (List ℕ) → Result (Unit {0}) ThreadsFault → Type 0
+Runs pages limits before after old new result =
+    MatchResult result (λ _. HasRun pages limits before after (Appends old new)) (RunFails pages limits before after old new)

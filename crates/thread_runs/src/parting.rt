@@ -7,6 +7,7 @@ use crate::fault::ThreadsFault;
 use client_actors::ActorEnd;
 use client_ends::Held;
 use client_parting::Holding;
+use service_lock::Setup;
 use sm_names::StepFault;
 use std::alloc::Global;
 use std::sync::ledger::Ledger;
@@ -22,7 +23,7 @@ pub(crate) fn fault_of(fault: StepFault) -> ThreadsFault
 }
 
 // What is left of an actor, and why it did not vanish, if it did not.
-fn part_of<E: Ledger, S: Ledger, W: Ledger>(
+fn part_of<E: Setup, S: Ledger, W: Ledger>(
     alloc: Global,
     end: ActorEnd<E, S, W>,
 ) -> (Holding<E, S, W>, Option<ThreadsFault>)
@@ -43,7 +44,7 @@ fn part_of<E: Ledger, S: Ledger, W: Ledger>(
 
 // Puts what is left of each actor into the list, in order, and tells why the first of those that did
 // not vanish did not.
-pub(crate) fn part_all<E: Ledger, S: Ledger, W: Ledger>(
+pub(crate) fn part_all<E: Setup, S: Ledger, W: Ledger>(
     alloc: Global,
     ends: Vec<ActorEnd<E, S, W>>,
     parts: &mut Vec<Holding<E, S, W>>,

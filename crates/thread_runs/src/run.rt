@@ -23,9 +23,9 @@ use std::time::Clock;
 /// starts. Nothing is written before all actors have ended and all that they left was gathered. The
 /// writer is flushed at the end. In every case the service is ended with all that is left.
 ///
-/// Answered Ok, what was written is the report of a legal history in which the clients of the script
-/// joined in their order, and nobody else, and in which each of them played its script. Else, where
-/// nothing was written but for `WriteFault`:
+/// Answered Ok, what was written is the report of a legal history, with this pool and these limits, in
+/// which the clients of the script joined in their order, and nobody else, and in which each of them
+/// played its script. Else, where nothing was written but for `WriteFault`:
 /// - `ReadFault`: the reader failed, or the script has more than `MOST_BYTES` bytes.
 /// - `BadLine`: this line is the first bad one.
 /// - `NoMemory`: memory was refused, at any time.
@@ -50,7 +50,7 @@ pub fn run_threads<I: Read, O: Write, R: Threads + Wait + Clock + Sync>(
     limits: Limits,
 ) -> Result<(), ThreadsFault>
     requires { (1 ≤ pages) × (pages ≤ 1048576) }
-    ensures { Runs (I.remaining reader.old) (I.remaining reader.new)
+    ensures { Runs pages limits (I.remaining reader.old) (I.remaining reader.new)
         (O.contents writer.old) (O.contents writer.new) result }
 {
     let cast = match read_actors(alloc, LabelHash::new(seed), reader) {

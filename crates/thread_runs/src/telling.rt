@@ -3,7 +3,7 @@ ghost use Rattle.std.specs.Prelude.{◌≡◌, ◌≤◌, IfErr, IfOk, IfNone, O
 ghost use Rattle.actor_reports.specs.Reports.{report_text};
 ghost use Rattle.actor_scripts.specs.Casts.{company_of};
 ghost use Rattle.client_parting.specs.Gatherings.{ids_of};
-ghost use Rattle.service_lock.specs.States.{View};
+ghost use Rattle.service_lock.specs.States.{IsAsked, View};
 ghost use Rattle.service_lock.specs.Units.{AreFor};
 ghost use Rattle.thread_runs.specs.Gathered.{IsLate, Tells, client_of};
 ghost use Rattle.thread_runs.specs.Runs.{IsReport};
@@ -16,7 +16,7 @@ use client_actors::{Gate, run_actors};
 use client_parting::{GatherFault, Holding, Report, end_service, gather};
 use record_parts::ClientLine;
 use script_lines::Label;
-use service_lock::{Blanks, PARTS, Service};
+use service_lock::{Blanks, PARTS, Service, Setup};
 use sm_names::{ClientId, Limits, Reply};
 use std::alloc::Global;
 use std::marker::Brand;
@@ -35,7 +35,7 @@ impl Gate for Silent {
 }
 
 // The first client that has a line where it has no part, or a part where it has no line.
-fn first_stray<E: Ledger, S: Ledger, W: Ledger>(
+fn first_stray<E: Setup, S: Ledger, W: Ledger>(
     lines: &[ClientLine],
     parts: &[Holding<E, S, W>],
 ) -> Option<ClientId>
@@ -59,7 +59,7 @@ fn first_stray<E: Ledger, S: Ledger, W: Ledger>(
 }
 
 // The report, if the lines are those of the parts, in order.
-fn text_of<E: Ledger, S: Ledger, W: Ledger>(
+fn text_of<E: Setup, S: Ledger, W: Ledger>(
     alloc: Global,
     labels: &[Label],
     report: &Report,
@@ -81,14 +81,15 @@ fn text_of<E: Ledger, S: Ledger, W: Ledger>(
 }
 
 // The report of all parts, which come back.
-fn tell<E: Ledger, S: Ledger, W: Ledger, R: Wait>(
+fn tell<E: Setup, S: Ledger, W: Ledger, R: Wait>(
     rt: &R,
     alloc: Global,
     service: &Service<E, S, W>,
     labels: &[Label],
     parts: Vec<Holding<E, S, W>>,
 ) -> (Vec<Holding<E, S, W>>, Result<Vec<u8>, ThreadsFault>)
-    ensures ok { IfOk result.1 (λ text. (s : View) × Tells s labels.now parts.items text.items) }
+    ensures ok { IfOk result.1 (λ text. (s : View)
+        × Tells E.pages E.limits s labels.now parts.items text.items) }
     ensures late { IfErr result.1 IsLate }
 {
     let (parts, answer) = gather(rt, alloc, service, parts);
@@ -103,7 +104,7 @@ fn tell<E: Ledger, S: Ledger, W: Ledger, R: Wait>(
 
 // The report of the actors, and what is left of them.
 fn run_all<
-    E: Ledger + Send + Sync,
+    E: Setup + Send + Sync,
     S: Ledger + Send + Sync,
     W: Ledger + Send + Sync,
     R: Threads + Wait + Clock + Sync,
@@ -113,7 +114,8 @@ fn run_all<
     service: &Service<E, S, W>,
     cast: &Cast,
 ) -> (Vec<Holding<E, S, W>>, Result<Vec<u8>, ThreadsFault>)
-    ensures ok { IfOk result.1 (λ text. IsReport (company_of cast.now) text.items) }
+    ensures ok { IfOk result.1 (λ text.
+        IsReport E.pages E.limits (company_of cast.now) text.items) }
     ensures late { IfErr result.1 IsLate }
 {
     let mut parts = match Vec::with_capacity(alloc, cast.scripts.len()) {
@@ -134,7 +136,7 @@ fn run_all<
 
 // The report of the actors on a service that has seen nothing, which is ended.
 fn run_on<
-    E: Ledger + Send + Sync,
+    E: Setup + Send + Sync,
     S: Ledger + Send + Sync,
     W: Ledger + Send + Sync,
     R: Threads + Wait + Clock + Sync,
@@ -149,7 +151,8 @@ fn run_on<
 ) -> Result<Vec<u8>, ThreadsFault>
     requires pages { (1 ≤ pages) × (pages ≤ 1048576) }
     requires blanks { AreFor E.name E.parts S.name S.parts W.name W.parts blanks }
-    ensures ok { IfOk result (λ text. IsReport (company_of cast.now) text.items) }
+    requires asked { IsAsked E.pages E.limits pages limits }
+    ensures ok { IfOk result (λ text. IsReport pages limits (company_of cast.now) text.items) }
     ensures late { IfErr result IsLate }
 {
     match Service::<E, S, W>::with_seed(alloc, blanks, pages, limits, seed) {
@@ -172,7 +175,7 @@ pub(crate) fn report<R: Threads + Wait + Clock + Sync>(
     limits: Limits,
 ) -> Result<Vec<u8>, ThreadsFault>
     requires { (1 ≤ pages) × (pages ≤ 1048576) }
-    ensures ok { IfOk result (λ text. IsReport (company_of cast.now) text.items) }
+    ensures ok { IfOk result (λ text. IsReport pages limits (company_of cast.now) text.items) }
     ensures late { IfErr result IsLate }
 {
     let blanks = Blanks {

@@ -4,7 +4,7 @@ use actor_steps::{ActorScript, Step, Verb};
 use client_actors::{ActorEnd, play};
 use client_ends::join;
 use client_parting::{Holding, Wreck, end_service};
-use service_lock::Service;
+use service_lock::{Service, Setup};
 use sm_names::Call;
 use std::alloc::Global;
 use std::process::Abort;
@@ -38,7 +38,7 @@ fn script<R: Abort>(rt: &R, alloc: Global) -> ActorScript {
 }
 
 // Whether the client opened a root, bound its token, and parted with the collection.
-fn is_played<E: Ledger, S: Ledger, W: Ledger>(wreck: &Wreck<E, S, W>) -> bool {
+fn is_played<E: Setup, S: Ledger, W: Ledger>(wreck: &Wreck<E, S, W>) -> bool {
     match wreck.own() {
         [open, bind, shut, close] => {
             matches!(open.call, Call::OpenRoot)
@@ -51,7 +51,7 @@ fn is_played<E: Ledger, S: Ledger, W: Ledger>(wreck: &Wreck<E, S, W>) -> bool {
 }
 
 /// Plays the script, and ends the service.
-pub fn alone<E: Ledger, S: Ledger, W: Ledger, R: Wait + Abort>(
+pub fn alone<E: Setup, S: Ledger, W: Ledger, R: Wait + Abort>(
     rt: &R,
     alloc: Global,
     service: Service<E, S, W>,

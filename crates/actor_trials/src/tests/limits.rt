@@ -3,7 +3,7 @@ use super::asking::{Silent, put};
 use super::together::scripts;
 use client_actors::run_actors;
 use client_parting::{Holding, end_service};
-use service_lock::Service;
+use service_lock::{Service, Setup};
 use sm_names::StepFault;
 use std::alloc::Global;
 use std::process::Abort;
@@ -14,7 +14,7 @@ use std::time::Clock;
 
 /// Where one event may be made one client joins, and comes back with nothing.
 pub fn one_event<
-    E: Ledger + Send + Sync,
+    E: Setup + Send + Sync,
     S: Ledger + Send + Sync,
     W: Ledger + Send + Sync,
     R: Threads + Wait + Clock + Abort + Sync,

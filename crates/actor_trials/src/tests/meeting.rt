@@ -1,7 +1,7 @@
 //! Two actors, each of whom waits for the other.
 use super::together::{gather_and_end, two};
 use client_actors::Gate;
-use service_lock::Service;
+use service_lock::{Service, Setup};
 use sm_names::{ClientId, Reply};
 use std::alloc::Global;
 use std::process::Abort;
@@ -71,7 +71,7 @@ impl<R: Clock> Gate for Meet<'_, R> {
 
 /// Both begin, and both end.
 pub fn meeting<
-    E: Ledger + Send + Sync,
+    E: Setup + Send + Sync,
     S: Ledger + Send + Sync,
     W: Ledger + Send + Sync,
     R: Threads + Wait + Clock + Abort + Sync,

@@ -5,7 +5,7 @@ use actor_steps::ActorScript;
 use client_actors::{ActorEnd, run_actors};
 use client_ends::Held;
 use client_parting::{GatherFault, Holding, Report, end_service, gather};
-use service_lock::Service;
+use service_lock::{Service, Setup};
 use sm_names::StepFault;
 use std::alloc::Global;
 use std::process::Abort;
@@ -15,7 +15,7 @@ use std::thread::Threads;
 use std::time::Clock;
 
 // What is left of an actor, which played, or was refused memory or a thread.
-fn part_of<E: Ledger, S: Ledger, W: Ledger, R: Abort>(
+fn part_of<E: Setup, S: Ledger, W: Ledger, R: Abort>(
     rt: &R,
     alloc: Global,
     end: ActorEnd<E, S, W>,
@@ -30,7 +30,7 @@ fn part_of<E: Ledger, S: Ledger, W: Ledger, R: Abort>(
 
 // What is left of all who joined.
 fn left<
-    E: Ledger + Send + Sync,
+    E: Setup + Send + Sync,
     S: Ledger + Send + Sync,
     W: Ledger + Send + Sync,
     R: Threads + Wait + Clock + Abort + Sync,
@@ -55,7 +55,7 @@ fn left<
 }
 
 // All is gathered, at the second time where memory is refused.
-fn gathered<E: Ledger, S: Ledger, W: Ledger, R: Wait + Abort>(
+fn gathered<E: Setup, S: Ledger, W: Ledger, R: Wait + Abort>(
     rt: &R,
     alloc: Global,
     service: &Service<E, S, W>,
@@ -69,7 +69,7 @@ fn gathered<E: Ledger, S: Ledger, W: Ledger, R: Wait + Abort>(
 
 /// Whoever is refused memory, all that is open is with those who come back.
 pub fn memory<
-    E: Ledger + Send + Sync,
+    E: Setup + Send + Sync,
     S: Ledger + Send + Sync,
     W: Ledger + Send + Sync,
     R: Threads + Wait + Clock + Abort + Sync,

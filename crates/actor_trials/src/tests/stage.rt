@@ -1,4 +1,6 @@
 //! A service for each scene.
+ghost use Rattle.std.specs.Prelude.{◌≤◌};
+ghost use Rattle.service_lock.specs.States.{IsAsked};
 ghost use Rattle.service_lock.specs.Units.{AreFor};
 
 use super::alone::alone;
@@ -6,7 +8,7 @@ use super::limits::one_event;
 use super::meeting::meeting;
 use super::memory::memory;
 use super::together::together;
-use service_lock::{Blanks, PARTS, Service};
+use service_lock::{Blanks, PARTS, Service, Setup};
 use sm_names::Limits;
 use std::alloc::Global;
 use std::marker::Brand;
@@ -34,6 +36,19 @@ fn limits(scene: Scene) -> Option<Limits> {
     }
 }
 
+// How many pages the pool of its service has.
+fn pages(scene: Scene) -> u32
+    ensures { (1 ≤ result) × (result ≤ 1048576) }
+{
+    match scene {
+        Scene::Alone => 2,
+        Scene::Together => 64,
+        Scene::Meeting => 4,
+        Scene::OneEvent => 1,
+        Scene::Memory => 16,
+    }
+}
+
 /// Plays the scene on a service that has seen nothing, and ends it.
 pub fn stage<R: Threads + Wait + Clock + Abort + Sync>(rt: &R, alloc: Global, scene: Scene) {
     if !start(rt, alloc, scene) {
@@ -48,21 +63,23 @@ fn start<R: Threads + Wait + Clock + Abort + Sync>(rt: &R, alloc: Global, scene:
         strong: Blank::new(PARTS),
         weak: Blank::new(PARTS),
     };
-    play::<Brand, Brand, Brand, _>(rt, alloc, blanks, scene)
-}
-
-fn play<
-    E: Ledger + Send + Sync,
-    S: Ledger + Send + Sync,
-    W: Ledger + Send + Sync,
-    R: Threads + Wait + Clock + Abort + Sync,
->(rt: &R, alloc: Global, blanks: Blanks, scene: Scene) -> bool
-    requires { AreFor E.name E.parts S.name S.parts W.name W.parts blanks }
-{
     let Some(limits) = limits(scene) else {
         panic!(rt; "no limits");
     };
-    let Ok(service) = Service::<E, S, W>::new(alloc, blanks, 16, limits) else {
+    play::<Brand, Brand, Brand, _>(rt, alloc, blanks, scene, pages(scene), limits)
+}
+
+fn play<
+    E: Setup + Send + Sync,
+    S: Ledger + Send + Sync,
+    W: Ledger + Send + Sync,
+    R: Threads + Wait + Clock + Abort + Sync,
+>(rt: &R, alloc: Global, blanks: Blanks, scene: Scene, pages: u32, limits: Limits) -> bool
+    requires pages { (1 ≤ pages) × (pages ≤ 1048576) }
+    requires blanks { AreFor E.name E.parts S.name S.parts W.name W.parts blanks }
+    requires asked { IsAsked E.pages E.limits pages limits }
+{
+    let Ok(service) = Service::<E, S, W>::new(alloc, blanks, pages, limits) else {
         return false;
     };
     match scene {

@@ -3,7 +3,7 @@ use super::asking::{Silent, made, put};
 use actor_steps::{ActorScript, Step, Verb};
 use client_actors::{ActorEnd, Gate, run_actors};
 use client_parting::{Holding, Report, end_service, gather};
-use service_lock::Service;
+use service_lock::{Service, Setup};
 use sm_names::Constraints;
 use std::alloc::Global;
 use std::process::Abort;
@@ -32,7 +32,7 @@ pub fn scripts<R: Abort>(rt: &R, alloc: Global) -> [ActorScript; 2] {
 
 /// Runs them: what is left of both.
 pub fn two<
-    E: Ledger + Send + Sync,
+    E: Setup + Send + Sync,
     S: Ledger + Send + Sync,
     W: Ledger + Send + Sync,
     G: Gate + Sync,
@@ -63,7 +63,7 @@ fn is_all(report: &Report) -> bool {
 }
 
 /// All is gathered, and the service ends.
-pub fn gather_and_end<E: Ledger, S: Ledger, W: Ledger, R: Wait + Abort>(
+pub fn gather_and_end<E: Setup, S: Ledger, W: Ledger, R: Wait + Abort>(
     rt: &R,
     alloc: Global,
     service: Service<E, S, W>,
@@ -76,7 +76,7 @@ pub fn gather_and_end<E: Ledger, S: Ledger, W: Ledger, R: Wait + Abort>(
 
 /// Two actors of whom nobody is told.
 pub fn together<
-    E: Ledger + Send + Sync,
+    E: Setup + Send + Sync,
     S: Ledger + Send + Sync,
     W: Ledger + Send + Sync,
     R: Threads + Wait + Clock + Abort + Sync,

@@ -3,7 +3,7 @@ ghost use Rattle.std.specs.Prelude.{◌≡◌, Ok};
 ghost use Rattle.sm_names.specs.declared.messages.Reply.{Reply as Told};
 
 use client_ends::{Client, Kept, Why};
-use service_lock::{Service, books, entries};
+use service_lock::{Service, Setup, books, entries};
 use sm_names::{Constraints, NoMemory, Reply, StepFault};
 use std::process::Abort;
 use std::sync::Wait;
@@ -58,7 +58,7 @@ pub fn drafted<R: Abort>(rt: &R, asked: Result<(), NoMemory>) {
 }
 
 /// A client more.
-pub fn joined<E: Ledger, S: Ledger, W: Ledger, R: Abort>(
+pub fn joined<E: Setup, S: Ledger, W: Ledger, R: Abort>(
     rt: &R,
     asked: Result<Client<E, S, W>, StepFault>,
 ) -> Client<E, S, W>
@@ -80,7 +80,7 @@ pub fn constraints<R: Abort>(rt: &R, camping: u8, at_least: u8, size: u32) -> Co
 
 /// The record, the books and the client's own list have so many events, and the books so many open
 /// handles.
-pub fn stands<E: Ledger, S: Ledger, W: Ledger, R: Wait>(
+pub fn stands<E: Setup, S: Ledger, W: Ledger, R: Wait>(
     rt: &R,
     service: &Service<E, S, W>,
     client: &Client<E, S, W>,

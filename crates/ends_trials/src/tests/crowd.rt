@@ -1,7 +1,7 @@
 //! Threads at one service.
 use super::asking::{joined, made, spent};
 use client_ends::{Client, end, join};
-use service_lock::{Service, books, entries};
+use service_lock::{Service, Setup, books, entries};
 use std::alloc::Global;
 use std::process::Abort;
 use std::sync::Wait;
@@ -16,7 +16,7 @@ const ROOTS: u64 = 250;
 
 /// Clients in threads of their own, each of which makes its calls: the record has them all.
 pub fn crowd<
-    E: Ledger + Send + Sync,
+    E: Setup + Send + Sync,
     S: Ledger + Send + Sync,
     W: Ledger + Send + Sync,
     R: Threads + Wait + Abort + Sync,
@@ -47,7 +47,7 @@ pub fn crowd<
 }
 
 // Opens and closes so many roots.
-fn open_and_close<E: Ledger, S: Ledger, W: Ledger, R: Wait + Abort>(
+fn open_and_close<E: Setup, S: Ledger, W: Ledger, R: Wait + Abort>(
     rt: &R,
     service: &Service<E, S, W>,
     client: &mut Client<E, S, W>,

@@ -3,7 +3,7 @@ ghost use Rattle.std.specs.Prelude.{◌≡◌};
 
 use super::asking::{drafted, joined, made, spent, stands};
 use client_ends::{Client, CollectionEnd, Synced, TokenEnd, Why, join};
-use service_lock::Service;
+use service_lock::{Service, Setup};
 use sm_names::{Misuse, Reply};
 use std::alloc::Global;
 use std::process::Abort;
@@ -11,7 +11,7 @@ use std::sync::Wait;
 use std::sync::ledger::Ledger;
 
 // A draft of a Duplicate, a SetWeak and a Duplicate more, which is made: 4 events.
-fn twins<E: Ledger, S: Ledger, W: Ledger, R: Wait + Abort>(
+fn twins<E: Setup, S: Ledger, W: Ledger, R: Wait + Abort>(
     rt: &R,
     alloc: Global,
     service: &Service<E, S, W>,
@@ -51,7 +51,7 @@ fn all_done(replies: &[Reply]) -> bool {
 }
 
 // A draft that is abandoned, and one of a SetDispensable and a SetWeakOk, which is made: 3 events.
-fn known<E: Ledger, S: Ledger, W: Ledger, R: Wait + Abort>(
+fn known<E: Setup, S: Ledger, W: Ledger, R: Wait + Abort>(
     rt: &R,
     alloc: Global,
     service: &Service<E, S, W>,
@@ -87,7 +87,7 @@ fn known<E: Ledger, S: Ledger, W: Ledger, R: Wait + Abort>(
 }
 
 // The token is bound and asked for buffers: 2 events. This is what the Take was answered.
-fn ask_twin<E: Ledger, S: Ledger, W: Ledger, R: Wait + Abort>(
+fn ask_twin<E: Setup, S: Ledger, W: Ledger, R: Wait + Abort>(
     rt: &R,
     alloc: Global,
     service: &Service<E, S, W>,
@@ -114,7 +114,7 @@ fn last_of<R: Abort>(rt: &R, tokens: &mut Vec<TokenEnd>) -> TokenEnd {
 }
 
 /// Drafts that are made or abandoned, and what comes of the children.
-pub fn drafts<E: Ledger, S: Ledger, W: Ledger, R: Wait + Abort>(
+pub fn drafts<E: Setup, S: Ledger, W: Ledger, R: Wait + Abort>(
     rt: &R,
     alloc: Global,
     service: &Service<E, S, W>,

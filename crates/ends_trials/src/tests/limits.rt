@@ -3,7 +3,7 @@ ghost use Rattle.std.specs.Prelude.{◌≡◌};
 
 use super::asking::{joined, made, stands};
 use client_ends::{Client, Draft, Part, TokenEnd, Why, end, join};
-use service_lock::Service;
+use service_lock::{Service, Setup};
 use sm_names::StepFault;
 use std::alloc::Global;
 use std::process::Abort;
@@ -11,7 +11,7 @@ use std::sync::Wait;
 use std::sync::ledger::Ledger;
 
 // A draft that is not made comes back as it was, and nothing was told.
-fn stopped<E: Ledger, S: Ledger, W: Ledger, R: Wait + Abort>(
+fn stopped<E: Setup, S: Ledger, W: Ledger, R: Wait + Abort>(
     rt: &R,
     alloc: Global,
     service: &Service<E, S, W>,
@@ -32,7 +32,7 @@ fn stopped<E: Ledger, S: Ledger, W: Ledger, R: Wait + Abort>(
 }
 
 /// After as many events as may be no client joins and none makes an event, and all stays as it was.
-pub fn last_event<E: Ledger, S: Ledger, W: Ledger, R: Wait + Abort>(
+pub fn last_event<E: Setup, S: Ledger, W: Ledger, R: Wait + Abort>(
     rt: &R,
     alloc: Global,
     service: Service<E, S, W>,

@@ -8,14 +8,14 @@ use super::retrying::{
     take_again,
 };
 use client_ends::{Client, CollectionEnd, End, Handle, TokenEnd};
-use service_lock::Service;
+use service_lock::{Service, Setup};
 use std::alloc::Global;
 use std::process::Abort;
 use std::sync::Wait;
 use std::sync::ledger::Ledger;
 
 // A token is given, collected and drafted on, and its child goes before it: 7 events.
-fn tokens<E: Ledger, S: Ledger, W: Ledger, R: Wait + Abort>(
+fn tokens<E: Setup, S: Ledger, W: Ledger, R: Wait + Abort>(
     rt: &R,
     alloc: Global,
     service: &Service<E, S, W>,
@@ -46,7 +46,7 @@ fn tokens<E: Ledger, S: Ledger, W: Ledger, R: Wait + Abort>(
 }
 
 // The last of these handles.
-fn last_of<E: Ledger, S: Ledger, W: Ledger, R: Abort>(
+fn last_of<E: Setup, S: Ledger, W: Ledger, R: Abort>(
     rt: &R,
     handles: &mut Vec<Handle<E, S, W>>,
 ) -> Handle<E, S, W> {
@@ -57,7 +57,7 @@ fn last_of<E: Ledger, S: Ledger, W: Ledger, R: Abort>(
 }
 
 // Handles are taken, given, collected, doubled and dropped: 7 events.
-fn handles<E: Ledger, S: Ledger, W: Ledger, R: Wait + Abort>(
+fn handles<E: Setup, S: Ledger, W: Ledger, R: Wait + Abort>(
     rt: &R,
     alloc: Global,
     service: &Service<E, S, W>,
@@ -87,7 +87,7 @@ fn handles<E: Ledger, S: Ledger, W: Ledger, R: Wait + Abort>(
 }
 
 /// A client who makes its calls again, and whether memory was refused.
-pub fn again<E: Ledger, S: Ledger, W: Ledger, R: Wait + Abort>(
+pub fn again<E: Setup, S: Ledger, W: Ledger, R: Wait + Abort>(
     rt: &R,
     alloc: Global,
     service: &Service<E, S, W>,

@@ -3,7 +3,7 @@ ghost use Rattle.std.specs.Prelude.{◌≡◌};
 
 use super::asking::{assert_done, constraints, joined, made, spent, stands};
 use client_ends::{Client, CollectionEnd, Kept, Why, end, join};
-use service_lock::Service;
+use service_lock::{Service, Setup};
 use sm_names::{Refusal, Reply};
 use std::alloc::Global;
 use std::process::Abort;
@@ -11,7 +11,7 @@ use std::sync::Wait;
 use std::sync::ledger::Ledger;
 
 // The collection can't be given to a client who never joined, and comes back: an event.
-fn kept<E: Ledger, S: Ledger, W: Ledger, R: Wait + Abort>(
+fn kept<E: Setup, S: Ledger, W: Ledger, R: Wait + Abort>(
     rt: &R,
     service: &Service<E, S, W>,
     client: &mut Client<E, S, W>,
@@ -33,7 +33,7 @@ fn kept<E: Ledger, S: Ledger, W: Ledger, R: Wait + Abort>(
 }
 
 /// A client who keeps its collection and two handles to the end.
-pub fn remains<E: Ledger, S: Ledger, W: Ledger, R: Wait + Abort>(
+pub fn remains<E: Setup, S: Ledger, W: Ledger, R: Wait + Abort>(
     rt: &R,
     alloc: Global,
     service: Service<E, S, W>,

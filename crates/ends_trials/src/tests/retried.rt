@@ -3,7 +3,7 @@ ghost use Rattle.std.specs.Prelude.{◌≡◌};
 
 use super::asking::{made, told};
 use client_ends::{Client, CollectionEnd, Handle, TokenEnd, Why};
-use service_lock::Service;
+use service_lock::{Service, Setup};
 use sm_names::{Reply, StepFault};
 use std::process::Abort;
 use std::sync::Wait;
@@ -20,7 +20,7 @@ pub enum Flag {
 }
 
 // Makes that call.
-fn flag<E: Ledger, S: Ledger, W: Ledger, R: Wait + Abort>(
+fn flag<E: Setup, S: Ledger, W: Ledger, R: Wait + Abort>(
     rt: &R,
     service: &Service<E, S, W>,
     client: &mut Client<E, S, W>,
@@ -63,7 +63,7 @@ fn gained<V, R: Abort>(rt: &R, asked: Result<V, Why>, refused: &mut bool) -> Opt
 }
 
 /// The node is changed so.
-pub fn flag_again<E: Ledger, S: Ledger, W: Ledger, R: Wait + Abort>(
+pub fn flag_again<E: Setup, S: Ledger, W: Ledger, R: Wait + Abort>(
     rt: &R,
     service: &Service<E, S, W>,
     client: &mut Client<E, S, W>,
@@ -83,7 +83,7 @@ pub fn flag_again<E: Ledger, S: Ledger, W: Ledger, R: Wait + Abort>(
 }
 
 /// A tracker of the node.
-pub fn track_node_again<E: Ledger, S: Ledger, W: Ledger, R: Wait + Abort>(
+pub fn track_node_again<E: Setup, S: Ledger, W: Ledger, R: Wait + Abort>(
     rt: &R,
     service: &Service<E, S, W>,
     client: &mut Client<E, S, W>,
@@ -101,7 +101,7 @@ pub fn track_node_again<E: Ledger, S: Ledger, W: Ledger, R: Wait + Abort>(
 }
 
 /// A tracker of the buffers' life, down to none.
-pub fn track_lifetime_again<E: Ledger, S: Ledger, W: Ledger, R: Wait + Abort>(
+pub fn track_lifetime_again<E: Setup, S: Ledger, W: Ledger, R: Wait + Abort>(
     rt: &R,
     service: &Service<E, S, W>,
     client: &mut Client<E, S, W>,
@@ -119,7 +119,7 @@ pub fn track_lifetime_again<E: Ledger, S: Ledger, W: Ledger, R: Wait + Abort>(
 }
 
 /// A tracker of the weak handle's buffer.
-pub fn track_weak_again<E: Ledger, S: Ledger, W: Ledger, R: Wait + Abort>(
+pub fn track_weak_again<E: Setup, S: Ledger, W: Ledger, R: Wait + Abort>(
     rt: &R,
     service: &Service<E, S, W>,
     client: &mut Client<E, S, W>,
@@ -137,7 +137,7 @@ pub fn track_weak_again<E: Ledger, S: Ledger, W: Ledger, R: Wait + Abort>(
 }
 
 /// An attached child.
-pub fn attach_again<E: Ledger, S: Ledger, W: Ledger, R: Wait + Abort>(
+pub fn attach_again<E: Setup, S: Ledger, W: Ledger, R: Wait + Abort>(
     rt: &R,
     service: &Service<E, S, W>,
     client: &mut Client<E, S, W>,
@@ -159,7 +159,7 @@ pub fn attach_again<E: Ledger, S: Ledger, W: Ledger, R: Wait + Abort>(
 }
 
 /// What the collection has.
-pub fn check_again<E: Ledger, S: Ledger, W: Ledger, R: Wait + Abort>(
+pub fn check_again<E: Setup, S: Ledger, W: Ledger, R: Wait + Abort>(
     rt: &R,
     service: &Service<E, S, W>,
     client: &mut Client<E, S, W>,
@@ -177,7 +177,7 @@ pub fn check_again<E: Ledger, S: Ledger, W: Ledger, R: Wait + Abort>(
 }
 
 /// The client is shut.
-pub fn shut_again<E: Ledger, S: Ledger, W: Ledger, R: Wait + Abort>(
+pub fn shut_again<E: Setup, S: Ledger, W: Ledger, R: Wait + Abort>(
     rt: &R,
     service: &Service<E, S, W>,
     client: &mut Client<E, S, W>,

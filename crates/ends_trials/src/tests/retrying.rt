@@ -5,7 +5,7 @@ use super::asking::{joined, made, spent, told};
 use client_ends::{
     Client, CollectionEnd, Draft, End, EndOf, Handle, Kept, Part, Synced, TokenEnd, Why, join,
 };
-use service_lock::Service;
+use service_lock::{Service, Setup};
 use sm_names::{Constraints, Reply, StepFault};
 use std::alloc::Global;
 use std::process::Abort;
@@ -13,7 +13,7 @@ use std::sync::Wait;
 use std::sync::ledger::Ledger;
 
 /// A client more.
-pub fn join_again<E: Ledger, S: Ledger, W: Ledger, R: Wait + Abort>(
+pub fn join_again<E: Setup, S: Ledger, W: Ledger, R: Wait + Abort>(
     rt: &R,
     alloc: Global,
     service: &Service<E, S, W>,
@@ -30,7 +30,7 @@ pub fn join_again<E: Ledger, S: Ledger, W: Ledger, R: Wait + Abort>(
 }
 
 /// A root.
-pub fn open_again<E: Ledger, S: Ledger, W: Ledger, R: Wait + Abort>(
+pub fn open_again<E: Setup, S: Ledger, W: Ledger, R: Wait + Abort>(
     rt: &R,
     service: &Service<E, S, W>,
     client: &mut Client<E, S, W>,
@@ -50,7 +50,7 @@ pub fn open_again<E: Ledger, S: Ledger, W: Ledger, R: Wait + Abort>(
 }
 
 /// A child.
-pub fn duplicate_again<E: Ledger, S: Ledger, W: Ledger, R: Wait + Abort>(
+pub fn duplicate_again<E: Setup, S: Ledger, W: Ledger, R: Wait + Abort>(
     rt: &R,
     service: &Service<E, S, W>,
     client: &mut Client<E, S, W>,
@@ -72,7 +72,7 @@ pub fn duplicate_again<E: Ledger, S: Ledger, W: Ledger, R: Wait + Abort>(
 }
 
 /// The token is bound.
-pub fn bind_again<E: Ledger, S: Ledger, W: Ledger, R: Wait + Abort>(
+pub fn bind_again<E: Setup, S: Ledger, W: Ledger, R: Wait + Abort>(
     rt: &R,
     service: &Service<E, S, W>,
     client: &mut Client<E, S, W>,
@@ -99,7 +99,7 @@ pub fn bind_again<E: Ledger, S: Ledger, W: Ledger, R: Wait + Abort>(
 }
 
 /// The end goes into a parcel for its holder.
-pub fn give_again<K, E: Ledger, S: Ledger, W: Ledger, R: Wait + Abort>(
+pub fn give_again<K, E: Setup, S: Ledger, W: Ledger, R: Wait + Abort>(
     rt: &R,
     service: &Service<E, S, W>,
     client: &mut Client<E, S, W>,
@@ -126,7 +126,7 @@ pub fn give_again<K, E: Ledger, S: Ledger, W: Ledger, R: Wait + Abort>(
 }
 
 /// The end is released.
-pub fn release_again<K, E: Ledger, S: Ledger, W: Ledger, R: Wait + Abort>(
+pub fn release_again<K, E: Setup, S: Ledger, W: Ledger, R: Wait + Abort>(
     rt: &R,
     service: &Service<E, S, W>,
     client: &mut Client<E, S, W>,
@@ -153,7 +153,7 @@ pub fn release_again<K, E: Ledger, S: Ledger, W: Ledger, R: Wait + Abort>(
 }
 
 /// The end is closed.
-pub fn close_again<K, E: Ledger, S: Ledger, W: Ledger, R: Wait + Abort>(
+pub fn close_again<K, E: Setup, S: Ledger, W: Ledger, R: Wait + Abort>(
     rt: &R,
     service: &Service<E, S, W>,
     client: &mut Client<E, S, W>,
@@ -179,7 +179,7 @@ pub fn close_again<K, E: Ledger, S: Ledger, W: Ledger, R: Wait + Abort>(
 }
 
 /// What was in the first parcel.
-pub fn collect_again<E: Ledger, S: Ledger, W: Ledger, R: Wait + Abort>(
+pub fn collect_again<E: Setup, S: Ledger, W: Ledger, R: Wait + Abort>(
     rt: &R,
     service: &Service<E, S, W>,
     client: &mut Client<E, S, W>,
@@ -201,7 +201,7 @@ pub fn collect_again<E: Ledger, S: Ledger, W: Ledger, R: Wait + Abort>(
 }
 
 /// The node says what it needs.
-pub fn constrain_again<E: Ledger, S: Ledger, W: Ledger, R: Wait + Abort>(
+pub fn constrain_again<E: Setup, S: Ledger, W: Ledger, R: Wait + Abort>(
     rt: &R,
     service: &Service<E, S, W>,
     client: &mut Client<E, S, W>,
@@ -224,7 +224,7 @@ pub fn constrain_again<E: Ledger, S: Ledger, W: Ledger, R: Wait + Abort>(
 }
 
 /// The handles that a collection gives.
-pub fn take_again<E: Ledger, S: Ledger, W: Ledger, R: Wait + Abort>(
+pub fn take_again<E: Setup, S: Ledger, W: Ledger, R: Wait + Abort>(
     rt: &R,
     alloc: Global,
     service: &Service<E, S, W>,
@@ -246,7 +246,7 @@ pub fn take_again<E: Ledger, S: Ledger, W: Ledger, R: Wait + Abort>(
 }
 
 /// One handle more.
-pub fn double_again<E: Ledger, S: Ledger, W: Ledger, R: Wait + Abort>(
+pub fn double_again<E: Setup, S: Ledger, W: Ledger, R: Wait + Abort>(
     rt: &R,
     service: &Service<E, S, W>,
     client: &mut Client<E, S, W>,
@@ -268,7 +268,7 @@ pub fn double_again<E: Ledger, S: Ledger, W: Ledger, R: Wait + Abort>(
 }
 
 /// The handle is dropped.
-pub fn drop_again<E: Ledger, S: Ledger, W: Ledger, R: Wait + Abort>(
+pub fn drop_again<E: Setup, S: Ledger, W: Ledger, R: Wait + Abort>(
     rt: &R,
     service: &Service<E, S, W>,
     client: &mut Client<E, S, W>,
@@ -294,7 +294,7 @@ pub fn drop_again<E: Ledger, S: Ledger, W: Ledger, R: Wait + Abort>(
 }
 
 /// The handle goes into a parcel for its holder.
-pub fn send_again<E: Ledger, S: Ledger, W: Ledger, R: Wait + Abort>(
+pub fn send_again<E: Setup, S: Ledger, W: Ledger, R: Wait + Abort>(
     rt: &R,
     service: &Service<E, S, W>,
     client: &mut Client<E, S, W>,
@@ -338,7 +338,7 @@ fn only<R: Abort>(rt: &R, first: Vec<TokenEnd>, second: Vec<TokenEnd>) -> TokenE
 }
 
 /// The draft of one Duplicate is made, if need be in two parts: its token, and the child.
-pub fn sync_again<E: Ledger, S: Ledger, W: Ledger, R: Wait + Abort>(
+pub fn sync_again<E: Setup, S: Ledger, W: Ledger, R: Wait + Abort>(
     rt: &R,
     alloc: Global,
     service: &Service<E, S, W>,

@@ -1,4 +1,6 @@
 //! A service for each scene.
+ghost use Rattle.std.specs.Prelude.{◌≤◌};
+ghost use Rattle.service_lock.specs.States.{IsAsked};
 ghost use Rattle.service_lock.specs.Units.{AreFor};
 
 use super::crowd::crowd;
@@ -8,7 +10,7 @@ use super::memory::again;
 use super::remains::remains;
 use super::typed::typed;
 use client_ends::{Client, end};
-use service_lock::{Blanks, PARTS, Service};
+use service_lock::{Blanks, PARTS, Service, Setup};
 use sm_names::Limits;
 use std::alloc::Global;
 use std::marker::Brand;
@@ -36,6 +38,20 @@ fn limits(scene: Scene) -> Option<Limits> {
     }
 }
 
+// How many pages the pool of its service has.
+fn pages(scene: Scene) -> u32
+    ensures { (1 ≤ result) × (result ≤ 1048576) }
+{
+    match scene {
+        Scene::Drafts => 2,
+        Scene::Typed => 64,
+        Scene::LastEvent => 1,
+        Scene::Remains => 4,
+        Scene::Memory => 16,
+        Scene::Crowd => 8,
+    }
+}
+
 /// Plays the scene on a service that has seen nothing, ends it, and lets the client go. This is
 /// whether memory was refused, where the scene can bear it.
 pub fn stage<R: Threads + Wait + Abort + Sync>(rt: &R, alloc: Global, scene: Scene) -> bool {
@@ -55,22 +71,31 @@ fn start<R: Threads + Wait + Abort + Sync>(rt: &R, alloc: Global, scene: Scene) 
         strong: Blank::new(PARTS),
         weak: Blank::new(PARTS),
     };
-    play::<Brand, Brand, Brand, _>(rt, alloc, blanks, scene)
-}
-
-fn play<
-    E: Ledger + Send + Sync,
-    S: Ledger + Send + Sync,
-    W: Ledger + Send + Sync,
-    R: Threads + Wait + Abort + Sync,
->(rt: &R, alloc: Global, blanks: Blanks, scene: Scene) -> Option<bool>
-    requires { AreFor E.name E.parts S.name S.parts W.name W.parts blanks }
-{
     let limits = match limits(scene) {
         Some(limits) => limits,
         None => panic!(rt; "limits"),
     };
-    let service = Service::<E, S, W>::new(alloc, blanks, 16, limits).ok()?;
+    play::<Brand, Brand, Brand, _>(rt, alloc, blanks, scene, pages(scene), limits)
+}
+
+fn play<
+    E: Setup + Send + Sync,
+    S: Ledger + Send + Sync,
+    W: Ledger + Send + Sync,
+    R: Threads + Wait + Abort + Sync,
+>(
+    rt: &R,
+    alloc: Global,
+    blanks: Blanks,
+    scene: Scene,
+    pages: u32,
+    limits: Limits,
+) -> Option<bool>
+    requires pages { (1 ≤ pages) × (pages ≤ 1048576) }
+    requires blanks { AreFor E.name E.parts S.name S.parts W.name W.parts blanks }
+    requires asked { IsAsked E.pages E.limits pages limits }
+{
+    let service = Service::<E, S, W>::new(alloc, blanks, pages, limits).ok()?;
     match scene {
         Scene::Drafts => leave(drafts(rt, alloc, &service), service),
         Scene::Typed => {
@@ -91,6 +116,6 @@ fn play<
 }
 
 // The service ends, and the client goes.
-fn leave<E: Ledger, S: Ledger, W: Ledger>(client: Client<E, S, W>, service: Service<E, S, W>) {
+fn leave<E: Setup, S: Ledger, W: Ledger>(client: Client<E, S, W>, service: Service<E, S, W>) {
     client.spend(&end(service));
 }

@@ -12,7 +12,7 @@ use super::retrying::{
     duplicate_again, give_again, join_again, open_again, release_again, take_again,
 };
 use client_ends::{Client, CollectionEnd, End, Handle, TokenEnd};
-use service_lock::Service;
+use service_lock::{Service, Setup};
 use sm_names::{Fired, Reply, Strength};
 use std::alloc::Global;
 use std::process::Abort;
@@ -21,7 +21,7 @@ use std::sync::ledger::Ledger;
 use trackers::Tracker;
 
 // A root, and a weak child, which knows how to treat weak handles: 7 events.
-fn open<E: Ledger, S: Ledger, W: Ledger, R: Wait + Abort>(
+fn open<E: Setup, S: Ledger, W: Ledger, R: Wait + Abort>(
     rt: &R,
     service: &Service<E, S, W>,
     client: &mut Client<E, S, W>,
@@ -43,7 +43,7 @@ fn open<E: Ledger, S: Ledger, W: Ledger, R: Wait + Abort>(
 }
 
 // Both ask for what they need, and the root is allocated: 5 events.
-fn allocate<E: Ledger, S: Ledger, W: Ledger, R: Wait + Abort>(
+fn allocate<E: Setup, S: Ledger, W: Ledger, R: Wait + Abort>(
     rt: &R,
     service: &Service<E, S, W>,
     client: &mut Client<E, S, W>,
@@ -72,7 +72,7 @@ fn allocate<E: Ledger, S: Ledger, W: Ledger, R: Wait + Abort>(
 }
 
 // The one handle that the collection gives: an event.
-fn take_one<E: Ledger, S: Ledger, W: Ledger, R: Wait + Abort>(
+fn take_one<E: Setup, S: Ledger, W: Ledger, R: Wait + Abort>(
     rt: &R,
     alloc: Global,
     service: &Service<E, S, W>,
@@ -99,7 +99,7 @@ fn take_one<E: Ledger, S: Ledger, W: Ledger, R: Wait + Abort>(
 }
 
 // Handles of both strengths, which are taken, doubled, tracked and dropped: 7 events.
-fn handles<E: Ledger, S: Ledger, W: Ledger, R: Wait + Abort>(
+fn handles<E: Setup, S: Ledger, W: Ledger, R: Wait + Abort>(
     rt: &R,
     alloc: Global,
     service: &Service<E, S, W>,
@@ -125,7 +125,7 @@ fn handles<E: Ledger, S: Ledger, W: Ledger, R: Wait + Abort>(
 }
 
 // The root goes into a parcel and out again, and the client is shut: 3 events.
-fn round<E: Ledger, S: Ledger, W: Ledger, R: Wait + Abort>(
+fn round<E: Setup, S: Ledger, W: Ledger, R: Wait + Abort>(
     rt: &R,
     service: &Service<E, S, W>,
     client: &mut Client<E, S, W>,
@@ -155,7 +155,7 @@ fn fires<R: Abort>(rt: &R, tracker: &mut Tracker) {
 }
 
 /// Such a client, and whether memory was refused.
-pub fn typed<E: Ledger, S: Ledger, W: Ledger, R: Wait + Abort>(
+pub fn typed<E: Setup, S: Ledger, W: Ledger, R: Wait + Abort>(
     rt: &R,
     alloc: Global,
     service: &Service<E, S, W>,

@@ -2,13 +2,13 @@
 ghost use Rattle.sm_names.specs.declared.messages.Reply.{Reply as Told};
 ghost use Rattle.service_lock.specs.Units.{Counts, HasUnitFor};
 
-use service_lock::{State, Units, apply, books, core, entries, units};
+use service_lock::{Setup, State, Units, apply, books, core, entries, units};
 use sm_names::{Call, ClientId, NodeKey, Reply};
 use std::process::Abort;
 use std::sync::ledger::Ledger;
 
 /// Makes one event.
-pub fn ask<E: Ledger, S: Ledger, W: Ledger, R: Abort>(
+pub fn ask<E: Setup, S: Ledger, W: Ledger, R: Abort>(
     rt: &R,
     state: &mut State<E, S, W>,
     units: &mut Units<E, S, W>,
@@ -25,7 +25,7 @@ pub fn ask<E: Ledger, S: Ledger, W: Ledger, R: Abort>(
 }
 
 /// Makes one event that is answered Done.
-pub fn ask_done<E: Ledger, S: Ledger, W: Ledger, R: Abort>(
+pub fn ask_done<E: Setup, S: Ledger, W: Ledger, R: Abort>(
     rt: &R,
     state: &mut State<E, S, W>,
     units: &mut Units<E, S, W>,
@@ -42,7 +42,7 @@ pub fn ask_done<E: Ledger, S: Ledger, W: Ledger, R: Abort>(
 }
 
 /// Empty units.
-pub fn empty<E: Ledger, S: Ledger, W: Ledger, R: Abort>(
+pub fn empty<E: Setup, S: Ledger, W: Ledger, R: Abort>(
     rt: &R,
     state: &mut State<E, S, W>,
 ) -> Units<E, S, W> {
@@ -53,7 +53,7 @@ pub fn empty<E: Ledger, S: Ledger, W: Ledger, R: Abort>(
 }
 
 /// The token that the call makes.
-pub fn token<E: Ledger, S: Ledger, W: Ledger, R: Abort>(
+pub fn token<E: Setup, S: Ledger, W: Ledger, R: Abort>(
     rt: &R,
     state: &mut State<E, S, W>,
     units: &mut Units<E, S, W>,
@@ -69,7 +69,7 @@ pub fn token<E: Ledger, S: Ledger, W: Ledger, R: Abort>(
 }
 
 /// The record and the books have so much, and the core so many events.
-pub fn stands<E: Ledger, S: Ledger, W: Ledger>(
+pub fn stands<E: Setup, S: Ledger, W: Ledger>(
     state: &State<E, S, W>,
     events: u64,
     strong: u64,

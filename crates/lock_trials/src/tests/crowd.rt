@@ -1,6 +1,6 @@
 //! Threads at one lock.
 use super::asking::{ask, empty, stands};
-use service_lock::{Service, Units};
+use service_lock::{Service, Setup, Units};
 use sm_names::Call;
 use std::alloc::Global;
 use std::process::Abort;
@@ -16,7 +16,7 @@ const EVENTS: u64 = 500;
 
 /// Threads that make events as strangers, each counted by units of its own: the record has them all.
 pub fn crowd<
-    E: Ledger + Send + Sync,
+    E: Setup + Send + Sync,
     S: Ledger + Send + Sync,
     W: Ledger + Send + Sync,
     R: Threads + Wait + Abort + Sync,
@@ -39,7 +39,7 @@ pub fn crowd<
 }
 
 // Makes so many events that are refused.
-fn shout<E: Ledger, S: Ledger, W: Ledger, R: Wait + Abort>(
+fn shout<E: Setup, S: Ledger, W: Ledger, R: Wait + Abort>(
     rt: &R,
     service: &Service<E, S, W>,
     units: &mut Units<E, S, W>,

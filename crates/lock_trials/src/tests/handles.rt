@@ -2,7 +2,7 @@
 ghost use Rattle.service_lock.specs.Units.{HasOne};
 
 use super::asking::{ask, ask_done, empty, stands, token};
-use service_lock::{Service, State, Units, entries, pass};
+use service_lock::{Service, Setup, State, Units, entries, pass};
 use sm_names::{BufferName, Call, Constraints, NodeKey, Refusal, Reply, Strength};
 use std::process::Abort;
 use std::sync::Wait;
@@ -14,7 +14,7 @@ const FIRST: BufferName = BufferName {
 };
 
 // The node asks for one buffer of a page.
-fn ask_for_page<E: Ledger, S: Ledger, W: Ledger, R: Abort>(
+fn ask_for_page<E: Setup, S: Ledger, W: Ledger, R: Abort>(
     rt: &R,
     state: &mut State<E, S, W>,
     units: &mut Units<E, S, W>,
@@ -27,7 +27,7 @@ fn ask_for_page<E: Ledger, S: Ledger, W: Ledger, R: Abort>(
 }
 
 // A client with a strong and a weak handle of one buffer, after 11 events.
-fn open<E: Ledger, S: Ledger, W: Ledger, R: Abort>(
+fn open<E: Setup, S: Ledger, W: Ledger, R: Abort>(
     rt: &R,
     state: &mut State<E, S, W>,
     units: &mut Units<E, S, W>,
@@ -52,7 +52,7 @@ fn open<E: Ledger, S: Ledger, W: Ledger, R: Abort>(
 }
 
 // The handle of this strength, whose unit these have, goes over to other units, which drop it.
-fn drop_elsewhere<E: Ledger, S: Ledger, W: Ledger, R: Abort>(
+fn drop_elsewhere<E: Setup, S: Ledger, W: Ledger, R: Abort>(
     rt: &R,
     state: &mut State<E, S, W>,
     units: &mut Units<E, S, W>,
@@ -86,7 +86,7 @@ fn drop_elsewhere<E: Ledger, S: Ledger, W: Ledger, R: Abort>(
 }
 
 // One more handle, which goes into a parcel: two events.
-fn send<E: Ledger, S: Ledger, W: Ledger, R: Abort>(
+fn send<E: Setup, S: Ledger, W: Ledger, R: Abort>(
     rt: &R,
     state: &mut State<E, S, W>,
     units: &mut Units<E, S, W>,
@@ -97,7 +97,7 @@ fn send<E: Ledger, S: Ledger, W: Ledger, R: Abort>(
 }
 
 // It comes out of the parcel, and is dropped by others: two events.
-fn fetch<E: Ledger, S: Ledger, W: Ledger, R: Abort>(
+fn fetch<E: Setup, S: Ledger, W: Ledger, R: Abort>(
     rt: &R,
     state: &mut State<E, S, W>,
     units: &mut Units<E, S, W>,
@@ -118,7 +118,7 @@ fn fetch<E: Ledger, S: Ledger, W: Ledger, R: Abort>(
 const STRANGER: Reply = Reply::Refused(Refusal::NoSuchClient);
 
 /// The record and the books while handles move, and after a call that is refused.
-pub fn handles<E: Ledger, S: Ledger, W: Ledger, R: Wait + Abort>(
+pub fn handles<E: Setup, S: Ledger, W: Ledger, R: Wait + Abort>(
     rt: &R,
     service: &Service<E, S, W>,
 ) {

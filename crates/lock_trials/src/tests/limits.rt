@@ -1,13 +1,13 @@
 //! A record that is full.
 use super::asking::{ask, empty, stands};
-use service_lock::{Service, apply, is_full};
+use service_lock::{Service, Setup, apply, is_full};
 use sm_names::{Call, Reply, StepFault};
 use std::process::Abort;
 use std::sync::Wait;
 use std::sync::ledger::Ledger;
 
 /// After as many events as may be there is none more, and all stays as it was.
-pub fn last_event<E: Ledger, S: Ledger, W: Ledger, R: Wait + Abort>(
+pub fn last_event<E: Setup, S: Ledger, W: Ledger, R: Wait + Abort>(
     rt: &R,
     service: &Service<E, S, W>,
 ) {

@@ -1,11 +1,13 @@
 //! A service for each scene.
+ghost use Rattle.std.specs.Prelude.{◌≤◌};
+ghost use Rattle.service_lock.specs.States.{IsAsked};
 ghost use Rattle.service_lock.specs.Units.{AreFor};
 
 use super::crowd::crowd;
 use super::handles::handles;
 use super::limits::last_event;
 use super::tracking::tracker;
-use service_lock::{Blanks, PARTS, Service};
+use service_lock::{Blanks, PARTS, Service, Setup};
 use sm_names::Limits;
 use std::alloc::Global;
 use std::marker::Brand;
@@ -26,8 +28,22 @@ pub enum Scene {
 // How many events the scene may make.
 fn limits(scene: Scene) -> Option<Limits> {
     match scene {
+        Scene::Handles => Limits::new(20, 2, 1, 1, 3),
         Scene::LastEvent => Limits::new(2, 4, 4, 4, 4),
-        _ => Some(Limits::full()),
+        Scene::Tracker => Limits::new(4, 1, 1, 1, 1),
+        Scene::Crowd => Some(Limits::full()),
+    }
+}
+
+// How many pages the pool of its service has.
+fn pages(scene: Scene) -> u32
+    ensures { (1 ≤ result) × (result ≤ 1048576) }
+{
+    match scene {
+        Scene::Handles => 2,
+        Scene::LastEvent => 1,
+        Scene::Tracker => 64,
+        Scene::Crowd => 16,
     }
 }
 
@@ -38,22 +54,24 @@ pub fn stage<R: Threads + Wait + Abort + Sync>(rt: &R, alloc: Global, scene: Sce
         strong: Blank::new(PARTS),
         weak: Blank::new(PARTS),
     };
-    play::<Brand, Brand, Brand, _>(rt, alloc, blanks, scene)
-}
-
-fn play<
-    E: Ledger + Send + Sync,
-    S: Ledger + Send + Sync,
-    W: Ledger + Send + Sync,
-    R: Threads + Wait + Abort + Sync,
->(rt: &R, alloc: Global, blanks: Blanks, scene: Scene)
-    requires { AreFor E.name E.parts S.name S.parts W.name W.parts blanks }
-{
     let limits = match limits(scene) {
         Some(limits) => limits,
         None => panic!(rt; "limits"),
     };
-    let service = match Service::<E, S, W>::with_seed(alloc, blanks, 16, limits, [3; 16]) {
+    play::<Brand, Brand, Brand, _>(rt, alloc, blanks, scene, pages(scene), limits)
+}
+
+fn play<
+    E: Setup + Send + Sync,
+    S: Ledger + Send + Sync,
+    W: Ledger + Send + Sync,
+    R: Threads + Wait + Abort + Sync,
+>(rt: &R, alloc: Global, blanks: Blanks, scene: Scene, pages: u32, limits: Limits)
+    requires pages { (1 ≤ pages) × (pages ≤ 1048576) }
+    requires blanks { AreFor E.name E.parts S.name S.parts W.name W.parts blanks }
+    requires asked { IsAsked E.pages E.limits pages limits }
+{
+    let service = match Service::<E, S, W>::with_seed(alloc, blanks, pages, limits, [3; 16]) {
         Ok(service) => service,
         Err(_) => panic!(rt; "service"),
     };

@@ -1,6 +1,6 @@
 //! A tracker that outlives the guard.
 use super::asking::{ask, ask_done, empty, token};
-use service_lock::{Service, State, Units, take_tracker};
+use service_lock::{Service, Setup, State, Units, take_tracker};
 use sm_names::{Call, Fired, NodeKey, Reply};
 use std::process::Abort;
 use std::sync::Wait;
@@ -8,7 +8,7 @@ use std::sync::ledger::Ledger;
 use trackers::Tracker;
 
 // A root of a first client, and a tracker of it: three events.
-fn track<E: Ledger, S: Ledger, W: Ledger, R: Abort>(
+fn track<E: Setup, S: Ledger, W: Ledger, R: Abort>(
     rt: &R,
     state: &mut State<E, S, W>,
     units: &mut Units<E, S, W>,
@@ -24,7 +24,7 @@ fn track<E: Ledger, S: Ledger, W: Ledger, R: Abort>(
 }
 
 /// A tracker is there once, quiet before its node is gone, and fired after.
-pub fn tracker<E: Ledger, S: Ledger, W: Ledger, R: Wait + Abort>(
+pub fn tracker<E: Setup, S: Ledger, W: Ledger, R: Wait + Abort>(
     rt: &R,
     service: &Service<E, S, W>,
 ) {

@@ -4,7 +4,7 @@ ghost use Rattle.client_parting.specs.Partings.{AreOf, held_in};
 
 use client_ends::{Client, Held};
 use client_parting::{GatherFault, Holding, Report, Wreck, compare, gather, vanish};
-use service_lock::Service;
+use service_lock::{Service, Setup};
 use sm_names::{Call, Constraints, Reply};
 use std::alloc::Global;
 use std::process::Abort;
@@ -35,14 +35,14 @@ pub fn put<V, R: Abort>(rt: &R, parts: &mut Vec<V>, part: V)
 }
 
 /// Nothing.
-pub fn nothing<E: Ledger, S: Ledger, W: Ledger>(alloc: Global) -> Held<E, S, W>
+pub fn nothing<E: Setup, S: Ledger, W: Ledger>(alloc: Global) -> Held<E, S, W>
     ensures { (client : ℕ) → AreOf client (held_in result) }
 {
     Held::new(alloc)
 }
 
 /// A client that is gone.
-pub fn gone<E: Ledger, S: Ledger, W: Ledger, R: Wait + Abort>(
+pub fn gone<E: Setup, S: Ledger, W: Ledger, R: Wait + Abort>(
     rt: &R,
     alloc: Global,
     service: &Service<E, S, W>,
@@ -59,7 +59,7 @@ pub fn gone<E: Ledger, S: Ledger, W: Ledger, R: Wait + Abort>(
 
 /// Its client made three events: a Shut that counted one parcel, a Collect, and this call, answered
 /// Done.
-pub fn parted_by<E: Ledger, S: Ledger, W: Ledger>(wreck: &Wreck<E, S, W>, call: Call) -> bool {
+pub fn parted_by<E: Setup, S: Ledger, W: Ledger>(wreck: &Wreck<E, S, W>, call: Call) -> bool {
     match wreck.own() {
         [shut, collect, last] => {
             wreck.events() == 3
@@ -84,7 +84,7 @@ fn same(one: &Result<Report, GatherFault>, other: &Result<Report, GatherFault>) 
 }
 
 /// What `gather` answers, which is what `compare` answers of the same record under the lock.
-pub fn gathered<E: Ledger, S: Ledger, W: Ledger, R: Wait + Abort>(
+pub fn gathered<E: Setup, S: Ledger, W: Ledger, R: Wait + Abort>(
     rt: &R,
     alloc: Global,
     service: &Service<E, S, W>,

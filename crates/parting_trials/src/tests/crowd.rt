@@ -4,7 +4,7 @@ ghost use Rattle.std.specs.Prelude.{◌≡◌};
 use super::asking::{constraints, gathered, gone, made, nothing, put, report};
 use client_ends::{Client, CollectionEnd, End, EndOf, Handle, Held, Kept, TokenEnd, join};
 use client_parting::{Holding, Wreck, end_service};
-use service_lock::{Service, core};
+use service_lock::{Service, Setup, core};
 use sm_names::ClientId;
 use std::alloc::Global;
 use std::process::Abort;
@@ -18,16 +18,19 @@ const THREADS: usize = 4;
 
 const CALLS: usize = 10_000;
 
+/// How many pages the pool of their service has.
+pub const PAGES: u32 = 24;
+
 // The clients of a thread, to whom they give, and how many calls the first of them makes: a second
 // one makes the others.
-struct Seat<E: Ledger, S: Ledger, W: Ledger> {
+struct Seat<E: Setup, S: Ledger, W: Ledger> {
     parts: Vec<Holding<E, S, W>>,
     next: ClientId,
     calls: usize,
 }
 
 // The end is closed.
-fn close<K, E: Ledger, S: Ledger, W: Ledger, R: Wait + Abort>(
+fn close<K, E: Setup, S: Ledger, W: Ledger, R: Wait + Abort>(
     rt: &R,
     service: &Service<E, S, W>,
     client: &mut Client<E, S, W>,
@@ -38,7 +41,7 @@ fn close<K, E: Ledger, S: Ledger, W: Ledger, R: Wait + Abort>(
 }
 
 // The handle is dropped.
-fn let_go<E: Ledger, S: Ledger, W: Ledger, R: Wait + Abort>(
+fn let_go<E: Setup, S: Ledger, W: Ledger, R: Wait + Abort>(
     rt: &R,
     service: &Service<E, S, W>,
     client: &mut Client<E, S, W>,
@@ -49,7 +52,7 @@ fn let_go<E: Ledger, S: Ledger, W: Ledger, R: Wait + Abort>(
 }
 
 // The end is released.
-fn leave<K, E: Ledger, S: Ledger, W: Ledger, R: Wait + Abort>(
+fn leave<K, E: Setup, S: Ledger, W: Ledger, R: Wait + Abort>(
     rt: &R,
     service: &Service<E, S, W>,
     client: &mut Client<E, S, W>,
@@ -60,7 +63,7 @@ fn leave<K, E: Ledger, S: Ledger, W: Ledger, R: Wait + Abort>(
 }
 
 // What waits first, if anything does, is closed or dropped.
-fn receive<E: Ledger, S: Ledger, W: Ledger, R: Wait + Abort>(
+fn receive<E: Setup, S: Ledger, W: Ledger, R: Wait + Abort>(
     rt: &R,
     service: &Service<E, S, W>,
     client: &mut Client<E, S, W>,
@@ -74,7 +77,7 @@ fn receive<E: Ledger, S: Ledger, W: Ledger, R: Wait + Abort>(
 }
 
 // A child of the root goes to the next client, unless that is gone.
-fn share_child<E: Ledger, S: Ledger, W: Ledger, R: Wait + Abort>(
+fn share_child<E: Setup, S: Ledger, W: Ledger, R: Wait + Abort>(
     rt: &R,
     service: &Service<E, S, W>,
     client: &mut Client<E, S, W>,
@@ -90,7 +93,7 @@ fn share_child<E: Ledger, S: Ledger, W: Ledger, R: Wait + Abort>(
 }
 
 // The handles of the collection, if it gives any, go to the next client, unless that is gone.
-fn share_handles<E: Ledger, S: Ledger, W: Ledger, R: Wait + Abort>(
+fn share_handles<E: Setup, S: Ledger, W: Ledger, R: Wait + Abort>(
     rt: &R,
     alloc: Global,
     service: &Service<E, S, W>,
@@ -113,7 +116,7 @@ fn share_handles<E: Ledger, S: Ledger, W: Ledger, R: Wait + Abort>(
 }
 
 // A root whose child goes to the next client. It is refused where too many trees wait in parcels.
-fn share_tree<E: Ledger, S: Ledger, W: Ledger, R: Wait + Abort>(
+fn share_tree<E: Setup, S: Ledger, W: Ledger, R: Wait + Abort>(
     rt: &R,
     service: &Service<E, S, W>,
     client: &mut Client<E, S, W>,
@@ -127,7 +130,7 @@ fn share_tree<E: Ledger, S: Ledger, W: Ledger, R: Wait + Abort>(
 }
 
 // A root whose handle goes to the next client, or which is refused.
-fn share_buffer<E: Ledger, S: Ledger, W: Ledger, R: Wait + Abort>(
+fn share_buffer<E: Setup, S: Ledger, W: Ledger, R: Wait + Abort>(
     rt: &R,
     alloc: Global,
     service: &Service<E, S, W>,
@@ -145,7 +148,7 @@ fn share_buffer<E: Ledger, S: Ledger, W: Ledger, R: Wait + Abort>(
 }
 
 // Plays until so many calls were made, and vanishes.
-fn play<E: Ledger, S: Ledger, W: Ledger, R: Wait + Abort>(
+fn play<E: Setup, S: Ledger, W: Ledger, R: Wait + Abort>(
     rt: &R,
     alloc: Global,
     service: &Service<E, S, W>,
@@ -166,7 +169,7 @@ fn play<E: Ledger, S: Ledger, W: Ledger, R: Wait + Abort>(
 }
 
 // The client that is ready to play.
-fn ready<E: Ledger, S: Ledger, W: Ledger, R: Abort>(
+fn ready<E: Setup, S: Ledger, W: Ledger, R: Abort>(
     rt: &R,
     parts: &mut Vec<Holding<E, S, W>>,
 ) -> Client<E, S, W> {
@@ -188,7 +191,7 @@ fn ready<E: Ledger, S: Ledger, W: Ledger, R: Abort>(
 }
 
 // The thread's clients play, one after the other.
-fn play_seat<E: Ledger, S: Ledger, W: Ledger, R: Wait + Abort>(
+fn play_seat<E: Setup, S: Ledger, W: Ledger, R: Wait + Abort>(
     rt: &R,
     alloc: Global,
     service: &Service<E, S, W>,
@@ -205,7 +208,7 @@ fn play_seat<E: Ledger, S: Ledger, W: Ledger, R: Wait + Abort>(
 }
 
 // Clients, each of which gives to the next; two of them vanish half-way.
-fn seats<E: Ledger, S: Ledger, W: Ledger, R: Wait + Abort>(
+fn seats<E: Setup, S: Ledger, W: Ledger, R: Wait + Abort>(
     rt: &R,
     alloc: Global,
     service: &Service<E, S, W>,
@@ -221,7 +224,7 @@ fn seats<E: Ledger, S: Ledger, W: Ledger, R: Wait + Abort>(
 }
 
 // All parts of all threads.
-fn parts_of<E: Ledger, S: Ledger, W: Ledger, R: Abort>(
+fn parts_of<E: Setup, S: Ledger, W: Ledger, R: Abort>(
     rt: &R,
     alloc: Global,
     seats: Vec<Seat<E, S, W>>,
@@ -244,18 +247,18 @@ fn parts_of<E: Ledger, S: Ledger, W: Ledger, R: Abort>(
 }
 
 // No node is live, and no page is held.
-fn is_clear<E: Ledger, S: Ledger, W: Ledger, R: Wait + Abort>(
+fn is_clear<E: Setup, S: Ledger, W: Ledger, R: Wait + Abort>(
     rt: &R,
     service: &Service<E, S, W>,
 ) -> bool {
     let guard = service.lock(rt);
     let core = core(guard.state());
-    core.free_pages() == 16 && made(rt, core.live()).is_empty() && made(rt, core.held()).is_empty()
+    core.free_pages() == PAGES && made(rt, core.live()).is_empty() && made(rt, core.held()).is_empty()
 }
 
 /// All clients play and vanish: nothing is live and no page is held.
 pub fn crowd<
-    E: Ledger + Send + Sync,
+    E: Setup + Send + Sync,
     S: Ledger + Send + Sync,
     W: Ledger + Send + Sync,
     R: Threads + Wait + Abort + Sync,

@@ -2,7 +2,7 @@
 use super::asking::{constraints, gathered, made, put, report};
 use client_ends::{Client, Handle, Held, join};
 use client_parting::{GatherFault, Holding, Report, end_service};
-use service_lock::Service;
+use service_lock::{Service, Setup};
 use sm_names::{ClientId, Reply};
 use std::alloc::Global;
 use std::process::Abort;
@@ -10,7 +10,7 @@ use std::sync::Wait;
 use std::sync::ledger::Ledger;
 
 // A client with a collection of two buffers and a handle on each: 5 events.
-fn owner<E: Ledger, S: Ledger, W: Ledger, R: Wait + Abort>(
+fn owner<E: Setup, S: Ledger, W: Ledger, R: Wait + Abort>(
     rt: &R,
     alloc: Global,
     service: &Service<E, S, W>,
@@ -31,7 +31,7 @@ fn owner<E: Ledger, S: Ledger, W: Ledger, R: Wait + Abort>(
 }
 
 // The last of these handles.
-fn last_of<E: Ledger, S: Ledger, W: Ledger, R: Abort>(
+fn last_of<E: Setup, S: Ledger, W: Ledger, R: Abort>(
     rt: &R,
     handles: &mut Vec<Handle<E, S, W>>,
 ) -> Handle<E, S, W> {
@@ -42,7 +42,7 @@ fn last_of<E: Ledger, S: Ledger, W: Ledger, R: Abort>(
 }
 
 // The handles of the first part.
-fn handles_of<'a, E: Ledger, S: Ledger, W: Ledger, R: Abort>(
+fn handles_of<'a, E: Setup, S: Ledger, W: Ledger, R: Abort>(
     rt: &R,
     parts: &'a mut Vec<Holding<E, S, W>>,
 ) -> &'a mut Vec<Handle<E, S, W>> {
@@ -65,7 +65,7 @@ fn is_all(report: &Report, client: ClientId) -> bool {
 }
 
 /// With no part, with a handle kept back, and with all.
-pub fn all_gathered<E: Ledger, S: Ledger, W: Ledger, R: Wait + Abort>(
+pub fn all_gathered<E: Setup, S: Ledger, W: Ledger, R: Wait + Abort>(
     rt: &R,
     alloc: Global,
     service: Service<E, S, W>,

@@ -2,7 +2,7 @@
 use super::asking::{constraints, gathered, gone, made, nothing, parted_by, put, report};
 use client_ends::{Client, CollectionEnd, Held, join};
 use client_parting::{GatherFault, Holding, end_service};
-use service_lock::Service;
+use service_lock::{Service, Setup};
 use sm_names::{BufferName, Call, ClientId, Reply, Strength};
 use std::alloc::Global;
 use std::process::Abort;
@@ -11,7 +11,7 @@ use std::sync::ledger::Ledger;
 
 // The client gives its only handle of a new collection to another: 5 events. It was a handle on this
 // buffer.
-fn hand_over<E: Ledger, S: Ledger, W: Ledger, R: Wait + Abort>(
+fn hand_over<E: Setup, S: Ledger, W: Ledger, R: Wait + Abort>(
     rt: &R,
     alloc: Global,
     service: &Service<E, S, W>,
@@ -35,7 +35,7 @@ fn hand_over<E: Ledger, S: Ledger, W: Ledger, R: Wait + Abort>(
 }
 
 // The last part is a client that holds nothing: it vanishes, and has dropped the handle on the buffer.
-fn last_gone<E: Ledger, S: Ledger, W: Ledger, R: Wait + Abort>(
+fn last_gone<E: Setup, S: Ledger, W: Ledger, R: Wait + Abort>(
     rt: &R,
     alloc: Global,
     service: &Service<E, S, W>,
@@ -62,7 +62,7 @@ fn last_gone<E: Ledger, S: Ledger, W: Ledger, R: Wait + Abort>(
 }
 
 /// The handle is open until its receiver has vanished.
-pub fn handed<E: Ledger, S: Ledger, W: Ledger, R: Wait + Abort>(
+pub fn handed<E: Setup, S: Ledger, W: Ledger, R: Wait + Abort>(
     rt: &R,
     alloc: Global,
     service: Service<E, S, W>,

@@ -5,7 +5,7 @@ ghost use Rattle.client_parting.specs.Partings.{AreOf, held_in};
 use super::asking::{constraints, gone, made, nothing, put, report};
 use client_ends::{Client, CollectionEnd, EndOf, Handle, Held, Kept, Own, TokenEnd, Why, join};
 use client_parting::{GatherFault, Holding, Report, Wreck, end_service, gather, vanish};
-use service_lock::Service;
+use service_lock::{Service, Setup};
 use sm_names::{Call, ClientId, Reply, StepFault};
 use std::alloc::Global;
 use std::process::Abort;
@@ -13,7 +13,7 @@ use std::sync::Wait;
 use std::sync::ledger::Ledger;
 
 // A client more.
-fn join_again<E: Ledger, S: Ledger, W: Ledger, R: Wait + Abort>(
+fn join_again<E: Setup, S: Ledger, W: Ledger, R: Wait + Abort>(
     rt: &R,
     alloc: Global,
     service: &Service<E, S, W>,
@@ -25,7 +25,7 @@ fn join_again<E: Ledger, S: Ledger, W: Ledger, R: Wait + Abort>(
 }
 
 // A root.
-fn open_again<E: Ledger, S: Ledger, W: Ledger, R: Wait + Abort>(
+fn open_again<E: Setup, S: Ledger, W: Ledger, R: Wait + Abort>(
     rt: &R,
     service: &Service<E, S, W>,
     client: &mut Client<E, S, W>,
@@ -41,7 +41,7 @@ fn open_again<E: Ledger, S: Ledger, W: Ledger, R: Wait + Abort>(
 }
 
 // The token is bound.
-fn bind_again<E: Ledger, S: Ledger, W: Ledger, R: Wait + Abort>(
+fn bind_again<E: Setup, S: Ledger, W: Ledger, R: Wait + Abort>(
     rt: &R,
     service: &Service<E, S, W>,
     client: &mut Client<E, S, W>,
@@ -64,7 +64,7 @@ fn bind_again<E: Ledger, S: Ledger, W: Ledger, R: Wait + Abort>(
 }
 
 // It asks for two buffers, and takes a handle on each.
-fn take_again<E: Ledger, S: Ledger, W: Ledger, R: Wait + Abort>(
+fn take_again<E: Setup, S: Ledger, W: Ledger, R: Wait + Abort>(
     rt: &R,
     alloc: Global,
     service: &Service<E, S, W>,
@@ -88,7 +88,7 @@ fn take_again<E: Ledger, S: Ledger, W: Ledger, R: Wait + Abort>(
 }
 
 // The end goes to the other client.
-fn give_again<K, E: Ledger, S: Ledger, W: Ledger, R: Wait + Abort>(
+fn give_again<K, E: Setup, S: Ledger, W: Ledger, R: Wait + Abort>(
     rt: &R,
     service: &Service<E, S, W>,
     client: &mut Client<E, S, W>,
@@ -110,7 +110,7 @@ fn give_again<K, E: Ledger, S: Ledger, W: Ledger, R: Wait + Abort>(
 }
 
 // The handle goes to the other client.
-fn send_again<E: Ledger, S: Ledger, W: Ledger, R: Wait + Abort>(
+fn send_again<E: Setup, S: Ledger, W: Ledger, R: Wait + Abort>(
     rt: &R,
     service: &Service<E, S, W>,
     client: &mut Client<E, S, W>,
@@ -131,7 +131,7 @@ fn send_again<E: Ledger, S: Ledger, W: Ledger, R: Wait + Abort>(
 }
 
 // The client gives a collection and one of its two handles to the other, and keeps these handles.
-fn share<E: Ledger, S: Ledger, W: Ledger, R: Wait + Abort>(
+fn share<E: Setup, S: Ledger, W: Ledger, R: Wait + Abort>(
     rt: &R,
     alloc: Global,
     service: &Service<E, S, W>,
@@ -150,7 +150,7 @@ fn share<E: Ledger, S: Ledger, W: Ledger, R: Wait + Abort>(
 }
 
 // This token alone.
-fn token_alone<E: Ledger, S: Ledger, W: Ledger, R: Abort>(
+fn token_alone<E: Setup, S: Ledger, W: Ledger, R: Abort>(
     rt: &R,
     alloc: Global,
     token: TokenEnd,
@@ -175,7 +175,7 @@ fn collected_and_parted(own: &[Own]) -> (usize, usize) {
 }
 
 // What came back is a token and what was collected, less what was parted with.
-fn is_back<E: Ledger, S: Ledger, W: Ledger>(
+fn is_back<E: Setup, S: Ledger, W: Ledger>(
     client: &Client<E, S, W>,
     held: &Held<E, S, W>,
 ) -> bool {
@@ -186,7 +186,7 @@ fn is_back<E: Ledger, S: Ledger, W: Ledger>(
 
 // The client goes. Where memory is refused it comes back with what it still has, and goes once more,
 // beginning with a Shut.
-fn gone_again<E: Ledger, S: Ledger, W: Ledger, R: Wait + Abort>(
+fn gone_again<E: Setup, S: Ledger, W: Ledger, R: Wait + Abort>(
     rt: &R,
     alloc: Global,
     service: &Service<E, S, W>,
@@ -217,7 +217,7 @@ fn is_all(report: &Report) -> bool {
 }
 
 // All is gathered. Where memory is refused all parts come back, and all is gathered from them.
-fn gather_again<E: Ledger, S: Ledger, W: Ledger, R: Wait + Abort>(
+fn gather_again<E: Setup, S: Ledger, W: Ledger, R: Wait + Abort>(
     rt: &R,
     alloc: Global,
     service: &Service<E, S, W>,
@@ -239,7 +239,7 @@ fn gather_again<E: Ledger, S: Ledger, W: Ledger, R: Wait + Abort>(
 
 /// A client that vanishes with a token, while a collection and a handle wait for it, and all that is
 /// gathered then.
-pub fn memory<E: Ledger, S: Ledger, W: Ledger, R: Wait + Abort>(
+pub fn memory<E: Setup, S: Ledger, W: Ledger, R: Wait + Abort>(
     rt: &R,
     alloc: Global,
     service: Service<E, S, W>,

@@ -1,12 +1,14 @@
 //! A service for each scene.
+ghost use Rattle.std.specs.Prelude.{◌≤◌};
+ghost use Rattle.service_lock.specs.States.{IsAsked};
 ghost use Rattle.service_lock.specs.Units.{AreFor};
 
-use super::crowd::crowd;
+use super::crowd::{PAGES, crowd};
 use super::gathered::all_gathered;
 use super::handed::handed;
 use super::memory::memory;
 use super::vanished::vanished;
-use service_lock::{Blanks, PARTS, Service};
+use service_lock::{Blanks, PARTS, Service, Setup};
 use sm_names::Limits;
 use std::alloc::Global;
 use std::marker::Brand;
@@ -25,6 +27,19 @@ pub enum Scene {
     Crowd,
 }
 
+// How many pages the pool of its service has.
+fn pages(scene: Scene) -> u32
+    ensures { (1 ≤ result) × (result ≤ 1048576) }
+{
+    match scene {
+        Scene::Vanished => 2,
+        Scene::Gathered => 32,
+        Scene::Handed => 4,
+        Scene::Memory => 16,
+        Scene::Crowd => PAGES,
+    }
+}
+
 /// Plays the scene on a service that has seen nothing, and ends it.
 pub fn stage<R: Threads + Wait + Abort + Sync>(rt: &R, alloc: Global, scene: Scene) {
     if !start(rt, alloc, scene) {
@@ -39,18 +54,20 @@ fn start<R: Threads + Wait + Abort + Sync>(rt: &R, alloc: Global, scene: Scene) 
         strong: Blank::new(PARTS),
         weak: Blank::new(PARTS),
     };
-    play::<Brand, Brand, Brand, _>(rt, alloc, blanks, scene)
+    play::<Brand, Brand, Brand, _>(rt, alloc, blanks, scene, pages(scene), Limits::full())
 }
 
 fn play<
-    E: Ledger + Send + Sync,
+    E: Setup + Send + Sync,
     S: Ledger + Send + Sync,
     W: Ledger + Send + Sync,
     R: Threads + Wait + Abort + Sync,
->(rt: &R, alloc: Global, blanks: Blanks, scene: Scene) -> bool
-    requires { AreFor E.name E.parts S.name S.parts W.name W.parts blanks }
+>(rt: &R, alloc: Global, blanks: Blanks, scene: Scene, pages: u32, limits: Limits) -> bool
+    requires pages { (1 ≤ pages) × (pages ≤ 1048576) }
+    requires blanks { AreFor E.name E.parts S.name S.parts W.name W.parts blanks }
+    requires asked { IsAsked E.pages E.limits pages limits }
 {
-    let Ok(service) = Service::<E, S, W>::new(alloc, blanks, 16, Limits::full()) else {
+    let Ok(service) = Service::<E, S, W>::new(alloc, blanks, pages, limits) else {
         return false;
     };
     match scene {

@@ -2,7 +2,7 @@
 use super::asking::{gone, made, nothing, parted_by, put};
 use client_ends::join;
 use client_parting::{Holding, end_service};
-use service_lock::Service;
+use service_lock::{Service, Setup};
 use sm_names::{Call, Cause, NodeKey, Reply};
 use std::alloc::Global;
 use std::process::Abort;
@@ -18,7 +18,7 @@ fn told_key<R: Abort>(rt: &R, reply: Option<Reply>) -> NodeKey {
 }
 
 /// A child is given to a client that vanishes: its tree fails.
-pub fn vanished<E: Ledger, S: Ledger, W: Ledger, R: Wait + Abort>(
+pub fn vanished<E: Setup, S: Ledger, W: Ledger, R: Wait + Abort>(
     rt: &R,
     alloc: Global,
     service: Service<E, S, W>,

@@ -12,7 +12,7 @@ use trial_streams::{Drip, Sink};
 
 // As many pages as a program has.
 fn pages<R: Abort>(rt: &R) -> Pages {
-    match Pages::new(16) {
+    match Pages::new(8) {
         Some(pages) => pages,
         None => panic!(rt; "no pages"),
     }

@@ -21,7 +21,7 @@ fn a_bad_line_keeps_all_actors_from_starting(rt: HostRuntime) -> Result<(), Fail
     ];
     for (script, line) in cases {
         let outcome = Err(ThreadsFault::BadLine(line));
-        check(&rt, rt.alloc(), Limits::full(), script, "", outcome)?;
+        check(&rt, rt.alloc(), 1, Limits::full(), script, "", outcome)?;
     }
     Ok(())
 }
@@ -31,10 +31,10 @@ fn a_full_history_leaves_no_report(rt: HostRuntime) -> Result<(), Fail> {
     for most in 1..16 {
         let limits = events(&rt, most);
         let outcome = Err(ThreadsFault::HistoryFull);
-        check(&rt, rt.alloc(), limits, TWO, "", outcome)?;
+        check(&rt, rt.alloc(), 2, limits, TWO, "", outcome)?;
     }
     let limits = events(&rt, 16);
-    check(&rt, rt.alloc(), limits, TWO, TWO_REPORT, Ok(()))
+    check(&rt, rt.alloc(), 16, limits, TWO, TWO_REPORT, Ok(()))
 }
 
 #[test]

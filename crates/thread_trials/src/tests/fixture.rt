@@ -30,21 +30,24 @@ pub fn events<R: Abort>(rt: &R, most: u32) -> Limits {
     }
 }
 
-/// Asserts what a run of actors writes, whose lines and whose script's lines end in `; `, and how it
-/// ends.
+/// Asserts what a run of actors with a pool of so many pages writes, whose lines and whose script's lines
+/// end in `; `, and how it ends.
 pub fn check<R: Threads + Wait + Clock + Abort + Sync>(
     rt: &R,
     alloc: Global,
+    pages: u32,
     limits: Limits,
     script: &str,
     report: &str,
     outcome: Result<(), ThreadsFault>,
-) -> Result<(), Fail> {
+) -> Result<(), Fail>
+    requires { (1 ≤ pages) × (pages ≤ 1048576) }
+{
     let script = script.replace(alloc, "; ", "\n")?;
     let report = report.replace(alloc, "; ", "\n")?;
     let mut reader = script.as_bytes();
     let mut out = Vec::new(alloc);
-    let ended = run_threads(rt, alloc, SEED, &mut reader, &mut out, 16, limits);
+    let ended = run_threads(rt, alloc, SEED, &mut reader, &mut out, pages, limits);
     assert_eq!(rt; ended, outcome, "{script}");
     assert_eq!(rt; out.as_slice(), report.as_bytes(), "{script}");
     Ok(())
@@ -64,7 +67,7 @@ pub fn run_two<R: Threads + Wait + Clock + Sync>(
         reads: 0,
         fails: read_fails,
     };
-    run_threads(rt, alloc, SEED, &mut reader, writer, 16, Limits::full())
+    run_threads(rt, alloc, SEED, &mut reader, writer, 2, Limits::full())
 }
 
 // Whether the line is that of an actor that has no handle open.

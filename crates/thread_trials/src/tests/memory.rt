@@ -19,7 +19,7 @@ fn refused_memory_leaves_the_whole_report_or_none(rt: HostRuntime) {
         SEED,
         &mut reader,
         &mut writer,
-        16,
+        4,
         Limits::full(),
     );
     let out = writer.used.min(128);

@@ -1,11 +1,12 @@
 //! Actors that come to their end.
-use crate::tests::fixture::{TWO, TWO_REPORT, check, check_gathered};
+use crate::tests::fixture::{TWO, TWO_REPORT, check, check_gathered, events};
 use sm_names::Limits;
 use std::test::Fail;
+use thread_runs::ThreadsFault;
 
 #[test]
 fn two_actors_that_never_meet_are_reported(rt: HostRuntime) -> Result<(), Fail> {
-    check(&rt, rt.alloc(), Limits::full(), TWO, TWO_REPORT, Ok(()))
+    check(&rt, rt.alloc(), 64, Limits::full(), TWO, TWO_REPORT, Ok(()))
 }
 
 #[test]
@@ -29,7 +30,7 @@ fn steps_without_their_thing_are_left_out(rt: HostRuntime) -> Result<(), Fail> {
         ),
     ];
     for (script, report) in cases {
-        check(&rt, rt.alloc(), Limits::full(), script, report, Ok(()))?;
+        check(&rt, rt.alloc(), 1, Limits::full(), script, report, Ok(()))?;
     }
     Ok(())
 }
@@ -39,6 +40,7 @@ fn labels_of_nodes_are_an_actors_own(rt: HostRuntime) -> Result<(), Fail> {
     check(
         &rt,
         rt.alloc(),
+        2,
         Limits::full(),
         "b join; a join; a open r; b open r; b sync r; # ; ; b release r; ",
         "events 9; b events 4 strong 0 weak 0; a events 3 strong 0 weak 0; gather ok; ",
@@ -52,6 +54,7 @@ fn an_actor_parts_with_what_still_waits_for_it(rt: HostRuntime) -> Result<(), Fa
     check(
         &rt,
         rt.alloc(),
+        2,
         Limits::full(),
         "a join; a open r; a dup r k; a give k a; a bind r; a constrain r 0 0 1; a give r a; \
          a collect m; a open s; a bind s; a constrain s 2 0 4096; a take s; a giveh s.1 strong a; \
@@ -75,4 +78,18 @@ fn whoever_comes_first_all_is_gathered(rt: HostRuntime) {
     for _ in 0..20 {
         check_gathered(&rt, rt.alloc(), SHARED.as_bytes(), 3);
     }
+}
+
+#[test]
+fn a_report_is_of_the_pool_and_the_limits_that_were_asked_for(
+    rt: HostRuntime,
+) -> Result<(), Fail> {
+    let script = "a join; a open r; a bind r; a constrain r 2 0 4096; a take r; ";
+    let none = "events 7; a events 6 strong 0 weak 0; gather ok; ";
+    let both = "events 9; a events 8 strong 0 weak 0; gather ok; ";
+    check(&rt, rt.alloc(), 1, events(&rt, 7), script, none, Ok(()))?;
+    check(&rt, rt.alloc(), 2, events(&rt, 9), script, both, Ok(()))?;
+    let full = Err(ThreadsFault::HistoryFull);
+    check(&rt, rt.alloc(), 1, events(&rt, 6), script, "", full)?;
+    check(&rt, rt.alloc(), 2, events(&rt, 8), script, "", full)
 }

@@ -55,8 +55,9 @@ invariant_of-state-2 g c =
     let goes = λ (strength : Strength) (moves : HandleMoves) (is : moves ≡ moves_by strength e.1 e.2).
     written c.state.inside.core.pool c.step.new.self.pool c.state.inside.core.limits c.step.new.self.limits strength e.0 e.1 e.2 log moves
     c.in_ok-reply.ensures.after.pool c.state.invariant.shown.legal shown.legal is in
-    let sound : IsSound c.step.new.self c.state.inside.limits (log ++ e ∷ []) c.write.new.self c.write-2.new.self c.write-3.new.self =
+    let sound : IsSound g.E.Setup.pages g.E.Setup.limits c.step.new.self c.state.inside.limits (log ++ e ∷ []) c.write.new.self c.write-2.new.self c.write-3.new.self =
     record {
+      asked = (c.in_ok-reply.ensures.after.pool ∙ c.state.invariant.asked.0, c.state.invariant.asked.1);
       shown = shown;
       limited = c.in_ok-reply.ensures.after.limits ∙ c.state.invariant.limited;
       counted = omega (arith, c.write.ensures.written.total, c.state.invariant.counted, length-append log (e ∷ []));
@@ -65,7 +66,7 @@ invariant_of-state-2 g c =
       weak = goes Weak c.moves_of-2.result c.moves_of-2.ensures c.state.inside.weak c.state.invariant.weak c.write-3.new.self
           c.write-3.ensures.written;
     } in
-    subst (λ l. IsSound c.step.new.self c.state.inside.limits l c.write.new.self c.write-2.new.self c.write-3.new.self) (sym items) sound
+    subst (λ l. IsSound g.E.Setup.pages g.E.Setup.limits c.step.new.self c.state.inside.limits l c.write.new.self c.write-2.new.self c.write-3.new.self) (sym items) sound
 
 pub returns-clause-made : goal.returns-clause-made
 returns-clause-made g c =

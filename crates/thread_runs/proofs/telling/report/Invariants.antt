@@ -9,3 +9,7 @@ ghosts-run_on-S-Ledger g a = record { name = a.blanks.strong.name; parts = a.bla
 
 abbrev pub ghosts-run_on-W-Ledger : goal.ghosts-run_on-W-Ledger
 ghosts-run_on-W-Ledger g a = record { name = a.blanks.weak.name; parts = a.blanks.weak.parts }
+
+-- and the service is what was asked for
+abbrev pub ghosts-run_on-E-Setup : goal.ghosts-run_on-E-Setup
+ghosts-run_on-E-Setup g a = record { pages = a.pages; limits = a.limits }

@@ -9,3 +9,7 @@ ghosts-play-S-Ledger g a = record { name = a.blanks.strong.name; parts = a.blank
 
 abbrev pub ghosts-play-W-Ledger : goal.ghosts-play-W-Ledger
 ghosts-play-W-Ledger g a = record { name = a.blanks.weak.name; parts = a.blanks.weak.parts }
+
+-- and the service is what was asked for
+abbrev pub ghosts-play-E-Setup : goal.ghosts-play-E-Setup
+ghosts-play-E-Setup g a = record { pages = a.pages; limits = a.limits }

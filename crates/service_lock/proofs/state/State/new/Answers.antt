@@ -5,5 +5,5 @@ use Rattle.service_lock.proofs.state.State.new.Goals as goal
 -- nothing was made yet
 pub invariant_of-result : goal.invariant_of-result
 invariant_of-result g c =
-    begins _ _ _ _ _ _ (search rules) (search rules) (search rules) (search rules) (search rules) (search rules) (search rules)
-    (search rules)
+    begins _ _ _ _ _ _ _ _ (search rules) (search rules) (search rules) (search rules) (search rules) (search rules) (search rules)
+    (search rules) (search rules) (search rules)
