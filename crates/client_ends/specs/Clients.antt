@@ -6,6 +6,7 @@ use Rattle.sm_names.specs.declared.keys.Strength.{Strength}
 use Rattle.sm_names.specs.declared.messages.Call.{Call}
 use Rattle.sm_names.specs.declared.messages.Reply.{Reply}
 use Rattle.sm_names.specs.declared.outcomes.StepFault.{StepFault}
+use Rattle.lifetime_core.specs.Kinds.{fits_call}
 use Rattle.service_lock.specs.Units.{Amounts, with_one}
 use Rattle.record_parts.specs.declared.own.Own.{Own}
 use Rattle.client_ends.specs.declared.why.Why.{Why}
@@ -36,11 +37,13 @@ pub record IsTold (old new : List Own) (call : Call) (reply : Reply) : Type 0 wh
   pub event : ℕ
   pub next : new ≡ old ++ record { event = event; call = call; reply = reply } ∷ []
 
--- the client made one event, of this call and this reply: its share rose by one, and it stands last in its own list
+-- the client made one event, of this call and this reply, which the call can have: its share rose by one, and it stands last in
+-- its own list
 pub record Made (old new : Seen) (call : Call) (reply : Reply) : Type 0 where
   pub id : new.id ≡ old.id
   pub share : new.share ≡ old.share + 1
   pub told : IsTold old.own new.own call reply
+  pub fits : fits_call call reply ≡ true
 
 -- the calls of the entries
 abbrev pub calls_of : List Own → List Call
@@ -133,6 +136,11 @@ gained _ _ = None
 abbrev pub with_gain : Option Strength → Amounts → Amounts
 with_gain None units = units
 with_gain (Some strength) units = with_one strength units
+
+-- how many that is
+abbrev pub gains : Option Strength → ℕ
+gains None = 0
+gains (Some strength) = 1
 
 -- the amounts have the same handles
 abbrev pub SameHandles : Amounts → Amounts → Type 0

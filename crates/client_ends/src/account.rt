@@ -1,17 +1,18 @@
 //! What a client counts.
-ghost use Rattle.std.specs.Prelude.{◌≡◌, ◌+◌, ◌≤◌, ◌↔◌, [], Some, false, true, IfOk, OnErr, Err, length, vec_len, vec_capacity};
+ghost use Rattle.std.specs.Prelude.{◌≡◌, ◌+◌, ◌≤◌, ◌↔◌, [], Some, false, true, IfOk, OnErr, OnOk, Err, length, option_map, vec_len, vec_capacity};
 ghost use Rattle.sm_names.specs.declared.outcomes.StepFault.{StepFault as Fault};
 ghost use Rattle.sm_names.specs.declared.messages.Call.{Call as Asked};
 ghost use Rattle.lifetime_core.specs.Kinds.{fits_call};
 ghost use Rattle.service_lock.specs.States.{after};
 ghost use Rattle.service_lock.specs.Units.{Counts, HasUnitFor};
-ghost use Rattle.client_ends.specs.Clients.{IsTold, SameHandles, gained, is_done, lets_go, made_done, may_gain, nothing, unit_of, with_gain};
+ghost use Rattle.client_ends.specs.Clients.{IsTold, SameHandles, gained, gains, is_done, lets_go, made_done, may_gain, nothing, unit_of};
 ghost use Rattle.client_ends.specs.Taking.{grips_by, told_taken};
 
-use crate::spare::refused;
-use crate::taking::{Room, hand_out, taken_by};
+use crate::handle::Handle;
+use crate::spare::{empty, memory_fault};
+use crate::taking::{hand_out, taken_by};
 use record_parts::Own;
-use service_lock::{Setup, State, Units, apply, books, pass};
+use service_lock::{Setup, State, Units, apply, books, pass, take_back};
 use sm_names::{Call, ClientId, NodeKey, Reply, StepFault, Strength};
 use std::alloc::Global;
 use std::marker::Model;
@@ -101,7 +102,7 @@ impl<E: Setup, S: Ledger, W: Ledger> Account<E, S, W> {
             ↔ (state.old.limits.events ≤ length state.old.history) }
     {
         if self.own.reserve(1).is_err() {
-            return Err(refused(state));
+            return Err(memory_fault(state));
         }
         let asked = call;
         let reply = apply(state, &mut self.units, client, call)?;
@@ -116,7 +117,7 @@ impl<E: Setup, S: Ledger, W: Ledger> Account<E, S, W> {
 
     /// Makes an event that drops or gives a handle, whose unit is lent. It stays with its lender
     /// unless the answer is Done.
-    #[tactic(auto, using(crate::proofs::UnitLaws::has_unit, crate::proofs::UnitLaws::after_letting_go))]
+    #[tactic(auto, using(crate::proofs::UnitLaws::has_unit, crate::proofs::UnitLaws::after_letting_go, crate::proofs::UnitLaws::none_left_of))]
     pub fn make_with(
         &mut self,
         state: &mut State<E, S, W>,
@@ -133,8 +134,11 @@ impl<E: Setup, S: Ledger, W: Ledger> Account<E, S, W> {
             self.new.units.events ≡ self.old.units.events + 1) }
         ensures told { IfOk result (λ r. IsTold self.old.own self.new.own call r) }
         ensures state { IfOk result (λ r. state.new ≡ after state.old client call r) }
-        ensures unit { IfOk result (λ r. is_done r ≡ false → unit.new ≡ unit.old) }
-        ensures fault { OnErr result ((self.new ≡ self.old) × (unit.new ≡ unit.old)) }
+        ensures kind { IfOk result (λ r. fits_call call r ≡ true) }
+        ensures kept { IfOk result (λ r. is_done r ≡ false → unit.new ≡ unit.old) }
+        ensures gone { IfOk result (λ r. is_done r ≡ true → unit.new ≡ nothing) }
+        ensures fault { OnErr result ((self.new ≡ self.old) × (unit.new ≡ unit.old)
+            × (state.new ≡ state.old)) }
         ensures full { (result ≡ Err Fault.HistoryFull)
             ↔ (state.old.limits.events ≤ length state.old.history) }
     {
@@ -146,34 +150,46 @@ impl<E: Setup, S: Ledger, W: Ledger> Account<E, S, W> {
         made
     }
 
-    /// Makes an event that may bring a handle, whose unit the lent one takes.
+    /// Makes an event that may bring a handle, and answers its unit too, if it did.
     #[tactic(auto, using(crate::proofs::UnitLaws::needs_none, crate::proofs::UnitLaws::after_gaining))]
     pub fn make_gaining(
         &mut self,
         state: &mut State<E, S, W>,
         client: ClientId,
         call: Call,
-        unit: &mut Units<E, S, W>,
-    ) -> Result<Reply, StepFault>
+    ) -> Result<(Reply, Option<Units<E, S, W>>), StepFault>
         requires none { SameHandles self.old.units nothing }
-        requires unit { unit.old ≡ nothing }
         requires call { may_gain call ≡ true }
         ensures none { SameHandles self.new.units nothing }
-        ensures share { IfOk result (λ r.
+        ensures share { IfOk result (λ p.
             self.new.units.events ≡ self.old.units.events + 1) }
-        ensures told { IfOk result (λ r. IsTold self.old.own self.new.own call r) }
-        ensures state { IfOk result (λ r. state.new ≡ after state.old client call r) }
-        ensures unit { IfOk result (λ r. unit.new ≡ with_gain (gained call r) nothing) }
-        ensures fault { OnErr result ((self.new ≡ self.old) × (unit.new ≡ unit.old)) }
+        ensures told { IfOk result (λ p. IsTold self.old.own self.new.own call p.0) }
+        ensures kind { IfOk result (λ p. fits_call call p.0 ≡ true) }
+        ensures unit { IfOk result (λ p. p.1 ≡ option_map unit_of (gained call p.0)) }
+        ensures parts { IfOk result (λ p.
+            state.new.parts + gains (gained call p.0) ≡ state.old.parts) }
+        ensures fault { OnErr result ((self.new ≡ self.old) × (state.new ≡ state.old)) }
         ensures full { (result ≡ Err Fault.HistoryFull)
             ↔ (state.old.limits.events ≤ length state.old.history) }
     {
+        let mut unit = empty(state)?;
         let asked = call;
-        let reply = self.apply_and_count(state, client, call)?;
-        if let Some(strength) = gained(&asked, &reply) {
-            pass(state, &mut self.units, unit, strength);
+        match self.apply_and_count(state, client, call) {
+            Ok(reply) => match gained(&asked, &reply) {
+                Some(strength) => {
+                    pass(state, &mut self.units, &mut unit, strength);
+                    Ok((reply, Some(unit)))
+                }
+                None => {
+                    take_back(state, unit);
+                    Ok((reply, None))
+                }
+            },
+            Err(fault) => {
+                take_back(state, unit);
+                Err(fault)
+            }
         }
-        Ok(reply)
     }
 
     /// Makes a Take, whose handles go where room was made for them.
@@ -183,26 +199,29 @@ impl<E: Setup, S: Ledger, W: Ledger> Account<E, S, W> {
         state: &mut State<E, S, W>,
         client: ClientId,
         key: NodeKey,
-        room: &mut Room<E, S, W>,
+        handles: &mut Vec<Handle<E, S, W>>,
     ) -> Result<Reply, StepFault>
         requires none { SameHandles self.old.units nothing }
-        requires empty { room.old.handles.items ≡ [] }
-        requires space { 64 ≤ vec_capacity room.old.handles }
-        requires spares { 64 ≤ vec_len room.old.spares }
+        requires empty { handles.old.items ≡ [] }
+        requires room { 64 ≤ vec_capacity handles.old }
+        requires parts { 64 ≤ state.old.parts }
         ensures none { SameHandles self.new.units nothing }
         ensures share { IfOk result (λ r.
             self.new.units.events ≡ self.old.units.events + 1) }
         ensures told { IfOk result (λ r. IsTold self.old.own self.new.own (Asked.Take key) r) }
+        ensures kind { IfOk result (λ r. fits_call (Asked.Take key) r ≡ true) }
         ensures handles { IfOk result (λ r.
-            room.new.handles.items ≡ grips_by client (told_taken r)) }
-        ensures fault { OnErr result (self.new ≡ self.old) }
-        ensures empty { OnErr result (room.new.handles.items ≡ []) }
+            handles.new.items ≡ grips_by client (told_taken r)) }
+        ensures parts { OnOk result
+            (state.new.parts + vec_len handles.new ≡ state.old.parts) }
+        ensures fault { OnErr result ((self.new ≡ self.old) × (state.new ≡ state.old)
+            × (handles.new.items ≡ [])) }
         ensures full { (result ≡ Err Fault.HistoryFull)
             ↔ (state.old.limits.events ≤ length state.old.history) }
     {
         let reply = self.apply_and_count(state, client, Call::Take(key))?;
         if let Some(taken) = taken_by(&reply) {
-            hand_out(state, &mut self.units, room, client, &taken);
+            hand_out(state, &mut self.units, handles, client, &taken);
         }
         Ok(reply)
     }

@@ -1,13 +1,13 @@
 //! Clients.
-ghost use Rattle.std.specs.Prelude.{◌≡◌, ◌+◌, ◌≤◌, ◌↔◌, Some, [], true, Err, IfOk, OnErr, MatchResult, length};
+ghost use Rattle.std.specs.Prelude.{◌≡◌, ◌+◌, ◌<◌, ◌≤◌, ◌↔◌, ◌^◌, Some, [], true, Err, IfOk, OnErr, OnOk, MatchResult, length, vec_len};
 ghost use Rattle.sm_names.specs.declared.messages.Call.{Call as Asked};
 ghost use Rattle.sm_names.specs.declared.messages.Reply.{Reply as Told};
 ghost use Rattle.sm_names.specs.declared.outcomes.StepFault.{StepFault as Fault};
 ghost use Rattle.client_ends.specs.declared.why.Why.{Why as Reason};
 ghost use Rattle.lifetime_core.specs.Kinds.{fits_call};
-ghost use Rattle.service_lock.specs.States.{after};
+ghost use Rattle.service_lock.specs.States.{after, with_parts};
 ghost use Rattle.client_ends.specs.Clients.{Made, MadeOr, is_done, is_found, is_over, is_plain, is_taken, is_token, is_tracker, last_reply, lets_go, unit_of};
-ghost use Rattle.client_ends.specs.Collecting.{Collected};
+ghost use Rattle.client_ends.specs.Collecting.{Collected, handles_in};
 ghost use Rattle.client_ends.specs.Taking.{Took};
 
 use crate::account::Account;
@@ -19,7 +19,7 @@ use crate::spare::empty;
 use crate::taking::make_room;
 use crate::why::Why;
 use record_parts::Own;
-use service_lock::{Service, Setup, State, Units, apply, take_tracker};
+use service_lock::{Service, Setup, State, Units, apply, take_back, take_tracker};
 use sm_names::{BufferName, Call, ClientId, Kind, NodeKey, Reply, StepFault, Strength};
 use std::alloc::Global;
 use std::marker::Model;
@@ -72,17 +72,22 @@ fn join_in<E: Setup, S: Ledger, W: Ledger>(
 ) -> Result<Client<E, S, W>, StepFault>
     ensures client { IfOk result (λ c. (c.own ≡ []) × (c.share ≡ 1)) }
     ensures event { IfOk result (λ c.
-        state.new ≡ after state.old 0 Asked.Join (Told.Joined c.id)) }
+        with_parts 1 state.new ≡ after state.old 0 Asked.Join (Told.Joined c.id)) }
+    ensures fault { OnErr result (state.new ≡ state.old) }
     ensures full { (result ≡ Err Fault.HistoryFull)
         ↔ (state.old.limits.events ≤ length state.old.history) }
 {
     let mut units = empty(state)?;
-    match apply(state, &mut units, 0, Call::Join)? {
-        Reply::Joined(id) => Ok(Client {
+    match apply(state, &mut units, 0, Call::Join) {
+        Ok(Reply::Joined(id)) => Ok(Client {
             id,
             account: Account::new(alloc, units),
         }),
-        _ => unreachable!(),
+        Ok(_) => unreachable!(),
+        Err(fault) => {
+            take_back(state, units);
+            Err(fault)
+        }
     }
 }
 
@@ -123,7 +128,6 @@ impl<E: Setup, S: Ledger, W: Ledger> Client<E, S, W> {
         requires { is_plain call ≡ true }
         ensures made { MatchResult result
             (λ r. Made self.old self.new call r) (λ _. self.new ≡ self.old) }
-        ensures kind { IfOk result (λ r. fits_call call r ≡ true) }
         ensures state { IfOk result (λ r. state.new ≡ after state.old self.old.id call r) }
         ensures fault { OnErr result (state.new ≡ state.old) }
         ensures full { (result ≡ Err Fault.HistoryFull)
@@ -142,7 +146,6 @@ impl<E: Setup, S: Ledger, W: Ledger> Client<E, S, W> {
         requires { is_plain call ≡ true }
         ensures made { MatchResult result
             (λ r. Made self.old self.new call r) (λ _. self.new ≡ self.old) }
-        ensures kind { IfOk result (λ r. fits_call call r ≡ true) }
     {
         let mut guard = service.lock(rt);
         self.event_in(guard.state_mut(), call)
@@ -232,28 +235,53 @@ impl<E: Setup, S: Ledger, W: Ledger> Client<E, S, W> {
         }
     }
 
-    // Makes the event that lets a handle go, whose unit is lent.
+    // Makes the event that lets a handle go, whose unit comes back unless the answer is Done.
     pub(crate) fn let_go<R: Wait>(
         &mut self,
         rt: &R,
         service: &Service<E, S, W>,
         call: Call,
         strength: Strength,
-        unit: &mut Units<E, S, W>,
-    ) -> Result<(), Why>
-        requires unit { unit.old ≡ unit_of strength }
+        unit: Units<E, S, W>,
+    ) -> Result<(), (Why, Units<E, S, W>)>
+        requires unit { unit ≡ unit_of strength }
+        requires call { lets_go call ≡ Some strength }
+        ensures { MatchResult result
+            (λ _. Made self.old self.new call Told.Done)
+            (λ e. MadeOr is_done self.old self.new call e.0 × (e.1 ≡ unit_of strength)) }
+    {
+        let mut guard = service.lock(rt);
+        self.let_go_in(guard.state_mut(), call, strength, unit)
+    }
+
+    // The same, under a lock that was taken.
+    fn let_go_in(
+        &mut self,
+        state: &mut State<E, S, W>,
+        call: Call,
+        strength: Strength,
+        unit: Units<E, S, W>,
+    ) -> Result<(), (Why, Units<E, S, W>)>
+        requires unit { unit ≡ unit_of strength }
         requires call { lets_go call ≡ Some strength }
         ensures made { MatchResult result
             (λ _. Made self.old self.new call Told.Done)
-            (λ w. MadeOr is_done self.old self.new call w) }
-        ensures unit { OnErr result (unit.new ≡ unit.old) }
+            (λ e. MadeOr is_done self.old self.new call e.0 × (e.1 ≡ unit_of strength)) }
+        ensures back { OnOk result (state.old.parts + 1 < 2 ^ 40 →
+            state.new.parts ≡ state.old.parts + 1) }
+        ensures same { OnErr result (state.new.parts ≡ state.old.parts) }
     {
-        let mut guard = service.lock(rt);
-        let state = guard.state_mut();
-        match self.account.make_with(state, self.id, call, strength, unit) {
-            Ok(Reply::Done) => Ok(()),
-            Ok(reply) => Err(Why::Reply(reply)),
-            Err(fault) => Err(Why::Fault(fault)),
+        let mut unit = unit;
+        let made = self
+            .account
+            .make_with(state, self.id, call, strength, &mut unit);
+        match made {
+            Ok(Reply::Done) => {
+                take_back(state, unit);
+                Ok(())
+            }
+            Ok(reply) => Err((Why::Reply(reply), unit)),
+            Err(fault) => Err((Why::Fault(fault), unit)),
         }
     }
 
@@ -275,6 +303,7 @@ impl<E: Setup, S: Ledger, W: Ledger> Client<E, S, W> {
     }
 
     // The same, under a lock that was taken.
+    #[tactic(auto, using(crate::proofs::UnitLaws::none_doubled))]
     fn doubled_in(
         &mut self,
         state: &mut State<E, S, W>,
@@ -285,17 +314,16 @@ impl<E: Setup, S: Ledger, W: Ledger> Client<E, S, W> {
             (λ h. (h ≡ record { client = self.old.id; buffer = buffer; strength = strength })
             × Made self.old self.new (Asked.DupHandle buffer strength) Told.Done)
             (λ w. MadeOr is_done self.old self.new (Asked.DupHandle buffer strength) w) }
+        ensures part { OnOk result (state.new.parts + 1 ≡ state.old.parts) }
+        ensures same { OnErr result (state.new.parts ≡ state.old.parts) }
         ensures full { (result ≡ Err (Reason.Fault Fault.HistoryFull))
             ↔ (state.old.limits.events ≤ length state.old.history) }
     {
-        let mut unit = match empty(state) {
-            Ok(unit) => unit,
-            Err(fault) => return Err(Why::Fault(fault)),
-        };
         let call = Call::DupHandle(buffer, strength);
-        match self.account.make_gaining(state, self.id, call, &mut unit) {
-            Ok(Reply::Done) => Ok(Handle::new(self.id, buffer, strength, unit)),
-            Ok(reply) => Err(Why::Reply(reply)),
+        match self.account.make_gaining(state, self.id, call) {
+            Ok((Reply::Done, Some(unit))) => Ok(Handle::new(self.id, buffer, strength, unit)),
+            Ok((Reply::Done, None)) => unreachable!(),
+            Ok((reply, _)) => Err(Why::Reply(reply)),
             Err(fault) => Err(Why::Fault(fault)),
         }
     }
@@ -326,21 +354,23 @@ impl<E: Setup, S: Ledger, W: Ledger> Client<E, S, W> {
         ensures made { MatchResult result
             (λ hs. Took self.old self.new key hs.items)
             (λ w. MadeOr is_taken self.old self.new (Asked.Take key) w) }
+        ensures parts { IfOk result (λ hs. state.new.parts + vec_len hs ≡ state.old.parts) }
+        ensures same { OnErr result (state.new.parts ≡ state.old.parts) }
         ensures full { (result ≡ Err (Reason.Fault Fault.HistoryFull))
             ↔ (state.old.limits.events ≤ length state.old.history) }
     {
-        let mut room = match make_room(alloc, state) {
-            Ok(room) => room,
+        let mut handles = match make_room(alloc, state) {
+            Ok(handles) => handles,
             Err(fault) => return Err(Why::Fault(fault)),
         };
-        match self.account.make_taking(state, self.id, key, &mut room) {
-            Ok(Reply::Taken { .. }) => return Ok(room.handles()),
+        match self.account.make_taking(state, self.id, key, &mut handles) {
+            Ok(Reply::Taken { .. }) => return Ok(handles),
             Ok(reply) => {
-                room.end();
+                handles.destroy_empty();
                 return Err(Why::Reply(reply));
             }
             Err(fault) => {
-                room.end();
+                handles.destroy_empty();
                 return Err(Why::Fault(fault));
             }
         }
@@ -362,40 +392,44 @@ impl<E: Setup, S: Ledger, W: Ledger> Client<E, S, W> {
     }
 
     // The same, under a lock that was taken.
+    #[tactic(auto, using(crate::proofs::UnitLaws::none_collected))]
     fn collect_in(&mut self, state: &mut State<E, S, W>) -> Result<Option<End<E, S, W>>, Why>
         ensures made { MatchResult result
             (λ found. Collected self.old self.new found)
             (λ w. MadeOr is_found self.old self.new Asked.Collect w) }
+        ensures parts { IfOk result (λ found.
+            state.new.parts + handles_in found ≡ state.old.parts) }
+        ensures same { OnErr result (state.new.parts ≡ state.old.parts) }
         ensures full { (result ≡ Err (Reason.Fault Fault.HistoryFull))
             ↔ (state.old.limits.events ≤ length state.old.history) }
     {
-        let mut unit = match empty(state) {
-            Ok(unit) => unit,
-            Err(fault) => return Err(Why::Fault(fault)),
-        };
-        match self
-            .account
-            .make_gaining(state, self.id, Call::Collect, &mut unit)
-        {
-            Ok(
-                Reply::Collected {
-                    key,
-                    kind: Kind::Token,
-                    collection,
-                },
-            ) => Ok(Some(End::Token(TokenEnd::new(self.id, key, collection)))),
-            Ok(
-                Reply::Collected {
-                    key,
-                    kind: Kind::Collection,
-                    collection,
-                },
-            ) => Ok(Some(End::Collection(CollectionEnd::new(self.id, key, collection)))),
-            Ok(Reply::CollectedHandle { buffer, strength }) => {
+        match self.account.make_gaining(state, self.id, Call::Collect) {
+            Ok((Reply::CollectedHandle { buffer, strength }, Some(unit))) => {
                 Ok(Some(End::Handle(Handle::new(self.id, buffer, strength, unit))))
             }
-            Ok(Reply::Empty) => Ok(None),
-            Ok(reply) => Err(Why::Reply(reply)),
+            Ok((Reply::CollectedHandle { .. }, None)) => unreachable!(),
+            Ok(
+                (
+                    Reply::Collected {
+                        key,
+                        kind: Kind::Token,
+                        collection,
+                    },
+                    _,
+                ),
+            ) => Ok(Some(End::Token(TokenEnd::new(self.id, key, collection)))),
+            Ok(
+                (
+                    Reply::Collected {
+                        key,
+                        kind: Kind::Collection,
+                        collection,
+                    },
+                    _,
+                ),
+            ) => Ok(Some(End::Collection(CollectionEnd::new(self.id, key, collection)))),
+            Ok((Reply::Empty, _)) => Ok(None),
+            Ok((reply, _)) => Err(Why::Reply(reply)),
             Err(fault) => Err(Why::Fault(fault)),
         }
     }

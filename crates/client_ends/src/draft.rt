@@ -6,7 +6,7 @@ ghost use Rattle.client_ends.specs.Drafts.{IsStopped, IsSynced, drafted_call, wi
 
 use crate::client::Client;
 use crate::ends::TokenEnd;
-use crate::spare::refused;
+use crate::spare::memory_fault;
 use crate::syncing::{make_all, make_room};
 use service_lock::{Service, Setup, State};
 use sm_names::{ClientId, NoMemory, Reply, StepFault};
@@ -183,7 +183,7 @@ impl Draft {
         };
         let events = calls.len() + 1;
         if make_room(&mut part, events).is_err() {
-            return Err((Draft { token, calls }, part, refused(state)));
+            return Err((Draft { token, calls }, part, memory_fault(state)));
         }
         match make_all(state, client, token.key(), &mut calls, &mut part) {
             Ok(()) => {

@@ -177,11 +177,11 @@ impl<E: Setup, S: Ledger, W: Ledger> Handle<E, S, W> {
             client: holder,
             buffer,
             strength,
-            mut unit,
+            unit,
         } = self;
-        match client.let_go(rt, service, call, strength, &mut unit) {
+        match client.let_go(rt, service, call, strength, unit) {
             Ok(()) => Ok(()),
-            Err(why) => Err(Kept {
+            Err((why, unit)) => Err(Kept {
                 value: Handle::new(holder, buffer, strength, unit),
                 why,
             }),

@@ -31,4 +31,5 @@ pub use ends::{Bound, CollectionEnd, EndOf, TokenEnd, Unbound};
 pub use handle::Handle;
 pub use held::{End, Held};
 pub use record_parts::Own;
+pub use spare::memory_fault;
 pub use why::{Kept, Why};

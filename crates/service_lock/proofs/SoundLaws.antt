@@ -32,13 +32,15 @@ none_counted strength sums none left = record { standing = none; carried = left 
 pub begins : (pages : ℕ) (asked : Bound) (core : State) (limits : Bound) (history : List Entry) (events strong weak : Sums) →
     history ≡ [] → Shows core [] → core.pool ≡ pages → limits ≡ asked → core.limits ≡ limits →
     events.total ≡ 0 → strong.total ≡ 0 → strong.carried ≡ 0 → weak.total ≡ 0 → weak.carried ≡ 0 →
+    strong.left ≡ events.left → weak.left ≡ events.left →
     IsSound pages asked core limits history events strong weak
-begins pages asked core limits history events strong weak none shows paged as_asked limited no_event no_strong no_strong_parcel no_weak no_weak_parcel =
+begins pages asked core limits history events strong weak none shows paged as_asked limited no_event no_strong no_strong_parcel no_weak no_weak_parcel strong_cut weak_cut =
     let start : IsSound pages asked core limits [] events strong weak = record {
       asked = (paged, as_asked);
       shown = shows;
       limited = limited;
       counted = no_event;
+      cut = (strong_cut, weak_cut);
       strong = none_counted Strong strong no_strong no_strong_parcel;
       weak = none_counted Weak weak no_weak no_weak_parcel;
     } in

@@ -1,5 +1,5 @@
 -- What a contract sees of the state under the lock, and what an event makes of it.
-use Rattle.std.specs.Prelude.{◌≡◌, ℕ, List, [], ◌∷◌, ◌++◌, length}
+use Rattle.std.specs.Prelude.{◌≡◌, ℕ, ◌+◌, List, [], ◌∷◌, ◌++◌, length}
 use Rattle.std.specs.List.{cons_option}
 use Rattle.sm_names.specs.declared.keys.Strength.{Strength}
 use Rattle.sm_names.specs.declared.keys.Strength.TheVariants.{Strong, Weak}
@@ -14,12 +14,13 @@ use Rattle.lifetime_core.specs.State.{State}
 use Rattle.lifetime_core.specs.Theorem.{tracker_told}
 use Rattle.service_lock.specs.Units.{Sums}
 
--- a pool of so many pages, the limits, the record, and the trackers that are still to be taken
+-- a pool of so many pages, the limits, the record, the trackers that are still to be taken, and how many units can be handed out
 pub record View : Type 0 where
   pub pool : ℕ
   pub limits : Bound
   pub history : List Entry
   pub untaken : List ℕ
+  pub parts : ℕ
 
 -- the pool and the limits are those that were asked for
 abbrev pub IsAsked : ℕ → Bound → ℕ → Bound → Type 0
@@ -32,18 +33,23 @@ after s client call reply = record s {
   untaken = s.untaken ++ cons_option (tracker_told reply) [];
 }
 
+-- the state with so many more units to be handed out
+abbrev pub with_parts : ℕ → View → View
+with_parts n s = record s { parts = s.parts + n }
+
 -- the book of this strength counts the handles that are open, and those in parcels are carried
 pub record CountsHandles (marks : Timeline) (strength : Strength) (sums : Sums) : Type 0 where
   pub standing : sums.total ≡ all_open marks strength
   pub carried : sums.carried ≡ all_moving marks strength
 
--- what lies under the lock fits together: it is what was asked for, the core shows the record, and the books count its events
--- and its handles
+-- what lies under the lock fits together: it is what was asked for, the core shows the record, the books count its events and
+-- its handles, and each can hand out as many shares
 pub record IsSound (asked_pages : ℕ) (asked_limits : Bound) (core : State) (limits : Bound) (history : List Entry)
     (events_book strong_book weak_book : Sums) : Type 0 where
   pub asked : IsAsked asked_pages asked_limits core.pool limits
   pub shown : Shows core history
   pub limited : core.limits ≡ limits
   pub counted : events_book.total ≡ length history
+  pub cut : (strong_book.left ≡ events_book.left) × (weak_book.left ≡ events_book.left)
   pub strong : CountsHandles (timeline core.pool history) Strong strong_book
   pub weak : CountsHandles (timeline core.pool history) Weak weak_book

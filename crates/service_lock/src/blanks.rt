@@ -2,7 +2,7 @@
 use std::sync::ledger::Blank;
 
 /// Into how many parts each book is cut. Each `Units` has one part of each book, and one is kept under
-/// the lock: so many clients and open handles there can be at once, and one less.
+/// the lock: so many clients and open handles there can be at once, less one.
 pub const PARTS: u64 = 1 << 40;
 
 /// A blank for each book: of the events, of the open strong handles and of the open weak ones.

@@ -1,5 +1,5 @@
 //! What lies under the lock.
-ghost use Rattle.std.specs.Prelude.{◌≡◌, ◌≤◌, [], IfOk, IfSome, is_some, length, nat_le};
+ghost use Rattle.std.specs.Prelude.{◌≡◌, ◌+◌, ◌<◌, ◌≤◌, ◌^◌, [], IfOk, IfSome, OnErr, OnOk, is_some, length, nat_le};
 ghost use Rattle.sm_names.specs.Legality.{IsLegal};
 ghost use Rattle.sm_names.specs.Timelines.{timeline};
 ghost use Rattle.sm_names.specs.Trackers.{fired as fired_after};
@@ -7,7 +7,7 @@ ghost use Rattle.trackers.specs.Table.{firing_of, is_untaken, without};
 ghost use Rattle.lifetime_core.specs.Shown.{Shows};
 ghost use Rattle.sm_names.specs.declared.keys.Strength.{Strength};
 ghost use Rattle.event_laws.specs.HandleSums.{all_open};
-ghost use Rattle.service_lock.specs.States.{IsAsked};
+ghost use Rattle.service_lock.specs.States.{IsAsked, with_parts};
 ghost use Rattle.service_lock.specs.Units.{AreFor};
 
 use crate::blanks::{Blanks, PARTS};
@@ -45,6 +45,7 @@ impl<E: Setup, S: Ledger, W: Ledger> Model for State<E, S, W> {
       limits = s.limits;
       history = s.log.items;
       untaken = s.core.trackers.untaken;
+      parts = s.events.left;
     } };
 
     ghost invariant = { λ s. IsSound E.pages E.limits s.core s.limits s.log.items
@@ -64,7 +65,13 @@ impl<E: Setup, S: Ledger, W: Ledger> State<E, S, W> {
         requires blanks { AreFor E.name E.parts S.name S.parts W.name W.parts blanks }
         requires asked { IsAsked E.pages E.limits pages limits }
         ensures { IfOk result (λ s. s
-            ≡ record { pool = pages; limits = limits; history = []; untaken = [] }) }
+            ≡ record {
+              pool = pages;
+              limits = limits;
+              history = [];
+              untaken = [];
+              parts = 1099511627775;
+            }) }
     {
         let Blanks {
             events,
@@ -94,7 +101,14 @@ impl<E: Setup, S: Ledger, W: Ledger> State<E, S, W> {
     }
 }
 
-/// Empty shares of the books. `NoMemory` where a book has no part left, whatever the record is: a
+/// How many units can still be handed out. It costs a constant and takes no memory.
+pub fn parts<E: Setup, S: Ledger, W: Ledger>(state: &State<E, S, W>) -> u64
+    ensures { result ≡ state.now.parts }
+{
+    state.events.left()
+}
+
+/// Empty shares of the books. `NoMemory` where the books have no part left, whatever the record is: a
 /// caller for whom a full record comes first asks `is_full` before.
 ///
 /// It costs a constant and takes no memory.
@@ -102,9 +116,11 @@ pub fn units<E: Setup, S: Ledger, W: Ledger>(
     state: &mut State<E, S, W>,
 ) -> Result<Units<E, S, W>, NoMemory>
     ensures empty { IfOk result (λ u. u ≡ record { events = 0; strong = 0; weak = 0 }) }
-    ensures same { state.new ≡ state.old }
+    ensures part { OnOk result (state.old ≡ with_parts 1 state.new) }
+    ensures none { OnErr result ((state.old.parts ≡ 0) × (state.new ≡ state.old)) }
+    ensures few { state.old.parts < 2 ^ 40 }
 {
-    if state.events.left() == 0 || state.strong.left() == 0 || state.weak.left() == 0 {
+    if state.events.left() == 0 {
         return Err(NoMemory);
     }
     Ok(Units {
@@ -114,11 +130,26 @@ pub fn units<E: Setup, S: Ledger, W: Ledger>(
     })
 }
 
+/// Takes empty shares back: their parts can be handed out again, but for those that would be more than
+/// there are. It costs a constant and takes no memory.
+pub fn take_back<E: Setup, S: Ledger, W: Ledger>(state: &mut State<E, S, W>, units: Units<E, S, W>)
+    requires { units ≡ record { events = 0; strong = 0; weak = 0 } }
+    ensures part { state.old.parts + 1 < 2 ^ 40 → state.new ≡ with_parts 1 state.old }
+    ensures all { 2 ^ 40 ≤ state.old.parts + 1 → state.new ≡ state.old }
+{
+    let Units {
+        events,
+        strong,
+        weak,
+    } = units;
+    state.events.take_back(events);
+    state.strong.take_back(strong);
+    state.weak.take_back(weak);
+}
+
 /// The record: each event's client, call and reply, in order. It is a legal history at all times, with
 /// the pool and the limits that the service was asked for. It costs a constant and takes no memory.
-pub fn entries<E: Setup, S: Ledger, W: Ledger>(
-    state: &State<E, S, W>,
-) -> &[(ClientId, Call, Reply)]
+pub fn entries<E: Setup, S: Ledger, W: Ledger>(state: &State<E, S, W>) -> &[(ClientId, Call, Reply)]
     ensures value { result.now ≡ state.now.history }
     ensures legal { IsLegal state.now.pool state.now.limits state.now.history }
     ensures asked { IsAsked E.pages E.limits state.now.pool state.now.limits }

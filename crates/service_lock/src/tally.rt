@@ -2,6 +2,7 @@
 ghost use Rattle.std.specs.Prelude.{◌≡◌, ◌+◌, ◌<◌, ◌≤◌, ◌^◌};
 ghost use Rattle.service_lock.specs.Units.{Moved, Written};
 
+use crate::blanks::PARTS;
 use crate::moves::HandleMoves;
 use std::marker::Model;
 use std::sync::ledger::{Blank, Book, Ledger, Share};
@@ -17,14 +18,15 @@ pub(crate) struct Tally<L: Ledger> {
 }
 
 impl<L: Ledger> Model for Tally<L> {
-    ghost use Rattle.std.specs.Prelude.{◌≡◌, ◌+◌, ◌<◌};
+    ghost use Rattle.std.specs.Prelude.{◌≡◌, ◌+◌, ◌<◌, ◌^◌};
     ghost use Rattle.service_lock.specs.Units.{Sums};
 
     ghost Value = { Sums };
 
     ghost view = { λ t. record { total = t.book.total; carried = t.rest.amount; left = t.left } };
 
-    ghost invariant = { λ t. (t.total ≡ t.book.total) × (t.rest.parts ≡ t.left + 1) };
+    ghost invariant = { λ t. (t.total ≡ t.book.total) × (t.rest.parts ≡ t.left + 1)
+        × (t.left < 2 ^ 40) };
 }
 
 impl<L: Ledger> Tally<L> {
@@ -32,9 +34,10 @@ impl<L: Ledger> Tally<L> {
     pub fn new(blank: Blank, parts: u64) -> Tally<L>
         requires name { blank.name ≡ L.name }
         requires parts { (blank.parts ≡ L.parts) × (parts ≡ L.parts) }
-        requires some { 0 < parts }
+        requires some { (0 < parts) × (parts ≤ 2 ^ 40) }
         ensures total { result.total ≡ 0 }
         ensures carried { result.carried ≡ 0 }
+        ensures left { result.left + 1 ≡ parts }
     {
         let (book, rest) = blank.open::<L>();
         Tally {
@@ -54,7 +57,8 @@ impl<L: Ledger> Tally<L> {
 
     /// How many shares can still be handed out.
     pub fn left(&self) -> u64
-        ensures { result ≡ self.now.left }
+        ensures value { result ≡ self.now.left }
+        ensures few { result < 2 ^ 40 }
     {
         self.left
     }
@@ -87,5 +91,18 @@ impl<L: Ledger> Tally<L> {
     {
         self.left -= 1;
         self.rest.split_off(1, 0)
+    }
+
+    /// Takes an empty share back, which can be handed out again. No more than all parts can come back.
+    pub fn take_back(&mut self, share: Share<L>)
+        requires { (share.parts ≡ 1) × (share.amount ≡ 0) }
+        ensures same { (self.new.total ≡ self.old.total) × (self.new.carried ≡ self.old.carried) }
+        ensures left { self.old.left + 1 < 2 ^ 40 → self.new.left ≡ self.old.left + 1 }
+        ensures all { 2 ^ 40 ≤ self.old.left + 1 → self.new.left ≡ self.old.left }
+    {
+        if self.left < PARTS - 1 {
+            self.rest.merge(share);
+            self.left += 1;
+        }
     }
 }

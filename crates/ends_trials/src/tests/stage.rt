@@ -83,14 +83,7 @@ fn play<
     S: Ledger + Send + Sync,
     W: Ledger + Send + Sync,
     R: Threads + Wait + Abort + Sync,
->(
-    rt: &R,
-    alloc: Global,
-    blanks: Blanks,
-    scene: Scene,
-    pages: u32,
-    limits: Limits,
-) -> Option<bool>
+>(rt: &R, alloc: Global, blanks: Blanks, scene: Scene, pages: u32, limits: Limits) -> Option<bool>
     requires pages { (1 ≤ pages) × (pages ≤ 1048576) }
     requires blanks { AreFor E.name E.parts S.name S.parts W.name W.parts blanks }
     requires asked { IsAsked E.pages E.limits pages limits }

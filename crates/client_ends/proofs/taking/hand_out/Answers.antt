@@ -11,10 +11,10 @@ pub handing-init : goal.handing-init
 handing-init g c = record {
   units = units_first c.args.units.now c.args.taken.now c.requires.units;
   events = refl;
-  handles = grips_first c.args.client c.args.taken.now c.args.room.now.handles.items c.requires.none;
-  few = omega (arith, c.args.room.now.handles.ok, ap length c.requires.none);
-  space = c.requires.space;
-  spares = omega (arith, c.requires.spares);
+  handles = grips_first c.args.client c.args.taken.now c.args.handles.now.items c.requires.none;
+  few = omega (arith, c.args.handles.now.ok, ap length c.requires.none);
+  room = c.requires.room;
+  parts = omega (arith, ap length c.requires.none, c.args.handles.now.ok);
 }
 
 pub hand_one-handle-requires-clause-unit : goal.hand_one-handle-requires-clause-unit
@@ -29,7 +29,7 @@ handing-preserved g c =
     let so = c.handing.invariant in
     let low : i < 64 = c.handing-test.true in
     let all = grips_at c.args.client taken (indices_in taken.set) in
-    let items = c.handing.room.handles.items in
+    let items = c.handing.handles.items in
     elim c.if-has_buffer.branch [
       | then-has_buffer w ↦
           let bit : (bit_at taken.set i == 1) ≡ true = sym c.has_buffer.ensures ∙ w.if-has_buffer.true in
@@ -39,20 +39,25 @@ handing-preserved g c =
             units = rw w.units-is (units_behind i taken.set taken.strength c.handing.units w.hand_one-handle.new.units low bit so.units
                 passed);
             events = rw w.units-is (same_events taken.strength c.handing.units w.hand_one-handle.new.units passed ∙ so.events);
-            handles = rw w.room-is (rw pushed (grips_with i taken.set c.args.client taken items all low bit so.handles));
-            few = rw w.room-is (omega (arith, w.push_reserved.ensures.len, so.few));
-            space = rw w.room-is (omega (arith, w.push_reserved.ensures.capacity, so.space));
-            spares = rw w.room-is (omega (arith, w.hand_one-handle.ensures.spares, so.spares));
+            handles = rw w.handles-is (rw pushed (grips_with i taken.set c.args.client taken items all low bit so.handles));
+            few = rw w.handles-is (omega (arith, w.push_reserved.ensures.len, so.few));
+            room = rw w.handles-is (omega (arith, w.push_reserved.ensures.capacity, so.room));
+            parts = rw w.handles-is (rw w.state-is (omega (
+              arith,
+              w.push_reserved.ensures.len,
+              ap (λ s. s.parts) w.hand_one-handle.ensures.part,
+              so.parts,
+            )));
           }
       | else-has_buffer w ↦
           let bit : (bit_at taken.set i == 1) ≡ false = sym c.has_buffer.ensures ∙ w.if-has_buffer.false in
           record {
             units = rw w.units-is (units_stay i taken.set taken.strength c.handing.units low bit so.units);
             events = rw w.units-is so.events;
-            handles = rw w.room-is (grips_without i taken.set c.args.client taken items all low bit so.handles);
-            few = rw w.room-is (omega (arith, so.few));
-            space = rw w.room-is so.space;
-            spares = rw w.room-is (omega (arith, so.spares));
+            handles = rw w.handles-is (grips_without i taken.set c.args.client taken items all low bit so.handles);
+            few = rw w.handles-is (omega (arith, so.few));
+            room = rw w.handles-is so.room;
+            parts = rw w.handles-is (rw w.state-is so.parts);
           }
     ]
 
@@ -64,5 +69,9 @@ returns-clause-units g c =
 pub returns-clause-handles : goal.returns-clause-handles
 returns-clause-handles g c =
     let all : c.handing.index ≡ 64 = omega (arith, c.handing-test.false, c.handing.auto.index-end) in
-    grips_all c.handing.index c.args.taken.now.set c.args.client c.args.taken.now c.handing.room.handles.items
+    grips_all c.handing.index c.args.taken.now.set c.args.client c.args.taken.now c.handing.handles.items
     (grips_at c.args.client c.args.taken.now (indices_in c.args.taken.now.set)) all c.handing.invariant.handles
+
+pub hand_one-handle-requires-clause-part : goal.hand_one-handle-requires-clause-part
+hand_one-handle-requires-clause-part g c =
+    omega (arith, c.handing.invariant.parts, c.handing.invariant.few, c.handing-test.true, c.requires.parts)

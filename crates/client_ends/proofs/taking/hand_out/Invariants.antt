@@ -11,9 +11,9 @@ abbrev pub invariant-handing : goal.invariant-handing
 invariant-handing g l = record {
   units : SameHandles l.units (handful l.taken.strength (length (indices_from l.index (64 - l.index) l.taken.set)));
   events : l.units.events ≡ l.fn.units.events;
-  handles : l.room.handles.items ++ grips_at l.client l.taken (indices_from l.index (64 - l.index) l.taken.set) ≡ grips_at l.client l.taken
+  handles : l.handles.items ++ grips_at l.client l.taken (indices_from l.index (64 - l.index) l.taken.set) ≡ grips_at l.client l.taken
       (indices_in l.taken.set);
-  few : vec_len l.room.handles ≤ l.index;
-  space : 64 ≤ vec_capacity l.room.handles;
-  spares : 64 ≤ vec_len l.room.spares + l.index;
+  few : vec_len l.handles ≤ l.index;
+  room : 64 ≤ vec_capacity l.handles;
+  parts : l.state.parts + vec_len l.handles ≡ l.fn.state.parts;
 }

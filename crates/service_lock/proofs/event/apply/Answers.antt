@@ -61,6 +61,10 @@ invariant_of-state-2 g c =
       shown = shown;
       limited = c.in_ok-reply.ensures.after.limits ∙ c.state.invariant.limited;
       counted = omega (arith, c.write.ensures.written.total, c.state.invariant.counted, length-append log (e ∷ []));
+      cut = (
+        c.write-2.ensures.left ∙ c.state.invariant.cut.0 ∙ sym c.write.ensures.left,
+        c.write-3.ensures.left ∙ c.state.invariant.cut.1 ∙ sym c.write.ensures.left,
+      );
       strong = goes Strong c.moves_of.result c.moves_of.ensures c.state.inside.strong c.state.invariant.strong c.write-2.new.self
           c.write-2.ensures.written;
       weak = goes Weak c.moves_of-2.result c.moves_of-2.ensures c.state.inside.weak c.state.invariant.weak c.write-3.new.self
@@ -81,14 +85,16 @@ returns-clause-made g c =
       limits = c.state.inside.limits;
       history = log;
       untaken = c.state.inside.core.trackers.untaken;
+      parts = c.state.inside.events.left;
     } in
     let next : ◌≡◌ {A = View} (record {
       pool = c.step.new.self.pool;
       limits = c.state.inside.limits;
       history = c.push_reserved.new.self.items;
       untaken = c.step.new.self.trackers.untaken;
+      parts = c.write.new.self.left;
     }) (after seen e.0 e.1 e.2) =
-    λ i. record { pool = pools i; limits = c.state.inside.limits; history = items i; untaken = ids i } in
+    λ i. record { pool = pools i; limits = c.state.inside.limits; history = items i; untaken = ids i; parts = c.write.ensures.left i } in
     next ∙ ap (λ (s : View). after s e.0 e.1 e.2) c.state.view_is
 
 pub returns-clause-legal : goal.returns-clause-legal
