@@ -6,7 +6,7 @@ ghost use Rattle.std.specs.Option.{option_map, option_map_or};
 ghost use Rattle.sm_names.specs.Members.{some_strong_live};
 ghost use Rattle.alloc_event.specs.declared.change.Change.{Change as Changed};
 ghost use Rattle.alloc_event.specs.Dropped.{are_others_out};
-ghost use Rattle.alloc_event.specs.Forest.{Collection, IsPoolOf, SameKeys, all_nodes, collection_at, node_at, node_count, empty_forest, summary_of, live_keys, held_by_page, on_collections, with_nodes, is_left, without_over_in};
+ghost use Rattle.alloc_event.specs.Forest.{Collection, IsPoolOf, SameKeys, all_nodes, beside, collection_at, node_at, node_count, empty_forest, summary_of, live_keys, held_by_page, on_collections, with_nodes, is_left, without_over_in};
 ghost use Rattle.alloc_event.specs.Nodes.{members_of, with_end, is_of, is_over};
 ghost use Rattle.alloc_event.specs.Scenes.{IsSound};
 ghost use Rattle.alloc_event.specs.Settling.{MayChange, Settled};
@@ -17,7 +17,7 @@ use crate::changing::{settle_birth, settle_change};
 use crate::dropped::settle_dropped;
 use crate::entry::{Entry, entry_of, place_of};
 use crate::forgetting::{forget_over, note_over, take_out};
-use crate::kept::{copy_out, held_by_page, kept_nodes, live_by_birth};
+use crate::kept::{copy_out, held_by_page, ids_of, kept_nodes, live_by_birth, pages_beside};
 use crate::node::{End, Node};
 use crate::room::Room;
 use crate::snapshot::Snapshot;
@@ -27,7 +27,7 @@ use crate::units::Unit;
 use buffer_holds::Holds;
 use buffer_pool::Pool;
 use node_table::NodeTable;
-use sm_names::{BufferName, CollectionId, HeldBuffer, NoMemory, NodeKey};
+use sm_names::{BufferName, CollectionId, HeldBuffer, Interval, NoMemory, NodeKey};
 use std::alloc::Global;
 use std::marker::Model;
 
@@ -261,6 +261,29 @@ impl Forest {
         };
         match copy_out(*self.entries.allocator(), &self.table, entry) {
             Ok(copied) => Ok(Some(copied)),
+            Err(_) => Err(NoMemory),
+        }
+    }
+
+    /// The ids of the collections, rising. `NoMemory` where the list is refused room. It costs
+    /// their number.
+    pub fn ids(&self) -> Result<Vec<CollectionId>, NoMemory>
+        ensures { IfOk result (λ ids. ids.items ≡ map (λ (c : Collection). c.id) self.now.collections) }
+    {
+        match ids_of(*self.entries.allocator(), &self.entries) {
+            Ok(ids) => Ok(ids),
+            Err(_) => Err(NoMemory),
+        }
+    }
+
+    /// The pages of the buffers of all collections but this one, collection by collection, and by
+    /// index within each. `NoMemory` where the list is refused room. It costs the number of
+    /// collections and of their buffers.
+    pub fn pages_beside(&self, id: CollectionId) -> Result<Vec<Interval>, NoMemory>
+        ensures { IfOk result (λ pages. pages.items ≡ beside self.now id) }
+    {
+        match pages_beside(*self.entries.allocator(), &self.entries, id) {
+            Ok(pages) => Ok(pages),
             Err(_) => Err(NoMemory),
         }
     }

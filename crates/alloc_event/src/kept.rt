@@ -1,18 +1,19 @@
 //! What is kept of the nodes: reading them by their keys.
-ghost use Rattle.std.specs.Prelude.{◌≡◌, ◌++◌, IfOk, map};
+ghost use Rattle.std.specs.Prelude.{◌≡◌, ◌++◌, ◌==◌, IfOk, map, not};
 ghost use Rattle.std.specs.List.{filter, flat_map};
 ghost use Rattle.sm_names.specs.Words.{sorted_by};
 ghost use Rattle.alloc_event.specs.declared.entry.Entry.{Entry as Kept};
 ghost use Rattle.alloc_event.specs.Kept.{all_keys, collection_in, nodes_with, shelf_of, shelves_of, is_strong};
 ghost use Rattle.alloc_event.specs.Nodes.{is_over};
 ghost use Rattle.alloc_event.specs.Questions.{is_live_node};
+ghost use Rattle.alloc_event.specs.Scenes.{pages_held};
 ghost use Rattle.alloc_event.specs.Snapshots.{collection_of};
 
 use crate::entry::Entry;
 use crate::node::{End, Node};
 use crate::snapshot::Snapshot;
 use node_table::NodeTable;
-use sm_names::{HeldBuffer, NodeKey};
+use sm_names::{CollectionId, HeldBuffer, Interval, NodeKey};
 use std::alloc::{AllocError, Global};
 
 /// Whether the node is live and strong.
@@ -110,6 +111,45 @@ pub(crate) fn held_by_page(alloc: Global, entries: &[Entry]) -> Result<Vec<HeldB
     }
     held.sort_by_key(|buffer| buffer.pages.start)?;
     Ok(held)
+}
+
+/// The ids of the entries, in order.
+pub(crate) fn ids_of(alloc: Global, entries: &[Entry]) -> Result<Vec<CollectionId>, AllocError>
+    ensures { IfOk result (λ ids. ids.items ≡ map (λ (e : Kept). e.id) entries.now) }
+{
+    let mut ids = Vec::with_capacity(alloc, entries.len())?;
+    for entry in entries {
+        ids.push(entry.id)?;
+    }
+    Ok(ids)
+}
+
+/// The pages of these buffers, behind others.
+fn add_pages(pages: &mut Vec<Interval>, held: &[HeldBuffer]) -> Result<(), AllocError>
+    ensures { IfOk result (λ _. pages.new.items ≡ pages.old.items ++ pages_held held.now) }
+{
+    for buffer in held {
+        pages.push(buffer.pages)?;
+    }
+    Ok(())
+}
+
+/// The pages of the buffers of all entries but the one with this id, entry by entry.
+pub(crate) fn pages_beside(
+    alloc: Global,
+    entries: &[Entry],
+    id: CollectionId,
+) -> Result<Vec<Interval>, AllocError>
+    ensures { IfOk result (λ pages. pages.items
+        ≡ flat_map (λ (e : Kept). pages_held e.held.items) (filter (λ (e : Kept). not (e.id == id)) entries.now)) }
+{
+    let mut pages = Vec::new(alloc);
+    for entry in entries {
+        if entry.id != id {
+            add_pages(&mut pages, &entry.held)?;
+        }
+    }
+    Ok(pages)
 }
 
 /// Whether the node is neither gone nor released.

@@ -154,6 +154,13 @@ impl Pool {
         }
     }
 
+    /// How many pages there are, held or free. It costs one read.
+    pub fn pages(&self) -> u32
+        ensures { result ≡ self.now.size }
+    {
+        self.size
+    }
+
     /// How many pages nobody holds. It takes no memory, and costs one read.
     pub fn free_pages(&self) -> u32
         ensures free { result + pages_in self.now.held ≡ self.now.size }

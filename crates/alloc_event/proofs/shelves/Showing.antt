@@ -1,9 +1,10 @@
 -- What the forest that a table and entries make is read as.
-use Rattle.std.proofs.Common.{◌≡◌, ◌≤◌, IfSome, ℕ, ◌==◌, ◌+◌, Bool, true, false, List, [], ◌∷◌, ◌++◌, length, Option, Some, None, option_map, cond, if◌then◌else◌, refl, sym, ap, subst, ◌∙◌, arith, length-append}
-use Rattle.std.specs.List.{find, list_any, list_all, cons_option}
+use Rattle.std.proofs.Common.{◌≡◌, ◌≤◌, IfSome, ℕ, ◌==◌, ◌+◌, Bool, true, false, not, List, [], ◌∷◌, ◌++◌, length, map, Option, Some, None, option_map, cond, if◌then◌else◌, refl, sym, ap, subst, ◌∙◌, arith, length-append}
+use Rattle.std.specs.List.{filter, find, flat_map, list_any, list_all, cons_option}
 use Rattle.std.specs.Option.{option_map_or}
 use Rattle.std.proofs.lemmas.Bool.{leb-true}
 use Rattle.std.proofs.lemmas.List.Elements.{filter_map-append}
+use Rattle.sm_names.specs.declared.keys.Interval.{Interval}
 use Rattle.sm_names.specs.declared.keys.NodeKey.{NodeKey}
 use Rattle.sm_names.specs.declared.outcomes.Buffers.{Buffers}
 use Rattle.sm_names.specs.Sameness.{same_key}
@@ -11,9 +12,9 @@ use Rattle.sm_names.proofs.SamenessLaws.{and_left, and_right}
 use Rattle.node_table.specs.Table.{Table, node_at}
 use Rattle.alloc_event.specs.declared.entry.Entry.{Entry}
 use Rattle.alloc_event.specs.declared.node.Node.{Node}
-use Rattle.alloc_event.specs.Forest.{summary_of, all_nodes, node_at as forest_node, collection_at}
+use Rattle.alloc_event.specs.Forest.{Collection, all_nodes, beside, collection_at, node_at as forest_node, pages_in, summary_of}
 use Rattle.alloc_event.specs.Nodes.{node_of}
-use Rattle.alloc_event.specs.Scenes.{given_few}
+use Rattle.alloc_event.specs.Scenes.{given_few, pages_held}
 use Rattle.alloc_event.specs.Kept.{Shelf, shelf_of, shelves_of, nodes_with, collection_in, forest_of, all_keys, is_filed, are_filed, IsStored}
 use Rattle.alloc_event.proofs.lists.Lookups.{nothing, node_of-looked}
 
@@ -23,6 +24,25 @@ nodes_of_all t [] = refl
 nodes_of_all t (e ∷ es) =
     ap (λ ns. nodes_with t e.keys ++ ns) (nodes_of_all t es)
     ∙ sym (filter_map-append (node_at t) e.keys (all_keys es))
+
+-- the collections have the ids of the entries
+pub ids_of_all : (t : Table Node) (es : List Entry) →
+    map (λ (c : Collection). c.id) (forest_of t (shelves_of es)).collections ≡ map (λ (e : Entry). e.id) es
+ids_of_all t [] = refl
+ids_of_all t (e ∷ es) = ap (λ (ids : List ℕ). e.id ∷ ids) (ids_of_all t es)
+
+-- the pages beside a collection are those of the other entries
+pub pages_of_others : (t : Table Node) (id : ℕ) (es : List Entry) → beside (forest_of t (shelves_of es)) id
+    ≡ flat_map (λ (e : Entry). pages_held e.held.items) (filter (λ (e : Entry). not (e.id == id)) es)
+pages_of_others t id [] = refl
+pages_of_others t id (e ∷ es) = elim (e.id == id) as (λ b.
+    flat_map pages_in (cond (not b) (collection_in t (shelf_of e) ∷ filter (λ (c : Collection). not (c.id == id)) (forest_of t (shelves_of es)).collections)
+    (filter (λ (c : Collection). not (c.id == id)) (forest_of t (shelves_of es)).collections))
+    ≡ flat_map (λ (x : Entry). pages_held x.held.items) (cond (not b) (e ∷ filter (λ (x : Entry). not (x.id == id)) es)
+    (filter (λ (x : Entry). not (x.id == id)) es))) [
+      | true ↦ pages_of_others t id es
+      | false ↦ ap (λ (is : List Interval). pages_held e.held.items ++ is) (pages_of_others t id es)
+    ]
 
 -- by what the table has there
 node_is-by : (t : Table Node) (es : List Shelf) → IsStored t es → (key : NodeKey) (o : Option Node) → node_at t key ≡ o →

@@ -1,0 +1,10 @@
+use Rattle.std.proofs.Common.{◌≡◌, ◌==◌, not, take}
+use Rattle.std.specs.List.{filter, flat_map}
+use Rattle.alloc_event.specs.declared.entry.Entry.{Entry as Kept}
+use Rattle.alloc_event.specs.Scenes.{pages_held}
+use Rattle.alloc_event.proofs.kept.pages_beside.Given as goal
+
+-- so far the pages of the others among these entries
+abbrev pub invariant-loop-entry : goal.invariant-loop-entry
+invariant-loop-entry l = l.pages.items
+    ≡ flat_map (λ (e : Kept). pages_held e.held.items) (filter (λ (e : Kept). not (e.id == l.id)) (take l.entry-index l.entries))
