@@ -3,6 +3,7 @@ pub mod Beginning
 pub mod CallStep
 pub mod Change
 pub mod Dropping
+pub mod Fits
 pub mod Fitting
 pub mod ForcedStep
 pub mod Forest

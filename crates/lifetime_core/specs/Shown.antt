@@ -13,6 +13,7 @@ use Rattle.sm_names.specs.Members.{births_in, constraints}
 use Rattle.sm_names.specs.Reading.{is_taking, is_tracking}
 use Rattle.sm_names.specs.Handles.{buffers_of}
 use Rattle.sm_names.specs.declared.keys.HeldBuffer.{HeldBuffer}
+use Rattle.sm_names.specs.declared.keys.Interval.{Interval}
 use Rattle.sm_names.specs.Timelines.{held, timeline}
 use Rattle.sm_names.specs.Trackers.{Tracked, tracked, fired}
 use Rattle.sm_names.specs.Weakness.{weak, weak_ok, covered, covers_children}
@@ -81,6 +82,11 @@ kept_ids marks = map (λ (b : Birth). b.collection)
 -- the nodes that are kept, as the marks make them: collection by collection, the earliest first, and by birth within each
 abbrev pub kept_nodes : Timeline → List Node
 kept_nodes marks = flat_map (λ id. filter (λ n. not (is_over n)) (nodes_after marks id)) (kept_ids marks)
+
+-- the pages of the buffers of all kept collections but this one: collection by collection, the earliest first, and by index within each
+abbrev pub pages_beside_after : ℕ → Timeline → ℕ → List Interval
+pages_beside_after pool marks collection =
+    flat_map (λ id. map (λ (h : HeldBuffer). h.pages) (held_after pool marks id)) (filter (λ id. not (id == collection)) (kept_ids marks))
 
 -- the client, as the marks make it
 abbrev pub client_after : Timeline → ℕ → Client

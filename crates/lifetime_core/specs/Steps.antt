@@ -1,6 +1,6 @@
 -- What an event makes of a core's state.
-use Rattle.std.specs.Prelude.{ℕ, ◌+◌, ◌-◌, true, false, ◌||◌, not, nat_le, if◌then◌else◌, List, [], ◌++◌, map, drop, Option, Some, None, ◌≡◌}
-use Rattle.std.specs.List.{filter, cons_option}
+use Rattle.std.specs.Prelude.{ℕ, ◌+◌, ◌-◌, Bool, true, false, ◌||◌, not, nat_le, if◌then◌else◌, List, [], ◌++◌, map, drop, Option, Some, None, ◌≡◌}
+use Rattle.std.specs.List.{filter, cons_option, list_all}
 use Rattle.std.specs.Option.{option_map, option_and_then}
 use Rattle.sm_names.specs.declared.keys.BufferName.{BufferName}
 use Rattle.sm_names.specs.declared.keys.NodeKey.{NodeKey}
@@ -27,6 +27,7 @@ use Rattle.alloc_event.specs.declared.node.Node.{Node}
 use Rattle.alloc_event.specs.Effects.{effect_of}
 use Rattle.alloc_event.specs.Forest.{Collection, Forest, SameKeys, collection_at, node_at, with_nodes, on_collections, is_left}
 use Rattle.alloc_event.specs.Nodes.{with_end, is_over}
+use Rattle.alloc_event.specs.Scenes.{has_tracker_room}
 use Rattle.alloc_event.specs.Settling.{Handles, Settled}
 use Rattle.lifetime_core.specs.declared.task.Place.{Place}
 use Rattle.lifetime_core.specs.Reads.{world_in}
@@ -92,6 +93,13 @@ work_of s client call Reply.Done = done_to s call
 work_of s client call (Reply.Taken collection strength set) = effect_at s.forest call (Reply.Taken collection strength set)
 work_of s client call (Reply.Tracker id) = effect_at s.forest call (Reply.Tracker id)
 work_of s client call _ = None
+
+-- the change gives no node of these a 65th tracker: only an effect counts one
+abbrev pub leaves_tracker_room : Change → List Node → Bool
+leaves_tracker_room (Change.Effect key effect) nodes = list_all (has_tracker_room key effect) nodes
+leaves_tracker_room (Change.Birth parent attached client event) nodes = true
+leaves_tracker_room (Change.Loss origin cause) nodes = true
+leaves_tracker_room Change.Nothing nodes = true
 
 -- the forest, once the work is done and all that it forces
 abbrev pub Worked : State → Handles → Option Work → Option NodeKey → Forest → Type 0

@@ -4,8 +4,10 @@ ghost use Rattle.std.specs.Prelude.{[], List, length, map, reverse, slice_get, o
 ghost use Rattle.std.specs.Prelude.{AllPairs, OnErr, false, true, None, Some, is_some, option_copied};
 ghost use Rattle.sm_names.specs.declared.outcomes.Fault.{Fault};
 ghost use Rattle.sm_names.specs.declared.keys.BufferName.{BufferName as Buffer};
+ghost use Rattle.sm_names.specs.declared.keys.NodeKey.{NodeKey as Key};
 ghost use Rattle.sm_names.specs.declared.keys.Strength.{Strength};
-ghost use Rattle.sm_names.specs.Answers.{IsAnswer, answer as answer_of, is_at_limit};
+ghost use Rattle.sm_names.specs.declared.messages.Reply.{Reply};
+ghost use Rattle.sm_names.specs.Answers.{IsAnswer, is_at_limit};
 ghost use Rattle.sm_names.specs.Handles.{is_doomed};
 ghost use Rattle.sm_names.specs.Ends.{clients as clients_after};
 ghost use Rattle.sm_names.specs.Handles.{buffers_of as given_after, moving as moving_after, open_of as open_after, open_total as total_after};
@@ -21,20 +23,20 @@ ghost use Rattle.std.specs.List.{cons_option, list_any};
 ghost use Rattle.std.specs.Option.{option_and_then, option_map_or};
 ghost use Rattle.trackers.specs.Table.{empty, is_untaken, reader_of, cell_of, without};
 ghost use Rattle.sm_names.specs.declared.keys.HeldBuffer.{HeldBuffer as Held};
-ghost use Rattle.alloc_event.specs.Forest.{all_nodes, empty_forest, node_count, live_keys, node_at, held_by_page};
+ghost use Rattle.alloc_event.specs.Forest.{all_nodes, beside, empty_forest, given, node_count, live_keys, node_at, held_by_page};
 ghost use Rattle.alloc_event.specs.Forest.{Collection as Shelved, collection_at, collection_at as shelved_at};
 ghost use Rattle.alloc_event.specs.Scenes.{IsSound as IsSoundCollection};
 ghost use Rattle.alloc_event.specs.Snapshots.{collection_of};
-ghost use Rattle.alloc_event.specs.Nodes.{is_spent, members_of};
-ghost use Rattle.alloc_event.specs.Settling.{no_key};
+ghost use Rattle.alloc_event.specs.Nodes.{is_of, is_spent, members_of};
+ghost use Rattle.alloc_event.specs.Settling.{MayChange, collection_or_new};
 ghost use Rattle.buffer_holds.specs.Counts.{moving, of, total};
 ghost use Rattle.lifetime_core.specs.Kinds.{fits_call};
 ghost use Rattle.lifetime_core.specs.Reads.{buffers_in, end_in, open_end_of};
 ghost use Rattle.lifetime_core.specs.Reads.{readings_of};
 ghost use Rattle.lifetime_core.specs.Reads.{is_live_in, fault_in, views_of};
-ghost use Rattle.lifetime_core.specs.Shown.{Shows, collection_after, kept_nodes, node_after};
+ghost use Rattle.lifetime_core.specs.Shown.{Shows, collection_after, kept_ids, kept_nodes, node_after, pages_beside_after};
 ghost use Rattle.sm_names.specs.Births.{birth_of};
-ghost use Rattle.lifetime_core.specs.Steps.{Follows, Work, work_of};
+ghost use Rattle.lifetime_core.specs.Steps.{Follows, Work, leaves_tracker_room, work_of};
 ghost use Rattle.lifetime_core.specs.State.{Client as ClientRow, IsSame};
 ghost use Rattle.lifetime_core.specs.Tasks.{IsAsked};
 ghost use Rattle.lifetime_core.specs.Theorem.{GoesOn, Leads, Stepped, Stops, entries};
@@ -46,14 +48,14 @@ use crate::event::{Asked, Contents, changes_nothing, take_effect};
 use crate::reading::{cause, is_live, with_end};
 use crate::sweeping::{place_to_sweep, sweep, tracking_of};
 use crate::table::{answer, with_key};
-use crate::task::{carried_end, changed_by, put_end, task_of};
+use crate::task::{carried_end, change_in, changed_by, put_end, task_of};
 use crate::traits::{key_of, traits_of};
 use alloc_event::{Change, Forest, Node, Snapshot};
 use buffer_holds::{Holds, Spot};
 use buffer_pool::Pool;
 use sm_names::{
-    BufferName, Buffers, Call, Cause, ClientId, CollectionId, Fired, HeldBuffer, Limits, NoMemory,
-    NodeKey, Parcel, Reply, StepFault, Strength, TrackerId,
+    BufferName, Buffers, Call, Cause, ClientId, CollectionId, Fired, HeldBuffer, Interval, Limits,
+    NoMemory, NodeKey, Parcel, Reply, StepFault, Strength, TrackerId,
 };
 use std::alloc::Global;
 use std::marker::Model;
@@ -595,6 +597,39 @@ impl Core {
         self.contents.forest.nodes()
     }
 
+    /// The ids of the collections that are kept, rising, which is the order in which their roots were
+    /// born: each has a kept node, or a buffer that is not home.
+    ///
+    /// `NoMemory` where the list is refused. It costs their number.
+    pub fn kept_collections(&self) -> Result<Vec<CollectionId>, NoMemory>
+        ensures value { IfOk result (λ ids. ids.items
+            ≡ map (λ (c : Shelved). c.id) self.now.forest.collections) }
+        ensures shown { IfOk result (λ ids. (history : List Entry) → Shows self.now history →
+            ids.items ≡ kept_ids (timeline self.now.pool history)) }
+    {
+        self.contents.forest.ids()
+    }
+
+    /// The pages of the buffers of all kept collections but this one: collection by collection, by
+    /// rising id, and by index within each.
+    ///
+    /// `NoMemory` where the list is refused. It costs the number of collections and of their buffers.
+    pub fn pages_beside(&self, collection: CollectionId) -> Result<Vec<Interval>, NoMemory>
+        ensures value { IfOk result (λ pages. pages.items ≡ beside self.now.forest collection) }
+        ensures shown { IfOk result (λ pages. (history : List Entry) → Shows self.now history →
+            let marks = timeline self.now.pool history in
+            pages.items ≡ pages_beside_after self.now.pool marks collection) }
+    {
+        self.contents.forest.pages_beside(collection)
+    }
+
+    /// How many pages the pool has, held or free. It costs a constant.
+    pub fn pages(&self) -> u32
+        ensures { result ≡ self.now.pool }
+    {
+        self.contents.pool.pages()
+    }
+
     /// What the collection was given. `None` where it was given no buffers, and where it is not kept:
     /// it has no kept node, and no buffer that is not home. It costs a binary search.
     pub fn given(&self, collection: CollectionId) -> Option<Buffers>
@@ -680,14 +715,22 @@ impl Core {
     }
 
     /// What the call would change of a collection, before all that this forces, if it were made now;
-    /// `None` where it would change none. It changes nothing, takes no memory, and costs what the
-    /// look-ups of a call cost.
+    /// `None` where it would change none. The change fits the collection, which is there, or is new
+    /// and empty. It changes nothing, takes no memory, and costs what the look-ups of a call cost.
     pub fn change_of(&self, client: ClientId, call: &Call) -> Option<(CollectionId, Change)>
-        ensures { result ≡ option_map (λ (w : Work). (w.collection, w.change))
-            (work_of self.now client call.now
-            (answer_of self.now.limits (readings_of self.now) client no_key call.now)) }
+        ensures value { (reply : Reply) →
+            IsAnswer self.now.limits (readings_of self.now) client call.now reply →
+            result ≡ option_map (λ (w : Work). (w.collection, w.change))
+            (work_of self.now client call.now reply) }
+        ensures may { IfSome result (λ w. MayChange self.now.forest w.0 w.1) }
+        ensures room { IfSome result (λ w.
+            leaves_tracker_room w.1 (collection_or_new self.now.forest w.0).nodes ≡ true) }
+        // No node of the collection has a key that was given to none.
+        ensures fresh { IfSome result (λ w. (key : Key) → given self.now.forest key ≡ false →
+            list_any (is_of key) (collection_or_new self.now.forest w.0).nodes ≡ false) }
     {
-        let task = self.asked_of(client, call).task?;
-        Some((task.collection, task.change?))
+        // The core's own fields tell that the change fits.
+        let _limits = self.limits;
+        change_in(self.asked_of(client, call).task)
     }
 }

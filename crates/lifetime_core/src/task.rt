@@ -269,6 +269,14 @@ pub(crate) fn changed_by(task: &Option<Task>) -> Option<CollectionId>
     }
 }
 
+/// The change that the task makes, and the collection to which it makes it, if it makes one.
+pub(crate) fn change_in(task: Option<Task>) -> Option<(CollectionId, Change)>
+    ensures { result ≡ option_map (λ (w : Work). (w.collection, w.change)) (work_in task) }
+{
+    let task = task?;
+    Some((task.collection, task.change?))
+}
+
 // Puts the end there, if one is carried.
 #[inline(always)]
 fn carry(forest: &mut Forest, carried: Option<Place>)

@@ -1,9 +1,10 @@
 -- What is read and seen of a state that shows a history.
-use Rattle.std.proofs.Common.{ℕ, ◌≡◌, refl, ap, ◌∙◌, Bool, true, false, cond, List, [], ◌∷◌, length, map, reverse, Option, Some, None}
+use Rattle.std.proofs.Common.{ℕ, ◌≡◌, refl, ap, ◌∙◌, Bool, true, false, ◌==◌, not, cond, List, [], ◌∷◌, ◌++◌, length, map, reverse, Option, Some, None}
 use Rattle.std.proofs.lemmas.List.Folds.{flat_map-map}
-use Rattle.std.specs.List.{flat_map}
+use Rattle.std.specs.List.{filter, flat_map}
 use Rattle.std.specs.Option.{option_map, option_map_or}
 use Rattle.sm_names.specs.declared.keys.BufferName.{BufferName}
+use Rattle.sm_names.specs.declared.keys.Interval.{Interval}
 use Rattle.sm_names.specs.declared.keys.Strength.{Strength}
 use Rattle.sm_names.specs.declared.keys.NodeKey.{NodeKey}
 use Rattle.sm_names.specs.declared.outcomes.Cause.{Cause}
@@ -18,9 +19,9 @@ use Rattle.sm_names.specs.Views.{live_nodes, held_by_page, free_pages}
 use Rattle.sm_names.proofs.GrowthLaws.{Grows, legal_grows}
 use Rattle.buffer_holds.specs.Counts.{of, moving, total}
 use Rattle.sm_names.specs.Births.{birth_of}
-use Rattle.alloc_event.specs.Forest.{Collection, all_nodes, collection_at, node_at, live_keys, held_by_page as held_in}
+use Rattle.alloc_event.specs.Forest.{Collection, all_nodes, beside, collection_at, node_at, live_keys, held_by_page as held_in, pages_in}
 use Rattle.lifetime_core.specs.Reads.{buffers_in, is_live_in, fault_in, views_of}
-use Rattle.lifetime_core.specs.Shown.{Shows, client_after, collection_after, kept_ids, kept_nodes, node_after}
+use Rattle.lifetime_core.specs.Shown.{Shows, client_after, collection_after, kept_ids, kept_nodes, node_after, pages_beside_after}
 use Rattle.lifetime_core.specs.State.{Client, HandleCounts, State}
 use Rattle.lifetime_core.proofs.theorem.EventCount.{events-timeline}
 use Rattle.lifetime_core.proofs.views.Seen.{free_is}
@@ -73,6 +74,34 @@ module _ (s : State) (history : List Entry) (shows : Shows s history) where
   nodes_shown =
       ap (flat_map (λ (c : Collection). c.nodes)) shows.shown.collections
       ∙ flat_map-map (λ (c : Collection). c.nodes) (collection_after s.pool (timeline s.pool history)) (kept_ids (timeline s.pool history))
+
+  -- the kept collections
+  pub kept_ids_shown : map (λ (c : Collection). c.id) s.forest.collections ≡ kept_ids (timeline s.pool history)
+  kept_ids_shown = ap (map (λ (c : Collection). c.id)) shows.shown.collections ∙ ids (kept_ids (timeline s.pool history))
+    where
+      ids : (ns : List ℕ) → map (λ (c : Collection). c.id) (map (collection_after s.pool (timeline s.pool history)) ns) ≡ ns
+      ids [] = refl
+      ids (n ∷ ns) = ap (λ (l : List ℕ). n ∷ l) (ids ns)
+
+  -- the pages beside a collection
+  pub beside_shown : (id : ℕ) → beside s.forest id ≡ pages_beside_after s.pool (timeline s.pool history) id
+  beside_shown id =
+      ap (λ (cs : List Collection). flat_map pages_in (filter (λ (c : Collection). not (c.id == id)) cs)) shows.shown.collections
+      ∙ others (kept_ids (timeline s.pool history))
+    where
+      of : ℕ → Collection
+      of = collection_after s.pool (timeline s.pool history)
+
+      others : (ns : List ℕ) → flat_map pages_in (filter (λ (c : Collection). not (c.id == id)) (map of ns))
+          ≡ flat_map (λ n. pages_in (of n)) (filter (λ n. not (n == id)) ns)
+      others [] = refl
+      others (n ∷ ns) = elim (n == id) as (λ b.
+          flat_map pages_in (cond (not b) (of n ∷ filter (λ (c : Collection). not (c.id == id)) (map of ns))
+          (filter (λ (c : Collection). not (c.id == id)) (map of ns)))
+          ≡ flat_map (λ m. pages_in (of m)) (cond (not b) (n ∷ filter (λ m. not (m == id)) ns) (filter (λ m. not (m == id)) ns))) [
+            | true ↦ others ns
+            | false ↦ ap (λ (is : List Interval). pages_in (of n) ++ is) (others ns)
+          ]
 
   -- what a collection was given
   pub given_shown : (id : ℕ) → buffers_in s id
