@@ -9,9 +9,7 @@ static sysmem_core core;
 static const char *name(uint32_t about, uint32_t number) {
     static char text[40];
     uint64_t count = 0;
-    if (sysmem_name(about, number, text, sizeof text - 1, &count) != SYSMEM_DONE) return "?";
-    text[count < sizeof text ? count : sizeof text - 1] = 0;
-    return text;
+    return sysmem_name(about, number, text, sizeof text, &count) == SYSMEM_DONE ? text : "?";
 }
 
 static const char *code(uint32_t number) { return name(SYSMEM_ABOUT_CODE, number); }
