@@ -249,14 +249,15 @@ struct State : std::enable_shared_from_this<State> {
             return {};
         }
     }
-    // At most 4,096 labels are kept: then those of nodes that were forgotten go.
+    // At most 4,096 labels are kept: then those of nodes that were forgotten go, and those of the
+    // others, at most 1,024, stay.
     void set_label(Key key, std::string text) noexcept {
         if (text.empty()) return;
         if (labels.size() >= 4096)
             for (auto at = labels.begin(); at != labels.end();)
                 at = is_known(at->first) ? std::next(at) : labels.erase(at);
         SYSMEM_TRY {
-            if (labels.size() < 4096) labels[key] = std::move(text);
+            labels[key] = std::move(text);
         } SYSMEM_CATCH { // a label less
         }
     }
@@ -444,8 +445,9 @@ private:
 
 inline Reader::~Reader() {
 #ifdef __linux__
+    if (!watch || watch->fd < 0) return;
     std::lock_guard<std::mutex> lock(state->mutex);
-    if (watch->fd >= 0) close(std::exchange(watch->fd, -1));
+    close(std::exchange(watch->fd, -1));
 #endif
 }
 

@@ -39,11 +39,12 @@ struct Life {
     }
     void track(Result<Tracker> tracker) {
         if (!tracker) return;
-        made++;
-        tracker->on_fired([service = service](Event event) {
+        std::function<void(Event)> then = [service = service](Event event) {
             told++;
             if (event % 16 == 0) (void)service.free_pages();
-        });
+        };
+        made++;
+        tracker->on_fired(std::move(then));
     }
     void step() {
         switch (upto(20)) {
@@ -112,6 +113,12 @@ struct Life {
             return;
         }
     }
+    void try_step() {
+        try {
+            step();
+        } catch (const std::bad_alloc &) { // before the call took effect
+        }
+    }
     // In which order a client and its values go is all one.
     void end() {
         if (upto(2) == 0) client.reset();
@@ -126,10 +133,10 @@ struct Life {
 
 // A client that others may give to.
 static std::unique_ptr<Life> begin(Service &service, std::mt19937 &dice) {
+    auto life = std::make_unique<Life>(Life{service, dice, {}, {}, {}, {}});
     auto client = service.join("client");
     if (!client) return nullptr;
-    auto life =
-        std::make_unique<Life>(Life{service, dice, std::move(*client), {}, {}, {}});
+    life->client = std::move(*client);
     std::lock_guard<std::mutex> lock(board_mutex);
     if (board.size() < 16) board.push_back(life->client->id());
     else board[dice() % 16] = life->client->id();
@@ -138,9 +145,13 @@ static std::unique_ptr<Life> begin(Service &service, std::mt19937 &dice) {
 
 template <class F>
 static void come(Service &service, std::mt19937 &dice, int steps, F before_the_end) {
-    auto life = begin(service, dice);
+    std::unique_ptr<Life> life;
+    try {
+        life = begin(service, dice);
+    } catch (const std::bad_alloc &) {
+    }
     if (!life) return;
-    for (int s = 0; s < steps; s++) life->step();
+    for (int s = 0; s < steps; s++) life->try_step();
     before_the_end();
     life->end();
 }

@@ -318,6 +318,46 @@ static void callbacks() {
     EXPECT(events == 5);
 }
 
+// A gift wakes the one who waits for it.
+static void gifts() {
+    Service service = Service::open().value();
+    Client a = service.join().value(), b = service.join().value();
+    Token root = a.open_root().value();
+    auto begin = std::chrono::steady_clock::now();
+    std::thread peer([&] {
+        EXPECT(std::holds_alternative<Token>(*b.collect_for(10s).value()));
+        EXPECT(std::holds_alternative<Handle>(*b.collect_for(10s).value()));
+    });
+    std::this_thread::sleep_for(20ms);
+    root.duplicate().value().give(b.id()).value();
+    std::this_thread::sleep_for(20ms);
+    Collection c = bound(a, {1, 0, 1});
+    std::move((*c.take().value())[0]).give(b.id()).value();
+    peer.join();
+    EXPECT(std::chrono::steady_clock::now() - begin < 8s);
+}
+
+// A transcript has the program's labels where they fit. The label of a refused call stays free.
+static void a_transcript() {
+    std::string lines;
+    Options options;
+    options.record = [&](std::string_view two) { lines += two; };
+    Service service = Service::open(options).value();
+    Client app = service.join("app").value(), other = service.join("show").value();
+    EXPECT(app.shut().value() == 0 && !app.open_root("root"));
+    Token root = other.open_root("root").value();
+    Token again = root.duplicate("root").value(), made = root.duplicate("n8").value();
+    EXPECT(!std::move(again).give(99));
+    Collection c = std::move(made).bind().value();
+    c.set_weak_ok(true).value();
+    c.set_constraints({65, 0, 4096}).error();
+    EXPECT(lines == "app join\n  joined\nc2 join\n  joined\napp shut\n  shut 0\n"
+                    "app open root\n  refused 2 ClientShut\nc2 open root\n  token root\n"
+                    "c2 dup root n6\n  token n6\nc2 dup root n7\n  token n7\n"
+                    "# c2 give n6 ?\n#   refused 1 NoSuchClient\nc2 bind n7\n  done\n"
+                    "c2 weakok n7 children\n  done\n");
+}
+
 // A weak holder is told to let go.
 static void weak_handles() {
     Service service = Service::open().value();
@@ -366,6 +406,8 @@ int main() {
     what_is_refused();
     trackers();
     callbacks();
+    gifts();
+    a_transcript();
     weak_handles();
     what_outlives_a_service();
     std::puts("each value does what it should");
