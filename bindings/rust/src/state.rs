@@ -346,7 +346,8 @@ impl State {
         matches!(&self.accounts[place], Some(a) if a.is_late && a.stage != Stage::Here)
     }
 
-    /// At most 4,096 labels are kept: then those of nodes that were forgotten go.
+    /// At most 4,096 labels are kept: then those of nodes that were forgotten go, and those of the
+    /// others, at most 1,024, stay.
     pub fn set_label(&mut self, key: Key, label: &str) {
         if label.is_empty() {
             return;
@@ -356,9 +357,7 @@ impl State {
             self.labels
                 .retain(|key, _| core.is_live(key.words()) || core.cause(key.words()).is_some());
         }
-        if self.labels.len() < 4096 {
-            self.labels.insert(key, label.to_string());
-        }
+        self.labels.insert(key, label.to_string());
     }
 
     /// An account of a client that joined.

@@ -182,6 +182,27 @@ fn trackers_and_waits() {
 }
 
 #[test]
+fn gift_wakes_who_waits() {
+    let service = service();
+    let (a, b) = (service.join().unwrap(), service.join().unwrap());
+    let start = std::time::Instant::now();
+    thread::scope(|scope| {
+        let waits = scope.spawn(|| {
+            let token = b.collect_for(2 * LONG).unwrap().unwrap().token();
+            let handle = b.collect_for(2 * LONG).unwrap().unwrap().handle();
+            token.is_some() && handle.is_some()
+        });
+        thread::sleep(Duration::from_millis(20));
+        a.open_root("").unwrap().give(b.id()).unwrap();
+        thread::sleep(Duration::from_millis(20));
+        let handle = bound(&a, asks(1, 1)).take().unwrap().unwrap().pop().unwrap();
+        handle.give(b.id()).unwrap();
+        assert!(waits.join().unwrap());
+    });
+    assert!(start.elapsed() < LONG);
+}
+
+#[test]
 fn weak_holder_is_told() {
     let service = service();
     let (app, eye) = (service.join().unwrap(), service.join().unwrap());
