@@ -13,7 +13,7 @@ use Rattle.alloc_event.specs.Dropped.{has_given_root}
 use Rattle.alloc_event.specs.Kept.{Finishes, IsStored, SameTable, Shelf, collection_in, forest_of, is_filed, nodes_with}
 use Rattle.alloc_event.specs.Reserved.{effected}
 use Rattle.alloc_event.specs.Resting.{is_kept_by}
-use Rattle.alloc_event.specs.Settling.{Handles, MayChange, changed, collection_or_new, no_key}
+use Rattle.alloc_event.specs.Settling.{Handles, MayChange, changed, collection_or_new, is_there, no_key}
 
 -- 1 where the test holds
 abbrev pub bit : Bool → ℕ
@@ -37,6 +37,15 @@ pub record IsOpen (t : Table Node) (us : List Unit) (ss : List Shelf) (s : Shelf
   pub found : find (λ (x : Shelf). x.id == s.id) ss ≡ Some s
   pub may : MayChange (forest_of t ss) s.id change
   pub calm : IsCalm (collection_in t s)
+  pub strong : lives ≡ strong_count (nodes_with t s.keys)
+  pub units : AreUnits us (map (collection_in t) ss)
+
+-- an effect may be made on the node with this key, of the collection of the shelf, which has so many strong live nodes, and the
+-- units are counted
+pub record MayAffect (t : Table Node) (us : List Unit) (ss : List Shelf) (s : Shelf) (key : NodeKey) (lives : ℕ) : Type 0 where
+  pub kept : IsStored t ss
+  pub found : find (λ (x : Shelf). x.id == s.id) ss ≡ Some s
+  pub named : is_there (forest_of t ss) s.id key ≡ true
   pub strong : lives ≡ strong_count (nodes_with t s.keys)
   pub units : AreUnits us (map (collection_in t) ss)
 

@@ -1,5 +1,5 @@
 -- An attached unit that becomes ready and is allocated in its place, and those below it that follow. No public clause cites this module.
-use Rattle.std.specs.Prelude.{◌≡◌, ◌≢◌, ◌↔◌, ℕ, ◌+◌, ◌<◌, Bool, true, false, ◌||◌, ◌&&◌, ◌==◌, not, nat_lt, if◌then◌else◌, List, [], ◌∷◌, length, filter, AllPairs, Contains, Option, None, option_map, ◌⊎◌}
+use Rattle.std.specs.Prelude.{◌≡◌, ◌≢◌, ◌↔◌, ℕ, Bool, false, ◌||◌, ◌&&◌, ◌==◌, not, nat_lt, if◌then◌else◌, List, [], ◌∷◌, length, filter, AllPairs, Contains, Option, None, option_map, ◌⊎◌}
 use Rattle.std.specs.List.{filter_map, list_any}
 use Rattle.std.specs.Option.{option_and_then, option_map_or}
 use Rattle.sm_names.specs.declared.keys.NodeKey.{NodeKey}
@@ -9,11 +9,10 @@ use Rattle.node_table.specs.Table.{Table, node_at, parent_at}
 use Rattle.failure_domains.specs.Falls.{Within, stopped_at}
 use Rattle.alloc_event.specs.declared.node.Node.{Node}
 use Rattle.alloc_event.specs.declared.units.Unit.{Unit}
-use Rattle.alloc_event.specs.Counts.{is_unready, unit_at}
+use Rattle.alloc_event.specs.Counts.{unit_at}
 use Rattle.alloc_event.specs.Falls.{given_all}
-use Rattle.alloc_event.specs.InPlace.{bit}
-use Rattle.alloc_event.specs.Kept.{SameTable, is_strong, written}
-use Rattle.alloc_event.specs.Questions.{is_live_node, is_served}
+use Rattle.alloc_event.specs.Kept.{SameTable, written}
+use Rattle.alloc_event.specs.Questions.{is_served}
 
 -- ---- whether the unit is to be allocated
 
@@ -93,23 +92,6 @@ asked_at t heads after key =
 -- what those with these keys ask for so
 abbrev pub asked_with : Table Node → List NodeKey → List NodeKey → Node → List Demand
 asked_with t keys heads after = filter_map (asked_at t heads after) keys
-
--- ---- the counts
-
--- what a count becomes, where it may have counted a node and counts it no longer
-abbrev pub IsLess : ℕ → Bool → Bool → ℕ → Type 0
-IsLess count was is result = (real : ℕ) → (is ≡ true → was ≡ true) → real + bit was ≡ count + bit is → result ≡ real
-
--- so many strong nodes are live once the first node is the second one, and the unit has these counts, which has a live node
--- then and waits for none any more
-pub record AreLess (units : List Unit) (strong : ℕ) (n after : Node) (left : ℕ) (next : Unit) : Type 0 where
-  pub inside : n.head.slot < length units
-  pub left_is : IsLess strong (is_strong n) (is_strong after) left
-  pub live_is : IsLess (unit_at units n.head.slot).live (is_live_node n) (is_live_node after) next.live
-  pub unready_is : IsLess (unit_at units n.head.slot).unready (is_unready n) (is_unready after) next.unready
-  pub below_is : next.below ≡ (unit_at units n.head.slot).below
-  pub held : (0 < next.live) ⊎ (0 < next.below)
-  pub ready : next.unready ≡ 0
 
 -- ---- the allocation
 

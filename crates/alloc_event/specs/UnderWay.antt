@@ -7,7 +7,7 @@ use Rattle.sm_names.specs.declared.keys.NodeKey.{NodeKey}
 use Rattle.sm_names.specs.declared.outcomes.Fault.{Fault}
 use Rattle.sm_names.specs.Elements.{In}
 use Rattle.sm_names.specs.Sameness.{same_key}
-use Rattle.node_table.specs.Table.{Table, node_at, parent_at}
+use Rattle.node_table.specs.Table.{Table, node_at}
 use Rattle.alloc_event.specs.declared.change.Effect.{Effect}
 use Rattle.alloc_event.specs.declared.entry.Entry.{Entry}
 use Rattle.alloc_event.specs.declared.node.Node.{Node}
@@ -86,21 +86,26 @@ pub record AreTurns (t : Table Node) (keys : List NodeKey) (ws : List Turn) : Ty
   pub in_turn : AreInTurn ws
   pub closed : AreClosed (nodes_with t keys) (turn_heads ws)
 
--- ---- the collection under way
+-- ---- the store
 
--- forced steps are being made in the collection of the entry, which stands among the shelves with its counts: no unit has buffers
--- where none were given, something holds each unit but those with the loose heads, and only units with the heads that are due are
--- next, or wait as the root's
-pub record IsUnderWay (t : Table Node) (us : List Unit) (ss : List Shelf) (e : Entry) (loose due : List NodeKey) : Type 0 where
+-- the table, the shelves and the counts of the units agree, and the entry is one of the collections, with its own counts: what each
+-- small change of the store keeps, whatever is forced by it
+pub record StoreAgrees (t : Table Node) (us : List Unit) (ss : List Shelf) (e : Entry) : Type 0 where
   pub kept : IsStored t ss
   pub found : find (λ (x : Shelf). x.id == e.id) ss ≡ Some (shelf_of e)
   pub units : AreUnits us (map (collection_in t) ss)
   pub inside : (key : NodeKey) (n : Node) → node_at t key ≡ Some n → key.slot < length us
-  pub kin : (key p : NodeKey) (n q : Node) → node_at t key ≡ Some n → parent_at t key ≡ Some p → node_at t p ≡ Some q →
-      q.collection ≡ n.collection
   pub strong : e.strong ≡ strong_count (nodes_with t e.keys.items)
   pub reserved : e.reserved ≡ reserved_count (nodes_with t e.keys.items)
   pub tidy : e.tidy ≡ true → list_any (over_but e.noted.items) (nodes_with t e.keys.items) ≡ false
+
+-- ---- the collection under way
+
+-- forced steps are being made in the collection of the entry, and the store agrees: no unit has buffers where none were given,
+-- something holds each unit but those with the loose heads, and only units with the heads that are due are next, or wait as the
+-- root's
+pub record IsUnderWay (t : Table Node) (us : List Unit) (ss : List Shelf) (e : Entry) (loose due : List NodeKey) : Type 0 where
+  pub store : StoreAgrees t us ss e
   pub bare : e.buffers ≡ None → list_any is_served (nodes_with t e.keys.items) ≡ false
   pub held : are_held_but loose (nodes_with t e.keys.items) ≡ true
   pub next : list_any (is_next_but due (nodes_with t e.keys.items)) (nodes_with t e.keys.items) ≡ false
@@ -129,7 +134,16 @@ is_head_left nodes key = list_any (λ (n : Node). is_of key n && (not n.gone && 
 
 -- ---- an effect
 
--- the effect was made on the node with this key, whose unit has this head, and nothing else changed
+-- the effect was made on the node with this key, whose unit has this head, and nothing else changed: the store agrees
+pub record Affects (t now : Table Node) (us : List Unit) (ss : List Shelf) (old new : Entry) (key : NodeKey) (effect : Effect)
+    (head : NodeKey) : Type 0 where
+  pub store : StoreAgrees now us ss new
+  pub shelf : shelf_of new ≡ shelf_of old
+  pub nodes : nodes_with now old.keys.items ≡ after_effect key effect (nodes_with t old.keys.items)
+  pub left : is_head_left (nodes_with now old.keys.items) head ≡ true
+  pub beside : IsBeside t now ss old.id
+
+-- so it was, and only that unit may be held by nothing then, or come to its turn
 pub record IsAffected (t now : Table Node) (us : List Unit) (ss : List Shelf) (old new : Entry) (key : NodeKey) (effect : Effect)
     (head : NodeKey) : Type 0 where
   pub under : IsUnderWay now us ss new (head ∷ []) (head ∷ [])

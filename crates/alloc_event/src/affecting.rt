@@ -1,11 +1,11 @@
 //! Effects that are made in their places, whatever they force.
-ghost use Rattle.std.specs.Prelude.{◌≡◌, List, Some, true, false, [], IsSome};
+ghost use Rattle.std.specs.Prelude.{◌≡◌, List, Some, true, false, IsSome};
 ghost use Rattle.sm_names.specs.declared.keys.NodeKey.{NodeKey as Key};
 ghost use Rattle.node_table.specs.Table.{node_at, row_at, table_len};
 ghost use Rattle.alloc_event.specs.declared.node.Node.{Node as Kept};
 ghost use Rattle.alloc_event.specs.Kept.{Shelf};
 ghost use Rattle.alloc_event.specs.Scenes.{has_tracker_room};
-ghost use Rattle.alloc_event.specs.UnderWay.{IsAffected, IsUnderWay};
+ghost use Rattle.alloc_event.specs.UnderWay.{Affects, StoreAgrees};
 
 use crate::change::Effect;
 use crate::entry::Entry;
@@ -32,8 +32,8 @@ pub(crate) fn affect_here(
     requires named { (at : Key) (n : Kept) → node_at table.old at ≡ Some n → n.key ≡ at }
     requires room { (n : Kept) → node_at table.old key ≡ Some n → has_tracker_room key effect.now n ≡ true }
     ensures affected { (ss : List Shelf) (n : Kept) → node_at table.old key ≡ Some n → n.gone ≡ false → n.collection ≡ entry.old.id →
-        IsUnderWay table.old units.old.items ss entry.old [] [] →
-        IsAffected table.old table.new units.new.items ss entry.old entry.new key effect.now n.head }
+        StoreAgrees table.old units.old.items ss entry.old →
+        Affects table.old table.new units.new.items ss entry.old entry.new key effect.now n.head }
     ensures named { (at : Key) (n : Kept) → node_at table.new at ≡ Some n → n.key ≡ at }
     ensures there { (at : Key) → IsSome (row_at table.old at) → IsSome (row_at table.new at) }
     ensures len { table_len table.new ≡ table_len table.old }

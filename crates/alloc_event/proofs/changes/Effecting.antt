@@ -24,7 +24,7 @@ use Rattle.alloc_event.specs.Counts.{AreUnits, HasUnit, HasUnits, heads_below, i
 use Rattle.alloc_event.specs.Dropped.{has_given_root}
 use Rattle.alloc_event.specs.Due.{is_due_at, is_served_at}
 use Rattle.alloc_event.specs.Forest.{Collection, beside, with_nodes}
-use Rattle.alloc_event.specs.InPlace.{IsMade, IsOpen, bit, is_plain}
+use Rattle.alloc_event.specs.InPlace.{IsMade, IsOpen, MayAffect, bit, is_plain}
 use Rattle.alloc_event.specs.Kept.{Finishes, IsStored, IsWhole, Shelf, Stores, collection_in, forest_of, is_filed, is_strong, nodes_with}
 use Rattle.alloc_event.specs.Nodes.{affected, is_over}
 use Rattle.alloc_event.specs.Questions.{is_allocated_node, is_live_node}
@@ -164,10 +164,16 @@ less_is count result was is w i told is_was is_is before real e =
 
 -- ---- the effect
 
+-- where it may be made as a change, it may be made on its node
+pub may_affect : (t : Table Node) (us : List Unit) (ss : List Shelf) (s : Shelf) (key : NodeKey) (effect : Effect) (strong : ℕ) →
+    IsOpen t us ss s (Change.Effect key effect) strong → MayAffect t us ss s key strong
+may_affect t us ss s key effect strong opens =
+    record { kept = opens.kept; found = opens.found; named = opens.may.named; strong = opens.strong; units = opens.units }
+
 module _ (t now : Table Node) (us : List Unit) (key : NodeKey) (effect : Effect) (n : Node) (was : node_at t key ≡ Some n)
     (becomes : now ≡ table_with_node t (affected key effect n).key (affected key effect n))
     (writes : Writes t now (affected key effect n).key (affected key effect n))
-    (ss : List Shelf) (s : Shelf) (strong : ℕ) (opens : IsOpen t us ss s (Change.Effect key effect) strong) where
+    (ss : List Shelf) (s : Shelf) (strong : ℕ) (opens : MayAffect t us ss s key strong) where
   abbrev pub f : Node → Node
   f = affected key effect
 
@@ -209,7 +215,7 @@ module _ (t now : Table Node) (us : List Unit) (key : NodeKey) (effect : Effect)
 
   -- the node is one of the collection
   fit : is_there (forest_of t ss) s.id key ≡ true
-  fit = opens.may.named
+  fit = opens.named
 
   left : IsLeft nodes key
   left = left_node nodes key (loss_left t ss opens.kept s.id (Change.Loss key Cause.Lost)
@@ -305,10 +311,10 @@ module _ (t now : Table Node) (us : List Unit) (key : NodeKey) (effect : Effect)
   below_same k = below_mapped f same nodes (λ m. (remains_affected key effect m).gone) k
 
   -- an effect that neither releases nor sets constraints changes no count of units
-  pub plain_made : is_plain effect ≡ true → (lives : ℕ) → lives ≡ strong_count (map f nodes) →
+  pub plain_made : is_plain effect ≡ true → IsCalm (collection_in t s) → (lives : ℕ) → lives ≡ strong_count (map f nodes) →
       IsMade t now us ss s (Change.Effect key effect) lives
-  plain_made is lives lives_is =
-      made_now us lives lives_is (subst IsCalm (sym now_is) (calm_map (collection_in t s) f (plain_affected key effect is) opens.calm))
+  plain_made is calm lives lives_is =
+      made_now us lives lives_is (subst IsCalm (sym now_is) (calm_map (collection_in t s) f (plain_affected key effect is) calm))
       (units_join us (λ k m at differ within. (within, refl)) (units_mapped us f nodes (λ m. (same m).key) counts unit_has))
     where
       counts : (k : NodeKey) → unit_of (map f nodes) k ≡ unit_of nodes k
@@ -443,15 +449,15 @@ module _ (t now : Table Node) (us : List Unit) (key : NodeKey) (effect : Effect)
             )
 
     -- something holds the unit, and where it is due it does not become ready
-    pub counted_made : (lives : ℕ) → lives ≡ strong_count (map f nodes) →
+    pub counted_made : IsCalm (collection_in t s) → (lives : ℕ) → lives ≡ strong_count (map f nodes) →
         (0 < next.live) ⊎ (0 < next.below) →
         (is_unready n ≡ false) ⊎ ((0 < next.unready) ⊎ (is_due_at t n.head ≡ false)) →
         IsMade t now after_one ss s (Change.Effect key effect) lives
-    counted_made lives lives_is live guard =
+    counted_made calm lives lives_is live guard =
         made_now after_one lives lives_is
         (subst IsCalm (sym now_is) (calm_changed (collection_in t s) whole f same (λ m. (remains_affected key effect m).gone) (λ m.
         (remains_affected key effect m).allocated) n on alone
-        (holds live) (guarded guard) opens.calm))
+        (holds live) (guarded guard) calm))
         (units_join after_one stays_one has_one)
       where
         holds : (0 < next.live) ⊎ (0 < next.below) → list_any (holds_unit (map f nodes) n.head) (map f nodes) ≡ true

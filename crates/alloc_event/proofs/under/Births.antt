@@ -31,7 +31,7 @@ use Rattle.alloc_event.proofs.newborns.Quiet.{behind_is, behind_shown, grown_is,
 use Rattle.alloc_event.proofs.shelves.Entries.{none_in, place_is}
 use Rattle.alloc_event.proofs.shelves.Putting.{cases_place}
 use Rattle.alloc_event.proofs.shelves.Showing.{shelf_found}
-use Rattle.alloc_event.proofs.under.Premises.{inside_of, kin_of}
+use Rattle.alloc_event.proofs.under.Premises.{inside_of}
 use Rattle.alloc_event.proofs.under.GivenKept.{given_at, given_born, given_change, given_put}
 use Rattle.alloc_event.proofs.under.Joining.{here_is, joined}
 use Rattle.alloc_event.proofs.under.Ready.{ready_close, ready_under}
@@ -82,7 +82,7 @@ calm_close handles t us (x ∷ xs) id at told kept all units given =
     let e : Entry = get_or es at x in
     let is : e ≡ get_or es at e = get_or_default es at x e place.within in
     ready_close handles t us es id at e told is all
-    (ready_under t us es id at e told is kept all units (inside_of t us es kept units) (kin_of t (shelves_of es) kept)
+    (ready_under t us es id at e told is kept all units (inside_of t us es kept units)
     (subst IsServedByGiven (here_is t es id at e told is) (given_at t (shelves_of es) id given)))
 
 -- ---- the birth

@@ -65,14 +65,14 @@ module _ (handles : Handles) (t : Table Node) (us : List Unit) (ss : List Shelf)
 
   kept_root : (nat_lt 0 e.strong ≡ true) ⊎ ((has_given_root t e.keys.items && not is_open) ≡ false) → (has_strong nodes ≡ true)
       ⊎ ((option_map_or (λ (root : Node). root.allocated) (find is_root_left nodes) false && not is_open) ≡ false)
-  kept_root (inl strong) = inl (strong_lives nodes e.strong strong under.strong)
+  kept_root (inl strong) = inl (strong_lives nodes e.strong strong under.store.strong)
   kept_root (inr none) = inr (elim (either_way (has_given_root t e.keys.items)) [
     | inl is ↦
         let opened : not is_open ≡ false = rw is at none in
         rw opened (and_none (option_map_or (λ (root : Node). root.allocated) (find is_root_left nodes) false))
     | inr is ↦
         let bare : option_map_or (λ (root : Node). root.allocated) (find is_root_left nodes) false ≡ false =
-        root_first t e.id e.keys.items (found_filed t e.id ss (shelf_of e) under.kept.filed under.found)
+        root_first t e.id e.keys.items (found_filed t e.id ss (shelf_of e) under.store.kept.filed under.store.found)
         (whole_under t us ss e [] [] under).sound.one_root is in
         rw bare refl
   ])
@@ -81,8 +81,8 @@ module _ (handles : Handles) (t : Table Node) (us : List Unit) (ss : List Shelf)
   pub closed_still : (nat_lt 0 e.strong ≡ true)
       ⊎ ((has_given_root t e.keys.items && not (is_held_strongly handles e.id e.buffers)) ≡ false) → IsClosed handles t t us ss e e
   closed_still why = record {
-    kept = under.kept;
-    units = under.units;
+    kept = under.store.kept;
+    units = under.store.units;
     counted = counted_under t us ss e under;
     shelf = refl;
     fewer = omega arith;
@@ -108,14 +108,14 @@ module _ (handles : Handles) (t : Table Node) (us : List Unit) (ss : List Shelf)
   shut = not-true strong_open (and_right (has_given_root t e.keys.items) (not strong_open) rest)
 
   root : IsGivenRoot t e.keys.items
-  root = given_root t under.kept.named e.keys.items (and_left (has_given_root t e.keys.items) (not strong_open) rest)
+  root = given_root t under.store.kept.named e.keys.items (and_left (has_given_root t e.keys.items) (not strong_open) rest)
 
   whole : IsWhole (collection_in t (shelf_of e))
   whole = whole_under t us ss e [] due under
 
   weak : has_strong (nodes_with t e.keys.items) ≡ false
   weak =
-      sym (strong_told (nodes_with t e.keys.items) e.strong under.strong)
+      sym (strong_told (nodes_with t e.keys.items) e.strong under.store.strong)
       ∙ ap (nat_lt 0) (eqb-true e.strong 0 (and_left (e.strong == 0) (has_given_root t e.keys.items && not strong_open) abandoned))
 
   -- the root is the first node
@@ -163,16 +163,16 @@ module _ (handles : Handles) (t : Table Node) (us : List Unit) (ss : List Shelf)
     -- all are gone then, and nothing is forced
     pub closed_lost : IsClosed handles t now after ss e new
     closed_lost = record {
-      kept = went.under.kept;
-      units = went.under.units;
+      kept = went.under.store.kept;
+      units = went.under.store.units;
       counted = record {
         calm = none_decides (nodes_with now new.keys.items) new.buffers true gone_new;
-        strong = went.under.strong;
-        reserved = went.under.reserved;
-        tidy = went.under.tidy;
+        strong = went.under.store.strong;
+        reserved = went.under.store.reserved;
+        tidy = went.under.store.tidy;
       };
       shelf = went.shelf;
-      fewer = let none = went.under.strong ∙ none_strong (nodes_with now new.keys.items) gone_new in omega (arith, none);
+      fewer = let none = went.under.store.strong ∙ none_strong (nodes_with now new.keys.items) gone_new in omega (arith, none);
       none = none_decides (nodes_with now e.keys.items) e.buffers strong_open gone;
       leads = λ pool others after_all settles.
           Forces c after_all (Loss root.node.key Cause.NoStrong) (forces pool others)
@@ -224,8 +224,8 @@ module _ (handles : Handles) (t : Table Node) (us : List Unit) (es : List Entry)
     counted_mid : AreCounted now (set es at new)
     counted_mid =
         subst (AreCounted now)
-        (sym (set_put new es at under_is.kept.rising (subst (λ (i : ℕ). place_in i es ≡ Some at) (sym new_id) told)))
-        (counted_put now new es under_is.kept.rising
+        (sym (set_put new es at under_is.store.kept.rising (subst (λ (i : ℕ). place_in i es ≡ Some at) (sym new_id) told)))
+        (counted_put now new es under_is.store.kept.rising
         (subst (λ (i : ℕ). AreCountedBut now i es) (sym new_id)
         (but_beside t now id es by (subst (λ (i : ℕ). AreCountedBut t i es) own
         (subst (λ (e : Entry). AreCountedBut t e.id es) entry_is may.others))))
@@ -270,7 +270,7 @@ module _ (handles : Handles) (t : Table Node) (us : List Unit) (es : List Entry)
           left.held ≡ by_page (pages_held last.held.items ++ beside (forest_of now (shelves_of (set es at new))) new.id) →
           Closes handles pool left t now es (set es at last) after id
       closes pool left parted of = record {
-        settled = settled_on handles t now es id at told under_is.kept by new new_id pool pool left refl now (set es at last)
+        settled = settled_on handles t now es id at told under_is.store.kept by new new_id pool pool left refl now (set es at last)
             Change.Nothing refl
             (subst (λ (d : Collection). Leads pool.size handles (beside (forest_of t ss) id) d (collection_in now (shelf_of new)))
             (sym (here_is t es id at old told is))

@@ -99,9 +99,9 @@ module _ (t : Table Node) (us : List Unit) (ss : List Shelf) (e : Entry) (k : No
   not_lost = elim (either_way (e.strong == 0)) [
     | inl none ↦
         let kept : (has_given_root t e.keys.items && not opened) ≡ false = rw none at stays in
-        root_stays handles t e (found_filed t e.id ss (shelf_of e) u.kept.filed u.found) formed kept
+        root_stays handles t e (found_filed t e.id ss (shelf_of e) u.store.kept.filed u.store.found) formed kept
     | inr some ↦ strong_keeps nodes opened (find is_root_left nodes)
-        (strong_lives nodes e.strong (lt-ltb 0 e.strong (let r = eqb-false e.strong 0 some in above e.strong r)) u.strong)
+        (strong_lives nodes e.strong (lt-ltb 0 e.strong (let r = eqb-false e.strong 0 some in above e.strong r)) u.store.strong)
   ]
     where
       above : (n : ℕ) → (n ≡ 0 → ⊥) → 0 < n

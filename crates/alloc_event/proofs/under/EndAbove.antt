@@ -70,14 +70,7 @@ when_some false x y h = cc
 pub with_held : (t : Table Node) (us : List Unit) (ss : List Shelf) (e : Entry) (loose other due : List NodeKey) →
     IsUnderWay t us ss e loose due → are_held_but other (nodes_with t e.keys.items) ≡ true → IsUnderWay t us ss e other due
 with_held t us ss e loose other due ok held = record {
-  kept = ok.kept;
-  found = ok.found;
-  units = ok.units;
-  inside = ok.inside;
-  kin = ok.kin;
-  strong = ok.strong;
-  reserved = ok.reserved;
-  tidy = ok.tidy;
+  store = ok.store;
   bare = ok.bare;
   held = held;
   next = ok.next;
@@ -137,20 +130,20 @@ module _ (t : Table Node) (us : List Unit) (ss : List Shelf) (e : Entry) (first 
   c = collection_in t (shelf_of e)
 
   whole : IsWhole c
-  whole = found_whole t e.id ss (shelf_of e) ok.kept.whole ok.found
+  whole = found_whole t e.id ss (shelf_of e) ok.store.kept.whole ok.store.found
 
   on_shelf : In (shelf_of e) ss
-  on_shelf = (In-find (λ (x : Shelf). x.id == e.id) ss (shelf_of e) ok.found).0
+  on_shelf = (In-find (λ (x : Shelf). x.id == e.id) ss (shelf_of e) ok.store.found).0
 
   abbrev above : NodeKey → List NodeKey
   above = line nodes whole.sound.distinct whole.sound.heads whole.rooted whole.united
 
   at : (m : Node) → In m nodes → node_at t m.key ≡ Some m
-  at m on = in_all (λ (x : Node). node_at t x.key ≡ Some x) nodes (looked_there t ok.kept.named e.keys.items) m on
+  at m on = in_all (λ (x : Node). node_at t x.key ≡ Some x) nodes (looked_there t ok.store.kept.named e.keys.items) m on
 
   counted : HasUnits us nodes
   counted =
-      all_at (λ (d : Collection). HasUnits us d.nodes) (map (collection_in t) ss) ok.units c
+      all_at (λ (d : Collection). HasUnits us d.nodes) (map (collection_in t) ss) ok.store.units c
       (In-map-back (collection_in t) ss (shelf_of e) on_shelf)
 
   -- the counts tell of each head's unit
@@ -159,7 +152,7 @@ module _ (t : Table Node) (us : List Unit) (ss : List Shelf) (e : Entry) (first 
       (in_all (HasUnit us nodes) nodes counted m on).1
 
   linked : (h : Node) → In h nodes → h.gone ≡ false → parent_at t h.key ≡ h.parent
-  linked h on here = ok.kept.linked h.key h (at h on) here
+  linked h on here = ok.store.kept.linked h.key h (at h on) here
 
   short : (key : NodeKey) → length (above key) ≤ table_len t
   short key =
@@ -167,7 +160,7 @@ module _ (t : Table Node) (us : List Unit) (ss : List Shelf) (e : Entry) (first 
       let b : length (reverse nodes) ≡ length nodes = length-reverse nodes in
       let d = few_nodes t e.keys.items in
       let f = few_keys ss (shelf_of e) on_shelf in
-      omega (arith, a, b, d, f, ok.kept.counted)
+      omega (arith, a, b, d, f, ok.store.kept.counted)
 
   -- ---- the climb
 

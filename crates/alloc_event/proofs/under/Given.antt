@@ -12,7 +12,7 @@ use Rattle.sm_names.specs.Sameness.{same_key}
 use Rattle.sm_names.proofs.ListLaws.{In, In-find, In-list_any, In-map, map-In}
 use Rattle.sm_names.proofs.SamenessLaws.{and_both, and_left, and_right, both_ways, either_way, false_if, or_cases, or_left, or_none_left, or_none_right, or_right, same_key-refl, same_key-true}
 use Rattle.sm_names.proofs.StandingLaws.{In-any}
-use Rattle.node_table.specs.Table.{Table, node_at, parent_at}
+use Rattle.node_table.specs.Table.{Table, node_at}
 use Rattle.alloc_event.specs.declared.entry.Entry.{Entry}
 use Rattle.alloc_event.specs.declared.node.Node.{Node}
 use Rattle.alloc_event.specs.declared.rounds.Turn.{Turn}
@@ -166,7 +166,7 @@ module _ (t now : Table Node) (us : List Unit) (ss : List Shelf) (e : Entry) (k 
     | inr out ↦ given_out hs ks m out ∙ given_other hs m (false_if (list_any (same_key m.head) hs) (λ h.
         let own = one_of m h in
         both_ways (list_any (same_key m.key) ks)
-        (of_unit t ss u.kept s u.found u.kin k top ks listed m on (unit_bare m on own).1 own) out))
+        (of_unit t ss u.store.kept s u.store.found u.store.kept.kin k top ks listed m on (unit_bare m on own).1 own) out))
   ]
 
   nodes_then : nodes_with now keys ≡ served k nodes
@@ -181,11 +181,11 @@ module _ (t now : Table Node) (us : List Unit) (ss : List Shelf) (e : Entry) (k 
       apart : (m : Node) → In m (nodes_with t x.keys) → g m ≡ m
       apart m there = given_out hs ks m (false_if (list_any (same_key m.key) ks) (λ h.
           let is : node_at t m.key ≡ Some m =
-          in_all (λ (y : Node). node_at t y.key ≡ Some y) (nodes_with t x.keys) (looked_there t u.kept.named x.keys) m there in
-          let own : In m nodes = key_within t ss u.kept s u.found u.kin k top ks listed m is h in
+          in_all (λ (y : Node). node_at t y.key ≡ Some y) (nodes_with t x.keys) (looked_there t u.store.kept.named x.keys) m there in
+          let own : In m nodes = key_within t ss u.store.kept s u.store.found u.store.kept.kin k top ks listed m is h in
           let mine : (m.collection == s.id) ≡ true =
           all-In (λ (y : Node). y.collection == s.id) nodes m own
-          (looked-of t s.id s.keys (found_filed t s.id ss s u.kept.filed u.found)) in
+          (looked-of t s.id s.keys (found_filed t s.id ss s u.store.kept.filed u.store.found)) in
           let its : (m.collection == x.id) ≡ true =
           all-In (λ (y : Node). y.collection == x.id) (nodes_with t x.keys) m there (looked-of t x.id x.keys filed) in
           differ (sym (eqb-true m.collection x.id its) ∙ eqb-true m.collection s.id mine)))
@@ -194,39 +194,30 @@ module _ (t now : Table Node) (us : List Unit) (ss : List Shelf) (e : Entry) (k 
       stay = looked-map g (node_at t) (node_at now) given.look x.keys ∙ still_map g (nodes_with t x.keys) apart
 
   filed_of : (x : Shelf) → In x ss → list_all (is_filed t x.id) x.keys ≡ true
-  filed_of x there = all-In (λ (y : Shelf). list_all (is_filed t y.id) y.keys) ss x there u.kept.filed
+  filed_of x there = all-In (λ (y : Shelf). list_all (is_filed t y.id) y.keys) ss x there u.store.kept.filed
 
   whole_then : AllByRecursion (λ (x : Shelf). IsWhole (collection_in now x)) ss
   whole_then = all_in (λ (x : Shelf). IsWhole (collection_in now x)) ss (λ x there. elim (either_way (x.id == s.id)) [
     | inl h ↦
         subst (λ (y : Shelf). IsWhole (collection_in now y))
-        (sym (one_shelf ss u.kept.rising x s there (In-find (λ (y : Shelf). y.id == s.id) ss s u.found).0 (eqb-true x.id s.id h)))
+        (sym (one_shelf ss u.store.kept.rising x s there (In-find (λ (y : Shelf). y.id == s.id) ss s u.store.found).0 (eqb-true x.id s.id h)))
         (subst IsWhole (sym collection_then)
         (IsWhole-map (given_all hs) (λ m. record { key = refl; parent = refl; attached = refl; collection = refl; head = refl })
         (λ m. refl) c0 (together_then k nodes) formed))
     | inr h ↦
         subst IsWhole (sym (others_stay x (eqb-false x.id s.id h) (filed_of x there)))
-        (all_at (λ (y : Shelf). IsWhole (collection_in t y)) ss u.kept.whole x there)
+        (all_at (λ (y : Shelf). IsWhole (collection_in t y)) ss u.store.kept.whole x there)
   ])
 
   kept_then : IsStored now ss
   kept_then = kept-with g same_g (λ m h. sym (kept_given (λ (x : Node). x.gone) hs (λ x. refl) ks m) ∙ h) t now
-      given.same.first given.same.nexts given.same.len given.look given.parents ss whole_then u.kept
+      given.same.first given.same.nexts given.same.len given.look given.parents ss whole_then u.store.kept
 
   units_then : AreUnits us (map (collection_in now) ss)
   units_then = subst (AreUnits us) (sym (collections-map g same_g t now given.look ss))
       (units_with us g same_g (λ m. kept_given (λ x. x.gone) hs (λ x. refl) ks m)
       (λ j m. kept_given (lives_in j) hs (λ x. refl) ks m)
-      (λ j m. kept_given (waits_in j) hs (λ x. refl) ks m) (map (collection_in t) ss) u.units)
-
-  kin_then : (key p : NodeKey) (n q : Node) → node_at now key ≡ Some n → parent_at now key ≡ Some p → node_at now p ≡ Some q →
-      q.collection ≡ n.collection
-  kin_then key p n q at_n up at_q =
-      let x = was_there g t now given.look key n at_n in
-      let y = was_there g t now given.look p q at_q in
-      ap (λ (m : Node). m.collection) (sym y.2) ∙ ((same_g y.0).collection
-      ∙ (u.kin key p x.0 y.0 x.1 (sym (given.parents key) ∙ up) y.1
-      ∙ (sym (same_g x.0).collection ∙ ap (λ (m : Node). m.collection) x.2)))
+      (λ j m. kept_given (waits_in j) hs (λ x. refl) ks m) (map (collection_in t) ss) u.store.units)
 
   -- ---- the counts
 
@@ -356,17 +347,18 @@ module _ (t now : Table Node) (us : List Unit) (ss : List Shelf) (e : Entry) (k 
     under_then : (b : Buffers) → e.buffers ≡ Some b →
         IsUnderWay now us ss (record e { reserved = e.reserved + camping }) [] (turn_heads ws)
     under_then b has = record {
-      kept = kept_then;
-      found = u.found;
-      units = units_then;
-      inside = λ key n is.
-          let x = was_there g t now given.look key n is in
-          u.inside key x.0 x.1;
-      kin = kin_then;
-      strong = u.strong ∙ sym (ap strong_count nodes_then ∙ times_map is_strong is_strong (f k) nodes (λ m. refl));
-      reserved = (λ i. u.reserved i + camps i) ∙ sym (ap reserved_count nodes_then ∙ reserved_then);
-      tidy = λ h. ap (list_any (over_but e.noted.items)) nodes_then
-          ∙ (any_map (over_but e.noted.items) (over_but e.noted.items) (f k) nodes (λ m. refl) ∙ u.tidy h);
+      store = record {
+        kept = kept_then;
+        found = u.store.found;
+        units = units_then;
+        inside = λ key n is.
+            let x = was_there g t now given.look key n is in
+            u.store.inside key x.0 x.1;
+        strong = u.store.strong ∙ sym (ap strong_count nodes_then ∙ times_map is_strong is_strong (f k) nodes (λ m. refl));
+        reserved = (λ i. u.store.reserved i + camps i) ∙ sym (ap reserved_count nodes_then ∙ reserved_then);
+        tidy = λ h. ap (list_any (over_but e.noted.items)) nodes_then
+            ∙ (any_map (over_but e.noted.items) (over_but e.noted.items) (f k) nodes (λ m. refl) ∙ u.store.tidy h);
+      };
       bare = λ none. absurd (never e.buffers has none);
       held = ap (are_held_but []) nodes_then ∙ held_then k nodes u.held;
       next = ap (λ (ns : List Node). list_any (is_next_but (turn_heads ws) ns) ns) nodes_then ∙ next_then;

@@ -265,7 +265,7 @@ pub turns_listed : (t : Table Node) (us : List Unit) (ss : List Shelf) (e : Entr
     AreTurns t e.keys.items vs × ((place : ℕ) × (rest : List Turn) × (vs ≡ record { place = place; head = k } ∷ rest))
 turns_listed t us ss e loose due under k left ks walked ws vs heads placed moved rising =
     let s : Shelf = shelf_of e in
-    let counts : HasUnits us (nodes_with t s.keys) = units_found t us e.id ss s under.units under.found in (
-      are_turns t ss under.kept s under.found k us counts under.inside left ks walked ws vs heads placed moved rising,
-      first_is t ss under.kept s under.found k us counts under.inside left ks walked ws vs heads placed moved rising,
+    let counts : HasUnits us (nodes_with t s.keys) = units_found t us e.id ss s under.store.units under.store.found in (
+      are_turns t ss under.store.kept s under.store.found k us counts under.store.inside left ks walked ws vs heads placed moved rising,
+      first_is t ss under.store.kept s under.store.found k us counts under.store.inside left ks walked ws vs heads placed moved rising,
     )

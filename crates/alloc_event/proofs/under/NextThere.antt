@@ -50,14 +50,7 @@ pub with_due : (t : Table Node) (us : List Unit) (ss : List Shelf) (e : Entry) (
     list_any (is_next_but other (nodes_with t e.keys.items)) (nodes_with t e.keys.items) ≡ false →
     waits_among other (nodes_with t e.keys.items) ≡ true → IsUnderWay t us ss e loose other
 with_due t us ss e loose due other under next root = record {
-  kept = under.kept;
-  found = under.found;
-  units = under.units;
-  inside = under.inside;
-  kin = under.kin;
-  strong = under.strong;
-  reserved = under.reserved;
-  tidy = under.tidy;
+  store = under.store;
   bare = under.bare;
   held = under.held;
   next = next;
@@ -88,14 +81,14 @@ module _ (t : Table Node) (us : List Unit) (ss : List Shelf) (e : Entry) (loose 
   nodes = nodes_with t e.keys.items
 
   at : (m : Node) → In m nodes → node_at t m.key ≡ Some m
-  at m on = at_key t ss u.kept s u.found k m on
+  at m on = at_key t ss u.store.kept s u.store.found k m on
 
   pub head_is : node_at t k ≡ Some head
   head_is = ap (node_at t) (sym head_key) ∙ at head head_on
 
   counted : HasUnits us nodes
-  counted = all_at (λ c. HasUnits us c.nodes) _ u.units (collection_in t s)
-      (In-map-back (collection_in t) ss s (In-find (λ (x : Shelf). x.id == s.id) ss s u.found).0)
+  counted = all_at (λ c. HasUnits us c.nodes) _ u.store.units (collection_in t s)
+      (In-map-back (collection_in t) ss s (In-find (λ (x : Shelf). x.id == s.id) ss s u.store.found).0)
 
   unit_is : unit_at us k.slot ≡ unit_of nodes k
   unit_is = subst (λ (j : NodeKey). unit_at us j.slot ≡ unit_of nodes j) head_key
@@ -122,7 +115,7 @@ module _ (t : Table Node) (us : List Unit) (ss : List Shelf) (e : Entry) (loose 
       (and_right (option_map_or (λ p. list_any (is_allocated_node p) nodes) head.parent false) _ c) in
       let waits : is_waiting_head head ≡ true = and_both head.attached _ attached
       (and_both (not head.gone) _ (and_left (not head.gone) _ a) (and_left (not head.allocated) _ b)) in
-      let up : parent_at t k ≡ head.parent = u.kept.linked k head head_is here in
+      let up : parent_at t k ≡ head.parent = u.store.kept.linked k head head_is here in
       let turn : has_turn_at t k ≡ true =
       and_both (option_map_or is_waiting_head (node_at t k) false) _
       (ap (λ (o : Option Node). option_map_or is_waiting_head o false) head_is ∙ waits)

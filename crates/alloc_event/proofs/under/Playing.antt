@@ -203,8 +203,8 @@ module _ (t mid : Table Node) (us : List Unit) (ss : List Shelf) (e e1 : Entry) 
     none_waits_then : (are_held_but [] nodes ≡ true → waiting nodes ≡ None) → waits_among [] (nodes_with then e2.keys.items) ≡ true
     none_waits_then waits =
         root_none (collection_in mid (shelf_of e1)) (collection_in then (shelf_of e2))
-        (found_whole mid e1.id ss (shelf_of e1) affected.under.kept.whole affected.under.found)
-        (found_whole then e2.id ss (shelf_of e2) led.under.kept.whole led.under.found) head affected.under.held still_left ends_then
+        (found_whole mid e1.id ss (shelf_of e1) affected.under.store.kept.whole affected.under.store.found)
+        (found_whole then e2.id ss (shelf_of e2) led.under.store.kept.whole led.under.store.found) head affected.under.held still_left ends_then
         led.under.held led.under.root
         (subst (λ (ns : List Node). are_held_but [] ns ≡ true → waiting ns ≡ None) (sym were) waits)
 

@@ -1,4 +1,4 @@
--- Slots and parents, as what holds of each forest says it.
+-- The slot of each node, as what holds of each forest says it.
 use Rattle.std.proofs.Common.{◌≡◌, ◌<◌, ◌∙◌, inl, inr, refl, sym, ap, subst, List, [], ◌∷◌, length, map, Option, Some, None, false, true}
 use Rattle.std.proofs.lemmas.List.Folds.{list_any-append}
 use Rattle.std.specs.List.{cons_option, list_any}
@@ -7,7 +7,7 @@ use Rattle.sm_names.proofs.ListLaws.{In}
 use Rattle.sm_names.proofs.SamenessLaws.{or_cases, same_key-true}
 use Rattle.alloc_event.proofs.tables.Hanging.{in_all}
 use Rattle.sm_names.specs.declared.keys.NodeKey.{NodeKey}
-use Rattle.node_table.specs.Table.{Table, node_at, parent_at}
+use Rattle.node_table.specs.Table.{Table, node_at}
 use Rattle.alloc_event.specs.declared.entry.Entry.{Entry}
 use Rattle.alloc_event.specs.declared.node.Node.{Node}
 use Rattle.alloc_event.specs.declared.units.Unit.{Unit}
@@ -40,8 +40,3 @@ inside_of t us es kept units key n is = from (shelves_of es) units (kept.there k
           | inl here ↦ rw (ap (node_at t) (sym (same_key-true key k here)) ∙ is) (inl refl)
           | inr behind ↦ further (node_at t k) (nodes_with t ks) (on_keys ks behind)
         ]
-
--- a parent is of the same collection
-pub kin_of : (t : Table Node) (ss : List Shelf) → IsStored t ss → (key p : NodeKey) (n q : Node) → node_at t key ≡ Some n →
-    parent_at t key ≡ Some p → node_at t p ≡ Some q → q.collection ≡ n.collection
-kin_of t ss kept = kept.kin

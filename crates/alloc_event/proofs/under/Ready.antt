@@ -9,7 +9,7 @@ use Rattle.sm_names.proofs.ListLaws.{In-list_any, find-none, none-find}
 use Rattle.sm_names.proofs.SamenessLaws.{and_both, and_left, and_right, both_ways, false_if}
 use Rattle.sm_names.proofs.StandingLaws.{In-any}
 use Rattle.sm_names.proofs.PlaceLaws.{map-None}
-use Rattle.node_table.specs.Table.{Table, node_at, parent_at}
+use Rattle.node_table.specs.Table.{Table, node_at}
 use Rattle.alloc_event.specs.declared.entry.Entry.{Entry}
 use Rattle.alloc_event.specs.declared.node.Node.{Node}
 use Rattle.alloc_event.specs.declared.units.Unit.{Unit}
@@ -46,7 +46,7 @@ waits_none (Some n) h = let no : false ≡ true = h in absurd (cc)
 -- the collection of the entry is whole
 pub whole_under : (t : Table Node) (us : List Unit) (ss : List Shelf) (e : Entry) (loose due : List NodeKey) →
     IsUnderWay t us ss e loose due → IsWhole (collection_in t (shelf_of e))
-whole_under t us ss e loose due under = found_whole t e.id ss (shelf_of e) under.kept.whole under.found
+whole_under t us ss e loose due under = found_whole t e.id ss (shelf_of e) under.store.kept.whole under.store.found
 
 -- no node is deserted where no unit is loose
 pub no_end_under : (t : Table Node) (us : List Unit) (ss : List Shelf) (e : Entry) (due : List NodeKey) → IsUnderWay t us ss e [] due →
@@ -75,9 +75,9 @@ none_under t us ss e under = record {
 pub counted_under : (t : Table Node) (us : List Unit) (ss : List Shelf) (e : Entry) → IsUnderWay t us ss e [] [] → IsCounted t e
 counted_under t us ss e under = record {
   calm = calm_none (collection_in t (shelf_of e)) (none_under t us ss e under);
-  strong = under.strong;
-  reserved = under.reserved;
-  tidy = under.tidy;
+  strong = under.store.strong;
+  reserved = under.store.reserved;
+  tidy = under.store.tidy;
 }
 
 -- ---- the other way round
@@ -114,23 +114,21 @@ module _ (t : Table Node) (us : List Unit) (ss : List Shelf) (e : Entry) (kept :
   no_next (Some b) bare h =
       none-find (is_next_node nodes) nodes (map-None (λ (n : Node). later_step nodes b n.key) (find (is_next_node nodes) nodes) h)
 
-  -- a collection that is counted is so, where each slot is in the list, the parents are of the same collection, and no node has
-  -- buffers where none were given
+  -- a collection that is counted is so, where each slot is in the list, and no node has buffers where none were given
   pub under_counted : AreUnits us (map (collection_in t) ss) →
       ((key : NodeKey) (n : Node) → node_at t key ≡ Some n → key.slot < length us) →
-      ((key p : NodeKey) (n q : Node) → node_at t key ≡ Some n → parent_at t key ≡ Some p → node_at t p ≡ Some q →
-      q.collection ≡ n.collection) →
       (e.buffers ≡ None → list_any is_served (nodes_with t e.keys.items) ≡ false) →
       IsUnderWay t us ss e [] []
-  under_counted units inside kin bare = record {
-    kept = kept;
-    found = found;
-    units = units;
-    inside = inside;
-    kin = kin;
-    strong = counted.strong;
-    reserved = counted.reserved;
-    tidy = counted.tidy;
+  under_counted units inside bare = record {
+    store = record {
+      kept = kept;
+      found = found;
+      units = units;
+      inside = inside;
+      strong = counted.strong;
+      reserved = counted.reserved;
+      tidy = counted.tidy;
+    };
     bare = bare;
     held = held_where nodes whole.sound.distinct whole.sound.heads whole.rooted whole.united
         (none-find (is_deserted_node nodes) nodes none.no_end);
@@ -142,16 +140,14 @@ module _ (t : Table Node) (us : List Unit) (ss : List Shelf) (e : Entry) (kept :
 pub ready_under : (t : Table Node) (us : List Unit) (es : List Entry) (id at : ℕ) (e : Entry) → place_in id es ≡ Some at → e ≡ get_or es at e →
     IsStored t (shelves_of es) → AreCounted t es → HaveUnits us t es →
     ((key : NodeKey) (n : Node) → node_at t key ≡ Some n → key.slot < length us) →
-    ((key p : NodeKey) (n q : Node) → node_at t key ≡ Some n → parent_at t key ≡ Some p → node_at t p ≡ Some q →
-    q.collection ≡ n.collection) →
     (e.buffers ≡ None → list_any is_served (nodes_with t e.keys.items) ≡ false) →
     IsUnderWay t us (shelves_of es) e [] []
-ready_under t us es id at e told is kept all units inside kin bare =
+ready_under t us es id at e told is kept all units inside bare =
     let place = place_is id es at told in
     let own : e.id ≡ id = ap (λ (x : Entry). x.id) is ∙ place.id_is e in
     under_counted t us (shelves_of es) e kept
     (subst (λ (i : ℕ). find (λ (x : Shelf). x.id == i) (shelves_of es) ≡ Some (shelf_of e)) (sym own) (shelf_here es id at e told is))
-    (found_counted t id es e all (place.found e ∙ ap Some (sym is))) units inside kin bare
+    (found_counted t id es e all (place.found e ∙ ap Some (sym is))) units inside bare
 
 -- and it may be closed
 pub ready_close : (handles : Handles) (t : Table Node) (us : List Unit) (es : List Entry) (id at : ℕ) (e : Entry) → place_in id es ≡ Some at →

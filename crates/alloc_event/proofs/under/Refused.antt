@@ -98,7 +98,7 @@ module _ (t now : Table Node) (us new : List Unit) (ss : List Shelf) (e after : 
 
   whole_now : IsWhole (collection_in now s)
   whole_now = subst (λ (x : Shelf). IsWhole (collection_in now x)) felled.shelf
-      (found_whole now after.id ss (shelf_of after) felled.under.kept.whole felled.under.found)
+      (found_whole now after.id ss (shelf_of after) felled.under.store.kept.whole felled.under.store.found)
 
   together_now : GoTogether (map gone.f nodes)
   together_now = subst GoTogether gone.is whole_now.together

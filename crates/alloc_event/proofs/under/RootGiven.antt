@@ -10,7 +10,7 @@ use Rattle.sm_names.specs.Sameness.{same_key}
 use Rattle.sm_names.proofs.ListLaws.{In, In-find, In-list_any, In-map, map-In}
 use Rattle.sm_names.proofs.SamenessLaws.{and_both, and_left, and_right, both_ways, either_way, false_if, or_cases, or_left, or_none_right, same_key-refl, same_key-true}
 use Rattle.sm_names.proofs.StandingLaws.{In-any}
-use Rattle.node_table.specs.Table.{Table, node_at, parent_at}
+use Rattle.node_table.specs.Table.{Table, node_at}
 use Rattle.alloc_event.specs.declared.entry.Entry.{Entry}
 use Rattle.alloc_event.specs.declared.node.Node.{Node}
 use Rattle.alloc_event.specs.declared.rooting.Verdict.{Verdict}
@@ -167,7 +167,7 @@ module _ (t now : Table Node) (us : List Unit) (ss : List Shelf) (e : Entry) (k 
     | inr out ↦ given_out hs ks m out ∙ given_other hs m (false_if (list_any (same_key m.head) hs) (λ h.
         let own : m.head ≡ k = same_key-true m.head k (one_is (same_key m.head k) h) in
         both_ways (list_any (same_key m.key) ks)
-        (of_unit t ss u.kept s u.found u.kin k top ks listed m on (unit_bare m on own) own) out))
+        (of_unit t ss u.store.kept s u.store.found u.store.kept.kin k top ks listed m on (unit_bare m on own) own) out))
   ]
 
   nodes_then : nodes_with now e.keys.items ≡ served k (nodes_with t e.keys.items)
@@ -183,7 +183,7 @@ module _ (t now : Table Node) (us : List Unit) (ss : List Shelf) (e : Entry) (k 
   made_then = λ i. record { id = e.id; nodes = (nodes_then ∙ given_is k nodes) i; buffers = Some buffers; held = held }
 
   filed_of : (x : Shelf) → In x ss → list_all (is_filed t x.id) x.keys ≡ true
-  filed_of x there = all-In (λ (y : Shelf). list_all (is_filed t y.id) y.keys) ss x there u.kept.filed
+  filed_of x there = all-In (λ (y : Shelf). list_all (is_filed t y.id) y.keys) ss x there u.store.kept.filed
 
   others_stay : (x : Shelf) → x.id ≢ e.id → list_all (is_filed t x.id) x.keys ≡ true → collection_in now x ≡ collection_in t x
   others_stay x differ filed = λ i. record (collection_in t x) { nodes = stay i }
@@ -191,11 +191,11 @@ module _ (t now : Table Node) (us : List Unit) (ss : List Shelf) (e : Entry) (k 
       apart : (m : Node) → In m (nodes_with t x.keys) → g m ≡ m
       apart m there = given_out hs ks m (false_if (list_any (same_key m.key) ks) (λ h.
           let at : node_at t m.key ≡ Some m =
-          in_all (λ (y : Node). node_at t y.key ≡ Some y) (nodes_with t x.keys) (looked_there t u.kept.named x.keys) m there in
-          let own : In m nodes = key_within t ss u.kept s u.found u.kin k top ks listed m at h in
+          in_all (λ (y : Node). node_at t y.key ≡ Some y) (nodes_with t x.keys) (looked_there t u.store.kept.named x.keys) m there in
+          let own : In m nodes = key_within t ss u.store.kept s u.store.found u.store.kept.kin k top ks listed m at h in
           let mine : (m.collection == e.id) ≡ true =
           all-In (λ (y : Node). y.collection == e.id) nodes m own
-          (looked-of t e.id keys (found_filed t e.id ss s u.kept.filed u.found)) in
+          (looked-of t e.id keys (found_filed t e.id ss s u.store.kept.filed u.store.found)) in
           let its : (m.collection == x.id) ≡ true =
           all-In (λ (y : Node). y.collection == x.id) (nodes_with t x.keys) m there (looked-of t x.id x.keys filed) in
           differ (sym (eqb-true m.collection x.id its) ∙ eqb-true m.collection e.id mine)))
@@ -220,12 +220,12 @@ module _ (t now : Table Node) (us : List Unit) (ss : List Shelf) (e : Entry) (k 
 
   kept' : IsStored t ss'
   kept' =
-      let put_same : put_shelf (shelf_of e) ss ≡ ss = found_put s ss u.kept.rising u.found in
-      kept-put t t e.id [] (nothing_stored t) u.kept.named refl refl s' s ss refl refl u.kept.rising (rw put_same u.kept) tt tt
-      (all_there s s' refl (λ (x : Shelf). IsWhole (collection_in t x)) ss u.kept.rising u.found whole' u.kept.whole)
+      let put_same : put_shelf (shelf_of e) ss ≡ ss = found_put s ss u.store.kept.rising u.store.found in
+      kept-put t t e.id [] (nothing_stored t) u.store.kept.named refl refl s' s ss refl refl u.store.kept.rising (rw put_same u.store.kept) tt tt
+      (all_there s s' refl (λ (x : Shelf). IsWhole (collection_in t x)) ss u.store.kept.rising u.store.found whole' u.store.kept.whole)
 
   found' : find (λ (x : Shelf). x.id == e.id) ss' ≡ Some s'
-  found' = found_there s s' refl ss u.kept.rising u.found
+  found' = found_there s s' refl ss u.store.kept.rising u.store.found
 
   whole_then : AllByRecursion (λ (x : Shelf). IsWhole (collection_in now x)) ss'
   whole_then = all_in (λ (x : Shelf). IsWhole (collection_in now x)) ss' (λ x there. elim (either_way (x.id == e.id)) [
@@ -246,22 +246,13 @@ module _ (t now : Table Node) (us : List Unit) (ss : List Shelf) (e : Entry) (k 
       given.same.first given.same.nexts given.same.len given.look given.parents ss' whole_then kept'
 
   units' : AreUnits us (map (collection_in t) ss')
-  units' = units_there s s' refl us t ss u.kept.rising u.found (units_found t us e.id ss s u.units u.found) u.units
+  units' = units_there s s' refl us t ss u.store.kept.rising u.store.found (units_found t us e.id ss s u.store.units u.store.found) u.store.units
 
   units_then : AreUnits us (map (collection_in now) ss')
   units_then = subst (AreUnits us) (sym (collections-map g same_g t now given.look ss'))
       (units_with us g same_g (λ m. kept_given (λ x. x.gone) hs (λ x. refl) ks m)
       (λ j m. kept_given (lives_in j) hs (λ x. refl) ks m)
       (λ j m. kept_given (waits_in j) hs (λ x. refl) ks m) (map (collection_in t) ss') units')
-
-  kin_then : (key p : NodeKey) (n q : Node) → node_at now key ≡ Some n → parent_at now key ≡ Some p → node_at now p ≡ Some q →
-      q.collection ≡ n.collection
-  kin_then key p n q at_n up at_q =
-      let x = was_there g t now given.look key n at_n in
-      let y = was_there g t now given.look p q at_q in
-      ap (λ (m : Node). m.collection) (sym y.2) ∙ ((same_g y.0).collection
-      ∙ (u.kin key p x.0 y.0 x.1 (sym (given.parents key) ∙ up) y.1
-      ∙ (sym (same_g x.0).collection ∙ ap (λ (m : Node). m.collection) x.2)))
 
   -- ---- the root
 
@@ -279,7 +270,7 @@ module _ (t now : Table Node) (us : List Unit) (ss : List Shelf) (e : Entry) (k 
   no_root : (n : Node) → In n nodes → (p : NodeKey) → n.parent ≡ Some p → same_key n.key k ≡ false
   no_root n on p up = false_if (same_key n.key k) (λ h.
       let at : (m : Node) → In m nodes → node_at t m.key ≡ Some m =
-      in_all (λ (m : Node). node_at t m.key ≡ Some m) nodes (looked_there t u.kept.named keys) in
+      in_all (λ (m : Node). node_at t m.key ≡ Some m) nodes (looked_there t u.store.kept.named keys) in
       let both : Some n ≡ Some r =
       sym (at n on) ∙ (ap (node_at t) (same_key-true n.key k h ∙ sym coming.own) ∙ at r root.on) in
       let one : n ≡ r = cc in
@@ -414,17 +405,18 @@ module _ (t now : Table Node) (us : List Unit) (ss : List Shelf) (e : Entry) (k 
 
       pub under_then : IsUnderWay now us (put_shelf s' ss) new [] (turn_heads ws)
       under_then = record {
-        kept = kept_then;
-        found = subst (λ (x : Shelf). find (λ (y : Shelf). y.id == x.id) ss' ≡ Some x) (sym shelf) found';
-        units = units_then;
-        inside = λ key n at. let x = was_there g t now given.look key n at in u.inside key x.0 x.1;
-        kin = kin_then;
-        strong = strong ∙ (u.strong ∙ sym (ap strong_count keys_new ∙ times_map is_strong is_strong f nodes (λ m. refl)));
-        reserved = reserved ∙ ap reserved_count (sym (given_is k nodes) ∙ sym keys_new);
-        tidy = λ h.
-            ap (list_any (over_but new.noted.items)) keys_new
-            ∙ (any_map (over_but new.noted.items) (over_but new.noted.items) f nodes (λ m. refl)
-            ∙ (ap (λ (ks : List NodeKey). list_any (over_but ks) nodes) noted ∙ u.tidy (sym tidy ∙ h)));
+        store = record {
+          kept = kept_then;
+          found = subst (λ (x : Shelf). find (λ (y : Shelf). y.id == x.id) ss' ≡ Some x) (sym shelf) found';
+          units = units_then;
+          inside = λ key n at. let x = was_there g t now given.look key n at in u.store.inside key x.0 x.1;
+          strong = strong ∙ (u.store.strong ∙ sym (ap strong_count keys_new ∙ times_map is_strong is_strong f nodes (λ m. refl)));
+          reserved = reserved ∙ ap reserved_count (sym (given_is k nodes) ∙ sym keys_new);
+          tidy = λ h.
+              ap (list_any (over_but new.noted.items)) keys_new
+              ∙ (any_map (over_but new.noted.items) (over_but new.noted.items) f nodes (λ m. refl)
+              ∙ (ap (λ (ks : List NodeKey). list_any (over_but ks) nodes) noted ∙ u.store.tidy (sym tidy ∙ h)));
+        };
         bare = λ none.
             let no : Some buffers ≡ None = sym (ap (λ (x : Shelf). x.buffers) shelf) ∙ none in
             absurd (cc);

@@ -99,14 +99,7 @@ module _ (nodes : List Node) (gone : AreGone nodes) where
 pub all_gone_under : (t : Table Node) (us : List Unit) (ss : List Shelf) (e : Entry) (loose due : List NodeKey) →
     AreGone (nodes_with t e.keys.items) → IsUnderWay t us ss e loose due → IsUnderWay t us ss e [] []
 all_gone_under t us ss e loose due gone under = record {
-  kept = under.kept;
-  found = under.found;
-  units = under.units;
-  inside = under.inside;
-  kin = under.kin;
-  strong = under.strong;
-  reserved = under.reserved;
-  tidy = under.tidy;
+  store = under.store;
   bare = under.bare;
   held = gone_held (nodes_with t e.keys.items) gone;
   next = gone_next (nodes_with t e.keys.items) gone [];
@@ -145,7 +138,7 @@ module _ (t : Table Node) (us : List Unit) (ss : List Shelf) (e : Entry) (head :
     gone_new = subst (λ (s : Shelf). AreGone (nodes_with now s.keys)) (sym went.shelf) gone
 
     same_shelves : put_shelf (shelf_of new) ss ≡ ss
-    same_shelves = found_put (shelf_of new) ss went.under.kept.rising went.under.found
+    same_shelves = found_put (shelf_of new) ss went.under.store.kept.rising went.under.store.found
 
     lost_is : with_nodes (after_loss (record { cause = Cause.Failed why; origin = head })) (collection_in t (shelf_of e))
         ≡ collection_in now (shelf_of new)

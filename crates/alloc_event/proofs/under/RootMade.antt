@@ -70,14 +70,7 @@ module _ (t : Table Node) (us : List Unit) (ss : List Shelf) (e : Entry) (head :
 
   pub under_held : IsUnderWay t us ss e loose due
   under_held = record {
-    kept = under.kept;
-    found = under.found;
-    units = under.units;
-    inside = under.inside;
-    kin = under.kin;
-    strong = under.strong;
-    reserved = under.reserved;
-    tidy = under.tidy;
+    store = under.store;
     bare = under.bare;
     held = all_on (λ (n : Node). list_any (same_key n.key) loose || is_held ns n) ns (λ n on.
         by n (either_way (same_key n.key head))

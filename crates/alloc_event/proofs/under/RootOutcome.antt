@@ -159,8 +159,8 @@ module _ (handles : Handles) (t : Table Node) (es : List Entry) (id at : ℕ) (o
           plan.reserved ≡ reserved_count (after_allocation planned.node.head nodes1)
       from (inl alone) =
           alone.1
-          ∙ reserved_alone t us key effect n planned.was ss (shelf_of old) old.strong opens under.kin bare1 planned.keys planned.listed
-          (sym under.reserved ∙ alone.0)
+          ∙ reserved_alone t us key effect n planned.was ss (shelf_of old) old.strong opens under.store.kept.kin bare1 planned.keys planned.listed
+          (sym under.store.reserved ∙ alone.0)
       from (inr all) = all ∙ reserved_then t us key effect n planned.was ss (shelf_of old) old.strong opens
 
   pub reserved_mid : plan.reserved ≡ reserved_count (after_allocation plan.head (nodes_with now mid.keys.items))
@@ -173,7 +173,7 @@ module _ (handles : Handles) (t : Table Node) (es : List Entry) (id at : ℕ) (o
   wants_are =
       planned.wants_is
       ∙ ((λ i. wants_of (strong_then t us key effect n planned.was ss (shelf_of old) old.strong opens i)
-      (wanted_then t us key effect n planned.was ss (shelf_of old) old.strong opens under.kin bare1 planned.keys planned.listed i)))
+      (wanted_then t us key effect n planned.was ss (shelf_of old) old.strong opens under.store.kept.kin bare1 planned.keys planned.listed i)))
 
   module _ (before between : Holdings) (verdict : Verdict) (found : IsVerdict before between id old.held.items plan.wants verdict) where
     module _ (parted : are_parted before.held ≡ true)

@@ -30,7 +30,7 @@ use Rattle.alloc_event.proofs.shelves.Entries.{none_in, place_is}
 use Rattle.alloc_event.proofs.shelves.Showing.{collection_is, node_is, shelf_found}
 use Rattle.alloc_event.proofs.under.GivenKept.{given_at}
 use Rattle.alloc_event.proofs.under.Joining.{here_is, may_close, outcome_on, place_set, shelves_stay}
-use Rattle.alloc_event.proofs.under.Premises.{inside_of, kin_of}
+use Rattle.alloc_event.proofs.under.Premises.{inside_of}
 use Rattle.alloc_event.proofs.under.Ready.{ready_close, ready_under, under_counted}
 use Rattle.alloc_event.proofs.calm.Watched.{found_counted}
 
@@ -99,12 +99,12 @@ module _ (handles : Handles) (t : Table Node) (us : List Unit) (es : List Entry)
   pub begins : IsUnderWay t us (shelves_of es) e [] []
   begins =
       ready_under t us es id at e told is ready.kept ready.counted ready.units
-      (inside_of t us es ready.kept ready.units) (kin_of t (shelves_of es) ready.kept)
+      (inside_of t us es ready.kept ready.units)
       (subst IsServedByGiven (here_is t es id at e told is) (given_at t (shelves_of es) id ready.given))
 
   -- it has few buffers
   pub few_there : given_few e.buffers ≡ true
-  few_there = (found_whole t e.id (shelves_of es) (shelf_of e) begins.kept.whole begins.found).sound.few
+  few_there = (found_whole t e.id (shelves_of es) (shelf_of e) begins.store.kept.whole begins.store.found).sound.few
 
   -- and may be closed
   pub closes_now : MayClose handles t us es at
@@ -183,5 +183,5 @@ begins_found t us es id change ready e found =
     under_counted t us (shelves_of es) e ready.kept
     (subst (λ (i : ℕ). find (λ (x : Shelf). x.id == i) (shelves_of es) ≡ Some (shelf_of e)) (sym own) shelf)
     (found_counted t id es e ready.counted found) ready.units (inside_of t us es ready.kept ready.units)
-    (kin_of t (shelves_of es) ready.kept) (subst IsServedByGiven (collection_found t (shelves_of es) id (shelf_of e) shelf)
+    (subst IsServedByGiven (collection_found t (shelves_of es) id (shelf_of e) shelf)
     (given_at t (shelves_of es) id ready.given))

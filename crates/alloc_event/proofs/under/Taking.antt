@@ -42,15 +42,15 @@ module _ (t : Table Node) (us : List Unit) (ss : List Shelf) (e : Entry) (k : No
   nodes = nodes_with t e.keys.items
 
   late : refusal b e.reserved asks.camping asks.at_least asks.size ≡ late_failure k nodes b
-  late = refusal_is t ss u.kept (shelf_of e) u.found u.kin k (bare t us ss e k place ws u turns next) ks listed b e.reserved asks.camping
-      asks.at_least asks.size u.reserved asked.camping asked.at_least asked.size
+  late = refusal_is t ss u.store.kept (shelf_of e) u.store.found u.store.kept.kin k (bare t us ss e k place ws u turns next) ks listed b e.reserved asks.camping
+      asks.at_least asks.size u.store.reserved asked.camping asked.at_least asked.size
 
   pub allocated_by : (now : Table Node) → IsGivenAt t now (k ∷ []) ks → refusal b e.reserved asks.camping asks.at_least asks.size ≡ None →
       IsLed handles t now us ss e (record e { reserved = e.reserved + asks.camping }) [] (turn_heads ws)
       × (AreTurns now e.keys.items ws × (waits_among [] (nodes_with now e.keys.items) ≡ true))
   allocated_by now given enough =
       given_led t now us ss e k place ws u turns next (none_waits nodes no_wait) ks listed given asks.camping
-      (asked.camping ∙ sum_is t ss u.kept (shelf_of e) u.found u.kin k (bare t us ss e k place ws u turns next) ks listed)
+      (asked.camping ∙ sum_is t ss u.store.kept (shelf_of e) u.store.found u.store.kept.kin k (bare t us ss e k place ws u turns next) ks listed)
       handles b has stays (sym late ∙ enough)
 
   pub refused_by : (now : Table Node) (new : List Unit) (after : Entry) (why : Failure) →

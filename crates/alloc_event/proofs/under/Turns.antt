@@ -76,10 +76,10 @@ module _ (t : Table Node) (us : List Unit) (ss : List Shelf) (e : Entry) (k : No
     nodes = nodes_with t e.keys.items
 
     pub whole : IsWhole (collection_in t s)
-    whole = whole_before t ss u.kept s u.found k
+    whole = whole_before t ss u.store.kept s u.store.found k
 
     pub at : (m : Node) → In m nodes → node_at t m.key ≡ Some m
-    at m on = at_key t ss u.kept s u.found k m on
+    at m on = at_key t ss u.store.kept s u.store.found k m on
 
     pub one : (m n : Node) → In m nodes → In n nodes → m.key ≡ n.key → m ≡ n
     one m n on there same = distinct_one nodes whole.sound.distinct m n on there same
@@ -95,7 +95,7 @@ module _ (t : Table Node) (us : List Unit) (ss : List Shelf) (e : Entry) (k : No
     first = standing (record { place = place; head = k }) (inl refl)
 
     pub found : (m : Node) × (slice_get nodes place ≡ Some m) × (node_at t k ≡ Some m) × (m.key ≡ k)
-    found = key_node t ss u.kept s u.found place k first
+    found = key_node t ss u.store.kept s u.store.found place k first
 
     abbrev pub head : Node
     head = found.0
@@ -129,7 +129,7 @@ module _ (t : Table Node) (us : List Unit) (ss : List Shelf) (e : Entry) (k : No
             let key : q.0.key ≡ p = same_key-true q.0.key p (and_left (is_of p q.0) _ q.2) in
             let behind : place ≤ w.0.place = turns.in_turn.0 w.0 w.1 in
             let before : w.0.place < place =
-            above_first t ss u.kept s u.found place w.0.place k p head q.0 first head_is
+            above_first t ss u.store.kept s u.store.found place w.0.place k p head q.0 first head_is
             (ap (λ (m : Node). m.gone) (sym is) ∙ here) (ap (λ (m : Node). m.parent) (sym is) ∙ up)
             (ap (node_at t) (sym key) ∙ at q.0 q.1)
             (standing w.0 (inr w.1) ∙ ap Some (sym w.2)) in
@@ -202,7 +202,7 @@ module _ (t : Table Node) (us : List Unit) (ss : List Shelf) (e : Entry) (k : No
       head_here = not-true head.gone (and_left (not head.gone) _ (and_right head.attached _ waits))
 
       pub due : IsDueHead t nodes k
-      due = due_head t ss u.kept s u.found k turn head head_on head_here
+      due = due_head t ss u.store.kept s u.store.found k turn head head_on head_here
           (head_own (collection_in t s) whole.sound head head_on (and_left head.attached _ waits) ∙ head_key)
 
       pub bare : IsBareHead nodes k
@@ -238,8 +238,8 @@ module _ (t : Table Node) (us : List Unit) (ss : List Shelf) (e : Entry) (k : No
               omega (arith, same_place)
           | inr some ↦
               let w = turn_of ws m.key some in
-              let same_place : i ≡ w.0.place = one_place t ss u.kept s u.found i w.0.place m.key
-              (node_key t ss u.kept s u.found i m there) (standing w.0 (inr w.1) ∙ ap Some (sym w.2)) in
+              let same_place : i ≡ w.0.place = one_place t ss u.store.kept s u.store.found i w.0.place m.key
+              (node_key t ss u.store.kept s u.store.found i m there) (standing w.0 (inr w.1) ∙ ap Some (sym w.2)) in
               let behind : place ≤ w.0.place = turns.in_turn.0 w.0 w.1 in
               omega (arith, same_place, behind)
         ]

@@ -55,19 +55,19 @@ module _ (t : Table Node) (us : List Unit) (ss : List Shelf) (old : Entry) (loos
   goes = goes_of going keys
 
   whole : IsWhole (collection_in t s)
-  whole = entire t ss s opens.kept opens.found gone.forest origin left keys gone.taken
+  whole = entire t ss s opens.store.kept opens.store.found gone.forest origin left keys gone.taken
 
   at : (n : Node) → In n nodes → node_at t n.key ≡ Some n
-  at = at_key t ss s opens.kept opens.found
+  at = at_key t ss s opens.store.kept opens.store.found
 
   -- what goes is of the collection
   own : all_of old.id (nodes_with t keys) ≡ true
   own =
       let x = left_node nodes origin left in
-      own_taken t gone.forest opens.kin old.id origin
+      own_taken t gone.forest opens.store.kept.kin old.id origin
       (ap (λ (o : Option Node). option_map_or (λ (n : Node). n.collection == old.id) o true) (ap (node_at t) (sym x.is) ∙ at x.node x.on)
       ∙ all-In (λ (n : Node). n.collection == old.id) nodes x.node x.on
-      (looked-of t old.id old.keys.items (found_filed t old.id ss s opens.kept.filed opens.found))) keys gone.taken
+      (looked-of t old.id old.keys.items (found_filed t old.id ss s opens.store.kept.filed opens.store.found))) keys gone.taken
 
   nodes_now : nodes_with now old.keys.items ≡ map goes nodes
   nodes_now = nodes_then t us ss old loose due opens going origin keys gone.taken own now gone.stores
@@ -76,25 +76,25 @@ module _ (t : Table Node) (us : List Unit) (ss : List Shelf) (old : Entry) (loos
   beside = record {
     same = gone.stores.same;
     others = λ x on differ. beside_same t us ss old loose due opens going origin keys gone.taken own now gone.stores x differ
-        (all-In (λ (y : Shelf). list_all (is_filed t y.id) y.keys) ss x on opens.kept.filed);
+        (all-In (λ (y : Shelf). list_all (is_filed t y.id) y.keys) ss x on opens.store.kept.filed);
   }
 
   -- the highest of what goes
   abbrev highest : Node
-  highest = top t ss s opens.kept opens.found gone.forest origin left keys gone.taken
+  highest = top t ss s opens.store.kept opens.store.found gone.forest origin left keys gone.taken
 
   highest_on : In highest nodes
-  highest_on = top_on t ss s opens.kept opens.found gone.forest origin left keys gone.taken
+  highest_on = top_on t ss s opens.store.kept opens.store.found gone.forest origin left keys gone.taken
 
   highest_here : highest.gone ≡ false
-  highest_here = top_here t ss s opens.kept opens.found gone.forest origin left keys gone.taken
+  highest_here = top_here t ss s opens.store.kept opens.store.found gone.forest origin left keys gone.taken
 
   -- the head of the unit above stands above it
   over_is : head_over t keys ≡ option_map_or (head_of t) highest.parent None
   over_is =
-      let first = stands_first t ss s opens.kept opens.found gone.forest origin left keys gone.taken in
+      let first = stands_first t ss s opens.store.kept opens.store.found gone.forest origin left keys gone.taken in
       ap (head_over t) first.1
-      ∙ ap (λ (o : Option NodeKey). option_map_or (head_of t) o None) (linked t ss s opens.kept opens.found highest highest_on highest_here)
+      ∙ ap (λ (o : Option NodeKey). option_map_or (head_of t) o None) (linked t ss s opens.store.kept opens.store.found highest highest_on highest_here)
 
   module _ (fault : Option Fault) (becomes : map goes nodes ≡ gone_down fault origin nodes)
       (rooted : are_rooted (reverse (map goes nodes)) ≡ true) where
@@ -120,23 +120,23 @@ module _ (t : Table Node) (us : List Unit) (ss : List Shelf) (old : Entry) (loos
         ap (λ (m : Node). m.gone) x.2 ∙ (gone_of going keys x.0 ∙ elim (either_way x.0.gone) [
           | inl e ↦ or_right (falls x.0.key) x.0.gone e
           | inr e ↦ or_left (falls x.0.key) x.0.gone
-              (all_taken t ss s opens.kept opens.found gone.forest origin left keys gone.taken none x.0 x.1 e)
+              (all_taken t ss s opens.store.kept opens.store.found gone.forest origin left keys gone.taken none x.0 x.1 e)
         ]) in
         went_so None (held_gone loose (map goes nodes) all) (next_gone due (map goes nodes) all) (root_gone due (map goes nodes) all) refl
 
     -- what goes hung on a node, whose unit stays
     module _ (p : NodeKey) (up : highest.parent ≡ Some p) where
       abbrev over : Node
-      over = (parent t ss s opens.kept opens.found gone.forest origin left keys gone.taken p up).node
+      over = (parent t ss s opens.store.kept opens.store.found gone.forest origin left keys gone.taken p up).node
 
       over_on : In over nodes
-      over_on = (parent t ss s opens.kept opens.found gone.forest origin left keys gone.taken p up).on
+      over_on = (parent t ss s opens.store.kept opens.store.found gone.forest origin left keys gone.taken p up).on
 
       over_key : over.key ≡ p
-      over_key = (parent t ss s opens.kept opens.found gone.forest origin left keys gone.taken p up).is
+      over_key = (parent t ss s opens.store.kept opens.store.found gone.forest origin left keys gone.taken p up).is
 
       over_here : over.gone ≡ false
-      over_here = (parent t ss s opens.kept opens.found gone.forest origin left keys gone.taken p up).here
+      over_here = (parent t ss s opens.store.kept opens.store.found gone.forest origin left keys gone.taken p up).here
 
       over_one : (q : Node) → In q nodes → q.key ≡ over.key → q ≡ over
       over_one q on is = distinct_one nodes whole.sound.distinct q over on over_on is
@@ -146,7 +146,7 @@ module _ (t : Table Node) (us : List Unit) (ss : List Shelf) (old : Entry) (loos
 
       ups : (x : Node) → In x nodes → x.gone ≡ false → falls x.key ≡ true → (x ≡ highest) ⊎ ((q : NodeKey) × (x.parent ≡ Some q) ×
           (falls q ≡ true))
-      ups x on here h = elim (up_falls t ss s opens.kept opens.found gone.forest origin left keys gone.taken x on here h) [
+      ups x on here h = elim (up_falls t ss s opens.store.kept opens.store.found gone.forest origin left keys gone.taken x on here h) [
         | inl e ↦ inl (distinct_one nodes whole.sound.distinct x highest on highest_on e)
         | inr more ↦ inr more
       ]
@@ -157,7 +157,7 @@ module _ (t : Table Node) (us : List Unit) (ss : List Shelf) (old : Entry) (loos
         | inl e ↦ inl e
         | inr e ↦ inr (λ h on is.
             let block : is_blocking highest ≡ true =
-            blocks t ss s opens.kept opens.found gone.forest origin left keys gone.taken p up in
+            blocks t ss s opens.store.kept opens.store.found gone.forest origin left keys gone.taken p up in
             let given : highest.allocated ≡ true = allocated_by highest.attached highest.dispensable highest.allocated e block in
             let no_head : is_head highest ≡ false = (λ i. is_none (up i) || highest.attached) ∙ e in
             let q = shared nodes whole.sound.distinct whole.sound.heads whole.rooted whole.united highest highest_on highest_here no_head
@@ -182,7 +182,7 @@ module _ (t : Table Node) (us : List Unit) (ss : List Shelf) (old : Entry) (loos
       head_left =
           let x = head_there nodes whole.sound.distinct whole.sound.heads whole.rooted whole.united over over_on over_here in
           let out : falls x.0.key ≡ false =
-          head_out t ss s opens.kept opens.found gone.forest origin left keys gone.taken p up x.0 x.1 x.3 x.2 in
+          head_out t ss s opens.store.kept opens.store.found gone.forest origin left keys gone.taken p up x.0 x.1 x.3 x.2 in
           In-any (λ (n : Node). is_of over.head n && (not n.gone && is_head n)) (map goes nodes) (goes x.0) (In-map-back goes nodes x.0 x.1)
           (ap (λ (n : Node). is_of over.head n && (not n.gone && is_head n)) (goes_not going keys x.0 out)
           ∙ and_both (is_of over.head x.0) (not x.0.gone && is_head x.0)
@@ -232,7 +232,7 @@ module _ (t : Table Node) (us : List Unit) (ss : List Shelf) (old : Entry) (loos
       nodes_were = nodes_with t old.keys.items
 
       all : IsWhole (collection_in t (shelf_of old))
-      all = entire t ss (shelf_of old) opens.kept opens.found gone.forest origin left keys gone.taken
+      all = entire t ss (shelf_of old) opens.store.kept opens.store.found gone.forest origin left keys gone.taken
 
       one_fails : (n : Node) → goes_of (Going.Fails fault) keys n ≡ lost (λ m. list_any (same_key m.key) keys) fault n
       one_fails n = elim (either_way (list_any (same_key n.key) keys)) [
@@ -243,7 +243,7 @@ module _ (t : Table Node) (us : List Unit) (ss : List Shelf) (old : Entry) (loos
       becomes : map (goes_of (Going.Fails fault) keys) nodes_were ≡ after_loss fault nodes_were
       becomes =
           map-In (goes_of (Going.Fails fault) keys) (lost (λ m. list_any (same_key m.key) keys) fault) nodes_were (λ n on. one_fails n)
-          ∙ losses_by_fall t nodes_were (on_ties t ss (shelf_of old) opens.kept opens.found gone.forest origin left keys gone.taken) fault
+          ∙ losses_by_fall t nodes_were (on_ties t ss (shelf_of old) opens.store.kept opens.store.found gone.forest origin left keys gone.taken) fault
           (ap (is_left_of nodes_were) is ∙ left) keys
           (subst (λ (k : NodeKey). IsFall t k keys) (sym is) gone.taken.fall)
 
@@ -263,7 +263,7 @@ module _ (t : Table Node) (us : List Unit) (ss : List Shelf) (old : Entry) (loos
       nodes_were = nodes_with t old.keys.items
 
       all : IsWhole (collection_in t (shelf_of old))
-      all = entire t ss (shelf_of old) opens.kept opens.found gone.forest origin left keys gone.taken
+      all = entire t ss (shelf_of old) opens.store.kept opens.store.found gone.forest origin left keys gone.taken
 
       one_leaves : (n : Node) → goes_of going keys n ≡ record n { gone = list_any (same_key n.key) keys || n.gone }
       one_leaves n = elim (either_way (list_any (same_key n.key) keys)) [
@@ -277,14 +277,14 @@ module _ (t : Table Node) (us : List Unit) (ss : List Shelf) (old : Entry) (loos
 
       takes_below : (n : Node) → In n nodes_were → n.gone ≡ false → list_any (same_key n.key) keys ≡ is_below nodes_were origin n.key
       takes_below =
-          let ties = on_ties t ss (shelf_of old) opens.kept opens.found gone.forest origin left keys gone.taken in
+          let ties = on_ties t ss (shelf_of old) opens.store.kept opens.store.found gone.forest origin left keys gone.taken in
           let at_o : node_at t origin ≡ Some o.node =
-          ap (node_at t) (sym o.is) ∙ at_key t ss (shelf_of old) opens.kept opens.found o.node o.on in
+          ap (node_at t) (sym o.is) ∙ at_key t ss (shelf_of old) opens.store.kept opens.store.found o.node o.on in
           elim (or_cases (is_none o.node.parent) o.node.attached (heads o.node o.on o.is)) [
             | inl none ↦
                 fall_root t nodes_were ties origin left
                 (ap (parent_at t) (sym o.is)
-                ∙ (linked t ss (shelf_of old) opens.kept opens.found o.node o.on o.here ∙ no_parent o.node.parent none)) keys gone.taken.fall
+                ∙ (linked t ss (shelf_of old) opens.store.kept opens.store.found o.node o.on o.here ∙ no_parent o.node.parent none)) keys gone.taken.fall
             | inr attached ↦
                 fall_below t nodes_were ties origin left
                 (ap (λ (x : Option Node). option_map_or is_blocking x false) at_o

@@ -15,10 +15,10 @@ use Rattle.alloc_event.specs.Kept.{is_strong, nodes_with, shelf_of}
 use Rattle.alloc_event.specs.Nodes.{affected}
 use Rattle.alloc_event.specs.Questions.{is_live_node}
 use Rattle.alloc_event.specs.Reserved.{camped, reserved_count}
-use Rattle.alloc_event.specs.UnderWay.{IsAffected}
+use Rattle.alloc_event.specs.UnderWay.{Affects}
 use Rattle.alloc_event.proofs.changes.Altering.{same_affected}
 use Rattle.alloc_event.proofs.changes.Effecting.{less_is, live_before, live_is, strong_before, strong_is, unready_before, unready_is}
-use Rattle.alloc_event.proofs.under.Affecting.{affected_here, named_here, nodes_here, opens_under, reserved_here, there_here, within_here}
+use Rattle.alloc_event.proofs.under.Affecting.{affected_here, named_here, nodes_here, may_here, reserved_here, there_here, within_here}
 use Rattle.alloc_event.proofs.affecting.affect_here.Goals.{in-Some-reserved, in-None}
 use Rattle.alloc_event.proofs.affecting.affect_here.Goals as goal
 
@@ -32,7 +32,7 @@ written : (c : goal.After-entry-2-1) → Writes c.args.table.now c.affect_at.new
 written c = c.affect_at.ensures.writes c.in-Some.node (found c)
 
 pub returns-clause-affected : goal.returns-clause-affected
-returns-clause-affected c ss m at here own under =
+returns-clause-affected c ss m at here own store =
     let n : Node = c.in-Some.node in
     let t = c.args.table.now in
     let us = c.args.units.now.items in
@@ -44,49 +44,48 @@ returns-clause-affected c ss m at here own under =
     let is : m ≡ n = some_one m n (sym at ∙ was) in
     let here_n : n.gone ≡ false = ap (λ (x : Node). x.gone) (sym is) ∙ here in
     let own_n : n.collection ≡ e.id = ap (λ (x : Node). x.collection) (sym is) ∙ own in
-    let room = c.requires.room n was in
     let key_is : key ≡ (affected key effect n).key = sym ((same_affected key effect n).key ∙ c.requires.named key n was) in
     let becomes : now ≡ table_with_node t (affected key effect n).key (affected key effect n) =
     subst (λ (k : NodeKey). now ≡ table_with_node t k (affected key effect n)) key_is (c.affect_at.ensures.becomes n was) in
     let writes : Writes t now (affected key effect n).key (affected key effect n) =
     subst (λ (k : NodeKey). Writes t now k (affected key effect n)) key_is (written c) in
-    let opens = opens_under t us ss e under key effect n was here_n own_n room in
-    let within : n.head.slot < length us = within_here t us ss e under key effect n was here_n own_n room now becomes writes in
+    let may = may_here t us ss e store key effect n was here_n own_n in
+    let within : n.head.slot < length us = within_here t us ss e store key effect n was here_n own_n now becomes writes in
     let after : c.affected_by-after.result ≡ affected key effect n = c.affected_by-after.ensures in
     let unit : c.unit_in-unit.result ≡ unit_at us n.head.slot = rw c.deref.ensures.value at c.unit_in-unit.ensures in
     let live : c.less.result ≡ times (lives_in n.head) (map (affected key effect) (nodes_with t e.keys.items)) =
     less_is c.unit_in-unit.result.live c.less.result c.is_live.result c.is_live-2.result (is_live_node n)
     (is_live_node (affected key effect n)) c.less.ensures c.is_live.ensures (c.is_live-2.ensures ∙ ap is_live_node after)
     (live_before key effect n) _
-    (live_is t now us key effect n was becomes writes ss (shelf_of e) e.strong opens within
+    (live_is t now us key effect n was becomes writes ss (shelf_of e) e.strong may within
     ∙ ap (λ (u : Unit). u.live + bit (is_live_node (affected key effect n))) (sym unit)) in
     let unready : c.less-2.result ≡ times (waits_in n.head) (map (affected key effect) (nodes_with t e.keys.items)) =
     less_is c.unit_in-unit.result.unready c.less-2.result c.is_unready.result c.is_unready-2.result (is_unready n)
     (is_unready (affected key effect n)) c.less-2.ensures c.is_unready.ensures (c.is_unready-2.ensures ∙ ap is_unready after)
     (unready_before key effect n) _
-    (unready_is t now us key effect n was becomes writes ss (shelf_of e) e.strong opens within
+    (unready_is t now us key effect n was becomes writes ss (shelf_of e) e.strong may within
     ∙ ap (λ (u : Unit). u.unready + bit (is_unready (affected key effect n))) (sym unit)) in
     let strong : c.less-entry.result ≡ strong_count (map (affected key effect) (nodes_with t e.keys.items)) =
     less_is e.strong c.less-entry.result c.is_strong.result c.is_strong-2.result (is_strong n) (is_strong (affected key effect n))
     c.less-entry.ensures c.is_strong.ensures (c.is_strong-2.ensures ∙ ap is_strong after) (strong_before key effect n) _
-    (strong_is t now us key effect n was becomes writes ss (shelf_of e) e.strong opens) in
+    (strong_is t now us key effect n was becomes writes ss (shelf_of e) e.strong may) in
     let nodes : nodes_with now e.keys.items ≡ map (affected key effect) (nodes_with t e.keys.items) =
-    nodes_here t us ss e under key effect n was here_n own_n room now becomes writes in
+    nodes_here t us ss e store key effect n was here_n own_n now becomes writes in
     let reserved : c.match-reserved.entry ≡ reserved_count (map (affected key effect) (nodes_with t e.keys.items)) =
     elim c.match-reserved.branch [
       | in-Some-reserved w ↦
           w.entry-is
           ∙ w.in-Some-reserved.ensures (reserved_count (map (affected key effect) (nodes_with t e.keys.items)))
           (ap (λ (k : ℕ). reserved_count (map (affected key effect) (nodes_with t e.keys.items)) + k) c.camped.ensures
-          ∙ (reserved_here t us ss e under key effect n was here_n own_n room now becomes writes
-          ∙ (ap (λ (k : ℕ). k + camped (affected key effect n)) (sym under.reserved)
+          ∙ (reserved_here t us ss e store key effect n was here_n own_n now becomes writes
+          ∙ (ap (λ (k : ℕ). k + camped (affected key effect n)) (sym store.reserved)
           ∙ ap (λ (k : ℕ). e.reserved + k) (sym (c.camped-2.ensures ∙ ap camped after)))))
       | in-None w ↦ w.entry-is ∙ (rw w.as_slice.ensures.items at w.survey.ensures.reserved) ∙ ap reserved_count nodes
     ] in
     let new : Entry = record e { reserved = c.match-reserved.entry; strong = c.less-entry.result } in
-    subst (λ (x : Node). IsAffected t now c.put_unit.new.units.items ss e new key effect x.head) (sym is)
-    (subst (λ (l : List Unit). IsAffected t now l ss e new key effect n.head) (sym c.put_unit.ensures)
-    (affected_here t us ss e under key effect n was here_n own_n room now becomes writes
+    subst (λ (x : Node). Affects t now c.put_unit.new.units.items ss e new key effect x.head) (sym is)
+    (subst (λ (l : List Unit). Affects t now l ss e new key effect n.head) (sym c.put_unit.ensures)
+    (affected_here t us ss e store key effect n was here_n own_n now becomes writes
     (record { live = c.less.result; unready = c.less-2.result; below = c.unit_in-unit.result.below }) live unready
     (ap (λ (u : Unit). u.below) unit) new refl refl refl strong reserved))
   where

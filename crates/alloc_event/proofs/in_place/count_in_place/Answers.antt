@@ -17,7 +17,7 @@ use Rattle.alloc_event.specs.Nodes.{affected}
 use Rattle.alloc_event.specs.Questions.{is_live_node}
 use Rattle.alloc_event.proofs.calm.Keeping.{either_holds}
 use Rattle.alloc_event.proofs.changes.Altering.{same_affected}
-use Rattle.alloc_event.proofs.changes.Effecting.{counted_made, less_is, live_before, live_is, strong_before, strong_is, unready_before, unready_is}
+use Rattle.alloc_event.proofs.changes.Effecting.{counted_made, less_is, live_before, live_is, may_affect, strong_before, strong_is, unready_before, unready_is}
 use Rattle.alloc_event.proofs.in_place.count_in_place.Goals.{else-is_unready-via-then-is_unready+then-unready-eq0+else-is_due, else-is_unready-via-then-is_unready+else-unready-eq0, else-is_unready-via-else-is_unready}
 use Rattle.alloc_event.proofs.in_place.count_in_place.Goals as goal
 
@@ -41,6 +41,7 @@ returns-clause-some c ss s opens =
     let key = c.args.key in
     let effect = c.args.effect.now in
     let us = c.args.units.now.items in
+    let may = may_affect t us ss s key effect c.args.entry.now.strong opens in
     let was : node_at t c.args.key ≡ Some n = found c in
     let own : key ≡ (affected key effect n).key = sym ((same_affected key effect n).key ∙ c.requires.named key n was) in
     let becomes : c.affect_at.new.table ≡ table_with_node t (affected key effect n).key (affected key effect n) =
@@ -53,22 +54,22 @@ returns-clause-some c ss s opens =
     less_is c.args.entry.now.strong c.less-left.result c.is_strong.result c.is_strong_after.result (is_strong n)
     (is_strong (affected key effect n))
     c.less-left.ensures c.is_strong.ensures c.is_strong_after.ensures (strong_before key effect n) _
-    (strong_is t c.affect_at.new.table us key effect n was becomes writes ss s c.args.entry.now.strong opens) in
+    (strong_is t c.affect_at.new.table us key effect n was becomes writes ss s c.args.entry.now.strong may) in
     let live : c.less-live.result ≡ times (lives_in n.head) (map (affected key effect) (nodes_with t s.keys)) =
     less_is c.unit_in-unit.result.live c.less-live.result c.is_live.result c.is_live_after.result (is_live_node n)
     (is_live_node (affected key effect n))
     c.less-live.ensures c.is_live.ensures c.is_live_after.ensures (live_before key effect n) _
-    (live_is t c.affect_at.new.table us key effect n was becomes writes ss s c.args.entry.now.strong opens within
+    (live_is t c.affect_at.new.table us key effect n was becomes writes ss s c.args.entry.now.strong may within
     ∙ ap (λ (u : Unit). u.live + bit (is_live_node (affected key effect n))) (sym unit)) in
     let unready : c.less-unready.result ≡ times (waits_in n.head) (map (affected key effect) (nodes_with t s.keys)) =
     less_is c.unit_in-unit.result.unready c.less-unready.result c.is_unready.result c.is_unready_after.result (is_unready n)
     (is_unready (affected key effect n))
     c.less-unready.ensures c.is_unready.ensures c.is_unready_after.ensures (unready_before key effect n) _
-    (unready_is t c.affect_at.new.table us key effect n was becomes writes ss s c.args.entry.now.strong opens within
+    (unready_is t c.affect_at.new.table us key effect n was becomes writes ss s c.args.entry.now.strong may within
     ∙ ap (λ (u : Unit). u.unready + bit (is_unready (affected key effect n))) (sym unit)) in
     subst (λ (l : List Unit). IsMade t c.affect_at.new.table l ss s (Change.Effect key effect) c.less-left.result) (sym c.put_unit.ensures)
-    (counted_made t c.affect_at.new.table us key effect n was becomes writes ss s c.args.entry.now.strong opens within
+    (counted_made t c.affect_at.new.table us key effect n was becomes writes ss s c.args.entry.now.strong may within
     (record { live = c.less-live.result; unready = c.less-unready.result; below = c.unit_in-unit.result.below }) live unready
-    (ap (λ (u : Unit). u.below) unit) c.less-left.result left
+    (ap (λ (u : Unit). u.below) unit) opens.calm c.less-left.result left
     (either_holds c.less-live.result c.unit_in-unit.result.below (sym c.is_held_by.ensures ∙ c.if-not-is_held_by.false))
     (guard c))

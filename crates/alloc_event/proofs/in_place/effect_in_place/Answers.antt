@@ -9,7 +9,7 @@ use Rattle.alloc_event.specs.declared.node.Node.{Node}
 use Rattle.alloc_event.specs.Kept.{is_strong, nodes_with}
 use Rattle.alloc_event.specs.Nodes.{affected}
 use Rattle.alloc_event.proofs.calm.Calming.{times_map}
-use Rattle.alloc_event.proofs.changes.Effecting.{plain_affected, plain_made}
+use Rattle.alloc_event.proofs.changes.Effecting.{may_affect, plain_affected, plain_made}
 use Rattle.alloc_event.proofs.serves.Before.{node_there}
 use Rattle.alloc_event.proofs.shelves.Showing.{node_is}
 use Rattle.alloc_event.proofs.in_place.effect_in_place.Goals as goal
@@ -29,6 +29,7 @@ returns-clause-some c ss s opens =
     plain_made t c.affect_at.new.table c.args.units.now.items key effect n was
     (subst (λ (k : NodeKey). c.affect_at.new.table ≡ table_with_node t k (affected key effect n)) own (c.affect_at.ensures.becomes n was))
     (subst (λ (k : NodeKey). Writes t c.affect_at.new.table k (affected key effect n)) own (c.affect_at.ensures.writes n was))
-    ss s c.args.entry.now.strong opens plain c.args.entry.now.strong
+    ss s c.args.entry.now.strong (may_affect t c.args.units.now.items ss s key effect c.args.entry.now.strong opens) plain opens.calm
+    c.args.entry.now.strong
     (opens.strong ∙ sym (times_map is_strong is_strong (affected key effect) (nodes_with t s.keys)
     (c.keeps_counts.ensures.strong c.if-not-keeps_counts.false key)))

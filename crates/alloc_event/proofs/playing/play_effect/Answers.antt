@@ -9,6 +9,7 @@ use Rattle.alloc_event.specs.declared.node.Node.{Node}
 use Rattle.alloc_event.specs.declared.units.Unit.{Unit}
 use Rattle.alloc_event.specs.Kept.{Shelf}
 use Rattle.alloc_event.specs.UnderWay.{IsAffected}
+use Rattle.alloc_event.proofs.under.Affecting.{affected_on}
 use Rattle.alloc_event.proofs.under.Felled.{head_row, lent_there}
 use Rattle.alloc_event.proofs.under.NextThere.{none_bare}
 use Rattle.alloc_event.proofs.under.Playing.{played_affected, played_none, still_left}
@@ -33,7 +34,8 @@ returns-then-is_none-clause-out c ss n at here own under waits =
     let e = c.args.entry.now in
     let head = c.in-Some.node.now.head in
     let made = affected t mid c.affect_here.new.units.items ss e c.affect_here.new.entry c.args.key c.args.effect.now c.get.result
-    c.in-Some.node n c.in-Some.is (c.get.ensures ∙ at) (c.affect_here.ensures.affected ss n at here own under) in
+    c.in-Some.node n c.in-Some.is (c.get.ensures ∙ at) (affected_on t mid c.args.units.now.items c.affect_here.new.units.items ss e c.affect_here.new.entry c.args.key c.args.effect.now n at own under
+    (c.affect_here.ensures.affected ss n at here own under.store)) in
     let row = head_row mid c.affect_here.ensures.named e.keys.items head made.left in
     absurd (lent_there c.get-2.result row.0 (c.get-2.ensures ∙ row.1) (c.is_none.ensures ∙ ap not c.if-is_none.true))
 
@@ -49,7 +51,8 @@ returns-in-Some-given-clause-out c ss n at here own under waits =
     let head = c.in-Some.node.now.head in
     let handles = total c.args.holds.now in
     let made = affected t mid us ss e e1 key effect c.get.result c.in-Some.node n c.in-Some.is (c.get.ensures ∙ at)
-    (c.affect_here.ensures.affected ss n at here own under) in
+    (affected_on t mid c.args.units.now.items c.affect_here.new.units.items ss e c.affect_here.new.entry c.args.key c.args.effect.now n at own under
+    (c.affect_here.ensures.affected ss n at here own under.store)) in
     let left = still_left t mid us ss e e1 key effect head made in
     played_affected t mid us ss e e1 key effect head made handles c.end_above.new.table c.end_above.new.units.items c.end_above.new.entry
     (c.end_above.ensures.led handles ss (head ∷ []) made.under left) (c.end_above.ensures.ended ss (head ∷ []) made.under left) waits
@@ -71,7 +74,8 @@ returns-in_default-given-clause-out c ss n at here own under waits =
     let vs = c.end_above.new.units.items in
     let e2 = c.end_above.new.entry in
     let made = affected t mid us ss e e1 key effect c.get.result c.in-Some.node n c.in-Some.is (c.get.ensures ∙ at)
-    (c.affect_here.ensures.affected ss n at here own under) in
+    (affected_on t mid c.args.units.now.items c.affect_here.new.units.items ss e c.affect_here.new.entry c.args.key c.args.effect.now n at own under
+    (c.affect_here.ensures.affected ss n at here own under.store)) in
     let left = still_left t mid us ss e e1 key effect head made in
     played_affected t mid us ss e e1 key effect head made handles then vs e2
     (c.end_above.ensures.led handles ss (head ∷ []) made.under left) (c.end_above.ensures.ended ss (head ∷ []) made.under left) waits

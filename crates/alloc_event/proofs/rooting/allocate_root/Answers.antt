@@ -1,5 +1,5 @@
 -- The root's unit comes to its allocation, and what is forced is made in its place.
-use Rattle.std.proofs.Common.{◌≡◌, ◌∙◌, true, false, List, [], Some, None, set, get_or, refl, sym, ap, subst, arith}
+use Rattle.std.proofs.Common.{◌≡◌, ◌∙◌, true, false, List, [], Some, None, set, get_or, sym, ap, subst, arith}
 use Rattle.std.proofs.lemmas.List.{get_or_default}
 use Rattle.sm_names.proofs.SamenessLaws.{some-injective}
 use Rattle.buffer_holds.specs.Counts.{total}
@@ -14,8 +14,9 @@ use Rattle.alloc_event.specs.Closing.{Closes}
 use Rattle.alloc_event.specs.Kept.{place_in, shelves_of}
 use Rattle.alloc_event.specs.Outcomes.{IsOutcomeIn}
 use Rattle.alloc_event.specs.Rooting.{IsPlanned, IsRooted, IsVerdict, comes_first}
-use Rattle.alloc_event.specs.UnderWay.{IsAffected, IsUnderWay}
+use Rattle.alloc_event.specs.UnderWay.{Affects, IsAffected, IsUnderWay, StoreAgrees}
 use Rattle.alloc_event.proofs.changes.Altering.{tracker_room}
+use Rattle.alloc_event.proofs.under.Affecting.{affected_on}
 use Rattle.alloc_event.proofs.shelves.Entries.{IsPlace, none_in, place_is}
 use Rattle.alloc_event.proofs.under.RootOutcome.{coming_mid, may_close, node_there, outcome_root, pool_then, reserved_mid, told_new, under_mid, waits_not}
 use Rattle.alloc_event.proofs.rooting.allocate_root.Goals as goal
@@ -104,14 +105,15 @@ module _ (c : goal.After-close-arg-5-1) where
       let x = node_there t (shelves_of es) c.requires.ready.kept c.args.id c.args.key c.requires.ready.change.named in
       let both : Some planned.node ≡ Some x.0 = sym planned.was ∙ x.1 in
       let one : planned.node ≡ x.0 = cc in
-      subst (λ (e : Entry). IsAffected t c.affect_here.new.table c.affect_here.new.units.items (shelves_of es) e c.affect_here.new.entry
+      let own : planned.node.collection ≡ old.id =
+      ap (λ (m : Node). m.collection) one ∙ (x.3 ∙ sym (ap (λ (e : Entry). e.id) c.index-entry.ensures ∙ place.id_is old)) in
+      affected_on t c.affect_here.new.table us c.affect_here.new.units.items (shelves_of es) old c.affect_here.new.entry c.args.key
+      c.args.effect.now planned.node planned.was own under
+      (subst (λ (e : Entry). Affects t c.affect_here.new.table c.affect_here.new.units.items (shelves_of es) e c.affect_here.new.entry
       c.args.key c.args.effect.now planned.node.head) again
       (c.affect_here.ensures.affected (shelves_of es) planned.node planned.was (ap (λ (m : Node). m.gone) one ∙ x.2)
-      (ap (λ (m : Node). m.collection) one ∙ (x.3 ∙ sym (own_so ∙ refl)))
-      (subst (λ (e : Entry). IsUnderWay t us (shelves_of es) e [] []) (sym again) under))
-    where
-      own_so : c.index_mut-entry.result.now.id ≡ c.args.id
-      own_so = ap (λ (e : Entry). e.id) (again ∙ c.index-entry.ensures) ∙ place.id_is old
+      (own ∙ sym (ap (λ (e : Entry). e.id) again))
+      (subst (λ (e : Entry). StoreAgrees t us (shelves_of es) e) (sym again) under.store)))
 
   found : IsVerdict c.args.pool.now c.place_wanted.new.pool c.args.id c.index-entry.result.now.held.items c.in-Some-planned.plan.wants
       c.in_ok-verdict.verdict
