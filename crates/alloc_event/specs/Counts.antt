@@ -1,5 +1,5 @@
 -- What is counted of units. No public clause cites this module.
-use Rattle.std.specs.Prelude.{◌≡◌, ◌≢◌, ℕ, ◌+◌, ◌<◌, ◌≤◌, Bool, ◌&&◌, ◌||◌, not, nat_lt, if◌then◌else◌, slice_index_or, List, [], ◌∷◌, map, length, set, is_some, true, false, Option, Some, None, option_map}
+use Rattle.std.specs.Prelude.{◌≡◌, ◌≢◌, ℕ, ◌+◌, ◌<◌, ◌≤◌, Bool, ◌&&◌, ◌||◌, not, nat_lt, if◌then◌else◌, slice_index_or, List, [], ◌∷◌, map, length, set, is_some, true, false, Option, Some, None, option_map, ◌-◌}
 use Rattle.std.specs.List.{AllByRecursion, list_any}
 use Rattle.std.specs.Option.{option_map_or}
 use Rattle.sm_names.specs.declared.keys.NodeKey.{NodeKey}
@@ -88,6 +88,18 @@ HaveSlots units cs = AllByRecursion (λ (c : Collection). HasSlots units c.nodes
 pub record Extends (old new : List Unit) : Type 0 where
   pub longer : length old ≤ length new
   pub same : (slot : ℕ) → unit_at new slot ≡ unit_at old slot
+
+-- one less, if it counted and counts no longer
+abbrev pub decrement_if : ℕ → Bool → Bool → ℕ
+decrement_if count was is = if was && (not is && nat_lt 0 count) then count - 1 else count
+
+-- the counts of the unit of the first node once it is the second one
+abbrev pub unit_then : List Unit → Node → Node → Unit
+unit_then us n after = record {
+  live = decrement_if (unit_at us n.head.slot).live (is_live_node n) (is_live_node after);
+  unready = decrement_if (unit_at us n.head.slot).unready (is_unready n) (is_unready after);
+  below = (unit_at us n.head.slot).below;
+}
 
 -- ---- counting anew
 

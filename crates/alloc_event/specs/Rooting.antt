@@ -1,5 +1,5 @@
 -- The first allocation of a collection, whatever it comes to, made in its place. No public clause cites this module.
-use Rattle.std.specs.Prelude.{◌≡◌, ℕ, ◌-◌, ◌≤◌, ◌^◌, ◌⊎◌, Bool, true, false, ◌||◌, ◌&&◌, ◌==◌, not, nat_lt, if◌then◌else◌, List, [], ◌∷◌, Option, Some, None, Result, Ok, Err, IfOk}
+use Rattle.std.specs.Prelude.{◌≡◌, ℕ, ◌≤◌, ◌^◌, ◌⊎◌, Bool, true, false, ◌||◌, ◌&&◌, ◌==◌, not, nat_lt, if◌then◌else◌, List, [], ◌∷◌, Option, Some, None, Result, Ok, Err, IfOk}
 use Rattle.std.specs.List.{filter_map, sum_by}
 use Rattle.std.specs.Option.{option_and_then, option_map_or}
 use Rattle.sm_names.specs.declared.keys.HeldBuffer.{HeldBuffer}
@@ -20,13 +20,13 @@ use Rattle.alloc_event.specs.declared.node.Node.{Node}
 use Rattle.alloc_event.specs.declared.rooting.Plan.{Plan}
 use Rattle.alloc_event.specs.declared.rooting.Verdict.{Verdict}
 use Rattle.alloc_event.specs.declared.units.Unit.{Unit}
-use Rattle.alloc_event.specs.Counts.{is_held_by, is_unready, unit_at}
+use Rattle.alloc_event.specs.Counts.{decrement_if, is_held_by, unit_then}
 use Rattle.alloc_event.specs.Decisions.{waiting}
 use Rattle.alloc_event.specs.First.{IsLaid, wanted_of}
 use Rattle.alloc_event.specs.Forest.{Collection, with_nodes}
 use Rattle.alloc_event.specs.Kept.{Shelf, collection_in, is_strong, put_shelf, shelf_of, written}
 use Rattle.alloc_event.specs.Nodes.{affected, after_allocation, after_loss}
-use Rattle.alloc_event.specs.Questions.{is_live_node, is_root_left}
+use Rattle.alloc_event.specs.Questions.{is_root_left}
 use Rattle.alloc_event.specs.Scenes.{given_few}
 use Rattle.alloc_event.specs.Serving.{asked_with}
 use Rattle.alloc_event.specs.Settling.{Handles}
@@ -34,18 +34,6 @@ use Rattle.alloc_event.specs.TakingTurn.{IsUnitListed}
 use Rattle.alloc_event.specs.UnderWay.{IsBeside, IsUnderWay, Leads, is_abandoned_in}
 
 -- ---- whether the root's unit is to be allocated
-
--- one less, if it counted and counts no longer
-abbrev pub fewer : ℕ → Bool → Bool → ℕ
-fewer count was is = if was && (not is && nat_lt 0 count) then count - 1 else count
-
--- the counts of the unit of the first node once it is the second one
-abbrev pub unit_then : List Unit → Node → Node → Unit
-unit_then us n after = record {
-  live = fewer (unit_at us n.head.slot).live (is_live_node n) (is_live_node after);
-  unready = fewer (unit_at us n.head.slot).unready (is_unready n) (is_unready after);
-  below = (unit_at us n.head.slot).below;
-}
 
 -- something holds the unit with these counts, and it waits for no node
 abbrev pub is_held_ready : Unit → Bool
@@ -102,7 +90,7 @@ pub record IsPlanned (t : Table Node) (us : List Unit) (e : Entry) (key : NodeKe
   pub head_is : plan.head ≡ node.head
   pub keys : List NodeKey
   pub listed : IsUnitListed t node.head keys
-  pub wants_is : plan.wants ≡ wants_of (nat_lt 0 (fewer e.strong (is_strong node) (is_strong (affected key effect node))))
+  pub wants_is : plan.wants ≡ wants_of (nat_lt 0 (decrement_if e.strong (is_strong node) (is_strong (affected key effect node))))
       (wanted_of (asked_with t keys (node.head ∷ []) (affected key effect node)))
   pub some : IfOk plan.wants AreSome
   pub reserved_is : IsReservedThen t e node.head (affected key effect node)

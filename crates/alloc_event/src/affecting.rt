@@ -9,12 +9,12 @@ ghost use Rattle.alloc_event.specs.UnderWay.{Affects, StoreAgrees};
 
 use crate::change::Effect;
 use crate::entry::Entry;
-use crate::in_place::{affect_at, affected_by, less};
-use crate::kept::{is_live, is_strong};
+use crate::in_place::{affect_at, affected_by};
+use crate::kept::is_strong;
 use crate::node::Node;
 use crate::reserving::{camped, exchanged};
 use crate::surveying::survey;
-use crate::units::{Unit, is_unready, put_unit, unit_in};
+use crate::units::{Unit, decrement_if, put_unit, unit_then};
 use node_table::NodeTable;
 use sm_names::NodeKey;
 
@@ -42,15 +42,9 @@ pub(crate) fn affect_here(
         return;
     };
     let after = affected_by(&node, key, effect);
-    let slot = node.head.slot as usize;
-    let unit = unit_in(units, slot);
-    let next = Unit {
-        live: less(unit.live, is_live(&node), is_live(&after)),
-        unready: less(unit.unready, is_unready(&node), is_unready(&after)),
-        below: unit.below,
-    };
-    put_unit(units, slot, next);
-    entry.strong = less(entry.strong, is_strong(&node), is_strong(&after));
+    let next = unit_then(units, &node, &after);
+    put_unit(units, node.head.slot as usize, next);
+    entry.strong = decrement_if(entry.strong, is_strong(&node), is_strong(&after));
     let reserved = exchanged(
         entry.reserved,
         camped(&node, node.constraints),

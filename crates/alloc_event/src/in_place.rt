@@ -1,7 +1,7 @@
 //! Changes that force nothing, as the counts of the collection and of the unit tell, made in their
 //! places.
 ghost use Rattle.std.specs.Option.{option_map_or};
-ghost use Rattle.std.specs.Prelude.{◌≡◌, ◌+◌, ℕ, List, None, Some, true, false, IfSome};
+ghost use Rattle.std.specs.Prelude.{◌≡◌, List, None, Some, true, false, IfSome};
 ghost use Rattle.sm_names.specs.declared.keys.NodeKey.{NodeKey as Key};
 ghost use Rattle.buffer_holds.specs.Counts.{total};
 ghost use Rattle.node_table.specs.Changes.{Writes};
@@ -12,7 +12,7 @@ ghost use Rattle.alloc_event.specs.declared.change.Effect.{Effect as Effected};
 ghost use Rattle.alloc_event.specs.declared.node.Node.{Node as Kept};
 ghost use Rattle.alloc_event.specs.Counts.{HaveUnits, is_unready};
 ghost use Rattle.alloc_event.specs.Due.{is_due_at};
-ghost use Rattle.alloc_event.specs.InPlace.{IsMade, IsOpen, bit, is_plain as is_plain_effect};
+ghost use Rattle.alloc_event.specs.InPlace.{IsMade, IsOpen, is_plain as is_plain_effect};
 ghost use Rattle.alloc_event.specs.Kept.{Shelf, is_strong, shelf_of};
 ghost use Rattle.alloc_event.specs.Nodes.{affected};
 ghost use Rattle.alloc_event.specs.Outcomes.{IsOutcome, IsReady};
@@ -27,7 +27,7 @@ use crate::kept::{is_live, is_strong};
 use crate::node::Node;
 use crate::reserving::reserved_after;
 use crate::resting::is_kept_by;
-use crate::units::{Unit, is_held_by, is_unready, put_unit, unit_in};
+use crate::units::{Unit, decrement_if, is_held_by, is_unready, put_unit, unit_in};
 use buffer_holds::Holds;
 use node_table::NodeTable;
 use sm_names::{CollectionId, NodeKey};
@@ -113,17 +113,6 @@ pub(crate) fn affect_at(table: &mut NodeTable<Node>, key: NodeKey, effect: &Effe
     }
 }
 
-/// The count, where a node that it may have counted is counted no longer.
-pub(crate) fn less(count: usize, was: bool, is: bool) -> usize
-    ensures { (real : ℕ) → (is ≡ true → was ≡ true) → real + bit was ≡ count + bit is → result ≡ real }
-{
-    if was && !is && count > 0 {
-        count - 1
-    } else {
-        count
-    }
-}
-
 /// Whether there is a node with this key in an allocated unit.
 pub(crate) fn is_served(table: &NodeTable<Node>, key: NodeKey) -> bool
     ensures { result ≡ option_map_or (λ n. n.allocated) (node_at table.now key) false }
@@ -179,13 +168,13 @@ fn count_in_place(
         return None;
     }
     let unit = unit_in(units, slot);
-    let left = less(
+    let left = decrement_if(
         entry.strong,
         is_strong(node),
         is_strong_after(node, key, effect),
     );
-    let live = less(unit.live, is_live(node), is_live_after(node, key, effect));
-    let unready = less(
+    let live = decrement_if(unit.live, is_live(node), is_live_after(node, key, effect));
+    let unready = decrement_if(
         unit.unready,
         is_unready(node),
         is_unready_after(node, key, effect),

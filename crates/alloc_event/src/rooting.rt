@@ -18,7 +18,7 @@ ghost use Rattle.alloc_event.specs.Kept.{Shelf, forest_of, nodes_with, shelves_o
 ghost use Rattle.alloc_event.specs.Nodes.{after_effect, after_allocation};
 ghost use Rattle.alloc_event.specs.Outcomes.{IsOutcomeIn, IsReady, was_made};
 ghost use Rattle.alloc_event.specs.Reserved.{reserved_count};
-ghost use Rattle.alloc_event.specs.Rooting.{AreSome, IsComing, IsPlanned, IsReservedThen, IsRooted, IsVerdict, comes_first, fewer, gives_few, is_bare_root, is_held_ready, is_served_then, served_at, served_with, unit_then, wants_of};
+ghost use Rattle.alloc_event.specs.Rooting.{AreSome, IsComing, IsPlanned, IsReservedThen, IsRooted, IsVerdict, comes_first, gives_few, is_bare_root, is_held_ready, is_served_then, served_at, served_with, wants_of};
 ghost use Rattle.alloc_event.specs.Scenes.{given_few, has_tracker_room};
 ghost use Rattle.alloc_event.specs.Serving.{asked_with};
 ghost use Rattle.alloc_event.specs.Settling.{Handles};
@@ -31,14 +31,14 @@ use crate::closing::close;
 use crate::entry::{Entry, place_of};
 use crate::going_down::go_down;
 use crate::in_place::affected_by;
-use crate::kept::{is_live, is_strong};
+use crate::kept::is_strong;
 use crate::node::Node;
 use crate::placing::{lay_in, part};
 use crate::room::Room;
 use crate::rounds::{list_turns, take_turns};
 use crate::serving::{asked_at, give};
 use crate::taking_turn::list_unit;
-use crate::units::{Unit, is_held_by, is_unready, unit_in};
+use crate::units::{Unit, decrement_if, is_held_by, unit_then};
 use buffer_holds::Holds;
 use buffer_pool::Pool;
 use node_table::NodeTable;
@@ -63,29 +63,6 @@ enum Verdict {
     Fails(Failure),
     /// The unit is given these buffers, which lie so, with others of the collection behind them.
     Given(Buffers, Vec<HeldBuffer>),
-}
-
-/// One less, if it counted and counts no longer.
-fn fewer(count: usize, was: bool, is: bool) -> usize
-    ensures { result ≡ fewer count was is }
-{
-    if was && !is && count > 0 {
-        count - 1
-    } else {
-        count
-    }
-}
-
-/// The counts of the unit of the first node once it is the second one.
-fn unit_then(units: &[Unit], node: &Node, after: &Node) -> Unit
-    ensures { result ≡ unit_then units.now node.now after.now }
-{
-    let unit = unit_in(units, node.head.slot as usize);
-    Unit {
-        live: fewer(unit.live, is_live(node), is_live(after)),
-        unready: fewer(unit.unready, is_unready(node), is_unready(after)),
-        below: unit.below,
-    }
 }
 
 /// Whether something holds the unit with these counts, and it waits for no node.
@@ -247,7 +224,7 @@ fn planned(
     }
     list_unit(table, node.head, keys);
     let asks = root_asks(table, keys, node.head, &after);
-    let strong = fewer(entry.strong, is_strong(&node), is_strong(&after));
+    let strong = decrement_if(entry.strong, is_strong(&node), is_strong(&after));
     Some(Plan {
         head: node.head,
         wants: wanted(&asks, strong),

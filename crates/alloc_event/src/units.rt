@@ -2,7 +2,7 @@
 //! units hang right below them.
 ghost use Rattle.std.specs.Prelude.{◌≡◌, ◌<◌, ◌≤◌, [], ◌∷◌, set, length, OnOk};
 ghost use Rattle.node_table.specs.Table.{table_len};
-ghost use Rattle.alloc_event.specs.Counts.{Extends, head_above, head_of, hung, is_held_by, is_unready, no_unit, raised, reckoned, tallied, unit_at, with_below, with_node};
+ghost use Rattle.alloc_event.specs.Counts.{Extends, decrement_if, head_above, head_of, hung, is_held_by, is_unready, no_unit, raised, reckoned, tallied, unit_at, unit_then, with_below, with_node};
 ghost use Rattle.alloc_event.specs.Kept.{nodes_with};
 
 use crate::kept::is_live;
@@ -44,6 +44,29 @@ pub(crate) fn is_unready(node: &Node) -> bool
     ensures { result ≡ is_unready node.now }
 {
     !node.gone && !node.released && node.constraints.is_none()
+}
+
+/// One less, if it counted and counts no longer.
+pub(crate) fn decrement_if(count: usize, was: bool, is: bool) -> usize
+    ensures { result ≡ decrement_if count was is }
+{
+    if was && !is && count > 0 {
+        count - 1
+    } else {
+        count
+    }
+}
+
+/// The counts of the unit of the first node once it is the second one.
+pub(crate) fn unit_then(units: &[Unit], node: &Node, after: &Node) -> Unit
+    ensures { result ≡ unit_then units.now node.now after.now }
+{
+    let unit = unit_in(units, node.head.slot as usize);
+    Unit {
+        live: decrement_if(unit.live, is_live(node), is_live(after)),
+        unready: decrement_if(unit.unready, is_unready(node), is_unready(after)),
+        below: unit.below,
+    }
 }
 
 /// The counts in this slot.

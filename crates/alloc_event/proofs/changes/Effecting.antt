@@ -1,6 +1,6 @@
 -- An effect that is made in its place, and what the count of strong live nodes becomes.
-use Rattle.std.proofs.Common.{◌≡◌, ◌≢◌, ℕ, ◌+◌, ◌==◌, Bool, true, false, ◌||◌, ◌&&◌, not, if◌then◌else◌, is_none, is_some, ◌<◌, ◌⊎◌, inl, inr, List, [], ◌∷◌, map, length, set, Option, Some, None, option_map, refl, sym, ap, subst, ◌∙◌, arith}
-use Rattle.std.proofs.lemmas.Bool.{eqb-true, not-true}
+use Rattle.std.proofs.Common.{◌≡◌, ◌≢◌, ℕ, zero, suc, nat_lt, ◌+◌, ◌==◌, Bool, true, false, ◌||◌, ◌&&◌, not, if◌then◌else◌, is_none, is_some, ◌<◌, ◌⊎◌, inl, inr, List, [], ◌∷◌, map, length, set, Option, Some, None, option_map, refl, sym, ap, subst, ◌∙◌, arith}
+use Rattle.std.proofs.lemmas.Bool.{eqb-true, lt-ltb, not-true}
 use Rattle.std.proofs.lemmas.List.{get_or-set_other, get_or-set_same, length-set}
 use Rattle.std.specs.List.{list_all, list_any}
 use Rattle.std.specs.Option.{option_map_or, unwrap_or}
@@ -20,7 +20,7 @@ use Rattle.alloc_event.specs.declared.change.Effect.{Effect}
 use Rattle.alloc_event.specs.declared.node.Node.{Node}
 use Rattle.alloc_event.specs.declared.units.Unit.{Unit}
 use Rattle.alloc_event.specs.Calm.{IsCalm, strong_count, over_but}
-use Rattle.alloc_event.specs.Counts.{AreUnits, HasUnit, HasUnits, heads_below, is_unready, lives_in, no_unit, unit_at, unit_of, waits_in}
+use Rattle.alloc_event.specs.Counts.{AreUnits, HasUnit, HasUnits, decrement_if, heads_below, is_unready, lives_in, no_unit, unit_at, unit_of, waits_in}
 use Rattle.alloc_event.specs.Dropped.{has_given_root}
 use Rattle.alloc_event.specs.Due.{is_due_at, is_served_at}
 use Rattle.alloc_event.specs.Forest.{Collection, beside, with_nodes}
@@ -154,13 +154,22 @@ unready_before key effect n h =
     (ap not (released_stays key effect n (not-true _ (and_left (not (affected key effect n).released) _ one))))
     (ap not (asks_stays key effect n (not-true _ (and_right (not (affected key effect n).released) _ one)))))
 
+-- what is one less, where it counted and counts no longer
+pub decremented : (count : ℕ) (was is : Bool) (real : ℕ) → (is ≡ true → was ≡ true) → real + bit was ≡ count + bit is →
+    decrement_if count was is ≡ real
+decremented count true true real before e = omega arith
+decremented zero true false real before e = absurd (omega arith)
+decremented (suc n) true false real before e =
+    let some : nat_lt 0 (suc n) ≡ true = lt-ltb 0 (suc n) (omega arith) in
+    rw some (omega arith)
+decremented count false true real before e = let no : false ≡ true = before refl in absurd (cc)
+decremented count false false real before e = omega arith
+
 -- what a count became, by the tests
-pub less_is : (count result : ℕ) (was is w i : Bool) → ((real : ℕ) → (is ≡ true → was ≡ true) → real + bit was ≡ count + bit is →
-    result ≡ real) →
-    was ≡ w → is ≡ i → (i ≡ true → w ≡ true) → (real : ℕ) → real + bit w ≡ count + bit i → result ≡ real
-less_is count result was is w i told is_was is_is before real e =
-    told real (λ h. is_was ∙ before (sym is_is ∙ h)) (ap (λ (b : Bool). real + bit b) is_was
-    ∙ (e ∙ sym (ap (λ (b : Bool). count + bit b) is_is)))
+pub less_is : (count result : ℕ) (was is w i : Bool) → result ≡ decrement_if count was is → was ≡ w → is ≡ i → (i ≡ true → w ≡ true) →
+    (real : ℕ) → real + bit w ≡ count + bit i → result ≡ real
+less_is count result was is w i told was_is is_is before real e =
+    told ∙ ((λ j. decrement_if count (was_is j) (is_is j)) ∙ decremented count w i real before e)
 
 -- ---- the effect
 

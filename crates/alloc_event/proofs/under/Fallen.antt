@@ -1,6 +1,6 @@
 -- Nodes that went in their places while forced steps are made, and the counts of those that are left.
 use Rattle.std.proofs.Common.{◌≡◌, ◌≢◌, ℕ, ◌+◌, ◌<◌, ◌==◌, refl, ap, sym, ◌∙◌, subst, Bool, true, false, not, ◌&&◌, ◌||◌, inl, inr, List, map, reverse, length, Option, Some, None, option_map, arith}
-use Rattle.std.proofs.lemmas.Bool.{eqb-false, eqb-true, not-true}
+use Rattle.std.proofs.lemmas.Bool.{eqb-false, eqb-true}
 use Rattle.std.proofs.lemmas.Map.Views.{Contains-from_any, list_any-from_Contains}
 use Rattle.std.specs.List.{AllByRecursion, find, list_all, list_any}
 use Rattle.std.specs.Option.{option_map_or}
@@ -9,7 +9,7 @@ use Rattle.sm_names.specs.declared.keys.NodeKey.{NodeKey}
 use Rattle.sm_names.specs.Sameness.{same_key}
 use Rattle.sm_names.specs.Words.{times}
 use Rattle.sm_names.proofs.ListLaws.{In, In-find, In-list_any, In-map, In-map-back}
-use Rattle.sm_names.proofs.SamenessLaws.{and_both, and_left, and_right, both_ways, either_way, false_if, or_none_right, same_key-true}
+use Rattle.sm_names.proofs.SamenessLaws.{both_ways, either_way, false_if, same_key-true}
 use Rattle.sm_names.proofs.StandingLaws.{In-any}
 use Rattle.node_table.specs.Table.{Table, node_at, parent_at}
 use Rattle.failure_domains.specs.Falls.{blocked_at}
@@ -21,7 +21,6 @@ use Rattle.alloc_event.specs.Counts.{AreUnits, AreUnitsBut, HasUnit, HasUnits, h
 use Rattle.alloc_event.specs.Falling.{IsTaken, gone_by, unreckoned, untallied}
 use Rattle.alloc_event.specs.Forest.{Collection, with_nodes}
 use Rattle.alloc_event.specs.Kept.{IsStored, IsWhole, Shelf, Stores, all_of, collection_in, is_filed, is_strong, nodes_with, shelf_of, stored}
-use Rattle.alloc_event.specs.Questions.{is_served}
 use Rattle.alloc_event.specs.Reserved.{reserved_count}
 use Rattle.alloc_event.specs.Ties.{are_rooted, is_blocking}
 use Rattle.alloc_event.specs.Units.{GoTogether, is_head}
@@ -46,7 +45,7 @@ use Rattle.alloc_event.proofs.tables.Writing.{IsSameNode, IsSound-map, kept-with
 use Rattle.sm_names.specs.Losses.{Up}
 use Rattle.alloc_event.specs.declared.entry.Entry.{Entry}
 use Rattle.alloc_event.specs.GoingDown.{IsGoneSo}
-use Rattle.alloc_event.specs.UnderWay.{IsUnderWay, are_held_but, is_next_but, waits_among}
+use Rattle.alloc_event.specs.UnderWay.{StoreAgrees}
 use Rattle.alloc_event.proofs.failures.Written.{went_now}
 use Rattle.alloc_event.proofs.leaving.Noted.{more_noted}
 
@@ -55,8 +54,7 @@ one_option n m e = cc
 
 -- ---- the change
 
-module _ (t : Table Node) (us : List Unit) (ss : List Shelf) (old : Entry) (loose due : List NodeKey)
-    (opens : IsUnderWay t us ss old loose due) (going : Going)
+module _ (t : Table Node) (us : List Unit) (ss : List Shelf) (old : Entry) (store : StoreAgrees t us ss old) (going : Going)
     (origin : NodeKey) (keys : List NodeKey) (taken : IsTaken t origin keys) (own : all_of old.id (nodes_with t keys) ≡ true) where
   abbrev pub s : Shelf
   s = shelf_of old
@@ -80,45 +78,45 @@ module _ (t : Table Node) (us : List Unit) (ss : List Shelf) (old : Entry) (loos
   same n = same_of going keys n
 
   pub whole : IsWhole (collection_in t s)
-  whole = found_whole t s.id ss s opens.store.kept.whole opens.store.found
+  whole = found_whole t s.id ss s store.kept.whole store.found
 
   own_filed : list_all (is_filed t s.id) s.keys ≡ true
-  own_filed = found_filed t s.id ss s opens.store.kept.filed opens.store.found
+  own_filed = found_filed t s.id ss s store.kept.filed store.found
 
   pub at_key : (m : Node) → In m nodes → node_at t m.key ≡ Some m
-  at_key m there = in_all (λ (x : Node). node_at t x.key ≡ Some x) nodes (looked_there t opens.store.kept.named s.keys) m there
+  at_key m there = in_all (λ (x : Node). node_at t x.key ≡ Some x) nodes (looked_there t store.kept.named s.keys) m there
 
   of_it : (m : Node) → In m nodes → m.collection ≡ s.id
   of_it m there = eqb-true m.collection s.id (all-In (λ (x : Node). x.collection == s.id) nodes m there (looked-of t s.id s.keys own_filed))
 
   pub linked : (x : Node) → In x nodes → x.gone ≡ false → parent_at t x.key ≡ x.parent
-  linked x on here = opens.store.kept.linked x.key x (at_key x on) here
+  linked x on here = store.kept.linked x.key x (at_key x on) here
 
   -- what falls is of the collection
   pub within : (n : Node) → In n fallen → In n nodes
   within n on =
-      in_shelf t ss opens.store.kept s.id s opens.store.found n.key n
-      (in_all (λ (x : Node). node_at t x.key ≡ Some x) fallen (looked_there t opens.store.kept.named keys) n on)
+      in_shelf t ss store.kept s.id s store.found n.key n
+      (in_all (λ (x : Node). node_at t x.key ≡ Some x) fallen (looked_there t store.kept.named keys) n on)
       (eqb-true n.collection s.id (all-In (λ (x : Node). x.collection == s.id) fallen n on own))
 
   count_is : (test : Node → Bool) → ((n : Node) → test (f n) ≡ but test keys n) →
       times test (map f nodes) + times test fallen ≡ times test nodes
   count_is test is =
       ap (λ (m : ℕ). m + times test fallen) (times_map test (but test keys) f nodes is)
-      ∙ taken_count t nodes whole.sound.distinct at_key opens.store.kept.named test keys taken.once within
+      ∙ taken_count t nodes whole.sound.distinct at_key store.kept.named test keys taken.once within
 
   pub strong_is : strong_count (map f nodes) + strong_count fallen ≡ old.strong
-  strong_is = count_is is_strong (strong_but keys going) ∙ sym opens.store.strong
+  strong_is = count_is is_strong (strong_but keys going) ∙ sym store.strong
 
   -- what falls camps on nothing any more
   pub reserved_is : reserved_count (map f nodes) + reserved_count fallen ≡ reserved_count nodes
-  reserved_is = reserved_left t nodes whole.sound.distinct at_key opens.store.kept.named f keys (camped_of keys going) taken.once within
+  reserved_is = reserved_left t nodes whole.sound.distinct at_key store.kept.named f keys (camped_of keys going) taken.once within
 
   -- ---- the units
 
   unit_has : HasUnits us nodes
-  unit_has = all_at (λ (c : Collection). HasUnits us c.nodes) (map (collection_in t) ss) opens.store.units (collection_in t s)
-      (In-map-back (collection_in t) ss s (In-find (λ (x : Shelf). x.id == s.id) ss s opens.store.found).0)
+  unit_has = all_at (λ (c : Collection). HasUnits us c.nodes) (map (collection_in t) ss) store.units (collection_in t s)
+      (In-map-back (collection_in t) ss s (In-find (λ (x : Shelf). x.id == s.id) ss s store.found).0)
 
   head_of : (n : Node) → In n fallen → n.gone ≡ false → (h : Node) × In h nodes × (h.key ≡ n.head) × (h.gone ≡ false) × (is_head h ≡ true)
   head_of n on here = head_there nodes whole.sound.distinct whole.sound.heads whole.rooted whole.united n (within n on) here
@@ -146,7 +144,7 @@ module _ (t : Table Node) (us : List Unit) (ss : List Shelf) (old : Entry) (loos
       (λ i. times_map (heads_below (map f nodes) k) (but (heads_below nodes k) keys) f nodes (below_but k) i
       + times_same (is_hung t k) (heads_below nodes k) fallen (λ n on. hung_is t nodes whole.sound.distinct whole.rooted at_key k n
       (within n on)) i)
-      ∙ taken_count t nodes whole.sound.distinct at_key opens.store.kept.named (heads_below nodes k) keys taken.once within
+      ∙ taken_count t nodes whole.sound.distinct at_key store.kept.named (heads_below nodes k) keys taken.once within
 
   unit_before : (n : Node) → In n nodes → n.key.slot < length us → unit_at us n.key.slot ≡ unit_of nodes n.key
   unit_before n on inside = (in_all (HasUnit us nodes) nodes unit_has n on).1
@@ -211,7 +209,7 @@ module _ (t : Table Node) (us : List Unit) (ss : List Shelf) (old : Entry) (loos
 
   -- the other collections have their counts in any case
   pub units_but : AreUnitsBut new s.id (map (collection_in t) ss)
-  units_but = but_stays t opens.store.kept.named us new s.id stays ss opens.store.kept.filed (but_all us s.id (map (collection_in t) ss) opens.store.units)
+  units_but = but_stays t store.kept.named us new s.id stays ss store.kept.filed (but_all us s.id (map (collection_in t) ss) store.units)
 
   -- with a node of a unit without buffers its parent falls
   falls_up : StepsUp nodes (λ n. falls n.key)
@@ -242,8 +240,8 @@ module _ (t : Table Node) (us : List Unit) (ss : List Shelf) (old : Entry) (loos
         by : (o : Option Node) → node_at t k ≡ o → option_map (stored (map (gone_by going) fallen)) o ≡ option_map f o
         by None is = refl
         by (Some n) is =
-            let at : node_at t n.key ≡ Some n = ap (node_at t) (opens.store.kept.named k n is) ∙ is in
-            ap Some (stored_goes t opens.store.kept.named going keys n at n (inl refl))
+            let at : node_at t n.key ≡ Some n = ap (node_at t) (store.kept.named k n is) ∙ is in
+            ap Some (stored_goes t store.kept.named going keys n at n (inl refl))
 
     -- a node that is there was there
     was : (key : NodeKey) (n : Node) → node_at now key ≡ Some n → (m : Node) × (node_at t key ≡ Some m) × (f m ≡ n)
@@ -258,12 +256,12 @@ module _ (t : Table Node) (us : List Unit) (ss : List Shelf) (old : Entry) (loos
 
     -- what went is of the collection
     filed : list_all (is_filed t s.id) (keys_in (map (gone_by going) fallen)) ≡ true
-    filed = filed_fallen t opens.store.kept.named going s.id keys own
+    filed = filed_fallen t store.kept.named going s.id keys own
 
     -- the other collections stay as they are
     pub beside_same : (x : Shelf) → x.id ≢ s.id → list_all (is_filed t x.id) x.keys ≡ true → collection_in now x ≡ collection_in t x
     beside_same x differ x_filed =
-        collection-beside t now s.id (map (gone_by going) fallen) stores opens.store.kept.named filed x differ x_filed
+        collection-beside t now s.id (map (gone_by going) fallen) stores store.kept.named filed x differ x_filed
 
     -- a test that none of those that went passes, and none did before, none passes
     pub over_now : (p : Node → Bool) → list_any p (map (gone_by going) fallen) ≡ false → list_any p nodes ≡ false →
@@ -276,7 +274,7 @@ module _ (t : Table Node) (us : List Unit) (ss : List Shelf) (old : Entry) (loos
           | inl h ↦
               both_ways (list_any p (map (gone_by going) fallen))
               (In-any p (map (gone_by going) fallen) (gone_by going y.0)
-              (In-map-back (gone_by going) fallen y.0 (in_looked t opens.store.kept.named going keys y.0 (at_key y.0 y.1) h))
+              (In-map-back (gone_by going) fallen y.0 (in_looked t store.kept.named going keys y.0 (at_key y.0 y.1) h))
               (ap p (sym (goes_in going keys y.0 h)) ∙ is)) some
           | inr h ↦ both_ways (list_any p nodes) (In-any p nodes y.0 y.1 (ap p (sym (goes_not going keys y.0 h)) ∙ is)) was
         ])
@@ -308,23 +306,23 @@ module _ (t : Table Node) (us : List Unit) (ss : List Shelf) (old : Entry) (loos
     }
 
     in_shelves : In s ss
-    in_shelves = (In-find (λ (x : Shelf). x.id == s.id) ss s opens.store.found).0
+    in_shelves = (In-find (λ (x : Shelf). x.id == s.id) ss s store.found).0
 
     whole_now : AllByRecursion (λ (x : Shelf). IsWhole (collection_in now x)) ss
     whole_now = all_in (λ (x : Shelf). IsWhole (collection_in now x)) ss (λ x on. elim (either_way (x.id == s.id)) [
       | inl e ↦
           subst (λ (y : Shelf). IsWhole (collection_in now y))
-          (sym (one_shelf ss opens.store.kept.rising x s on in_shelves (eqb-true x.id s.id e)))
+          (sym (one_shelf ss store.kept.rising x s on in_shelves (eqb-true x.id s.id e)))
           (subst IsWhole (sym now_is) whole_after)
       | inr e ↦
           subst IsWhole (sym (beside_same now stores x (eqb-false x.id s.id e) (all-In (λ (y : Shelf). list_all (is_filed t y.id) y.keys) ss x on
-          opens.store.kept.filed)))
-          (all_at (λ (y : Shelf). IsWhole (collection_in t y)) ss opens.store.kept.whole x on)
+          store.kept.filed)))
+          (all_at (λ (y : Shelf). IsWhole (collection_in t y)) ss store.kept.whole x on)
     ])
 
     pub kept_now : IsStored now ss
     kept_now = kept-with f same (λ n h. or_second (falls n.key) n.gone (sym (gone_of going keys n) ∙ h)) t now stores.same.first
-        stores.same.nexts stores.same.len look stores.parents ss whole_now opens.store.kept
+        stores.same.nexts stores.same.len look stores.parents ss whole_now store.kept
       where
         or_second : (a b : Bool) → (a || b) ≡ false → b ≡ false
         or_second true b h = cc
@@ -334,20 +332,17 @@ module _ (t : Table Node) (us : List Unit) (ss : List Shelf) (old : Entry) (loos
     units_now =
         but_join new s.id (map (collection_in now) ss)
         (but_moved t now new s.id ss (λ x there differ.
-        beside_same now stores x differ (all-In (λ (y : Shelf). list_all (is_filed t y.id) y.keys) ss x there opens.store.kept.filed)) units_but)
+        beside_same now stores x differ (all-In (λ (y : Shelf). list_all (is_filed t y.id) y.keys) ss x there store.kept.filed)) units_but)
         (λ c on is.
         let x = In-map (collection_in now) ss c on in
-        let one : x.0 ≡ s = one_shelf ss opens.store.kept.rising x.0 s x.1 in_shelves (sym (ap (λ (d : Collection). d.id) x.2) ∙ is) in
+        let one : x.0 ≡ s = one_shelf ss store.kept.rising x.0 s x.1 in_shelves (sym (ap (λ (d : Collection). d.id) x.2) ∙ is) in
         subst (λ (d : Collection). HasUnits new d.nodes) (sym (x.2 ∙ (ap (collection_in now) one ∙ now_is))) has_now)
 
   -- ---- the whole
 
-  -- forced steps may go on, where the units that are left are held, and none of them came to its turn
+  -- the store agrees again
   module _ (now : Table Node) (after : List Unit) (entry : Entry) (gone : IsGoneSo t now us after old entry going origin keys)
-      (rooted_now : are_rooted (reverse (map f nodes)) ≡ true) (apart : List NodeKey)
-      (held : are_held_but apart (map f nodes) ≡ true)
-      (next : list_any (is_next_but due (map f nodes)) (map f nodes) ≡ false)
-      (root : waits_among due (map f nodes) ≡ true) where
+      (rooted_now : are_rooted (reverse (map f nodes)) ≡ true) where
     same_keys : entry.keys.items ≡ old.keys.items
     same_keys = ap (λ (x : Shelf). x.keys) gone.shelf
 
@@ -358,46 +353,24 @@ module _ (t : Table Node) (us : List Unit) (ss : List Shelf) (old : Entry) (loos
     stays_over h =
         ap (λ (ks : List NodeKey). list_any (over_but entry.noted.items) (nodes_with now ks)) same_keys
         ∙ over_now now gone.stores (over_but entry.noted.items)
-        (ap (list_any (over_but entry.noted.items)) (sym (went_now t opens.store.kept.named going keys now gone.stores)) ∙ gone.over h)
-        (more_noted old.noted.items entry.noted.items gone.more nodes (opens.store.tidy (gone.tidy h)))
+        (ap (list_any (over_but entry.noted.items)) (sym (went_now t store.kept.named going keys now gone.stores)) ∙ gone.over h)
+        (more_noted old.noted.items entry.noted.items gone.more nodes (store.tidy (gone.tidy h)))
 
-    -- what is left has buffers only where it had
-    stays_bare : entry.buffers ≡ None → list_any is_served (nodes_with now entry.keys.items) ≡ false
-    stays_bare none = ap (list_any is_served) nodes_are ∙ false_if (list_any is_served (map f nodes)) (λ h.
-        let x = In-list_any is_served (map f nodes) h in
-        let y = In-map f nodes x.0 x.1 in
-        let was : is_served y.0 ≡ true = served_was y.0 (ap is_served (sym y.2) ∙ x.2) in
-        both_ways (list_any is_served nodes) (In-any is_served nodes y.0 y.1 was)
-        (opens.bare (sym (ap (λ (s : Shelf). s.buffers) gone.shelf) ∙ none)))
-      where
-        served_was : (n : Node) → is_served (f n) ≡ true → is_served n ≡ true
-        served_was n h =
-            let here : (falls n.key || n.gone) ≡ false =
-            sym (gone_of going keys n) ∙ not-true (f n).gone (and_left (not (f n).gone) _ h) in
-            and_both (not n.gone) n.allocated (ap not (or_none_right (falls n.key) n.gone here))
-            (sym (given_of going keys n) ∙ and_right (not (f n).gone) _ h)
-
-    pub under_now : IsUnderWay now after ss entry apart due
-    under_now =
+    pub store_now : StoreAgrees now after ss entry
+    store_now =
         let less = gone.strong in
         let sum = strong_is in
         let count : entry.strong ≡ strong_count (map f nodes) = omega arith in
         record {
-          store = record {
-            kept = kept_now now gone.stores rooted_now;
-            found = subst (λ (x : Shelf). find (λ (y : Shelf). y.id == x.id) ss ≡ Some x) (sym gone.shelf) opens.store.found;
-            units = subst (λ (x : List Unit). AreUnits x (map (collection_in now) ss)) (sym gone.units)
-                (units_now now gone.stores rooted_now);
-            inside = λ key n is.
-                let m = was now gone.stores key n is in
-                subst (λ (l : ℕ). key.slot < l) (sym (ap length gone.units ∙ long)) (opens.store.inside key m.0 m.1);
-            strong = count ∙ ap strong_count (sym nodes_are);
-            reserved = gone.reserved (reserved_count (nodes_with now entry.keys.items))
-                ((λ i. reserved_count (nodes_are i) + reserved_count fallen) ∙ (reserved_is ∙ sym opens.store.reserved));
-            tidy = stays_over;
-          };
-          bare = stays_bare;
-          held = ap (are_held_but apart) nodes_are ∙ held;
-          next = ap (λ (ns : List Node). list_any (is_next_but due ns) ns) nodes_are ∙ next;
-          root = ap (waits_among due) nodes_are ∙ root;
+          kept = kept_now now gone.stores rooted_now;
+          found = subst (λ (x : Shelf). find (λ (y : Shelf). y.id == x.id) ss ≡ Some x) (sym gone.shelf) store.found;
+          units = subst (λ (x : List Unit). AreUnits x (map (collection_in now) ss)) (sym gone.units)
+              (units_now now gone.stores rooted_now);
+          inside = λ key n is.
+              let m = was now gone.stores key n is in
+              subst (λ (l : ℕ). key.slot < l) (sym (ap length gone.units ∙ long)) (store.inside key m.0 m.1);
+          strong = count ∙ ap strong_count (sym nodes_are);
+          reserved = gone.reserved (reserved_count (nodes_with now entry.keys.items))
+              ((λ i. reserved_count (nodes_are i) + reserved_count fallen) ∙ (reserved_is ∙ sym store.reserved));
+          tidy = stays_over;
         }

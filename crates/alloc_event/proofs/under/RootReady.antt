@@ -15,19 +15,19 @@ use Rattle.alloc_event.specs.declared.change.Effect.{Effect}
 use Rattle.alloc_event.specs.declared.node.Node.{Node}
 use Rattle.alloc_event.specs.declared.units.Unit.{Unit}
 use Rattle.alloc_event.specs.Calm.{strong_count}
-use Rattle.alloc_event.specs.Counts.{HasUnit, hangs_in, heads_below, is_unready, lives_in, unit_at, unit_of, waits_in}
+use Rattle.alloc_event.specs.Counts.{HasUnit, decrement_if, hangs_in, heads_below, is_unready, lives_in, unit_at, unit_of, unit_then, waits_in}
 use Rattle.alloc_event.specs.Decisions.{has_strong, waiting}
 use Rattle.alloc_event.specs.InPlace.{IsOpen, bit}
 use Rattle.alloc_event.specs.Kept.{Shelf, collection_in, is_strong, nodes_with}
 use Rattle.alloc_event.specs.Nodes.{affected}
 use Rattle.alloc_event.specs.Questions.{is_live_node, is_ready_node, is_root_left}
-use Rattle.alloc_event.specs.Rooting.{IsComing, comes_first, fewer, is_bare_root, is_held_ready, unit_then}
+use Rattle.alloc_event.specs.Rooting.{IsComing, comes_first, is_bare_root, is_held_ready}
 use Rattle.alloc_event.specs.UnderWay.{are_held_but, holds_unit, is_held}
 use Rattle.alloc_event.specs.Units.{is_head}
 use Rattle.alloc_event.proofs.calm.Calming.{count_none, count_some, none_calm}
 use Rattle.alloc_event.proofs.calm.Steps.{all-In}
 use Rattle.alloc_event.proofs.changes.Altering.{same_affected}
-use Rattle.alloc_event.proofs.changes.Effecting.{live_before, remains_affected, strong_before, unready_before}
+use Rattle.alloc_event.proofs.changes.Effecting.{decremented, live_before, remains_affected, strong_before, unready_before}
 use Rattle.alloc_event.proofs.serves.Between.{StandsIn, stands_in}
 use Rattle.alloc_event.proofs.serves.RootUnit.{root_found}
 use Rattle.alloc_event.proofs.tables.Writing.{IsSameNode}
@@ -39,17 +39,6 @@ use Rattle.alloc_event.proofs.tallies.Slots.{all_at}
 use Rattle.alloc_event.proofs.under.RootLost.{IsReadyRoot, ready_root}
 
 -- ---- counts
-
--- what is one less, where it counted and counts no longer
-fewer_is : (count : ℕ) (was is : Bool) (real : ℕ) → (is ≡ true → was ≡ true) → real + bit was ≡ count + bit is →
-    fewer count was is ≡ real
-fewer_is count true true real before e = omega arith
-fewer_is zero true false real before e = absurd (omega arith)
-fewer_is (suc n) true false real before e =
-    let some : nat_lt 0 (suc n) ≡ true = lt-ltb 0 (suc n) (omega arith) in
-    rw some (omega arith)
-fewer_is count false true real before e = let no : false ≡ true = before refl in absurd (cc)
-fewer_is count false false real before e = omega arith
 
 -- a count is not 0 exactly where one passes
 pub some_told : (test : Node → Bool) (ns : List Node) → nat_lt 0 (times test ns) ≡ list_any test ns
@@ -158,9 +147,9 @@ module _ (t : Table Node) (us : List Unit) (key : NodeKey) (effect : Effect) (n 
   -- the counts then are those of the nodes
   then_is : unit_then us n (affected key effect n) ≡ unit_of now n.head
   then_is =
-      let live = fewer_is (unit_at us n.head.slot).live (is_live_node n) (is_live_node (f n)) (times (lives_in n.head) now)
+      let live = decremented (unit_at us n.head.slot).live (is_live_node n) (is_live_node (f n)) (times (lives_in n.head) now)
       (live_before key effect n) live_is in
-      let unready = fewer_is (unit_at us n.head.slot).unready (is_unready n) (is_unready (f n)) (times (waits_in n.head) now)
+      let unready = decremented (unit_at us n.head.slot).unready (is_unready n) (is_unready (f n)) (times (waits_in n.head) now)
       (unready_before key effect n) unready_is in
       let below = ap (λ (u : Unit). u.below) unit_is ∙ sym below_is in
       λ i. record { live = live i; unready = unready i; below = below i }
@@ -171,9 +160,9 @@ module _ (t : Table Node) (us : List Unit) (key : NodeKey) (effect : Effect) (n 
   ready_then = ap is_held_ready then_is ∙ held_told now n.head
 
   -- and a strong node is live then
-  pub strong_then : nat_lt 0 (fewer strong (is_strong n) (is_strong (affected key effect n))) ≡ has_strong now
+  pub strong_then : nat_lt 0 (decrement_if strong (is_strong n) (is_strong (affected key effect n))) ≡ has_strong now
   strong_then =
-      ap (nat_lt 0) (fewer_is strong (is_strong n) (is_strong (f n)) (strong_count now) (strong_before key effect n)
+      ap (nat_lt 0) (decremented strong (is_strong n) (is_strong (f n)) (strong_count now) (strong_before key effect n)
       (count_is is_strong ∙ ap (λ (k : ℕ). k + bit (is_strong (f n))) (sym opens.strong)))
       ∙ some_told is_strong now
 

@@ -1,12 +1,13 @@
 -- What is lost or ends with a node is gone, and the collection is still under way.
 use Rattle.std.proofs.Common.{◌≡◌, ◌==◌, refl, ap, sym, ◌∙◌, subst, Bool, true, false, not, ◌&&◌, ◌||◌, ◌⊎◌, inl, inr, is_none, List, map, reverse, Option, Some, None, option_map}
+use Rattle.std.proofs.lemmas.Bool.{not-true}
 use Rattle.std.specs.List.{list_all, list_any}
 use Rattle.std.specs.Option.{option_map_or}
 use Rattle.sm_names.specs.declared.keys.NodeKey.{NodeKey}
 use Rattle.sm_names.specs.declared.outcomes.Fault.{Fault}
 use Rattle.sm_names.specs.Sameness.{same_key}
-use Rattle.sm_names.proofs.ListLaws.{In, In-map, In-map-back, map-In}
-use Rattle.sm_names.proofs.SamenessLaws.{and_both, either_way, none_or_some, or_cases, or_left, or_right, same_key-refl}
+use Rattle.sm_names.proofs.ListLaws.{In, In-list_any, In-map, In-map-back, map-In}
+use Rattle.sm_names.proofs.SamenessLaws.{and_both, and_left, and_right, both_ways, either_way, false_if, none_or_some, or_cases, or_left, or_none_right, or_right, same_key-refl}
 use Rattle.sm_names.proofs.StandingLaws.{In-any}
 use Rattle.node_table.specs.Table.{Table, node_at, parent_at}
 use Rattle.alloc_event.specs.declared.entry.Entry.{Entry}
@@ -19,7 +20,7 @@ use Rattle.alloc_event.specs.Falling.{gone_by}
 use Rattle.alloc_event.specs.GoingDown.{IsGoneSo, head_over}
 use Rattle.alloc_event.specs.Kept.{IsWhole, Shelf, all_of, collection_in, is_filed, nodes_with, shelf_of}
 use Rattle.alloc_event.specs.Nodes.{after_end, after_loss, ended, is_of, lost}
-use Rattle.alloc_event.specs.Questions.{is_below}
+use Rattle.alloc_event.specs.Questions.{is_below, is_served}
 use Rattle.alloc_event.specs.Ties.{IsFall, are_rooted, is_blocking}
 use Rattle.alloc_event.specs.UnderWay.{IsBeside, IsUnderWay, IsWent, and_loose, are_held_but, gone_down, is_head_left, is_next_but, waits_among}
 use Rattle.alloc_event.specs.Units.{is_head}
@@ -33,7 +34,7 @@ use Rattle.alloc_event.proofs.tables.Rooted.{IsLeft, distinct_one, left_node}
 use Rattle.alloc_event.proofs.tallies.Holding.{head_there, own_head, shared}
 use Rattle.alloc_event.proofs.under.Crossed.{held_but, next_but, root_but}
 use Rattle.alloc_event.proofs.under.Emptied.{all_taken, held_gone, next_gone, root_gone}
-use Rattle.alloc_event.proofs.under.Fallen.{beside_same, nodes_then, under_now}
+use Rattle.alloc_event.proofs.under.Fallen.{beside_same, nodes_then, store_now}
 use Rattle.alloc_event.proofs.under.Owned.{own_taken}
 use Rattle.alloc_event.proofs.under.Tops.{blocks, entire, head_out, on_ties, parent, stands_first, top, top_here, top_on, up_falls}
 use Rattle.alloc_event.proofs.tables.OfShelf.{at_key, linked}
@@ -70,12 +71,31 @@ module _ (t : Table Node) (us : List Unit) (ss : List Shelf) (old : Entry) (loos
       (looked-of t old.id old.keys.items (found_filed t old.id ss s opens.store.kept.filed opens.store.found))) keys gone.taken
 
   nodes_now : nodes_with now old.keys.items ≡ map goes nodes
-  nodes_now = nodes_then t us ss old loose due opens going origin keys gone.taken own now gone.stores
+  nodes_now = nodes_then t us ss old opens.store going origin keys gone.taken own now gone.stores
+
+  nodes_new : nodes_with now new.keys.items ≡ map goes nodes
+  nodes_new = ap (λ (x : Shelf). nodes_with now x.keys) gone.shelf ∙ nodes_now
+
+  -- what is left has buffers only where it had: what goes gets none
+  bare_new : new.buffers ≡ None → list_any is_served (nodes_with now new.keys.items) ≡ false
+  bare_new none = ap (list_any is_served) nodes_new ∙ false_if (list_any is_served (map goes nodes)) (λ h.
+      let x = In-list_any is_served (map goes nodes) h in
+      let y = In-map goes nodes x.0 x.1 in
+      let was : is_served y.0 ≡ true = served_was y.0 (ap is_served (sym y.2) ∙ x.2) in
+      both_ways (list_any is_served nodes) (In-any is_served nodes y.0 y.1 was)
+      (opens.bare (sym (ap (λ (x : Shelf). x.buffers) gone.shelf) ∙ none)))
+    where
+      served_was : (n : Node) → is_served (goes n) ≡ true → is_served n ≡ true
+      served_was n h =
+          let here : (falls n.key || n.gone) ≡ false =
+          sym (gone_of going keys n) ∙ not-true (goes n).gone (and_left (not (goes n).gone) _ h) in
+          and_both (not n.gone) n.allocated (ap not (or_none_right (falls n.key) n.gone here))
+          (sym (given_of going keys n) ∙ and_right (not (goes n).gone) _ h)
 
   beside : IsBeside t now ss old.id
   beside = record {
     same = gone.stores.same;
-    others = λ x on differ. beside_same t us ss old loose due opens going origin keys gone.taken own now gone.stores x differ
+    others = λ x on differ. beside_same t us ss old opens.store going origin keys gone.taken own now gone.stores x differ
         (all-In (λ (y : Shelf). list_all (is_filed t y.id) y.keys) ss x on opens.store.kept.filed);
   }
 
@@ -104,8 +124,13 @@ module _ (t : Table Node) (us : List Unit) (ss : List Shelf) (old : Entry) (loos
         option_map_or (is_head_left (map goes nodes)) above true ≡ true →
         IsWent t now after ss old new origin fault above loose due
     went_so above held next root heads = record {
-      under = under_now t us ss old loose due opens going origin keys gone.taken own now after new gone rooted (and_loose above loose)
-          held next root;
+      under = record {
+        store = store_now t us ss old opens.store going origin keys gone.taken own now after new gone rooted;
+        bare = bare_new;
+        held = ap (are_held_but (and_loose above loose)) nodes_new ∙ held;
+        next = ap (λ (ns : List Node). list_any (is_next_but due ns) ns) nodes_new ∙ next;
+        root = ap (waits_among due) nodes_new ∙ root;
+      };
       shelf = gone.shelf;
       nodes = nodes_now ∙ becomes;
       left = ap (λ (ns : List Node). option_map_or (is_head_left ns) above true) nodes_now ∙ heads;

@@ -9,15 +9,14 @@ use Rattle.alloc_event.specs.declared.entry.Entry.{Entry}
 use Rattle.alloc_event.specs.declared.node.Node.{Node}
 use Rattle.alloc_event.specs.declared.units.Unit.{Unit}
 use Rattle.alloc_event.specs.Calm.{strong_count}
-use Rattle.alloc_event.specs.Counts.{is_unready, lives_in, unit_at, waits_in}
-use Rattle.alloc_event.specs.InPlace.{bit}
+use Rattle.alloc_event.specs.Counts.{is_unready, lives_in, unit_at, unit_then, waits_in}
 use Rattle.alloc_event.specs.Kept.{is_strong, nodes_with, shelf_of}
 use Rattle.alloc_event.specs.Nodes.{affected}
 use Rattle.alloc_event.specs.Questions.{is_live_node}
 use Rattle.alloc_event.specs.Reserved.{camped, reserved_count}
 use Rattle.alloc_event.specs.UnderWay.{Affects}
 use Rattle.alloc_event.proofs.changes.Altering.{same_affected}
-use Rattle.alloc_event.proofs.changes.Effecting.{less_is, live_before, live_is, strong_before, strong_is, unready_before, unready_is}
+use Rattle.alloc_event.proofs.changes.Effecting.{decremented, less_is, live_before, live_is, strong_before, strong_is, unready_before, unready_is}
 use Rattle.alloc_event.proofs.under.Affecting.{affected_here, named_here, nodes_here, may_here, reserved_here, there_here, within_here}
 use Rattle.alloc_event.proofs.affecting.affect_here.Goals.{in-Some-reserved, in-None}
 use Rattle.alloc_event.proofs.affecting.affect_here.Goals as goal
@@ -52,22 +51,19 @@ returns-clause-affected c ss m at here own store =
     let may = may_here t us ss e store key effect n was here_n own_n in
     let within : n.head.slot < length us = within_here t us ss e store key effect n was here_n own_n now becomes writes in
     let after : c.affected_by-after.result ≡ affected key effect n = c.affected_by-after.ensures in
-    let unit : c.unit_in-unit.result ≡ unit_at us n.head.slot = rw c.deref.ensures.value at c.unit_in-unit.ensures in
-    let live : c.less.result ≡ times (lives_in n.head) (map (affected key effect) (nodes_with t e.keys.items)) =
-    less_is c.unit_in-unit.result.live c.less.result c.is_live.result c.is_live-2.result (is_live_node n)
-    (is_live_node (affected key effect n)) c.less.ensures c.is_live.ensures (c.is_live-2.ensures ∙ ap is_live_node after)
-    (live_before key effect n) _
-    (live_is t now us key effect n was becomes writes ss (shelf_of e) e.strong may within
-    ∙ ap (λ (u : Unit). u.live + bit (is_live_node (affected key effect n))) (sym unit)) in
-    let unready : c.less-2.result ≡ times (waits_in n.head) (map (affected key effect) (nodes_with t e.keys.items)) =
-    less_is c.unit_in-unit.result.unready c.less-2.result c.is_unready.result c.is_unready-2.result (is_unready n)
-    (is_unready (affected key effect n)) c.less-2.ensures c.is_unready.ensures (c.is_unready-2.ensures ∙ ap is_unready after)
-    (unready_before key effect n) _
-    (unready_is t now us key effect n was becomes writes ss (shelf_of e) e.strong may within
-    ∙ ap (λ (u : Unit). u.unready + bit (is_unready (affected key effect n))) (sym unit)) in
-    let strong : c.less-entry.result ≡ strong_count (map (affected key effect) (nodes_with t e.keys.items)) =
-    less_is e.strong c.less-entry.result c.is_strong.result c.is_strong-2.result (is_strong n) (is_strong (affected key effect n))
-    c.less-entry.ensures c.is_strong.ensures (c.is_strong-2.ensures ∙ ap is_strong after) (strong_before key effect n) _
+    let next : c.unit_then-next.result ≡ unit_then us n (affected key effect n) =
+    c.unit_then-next.ensures ∙ (λ i. unit_then (c.deref.ensures.value i) n (after i)) in
+    let live : c.unit_then-next.result.live ≡ times (lives_in n.head) (map (affected key effect) (nodes_with t e.keys.items)) =
+    ap (λ (u : Unit). u.live) next
+    ∙ decremented (unit_at us n.head.slot).live (is_live_node n) (is_live_node (affected key effect n)) _ (live_before key effect n)
+    (live_is t now us key effect n was becomes writes ss (shelf_of e) e.strong may within) in
+    let unready : c.unit_then-next.result.unready ≡ times (waits_in n.head) (map (affected key effect) (nodes_with t e.keys.items)) =
+    ap (λ (u : Unit). u.unready) next
+    ∙ decremented (unit_at us n.head.slot).unready (is_unready n) (is_unready (affected key effect n)) _ (unready_before key effect n)
+    (unready_is t now us key effect n was becomes writes ss (shelf_of e) e.strong may within) in
+    let strong : c.decrement_if-entry.result ≡ strong_count (map (affected key effect) (nodes_with t e.keys.items)) =
+    less_is e.strong c.decrement_if-entry.result c.is_strong.result c.is_strong-2.result (is_strong n) (is_strong (affected key effect n))
+    c.decrement_if-entry.ensures c.is_strong.ensures (c.is_strong-2.ensures ∙ ap is_strong after) (strong_before key effect n) _
     (strong_is t now us key effect n was becomes writes ss (shelf_of e) e.strong may) in
     let nodes : nodes_with now e.keys.items ≡ map (affected key effect) (nodes_with t e.keys.items) =
     nodes_here t us ss e store key effect n was here_n own_n now becomes writes in
@@ -82,12 +78,11 @@ returns-clause-affected c ss m at here own store =
           ∙ ap (λ (k : ℕ). e.reserved + k) (sym (c.camped-2.ensures ∙ ap camped after)))))
       | in-None w ↦ w.entry-is ∙ (rw w.as_slice.ensures.items at w.survey.ensures.reserved) ∙ ap reserved_count nodes
     ] in
-    let new : Entry = record e { reserved = c.match-reserved.entry; strong = c.less-entry.result } in
+    let new : Entry = record e { reserved = c.match-reserved.entry; strong = c.decrement_if-entry.result } in
     subst (λ (x : Node). Affects t now c.put_unit.new.units.items ss e new key effect x.head) (sym is)
     (subst (λ (l : List Unit). Affects t now l ss e new key effect n.head) (sym c.put_unit.ensures)
     (affected_here t us ss e store key effect n was here_n own_n now becomes writes
-    (record { live = c.less.result; unready = c.less-2.result; below = c.unit_in-unit.result.below }) live unready
-    (ap (λ (u : Unit). u.below) unit) new refl refl refl strong reserved))
+    c.unit_then-next.result live unready (ap (λ (u : Unit). u.below) next) new refl refl refl strong reserved))
   where
     some_one : (a b : Node) → Some a ≡ Some b → a ≡ b
     some_one a b h = cc

@@ -26,7 +26,7 @@ found : (c : goal.After-put_unit) → node_at c.args.table.now c.args.key ≡ So
 found c = sym c.get.ensures ∙ ap option_copied c.in-Some.is
 
 -- the unit does not get its buffers next, or waits for another, or did not wait for the node
-guard : (c : goal.After-put_unit) → (is_unready c.in-Some.node.now ≡ false) ⊎ ((0 < c.less-unready.result)
+guard : (c : goal.After-put_unit) → (is_unready c.in-Some.node.now ≡ false) ⊎ ((0 < c.decrement_if-unready.result)
     ⊎ (is_due_at c.args.table.now c.in-Some.node.now.head ≡ false))
 guard c = elim c.else-is_unready.branch [
   | else-is_unready-via-then-is_unready+then-unready-eq0+else-is_due w ↦ inr (inr (sym w.is_due.ensures ∙ w.if-is_due.false))
@@ -50,26 +50,26 @@ returns-clause-some c ss s opens =
     subst (λ (k : NodeKey). Writes t c.affect_at.new.table k (affected key effect n)) own (c.affect_at.ensures.writes n was) in
     let within : n.head.slot < length us = omega (arith, c.if-slot-len.false, c.len.ensures) in
     let unit : c.unit_in-unit.result ≡ unit_at us n.head.slot = rw c.deref.ensures.value at c.unit_in-unit.ensures in
-    let left : c.less-left.result ≡ strong_count (map (affected key effect) (nodes_with t s.keys)) =
-    less_is c.args.entry.now.strong c.less-left.result c.is_strong.result c.is_strong_after.result (is_strong n)
+    let left : c.decrement_if-left.result ≡ strong_count (map (affected key effect) (nodes_with t s.keys)) =
+    less_is c.args.entry.now.strong c.decrement_if-left.result c.is_strong.result c.is_strong_after.result (is_strong n)
     (is_strong (affected key effect n))
-    c.less-left.ensures c.is_strong.ensures c.is_strong_after.ensures (strong_before key effect n) _
+    c.decrement_if-left.ensures c.is_strong.ensures c.is_strong_after.ensures (strong_before key effect n) _
     (strong_is t c.affect_at.new.table us key effect n was becomes writes ss s c.args.entry.now.strong may) in
-    let live : c.less-live.result ≡ times (lives_in n.head) (map (affected key effect) (nodes_with t s.keys)) =
-    less_is c.unit_in-unit.result.live c.less-live.result c.is_live.result c.is_live_after.result (is_live_node n)
+    let live : c.decrement_if-live.result ≡ times (lives_in n.head) (map (affected key effect) (nodes_with t s.keys)) =
+    less_is c.unit_in-unit.result.live c.decrement_if-live.result c.is_live.result c.is_live_after.result (is_live_node n)
     (is_live_node (affected key effect n))
-    c.less-live.ensures c.is_live.ensures c.is_live_after.ensures (live_before key effect n) _
+    c.decrement_if-live.ensures c.is_live.ensures c.is_live_after.ensures (live_before key effect n) _
     (live_is t c.affect_at.new.table us key effect n was becomes writes ss s c.args.entry.now.strong may within
     ∙ ap (λ (u : Unit). u.live + bit (is_live_node (affected key effect n))) (sym unit)) in
-    let unready : c.less-unready.result ≡ times (waits_in n.head) (map (affected key effect) (nodes_with t s.keys)) =
-    less_is c.unit_in-unit.result.unready c.less-unready.result c.is_unready.result c.is_unready_after.result (is_unready n)
+    let unready : c.decrement_if-unready.result ≡ times (waits_in n.head) (map (affected key effect) (nodes_with t s.keys)) =
+    less_is c.unit_in-unit.result.unready c.decrement_if-unready.result c.is_unready.result c.is_unready_after.result (is_unready n)
     (is_unready (affected key effect n))
-    c.less-unready.ensures c.is_unready.ensures c.is_unready_after.ensures (unready_before key effect n) _
+    c.decrement_if-unready.ensures c.is_unready.ensures c.is_unready_after.ensures (unready_before key effect n) _
     (unready_is t c.affect_at.new.table us key effect n was becomes writes ss s c.args.entry.now.strong may within
     ∙ ap (λ (u : Unit). u.unready + bit (is_unready (affected key effect n))) (sym unit)) in
-    subst (λ (l : List Unit). IsMade t c.affect_at.new.table l ss s (Change.Effect key effect) c.less-left.result) (sym c.put_unit.ensures)
+    subst (λ (l : List Unit). IsMade t c.affect_at.new.table l ss s (Change.Effect key effect) c.decrement_if-left.result) (sym c.put_unit.ensures)
     (counted_made t c.affect_at.new.table us key effect n was becomes writes ss s c.args.entry.now.strong may within
-    (record { live = c.less-live.result; unready = c.less-unready.result; below = c.unit_in-unit.result.below }) live unready
-    (ap (λ (u : Unit). u.below) unit) opens.calm c.less-left.result left
-    (either_holds c.less-live.result c.unit_in-unit.result.below (sym c.is_held_by.ensures ∙ c.if-not-is_held_by.false))
+    (record { live = c.decrement_if-live.result; unready = c.decrement_if-unready.result; below = c.unit_in-unit.result.below }) live unready
+    (ap (λ (u : Unit). u.below) unit) opens.calm c.decrement_if-left.result left
+    (either_holds c.decrement_if-live.result c.unit_in-unit.result.below (sym c.is_held_by.ensures ∙ c.if-not-is_held_by.false))
     (guard c))
