@@ -47,6 +47,7 @@ four_none None None (Some m) d h = cc
 four_none None (Some m) c d h = cc
 four_none (Some m) b c d h = cc
 
+-- four decisions that are none have no first one
 none_four : (a b c d : Option Decision) → a ≡ None → b ≡ None → c ≡ None → d ≡ None → first_some (a ∷ b ∷ c ∷ d ∷ []) ≡ None
 none_four a b c d ha hb hc hd = rw (ha, hb, hc, hd) refl
 
@@ -83,9 +84,11 @@ none_decided nodes buffers strong_open some none =
     (ap (option_map (λ (n : Node). first_step nodes n.key)) none.no_root)
     none.no_head
 
+-- where none of the four steps is left, none is decided: the second is excluded by the open handle
 pub calm_none : (c : Collection) → AreNone c.nodes c.buffers → IsCalm c
 calm_none c none = none_decided c.nodes c.buffers true (or-true (has_strong c.nodes)) none
 
+-- and the other way round: a calm collection has none of them left
 pub none_calm : (c : Collection) → IsCalm c → AreNone c.nodes c.buffers
 none_calm c calm = decided_parts c.nodes c.buffers true calm
 
@@ -156,18 +159,22 @@ module _ (c : Collection) (whole : IsWhole c) (p : Node → Bool) (over : (n : N
   abbrev nodes : List Node
   nodes = c.nodes
 
+  -- the nodes hang on their parents, as the collection is whole
   old : IsRooted nodes
   old = whole_rooted c whole
 
+  -- those that pass the test do so too, since only gone nodes fail it
   fewer : IsRooted (filter p nodes)
   fewer = rooted_filter nodes old p over
 
   abbrev up : NodeKey → Option NodeKey
   up key = option_map_or (λ (n : Node). n.parent) (node_of nodes key) None
 
+  -- a node that is not gone is found by its key, so its parent is found
   linked : (n : Node) → In n nodes → n.gone ≡ false → up n.key ≡ n.parent
   linked n on here = ap (λ (o : Option Node). option_map_or (λ (m : Node). m.parent) o None) (found_by_key nodes n whole.sound.distinct on)
 
+  -- a node that is not gone passes the test, since one that fails it is gone
   passes : (n : Node) → In n nodes → n.gone ≡ false → p n ≡ true
   passes n on here = elim (either_way (p n)) [
     | inl e ↦ e
@@ -182,6 +189,7 @@ module _ (c : Collection) (whole : IsWhole c) (p : Node → Bool) (over : (n : N
       (left_in (filter p nodes) n (In-filter-back p nodes n on (passes n on here)) here)).chain
       (line_of nodes up old.one linked old.rooted n.key (left_in nodes n on here)).chain
 
+  -- the members are the nodes that are not gone, and each of these passes
   members_filter : members_of (filter p nodes) ≡ members_of nodes
   members_filter =
       ap (map (member_of (filter p nodes)))
@@ -225,10 +233,12 @@ pub any_map : {A : Type 0} (p q : A → Bool) (f : A → A) (xs : List A) → ((
 any_map p q f [] same = refl
 any_map p q f (x ∷ xs) same = λ i. same x i || any_map p q f xs same i
 
+-- by induction: each element passes as it did before the map
 all_map : {A : Type 0} (p q : A → Bool) (f : A → A) (xs : List A) → ((x : A) → p (f x) ≡ q x) → list_all p (map f xs) ≡ list_all q xs
 all_map p q f [] same = refl
 all_map p q f (x ∷ xs) same = λ i. same x i && all_map p q f xs same i
 
+-- the first element that passes is the image of the one that did
 pub find_map : {A : Type 0} (p q : A → Bool) (f : A → A) (xs : List A) → ((x : A) → p (f x) ≡ q x) →
     find p (map f xs) ≡ option_map f (find q xs)
 find_map p q f [] same = refl
@@ -237,6 +247,7 @@ find_map {A = A} p q f (x ∷ xs) same = elim (either_way (q x)) [
   | inr e ↦ let h : p (f x) ≡ false = same x ∙ e in rw (h, e) (find_map p q f xs same)
 ]
 
+-- by induction: each element counts as it did before the map
 pub times_map : {A : Type 0} (p q : A → Bool) (f : A → A) (xs : List A) → ((x : A) → p (f x) ≡ q x) → times p (map f xs) ≡ times q xs
 times_map p q f [] same = refl
 times_map {A = A} p q f (x ∷ xs) same = elim (either_way (q x)) [
@@ -248,6 +259,7 @@ module _ (nodes : List Node) (f : Node → Node) (plain : (n : Node) → IsPlain
   abbrev now : List Node
   now = map f nodes
 
+  -- the map keeps keys and parents, and those above a key are found by these alone
   above_map : (ns : List Node) (key : NodeKey) → above_among (map f ns) key ≡ above_among ns key
   above_map [] key = refl
   above_map (n ∷ older) key = rw ((plain n).key, (plain n).parent, above_map older key)
@@ -262,16 +274,19 @@ module _ (nodes : List Node) (f : Node → Node) (plain : (n : Node) → IsPlain
       from on None = refl
       from on (Some p) = ap (λ ks. p ∷ ks) (on p)
 
+  -- a node lies below another as before, since the same nodes lie above it
   below_map : (top key : NodeKey) → is_below now top key ≡ is_below nodes top key
   below_map top key =
       ap (λ ks. list_any (same_key top) (key ∷ ks))
       (ap (λ (ns : List Node). above_among ns key) (sym (map-reverse_aux f nodes [])) ∙ above_map (reverse nodes) key)
 
+  -- being live and lying below are kept by the map
   lives_map : (top : NodeKey) (n : Node) → lives_below now top (f n) ≡ lives_below nodes top n
   lives_map top n =
       (λ i. (not ((plain n).gone i) && not ((plain n).released i)) && is_below now top ((plain n).key i))
       ∙ ap (λ (b : Bool). is_live_node n && b) (below_map top n.key)
 
+  -- a unit is deserted if no live node lies below its head, and both are kept
   deserted_map : (n : Node) → is_deserted_node now (f n) ≡ is_deserted_node nodes n
   deserted_map n =
       (λ i. (is_none ((plain n).parent i) || (plain n).attached i) && (not ((plain n).gone i) && not
@@ -279,14 +294,17 @@ module _ (nodes : List Node) (f : Node → Node) (plain : (n : Node) → IsPlain
       ∙ ap (λ (b : Bool). (is_none n.parent || n.attached) && (not n.gone && not b))
       (any_map (lives_below now n.key) (lives_below nodes n.key) f nodes (lives_map n.key))
 
+  -- whether a node is ready is read from its flags and head, which are kept
   ready_map : (head : NodeKey) → list_all (is_ready_node head) now ≡ list_all (is_ready_node head) nodes
   ready_map head = all_map (is_ready_node head) (is_ready_node head) f nodes
       (λ n. λ i. (plain n).gone i || (not (same_key ((plain n).head i) head) || ((plain n).released i || (plain n).asks i)))
 
+  -- being allocated is read from flags and the key, which are kept
   allocated_map : (key : NodeKey) → list_any (is_allocated_node key) now ≡ list_any (is_allocated_node key) nodes
   allocated_map key = any_map (is_allocated_node key) (is_allocated_node key) f nodes
       (λ n. λ i. not ((plain n).gone i) && ((plain n).allocated i && same_key ((plain n).key i) key))
 
+  -- whether a head is next is read from its flags, the parent's allocation and the unit's readiness, all kept
   next_map : (n : Node) → is_next_node now (f n) ≡ is_next_node nodes n
   next_map n =
       (λ i. (plain n).attached i && (not ((plain n).gone i) && (not ((plain n).allocated i)
@@ -295,9 +313,11 @@ module _ (nodes : List Node) (f : Node → Node) (plain : (n : Node) → IsPlain
       list_any (is_allocated_node parent) nodes) n.parent false && b))))
       (ready_map n.key)
 
+  -- being a root that is left is read from the parent and the flag, which are kept
   root_map : find is_root_left now ≡ option_map f (find is_root_left nodes)
   root_map = find_map is_root_left is_root_left f nodes (λ n. λ i. is_none ((plain n).parent i) && not ((plain n).gone i))
 
+  -- no root waits after the map where none did: the same root is found, and its unit is as ready as before
   wait_map : (o : Option Node) →
       option_and_then (λ (root : Node). when (not root.allocated && list_all (is_ready_node root.key) nodes) root) o ≡ None →
       option_and_then (λ (root : Node). when (not root.allocated && list_all (is_ready_node root.key) now) root) (option_map f o) ≡ None

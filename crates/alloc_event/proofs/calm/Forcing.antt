@@ -40,11 +40,13 @@ module _ (nodes : List Node) where
 
   -- ---- questions of members are questions of nodes
 
+  -- a member is a node that is not gone, so both ask the same nodes
   pub strong_tie : some_strong_live ms ≡ has_strong nodes
   strong_tie =
       any-map_filter left (member_of nodes) (λ m. is_live m && not m.weak) nodes
       ∙ (λ i. list_any (λ (n : Node). and_again_pair (not n.gone) (not n.released) (not n.weak) i) nodes)
 
+  -- the members of a unit are its nodes that are not gone, and gone nodes count as ready
   pub ready_tie : (head : NodeKey) → is_ready head ms ≡ list_all (is_ready_node head) nodes
   ready_tie head =
       all-filter (λ (m : Member). same_key m.head head) is_settled ms
@@ -52,21 +54,25 @@ module _ (nodes : List Node) where
       ∙ (λ i. list_all (λ (n : Node). settled_once n.gone (same_key n.head head) (n.released || is_some n.constraints)
       i) nodes))
 
+  -- the members below a node are the nodes below it that are not gone
   live_tie : (top : NodeKey) → some_live (subtree top ms) ≡ list_any (lives_below nodes top) nodes
   live_tie top =
       any-filter (is_under top) is_live ms
       ∙ (any-map_filter left (member_of nodes) (λ m. is_under top m && is_live m) nodes
       ∙ (λ i. list_any (λ (n : Node). and_again_swap (not n.gone) (is_below nodes top n.key) (not n.released) i) nodes))
 
+  -- a gone node is no member, and counts as not allocated
   allocated_tie : (key : NodeKey) → is_allocated ms key ≡ list_any (is_allocated_node key) nodes
   allocated_tie key = any-map_filter left (member_of nodes) (λ m. m.allocated && same_key m.key key) nodes
 
+  -- the root among the members is the root that is not gone
   pub root_tie : root_left ms ≡ option_map (member_of nodes) (find is_root_left nodes)
   root_tie =
       find-map_filter left (member_of nodes) (λ m. is_root m && not m.gone) nodes
       ∙ (λ i. option_map (member_of nodes)
       (find (λ (n : Node). and_again_last (not n.gone) (is_none n.parent) i) nodes))
 
+  -- both find the first head below which nothing lives, one among members, one among nodes
   pub deserted_tie : find (is_deserted ms) ms ≡ option_map (member_of nodes) (find (is_deserted_node nodes) nodes)
   deserted_tie =
       find-map_filter left (member_of nodes) (is_deserted ms) nodes
@@ -77,6 +83,7 @@ module _ (nodes : List Node) where
           and_again_behind (left n) (is_none n.parent || n.attached) (not (some_live (subtree n.key ms)))
           ∙ ap (λ (b : Bool). (is_none n.parent || n.attached) && (not n.gone && not b)) (live_tie n.key)
 
+  -- both find the first head that is next, one among members, one among nodes
   pub next_tie : find (is_next_head ms) ms ≡ option_map (member_of nodes) (find (is_next_node nodes) nodes)
   next_tie =
       find-map_filter left (member_of nodes) (is_next_head ms) nodes
@@ -89,17 +96,20 @@ module _ (nodes : List Node) where
           ∙ (λ i. n.attached && (not n.gone &&
           (not n.allocated && (option_map_or (λ key. allocated_tie key i) n.parent false && ready_tie n.key i))))
 
+  -- a gone node asks for nothing, so members and nodes ask for the same
   unit_tie : (head : NodeKey) → demands (unit head ms) ≡ demands_of (is_in_unit head) nodes
   unit_tie head =
       made-filter_map left (member_of nodes) (λ m. same_key m.head head) (λ m. if m.gone then None else m.constraints)
       nodes
       ∙ (λ i. filter_map (λ (n : Node). once_gone n.gone (same_key n.head head) n.constraints i) nodes)
 
+  -- the same for the nodes whose unit is allocated
   served_tie : demands (filter (λ m. m.allocated) ms) ≡ demands_of is_served nodes
   served_tie =
       made-filter_map left (member_of nodes) (λ m. m.allocated) (λ m. if m.gone then None else m.constraints) nodes
       ∙ (λ i. filter_map (λ (n : Node). once_gone n.gone n.allocated n.constraints i) nodes)
 
+  -- the same demands give the same number and size
   wanted_tie : (head : NodeKey) → wanted (unit head ms) ≡ wanted_by head nodes
   wanted_tie head = λ i. record {
     count = max (sum_by (λ (d : Demand). d.camping) (unit_tie head i)) (greatest (λ d. d.at_least) (unit_tie head i));
@@ -116,6 +126,7 @@ module _ (nodes : List Node) where
   abbrev ds : NodeKey → List Demand
   ds head = demands_of (is_in_unit head) nodes
 
+  -- the same demands, and the same reserved buffers, fail in the same way
   late_tie : (head : NodeKey) (b : Buffers) →
       logical_failure (demands (unit head ms)) (reserved ms) b ≡ late_failure head nodes b
   late_tie head b = (λ i. logical_failure (unit_tie head i) (sum_by (λ (d : Demand). d.camping) (served_tie i)) b)
@@ -156,6 +167,7 @@ module _ (handles : Handles) (pool : ℕ) (others : List Interval) (c : Collecti
   abbrev mark : Decision → Mark
   mark = mark_of pool (pages_in c ++ others)
 
+  -- the first deserted head is the same on both sides
   ending_made : ending s ≡ option_map mark
       (option_map (λ (n : Node). Ends n.key) (find (is_deserted_node c.nodes) c.nodes))
   ending_made = ap (option_map (λ (m : Member). Ended m.key)) (deserted_tie c.nodes)
@@ -166,6 +178,7 @@ module _ (handles : Handles) (pool : ℕ) (others : List Interval) (c : Collecti
       from None = refl
       from (Some n) = refl
 
+  -- the root and the strong nodes are the same on both sides
   abandoned_made : abandoned s ≡ option_map mark (option_and_then
       (λ (root : Node). when (root.allocated && (not (has_strong c.nodes) && not s.strong_open))
       (Loses root.key Cause.NoStrong))
@@ -243,6 +256,7 @@ module _ (handles : Handles) (pool : ℕ) (others : List Interval) (c : Collecti
       from None = refl
       from (Some why) = refl
 
+  -- the next head is the same, and so is what its unit asks for
   logical_made : logical_allocation s
       ≡ option_map mark (option_and_then
       (λ b. option_map (λ (n : Node). later_step c.nodes b n.key) (find (is_next_node c.nodes) c.nodes)) c.buffers)

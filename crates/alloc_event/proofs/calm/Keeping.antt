@@ -53,6 +53,7 @@ module _ (nodes : List Node) (f : Node → Node) (same : (n : Node) → IsSameNo
       (λ (q : Node). is_of p q && same_key q.head head) f nodes
       (λ q there. λ i. same_key ((same q).key i) p && same_key ((same q).head i) head)
 
+  -- the node's parent has the key that it had, and its unit is the same
   hangs_same : (head : NodeKey) (n : Node) → hangs_in now head (f n) ≡ hangs_in nodes head n
   hangs_same head n = (λ i. option_map_or (λ p. unit_same p head i) ((same n).parent i) false)
 
@@ -61,6 +62,7 @@ module _ (nodes : List Node) (f : Node → Node) (same : (n : Node) → IsSameNo
   -- where no unit that is to get its buffers next becomes ready
   module _ (ready : (h : Node) → In h nodes → h.allocated ≡ false → has_turn nodes h ≡ true → list_all (is_ready_node h.key) now ≡ true →
       list_all (is_ready_node h.key) nodes ≡ true) where
+    -- the parent and the flag of each node are kept
     root_same : find is_root_left now ≡ option_map f (find is_root_left nodes)
     root_same = find_map is_root_left is_root_left f nodes (λ n. λ i. is_none ((same n).parent i) && not (gone n i))
 
@@ -91,10 +93,12 @@ module _ (nodes : List Node) (f : Node → Node) (same : (n : Node) → IsSameNo
             first None h = refl
             first (Some p) h = cc
 
+    -- each node has its key and flags still
     allocated_same : (p : NodeKey) → list_any (is_allocated_node p) now ≡ list_any (is_allocated_node p) nodes
     allocated_same p = list_any-map (is_allocated_node p) (is_allocated_node p) f nodes (λ n there. λ i.
         not (gone n i) && (alloc n i && same_key ((same n).key i) p))
 
+    -- a node with an allocated parent has its turn, also where one without a parent has it
     turn_before : (o : Option NodeKey) → option_map_or (λ parent. list_any (is_allocated_node parent) nodes) o false ≡ true →
         option_map_or (λ parent. list_any (is_allocated_node parent) nodes) o true ≡ true
     turn_before None h = cc

@@ -133,6 +133,7 @@ module _ (handles : Handles) (t : Table Node) (s : Shelf) (lives : ℕ) (filed :
       and_none true = refl
       and_none false = refl
 
+  -- a calm collection is decided by its abandoned buffers alone, and these are kept
   none_kept : decided (nodes_with t s.keys) s.buffers (is_held_strongly handles s.id s.buffers) ≡ None
   none_kept = still_decided (nodes_with t s.keys) s.buffers strong_open (none_calm c calm) (elim parts [
     | inl e ↦ inl e

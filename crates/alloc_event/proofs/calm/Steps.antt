@@ -84,6 +84,7 @@ module _ (c : Collection) (sound : IsSound c) where
   root_is n on = ap (λ (o : Option Node). option_map_or (λ (m : Node). is_none m.parent) o false)
       (found_by_key c.nodes n sound.distinct on)
 
+  -- a deserted head is one of the nodes, and not gone
   ends_step : (o : Option Node) → find (is_deserted_node c.nodes) c.nodes ≡ o →
       IfSome (option_map (λ (n : Node). Ends n.key) o) (IsStep c)
   ends_step None e = tt
@@ -92,6 +93,7 @@ module _ (c : Collection) (sound : IsSound c) where
       let rest = and_right (is_none n.parent || n.attached) _ f.1 in
       left_is n f.0 (not-true n.gone (and_left (not n.gone) _ rest))
 
+  -- an abandoned root is one of the nodes, and not gone
   loses_step : (strong_open : Bool) (o : Option Node) → find is_root_left c.nodes ≡ o →
       IfSome (option_and_then (λ (root : Node). when (root.allocated && (not (has_strong c.nodes) && not strong_open))
       (Loses root.key Cause.NoStrong)) o) (IsStep c)
@@ -125,6 +127,7 @@ module _ (c : Collection) (sound : IsSound c) where
           positive zero h = let t : (0 == 0) ≡ true = refl in both_ways (0 == 0) t h
           positive (suc n) h = omega arith
 
+  -- the root that waits is one of the nodes, is not gone, and has no buffers yet
   first_is : (n : Node) → find is_root_left c.nodes ≡ Some n → n.allocated ≡ false → (o : Option Failure) →
       early_failure n.key c.nodes ≡ o →
       IsStep c (option_map_or (λ why. Loses n.key (Cause.Failed why)) o (Places n.key (wanted_by n.key c.nodes)))
@@ -146,6 +149,7 @@ module _ (c : Collection) (sound : IsSound c) where
         count = count_is n.key early;
       }
 
+  -- the root that is found waits for no node, and its allocation or its failure concerns it alone
   places_step : (o : Option Node) → find is_root_left c.nodes ≡ o →
       IfSome (option_map (λ (n : Node). first_step c.nodes n.key)
       (option_and_then (λ (root : Node). when (not root.allocated && list_all (is_ready_node root.key) c.nodes) root)
@@ -159,6 +163,7 @@ module _ (c : Collection) (sound : IsSound c) where
       from true h = first_is n e (not-true n.allocated (and_left (not n.allocated) _ h)) (early_failure n.key c.nodes)
           refl
 
+  -- the head that is next is attached, is one of the nodes, and has no buffers yet
   later_is : (b : Buffers) (n : Node) → find (is_next_node c.nodes) c.nodes ≡ Some n → (o : Option Failure) →
       IsStep c (option_map_or (λ why. Loses n.key (Cause.Failed why)) o (Allocates n.key))
   later_is b n e o =
@@ -186,6 +191,7 @@ module _ (c : Collection) (sound : IsSound c) where
         waits = waits_is n on (or_right (is_none n.parent) n.attached attached) stays waits;
       }
 
+  -- without buffers no unit is next; with them the next head is a step by the lemma above
   allocates_step : (o : Option Buffers) →
       IfSome (option_and_then (λ b. option_map (λ (n : Node). later_step c.nodes b n.key)
       (find (is_next_node c.nodes) c.nodes)) o) (IsStep c)

@@ -17,9 +17,11 @@ use Rattle.alloc_event.proofs.tallies.Holding.{has_parent, line, own_head, share
 
 -- ---- some nodes
 
+-- there is no node to compare
 pub together_none : GoTogether []
 together_none = record { alike = λ n h on. absurd on; spared = λ n h on. absurd on }
 
+-- the nodes that pass are nodes of the list, so what holds of all holds of them
 pub together_filter : (p : Node → Bool) (nodes : List Node) → GoTogether nodes → GoTogether (filter p nodes)
 together_filter p nodes old = record {
   alike = λ n h on there. old.alike n h (In-filter p nodes n on).0 (In-filter p nodes h there).0;
@@ -40,6 +42,7 @@ abbrev pub GoesUp : List Node → (Node → Bool) → Type 0
 GoesUp nodes taken = (n h : Node) → In n nodes → In h nodes → n.head ≡ h.key → h.head ≡ h.key → n.gone ≡ false → h.gone ≡ false →
     h.allocated ≡ false → taken n ≡ true → taken h ≡ true
 
+-- heads and allocations stay, and where a node of a unit without buffers is taken, so is its head
 pub together_taken : (nodes : List Node) (f : Node → Node) (taken : Node → Bool) → KeepsPlace f taken → GoesUp nodes taken →
     GoTogether nodes → GoTogether (map f nodes)
 together_taken nodes f taken keeps goes old = record {
@@ -79,6 +82,7 @@ together_taken nodes f taken keeps goes old = record {
 pub together_same : (nodes : List Node) (f : Node → Node) → KeepsPlace f (λ n. false) → GoTogether nodes → GoTogether (map f nodes)
 together_same nodes f keeps = together_taken nodes f (λ n. false) keeps (λ n h on there unit own here stays bare e. cc)
 
+-- an effect changes neither a node's unit nor its allocation, and takes none
 pub together_effect : (key : NodeKey) (effect : Effect) (nodes : List Node) → GoTogether nodes → GoTogether (after_effect key effect nodes)
 together_effect key effect nodes = together_same nodes (affected key effect) (keeps effect)
   where
@@ -94,6 +98,7 @@ together_effect key effect nodes = together_same nodes (affected key effect) (ke
 
 -- ---- a unit that is allocated
 
+-- all nodes of the unit are allocated at once, and those of others stay
 pub together_given : (head : NodeKey) (nodes : List Node) → GoTogether nodes → GoTogether (after_allocation head nodes)
 together_given head nodes old = record {
   alike = λ a b on there unit own here.
@@ -184,9 +189,11 @@ module _ (nodes : List Node) (formed : AreFormed nodes) where
   abbrev line_at : NodeKey → List NodeKey
   line_at = line nodes formed.distinct formed.heads formed.rooted formed.united
 
+  -- no two nodes of the list have one key
   one : (a b : Node) → In a nodes → In b nodes → a.key ≡ b.key → a ≡ b
   one = distinct_one nodes formed.distinct
 
+  -- the line above a node is its parent and the line above that
   step_at : (n : Node) → In n nodes → n.gone ≡ false → (p : NodeKey) → n.parent ≡ Some p → line_at n.key ≡ p ∷ line_at p
   step_at = step nodes formed.distinct formed.heads formed.rooted formed.united
 
@@ -213,6 +220,7 @@ module _ (nodes : List Node) (formed : AreFormed nodes) where
         (formed.together.alike n h on there unit own stays ∙ bare) e)
   ]
 
+  -- by induction on the line above: each step up stays in the unit until its head
   pub goes_up : (taken : Node → Bool) → StepsUp nodes taken → GoesUp nodes taken
   goes_up taken steps n h on there unit own here stays bare e =
       climbs taken steps h there own stays bare (suc (length (line_at n.key))) n on unit here (omega arith) e

@@ -20,6 +20,7 @@ use Rattle.alloc_event.proofs.tables.Chains.{one_line}
 use Rattle.alloc_event.proofs.tables.Rooted.{AreOne, distinct_one, left_in, left_node, line_among, line_of}
 use Rattle.alloc_event.proofs.calm.Steps.{found_by_key}
 
+-- by induction: no element passes, so none is the last that does
 no_match : {A : Type 0} (p : A → Bool) (xs : List A) → list_any p xs ≡ false → last_match p xs ≡ None
 no_match p [] none = refl
 no_match p (x ∷ xs) none =
@@ -27,6 +28,7 @@ no_match p (x ∷ xs) none =
     let rest : last_match p xs ≡ None = no_match p xs (or_none_right (p x) (list_any p xs) none) in
     rw (rest, here) refl
 
+-- the element that is appended is the last that passes, if it does
 match-append : {A : Type 0} (p : A → Bool) (ys : List A) (x : A) → last_match p (ys ++ x ∷ []) ≡ (if p x then Some x else last_match p ys)
 match-append p [] x = refl
 match-append p (y ∷ ys) x = rw (match-append p ys x) (from (p x))
@@ -48,21 +50,25 @@ module _ (nodes : List Node) (distinct : are_distinct nodes ≡ true) (rooted : 
   abbrev up : NodeKey → Option NodeKey
   up key = option_map_or (λ (n : Node). n.parent) (node_of nodes key) None
 
+  -- no two nodes of the list have one key
   one : AreOne nodes
   one = distinct_one nodes distinct
 
+  -- a node that is not gone is found by its key, so its parent is found
   linked : (n : Node) → In n nodes → n.gone ≡ false → up n.key ≡ n.parent
   linked n on here = ap (λ (o : Option Node). option_map_or (λ (m : Node). m.parent) o None) (found_by_key nodes n distinct on)
 
   abbrev line : NodeKey → List NodeKey
   line key = above_among (reverse nodes) key
 
+  -- the line above a key that is left leads from parent to parent
   chain : (key : NodeKey) → is_left_of nodes key ≡ true → IsChain up key (line key)
   chain key left = (line_of nodes up one linked rooted key left).chain
 
   -- where all that pass lie at or below one that passes, that one is found: nodes stand behind those above them
   module _ (p : Node → Bool) (top : Node) (on_top : In top nodes) (passes : p top ≡ true)
       (low : (y : Node) → In y nodes → p y ≡ true → (y.gone ≡ false) × (is_below nodes top.key y.key ≡ true)) where
+    -- by induction from the back: each other node that passes lies behind the top one
     last_is : (ns : List Node) → ((n : Node) → In n ns → In n nodes) → are_rooted ns ≡ true → In top ns → last_match p ns ≡ Some top
     last_is [] within rooted' there = absurd there
     last_is (n ∷ older) within rooted' there = elim (either_way (list_any (is_of top.key) older)) [
@@ -104,5 +110,6 @@ module _ (nodes : List Node) (distinct : are_distinct nodes ≡ true) (rooted : 
             let here : p n ≡ true = ap p (sym is) ∙ passes in
             rw (none, here) (ap Some (sym is))
 
+    -- the first that passes is the last of the list turned round, which is the top one
     pub find_top : find p nodes ≡ Some top
     find_top = find_last p nodes ∙ last_is (reverse nodes) (λ n on. In-reverse nodes n on) rooted (In-reverse-back nodes top on_top)

@@ -19,14 +19,17 @@ pub record KeepsUnit (f : Node → Node) : Type 0 where
   pub head : (n : Node) → (f n).head ≡ n.head
 
 module _ (f : Node → Node) (keeps : KeepsUnit f) where
+  -- parent, attachment, key and head are kept, and sharing a unit is read from these
   shares_same : (n q : Node) → shares_unit (f n) (f q) ≡ shares_unit n q
   shares_same n q = λ i. (is_none (keeps.parent n i) || keeps.attached n i)
       || (not (option_map_or (λ p. same_key (keeps.key q i) p) (keeps.parent n i) false) || same_key (keeps.head q i) (keeps.head n i))
 
+  -- by induction over the others
   shares_map : (n : Node) (qs : List Node) → list_all (shares_unit (f n)) (map f qs) ≡ list_all (shares_unit n) qs
   shares_map n [] = refl
   shares_map n (q ∷ qs) = λ i. shares_same n q i && shares_map n qs i
 
+  -- by induction: each node shares its unit with those before it as it did
   united_map : (ns : List Node) → are_united (map f ns) ≡ are_united ns
   united_map [] = refl
   united_map (n ∷ ns) = λ i. shares_map n ns i && united_map ns i
@@ -37,6 +40,7 @@ module _ (f : Node → Node) (keeps : KeepsUnit f) where
 
 -- ---- some of the nodes
 
+-- by induction: a node that passes shares its unit with fewer others
 united_some : (p : Node → Bool) (ns : List Node) → are_united ns ≡ true → are_united (filter p ns) ≡ true
 united_some p [] united = refl
 united_some p (n ∷ ns) united =
@@ -55,6 +59,7 @@ united_filter p ns united = ap are_united (sym (filter-reverse_aux p ns [])) ∙
 
 -- ---- one more node
 
+-- the new node stands first in the list turned round, and shares its unit with its parent
 pub united_born : (ns : List Node) (b : Node) → ((q : Node) → In q ns → shares_unit b q ≡ true) → are_united (reverse ns) ≡ true →
     are_united (reverse (ns ++ b ∷ [])) ≡ true
 united_born ns b shares united =

@@ -27,6 +27,7 @@ found_counted-by t id x xs e true all found on =
     subst (IsCounted t) same all.0
 found_counted-by t id x xs e false all found on = on found
 
+-- by induction: what holds of each entry holds of the one that is found
 pub found_counted : (t : Table Node) (id : ℕ) (es : List Entry) (e : Entry) → AreCounted t es →
     find (λ (x : Entry). x.id == id) es ≡ Some e → IsCounted t e
 found_counted t id [] e all found = absurd (cc)
@@ -52,14 +53,17 @@ none_home strong weak live is = rw is (never (strong == 0) (weak == 0))
     never true b = refl
     never false b = refl
 
+-- by induction: each element passes
 all_pass : {A : Type 0} (p : A → Bool) (xs : List A) → ((x : A) → p x ≡ true) → list_all p xs ≡ true
 all_pass p [] each = refl
 all_pass p (x ∷ xs) each = rw (each x) (all_pass p xs each)
 
 module _ (handles : Handles) (c : Collection) (strong : has_strong c.nodes ≡ true) where
+  -- a strong node lives, so no buffer is home
   away : (h : HeldBuffer) → not (is_home_in handles c h.buffer) ≡ true
   away h = none_home (handles h.buffer Strength.Strong) (handles h.buffer Strength.Weak) (some_strong_live (members_of c.nodes))
       (strong_tie c.nodes ∙ strong)
 
+  -- so it is of each buffer
   pub all_out : list_all (λ (h : HeldBuffer). not (is_home_in handles c h.buffer)) c.held ≡ true
   all_out = all_pass (λ (h : HeldBuffer). not (is_home_in handles c h.buffer)) c.held away

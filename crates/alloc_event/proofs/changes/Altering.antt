@@ -45,6 +45,7 @@ pub record MakesNodes (c now : Collection) : Type 0 where
   pub same : (n : Node) → IsSameNode (of n) n
   pub is : now ≡ with_nodes (map of) c
 
+-- each change but a birth maps the nodes of the collection and keeps their places
 pub change_makes : (change : Change) (key : NodeKey) (c : Collection) → is_birth change ≡ false → MakesNodes c (changed change key c)
 change_makes (Change.Birth parent attached client event) key c h = absurd (false≢true (sym h))
 change_makes (Change.Effect on effect) key c h = record { of = affected on effect; same = same_affected on effect; is = refl }

@@ -73,6 +73,7 @@ module _ (t now : Table Node) (ss : List Shelf) (s : Shelf) (kept : IsStored t s
         same = stores.same;
       }
 
+  -- nothing is forced, so the collection that is changed is the one that is put back
   pub done_by : IsStored now ss → (has_given_root t s.keys ≡ false → has_given_root now s.keys ≡ false) →
       changed change no_key (collection_or_new (forest_of t ss) s.id) ≡ collection_in now s →
       (after : List Unit) (lives : ℕ) → lives ≡ strong_count (nodes_with now s.keys) →
@@ -86,12 +87,15 @@ module _ (t now : Table Node) (ss : List Shelf) (s : Shelf) (kept : IsStored t s
 module _ (t : Table Node) (es : List Entry) (id at : ℕ) (old : Entry) (place : IsPlace id es at) (is : old ≡ get_or es at old)
     (kept : IsStored t (shelves_of es)) (all : AreCounted t es) (us : List Unit) (units : HaveUnits us t es) (change : Change)
     (may : MayChange (forest_of t (shelves_of es)) id change) where
+  -- the entry at the place has the id that was looked for
   pub own_id : old.id ≡ id
   own_id = ap (λ (e : Entry). e.id) is ∙ place.id_is old
 
+  -- the place is that of the first entry with the id
   found : find (λ (e : Entry). e.id == id) es ≡ Some old
   found = place.found old ∙ ap Some (sym is)
 
+  -- the entry at the place is counted, as each is, and its shelf is found
   pub opens_at : IsOpen t us (shelves_of es) (shelf_of old) change old.strong
   opens_at =
       let counted : IsCounted t old = found_counted t id es old all found in
@@ -120,9 +124,11 @@ module _ (t : Table Node) (es : List Entry) (id at : ℕ) (old : Entry) (place :
   module _ (now : Table Node) (after : List Unit) (left : ℕ) (made : IsDone t now after (shelves_of es) (shelf_of old) change left)
       (new : Entry) (same : shelf_of new ≡ shelf_of old) (strong : new.strong ≡ left)
       (tidy : new.tidy ≡ true → list_any (over_but new.noted.items) (nodes_with now old.keys.items) ≡ false) where
+    -- the entry at the place has the same shelf as before, so the list of shelves stays
     pub shelves_at : shelves_of (set es at new) ≡ shelves_of es
     shelves_at = set_shelves es at new (λ within. same ∙ ap shelf_of (is ∙ get_or_default es at old new within))
 
+    -- where the collection is kept by a strong node, or rests, no step is left
     finishes_at : (pool : ℕ) (handles : Handles) → is_kept_by handles t (shelf_of old) left ≡ true →
         Finishes pool handles t (shelves_of es) now (shelves_of es)
         (changed change no_key (collection_or_new (forest_of t (shelves_of es)) id))
@@ -131,6 +137,7 @@ module _ (t : Table Node) (es : List Entry) (id at : ℕ) (old : Entry) (place :
         (changed change no_key (collection_or_new (forest_of t (shelves_of es)) i)))
         own_id (made.finishes pool handles by)
 
+    -- the new entry has the shelf, and with it the id, of the old one
     new_id : new.id ≡ id
     new_id = ap (λ (s : Shelf). s.id) same ∙ own_id
 

@@ -116,21 +116,27 @@ module _ (handles : Handles) (t : Table Node) (es : List Entry) (id at : ℕ) (o
   abbrev c : Collection
   c = collection_in t (shelf_of old)
 
+  -- the entry is found at its place
   place : IsPlace id es at
   place = place_is id es at told
 
+  -- the entry at the place has the id that was looked for
   pub own_id : old.id ≡ id
   own_id = ap (λ (e : Entry). e.id) is ∙ place.id_is old
 
+  -- the place is that of the first entry with the id
   found : find (λ (e : Entry). e.id == id) es ≡ Some old
   found = place.found old ∙ ap Some (sym is)
 
+  -- the shelf of the entry is found where the entry is
   shelf_is : find (λ (x : Shelf). x.id == id) (shelves_of es) ≡ Some (shelf_of old)
   shelf_is = shelf_found id es ∙ ap (option_map shelf_of) found
 
+  -- each entry is counted
   counted : IsCounted t old
   counted = found_counted t id es old all found
 
+  -- each collection is whole
   whole : IsWhole (collection_in t (shelf_of old))
   whole = found_whole t id ss (shelf_of old) kept.whole shelf_is
 
@@ -138,12 +144,15 @@ module _ (handles : Handles) (t : Table Node) (es : List Entry) (id at : ℕ) (o
   pub few_at : given_few old.buffers ≡ true
   few_at = whole.sound.few
 
+  -- the forest has the collection of each shelf
   there : collection_at (forest_of t (shelves_of es)) id ≡ Some (collection_in t (shelf_of old))
   there = collection_is t id ss ∙ ap (option_map (collection_in t)) shelf_is
 
+  -- it is there, so no new one is made
   before_is : collection_or_new (forest_of t (shelves_of es)) id ≡ collection_in t (shelf_of old)
   before_is = ap (λ (o : Option Collection). unwrap_or o (record { id = id; nodes = []; buffers = None; held = [] })) there
 
+  -- a strong node lives exactly if the count is not 0
   live : some_strong_live (members_of (nodes_with t old.keys.items)) ≡ nat_lt 0 old.strong
   live = strong_members (nodes_with t old.keys.items) ∙ sym (strong_told (nodes_with t old.keys.items) old.strong counted.strong)
 
@@ -183,9 +192,11 @@ module _ (handles : Handles) (t : Table Node) (es : List Entry) (id at : ℕ) (o
           and_none true = refl
           and_none false = refl
 
+  -- the same with the entry's own id
   own_found : find (λ (x : Shelf). x.id == old.id) (shelves_of es) ≡ Some (shelf_of old)
   own_found = subst (λ (i : ℕ). find (λ (x : Shelf). x.id == i) (shelves_of es) ≡ Some (shelf_of old)) (sym own_id) shelf_is
 
+  -- a shelf that is put in its own place changes nothing
   put_same : put_shelf (shelf_of old) (shelves_of es) ≡ shelves_of es
   put_same = found_put (shelf_of old) ss kept.rising own_found
 
@@ -198,6 +209,7 @@ module _ (handles : Handles) (t : Table Node) (es : List Entry) (id at : ℕ) (o
       ∙ ap (λ (xs : List Shelf). sorted_by start_of (map (λ (h : HeldBuffer). h.pages) (all_held (forest_of t xs)))) (sym put_same))
 
   module _ (new : Entry) (r : IsReturned handles old new) where
+    -- id, nodes and buffers stay, and the buffers that are out are those that stay held
     shown : collection_in t (shelf_of new) ≡ given_back handles (collection_in t (shelf_of old))
     shown = λ i. record {
       id = r.id i;
@@ -206,15 +218,18 @@ module _ (handles : Handles) (t : Table Node) (es : List Entry) (id at : ℕ) (o
       held = (r.held ∙ ap (λ (b : Bool). filter (is_out handles b) old.held.items) (sym live)) i;
     }
 
+    -- the entry is set at the place of its id
     set_is : shelves_of (set es at new) ≡ put_shelf (shelf_of new) (shelves_of es)
     set_is =
         ap shelves_of (set_put new es at kept.rising (subst (λ (i : ℕ). place_in i es ≡ Some at) (sym (r.id ∙ own_id)) told))
         ∙ shelves_put new es
 
+    -- putting the shelf puts its collection
     collections_are : map (collection_in t) (put_shelf (shelf_of new) (shelves_of es)) ≡ put (given_back handles (collection_in t
         (shelf_of old))) (map (collection_in t) (shelves_of es))
     collections_are = put-map t (shelf_of new) ss ∙ ap (λ (x : Collection). put x (map (collection_in t) ss)) shown
 
+    -- nothing is decided, so the collection with its buffers given back is the last state
     pub finishes_so : decided (nodes_with t old.keys.items) old.buffers (is_held_strongly handles old.id old.buffers) ≡ None →
         (pool : ℕ) → Finishes pool handles t (shelves_of es) t (shelves_of (set es at new))
         (collection_or_new (forest_of t (shelves_of es)) id)
@@ -230,6 +245,7 @@ module _ (handles : Handles) (t : Table Node) (es : List Entry) (id at : ℕ) (o
               ∙ ap (option_map (mark_of pool (pages_in (given_back handles c) ++ others))) none;
         })
 
+    -- only the held buffers change, of which being whole says nothing
     pub stored_so : IsStored t (shelves_of (set es at new))
     stored_so =
         let back : IsWhole (given_back handles c) = record {
@@ -252,10 +268,12 @@ module _ (handles : Handles) (t : Table Node) (es : List Entry) (id at : ℕ) (o
         (subst (AllByRecursion IsWhole) (sym collections_are) (whole-put (given_back handles c) c
         (map (collection_in t) ss) refl back before))))
 
+    -- the keys stay, so the units' counts are of the same nodes
     pub units_so : (us : List Unit) → HaveUnits us t es → HaveUnits us t (set es at new)
     units_so us units =
         units_set us t es at new (λ within. r.keys ∙ ap (λ (e : Entry). e.keys) (is ∙ get_or_default es at old new within)) units
 
+    -- the pool's intervals are those of all collections, of which one changed
     pub pool_so : (held : List Interval) → are_parted held ≡ true →
         held ≡ by_page (pages_held new.held.items ++ beside (forest_of t (shelves_of es)) old.id) →
         held ≡ sorted_by start_of (map (λ (h : HeldBuffer). h.pages) (all_held (forest_of t (shelves_of (set es at new)))))

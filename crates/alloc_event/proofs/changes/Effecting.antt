@@ -88,6 +88,7 @@ pub record Remains (m n : Node) : Type 0 where
   pub allocated : m.allocated ≡ n.allocated
   pub over : is_over m ≡ is_over n
 
+-- each effect writes fields that say neither of these
 pub remains_affected : (key : NodeKey) (effect : Effect) (n : Node) → Remains (affected key effect n) n
 remains_affected key Effect.Bound n = record { gone = refl; allocated = refl; over = refl }
 remains_affected key Effect.Dispensable n = record { gone = refl; allocated = refl; over = refl }
@@ -109,6 +110,7 @@ released_stays key Effect.Taken n h = h
 released_stays key Effect.Released n h = or_none_right (same_key key n.key) n.released h
 released_stays key Effect.Tracked n h = h
 
+-- only one effect writes the field, and sets it
 weak_stays : (key : NodeKey) (effect : Effect) (n : Node) → (affected key effect n).weak ≡ false → n.weak ≡ false
 weak_stays key Effect.Bound n h = h
 weak_stays key Effect.Dispensable n h = h
@@ -119,6 +121,7 @@ weak_stays key Effect.Taken n h = h
 weak_stays key Effect.Released n h = h
 weak_stays key Effect.Tracked n h = h
 
+-- only one effect writes the field, and fills it
 asks_stays : (key : NodeKey) (effect : Effect) (n : Node) → is_some (affected key effect n).constraints ≡ false →
     is_some n.constraints ≡ false
 asks_stays key Effect.Bound n h = h
@@ -141,11 +144,13 @@ live_before key effect n h =
     (ap not (sym (remains_affected key effect n).gone) ∙ and_left (not (affected key effect n).gone) _ h)
     (ap not (released_stays key effect n (not-true _ (and_right (not (affected key effect n).gone) _ h))))
 
+-- a node that is strong after the effect was live and strong before, since effects only take these away
 pub strong_before : (key : NodeKey) (effect : Effect) (n : Node) → is_strong (affected key effect n) ≡ true → is_strong n ≡ true
 strong_before key effect n h =
     and_both (is_live_node n) (not n.weak) (live_before key effect n (and_left (is_live_node (affected key effect n)) _ h))
     (ap not (weak_stays key effect n (not-true _ (and_right (is_live_node (affected key effect n)) _ h))))
 
+-- a node that is waited for after the effect was waited for before, since effects only end that
 pub unready_before : (key : NodeKey) (effect : Effect) (n : Node) → is_unready (affected key effect n) ≡ true → is_unready n ≡ true
 unready_before key effect n h =
     let one = and_right (not (affected key effect n).gone) _ h in
@@ -189,15 +194,19 @@ module _ (t now : Table Node) (us : List Unit) (key : NodeKey) (effect : Effect)
   abbrev nodes : List Node
   nodes = nodes_with t s.keys
 
+  -- an effect writes none of these fields
   pub same : (m : Node) → IsSameNode (f m) m
   same = same_affected key effect
 
+  -- the effect keeps the key
   pub own : (f n).key ≡ key
   own = (same n).key ∙ opens.kept.named key n was
 
+  -- the effect concerns its own key alone
   pub alone : (m : Node) → same_key n.key m.key ≡ false → f m ≡ m
   alone m other = alone_affected key effect m (subst (λ (k : NodeKey). same_key k m.key ≡ false) (opens.kept.named key n was) other)
 
+  -- the same, said of the key that is written
   apart : (m : Node) → m.key ≢ key → f m ≡ m
   apart m differ = elim (either_way (same_key n.key m.key)) [
     | inl e ↦ absurd (differ (sym (same_key-true n.key m.key e) ∙ opens.kept.named key n was))
@@ -208,17 +217,21 @@ module _ (t now : Table Node) (us : List Unit) (key : NodeKey) (effect : Effect)
   pub look : (k : NodeKey) → node_at now k ≡ option_map f (node_at t k)
   look = look-changed t now f key n (f n) (subst (λ (k : NodeKey). Writes t now k (f n)) own writes) was refl opens.kept.named apart
 
+  -- the one node that is written keeps its place, so the store keeps its facts
   pub kept_now : IsStored now ss
   kept_now = kept-map f same (λ m. (remains_affected key effect m).gone) (together_effect key effect) t now
       (ap (λ (x : Table Node). x.first) becomes) (ap (λ (x : Table Node). x.nexts) becomes) writes.len look
       (parents-written t now (f n).key (f n) writes) ss opens.kept
 
+  -- each key is looked up in the new table, where the effect was made
   pub nodes_now : nodes_with now s.keys ≡ map f nodes
   nodes_now = looked-map f (node_at t) (node_at now) look s.keys
 
+  -- only the nodes change
   pub now_is : collection_in now s ≡ with_nodes (map f) (collection_in t s)
   now_is = λ i. record (collection_in t s) { nodes = nodes_now i }
 
+  -- each collection is whole
   pub whole : IsWhole (collection_in t s)
   whole = found_whole t s.id ss s opens.kept.whole opens.found
 
@@ -226,21 +239,26 @@ module _ (t now : Table Node) (us : List Unit) (key : NodeKey) (effect : Effect)
   fit : is_there (forest_of t ss) s.id key ≡ true
   fit = opens.named
 
+  -- the node is of the collection and not gone, so it is one of those left
   left : IsLeft nodes key
   left = left_node nodes key (loss_left t ss opens.kept s.id (Change.Loss key Cause.Lost)
       (record { named = fit; room = λ e. cc; heads = refl; trackers = λ k m e. cc }) s opens.found)
 
+  -- each node stands in the table under its key
   pub at_key : (m : Node) → In m nodes → node_at t m.key ≡ Some m
   at_key m there = in_all (λ (x : Node). node_at t x.key ≡ Some x) nodes (looked_there t opens.kept.named s.keys) m there
 
+  -- both stand under the key
   is_left : n ≡ left.node
   is_left =
       let both : Some n ≡ Some left.node = sym was ∙ (ap (node_at t) (sym left.is) ∙ at_key left.node left.on) in
       cc
 
+  -- so it is among the nodes
   pub on : In n nodes
   on = subst (λ (m : Node). In m nodes) (sym is_left) left.on
 
+  -- and it is not gone
   pub here : n.gone ≡ false
   here = ap (λ (m : Node). m.gone) is_left ∙ left.here
 
@@ -249,6 +267,7 @@ module _ (t now : Table Node) (us : List Unit) (key : NodeKey) (effect : Effect)
   strong_is = times_changed is_strong f nodes n whole.sound.distinct on (λ m there other. alone m other)
       ∙ ap (λ (k : ℕ). k + bit (is_strong (f n))) (sym opens.strong)
 
+  -- its key is filed under its collection still
   pub filed : is_filed t s.id (f n).key ≡ true
   filed =
       ap (is_filed t s.id) own ∙ ap (λ (o : Option Node). option_map_or (λ (m : Node). m.collection == s.id) o false) was
@@ -256,6 +275,7 @@ module _ (t now : Table Node) (us : List Unit) (key : NodeKey) (effect : Effect)
       (ap (λ (o : Option Node). option_map_or (λ (m : Node). m.collection == s.id && not m.gone) o false) (sym (node_is t ss opens.kept key
       ∙ was)) ∙ fit)
 
+  -- one node is written, and nothing else
   pub stores : Stores t now (f n ∷ [])
   stores = Stores-more t t now [] (f n) opens.kept.named (Stores-none t) becomes writes
 
@@ -272,6 +292,7 @@ module _ (t now : Table Node) (us : List Unit) (key : NodeKey) (effect : Effect)
 
   module _ (after : List Unit) (lives : ℕ) (lives_is : lives ≡ strong_count (map f nodes))
       (calm_now : IsCalm (collection_in now s)) (units_now : AreUnits after (map (collection_in now) ss)) where
+    -- the nodes are those after the effect
     count_now : lives ≡ strong_count (nodes_with now s.keys)
     count_now = lives_is ∙ ap strong_count (sym nodes_now)
 
@@ -282,9 +303,11 @@ module _ (t now : Table Node) (us : List Unit) (key : NodeKey) (effect : Effect)
         (collection_is t s.id ss ∙ ap (option_map (collection_in t)) opens.found)
         ∙ sym now_is
 
+    -- being over is kept, and so is the key
     over_same : (noted : List NodeKey) (m : Node) → over_but noted (f m) ≡ over_but noted m
     over_same noted m = λ i. (remains_affected key effect m).over i && not (list_any (same_key ((same m).key i)) noted)
 
+    -- the one write makes exactly the change, and nothing more is forced
     pub made_now : IsMade t now after ss s (Change.Effect key effect) lives
     made_now = record {
       done = done_by t now ss s opens.kept opens.found (Change.Effect key effect) (f n ∷ []) stores (and_both (is_filed t s.id (f n).key)
@@ -296,13 +319,16 @@ module _ (t now : Table Node) (us : List Unit) (key : NodeKey) (effect : Effect)
 
   -- ---- the units
 
+  -- the shelf is found among them
   pub in_shelves : In s ss
   in_shelves = (In-find (λ (x : Shelf). x.id == s.id) ss s opens.found).0
 
+  -- the counts of each collection's units are right, so of this one's
   pub unit_has : HasUnits us nodes
   unit_has = all_at (λ (c : Collection). HasUnits us c.nodes) (map (collection_in t) ss) opens.units (collection_in t s)
       (In-map-back (collection_in t) ss s in_shelves)
 
+  -- the units of other collections stay, and those of this one are counted anew
   pub units_join : (after : List Unit) → Stays t s.id us after → HasUnits after (map f nodes) → AreUnits after (map (collection_in now) ss)
   units_join after stays has =
       but_join after s.id (map (collection_in now) ss)
@@ -338,25 +364,32 @@ module _ (t now : Table Node) (us : List Unit) (key : NodeKey) (effect : Effect)
 
   -- ---- where the counts of the unit change
 
+  -- the head of the unit of a node that is left is left
   pub head : (h : Node) × In h nodes × (h.key ≡ n.head) × (h.gone ≡ false) × (is_head h ≡ true)
   head = head_there nodes whole.sound.distinct whole.sound.heads whole.rooted whole.united n on here
 
+  -- it stands in the table under its key
   pub head_at : node_at t n.head ≡ Some head.0
   head_at = ap (node_at t) (sym head.2) ∙ at_key head.0 head.1
 
+  -- the slot of the head has the counts of its unit
   unit_is : unit_at us n.head.slot ≡ unit_of nodes n.head
   unit_is = subst (λ (k : NodeKey). unit_at us k.slot ≡ unit_of nodes k) head.2
       (in_all (HasUnit us nodes) nodes unit_has head.0 head.1).1
 
+  -- the one node that changes is taken from the count as it was, and added as it is
   pub count_is : (test : Node → Bool) → times test (map f nodes) + bit (test n) ≡ times test nodes + bit (test (f n))
   count_is test = times_changed test f nodes n whole.sound.distinct on (λ m there other. alone m other)
 
+  -- a head is of its own unit
   own_unit : same_key n.head n.head ≡ true
   own_unit = same_key-refl n.head
 
+  -- the effect keeps the head
   own_unit_now : same_key (f n).head n.head ≡ true
   own_unit_now = ap (λ (k : NodeKey). same_key k n.head) (same n).head ∙ own_unit
 
+  -- the count of the unit's live nodes changes by the one node
   pub live_is : n.head.slot < length us → times (lives_in n.head) (map f nodes) + bit (is_live_node n) ≡ (unit_at us n.head.slot).live + bit
       (is_live_node (f n))
   live_is within =
@@ -364,6 +397,7 @@ module _ (t now : Table Node) (us : List Unit) (key : NodeKey) (effect : Effect)
       ∙ (count_is (lives_in n.head)
       ∙ (λ i. (sym unit_is i).live + bit (lives_own n.head (f n) own_unit_now i)))
 
+  -- the count of those that are waited for changes by the one node
   pub unready_is : n.head.slot < length us →
       times (waits_in n.head) (map f nodes) + bit (is_unready n) ≡ (unit_at us n.head.slot).unready + bit (is_unready (f n))
   unready_is within =
@@ -382,6 +416,7 @@ module _ (t now : Table Node) (us : List Unit) (key : NodeKey) (effect : Effect)
       both_ways (is_served_at t p)
       (ap (λ (o : Option Node). option_map_or (λ (m : Node). m.allocated) o false) at ∙ and_left x.0.allocated _ rest) none)
 
+  -- not due means that it has its buffers, or the unit above has none
   not_due : is_due_at t n.head ≡ false → ((h : Node) → In h nodes → h.key ≡ n.head → h.allocated ≡ true)
       ⊎ ((h : Node) → In h nodes → h.key ≡ n.head → has_turn nodes h ≡ false)
   not_due idle = elim (either_way (is_served_at t n.head)) [
@@ -401,6 +436,7 @@ module _ (t now : Table Node) (us : List Unit) (key : NodeKey) (effect : Effect)
     abbrev pub after_one : List Unit
     after_one = set us n.head.slot next
 
+    -- the slot that is written is that of a head of this collection, so no slot of another's changes
     pub stays_one : Stays t s.id us after_one
     stays_one k m at differ inside = (
       subst (λ (l : ℕ). k.slot < l) (sym (length-set us n.head.slot next)) inside,
@@ -414,6 +450,7 @@ module _ (t now : Table Node) (us : List Unit) (key : NodeKey) (effect : Effect)
           differ (ap (λ (x : Node). x.collection) node ∙ of)),
     )
 
+    -- no node of another unit changes
     other_unit : (k : NodeKey) → same_key n.head k ≡ false → unit_of (map f nodes) k ≡ unit_of nodes k
     other_unit k other =
         let other_now : same_key (f n).head k ≡ false = ap (λ (h : NodeKey). same_key h k) (same n).head ∙ other in
@@ -428,9 +465,11 @@ module _ (t now : Table Node) (us : List Unit) (key : NodeKey) (effect : Effect)
         let b = below_same k in
         λ i. record { live = l i; unready = w i; below = b i }
 
+    -- no effect changes how many units hang right below
     below_now : next.below ≡ times (heads_below (map f nodes) n.head) (map f nodes)
     below_now = below_next ∙ ap (λ (u : Unit). u.below) unit_is ∙ sym (below_same n.head)
 
+    -- the unit of the node has the new counts, and each other one the old ones
     pub has_one : HasUnits after_one (map f nodes)
     has_one = all_in (HasUnit after_one (map f nodes))
         (map f nodes) (λ m there.
@@ -483,6 +522,7 @@ module _ (t now : Table Node) (us : List Unit) (key : NodeKey) (effect : Effect)
 
 -- ---- nothing of the nodes
 
+-- nothing changed, and nothing is forced where the collection is kept or rests
 pub made_nothing : (t : Table Node) (us : List Unit) (ss : List Shelf) (s : Shelf) (strong : ℕ) →
     IsOpen t us ss s Change.Nothing strong → IsMade t t us ss s Change.Nothing strong
 made_nothing t us ss s strong opens =

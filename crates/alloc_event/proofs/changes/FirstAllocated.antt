@@ -19,6 +19,7 @@ module _ (s new : Shelf) (same : new.id ≡ s.id) where
   here_is : (x : Shelf) → (x.id == s.id) ≡ true → (x.id == new.id) ≡ true
   here_is x e = ap (λ (i : ℕ). x.id == i) same ∙ e
 
+  -- the two shelves have one id
   not_here : (x : Shelf) → (x.id == s.id) ≡ false → (x.id == new.id) ≡ false
   not_here x e = ap (λ (i : ℕ). x.id == i) same ∙ e
 
@@ -30,6 +31,7 @@ module _ (s new : Shelf) (same : new.id ≡ s.id) where
       (In-find (λ (y : Shelf). y.id == s.id) xs s on).0 in
       le-ltb new.id x.id (omega (arith, less, same))
 
+  -- by induction: the shelf stands in the place of the one with its id
   pub found_there : (ss : List Shelf) → AreRising ss → find (λ (x : Shelf). x.id == s.id) ss ≡ Some s →
       find (λ (x : Shelf). x.id == new.id) (put_shelf new ss) ≡ Some new
   found_there [] rising found = cc
@@ -46,6 +48,7 @@ module _ (s new : Shelf) (same : new.id ≡ s.id) where
         rw (other, less, other) rest
   ]
 
+  -- by induction: each other shelf stays
   pub all_there : (P : Shelf → Type 0) (ss : List Shelf) → AreRising ss → find (λ (x : Shelf). x.id == s.id) ss ≡ Some s → P new →
       AllByRecursion P ss → AllByRecursion P (put_shelf new ss)
   all_there P [] rising found own all = cc
@@ -59,6 +62,7 @@ module _ (s new : Shelf) (same : new.id ≡ s.id) where
         rw (other, less) (all.0, rest)
   ]
 
+  -- by induction: each other collection stays
   pub units_there : (us : List Unit) (t : Table Node) (ss : List Shelf) → AreRising ss →
       find (λ (x : Shelf). x.id == s.id) ss ≡ Some s → HasUnits us (nodes_with t new.keys) →
       AreUnits us (map (collection_in t) ss) → AreUnits us (map (collection_in t) (put_shelf new ss))

@@ -38,6 +38,7 @@ camped_same key Effect.Taken none n = refl
 camped_same key Effect.Released none n = refl
 camped_same key Effect.Tracked none n = refl
 
+-- each node camps on what it did
 pub reserved_same : (key : NodeKey) (effect : Effect) → asked_by effect ≡ None → (nodes : List Node) →
     reserved_count (map (affected key effect) nodes) ≡ reserved_count nodes
 reserved_same key effect none nodes = reserved_map (affected key effect) (camped_same key effect none) nodes
@@ -61,6 +62,7 @@ module _ (t : Table Node) (us : List Unit) (key : NodeKey) (demand : Demand) (n 
   abbrev nodes : List Node
   nodes = nodes_with t s.keys
 
+  -- each collection is whole
   whole : IsWhole (collection_in t s)
   whole = found_whole t s.id ss s opens.kept.whole opens.found
 
@@ -69,6 +71,7 @@ module _ (t : Table Node) (us : List Unit) (key : NodeKey) (demand : Demand) (n 
   left = left_node nodes key (loss_left t ss opens.kept s.id (Change.Loss key Cause.Lost)
       (record { named = opens.may.named; room = λ e. cc; heads = refl; trackers = λ k m e. cc }) s opens.found)
 
+  -- both stand in the table under the key
   is_left : n ≡ left.node
   is_left =
       let there : node_at t left.node.key ≡ Some left.node =
@@ -76,6 +79,7 @@ module _ (t : Table Node) (us : List Unit) (key : NodeKey) (demand : Demand) (n 
       let both : Some n ≡ Some left.node = sym was ∙ (ap (node_at t) (sym left.is) ∙ there) in
       cc
 
+  -- the node has the key that it is stored under
   own : n.key ≡ key
   own = opens.kept.named key n was
 
@@ -85,6 +89,7 @@ module _ (t : Table Node) (us : List Unit) (key : NodeKey) (demand : Demand) (n 
       let same : same_key key n.key ≡ true = ap (same_key key) own ∙ same_key-refl key in
       rw same refl
 
+  -- one node changes what it camps on
   pub reserved_then : reserved_count (map f nodes) + camped n ≡ reserved_count nodes + camped (record n { constraints = Some demand })
   reserved_then =
       reserved_changed f nodes n whole.sound.distinct (subst (λ (m : Node). In m nodes) (sym is_left) left.on)

@@ -30,12 +30,14 @@ none_found test fails [] gone = refl
 none_found test fails (n ∷ ns) gone =
     rw (fails n (gone n (inl refl))) (none_found test fails ns (λ m on. gone m (inr on)))
 
+-- by induction: each node is gone, and fails
 pub none_passes : (test : Node → Bool) → ((n : Node) → n.gone ≡ true → test n ≡ false) → (ns : List Node) → AreGone ns →
     list_any test ns ≡ false
 none_passes test fails [] gone = refl
 none_passes test fails (n ∷ ns) gone =
     rw (fails n (gone n (inl refl))) (none_passes test fails ns (λ m on. gone m (inr on)))
 
+-- by induction: a gone node is not strong
 pub none_strong : (ns : List Node) → AreGone ns → strong_count ns ≡ 0
 none_strong [] gone = refl
 none_strong (n ∷ ns) gone = rw (strong_gone n (gone n (inl refl))) (none_strong ns (λ m on. gone m (inr on)))

@@ -86,6 +86,7 @@ module _ (c : Collection) (whole : IsWhole c) (falls : NodeKey → Bool) (top ab
     ]
   ]
 
+  -- by induction on the line above: the first step out of the unit leads to the unit above
   pub crossed : (x : Node) → In x nodes → x.gone ≡ false → falls x.key ≡ true → (h : NodeKey) → x.head ≡ h → falls h ≡ false →
       (h ≡ above.head) × (top.attached ≡ false)
   crossed x on here f h is out =
@@ -119,15 +120,18 @@ module _ (c : Collection) (whole : IsWhole c) (falls : NodeKey → Bool) (top ab
     abbrev pub now : List Node
     now = map f nodes
 
+    -- a node that is left after it was left before, and did not fall
     pub stays : (n : Node) → (f n).gone ≡ false → (falls n.key ≡ false) × (n.gone ≡ false)
     stays n h = (or_none_left (falls n.key) n.gone (sym (goes n) ∙ h), or_none_right (falls n.key) n.gone (sym (goes n) ∙ h))
 
+    -- keys and heads are kept
     unit_same : (p head : NodeKey) → list_any (λ (q : Node). is_of p q && same_key q.head head) now ≡ list_any (λ (q : Node).
         is_of p q && same_key q.head head) nodes
     unit_same p head = list_any-map (λ (q : Node). is_of p q && same_key q.head head)
         (λ (q : Node). is_of p q && same_key q.head head) f nodes
         (λ q there. λ i. same_key ((same q).key i) p && same_key ((same q).head i) head)
 
+    -- so a node hangs in a unit as before
     pub hangs_same : (head : NodeKey) (n : Node) → hangs_in now head n ≡ hangs_in nodes head n
     hangs_same head n = λ i. option_map_or (λ p. unit_same p head i) n.parent false
 
@@ -135,6 +139,7 @@ module _ (c : Collection) (whole : IsWhole c) (falls : NodeKey → Bool) (top ab
 
     module _ (guard : (top.attached ≡ true) ⊎ ((times (waits_in above.head) nodes ≡ 0) ⊎ ((0 < times (waits_in above.head) now)
         ⊎ ((h : Node) → In h nodes → h.key ≡ above.head → h.allocated ≡ true)))) where
+      -- a node of the unit that fell was waited for by its own unit alone, or was ready
       pub ready_before : (h : Node) → In h nodes → (f h).gone ≡ false → h.allocated ≡ false →
           list_all (is_ready_node h.key) now ≡ true → list_all (is_ready_node h.key) nodes ≡ true
       ready_before h on here waiting all =
@@ -167,6 +172,7 @@ module _ (c : Collection) (whole : IsWhole c) (falls : NodeKey → Bool) (top ab
               let r = crossed m there g e h.key (same_key-true m.head h.key s) (stays h here).0 in
               own m there r.0 r.1 guard
 
+      -- a root that falls takes all; else it stays as it was
       pub root_one : (x : Node) → In x nodes → is_root_left (f x) ≡ is_root_left x
       root_one x on = from (either_way (falls x.key)) (either_way x.gone)
         where
@@ -207,11 +213,13 @@ module _ (c : Collection) (whole : IsWhole c) (falls : NodeKey → Bool) (top ab
           (and_both y.0.allocated (same_key y.0.key p) (sym (alloc y.0) ∙ and_left (f y.0).allocated _ rest)
           (ap (λ (k : NodeKey). same_key k p) (sym (same y.0).key) ∙ and_right (f y.0).allocated _ rest)))
 
+      -- the parent is allocated still, so it was
       above_before : (o : Option NodeKey) → option_map_or (λ parent. list_any (is_allocated_node parent) now) o false ≡ true →
           option_map_or (λ parent. list_any (is_allocated_node parent) nodes) o false ≡ true
       above_before None h = h
       above_before (Some p) h = allocated_before p h
 
+      -- a head that is next after the fall was next before, since falls allocate nothing
       pub next_before : (n : Node) → In n nodes → is_next_node now (f n) ≡ true → is_next_node nodes n ≡ true
       next_before n on h =
           let attached = and_left (f n).attached _ h in

@@ -23,14 +23,17 @@ use Rattle.alloc_event.proofs.tables.Writing.{IsSameNode}
 
 -- ---- one node that goes
 
+-- going changes only the mark and the fault
 pub gone_same : (going : Going) (n : Node) → IsSameNode (gone_by going n) n
 gone_same (Going.Fails fault) n = record { key = refl; parent = refl; attached = refl; collection = refl; head = refl }
 gone_same Going.Leaves n = record { key = refl; parent = refl; attached = refl; collection = refl; head = refl }
 
+-- it sets the mark
 pub gone_is : (going : Going) (n : Node) → (gone_by going n).gone ≡ true
 gone_is (Going.Fails fault) n = refl
 gone_is Going.Leaves n = refl
 
+-- it does not touch the allocation
 gone_given : (going : Going) (n : Node) → (gone_by going n).allocated ≡ n.allocated
 gone_given (Going.Fails fault) n = refl
 gone_given Going.Leaves n = refl
@@ -39,13 +42,16 @@ gone_given Going.Leaves n = refl
 abbrev pub goes_of : Going → List NodeKey → Node → Node
 goes_of going keys n = if list_any (same_key n.key) keys then gone_by going n else n
 
+-- its key is among those that go
 pub goes_in : (going : Going) (keys : List NodeKey) (n : Node) → list_any (same_key n.key) keys ≡ true →
     goes_of going keys n ≡ gone_by going n
 goes_in going keys n e = λ i. if e i then gone_by going n else n
 
+-- its key is not
 pub goes_not : (going : Going) (keys : List NodeKey) (n : Node) → list_any (same_key n.key) keys ≡ false → goes_of going keys n ≡ n
 goes_not going keys n e = λ i. if e i then gone_by going n else n
 
+-- either it goes, which keeps the place, or it stays
 pub same_of : (going : Going) (keys : List NodeKey) (n : Node) → IsSameNode (goes_of going keys n) n
 same_of going keys n = elim (either_way (list_any (same_key n.key) keys)) [
   | inl e ↦ subst (λ (m : Node). IsSameNode m n) (sym (goes_in going keys n e)) (gone_same going n)
@@ -53,12 +59,14 @@ same_of going keys n = elim (either_way (list_any (same_key n.key) keys)) [
       (record { key = refl; parent = refl; attached = refl; collection = refl; head = refl })
 ]
 
+-- either it goes, which keeps the allocation, or it stays
 pub given_of : (going : Going) (keys : List NodeKey) (n : Node) → (goes_of going keys n).allocated ≡ n.allocated
 given_of going keys n = elim (either_way (list_any (same_key n.key) keys)) [
   | inl e ↦ ap (λ (m : Node). m.allocated) (goes_in going keys n e) ∙ gone_given going n
   | inr e ↦ ap (λ (m : Node). m.allocated) (goes_not going keys n e)
 ]
 
+-- either it goes now, or it is as before
 pub gone_of : (going : Going) (keys : List NodeKey) (n : Node) → (goes_of going keys n).gone ≡ (list_any (same_key n.key) keys || n.gone)
 gone_of going keys n = elim (either_way (list_any (same_key n.key) keys)) [
   | inl e ↦ ap (λ (m : Node). m.gone) (goes_in going keys n e) ∙ gone_is going n ∙ (λ i. sym e i || n.gone)
@@ -76,18 +84,23 @@ but_is test none going keys n = elim (either_way (list_any (same_key n.key) keys
   | inr e ↦ ap test (goes_not going keys n e) ∙ sym (ap (λ (b : Bool). test n && not b) e ∙ and-true (test n))
 ]
 
+-- a strong node is not gone
 pub strong_gone : (m : Node) → m.gone ≡ true → is_strong m ≡ false
 strong_gone m e = rw e refl
 
+-- a node that goes is counted no longer, and one that stays as before
 pub strong_but : (keys : List NodeKey) (going : Going) (n : Node) → is_strong (goes_of going keys n) ≡ but is_strong keys n
 strong_but keys going n = but_is is_strong strong_gone going keys n
 
+-- the same for the live nodes of a unit
 pub lives_but : (k : NodeKey) (keys : List NodeKey) (going : Going) (n : Node) → lives_in k (goes_of going keys n) ≡ but (lives_in k) keys n
 lives_but k keys going n = but_is (lives_in k) (lives_gone k) going keys n
 
+-- the same for the nodes that a unit waits for
 pub waits_but : (k : NodeKey) (keys : List NodeKey) (going : Going) (n : Node) → waits_in k (goes_of going keys n) ≡ but (waits_in k) keys n
 waits_but k keys going n = but_is (waits_in k) (waits_gone k) going keys n
 
+-- a gone node camps on nothing
 pub camped_of : (keys : List NodeKey) (going : Going) (n : Node) → camped (goes_of going keys n) ≡ camped_but keys n
 camped_of keys going n = elim (either_way (list_any (same_key n.key) keys)) [
   | inl e ↦ ap camped (goes_in going keys n e) ∙ camped_gone (gone_by going n) (gone_is going n)

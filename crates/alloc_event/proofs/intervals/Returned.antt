@@ -244,6 +244,7 @@ pages_around [] rest h others = refl
 pages_around (g ∷ front) rest h others =
     ap (λ (l : List Interval). g.pages ∷ l) (pages_around front rest h others)
 
+-- by induction over the first list
 pages_beside : (front rest : List HeldBuffer) (others : List Interval) →
     pages_held (front ++ rest) ++ others ≡ pages_held front ++ (pages_held rest ++ others)
 pages_beside [] rest others = refl
@@ -277,6 +278,7 @@ later_In new x i is put (inl is_new) = inr (put (inl is_new))
 later_In new x i is put (inr (inl is_i)) = inl is_i
 later_In new x i is put (inr (inr on)) = inr (put (inr on))
 
+-- by induction: the list has the old elements, and the new one
 In-put : (new x : Interval) (is : List Interval) → In x (new ∷ is) → In x (put_in new is)
 In-put new x [] on = on
 In-put new x (i ∷ is) on = elim (either_way (nat_lt i.start new.start)) [
@@ -285,15 +287,18 @@ In-put new x (i ∷ is) on = elim (either_way (nat_lt i.start new.start)) [
   | inr e ↦ subst (λ (l : List Interval). In x l) (sym (front new i is e)) on
 ]
 
+-- by induction: sorting keeps the elements
 In-sorted : (x : Interval) (is : List Interval) → In x is → In x (by_page is)
 In-sorted x [] on = absurd on
 In-sorted x (i ∷ is) (inl here) = In-put i x (by_page is) (inl here)
 In-sorted x (i ∷ is) (inr on) = In-put i x (by_page is) (inr (In-sorted x is on))
 
+-- by induction over what stands before it
 In-behind : (x : Interval) (xs ys : List Interval) → In x (xs ++ x ∷ ys)
 In-behind x [] ys = inl refl
 In-behind x (y ∷ xs) ys = inr (In-behind x xs ys)
 
+-- by induction: the element that is found is contained
 Contains-In : (xs : List Interval) (x : Interval) → In x xs → Contains xs x
 Contains-In [] x on = absurd on
 Contains-In (y ∷ ys) x (inl is) = subst (λ (z : Interval). Contains (z ∷ ys) x) is (Contains-head x ys)

@@ -45,6 +45,7 @@ above-without : (key : NodeKey) (id : ℕ) (ss : List Shelf) → AllByRecursion 
 above-without key id [] all = tt
 above-without key id (s ∷ ss) all = (all.0, above-without key id ss all.1)
 
+-- by induction: fewer keys, the same ids
 rising-without : (key : NodeKey) (ss : List Shelf) → AreRising ss → AreRising (map (shelf_without key) ss)
 rising-without key [] rising = tt
 rising-without key (s ∷ ss) rising = (above-without key s.id ss rising.0, rising-without key ss rising.1)

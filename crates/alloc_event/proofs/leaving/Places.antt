@@ -40,6 +40,7 @@ apart_left (x ∷ xs) ys h =
     sym (list_any-append (same_key x) xs ys) ∙ not-true _ (and_left _ _ h) in
     and_both _ _ (ap not (or_none_left _ _ both)) (apart_left xs ys (and_right _ _ h))
 
+-- by induction over the first list
 apart_right : (xs ys : List NodeKey) → are_apart (xs ++ ys) ≡ true → are_apart ys ≡ true
 apart_right [] ys h = h
 apart_right (x ∷ xs) ys h = apart_right xs ys (and_right _ _ h)

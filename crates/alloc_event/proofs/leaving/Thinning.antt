@@ -200,6 +200,7 @@ module _ (t now : Table Node) (key : NodeKey) (out : TakesOut t now key) where
   found-by k true found = absurd (false≢true found)
   found-by k false found = found
 
+  -- what is found in the smaller table was found before
   pub found_before : (k : NodeKey) → is_found now k ≡ true → is_found t k ≡ true
   found_before k found = found-by k (same_key key k) (sym (ap is_some (out.look k)) ∙ found)
 
@@ -219,6 +220,7 @@ module _ (t now : Table Node) (key : NodeKey) (out : TakesOut t now key) where
         rw found (and_both _ _ own (filed-kept id ks (and_right _ _ filed)))
   ]
 
+  -- by induction over the shelves
   all_filed-kept : (ss : List Shelf) → are_filed t ss ≡ true → are_filed now (map (thinned now) ss) ≡ true
   all_filed-kept [] filed = refl
   all_filed-kept (s ∷ ss) filed = and_both _ _ (filed-kept s.id s.keys (and_left _ _ filed)) (all_filed-kept ss (and_right _ _ filed))

@@ -123,11 +123,13 @@ pub bare_others : (id : ℕ) (ss : List Shelf) → AllByRecursion (λ (x : Shelf
 bare_others id [] others = refl
 bare_others id (s ∷ ss) others = rw others.0 (ap (λ l. s ∷ l) (bare_others id ss others.1))
 
+-- by induction: no other shelf has the id
 pub thin_others : (t : Table Node) (id : ℕ) (ss : List Shelf) → AllByRecursion (λ (x : Shelf). (x.id == id) ≡ false) ss →
     thin_in t id ss ≡ ss
 thin_others t id [] others = refl
 thin_others t id (s ∷ ss) others = rw others.0 (ap (λ l. s ∷ l) (thin_others t id ss others.1))
 
+-- by induction: no other collection has the id
 over_others : (t : Table Node) (id : ℕ) (ss : List Shelf) → AllByRecursion (λ (x : Shelf). (x.id == id) ≡ false) ss →
     without_over_in id (map (collection_in t) ss) ≡ map (collection_in t) ss
 over_others t id [] others = refl
@@ -241,6 +243,7 @@ no_keys : (ks : List NodeKey) → (length ks == 0) ≡ true → ks ≡ []
 no_keys [] none = refl
 no_keys (k ∷ ks) none = absurd (let zero = eqb-true _ _ none in omega (arith, zero))
 
+-- by induction: a bare shelf has no key
 bare-keys : (id : ℕ) (ss : List Shelf) → all_keys (without_bare id ss) ≡ all_keys ss
 bare-keys id [] = refl
 bare-keys id (s ∷ ss) = by (bare-keys id ss) (s.id == id && is_bare s) refl

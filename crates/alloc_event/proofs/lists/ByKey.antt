@@ -17,11 +17,13 @@ use Rattle.sm_names.proofs.SamenessLaws.{false_if, same_key-refl, same_key-true}
 use Rattle.sm_names.proofs.StandingLaws.{In-any}
 use Rattle.alloc_event.specs.Falling.{key_order}
 
+-- by cases on the first order
 both_tie : (a b : Ordering) → ordering_then a b ≡ Equal → (a ≡ Equal) × (b ≡ Equal)
 both_tie Equal b h = (refl, h)
 both_tie Less b h = cc
 both_tie Greater b h = cc
 
+-- the order of numbers ties only equal ones
 number_tied : (m n : ℕ) → nat_cmp m n ≡ Equal → m ≡ n
 number_tied m n h = subst (λ (o : Ordering). MatchOrdering o (m < n) (m ≡ n) (n < m)) h (ranks m n)
 
@@ -33,6 +35,7 @@ tied a b h =
     let g : a.generation ≡ b.generation = number_tied a.generation b.generation both.1 in
     λ i. record { slot = s i; generation = g i }
 
+-- the order is total
 tied_self : (a : NodeKey) → key_order a a ≡ Equal
 tied_self a = tied_itself total-law a
 
@@ -42,12 +45,15 @@ place_of x [] on = absurd on
 place_of x (y ∷ ys) (inl is) = (0, omega arith, sym is)
 place_of x (y ∷ ys) (inr on) = let p = place_of x ys on in (suc p.0, omega (arith, p.1), p.2)
 
+-- the two constructors differ
 not_less : Less ≡ Equal → ⊥
 not_less h = cc
 
+-- the two constructors differ
 not_greater : Greater ≡ Equal → ⊥
 not_greater h = cc
 
+-- a search answers a place exactly where an element ties, and keys that tie are one
 pub found : (keys : List NodeKey) (key : NodeKey) (r : Result ℕ ℕ) → IsSorted key_order keys → IsSearchInRange r (length keys) →
     IsBinarySearchResult (λ y. key_order y key) keys r → list_any (same_key key) keys ≡ is_ok r
 found keys key (Ok i) up within at =

@@ -23,6 +23,7 @@ put_is new (i ∷ is) = ap (λ (l : List Interval). cond (nat_lt i.start new.sta
 is_lt : (a b : ℕ) → a < b → nat_lt a b ≡ true
 is_lt a b l = lt-ltb a b l
 
+-- a number that is not above another is not smaller in it
 pub not_lt : (a b : ℕ) → b ≤ a → nat_lt a b ≡ false
 not_lt a b l = elim (either_way (nat_lt a b)) [
   | inl e ↦ let m : a < b = ltb-true a b e in

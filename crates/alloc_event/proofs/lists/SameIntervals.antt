@@ -19,9 +19,11 @@ pub record Alike (xs ys : List Interval) : Type 0 where
   pub parted : are_parted xs ≡ are_parted ys
   pub sorted : are_parted xs ≡ true → sorted_by start_of xs ≡ sorted_by start_of ys
 
+-- each list is alike to itself
 pub Alike-refl : (xs : List Interval) → Alike xs xs
 Alike-refl xs = record { any = λ test. refl; parted = refl; sorted = λ parted. refl }
 
+-- one fact after the other
 pub Alike-trans : (xs ys zs : List Interval) → Alike xs ys → Alike ys zs → Alike xs zs
 Alike-trans xs ys zs p q = record {
   any = λ test. p.any test ∙ q.any test;
@@ -156,6 +158,7 @@ any-sorted : (test : Interval → Bool) (xs : List Interval) → list_any test (
 any-sorted test [] = refl
 any-sorted test (x ∷ xs) = any-insert test x (sorted_by start_of xs) ∙ ap (λ b. test x || b) (any-sorted test xs)
 
+-- by induction: no two begin at one page before or after sorting
 pub parted-sorted : (xs : List Interval) → are_parted (sorted_by start_of xs) ≡ are_parted xs
 parted-sorted [] = refl
 parted-sorted (x ∷ xs) = parted-insert x (sorted_by start_of xs) ∙ rw (any-sorted (begins_with x) xs, parted-sorted xs) refl

@@ -83,6 +83,7 @@ module _ {A : Type 0} (number : A → ℕ) where
         | false ↦ (le, first)
       ]
 
+  -- by induction: the element goes before the first that is not smaller
   rises_insert : (x : A) (xs : List A) → Rises xs → Rises (insert_by number x xs)
   rises_insert x [] rises = (tt, tt)
   rises_insert x (y ∷ ys) rises = elim (either_way (nat_lt (number y) (number x))) [
@@ -192,6 +193,7 @@ module _ {A : Type 0} (number : A → ℕ) where
   first_from x [] up = tt
   first_from x (y ∷ ys) up = (up 0 (omega arith), first_from x ys (λ k l. up (suc k) (omega arith)))
 
+  -- each element is at most those behind it
   rises_from : (xs : List A) → IsNonDecreasingBy number xs → Rises xs
   rises_from [] up = tt
   rises_from (x ∷ xs) up = (

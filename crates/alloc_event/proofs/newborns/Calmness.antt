@@ -47,9 +47,11 @@ module _ (c : Collection) where
       from true true = refl
       from true false = refl
 
+  -- the next head is the same on both sides
   next_none : find (is_next_node c.nodes) c.nodes ≡ None → find (is_next_head ms) ms ≡ None
   next_none none = next_tie c.nodes ∙ ap (option_map (member_of c.nodes)) none
 
+  -- the next head is the same on both sides
   none_next : find (is_next_head ms) ms ≡ None → find (is_next_node c.nodes) c.nodes ≡ None
   none_next none = map-None (member_of c.nodes) (find (is_next_node c.nodes) c.nodes) (sym (next_tie c.nodes) ∙ none)
 
@@ -58,17 +60,20 @@ module _ (c : Collection) where
   served o = option_and_then (λ (b : Buffers). option_map (λ (head : Member).
       outcome head.key (logical_failure (demands (unit head.key ms)) (reserved ms) b)) (find (is_next_head ms) ms)) o
 
+  -- without buffers nothing is served; with them no head is next
   none_served : (o : Option Buffers) → later c.nodes o ≡ None → served o ≡ None
   none_served None h = refl
   none_served (Some b) h =
       rw (next_none (map-None (λ (n : Node). later_step c.nodes b n.key) (find (is_next_node c.nodes) c.nodes) h)) refl
 
+  -- the same from the members to the nodes
   none_later : (o : Option Buffers) → served o ≡ None → later c.nodes o ≡ None
   none_later None h = refl
   none_later (Some b) h =
       rw (none_next (map-None (λ (head : Member). outcome head.key (logical_failure (demands (unit head.key ms)) (reserved ms) b))
       (find (is_next_head ms) ms) h)) refl
 
+  -- no step is left in the collection, so none is among its members
   pub calm_rest : IsCalm c → AtRest (kept_open c)
   calm_rest calm =
       let none = none_calm c calm in
@@ -79,6 +84,7 @@ module _ (c : Collection) where
         no_head = none_served c.buffers none.no_head;
       }
 
+  -- no step is left among the members, so none is in the collection
   pub rest_calm : AtRest (kept_open c) → IsCalm c
   rest_calm rest =
       calm_none c (record {

@@ -27,14 +27,17 @@ pub on_three : {A E : Type 0} {P Q : A → Type 0} {X Z : Type 0} (r : Result A 
 on_three (Ok a) p q x all = all a p q x
 on_three (Err e) p q x all = tt
 
+-- by cases on the result
 pub by_two : {A E : Type 0} {P R : A → Type 0} (r : Result A E) → IfOk r P → ((a : A) → P a → R a) → IfOk r R
 by_two (Ok a) p all = all a p
 by_two (Err e) p all = tt
 
+-- by cases on the result
 pub on_two : {A E : Type 0} {P Q : A → Type 0} {Z : Type 0} (r : Result A E) → IfOk r P → IfOk r Q → ((a : A) → P a → Q a → Z) → OnOk r Z
 on_two (Ok a) p q all = all a p q
 on_two (Err e) p q all = tt
 
+-- by cases on the result
 pub refused_two : {A E : Type 0} {X Y Z : Type 0} (r : Result A E) → OnErr r X → OnErr r Y → (X → Y → Z) → OnErr r Z
 refused_two (Ok a) x y all = tt
 refused_two (Err e) x y all = all x y
@@ -46,12 +49,15 @@ more_strong above = if option_map_or (λ (n : Node). n.weak) above false then 0 
 module _ (t : Table Node) (es : List Entry) (ok : IsStored t (shelves_of es)) (all : AreCounted t es) (id : ℕ) where
   -- the entry at its place
   module _ (at : ℕ) (told : place_in id es ≡ Some at) (place : IsPlace id es at) (old : Entry) (is : old ≡ get_or es at old) where
+    -- the place is that of the first entry with the id
     found : find (λ (e : Entry). e.id == id) es ≡ Some old
     found = place.found old ∙ ap Some (sym is)
 
+    -- the entry at the place has the id that was looked for
     old_id : old.id ≡ id
     old_id = ap (λ (e : Entry). e.id) is ∙ place.id_is old
 
+    -- each entry is counted
     counted : IsCounted t old
     counted = found_counted t id es old all found
 
@@ -59,6 +65,7 @@ module _ (t : Table Node) (es : List Entry) (ok : IsStored t (shelves_of es)) (a
     before_is : shelf_before id (shelves_of es) ≡ shelf_of old
     before_is = ap (λ (o : Option Shelf). unwrap_or o (no_shelf id)) (shelf_found id es ∙ ap (option_map shelf_of) found)
 
+    -- the collection is there, so it is the one of the entry
     at_is : collection_or_new (forest_of t (shelves_of es)) id ≡ collection_in t (shelf_of old)
     at_is = ap (λ (o : Option Collection). unwrap_or o (record { id = id; nodes = []; buffers = None; held = [] }))
         (collection_is t id (shelves_of es) ∙ ap (option_map (collection_in t)) (shelf_found id es ∙ ap (option_map shelf_of) found))
@@ -66,9 +73,11 @@ module _ (t : Table Node) (es : List Entry) (ok : IsStored t (shelves_of es)) (a
     -- where memory was refused
     module _ (new : Entry) (same : shelf_of new ≡ shelf_of old) (strong : new.strong ≡ old.strong)
         (reserved : new.reserved ≡ old.reserved) (tidy : new.tidy ≡ old.tidy) (noted : new.noted.items ≡ old.noted.items) where
+      -- a refusal keeps the shelf, so the list of shelves stays
       pub refused_shelves : shelves_of (set es at new) ≡ shelves_of es
       refused_shelves = set_shelves es at new (λ within. same ∙ ap shelf_of (is ∙ get_or_default es at old new within))
 
+      -- a refusal keeps counts, notes and nodes
       pub refused_counted : AreCounted t (set es at new)
       refused_counted = counted_set t es at new
           (λ within was. recounted t old new (ap (collection_in t) same) strong reserved (λ h.
@@ -77,12 +86,15 @@ module _ (t : Table Node) (es : List Entry) (ok : IsStored t (shelves_of es)) (a
 
     -- where the node was born
     module _ (key : NodeKey) (new : Entry) (shelf : shelf_of new ≡ shelf_with (shelf_of old) key) where
+      -- the entry is set at the place of its id
       put_is : set es at new ≡ put_in new es
       put_is = set_put new es at ok.rising (subst (λ (i : ℕ). place_in i es ≡ Some at) (sym (ap (λ (s : Shelf). s.id) shelf ∙ old_id)) told)
 
+      -- the shelf has one key more
       shelf_is : shelf_of new ≡ shelf_with (shelf_before id (shelves_of es)) key
       shelf_is = shelf ∙ ap (λ (s : Shelf). shelf_with s key) (sym before_is)
 
+      -- so the shelf with the key is put among them
       pub among_shelves : shelves_of (set es at new) ≡ put_shelf (shelf_with (shelf_before id (shelves_of es)) key) (shelves_of es)
       among_shelves = ap shelves_of put_is ∙ shelves_put new es ∙ ap (λ (s : Shelf). put_shelf s (shelves_of es)) shelf_is
 
@@ -91,6 +103,7 @@ module _ (t : Table Node) (es : List Entry) (ok : IsStored t (shelves_of es)) (a
           (bears : Bears t now (born above attached id event client key))
           (strong : new.strong ≡ old.strong + more_strong above) (reserved : new.reserved ≡ old.reserved) (tidy : new.tidy ≡ old.tidy)
           (noted : new.noted.items ≡ old.noted.items) where
+        -- the others are counted as before, and the one with the new node by its own count
         pub among_counted : AreCounted now (set es at new)
         among_counted = subst (AreCounted now) (sym put_is)
             (counted_put now new es ok.rising
@@ -104,16 +117,20 @@ module _ (t : Table Node) (es : List Entry) (ok : IsStored t (shelves_of es)) (a
   -- the first node of a collection
   module _ (none : find (λ (e : Entry). e.id == id) es ≡ None) (key : NodeKey) (new : Entry) (shelf : shelf_of new ≡ shelf_with
       (no_shelf id) key) where
+    -- no entry has the id, so no shelf has it
     none_is : find (λ (s : Shelf). s.id == id) (shelves_of es) ≡ None
     none_is = shelf_found id es ∙ ap (option_map shelf_of) none
 
+    -- the first key is that of a new shelf
     first_is : shelf_of new ≡ shelf_with (shelf_before id (shelves_of es)) key
     first_is = shelf ∙ ap (λ (o : Option Shelf). shelf_with (unwrap_or o (no_shelf id)) key) (sym none_is)
 
+    -- a collection that is not there is a new one
     empty_is : collection_or_new (forest_of t (shelves_of es)) id ≡ record { id = id; nodes = []; buffers = None; held = [] }
     empty_is = ap (λ (o : Option Collection). unwrap_or o (record { id = id; nodes = []; buffers = None; held = [] }))
         (collection_is t id (shelves_of es) ∙ ap (option_map (collection_in t)) none_is)
 
+    -- the new shelf is put among them
     pub first_shelves : shelves_of (put_in new es) ≡ put_shelf (shelf_with (shelf_before id (shelves_of es)) key) (shelves_of es)
     first_shelves = shelves_put new es ∙ ap (λ (s : Shelf). put_shelf s (shelves_of es)) first_is
 
@@ -121,6 +138,7 @@ module _ (t : Table Node) (es : List Entry) (ok : IsStored t (shelves_of es)) (a
         (over : Above t (shelves_of es) id parent above)
         (bears : Bears t now (born above attached id event client key)) (strong : new.strong ≡ more_strong above)
         (reserved : new.reserved ≡ 0) where
+      -- the others are counted as before, and the new one by its only node
       pub first_counted : AreCounted now (put_in new es)
       first_counted =
           counted_put now new es ok.rising

@@ -30,12 +30,15 @@ pub record SameKeys (xs ys : List NodeKey) : Type 0 where
   pub apart : are_apart xs ≡ are_apart ys
   pub len : length xs ≡ length ys
 
+-- each list has its own keys
 SameKeys-refl : (xs : List NodeKey) → SameKeys xs xs
 SameKeys-refl xs = record { any = λ test. refl; apart = refl; len = refl }
 
+-- one fact after the other
 SameKeys-trans : (xs ys zs : List NodeKey) → SameKeys xs ys → SameKeys ys zs → SameKeys xs zs
 SameKeys-trans xs ys zs p q = record { any = λ test. p.any test ∙ q.any test; apart = p.apart ∙ q.apart; len = p.len ∙ q.len }
 
+-- the first key is on both sides
 SameKeys-cons : (x : NodeKey) (xs ys : List NodeKey) → SameKeys xs ys → SameKeys (x ∷ xs) (x ∷ ys)
 SameKeys-cons x xs ys p = record {
   any = λ test. ap (λ b. test x || b) (p.any test);
@@ -43,6 +46,7 @@ SameKeys-cons x xs ys p = record {
   len = ap (λ n. suc n) p.len;
 }
 
+-- two keys change places, and which of them are there stays
 SameKeys-swap : (x y : NodeKey) (zs : List NodeKey) → SameKeys (x ∷ y ∷ zs) (y ∷ x ∷ zs)
 SameKeys-swap x y zs = record {
   any = λ test. or_swap (test x) (test y) (list_any test zs);
@@ -50,11 +54,13 @@ SameKeys-swap x y zs = record {
   len = refl;
 }
 
+-- by induction: the key moves forward one place at a time
 SameKeys-move : (xs : List NodeKey) (y : NodeKey) (zs : List NodeKey) → SameKeys (xs ++ y ∷ zs) (y ∷ (xs ++ zs))
 SameKeys-move [] y zs = SameKeys-refl (y ∷ zs)
 SameKeys-move (x ∷ xs) y zs =
     SameKeys-trans _ _ _ (SameKeys-cons x (xs ++ y ∷ zs) (y ∷ (xs ++ zs)) (SameKeys-move xs y zs)) (SameKeys-swap x y (xs ++ zs))
 
+-- by induction over the first list
 SameKeys-front : (xs ys zs : List NodeKey) → SameKeys ys zs → SameKeys (xs ++ ys) (xs ++ zs)
 SameKeys-front [] ys zs p = p
 SameKeys-front (x ∷ xs) ys zs p = SameKeys-cons x (xs ++ ys) (xs ++ zs) (SameKeys-front xs ys zs p)

@@ -300,6 +300,7 @@ module _ (t now : Table Node) (ss : List Shelf) (ok : IsStored t ss) (id : ℕ) 
   abbrev c0 : Collection
   c0 = collection_or_new (forest_of t ss) id
 
+  -- the collection before the birth, with what holds of it
   before : IsBefore t ss id c0
   before = before_is t ss ok id
 
@@ -337,6 +338,7 @@ module _ (t now : Table Node) (ss : List Shelf) (ok : IsStored t ss) (id : ℕ) 
       there in
       false≢true (sym bears.gives.fresh ∙ (ap (was_given t) (sym same) ∙ ok.heads n.key n at_n))
 
+  -- the new key was given to no node before
   key_apart : (n : Node) → In n c0.nodes → n.key ≡ node.key → ⊥
   key_apart n on same =
       both_ways (list_any (is_of node.key) c0.nodes)

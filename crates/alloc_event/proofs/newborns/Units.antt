@@ -48,6 +48,7 @@ module _ (t : Table Node) (ss : List Shelf) (kept : IsStored t ss) (id : ℕ) (s
   abbrev us1 : List Unit
   us1 = set us node.key.slot no_unit
 
+  -- setting one element keeps the length
   long1 : length us1 ≡ length us
   long1 = length-set us node.key.slot no_unit
 
@@ -57,12 +58,15 @@ module _ (t : Table Node) (ss : List Shelf) (kept : IsStored t ss) (id : ℕ) (s
   abbrev new : List Unit
   new = reckoned t (node ∷ []) us1
 
+  -- each collection is whole
   whole : IsWhole (collection_in t s)
   whole = all_at (λ (x : Shelf). IsWhole (collection_in t x)) ss kept.whole s on
 
+  -- each node stands in the table under its key
   at : (n : Node) → In n nodes → node_at t n.key ≡ Some n
   at n there = in_all (λ (m : Node). node_at t m.key ≡ Some m) nodes (looked_there t kept.named s.keys) n there
 
+  -- the new node is the last
   born_on : In node nodes
   born_on = subst (In node) (sym grown) (In-behind old)
     where
@@ -70,6 +74,7 @@ module _ (t : Table Node) (ss : List Shelf) (kept : IsStored t ss) (id : ℕ) (s
       In-behind [] = inl refl
       In-behind (n ∷ ns) = inr (In-behind ns)
 
+  -- the older nodes stand before it
   was_old : (n : Node) → In n old → In n nodes
   was_old n there = subst (In n) (sym grown) (In-front old there)
     where
@@ -78,9 +83,11 @@ module _ (t : Table Node) (ss : List Shelf) (kept : IsStored t ss) (id : ℕ) (s
       In-front (m ∷ ns) (inl is) = inl is
       In-front (m ∷ ns) (inr there) = inr (In-front ns there)
 
+  -- the head of the new node's unit is there
   head : (h : Node) × In h nodes × (h.key ≡ node.head)
   head = let h = head_there nodes whole.sound.distinct whole.sound.heads whole.rooted whole.united node born_on here in (h.0, h.1, h.2)
 
+  -- it stands in the table under its key
   head_at : node_at t node.head ≡ Some head.0
   head_at = ap (node_at t) (sym head.2) ∙ at head.0 head.1
 
@@ -131,6 +138,7 @@ module _ (t : Table Node) (ss : List Shelf) (kept : IsStored t ss) (id : ℕ) (s
       both_ways (list_any (is_of node.key) old) (In-any (is_of node.key) old n there (ap (λ (k : NodeKey). same_key k node.key) same
       ∙ same_key-refl node.key)) fresh
 
+  -- counting keeps the length
   long : length new ≡ length us1
   long = hung_long t (node ∷ []) own_new ∙ tallied_long (node ∷ []) us1
 
@@ -161,6 +169,7 @@ module _ (t : Table Node) (ss : List Shelf) (kept : IsStored t ss) (id : ℕ) (s
           (get_or-set_same us node.key.slot no_unit no_unit own_inside ∙ (λ i. record { live = sym l i; unready = sym w i; below = sym b i }))
       last (inr none) = absurd none
 
+  -- the slot of each head has its old counts and those of the new node
   has_new : HasUnits new nodes
   has_new = all_in (HasUnit new nodes) nodes (λ n there.
       let inside = slot_in n there in
@@ -213,6 +222,7 @@ module _ (t : Table Node) (ss : List Shelf) (kept : IsStored t ss) (id : ℕ) (s
           one_slot t h n.key x.0 n (ap (node_at t) (sym x.2) ∙ at x.0 x.1) (at n there) slots
       above_at n there m (inr none) h above slots = absurd none
 
+  -- only the slots of the new node's unit and of the one above change, which are of this collection
   stays_new : Stays t id us new
   stays_new k n is differ within =
       let long_too : length us ≡ length new = sym (long ∙ long1) in (
@@ -279,26 +289,33 @@ module _ (t now : Table Node) (ss : List Shelf) (ok : IsStored t ss) (id : ℕ) 
   abbrev with_it : Collection
   with_it = born_collection t now ss ok id parent attached client event above up key bears
 
+  -- the collection before the birth, with what holds of it
   before_it : IsBefore t ss id c0
   before_it = before_is t ss ok id
 
+  -- a birth of which nothing follows keeps the store
   kept_now : IsStored now behind
   kept_now = quiet_kept t now ss ok id parent attached client event above up key bears behind placed
 
+  -- the shelf that was put is among them
   shelf_on : In (shelf_by with_it) behind
   shelf_on = subst (In (shelf_by with_it)) (sym (behind_is t now ss ok id parent attached client event above up key bears
       behind placed)) (in_put_shelf (shelf_by with_it) ss)
 
+  -- the shelf shows the old nodes and the child
   shown_nodes : nodes_with now (shelf_by with_it).keys ≡ c0.nodes ++ child ∷ []
   shown_nodes = ap (λ (c : Collection). c.nodes) (born_shown t now ss ok id parent attached client event above up key bears)
 
+  -- each key of each shelf is filed
   filed_keys : list_all (is_filed now (shelf_by with_it).id) (shelf_by with_it).keys ≡ true
   filed_keys = all-In (λ (x : Shelf). list_all (is_filed now x.id) x.keys) behind (shelf_by with_it) shelf_on kept_now.filed
 
+  -- the new key has the new node
   found_key : node_at now key ≡ Some child
   found_key = bears.look key ∙ (rw (ap (λ (k : NodeKey). same_key k key) (key_is t now ss ok id parent attached client event above up key
       bears) ∙ same_key-refl key) refl)
 
+  -- the collection that is found has its counts; a new one has no node
   had : (us : List Unit) → AreUnits us (map (collection_in t) ss) → HasUnits us c0.nodes
   had us all = from (collection_at (forest_of t ss) id) refl
     where
@@ -308,6 +325,7 @@ module _ (t now : Table Node) (ss : List Shelf) (ok : IsStored t ss) (id : ℕ) 
       from (Some c) is = all_at (λ (d : Collection). HasUnits us d.nodes) (map (collection_in t) ss) all c (In-find (λ (d : Collection).
           d.id == id) (map (collection_in t) ss) c is).0
 
+  -- no list of keys is longer than the table
   few_nodes : table_len now ≤ 18446744073709551615 → length (nodes_with now (shelf_by with_it).keys) ≤ 18446744073709551615
   few_nodes few =
       let a = filed-length now (shelf_by with_it).id (shelf_by with_it).keys filed_keys in

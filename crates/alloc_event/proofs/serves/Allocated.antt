@@ -30,6 +30,7 @@ pub record AreCalm (nodes : List Node) (strong_open : Bool) : Type 0 where
   pub no_loss : losing nodes strong_open (find is_root_left nodes) ≡ None
   pub no_root : waiting nodes ≡ None
 
+-- by induction: each element passes as it did before the map
 all_same : (p q : Node → Bool) (f : Node → Node) (ns : List Node) → ((n : Node) → p (f n) ≡ q n) → list_all p (map f ns) ≡ list_all q ns
 all_same p q f [] same = refl
 all_same p q f (n ∷ ns) same = λ i. same n i && all_same p q f ns same i
@@ -51,9 +52,11 @@ module _ (c : Collection) (sound : IsSound c) (hs : List NodeKey) (children : Ar
   abbrev after : List Node
   after = after_all hs c.nodes
 
+  -- allocation does not change whether a node is ready
   pub ready_on : (head : NodeKey) → list_all (is_ready_node head) after ≡ list_all (is_ready_node head) c.nodes
   ready_on head = all_same (is_ready_node head) (is_ready_node head) f c.nodes (λ n. refl)
 
+  -- allocation changes neither parents nor what is gone
   pub root_on : find is_root_left after ≡ option_map f (find is_root_left c.nodes)
   root_on = find_map is_root_left is_root_left f c.nodes (λ n. refl)
 

@@ -64,6 +64,7 @@ pub some_there : (test : NodeKey → Bool) (o : Option NodeKey) → option_map_o
 some_there test None h = cc
 some_there test (Some p) h = (p, refl, h)
 
+-- the test fails where there is none
 pub node_there : (test : Node → Bool) (o : Option Node) → option_map_or test o false ≡ true → (n : Node) × (o ≡ Some n) × (test n ≡ true)
 node_there test None h = cc
 node_there test (Some n) h = (n, refl, h)
@@ -101,12 +102,15 @@ module _ (t : Table Node) (ss : List Shelf) (kept : IsStored t ss) (s : Shelf) (
   abbrev nodes : List Node
   nodes = nodes_with t s.keys
 
+  -- each collection is whole
   pub whole_before : IsWhole (collection_in t s)
   whole_before = found_whole t s.id ss s kept.whole found
 
+  -- each node stands in the table under its key
   pub at_key : (m : Node) → In m nodes → node_at t m.key ≡ Some m
   at_key m there = in_all (λ (x : Node). node_at t x.key ≡ Some x) nodes (looked_there t kept.named s.keys) m there
 
+  -- the constructor is injective
   one_node : (a b : Node) → Some a ≡ Some b → a ≡ b
   one_node a b e = cc
 
@@ -124,6 +128,7 @@ module _ (t : Table Node) (ss : List Shelf) (kept : IsStored t ss) (s : Shelf) (
       ap (λ (u : Unit). u.unready) (in_all (HasUnit us nodes) nodes counts m on).1
       ∙ times-zero (waits_in m.key) nodes (λ x there. ap not (all-In (is_ready_node m.key) nodes x there ready))
 
+  -- the head has its turn by the table, and stands in the collection as the table has it
   pub due_head : has_turn_at t k ≡ true → (n : Node) → In n nodes → n.gone ≡ false → n.head ≡ k → IsDueHead t nodes k
   due_head turn n on here own =
       let h = head_there nodes whole_before.sound.distinct whole_before.sound.heads whole_before.rooted whole_before.united n on here in

@@ -61,39 +61,50 @@ module _ (t : Table Node) (us : List Unit) (key : NodeKey) (effect : Effect) (n 
   abbrev c0 : Collection
   c0 = collection_in t s
 
+  -- the effect writes none of these fields
   same : (m : Node) → IsSameNode (f m) m
   same = same_affected key effect
 
+  -- the node has the key that it is stored under
   own : n.key ≡ key
   own = opens.kept.named key n was
 
+  -- each collection is whole
   whole : IsWhole c0
   whole = whole_before t ss opens.kept s opens.found k
 
+  -- each node stands in the table under its key
   at_key : (m : Node) → In m nodes → node_at t m.key ≡ Some m
   at_key m there = in_all (λ (x : Node). node_at t x.key ≡ Some x) nodes (looked_there t opens.kept.named s.keys) m there
 
+  -- the node is of the collection and not gone, so it is one of those left
   left : IsLeft nodes key
   left = left_node nodes key (loss_left t ss opens.kept s.id (Change.Loss key Cause.Lost)
       (record { named = opens.may.named; room = λ e. cc; heads = refl; trackers = λ k m e. cc }) s opens.found)
 
+  -- both stand under the key
   is_left : n ≡ left.node
   is_left =
       let both : Some n ≡ Some left.node = sym was ∙ (ap (node_at t) (sym left.is) ∙ at_key left.node left.on) in
       cc
 
+  -- so it is among the nodes
   on : In n nodes
   on = subst (λ (m : Node). In m nodes) (sym is_left) left.on
 
+  -- and it is not gone
   here : n.gone ≡ false
   here = ap (λ (m : Node). m.gone) is_left ∙ left.here
 
+  -- the effect concerns its own key alone
   alone : (m : Node) → same_key n.key m.key ≡ false → f m ≡ m
   alone m other = alone_affected key effect m (subst (λ (j : NodeKey). same_key j m.key ≡ false) own other)
 
+  -- no two nodes have one key
   one : (m : Node) → In m nodes → same_key n.key m.key ≡ true → m ≡ n
   one m there e = distinct_one nodes whole.sound.distinct m n there on (sym (same_key-true n.key m.key e))
 
+  -- the facts above, and the head of the node's unit
   pub stands_in : StandsIn t us s key effect n
   stands_in =
       let h = head_there nodes whole.sound.distinct whole.sound.heads whole.rooted whole.united n on here in
@@ -118,6 +129,7 @@ module _ (t : Table Node) (us : List Unit) (key : NodeKey) (effect : Effect) (n 
 
   module _ (hs : List NodeKey) (first : list_any (same_key n.head) hs ≡ true)
       (bare : (m : Node) → In m nodes → list_any (same_key m.head) hs ≡ true → m.allocated ≡ false) where
+    -- only nodes of allocated units camp on buffers, and the node's unit is not
     pub reserved_is : reserved_count nodes ≡ reserved_count (map f nodes)
     reserved_is = ap (sum_by (λ (d : Demand). d.camping)) (sym (reserved_same f nodes
         (λ m there. (remains_affected key effect m).gone) (λ m there. (remains_affected key effect m).allocated)

@@ -36,6 +36,7 @@ pub given_in : (heads keys : List NodeKey) (n : Node) → list_any (same_key n.k
     given_at heads keys n ≡ given_all heads n
 given_in heads keys n e = λ i. if e i then given_all heads n else n
 
+-- its key is not among those
 pub given_out : (heads keys : List NodeKey) (n : Node) → list_any (same_key n.key) keys ≡ false → given_at heads keys n ≡ n
 given_out heads keys n e = λ i. if e i then given_all heads n else n
 
@@ -48,6 +49,7 @@ or_twice : (a b : Bool) → (a || (a || b)) ≡ (a || b)
 or_twice true b = refl
 or_twice false b = refl
 
+-- a mark that is set twice is set
 given_twice : (heads : List NodeKey) (k : NodeKey) (n : Node) (b : Bool) →
     given_at heads (k ∷ []) (if b then given_all heads n else n) ≡ (if b || (same_key n.key k || false) then given_all heads n else n)
 given_twice heads k n true = from (same_key n.key k || false)

@@ -39,6 +39,7 @@ alike : {A : Type 0} (f g : Node → Option A) (ns : List Node) → ((n : Node) 
 alike f g [] same = refl
 alike {A = A} f g (n ∷ ns) same = λ i. cons_option (same n (inl refl) i) (alike f g ns (λ m on. same m (inr on)) i)
 
+-- by induction: each key has its node, written last
 pub asked_is : (t : Table Node) (keys heads : List NodeKey) (after : Node) →
     asked_with t keys heads after ≡ demands_of (is_in_some heads) (map (written after) (nodes_with t keys))
 asked_is t keys heads after =
@@ -58,6 +59,7 @@ asked_of test (n ∷ ns) d on = by (λ there. asked_of test ns d there) (if test
     by rest (Some e) is (inl same) = (n, inl refl, is ∙ ap Some (sym same))
     by rest (Some e) is (inr there) = let r = rest there in (r.0, inr r.1, r.2)
 
+-- by induction: the demand is in the list of the node that asks it
 pub asked_back : (test : Node → Bool) (ns : List Node) (n : Node) (d : Demand) → In n ns →
     (if test n then n.constraints else None) ≡ Some d → In d (demands_of test ns)
 asked_back test [] n d on is = absurd on

@@ -82,6 +82,7 @@ counted_above t id low [] less all but = tt
 counted_above t id low (e ∷ es) less all but =
     (but.0 (λ same. omega (arith, all.0)), counted_above t id low es less all.1 but.1)
 
+-- by induction: no entry behind has the id
 counted_behind : (t : Table Node) (id : ℕ) (es : List Entry) →
     AllByRecursion (λ (later : Shelf). id < later.id) (shelves_of es) → AreCountedBut t id es → AreCounted t es
 counted_behind t id [] all but = tt
@@ -126,6 +127,7 @@ module _ (t now : Table Node) (named : (k : NodeKey) (n : Node) → node_at t k 
   abbrev stays : Node → Bool
   stays n = is_some (node_at now n.key)
 
+  -- a node that was dropped was gone
   dropped_first : (k : NodeKey) (o : Option Node) (ns : List Node) → node_at t k ≡ o →
       (node_at now k ≡ o) ⊎ ((node_at now k ≡ None) × ((n : Node) → o ≡ Some n → n.gone ≡ true)) →
       cons_option (node_at now k) (filter stays ns) ≡ filter stays (cons_option o ns)
@@ -138,12 +140,14 @@ module _ (t now : Table Node) (named : (k : NodeKey) (n : Node) → node_at t k 
       let none : is_some (node_at now n.key) ≡ false = ap (λ (x : NodeKey). is_some (node_at now x)) (named k n is) ∙ ap is_some gone.0 in
       rw (gone.0, none) refl
 
+  -- by induction over the keys
   dropped_nodes : (keys : List NodeKey) → nodes_with now keys ≡ filter stays (nodes_with t keys)
   dropped_nodes [] = refl
   dropped_nodes (k ∷ ks) =
       ap (cons_option (node_at now k)) (dropped_nodes ks)
       ∙ dropped_first k (node_at t k) (nodes_with t ks) refl (drops k)
 
+  -- what does not stay was dropped, so it was gone
   dropped_over : (n : Node) → node_at t n.key ≡ Some n → stays n ≡ false → n.gone ≡ true
   dropped_over n is out = elim (drops n.key) [
     | inl same ↦ let there : is_some (node_at now n.key) ≡ true = ap is_some (same ∙ is) in both_ways (stays n) there out
@@ -165,6 +169,7 @@ module _ (t now : Table Node) (named : (k : NodeKey) (n : Node) → node_at t k 
             ∙ none-filter stays (over_but e.noted.items) nodes (counted.tidy h);
       }
 
+  -- by induction over the entries
   pub dropped_all : (es : List Entry) → AllByRecursion (λ (s : Shelf). IsWhole (collection_in t s)) (shelves_of es) → AreCounted t es →
       AreCounted now es
   dropped_all [] whole all = tt
@@ -211,6 +216,7 @@ counted_set t (e ∷ es) (suc n) new own all = (all.0, counted_set t es n new (�
 
 -- ---- the others of a collection that is put back
 
+-- by induction over the entries
 pub filed_every : (t : Table Node) (id : ℕ) (es : List Entry) → are_filed t (shelves_of es) ≡ true →
     AllByRecursion (λ (e : Entry). e.id ≢ id → list_all (is_filed t e.id) e.keys.items ≡ true) es
 filed_every t id [] all = tt
@@ -328,6 +334,7 @@ module _ (t : Table Node) (named : (k : NodeKey) (n : Node) → node_at t k ≡ 
             | inr not_over ↦ not_over_but e.noted.items (f m) (is ∙ not_over)
           ]
 
+  -- by induction: the node is over only in its own collection, which notes it or is not tidy
   pub ends_tidy : (es : List Entry) → are_filed t (shelves_of es) ≡ true → AreCounted t es →
       (is_over (record n { end = end }) ≡ true → AllByRecursion (λ (e : Entry). e.id ≡ n.collection → IsNotedIn e key) es) →
       AllByRecursion (λ (e : Entry). e.tidy ≡ true → list_any (over_but e.noted.items) (map f (nodes_with t e.keys.items)) ≡ false) es

@@ -56,6 +56,7 @@ left_last t older key k same =
 unless-not : (o : Option Node) → option_map_or is_over o false ≡ false → unless_over o ≡ o
 unless-not o h = rw h refl
 
+-- an over node is left out
 unless-over : (o : Option Node) → option_map_or is_over o false ≡ true → unless_over o ≡ None
 unless-over o h = rw h refl
 

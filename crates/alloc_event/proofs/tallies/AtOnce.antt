@@ -24,6 +24,7 @@ changed_both A B both (u ∷ us) (suc i) (suc j) = ap (λ (l : List Unit). u ∷
 abbrev one_less : Node → List Unit → List Unit
 one_less n us = if n.gone then us else without_node n us
 
+-- the two counts are of different fields, or of different slots
 less_both : (n : Node) (o : Option NodeKey) (us : List Unit) → one_less n (without_below o us) ≡ without_below o (one_less n us)
 less_both n None us = refl
 less_both n (Some h) us = from n.gone
@@ -39,6 +40,7 @@ less_both n (Some h) us = from n.gone
     from true = refl
     from false = node_both
 
+-- by induction: one node after another
 all_both : (ns : List Node) (o : Option NodeKey) (us : List Unit) → untallied ns (without_below o us) ≡ without_below o (untallied ns us)
 all_both [] o us = refl
 all_both (n ∷ ns) o us = ap (untallied ns) (less_both n o us) ∙ all_both ns o (one_less n us)

@@ -70,6 +70,7 @@ up_short : (older : List Node) (n : Node) → ((key : NodeKey) → length (above
 up_short older n short None = omega arith
 up_short older n short (Some p) = let r = short p in omega arith
 
+-- by induction: each step up the line takes an older node
 pub above_short : (ns : List Node) (key : NodeKey) → length (above_among ns key) ≤ length ns
 above_short [] key = omega arith
 above_short (n ∷ older) key =
@@ -108,6 +109,7 @@ module _ (up : NodeKey → Option NodeKey) where
       let long : length high ≡ length low = ap length lines in
       omega arith
 
+  -- by induction: from a key in the line the line goes on as above that key
   pub no_longer : (b c : NodeKey) (low high : List NodeKey) → IsChain up c low → IsChain up b high →
       list_any (same_key b) (c ∷ low) ≡ true → length high ≤ length low
   no_longer b c [] high below above h = elim (or_cases (same_key b c) false h) [
@@ -125,15 +127,18 @@ module _ (nodes : List Node) (distinct : are_distinct nodes ≡ true) (heads : l
   abbrev pub up : NodeKey → Option NodeKey
   up key = option_map_or (λ (n : Node). n.parent) (node_of nodes key) None
 
+  -- no two nodes of the list have one key
   one : AreOne nodes
   one = distinct_one nodes distinct
 
+  -- a node that is not gone is found by its key, so its parent is found
   linked : (n : Node) → In n nodes → n.gone ≡ false → up n.key ≡ n.parent
   linked n on here = ap (λ (o : Option Node). option_map_or (λ (m : Node). m.parent) o None) (found_by_key nodes n distinct on)
 
   abbrev pub line : NodeKey → List NodeKey
   line key = above_among (reverse nodes) key
 
+  -- the line above a key that is left leads from parent to parent
   pub chain : (key : NodeKey) → is_left_of nodes key ≡ true → IsChain up key (line key)
   chain key left = (line_of nodes up one linked rooted key left).chain
 
@@ -145,14 +150,17 @@ module _ (nodes : List Node) (distinct : are_distinct nodes ≡ true) (heads : l
 
   -- ---- what lies below
 
+  -- each node lies below itself
   pub below_self : (key : NodeKey) → is_below nodes key key ≡ true
   below_self key = or_left (same_key key key) (list_any (same_key key) (line key)) (same_key-refl key)
 
+  -- what is above the parent is above the node
   pub below_parent : (top : NodeKey) (n : Node) → In n nodes → n.gone ≡ false → (p : NodeKey) → n.parent ≡ Some p →
       is_below nodes top p ≡ true → is_below nodes top n.key ≡ true
   below_parent top n on here p is h =
       or_right (same_key top n.key) (list_any (same_key top) (line n.key)) (ap (list_any (same_key top)) (step n on here p is) ∙ h)
 
+  -- the line of the lowest goes through the middle one, and on as that one's line
   pub below_through : (a b c : NodeKey) → is_left_of nodes c ≡ true → is_left_of nodes b ≡ true → is_below nodes b c ≡ true →
       is_below nodes a b ≡ true → is_below nodes a c ≡ true
   below_through a b c left mid h k = through up a b c (line c) (line b) (chain c left) (chain b mid) h k
@@ -204,6 +212,7 @@ module _ (nodes : List Node) (distinct : are_distinct nodes ≡ true) (heads : l
         (subst (λ (k : NodeKey). is_below nodes n.head k ≡ true) x.2 (subst (λ (k : NodeKey). is_below nodes k x.0.key ≡ true) x.3 above))
   ]
 
+  -- by induction on the line: each step up stays in the unit until its head
   pub in_unit_below : (n : Node) → In n nodes → n.gone ≡ false → is_below nodes n.head n.key ≡ true
   in_unit_below n on here = unit_below (suc (length (line n.key))) n on here (omega arith)
 
@@ -224,6 +233,7 @@ module _ (nodes : List Node) (distinct : are_distinct nodes ≡ true) (heads : l
         (r.0, r.1, r.2 ∙ x.3, r.3, r.4)
   ]
 
+  -- by induction on the line: each step up stays in the unit until its head, which is left
   pub head_there : (n : Node) → In n nodes → n.gone ≡ false → (h : Node) × In h nodes × (h.key ≡ n.head) × (h.gone ≡ false) ×
       (is_head h ≡ true)
   head_there n on here = head_found (suc (length (line n.key))) n on here (omega arith)
@@ -232,11 +242,13 @@ module _ (nodes : List Node) (distinct : are_distinct nodes ≡ true) (heads : l
 
   -- where something holds the unit of each head, a live node lies at or below each
   module _ (held : are_held nodes ≡ true) where
+    -- each head is held, and this one is not gone
     holder : (h : Node) → In h nodes → h.gone ≡ false → is_head h ≡ true → list_any (holds_unit nodes h.key) nodes ≡ true
     holder h on here head =
         let all : is_held nodes h ≡ true = all-In (is_held nodes) nodes h on held in
         rw (here, head) at all
 
+    -- by induction on how much of the line is left: what holds the unit lives, or heads a unit that is held
     lives : (fuel : ℕ) (h : Node) → In h nodes → h.gone ≡ false → is_head h ≡ true → length nodes < fuel + length (line h.key) →
         list_any (lives_below nodes h.key) nodes ≡ true
     lives zero h on here head long =
@@ -297,6 +309,7 @@ module _ (nodes : List Node) (distinct : are_distinct nodes ≡ true) (heads : l
         both_ways (list_any (lives_below nodes h.key) nodes)
         (lives (suc (length nodes)) h on here head (omega arith)) none)
 
+    -- each head that is left has a live node below it
     pub none_deserted : list_any (is_deserted_node nodes) nodes ≡ false
     none_deserted = false_if (list_any (is_deserted_node nodes) nodes) (λ e.
         let x = In-list_any (is_deserted_node nodes) nodes e in
@@ -346,6 +359,7 @@ module _ (nodes : List Node) (distinct : are_distinct nodes ≡ true) (heads : l
                   subst (λ (k : NodeKey). dead k ≡ true) (sym (ap (λ (n : Node). n.head) one_parent) ∙ q.3) above
             ]
 
+    -- nothing that holds it lives, so no node below it does
     pub dead_deserted : (h : Node) → In h nodes → h.gone ≡ false → is_head h ≡ true → dead h.key ≡ true → is_deserted_node nodes h ≡ true
     dead_deserted h on here head is_dead =
         and_both (is_head h) _ head (and_both (not h.gone) _ (ap not here)

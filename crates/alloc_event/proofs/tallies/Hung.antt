@@ -46,13 +46,16 @@ pub record Drops (old new : Unit) (less : ℕ) : Type 0 where
   pub unready : new.unready ≡ old.unready
   pub below : new.below + less ≡ old.below
 
+-- a count below the most can grow by one
 raised_true : (count : ℕ) → count < 18446744073709551615 →
     (if nat_lt count 18446744073709551615 then count + 1 else count) ≡ count + 1
 raised_true count less = let room : nat_lt count 18446744073709551615 ≡ true = lt-ltb count 18446744073709551615 less in rw room refl
 
+-- a count above 0 loses one
 lowered_true : (count : ℕ) → 0 < count → lowered true count + 1 ≡ count
 lowered_true count some = let e : nat_lt 0 count ≡ true = lt-ltb 0 count some in rw e (omega arith)
 
+-- the slot of the unit above gains one; no other slot changes
 with_hangs : (o : Option NodeKey) (us : List Unit) (k : NodeKey) → k.slot < length us →
     ((h : NodeKey) → o ≡ Some h → h.slot ≡ k.slot → h ≡ k) → (unit_at us k.slot).below < 18446744073709551615 →
     Hangs (unit_at us k.slot) (unit_at (with_below o us) k.slot) (bit (is_above k o))
@@ -86,6 +89,7 @@ with_hangs (Some h) us k within one few = elim (either_way (h.slot == k.slot)) [
       below = if nat_lt (unit_at us j.slot).below 18446744073709551615 then (unit_at us j.slot).below + 1 else (unit_at us j.slot).below;
     }
 
+-- the slot of the unit above loses one; no other slot changes
 without_drops : (o : Option NodeKey) (us : List Unit) (k : NodeKey) → k.slot < length us →
     ((h : NodeKey) → o ≡ Some h → h.slot ≡ k.slot → h ≡ k) → bit (is_above k o) ≤ (unit_at us k.slot).below →
     Drops (unit_at us k.slot) (unit_at (without_below o us) k.slot) (bit (is_above k o))
@@ -119,24 +123,29 @@ without_drops (Some h) us k within one some = elim (either_way (h.slot == k.slot
       below = lowered true (unit_at us j.slot).below;
     }
 
+-- setting one element keeps the length
 with_long : (o : Option NodeKey) (us : List Unit) → length (with_below o us) ≡ length us
 with_long None us = refl
 with_long (Some h) us = length-set us h.slot _
 
+-- setting one element keeps the length
 without_long : (o : Option NodeKey) (us : List Unit) → length (without_below o us) ≡ length us
 without_long None us = refl
 without_long (Some h) us = length-set us h.slot _
 
+-- another slot is set
 with_other : (o : Option NodeKey) (us : List Unit) (slot : ℕ) → ((h : NodeKey) → o ≡ Some h → h.slot ≢ slot) →
     unit_at (with_below o us) slot ≡ unit_at us slot
 with_other None us slot differ = refl
 with_other (Some h) us slot differ = get_or-set_other us h.slot slot _ no_unit (λ e. differ h refl (sym e))
 
+-- another slot is set
 without_other : (o : Option NodeKey) (us : List Unit) (slot : ℕ) → ((h : NodeKey) → o ≡ Some h → h.slot ≢ slot) →
     unit_at (without_below o us) slot ≡ unit_at us slot
 without_other None us slot differ = refl
 without_other (Some h) us slot differ = get_or-set_other us h.slot slot _ no_unit (λ e. differ h refl (sym e))
 
+-- by cases
 bit_few : (b : Bool) → bit b ≤ 1
 bit_few true = omega arith
 bit_few false = omega arith
@@ -144,14 +153,17 @@ bit_few false = omega arith
 -- ---- all nodes
 
 module _ (t : Table Node) where
+  -- by induction over the nodes
   pub hung_long : (ns : List Node) (us : List Unit) → length (hung t ns us) ≡ length us
   hung_long [] us = refl
   hung_long (n ∷ ns) us = hung_long ns (with_below (head_above t n) us) ∙ with_long (head_above t n) us
 
+  -- by induction over the nodes
   pub unhung_long : (ns : List Node) (us : List Unit) → length (unhung t ns us) ≡ length us
   unhung_long [] us = refl
   unhung_long (n ∷ ns) us = unhung_long ns (without_below (head_above t n) us) ∙ without_long (head_above t n) us
 
+  -- by induction: none of them hangs below that unit
   pub hung_other : (ns : List Node) (us : List Unit) (slot : ℕ) →
       ((n : Node) → In n ns → (h : NodeKey) → head_above t n ≡ Some h → h.slot ≢ slot) → unit_at (hung t ns us) slot ≡ unit_at us slot
   hung_other [] us slot differ = refl
@@ -159,6 +171,7 @@ module _ (t : Table Node) where
       hung_other ns (with_below (head_above t n) us) slot (λ m on. differ m (inr on))
       ∙ with_other (head_above t n) us slot (differ n (inl refl))
 
+  -- by induction: none of them hangs below that unit
   pub unhung_other : (ns : List Node) (us : List Unit) (slot : ℕ) →
       ((n : Node) → In n ns → (h : NodeKey) → head_above t n ≡ Some h → h.slot ≢ slot) → unit_at (unhung t ns us) slot ≡ unit_at us slot
   unhung_other [] us slot differ = refl
@@ -166,6 +179,7 @@ module _ (t : Table Node) where
       unhung_other ns (without_below (head_above t n) us) slot (λ m on. differ m (inr on))
       ∙ without_other (head_above t n) us slot (differ n (inl refl))
 
+  -- by induction: each head right below adds one
   pub hung_hangs : (ns : List Node) (us : List Unit) (k : NodeKey) → k.slot < length us →
       ((n : Node) → In n ns → (h : NodeKey) → head_above t n ≡ Some h → h.slot ≡ k.slot → h ≡ k) →
       (unit_at us k.slot).below + length ns ≤ 18446744073709551615 →
@@ -181,6 +195,7 @@ module _ (t : Table Node) where
       let more = times_more (is_hung t k) n ns in
       record { live = rest.live ∙ first.live; unready = rest.unready ∙ first.unready; below = omega arith }
 
+  -- by induction: each head right below takes one
   pub unhung_drops : (ns : List Node) (us : List Unit) (k : NodeKey) → k.slot < length us →
       ((n : Node) → In n ns → (h : NodeKey) → head_above t n ≡ Some h → h.slot ≡ k.slot → h ≡ k) →
       times (is_hung t k) ns ≤ (unit_at us k.slot).below →
@@ -248,6 +263,7 @@ module _ (t : Table Node) (nodes : List Node) (distinct : are_distinct nodes ≡
           let both : Some x.0.head ≡ Some h = sym x.4 ∙ is in
           (x.0, x.1, x.3, some-injective x.0.head h both)
 
+  -- by cases on the node's flags and parent: the table has the parent that the list has
   pub hung_is : (k : NodeKey) (n : Node) → In n nodes → is_hung t k n ≡ heads_below nodes k n
   hung_is k n on = by (either_way n.gone) (either_way n.attached) n.parent refl
     where
@@ -271,14 +287,17 @@ module _ (t : Table Node) (nodes : List Node) (distinct : are_distinct nodes ≡
 -- ---- nodes that keep what is counted so
 
 module _ (f : Node → Node) (same : (n : Node) → IsSameNode (f n) n) (nodes : List Node) where
+  -- keys and heads are kept
   unit_mapped : (p k : NodeKey) → list_any (λ (q : Node). is_of p q && same_key q.head k) (map f nodes)
       ≡ list_any (λ (q : Node). is_of p q && same_key q.head k) nodes
   unit_mapped p k = list_any-map (λ (q : Node). is_of p q && same_key q.head k) (λ (q : Node). is_of p q && same_key q.head k) f nodes
       (λ q there. λ i. same_key ((same q).key i) p && same_key ((same q).head i) k)
 
+  -- so a node hangs in a unit as before
   pub hangs_mapped : (k : NodeKey) (n : Node) → hangs_in (map f nodes) k (f n) ≡ hangs_in nodes k n
   hangs_mapped k n = λ i. option_map_or (λ p. unit_mapped p k i) ((same n).parent i) false
 
+  -- so each unit has as many heads right below it
   pub below_mapped : ((n : Node) → (f n).gone ≡ n.gone) → (k : NodeKey) →
       times (heads_below (map f nodes) k) (map f nodes) ≡ times (heads_below nodes k) nodes
   below_mapped gone k = times_map (heads_below (map f nodes) k) (heads_below nodes k) f nodes

@@ -49,6 +49,7 @@ waits_other head n other = from n.gone (same_key n.head head) (n.released || is_
     from false false b is = refl
     from false true b is = cc
 
+-- its head is that of the unit
 pub lives_own : (head : NodeKey) (n : Node) → same_key n.head head ≡ true → lives_in head n ≡ is_live_node n
 lives_own head n own = from (is_live_node n) (same_key n.head head) own
   where
@@ -57,6 +58,7 @@ lives_own head n own = from (is_live_node n) (same_key n.head head) own
     from false s is = refl
     from true false is = cc
 
+-- its head is that of another unit
 pub lives_other : (head : NodeKey) (n : Node) → same_key n.head head ≡ false → lives_in head n ≡ false
 lives_other head n other = from (is_live_node n) (same_key n.head head) other
   where
@@ -69,9 +71,11 @@ lives_other head n other = from (is_live_node n) (same_key n.head head) other
 pub waits_gone : (head : NodeKey) (n : Node) → n.gone ≡ true → waits_in head n ≡ false
 waits_gone head n gone = rw gone refl
 
+-- a gone node is not live
 pub lives_gone : (head : NodeKey) (n : Node) → n.gone ≡ true → lives_in head n ≡ false
 lives_gone head n gone = rw gone refl
 
+-- by cases: it counts, or not
 raised_is : (is : Bool) (count : ℕ) → count < 18446744073709551615 → raised is count ≡ count + bit is
 raised_is true count less = let room : nat_lt count 18446744073709551615 ≡ true = lt-ltb count 18446744073709551615 less in rw room refl
 raised_is false count less = omega arith
@@ -119,9 +123,11 @@ with_node_adds n us k within one live unready = elim (either_way (n.head.slot ==
       below = (unit_at us h.slot).below;
     }
 
+-- another slot is set
 pub with_node_other : (n : Node) (us : List Unit) (slot : ℕ) → n.head.slot ≢ slot → unit_at (with_node n us) slot ≡ unit_at us slot
 with_node_other n us slot differ = get_or-set_other us n.head.slot slot _ no_unit (λ h. differ (sym h))
 
+-- setting one element keeps the length
 pub with_node_long : (n : Node) (us : List Unit) → length (with_node n us) ≡ length us
 with_node_long n us = length-set us n.head.slot _
 
@@ -130,6 +136,7 @@ with_node_long n us = length-set us n.head.slot _
 abbrev one_more : Node → List Unit → List Unit
 one_more n us = if n.gone then us else with_node n us
 
+-- the slot of its unit gains what the node counts for; a gone node counts for nothing
 one_adds : (n : Node) (us : List Unit) (k : NodeKey) → k.slot < length us → (n.gone ≡ false → n.head.slot ≡ k.slot → n.head ≡ k) →
     (unit_at us k.slot).live < 18446744073709551615 → (unit_at us k.slot).unready < 18446744073709551615 →
     Adds (unit_at us k.slot) (unit_at (one_more n us) k.slot) k n
@@ -144,6 +151,7 @@ one_adds n us k within one live unready = elim (either_way n.gone) [
       (with_node_adds n us k within (one e) live unready)
 ]
 
+-- either nothing is set, or one element is
 one_long : (n : Node) (us : List Unit) → length (one_more n us) ≡ length us
 one_long n us = from n.gone
   where
@@ -151,10 +159,12 @@ one_long n us = from n.gone
     from true = refl
     from false = with_node_long n us
 
+-- by induction over the nodes
 pub tallied_long : (ns : List Node) (us : List Unit) → length (tallied ns us) ≡ length us
 tallied_long [] us = refl
 tallied_long (n ∷ ns) us = tallied_long ns (one_more n us) ∙ one_long n us
 
+-- by cases
 bit_few : (b : Bool) → bit b ≤ 1
 bit_few true = omega arith
 bit_few false = omega arith
@@ -165,6 +175,7 @@ pub record AddsAll (old new : Unit) (head : NodeKey) (ns : List Node) : Type 0 w
   pub unready : new.unready ≡ old.unready + times (waits_in head) ns
   pub below : new.below ≡ old.below
 
+-- by induction: one node after another
 pub tallied_adds : (ns : List Node) (us : List Unit) (k : NodeKey) → k.slot < length us → ((n : Node) → In n ns → n.gone ≡ false →
     n.head.slot ≡ k.slot → n.head ≡ k) →
     (unit_at us k.slot).live + length ns ≤ 18446744073709551615 → (unit_at us k.slot).unready + length ns ≤ 18446744073709551615 →
@@ -184,6 +195,7 @@ tallied_adds (n ∷ ns) us k within one live unready =
     let f = times_more (waits_in k) n ns in
     record { live = omega arith; unready = omega arith; below = rest.below ∙ first.below }
 
+-- by induction: none of them is of that unit
 pub tallied_other : (ns : List Node) (us : List Unit) (slot : ℕ) → ((n : Node) → In n ns → n.gone ≡ false → n.head.slot ≢ slot) →
     unit_at (tallied ns us) slot ≡ unit_at us slot
 tallied_other [] us slot differ = refl
@@ -196,10 +208,12 @@ tallied_other (n ∷ ns) us slot differ =
 
 -- ---- slots that are cleared
 
+-- by induction over the keys
 pub cleared_long : (keys : List NodeKey) (us : List Unit) → length (cleared keys us) ≡ length us
 cleared_long [] us = refl
 cleared_long (k ∷ ks) us = cleared_long ks (set us k.slot no_unit) ∙ length-set us k.slot no_unit
 
+-- by induction: no key has that slot
 pub cleared_other : (keys : List NodeKey) (us : List Unit) (slot : ℕ) → ((k : NodeKey) → In k keys → k.slot ≢ slot) →
     unit_at (cleared keys us) slot ≡ unit_at us slot
 cleared_other [] us slot differ = refl
@@ -207,6 +221,7 @@ cleared_other (k ∷ ks) us slot differ =
     cleared_other ks (set us k.slot no_unit) slot (λ j on. differ j (inr on))
     ∙ get_or-set_other us k.slot slot no_unit no_unit (λ h. differ k (inl refl) (sym h))
 
+-- by induction: a slot that is cleared stays so
 cleared_stays : (keys : List NodeKey) (us : List Unit) (slot : ℕ) → slot < length us → unit_at us slot ≡ no_unit →
     unit_at (cleared keys us) slot ≡ no_unit
 cleared_stays [] us slot within none = none
@@ -219,6 +234,7 @@ cleared_stays (k ∷ ks) us slot within none =
         (get_or-set_same us slot no_unit no_unit within)
     from (inr e) = get_or-set_other us k.slot slot no_unit no_unit (λ h. eqb-false k.slot slot e (sym h)) ∙ none
 
+-- by induction: the key's slot is cleared once
 pub cleared_own : (keys : List NodeKey) (us : List Unit) (key : NodeKey) → In key keys → key.slot < length us →
     unit_at (cleared keys us) key.slot ≡ no_unit
 cleared_own [] us key on within = absurd on

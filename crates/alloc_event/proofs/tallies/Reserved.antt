@@ -26,6 +26,7 @@ use Rattle.alloc_event.proofs.tallies.Untold.{first_once, rest_once}
 abbrev with_demand : ℕ → Option Demand → ℕ
 with_demand x o = x + option_map_or (λ (d : Demand). d.camping) o 0
 
+-- by cases on the demand
 folded : (x : ℕ) (o : Option Demand) (rest : List Demand) →
     fold (λ (a : ℕ) (d : Demand). a + d.camping) x (cons_option o rest)
     ≡ fold (λ (a : ℕ) (d : Demand). a + d.camping) (with_demand x o) rest
@@ -36,6 +37,7 @@ folded x (Some d) rest = refl
 abbrev pub camped_if : (Node → Bool) → Node → ℕ
 camped_if test n = option_map_or (λ (d : Demand). d.camping) (if test n then n.constraints else None) 0
 
+-- by induction: each node adds what it camps on
 camped_on : (test : Node → Bool) (ns : List Node) (x : ℕ) →
     fold (λ (a : ℕ) (d : Demand). a + d.camping) x (demands_of test ns) ≡ x + amount_of (camped_if test) ns
 camped_on test [] x = omega arith
@@ -49,6 +51,7 @@ pub camped_sum : (test : Node → Bool) (ns : List Node) →
     sum_by (λ (d : Demand). d.camping) (demands_of test ns) ≡ amount_of (camped_if test) ns
 camped_sum test ns = camped_on test ns 0 ∙ omega arith
 
+-- a sum over the demands is a sum over the nodes
 pub reserved_is : (ns : List Node) → reserved_count ns ≡ amount_of camped ns
 reserved_is ns = camped_sum is_served ns
 
@@ -56,6 +59,7 @@ reserved_is ns = camped_sum is_served ns
 pub camped_gone : (n : Node) → n.gone ≡ true → camped n ≡ 0
 camped_gone n e = rw e refl
 
+-- a node without a demand camps on nothing
 pub reserved_one : (n : Node) → n.constraints ≡ None → reserved_count (n ∷ []) ≡ 0
 reserved_one n none = reserved_is (n ∷ []) ∙ rw none (from (is_served n))
   where
@@ -68,12 +72,14 @@ amount_append : (amount : Node → ℕ) (xs ys : List Node) → amount_of amount
 amount_append amount [] ys = omega arith
 amount_append amount (x ∷ xs) ys = let rest = amount_append amount xs ys in omega arith
 
+-- a sum over two lists is the sum of both
 pub reserved_append : (xs ys : List Node) → reserved_count (xs ++ ys) ≡ reserved_count xs + reserved_count ys
 reserved_append xs ys =
     reserved_is (xs ++ ys) ∙ (amount_append camped xs ys ∙ (λ i. sym (reserved_is xs) i + sym (reserved_is ys) i))
 
 -- ---- nodes that are changed
 
+-- by induction over the nodes
 amount_mapped : (f : Node → Node) (amount : Node → ℕ) → ((n : Node) → camped (f n) ≡ amount n) → (ns : List Node) →
     amount_of camped (map f ns) ≡ amount_of amount ns
 amount_mapped f amount same [] = refl
@@ -136,6 +142,7 @@ reserved_filter p ns over = reserved_is (filter p ns) ∙ (each ns over ∙ sym 
 
 -- ---- nodes that fall
 
+-- by induction over the nodes
 amount_same : (p q : Node → ℕ) (ns : List Node) → ((n : Node) → In n ns → p n ≡ q n) → amount_of p ns ≡ amount_of q ns
 amount_same p q [] same = refl
 amount_same p q (n ∷ ns) same =

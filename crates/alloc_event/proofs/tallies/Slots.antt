@@ -58,6 +58,7 @@ one_slot t a b n m one two slots =
 
 -- ---- lists
 
+-- by induction: the element is the first, or one of the others
 pub all_at : {A : Type 0} (P : A → Type 0) (xs : List A) → AllByRecursion P xs → (x : A) → In x xs → P x
 all_at P [] all x on = absurd on
 all_at P (y ∷ ys) all x (inl is) = subst P (sym is) all.0
@@ -86,6 +87,7 @@ Stays t id us new = (k : NodeKey) (n : Node) → node_at t k ≡ Some n → n.co
 
 module _ (t : Table Node) (named : (key : NodeKey) (n : Node) → node_at t key ≡ Some n →
     n.key ≡ key) (us new : List Unit) (id : ℕ) (stays : Stays t id us new) where
+  -- the slots of the keys of other collections stay
   units_stay : (x : ℕ) → x ≢ id → (keys : List NodeKey) → list_all (is_filed t x) keys ≡ true → HasUnits us (nodes_with t keys) →
       HasUnits new (nodes_with t keys)
   units_stay x differ keys filed has = all_in (HasUnit new (nodes_with t keys)) (nodes_with t keys) (λ n on.
@@ -97,6 +99,7 @@ module _ (t : Table Node) (named : (key : NodeKey) (n : Node) → node_at t key 
       let s = stays n.key n at (λ h. differ (sym own ∙ h)) was.0 in
       (s.0, s.1 ∙ was.1))
 
+  -- by induction over the shelves
   pub but_stays : (ss : List Shelf) → are_filed t ss ≡ true → AreUnitsBut us id (map (collection_in t) ss) →
       AreUnitsBut new id (map (collection_in t) ss)
   but_stays [] filed all = tt
@@ -155,6 +158,7 @@ but_put us c (d ∷ ds) all = from (d.id == c.id) (nat_lt c.id d.id) (but_put us
 
 -- ---- collections that were settled
 
+-- by cases on the mark: none changes the id
 pub made_id : (pool : ℕ) (others : List Interval) (mark : Mark) (c : Collection) → (made pool others mark c).id ≡ c.id
 made_id pool others (Called client reply call) c = refl
 made_id pool others (Loss origin cause) c = refl
@@ -189,6 +193,7 @@ or_new_id f id = from (collection_at f id) refl
 
 -- ---- nodes that count as before
 
+-- the map keeps the keys, and the counts are equal
 pub units_mapped : (us : List Unit) (f : Node → Node) (nodes : List Node) → ((n : Node) → (f n).key ≡ n.key) →
     ((k : NodeKey) → unit_of (map f nodes) k ≡ unit_of nodes k) →
     HasUnits us nodes → HasUnits us (map f nodes)
@@ -200,6 +205,7 @@ units_mapped us f nodes keys same has =
     subst (λ (k : NodeKey). (k.slot < length us) × (unit_at us k.slot ≡ unit_of (map f nodes) k)) key
     (had.0, had.1 ∙ sym (same x.0.key)))
 
+-- by induction: a node that fails the test was not counted
 times_filter : (p test : Node → Bool) (ns : List Node) → ((n : Node) → In n ns → p n ≡ false → test n ≡ false) →
     times test (filter p ns) ≡ times test ns
 times_filter p test [] none = refl
@@ -244,6 +250,7 @@ hangs_filter p nodes distinct rooted over k n on here = by n.parent refl
             let q = In-list_any test (filter p nodes) h in
             both_ways (list_any test nodes) (In-any test nodes q.0 (In-filter p nodes q.0 q.1).0 q.2) e) ∙ sym e
 
+-- only gone nodes are left out, which are counted nowhere
 below_filter : (p : Node → Bool) (nodes : List Node) → are_distinct nodes ≡ true → are_rooted (reverse nodes) ≡ true →
     ((n : Node) → In n nodes → p n ≡ false → n.gone ≡ true) → (k : NodeKey) →
     times (heads_below (filter p nodes) k) (filter p nodes) ≡ times (heads_below nodes k) nodes
@@ -259,6 +266,7 @@ below_filter p nodes distinct rooted over k =
     one n on (inr e) =
         λ i. not n.gone && (n.attached && hangs_filter p nodes distinct rooted over k n on e i)
 
+-- the units that are left have the counts that they had
 pub units_filter : (us : List Unit) (p : Node → Bool) (nodes : List Node) → are_distinct nodes ≡ true →
     are_rooted (reverse nodes) ≡ true → ((n : Node) → In n nodes → p n ≡ false → n.gone ≡ true) →
     HasUnits us nodes → HasUnits us (filter p nodes)
@@ -291,19 +299,24 @@ module _ (t : Table Node) (ss : List Shelf) (kept : IsStored t ss) (id : ℕ) (s
   abbrev new : List Unit
   new = reckoned t nodes (cleared s.keys us)
 
+  -- each collection is whole
   whole : IsWhole (collection_in t s)
   whole = found_whole t id ss s kept.whole found
 
+  -- its keys are filed under it
   filed : list_all (is_filed t s.id) s.keys ≡ true
   filed = found_filed t id ss s kept.filed found
 
+  -- each node stands in the table under its key
   at : (n : Node) → In n nodes → node_at t n.key ≡ Some n
   at n on = in_all (λ (m : Node). node_at t m.key ≡ Some m) nodes (looked_there t kept.named s.keys) n on
 
+  -- each node at its keys is of the collection
   of : (n : Node) → In n nodes → n.collection ≡ id
   of n on = eqb-true n.collection s.id (all-In (λ (m : Node). m.collection == s.id) nodes n on (looked-of t s.id s.keys filed))
       ∙ found_id id ss s found
 
+  -- counting and clearing keep the length
   long : length new ≡ length us
   long = hung_long t nodes (tallied nodes (cleared s.keys us)) ∙ tallied_long nodes (cleared s.keys us) ∙ cleared_long s.keys us
 
@@ -360,6 +373,7 @@ module _ (t : Table Node) (ss : List Shelf) (kept : IsStored t ss) (id : ℕ) (s
       let h : (unit_at new n.key.slot).below ≡ times (heads_below nodes n.key) nodes = omega arith in
       (subst (λ (m : ℕ). n.key.slot < m) (sym long) inside, λ i. record { live = l i; unready = w i; below = h i }))
 
+  -- a filed key has a node of the collection
   filed_at : (k : NodeKey) → In k s.keys → (m : Node) × (node_at t k ≡ Some m) × (m.collection ≡ id)
   filed_at k on = from (node_at t k) refl (all-In (is_filed t s.id) s.keys k on filed)
     where
@@ -377,6 +391,7 @@ module _ (t : Table Node) (ss : List Shelf) (kept : IsStored t ss) (id : ℕ) (s
       let node : m ≡ n = cc in
       differ (ap (λ (x : Node). x.collection) (sym node) ∙ own)
 
+  -- each slot that is written is that of a head of this collection
   stays : Stays t id us new
   stays k n is differ within =
       let same_long = long in (

@@ -26,6 +26,7 @@ use Rattle.alloc_event.proofs.tallies.Reckoning.{lives_gone, lives_other, lives_
 
 -- ---- one node
 
+-- by cases: it counts, or not
 lowered_is : (is : Bool) (count : ℕ) → bit is ≤ count → lowered is count + bit is ≡ count
 lowered_is true count some = let e : nat_lt 0 count ≡ true = lt-ltb 0 count (omega arith) in rw e (omega arith)
 lowered_is false count some = omega arith
@@ -36,6 +37,7 @@ record Takes (old new : Unit) (head : NodeKey) (n : Node) : Type 0 where
   unready : new.unready + bit (waits_in head n) ≡ old.unready
   below : new.below ≡ old.below
 
+-- the slot of its unit loses what the node counts for
 without_takes : (n : Node) (us : List Unit) (k : NodeKey) → k.slot < length us → (n.head.slot ≡ k.slot → n.head ≡ k) →
     bit (lives_in k n) ≤ (unit_at us k.slot).live → bit (waits_in k n) ≤ (unit_at us k.slot).unready →
     Takes (unit_at us k.slot) (unit_at (without_node n us) k.slot) k n
@@ -79,6 +81,7 @@ without_takes n us k within one live unready = elim (either_way (n.head.slot == 
 abbrev one_less : Node → List Unit → List Unit
 one_less n us = if n.gone then us else without_node n us
 
+-- the same, where a gone node counts for nothing
 one_takes : (n : Node) (us : List Unit) (k : NodeKey) → k.slot < length us → (n.gone ≡ false → n.head.slot ≡ k.slot → n.head ≡ k) →
     bit (lives_in k n) ≤ (unit_at us k.slot).live → bit (waits_in k n) ≤ (unit_at us k.slot).unready →
     Takes (unit_at us k.slot) (unit_at (one_less n us) k.slot) k n
@@ -93,6 +96,7 @@ one_takes n us k within one live unready = elim (either_way n.gone) [
       (without_takes n us k within (one e) live unready)
 ]
 
+-- either nothing is set, or one element is
 one_long : (n : Node) (us : List Unit) → length (one_less n us) ≡ length us
 one_long n us = from n.gone
   where
@@ -100,6 +104,7 @@ one_long n us = from n.gone
     from true = refl
     from false = length-set us n.head.slot _
 
+-- by induction over the nodes
 pub untallied_long : (ns : List Node) (us : List Unit) → length (untallied ns us) ≡ length us
 untallied_long [] us = refl
 untallied_long (n ∷ ns) us = untallied_long ns (one_less n us) ∙ one_long n us
@@ -110,6 +115,7 @@ pub record TakesAll (old new : Unit) (head : NodeKey) (ns : List Node) : Type 0 
   pub unready : new.unready + times (waits_in head) ns ≡ old.unready
   pub below : new.below ≡ old.below
 
+-- by induction: one node after another
 pub untallied_takes : (ns : List Node) (us : List Unit) (k : NodeKey) → k.slot < length us → ((n : Node) → In n ns → n.gone ≡ false →
     n.head.slot ≡ k.slot → n.head ≡ k) →
     times (lives_in k) ns ≤ (unit_at us k.slot).live → times (waits_in k) ns ≤ (unit_at us k.slot).unready →
@@ -128,6 +134,7 @@ untallied_takes (n ∷ ns) us k within one live unready =
     let d = rest.unready in
     record { live = omega arith; unready = omega arith; below = rest.below ∙ first.below }
 
+-- by induction: none of them is of that unit
 pub untallied_other : (ns : List Node) (us : List Unit) (slot : ℕ) → ((n : Node) → In n ns → n.gone ≡ false → n.head.slot ≢ slot) →
     unit_at (untallied ns us) slot ≡ unit_at us slot
 untallied_other [] us slot differ = refl
@@ -191,6 +198,7 @@ first_once k ks once = elim (either_way (list_any (same_key k) ks)) [
   | inr e ↦ e
 ]
 
+-- pairs further back are pairs of the whole list
 pub rest_once : (k : NodeKey) (ks : List NodeKey) → AllPairs (λ (a b : NodeKey). a ≢ b) (k ∷ ks) → AllPairs (λ (a b : NodeKey). a ≢ b) ks
 rest_once k ks once i j d lt within = once (suc i) (suc j) d (omega arith) (omega arith)
 

@@ -17,6 +17,7 @@ not_this p xs x none on is = both_ways (list_any p xs) (In-any p xs x on is) non
 
 -- ---- units that were allocated
 
+-- by induction: allocation does not change whether a node is ready
 pub ready_same : (k : NodeKey) (heads : List NodeKey) (ns : List Node) →
     list_all (is_ready_node k) (map (given_all heads) ns) ≡ list_all (is_ready_node k) ns
 ready_same k heads [] = refl

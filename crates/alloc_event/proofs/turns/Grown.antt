@@ -28,10 +28,12 @@ rooted_back : (front back : List Node) → are_rooted (front ++ back) ≡ true �
 rooted_back [] back h = h
 rooted_back (n ∷ ns) back h = rooted_back ns back (and_right (hangs_on (ns ++ back) n) (are_rooted (ns ++ back)) h)
 
+-- by induction over the nodes in front
 united_back : (front back : List Node) → are_united (front ++ back) ≡ true → are_united back ≡ true
 united_back [] back h = h
 united_back (n ∷ ns) back h = united_back ns back (and_right (list_all (shares_unit n) (ns ++ back)) (are_united (ns ++ back)) h)
 
+-- the parent stands before the node, and shares its unit unless the node is attached
 pub grown_by : (nodes : List Node) → are_rooted (reverse nodes) ≡ true → are_united (reverse nodes) ≡ true → AreGrown nodes
 grown_by nodes rooted united at n there here = from n.parent refl
   where

@@ -102,12 +102,15 @@ module _ (nodes : List Node) (distinct : are_distinct nodes ≡ true) (owned : l
 -- ---- the nodes and the keys of a collection
 
 module _ (t : Table Node) (id : ℕ) (named : (key : NodeKey) (n : Node) → node_at t key ≡ Some n → n.key ≡ key) where
+  -- the test fails where there is none
   one : (o : Option Node) → option_map_or (λ (n : Node). n.collection == id) o false ≡ true → (n : Node) × (o ≡ Some n)
   one o h = let r = node_there (λ (n : Node). n.collection == id) o h in (r.0, r.1)
 
+  -- the key has a node, which stands first
   behind : (keys : List NodeKey) (k : NodeKey) (n : Node) → node_at t k ≡ Some n → nodes_with t (k ∷ keys) ≡ n ∷ nodes_with t keys
   behind keys k n is = ap (λ (o : Option Node). cons_option o (nodes_with t keys)) is
 
+  -- by induction: each filed key has a node, so the two lists run side by side
   node_from : (keys : List NodeKey) → list_all (is_filed t id) keys ≡ true → (i : ℕ) (j : NodeKey) → slice_get keys i ≡ Some j →
       (m : Node) × (slice_get (nodes_with t keys) i ≡ Some m) × (node_at t j ≡ Some m)
   node_from [] filed i j on = cc
@@ -119,6 +122,7 @@ module _ (t : Table Node) (id : ℕ) (named : (key : NodeKey) (n : Node) → nod
       let q = node_from keys (and_right (is_filed t id k) _ filed) i j on in
       (q.0, ap (λ (ns : List Node). slice_get ns (suc i)) (behind keys k r.0 r.1) ∙ q.1, q.2)
 
+  -- by induction, the other way round
   key_from : (keys : List NodeKey) → list_all (is_filed t id) keys ≡ true → (i : ℕ) (m : Node) →
       slice_get (nodes_with t keys) i ≡ Some m → slice_get keys i ≡ Some m.key
   key_from [] filed i m on = cc
@@ -136,9 +140,11 @@ module _ (t : Table Node) (ss : List Shelf) (kept : IsStored t ss) (s : Shelf)
   abbrev nodes : List Node
   nodes = nodes_with t s.keys
 
+  -- the keys of each shelf are filed
   filed : list_all (is_filed t s.id) s.keys ≡ true
   filed = found_filed t s.id ss s kept.filed found
 
+  -- each collection is whole
   whole : IsWhole (collection_in t s)
   whole = found_whole t s.id ss s kept.whole found
 

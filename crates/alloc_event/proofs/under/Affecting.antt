@@ -42,10 +42,12 @@ use Rattle.alloc_event.proofs.under.Changing.{held_but, next_but, waits_but}
 
 module _ (t now : Table Node) (key : NodeKey) (effect : Effect) (n : Node) (was : node_at t key ≡ Some n)
     (named : (k : NodeKey) (m : Node) → node_at t k ≡ Some m → m.key ≡ k) (writes : Writes t now key (affected key effect n)) where
+  -- the effect changes the node with its key, and no other one
   look_here : (k : NodeKey) → node_at now k ≡ option_map (affected key effect) (node_at t k)
   look_here = look-changed t now (affected key effect) key n (affected key effect n) writes was refl named
       (λ m differ. alone_affected key effect m (false_if (same_key key m.key) (λ h. absurd (differ (sym (same_key-true key m.key h))))))
 
+  -- the effect keeps the key
   pub named_here : (k : NodeKey) (m : Node) → node_at now k ≡ Some m → m.key ≡ k
   named_here k m at = by (node_at t k) refl (sym (look_here k) ∙ at)
     where
@@ -55,6 +57,7 @@ module _ (t now : Table Node) (key : NodeKey) (effect : Effect) (n : Node) (was 
           let made : m ≡ affected key effect x = cc in
           ap (λ (y : Node). y.key) made ∙ ((same_affected key effect x).key ∙ named k x is)
 
+  -- the row of the key is written, and the others stay
   pub there_here : (k : NodeKey) → IsSome (row_at t k) → IsSome (row_at now k)
   there_here k some = elim (key_cases key k) [
     | inl is ↦ subst (λ (j : NodeKey). IsSome (row_at now j)) is
@@ -77,6 +80,7 @@ module _ (t : Table Node) (us : List Unit) (ss : List Shelf) (e : Entry) (store 
   abbrev s : Shelf
   s = shelf_of e
 
+  -- each collection is whole
   whole_e : IsWhole (collection_in t (shelf_of e))
   whole_e = found_whole t e.id ss (shelf_of e) store.kept.whole store.found
 
@@ -97,12 +101,15 @@ module _ (t : Table Node) (us : List Unit) (ss : List Shelf) (e : Entry) (store 
     abbrev made : Node → Node
     made = affected key effect
 
+    -- an effect keeps the node's place
     stays : (m : Node) → IsSameNode (made m) m
     stays = same t now us key effect n was becomes writes ss s e.strong may_here
 
+    -- each key is looked up in the new table, where the effect was made
     looks : (k : NodeKey) → node_at now k ≡ option_map made (node_at t k)
     looks = look t now us key effect n was becomes writes ss s e.strong may_here
 
+    -- the node is of the collection and not gone
     there : In n members
     there = on t now us key effect n was becomes writes ss s e.strong may_here
 
@@ -119,6 +126,7 @@ module _ (t : Table Node) (us : List Unit) (ss : List Shelf) (e : Entry) (store 
         let x = found_before k m at in
         subst (λ (l : ℕ). k.slot < l) (sym (length-set us n.head.slot next)) (store.inside k x.0 x.1)
 
+    -- the head of the node's unit was left, and is still
     left_now : is_head_left (map made members) n.head ≡ true
     left_now =
         let h = head t now us key effect n was becomes writes ss s e.strong may_here in
@@ -134,9 +142,11 @@ module _ (t : Table Node) (us : List Unit) (ss : List Shelf) (e : Entry) (store 
     reserved_here = reserved_changed made members n whole_e.sound.distinct there
         (λ m m_on other. alone t now us key effect n was becomes writes ss s e.strong may_here m other)
 
+    -- the keys are looked up one by one
     pub nodes_here : nodes_with now e.keys.items ≡ map made members
     nodes_here = nodes_now t now us key effect n was becomes writes ss s e.strong may_here
 
+    -- the slot of each node's key is in the list, and so is the head's
     pub within_here : n.head.slot < length us
     within_here =
         let h = head t now us key effect n was becomes writes ss s e.strong may_here in
@@ -148,15 +158,19 @@ module _ (t : Table Node) (us : List Unit) (ss : List Shelf) (e : Entry) (store 
         (below_next : next.below ≡ (unit_at us n.head.slot).below) (new : Entry) (shelf : shelf_of new ≡ shelf_of e)
         (noted : new.noted.items ≡ e.noted.items) (tidy : new.tidy ≡ e.tidy) (strong : new.strong ≡ strong_count (map made members))
         (reserved : new.reserved ≡ reserved_count (map made members)) where
+      -- the shelf is the same
       keys_same : new.keys.items ≡ e.keys.items
       keys_same = ap (λ (x : Shelf). x.keys) shelf
 
+      -- the same nodes, by the same keys
       members_now : nodes_with now new.keys.items ≡ map made members
       members_now = ap (nodes_with now) keys_same ∙ nodes_here
 
+      -- being over is kept, and so is the key
       over_same : (m : Node) → over_but new.noted.items (made m) ≡ over_but e.noted.items m
       over_same m = λ i. (remains_affected key effect m).over i && not (list_any (same_key ((stays m).key i)) (noted i))
 
+      -- the node and the counts of its unit are written, and all else is as it was
       pub affected_here : Affects t now (set us n.head.slot next) ss e new key effect n.head
       affected_here = record {
         store = record {
@@ -197,9 +211,11 @@ module _ (t now : Table Node) (us after : List Unit) (ss : List Shelf) (e new : 
   abbrev f : Node → Node
   f = affected key effect
 
+  -- the node has the key that it is stored under
   own_key : n.key ≡ key
   own_key = under.store.kept.named key n was
 
+  -- the table has it, and it is of the collection
   on_nodes : In n nodes
   on_nodes = in_shelf t ss under.store.kept e.id (shelf_of e) under.store.found n.key n (ap (node_at t) own_key ∙ was) own
 
@@ -207,17 +223,21 @@ module _ (t now : Table Node) (us after : List Unit) (ss : List Shelf) (e new : 
   alone_on : (m : Node) → In m nodes → same_key n.key m.key ≡ false → f m ≡ m
   alone_on m on other = alone_affected key effect m (subst (λ (k : NodeKey). same_key k m.key ≡ false) own_key other)
 
+  -- no two nodes have one key
   one_on : (m : Node) → In m nodes → same_key n.key m.key ≡ true → m ≡ n
   one_on m on h =
       distinct_one nodes (found_whole t e.id ss (shelf_of e) under.store.kept.whole under.store.found).sound.distinct m n on on_nodes
       (sym (same_key-true n.key m.key h))
 
+  -- no effect ends a node
   gone_same : (m : Node) → (f m).gone ≡ m.gone
   gone_same m = (remains_affected key effect m).gone
 
+  -- no effect allocates a unit
   alloc_same : (m : Node) → (f m).allocated ≡ m.allocated
   alloc_same m = (remains_affected key effect m).allocated
 
+  -- the same nodes, by the same keys
   nodes_are : nodes_with now new.keys.items ≡ map f nodes
   nodes_are = ap (λ (x : Shelf). nodes_with now x.keys) made.shelf ∙ made.nodes
 

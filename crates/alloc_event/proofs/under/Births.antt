@@ -38,6 +38,7 @@ use Rattle.alloc_event.proofs.under.Ready.{ready_close, ready_under}
 
 -- ---- what is put among others is found
 
+-- by induction: it is found at the place where it was put
 found_put : (new : Collection) (id : ℕ) (cs : List Collection) → new.id ≡ id →
     find (λ (c : Collection). c.id == id) (put new cs) ≡ Some new
 found_put new id [] own = let here : (new.id == id) ≡ true = eq-eqb new.id id own in rw here refl
@@ -50,6 +51,7 @@ found_put new id (c ∷ cs) own =
     let differs : (c.id == id) ≡ false = ap (λ (i : ℕ). c.id == i) (sym own) ∙ other in
     rw (other, below, differs) (found_put new id cs own))
 
+-- by induction: it is found at the place where it was put
 shelf_put : (new : Shelf) (id : ℕ) (ss : List Shelf) → new.id ≡ id → find (λ (s : Shelf). s.id == id) (put_shelf new ss) ≡ Some new
 shelf_put new id [] own = let here : (new.id == id) ≡ true = eq-eqb new.id id own in rw here refl
 shelf_put new id (s ∷ ss) own =
@@ -73,6 +75,7 @@ placed_there id es s found = from (place_in id es) refl
 
 -- ---- a collection that is calm may be closed
 
+-- a calm collection is under way with nothing loose and nothing due
 pub calm_close : (handles : Handles) (t : Table Node) (us : List Unit) (es : List Entry) (id at : ℕ) → place_in id es ≡ Some at →
     IsStored t (shelves_of es) → AreCounted t es → HaveUnits us t es → HaveGiven t (shelves_of es) → MayClose handles t us es at
 calm_close handles t us [] id at told kept all units given = absurd (cc)
@@ -113,12 +116,15 @@ module _ (t mid : Table Node) (es born_es : List Entry) (kept : IsStored t (shel
   abbrev child : Collection
   child = born_collection t mid ss kept id parent attached client event above up key bears
 
+  -- the collection before the birth has the id
   child_id : child.id ≡ id
   child_id = (before_is t ss kept id).id_is
 
+  -- the child is the last of its nodes
   after_is : after ≡ child
   after_is = grown_is t mid ss kept id parent attached client event above up key bears
 
+  -- the collection is put among the others, which stay
   shown : map (collection_in mid) (shelves_of born_es) ≡ put child (map (collection_in t) (shelves_of es))
   shown = behind_shown t mid ss kept id parent attached client event above up key bears (shelves_of born_es) placed
 
@@ -130,6 +136,7 @@ module _ (t mid : Table Node) (es born_es : List Entry) (kept : IsStored t (shel
       (behind_is t mid ss kept id parent attached client event above up key bears (shelves_of born_es) placed)
       ∙ shelf_put (shelf_by child) id ss child_id)
 
+  -- a birth of which nothing follows keeps the store
   pub kept_born : IsStored mid (shelves_of born_es)
   kept_born = quiet_kept t mid ss kept id parent attached client event above up key bears (shelves_of born_es) placed
 
@@ -139,6 +146,7 @@ module _ (t mid : Table Node) (es born_es : List Entry) (kept : IsStored t (shel
       of ∙ ap (λ (hs : List HeldBuffer). sorted_by start_of (map (λ (h : HeldBuffer). h.pages) hs))
       (sym (quiet_held t mid ss kept id parent attached client event above up key bears (shelves_of born_es) placed))
 
+  -- the collection that was put is found
   begun_is : collection_or_new (forest_of mid (shelves_of born_es)) id ≡ child
   begun_is =
       ap (λ (o : Option Collection). unwrap_or o (record { id = id; nodes = []; buffers = None; held = [] }))
@@ -152,6 +160,7 @@ module _ (t mid : Table Node) (es born_es : List Entry) (kept : IsStored t (shel
       (given_born above attached id event client key (collection_or_new (forest_of t ss) id)
       (above_in up kept) (given_at t ss id given)) given)
 
+  -- each step keeps that only collections with buffers have nodes with some
   pub given_closed : (pool : ℕ) (handles : Handles) (now : Table Node) (behind : List Shelf) →
       Finishes pool handles mid (shelves_of born_es) now behind (collection_or_new (forest_of mid (shelves_of born_es)) id) →
       HaveGiven t (shelves_of es) → HaveGiven now behind
@@ -167,6 +176,7 @@ module _ (t mid : Table Node) (es born_es : List Entry) (kept : IsStored t (shel
       (shown ∙ ap (λ (c : Collection). put c (map (collection_in t) ss)) (sym after_is)) (λ c settles. settles)
       (subst (λ (c : Collection). Finishes pool handles mid (shelves_of born_es) now behind c) (begun_is ∙ sym after_is) f)
 
+  -- closing gives no key, so the one of the birth is the only one
   pub gives_born : (now : Table Node) → SameTable mid now → Gives t now key
   gives_born now same =
       Gives-same t mid now key

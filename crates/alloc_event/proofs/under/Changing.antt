@@ -39,15 +39,18 @@ module _ (nodes : List Node) (f : Node → Node) (same : (n : Node) → IsSameNo
 
   -- ---- what holds the units
 
+  -- keys and heads are kept
   unit_same : (p head : NodeKey) → list_any (λ (q : Node). is_of p q && same_key q.head head) now ≡ list_any (λ (q : Node).
       is_of p q && same_key q.head head) nodes
   unit_same p head = list_any-map (λ (q : Node). is_of p q && same_key q.head head)
       (λ (q : Node). is_of p q && same_key q.head head) f nodes
       (λ q there. λ i. same_key ((same q).key i) p && same_key ((same q).head i) head)
 
+  -- so a node hangs in a unit as before
   hangs_same : (head : NodeKey) (m : Node) → hangs_in now head (f m) ≡ hangs_in nodes head m
   hangs_same head m = (λ i. option_map_or (λ p. unit_same p head i) ((same m).parent i) false)
 
+  -- the node that changed is of another unit, and the others stay
   same_for : (head : NodeKey) → same_key n.head head ≡ false → (m : Node) → In m nodes →
       holds_unit now head (f m) ≡ holds_unit nodes head m
   same_for head other m there = elim (either_way (same_key n.key m.key)) [
@@ -62,6 +65,7 @@ module _ (nodes : List Node) (f : Node → Node) (same : (n : Node) → IsSameNo
         λ i. not (gone m i) && ((same_key ((same m).head i) head && not (released i)) || ((same m).attached i && hangs_same head m i))
   ]
 
+  -- only the unit of the node that changed can have lost what held it
   pub held_but : are_held_but [] nodes ≡ true → are_held_but own now ≡ true
   held_but held = all_on (λ (m : Node). list_any (same_key m.key) own || is_held now m) now (λ m there.
       let x = In-map f nodes m there in
@@ -87,12 +91,14 @@ module _ (nodes : List Node) (f : Node → Node) (same : (n : Node) → IsSameNo
     | inr e ↦ ap (is_ready_node h) (sym (alone m there e)) ∙ all-In (is_ready_node h) now (f m) (In-map-back f nodes m there) all
   ])
 
+  -- whether the parent is allocated is kept
   turn_same : (o : Option NodeKey) → option_map_or (λ p. list_any (is_allocated_node p) now) o false
       ≡ option_map_or (λ p. list_any (is_allocated_node p) nodes) o false
   turn_same None = refl
   turn_same (Some p) = any_map (is_allocated_node p) (is_allocated_node p) f nodes
       (λ m. λ i. not (gone m i) && (alloc m i && same_key ((same m).key i) p))
 
+  -- the unit waits for no other node than before
   next_was : (x : Node) → same_key n.head x.key ≡ false → is_next_node now (f x) ≡ true → is_next_node nodes x ≡ true
   next_was x e h =
       let attached = and_left (f x).attached _ h in
@@ -111,6 +117,7 @@ module _ (nodes : List Node) (f : Node → Node) (same : (n : Node) → IsSameNo
       ∙ turn_same x.parent) ∙ turn)
       (ready_other x.key e (ap (λ (j : NodeKey). list_all (is_ready_node j) now) (sym (same x).key) ∙ all)))))
 
+  -- only the unit of the node that changed can have become ready
   pub next_but : list_any (is_next_but [] nodes) nodes ≡ false → list_any (is_next_but own now) now ≡ false
   next_but none = false_if (list_any (is_next_but own now) now) (λ e.
       let x = In-list_any (is_next_but own now) now e in
@@ -135,6 +142,7 @@ module _ (nodes : List Node) (f : Node → Node) (same : (n : Node) → IsSameNo
   abbrev waited : Node → Option Node
   waited root = when (not root.allocated && list_all (is_ready_node root.key) nodes) root
 
+  -- only the unit of the node that changed can wait for its buffers alone
   pub waits_but : waits_among [] nodes ≡ true → waits_among own now ≡ true
   waits_but none =
       ap (λ (o : Option Node). option_map_or (λ (m : Node). list_any (same_key m.key) own) (option_and_then waits o) true)

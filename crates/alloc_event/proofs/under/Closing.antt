@@ -59,10 +59,12 @@ module _ (handles : Handles) (t : Table Node) (us : List Unit) (ss : List Shelf)
   abbrev is_open : Bool
   is_open = is_held_strongly handles e.id e.buffers
 
+  -- by cases
   and_none : (b : Bool) → (b && false) ≡ false
   and_none true = refl
   and_none false = refl
 
+  -- a strong node lives by the count, or the root without its buffers is not lost
   kept_root : (nat_lt 0 e.strong ≡ true) ⊎ ((has_given_root t e.keys.items && not is_open) ≡ false) → (has_strong nodes ≡ true)
       ⊎ ((option_map_or (λ (root : Node). root.allocated) (find is_root_left nodes) false && not is_open) ≡ false)
   kept_root (inl strong) = inl (strong_lives nodes e.strong strong under.store.strong)
@@ -101,18 +103,23 @@ module _ (handles : Handles) (t : Table Node) (us : List Unit) (ss : List Shelf)
   abbrev strong_open : Bool
   strong_open = is_held_strongly handles e.id e.buffers
 
+  -- the second half of being abandoned
   rest : (has_given_root t e.keys.items && not (is_held_strongly handles e.id e.buffers)) ≡ true
   rest = and_right (e.strong == 0) (has_given_root t e.keys.items && not strong_open) abandoned
 
+  -- no strong handle is open, as the buffers are abandoned
   shut : is_held_strongly handles e.id e.buffers ≡ false
   shut = not-true strong_open (and_right (has_given_root t e.keys.items) (not strong_open) rest)
 
+  -- the first key has a root that is left and has its buffers
   root : IsGivenRoot t e.keys.items
   root = given_root t under.store.kept.named e.keys.items (and_left (has_given_root t e.keys.items) (not strong_open) rest)
 
+  -- each collection is whole
   whole : IsWhole (collection_in t (shelf_of e))
   whole = whole_under t us ss e [] due under
 
+  -- the count of strong nodes is 0
   weak : has_strong (nodes_with t e.keys.items) ≡ false
   weak =
       sym (strong_told (nodes_with t e.keys.items) e.strong under.store.strong)
@@ -144,18 +151,22 @@ module _ (handles : Handles) (t : Table Node) (us : List Unit) (ss : List Shelf)
   module _ (first : NodeKey) (is : slice_get e.keys.items 0 ≡ Some first) (now : Table Node) (after : List Unit) (new : Entry)
       (above : Option NodeKey)
       (went : IsWent t now after ss e new first (Some (record { cause = Cause.NoStrong; origin = first })) above [] due) where
+    -- the fault began at the root
     lost : nodes_with now e.keys.items ≡ after_loss (record { cause = Cause.NoStrong; origin = root.node.key }) (nodes_with t e.keys.items)
     lost = went.nodes ∙ ap (λ (k : NodeKey). after_loss (fault_at k) (nodes_with t e.keys.items)) (sym (root_is first is))
 
+    -- the root's loss takes all that is left
     gone : AreGone (nodes_with now e.keys.items)
     gone =
         subst AreGone (sym lost)
         (all_lost c whole root.node (root_on t e.keys.items root) (root_here t e.keys.items root) (root_top t e.keys.items root)
         (fault_at root.node.key) refl)
 
+    -- the new entry has the same keys
     gone_new : AreGone (nodes_with now new.keys.items)
     gone_new = subst (λ (s : Shelf). AreGone (nodes_with now s.keys)) (sym went.shelf) gone
 
+    -- only the nodes change
     lost_is : with_nodes (after_loss (record { cause = Cause.NoStrong; origin = root.node.key })) (collection_in t (shelf_of e))
         ≡ collection_in now (shelf_of e)
     lost_is = λ i. record (collection_in t (shelf_of e)) { nodes = sym lost i }
@@ -187,15 +198,19 @@ module _ (handles : Handles) (t : Table Node) (us : List Unit) (es : List Entry)
   abbrev ss : List Shelf
   ss = shelves_of es
 
+  -- both stand at the place
   pub entry_is : may.entry ≡ old
   entry_is = one_entry es id at may.entry old told (sym may.is) is
 
+  -- the premise, at the entry that is there
   pub under_is : IsUnderWay t us (shelves_of es) old [] may.due
   under_is = subst (λ (e : Entry). IsUnderWay t us (shelves_of es) e [] may.due) entry_is may.under
 
+  -- the premise, at the entry that is there
   pub out_is : (may.due ≡ []) ⊎ (is_abandoned_in handles t old ≡ true)
   out_is = subst (λ (e : Entry). (may.due ≡ []) ⊎ (is_abandoned_in handles t e ≡ true)) entry_is may.out
 
+  -- the entry at the place has the id that was looked for
   own : old.id ≡ id
   own = ap (λ (e : Entry). e.id) is ∙ (place_is id es at told).id_is old
 
@@ -203,24 +218,31 @@ module _ (handles : Handles) (t : Table Node) (us : List Unit) (es : List Entry)
     abbrev mid : List Entry
     mid = set es at new
 
+    -- the shelf, and with it the id, is the same
     new_id : new.id ≡ id
     new_id = ap (λ (s : Shelf). s.id) closed.shelf ∙ own
 
+    -- the shelf is the same, so the list of shelves stays
     shelves_mid : shelves_of (set es at new) ≡ shelves_of es
     shelves_mid = shelves_stay es at old new is closed.shelf
 
+    -- the new entry has the id, so it is found at the same place
     told_mid : place_in id (set es at new) ≡ Some at
     told_mid = place_set id at es new new_id told
 
+    -- it stands where it was set
     is_mid : new ≡ get_or (set es at new) at new
     is_mid = sym (get_or-set_same es at new new (place_is id es at told).within)
 
+    -- the list of shelves stays
     kept_mid : IsStored now (shelves_of (set es at new))
     kept_mid = subst (IsStored now) (sym shelves_mid) closed.kept
 
+    -- only this collection changed
     by : IsBeside t now (shelves_of es) id
     by = subst (IsBeside t now (shelves_of es)) own closed.beside
 
+    -- the others are counted as before, and this one as the step says
     counted_mid : AreCounted now (set es at new)
     counted_mid =
         subst (AreCounted now)
@@ -231,6 +253,7 @@ module _ (handles : Handles) (t : Table Node) (us : List Unit) (es : List Entry)
         (subst (λ (e : Entry). AreCountedBut t e.id es) entry_is may.others))))
         closed.counted)
 
+    -- the list of shelves stays
     units_mid : HaveUnits after now (set es at new)
     units_mid = subst (λ (xs : List Shelf). AreUnits after (map (collection_in now) xs)) (sym shelves_mid) closed.units
 
@@ -244,6 +267,7 @@ module _ (handles : Handles) (t : Table Node) (us : List Unit) (es : List Entry)
 
     module _ (last : Entry) (is_last : last ≡ record new { held = last.held })
         (out : last.held.items ≡ filter (is_out handles (nat_lt 0 new.strong)) new.held.items) where
+      -- only the held buffers change, by those that are home
       back : IsReturned handles new last
       back = record {
         id = ap (λ (e : Entry). e.id) is_last;
@@ -252,14 +276,17 @@ module _ (handles : Handles) (t : Table Node) (us : List Unit) (es : List Entry)
         held = out;
       }
 
+      -- the second entry replaces the first
       twice : set (set es at new) at last ≡ set es at last
       twice = set-set es at new last
 
+      -- the shelf is the same
       none_mid : decided (nodes_with now new.keys.items) new.buffers (is_held_strongly handles new.id new.buffers) ≡ None
       none_mid =
           subst (λ (s : Shelf). decided (nodes_with now s.keys) s.buffers (is_held_strongly handles s.id s.buffers) ≡ None)
           (sym closed.shelf) closed.none
 
+      -- only the held buffers change, and no count speaks of these
       counted_last : IsCounted now new → IsCounted now last
       counted_last counted =
           subst (IsCounted now) (sym is_last)
@@ -317,9 +344,11 @@ module _ (handles : Handles) (t : Table Node) (us : List Unit) (es : List Entry)
   -- where none does, those that are home go back
   module _ (now : Table Node) (after : List Unit) (new : Entry) (closed : IsClosed handles t now after (shelves_of es) old new)
       (weak : old.strong ≡ 0) where
+    -- the count of strong nodes does not grow
     none_strong_new : nat_lt 0 new.strong ≡ false
     none_strong_new = le-ltb 0 new.strong (omega (arith, closed.fewer))
 
+    -- the buffers that are home go, and nothing is forced then
     pub closes_weak : (last : Entry) → last ≡ record new { held = last.held } →
         last.held.items ≡ filter (is_out handles false) new.held.items → (pool left : Holdings) →
         are_parted left.held ≡ true →

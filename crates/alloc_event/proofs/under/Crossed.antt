@@ -34,6 +34,7 @@ module _ (c : Collection) (whole : IsWhole c) (falls : NodeKey → Bool) (top ab
   abbrev now : List Node
   now = map f nodes
 
+  -- a node that is left after it was left before, and did not fall
   left : (n : Node) → (f n).gone ≡ false → (falls n.key ≡ false) × (n.gone ≡ false)
   left = stays c whole falls top above up top_up above_one f same alloc goes alone
 
@@ -56,6 +57,7 @@ module _ (c : Collection) (whole : IsWhole c) (falls : NodeKey → Bool) (top ab
         | inr under ↦ hung_above c whole falls top above up top_up above_one x on here e m.key out x.parent refl (and_right x.attached _ under)
       ])
 
+  -- what held the unit is left, unless it hung on the unit above
   held_one : (loose : List NodeKey) (m : Node) → In m nodes → falls m.key ≡ false → m.gone ≡ false →
       (is_head m ≡ true) ⊎ (is_head m ≡ false) → (list_any (same_key m.key) loose || is_held nodes m) ≡ true →
       (list_any (same_key m.key) (above.head ∷ loose) || is_held now m) ≡ true
@@ -77,6 +79,7 @@ module _ (c : Collection) (whole : IsWhole c) (falls : NodeKey → Bool) (top ab
         ]
   ]
 
+  -- each unit that is left is held as before, but for the one above
   pub held_but : (loose : List NodeKey) → are_held_but loose nodes ≡ true → are_held_but (above.head ∷ loose) now ≡ true
   held_but loose held = all_on (λ (n : Node). list_any (same_key n.key) (above.head ∷ loose) || is_held now n) now (λ m there.
       let x = In-map f nodes m there in
@@ -95,6 +98,7 @@ module _ (c : Collection) (whole : IsWhole c) (falls : NodeKey → Bool) (top ab
 
   -- where the highest is attached, or the unit above has its buffers
   module _ (guard : (top.attached ≡ true) ⊎ ((h : Node) → In h nodes → h.key ≡ above.head → h.allocated ≡ true)) where
+    -- one of three ways in which the unit above does not become ready by the fall
     blocking : (top.attached ≡ true) ⊎ ((times (waits_in above.head) nodes ≡ 0) ⊎ ((0 < times (waits_in above.head) now)
         ⊎ ((h : Node) → In h nodes → h.key ≡ above.head → h.allocated ≡ true)))
     blocking = elim guard [
@@ -102,6 +106,7 @@ module _ (c : Collection) (whole : IsWhole c) (falls : NodeKey → Bool) (top ab
       | inr e ↦ inr (inr (inr e))
     ]
 
+    -- a head that is next after was next before, since falls allocate nothing and make none ready
     pub next_but : (due : List NodeKey) → list_any (is_next_but due nodes) nodes ≡ false → list_any (is_next_but due now) now ≡ false
     next_but due none = false_if (list_any (is_next_but due now) now) (λ e.
         let x = In-list_any (is_next_but due now) now e in
@@ -115,6 +120,7 @@ module _ (c : Collection) (whole : IsWhole c) (falls : NodeKey → Bool) (top ab
         both_ways (list_any (is_next_but due nodes) nodes)
         (In-any (is_next_but due nodes) nodes y.0 y.1 (and_both (is_next_node nodes y.0) _ next out)) none)
 
+    -- a root that waits after waited before
     pub root_but : (due : List NodeKey) → waits_among due nodes ≡ true → waits_among due now ≡ true
     root_but due among =
         ap (λ (o : Option Node). option_map_or (λ (n : Node). list_any (same_key n.key) due) (option_and_then (λ (root : Node).

@@ -61,6 +61,7 @@ bare_keeps : (nodes : List Node) (strong_open : Bool) (o : Option Node) →
 bare_keeps nodes strong_open None none = refl
 bare_keeps nodes strong_open (Some root) none = rw none refl
 
+-- the root does not lose its buffers, as a strong node lives or a handle is open
 pub root_stays : (handles : Handles) (t : Table Node) (e : Entry) → list_all (is_filed t e.id) e.keys.items ≡ true →
     IsWhole (collection_in t (shelf_of e)) →
     (has_given_root t e.keys.items && not (is_held_strongly handles e.id e.buffers)) ≡ false →
@@ -92,9 +93,11 @@ module _ (t : Table Node) (us : List Unit) (ss : List Shelf) (e : Entry) (k : No
   abbrev opened : Bool
   opened = is_held_strongly handles e.id e.buffers
 
+  -- each collection is whole
   formed : IsWhole (collection_in t (shelf_of e))
   formed = whole t us ss e k place ws u turns
 
+  -- the root is not lost, since the buffers are not abandoned
   not_lost : losing nodes opened (find is_root_left nodes) ≡ None
   not_lost = elim (either_way (e.strong == 0)) [
     | inl none ↦
@@ -108,6 +111,7 @@ module _ (t : Table Node) (us : List Unit) (ss : List Shelf) (e : Entry) (k : No
       above zero differ = absurd (differ refl)
       above (suc n) differ = omega arith
 
+  -- no unit is deserted, the root is not lost, and does not wait
   calm : AreCalm nodes opened
   calm = record {
     no_end = find-none (is_deserted_node nodes) nodes
@@ -116,6 +120,7 @@ module _ (t : Table Node) (us : List Unit) (ss : List Shelf) (e : Entry) (k : No
     no_root = no_root;
   }
 
+  -- no step comes before that of the next head
   decided_is : (o : Option Failure) → late_failure k nodes b ≡ o →
       decided nodes e.buffers opened ≡ Some (option_map_or (λ why. Loses k (Cause.Failed why)) o (Allocates k))
   decided_is o late =
@@ -126,6 +131,7 @@ module _ (t : Table Node) (us : List Unit) (ss : List Shelf) (e : Entry) (k : No
       ∙ ap (λ (j : NodeKey). Some (later_step nodes b j)) (head_key t us ss e k place ws u turns)
       ∙ ap (λ (g : Option Failure). Some (option_map_or (λ why. Loses k (Cause.Failed why)) g (Allocates k))) late
 
+  -- what is decided is what is forced
   pub forced_is : (o : Option Failure) → late_failure k nodes b ≡ o → (pool : ℕ) (others : List Interval) →
       forced pool (standing handles others (collection_in t (shelf_of e)))
       ≡ Some (mark_of pool (pages_in (collection_in t (shelf_of e)) ++ others)

@@ -23,15 +23,18 @@ use Rattle.alloc_event.proofs.under.Tops.{entire, takes_below, top, top_on}
 
 -- ---- nodes that are all gone
 
+-- a gone head counts as held
 pub held_gone : (loose : List NodeKey) (ns : List Node) → AreGone ns → are_held_but loose ns ≡ true
 held_gone loose ns gone = all_on (λ (n : Node). list_any (same_key n.key) loose || is_held ns n) ns (λ n on.
     or_right (list_any (same_key n.key) loose) (is_held ns n) (rw (gone n on) refl))
 
+-- a gone head is not next
 pub next_gone : (due : List NodeKey) (ns : List Node) → AreGone ns → list_any (is_next_but due ns) ns ≡ false
 next_gone due ns gone = none_passes (is_next_but due ns) (λ n e.
     let none : is_next_node ns n ≡ false = rw e (and-false n.attached) in
     ap (λ (b : Bool). b && not (list_any (same_key n.key) due)) none) ns gone
 
+-- no root is left
 pub root_gone : (due : List NodeKey) (ns : List Node) → AreGone ns → waits_among due ns ≡ true
 root_gone due ns gone =
     ap (λ (o : Option Node). option_map_or (λ (n : Node). list_any (same_key n.key) due) (option_and_then (λ (root : Node).

@@ -62,6 +62,7 @@ few_nodes t (k ∷ ks) = from (node_at t k) (few_nodes t ks)
 
 -- ---- options
 
+-- by cases
 when_some : {A : Type 0} (b : Bool) (x y : A) → when b x ≡ Some y → (b ≡ true) × (x ≡ y)
 when_some true x y h = (refl, cc)
 when_some false x y h = cc
@@ -85,6 +86,7 @@ pub record IsHeadLeft (nodes : List Node) (key : NodeKey) : Type 0 where
   pub here : node.gone ≡ false
   pub head : is_head node ≡ true
 
+-- a node with the key passes the test, and has each of its parts
 head_left : (nodes : List Node) (key : NodeKey) → is_head_left nodes key ≡ true → IsHeadLeft nodes key
 head_left nodes key h =
     let x = In-list_any (λ (n : Node). is_of key n && (not n.gone && is_head n)) nodes h in
@@ -129,18 +131,22 @@ module _ (t : Table Node) (us : List Unit) (ss : List Shelf) (e : Entry) (first 
   abbrev c : Collection
   c = collection_in t (shelf_of e)
 
+  -- each collection is whole
   whole : IsWhole c
   whole = found_whole t e.id ss (shelf_of e) ok.store.kept.whole ok.store.found
 
+  -- the shelf is found among them
   on_shelf : In (shelf_of e) ss
   on_shelf = (In-find (λ (x : Shelf). x.id == e.id) ss (shelf_of e) ok.store.found).0
 
   abbrev above : NodeKey → List NodeKey
   above = line nodes whole.sound.distinct whole.sound.heads whole.rooted whole.united
 
+  -- each node stands in the table under its key
   at : (m : Node) → In m nodes → node_at t m.key ≡ Some m
   at m on = in_all (λ (x : Node). node_at t x.key ≡ Some x) nodes (looked_there t ok.store.kept.named e.keys.items) m on
 
+  -- the counts of each collection's units are right
   counted : HasUnits us nodes
   counted =
       all_at (λ (d : Collection). HasUnits us d.nodes) (map (collection_in t) ss) ok.store.units c
@@ -151,9 +157,11 @@ module _ (t : Table Node) (us : List Unit) (ss : List Shelf) (e : Entry) (first 
   told m on =
       (in_all (HasUnit us nodes) nodes counted m on).1
 
+  -- the table links each node that is not gone to its parent
   linked : (h : Node) → In h nodes → h.gone ≡ false → parent_at t h.key ≡ h.parent
   linked h on here = ok.store.kept.linked h.key h (at h on) here
 
+  -- the line above a key is no longer than the collection, nor that than the table
   short : (key : NodeKey) → length (above key) ≤ table_len t
   short key =
       let a = above_short (reverse nodes) key in
@@ -168,6 +176,7 @@ module _ (t : Table Node) (us : List Unit) (ss : List Shelf) (e : Entry) (first 
   abbrev over_at : Option Node → Option NodeKey
   over_at o = option_and_then (λ (n : Node). when (is_held_once t us n) n.head) o
 
+  -- the parent in the table is the one of the node
   over_by : (h : Node) → In h nodes → h.gone ≡ false →
       unit_over t us h.key ≡ option_and_then (λ p. over_at (node_at t p)) h.parent
   over_by h on here = ap (λ (o : Option NodeKey). option_and_then (λ p. over_at (node_at t p)) o) (linked h on here)
@@ -223,6 +232,7 @@ module _ (t : Table Node) (us : List Unit) (ss : List Shelf) (e : Entry) (first 
       never : Some q.head ≡ None → ⊥
       never is = cc
 
+  -- the line above a key that is left leads from parent to parent
   chain_at : (m : Node) → In m nodes → m.gone ≡ false →
       IsChain (up nodes whole.sound.distinct whole.sound.heads whole.rooted whole.united) m.key (above m.key)
   chain_at m on here = chain nodes whole.sound.distinct whole.sound.heads whole.rooted whole.united m.key (left_in nodes m on here)
@@ -286,19 +296,23 @@ module _ (t : Table Node) (us : List Unit) (ss : List Shelf) (e : Entry) (first 
   -- ---- where something holds it
 
   module _ (left : is_head_left nodes first ≡ true) where
+    -- the head is left
     head : IsHeadLeft nodes first
     head = head_left nodes first left
 
+    -- the slot of the head has the counts of its unit
     first_told : unit_at us first.slot ≡ unit_of nodes first
     first_told = subst (λ (k : NodeKey). unit_at us k.slot ≡ unit_of nodes k) head.is (told head.node head.on)
 
     module _ (some : is_held_by (unit_at us first.slot) ≡ true) where
+      -- a live node holds it, or a head right below
       holds : list_any (holds_unit nodes first) nodes ≡ true
       holds = elim (either_holds (unit_of nodes first).live (unit_of nodes first).below (sym (ap is_held_by first_told) ∙ some)) [
         | inl lives ↦ lives_held nodes first lives
         | inr below ↦ below_held nodes first below
       ]
 
+      -- the one unit that was loose is held
       all_held : are_held_but [] nodes ≡ true
       all_held = all_on (λ (n : Node). list_any (same_key n.key) [] || is_held nodes n) nodes (λ m there.
           elim (either_way (is_one (first ∷ []) m.key)) [
@@ -332,6 +346,7 @@ module _ (t : Table Node) (us : List Unit) (ss : List Shelf) (e : Entry) (first 
     -- ---- where nothing does
 
     module _ (none : is_held_by (unit_at us first.slot) ≡ false) where
+      -- nothing holds the unit, by its counts, so it alone is loose
       begun : AreLoose nodes head.node (head.node.key ∷ [])
       begun =
           let is : is_held_by (unit_of nodes head.node.key) ≡ false =
@@ -345,6 +360,7 @@ module _ (t : Table Node) (us : List Unit) (ss : List Shelf) (e : Entry) (first 
           begins nodes whole.sound.distinct whole.sound.heads whole.rooted whole.united head.node head.on head.here head.head
           (omega arith) (omega arith)
 
+      -- the climb goes up while the counts allow, so it ends at the top of what is loose
       made_top : IsTop nodes t us first (table_len t) head.node.key
       made_top =
           reach (table_len t) head.node (head.node.key ∷ []) begun
@@ -353,9 +369,11 @@ module _ (t : Table Node) (us : List Unit) (ss : List Shelf) (e : Entry) (first 
       abbrev top : Node
       top = made_top.top
 
+      -- the climb is the one that the code makes
       top_is : (key : NodeKey) → key ≡ climbed (table_len t) t us first → top.key ≡ key
       top_is key is = sym (is ∙ (ap (climbed (table_len t) t us) (sym head.is) ∙ made_top.is))
 
+      -- the top is left, and heads its unit
       pub may_end : (key : NodeKey) → key ≡ climbed (table_len t) t us first → MayGo nodes key None
       may_end key is =
           let same = top_is key is in (
@@ -363,19 +381,23 @@ module _ (t : Table Node) (us : List Unit) (ss : List Shelf) (e : Entry) (first 
             λ n on own. ap is_head (distinct_one nodes whole.sound.distinct n top on made_top.loose.on (own ∙ sym same)) ∙ made_top.loose.head,
           )
 
+      -- the top is the first head below which nothing lives
       first_is : find (is_deserted_node nodes) nodes ≡ Some top
       first_is =
           first_deserted nodes whole.sound.distinct whole.sound.heads whole.rooted whole.united top made_top.keys made_top.loose first
           made_top.own ok.held (closed top made_top.loose.on made_top.loose.here made_top.last)
 
+      -- what held each other unit is not below the top
       held_then : are_held_but [] (after_end top.key nodes) ≡ true
       held_then =
           held_now nodes whole.sound.distinct whole.sound.heads whole.rooted whole.united top made_top.keys made_top.loose first
           made_top.own ok.held (closed top made_top.loose.on made_top.loose.here made_top.last)
 
+      -- a deserted unit is decided first
       decided_is : (strong_open : Bool) → decided nodes c.buffers strong_open ≡ Some (Ends top.key)
       decided_is strong_open = rw first_is refl
 
+      -- what is decided is what is forced
       forced_is : (pool : ℕ) (handles : Handles) (others : List Interval) → forced pool (standing handles others c) ≡ Some (Ended top.key)
       forced_is pool handles others =
           forced_made handles pool others c

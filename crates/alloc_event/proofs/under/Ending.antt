@@ -124,19 +124,23 @@ alone_is a b h = elim (or_cases (same_key a b) false h) [
   | inr e ↦ cc
 ]
 
+-- the constructor is injective
 some_key : (a b : NodeKey) → Some a ≡ Some b → a ≡ b
 some_key a b is = cc
 
+-- none passes, so none is counted
 none_counts : (p : Node → Bool) (ns : List Node) → list_any p ns ≡ false → times p ns ≡ 0
 none_counts p ns none = times-zero p ns (λ x there. false_if (p x) (λ e. both_ways (list_any p ns) (In-any p ns x there e) none))
 
 module _ (nodes : List Node) (distinct : are_distinct nodes ≡ true) (heads : list_all heads_itself nodes ≡ true)
     (rooted : are_rooted (reverse nodes) ≡ true) (united : are_united (reverse nodes) ≡ true) where
+  -- no two nodes of the list have one key
   one : AreOne nodes
   one = distinct_one nodes distinct
 
   -- ---- what hangs in a unit
 
+  -- the parent is found, and is of the unit
   hangs : (k : NodeKey) (x q : Node) (p : NodeKey) → x.parent ≡ Some p → In q nodes → q.key ≡ p → q.head ≡ k → hangs_in nodes k x ≡ true
   hangs k x q p above on is unit =
       ap (λ (o : Option NodeKey). option_map_or (λ j. list_any (λ (y : Node). is_of j y && same_key y.head k) nodes) o false) above
@@ -144,11 +148,13 @@ module _ (nodes : List Node) (distinct : are_distinct nodes ≡ true) (heads : l
       (and_both (is_of p q) (same_key q.head k) (ap (λ (j : NodeKey). same_key j p) is ∙ same_key-refl p)
       (ap (λ (j : NodeKey). same_key j k) unit ∙ same_key-refl k))
 
+  -- it is attached, not gone, and its parent is of the unit
   counts : (k : NodeKey) (x q : Node) (p : NodeKey) → x.gone ≡ false → x.attached ≡ true → x.parent ≡ Some p → In q nodes → q.key ≡ p →
       q.head ≡ k → heads_below nodes k x ≡ true
   counts k x q p here attached above on is unit =
       and_both (not x.gone) _ (ap not here) (and_both x.attached _ attached (hangs k x q p above on is unit))
 
+  -- by cases on the parent: one is found
   hung : (k : NodeKey) (x : Node) → hangs_in nodes k x ≡ true →
       (p : NodeKey) × (x.parent ≡ Some p) × (q : Node) × In q nodes × (q.key ≡ p) × (q.head ≡ k)
   hung k x h = from x.parent refl h
@@ -311,6 +317,7 @@ module _ (nodes : List Node) (distinct : are_distinct nodes ≡ true) (heads : l
           ]
     ]
 
+    -- something holds the unit, and none of the loose units does
     holder : (y : Node) → In y nodes → y.gone ≡ false → is_head y ≡ true → is_one keys y.key ≡ false → IsHolder nodes keys y.key
     holder y on here head alive =
         let x = In-list_any (holds_unit nodes y.key) nodes some in
@@ -400,6 +407,7 @@ module _ (nodes : List Node) (distinct : are_distinct nodes ≡ true) (heads : l
               (left_in nodes x.node x.on x.here) (and_right (is_live_node z.0) _ z.2) under))
         ]
 
+    -- by induction: what holds the unit lives, or heads a unit that is held
     lives_at : (y : Node) → In y nodes → y.gone ≡ false → is_head y ≡ true → is_one keys y.key ≡ false →
         list_any (lives_below nodes y.key) nodes ≡ true
     lives_at y on here head alive = lives (suc (length nodes)) y on here head alive (omega arith)
@@ -409,9 +417,11 @@ module _ (nodes : List Node) (distinct : are_distinct nodes ≡ true) (heads : l
     deserted =
         dead_deserted nodes distinct heads rooted united (is_one keys) loose.still loose.under top loose.on loose.here loose.head loose.own
 
+    -- the top is deserted
     none_live : list_any (lives_below nodes top.key) nodes ≡ false
     none_live = not-true _ (and_right (not top.gone) _ (and_right (is_head top) _ deserted))
 
+    -- a deserted head is loose, since each other unit has a live node below
     low : (y : Node) → In y nodes → is_deserted_node nodes y ≡ true → (y.gone ≡ false) × (is_below nodes top.key y.key ≡ true)
     low y on d =
         let rest = and_right (is_head y) _ d in
@@ -423,6 +433,7 @@ module _ (nodes : List Node) (distinct : are_distinct nodes ≡ true) (heads : l
               (lives_at y on here (and_left (is_head y) _ d) alive) (not-true _ (and_right (not y.gone) _ rest))
         ]
 
+    -- all other deserted heads lie below the top
     pub first_deserted : find (is_deserted_node nodes) nodes ≡ Some top
     first_deserted = find_top nodes distinct rooted (is_deserted_node nodes) top loose.on deserted low
 
@@ -431,6 +442,7 @@ module _ (nodes : List Node) (distinct : are_distinct nodes ≡ true) (heads : l
     abbrev now : List Node
     now = after_end top.key nodes
 
+    -- keys and heads are kept
     hangs_still : (k : NodeKey) (x : Node) → hangs_in now k (ended nodes top.key x) ≡ hangs_in nodes k x
     hangs_still k x = from x.parent
       where
@@ -461,6 +473,7 @@ module _ (nodes : List Node) (distinct : are_distinct nodes ≡ true) (heads : l
           (left_in nodes x.node x.on x.here) (and_right (is_live_node z.0) _ z.2) e))) none_live
     ])
 
+    -- what holds the unit is not below the top, so it stays
     holds_still : (k : NodeKey) (x : Node) → is_below nodes top.key x.key ≡ false → x.gone ≡ false →
         ((x.head ≡ k) × (x.released ≡ false)) ⊎ ((x.attached ≡ true) × (is_one keys x.key ≡ false) × (hangs_in nodes k x ≡ true)) →
         holds_unit now k (ended nodes top.key x) ≡ true
@@ -475,6 +488,7 @@ module _ (nodes : List Node) (distinct : are_distinct nodes ≡ true) (heads : l
               (and_both x.attached _ b.0 (hangs_still k x ∙ b.2))
         ])
 
+    -- by cases: the unit ended, or what held it is left
     held_one : (y : Node) → In y nodes → is_held now (ended nodes top.key y) ≡ true
     held_one y on = from (is_below nodes top.key y.key) y.gone (is_head y) (list_any (holds_unit now y.key) now) (λ above here head.
         let alive : is_one keys y.key ≡ false =
@@ -489,6 +503,7 @@ module _ (nodes : List Node) (distinct : are_distinct nodes ≡ true) (heads : l
         from false false false s is = refl
         from false false true s is = is refl refl refl
 
+    -- so it is of each
     pub held_now : are_held_but [] now ≡ true
     held_now = all_on (λ (n : Node). list_any (same_key n.key) [] || is_held now n) now (λ m there.
         let x = In-map (ended nodes top.key) nodes m there in

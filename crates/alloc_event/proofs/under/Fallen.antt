@@ -49,6 +49,7 @@ use Rattle.alloc_event.specs.UnderWay.{StoreAgrees}
 use Rattle.alloc_event.proofs.failures.Written.{went_now}
 use Rattle.alloc_event.proofs.leaving.Noted.{more_noted}
 
+-- the constructor is injective
 one_option : (n m : Node) → Some n ≡ Some m → n ≡ m
 one_option n m e = cc
 
@@ -74,21 +75,27 @@ module _ (t : Table Node) (us : List Unit) (ss : List Shelf) (old : Entry) (stor
   abbrev pub new : List Unit
   new = unreckoned t fallen us
 
+  -- what goes keeps its place
   same : (n : Node) → IsSameNode (f n) n
   same n = same_of going keys n
 
+  -- each collection is whole
   pub whole : IsWhole (collection_in t s)
   whole = found_whole t s.id ss s store.kept.whole store.found
 
+  -- the keys of each shelf are filed
   own_filed : list_all (is_filed t s.id) s.keys ≡ true
   own_filed = found_filed t s.id ss s store.kept.filed store.found
 
+  -- each node stands in the table under its key
   pub at_key : (m : Node) → In m nodes → node_at t m.key ≡ Some m
   at_key m there = in_all (λ (x : Node). node_at t x.key ≡ Some x) nodes (looked_there t store.kept.named s.keys) m there
 
+  -- each of its nodes is of the collection
   of_it : (m : Node) → In m nodes → m.collection ≡ s.id
   of_it m there = eqb-true m.collection s.id (all-In (λ (x : Node). x.collection == s.id) nodes m there (looked-of t s.id s.keys own_filed))
 
+  -- the table links each node that is not gone to its parent
   pub linked : (x : Node) → In x nodes → x.gone ≡ false → parent_at t x.key ≡ x.parent
   linked x on here = store.kept.linked x.key x (at_key x on) here
 
@@ -99,12 +106,14 @@ module _ (t : Table Node) (us : List Unit) (ss : List Shelf) (old : Entry) (stor
       (in_all (λ (x : Node). node_at t x.key ≡ Some x) fallen (looked_there t store.kept.named keys) n on)
       (eqb-true n.collection s.id (all-In (λ (x : Node). x.collection == s.id) fallen n on own))
 
+  -- what fell is taken from the count
   count_is : (test : Node → Bool) → ((n : Node) → test (f n) ≡ but test keys n) →
       times test (map f nodes) + times test fallen ≡ times test nodes
   count_is test is =
       ap (λ (m : ℕ). m + times test fallen) (times_map test (but test keys) f nodes is)
       ∙ taken_count t nodes whole.sound.distinct at_key store.kept.named test keys taken.once within
 
+  -- so from the count of strong nodes
   pub strong_is : strong_count (map f nodes) + strong_count fallen ≡ old.strong
   strong_is = count_is is_strong (strong_but keys going) ∙ sym store.strong
 
@@ -114,10 +123,12 @@ module _ (t : Table Node) (us : List Unit) (ss : List Shelf) (old : Entry) (stor
 
   -- ---- the units
 
+  -- the counts of each collection's units are right, so of this one's
   unit_has : HasUnits us nodes
   unit_has = all_at (λ (c : Collection). HasUnits us c.nodes) (map (collection_in t) ss) store.units (collection_in t s)
       (In-map-back (collection_in t) ss s (In-find (λ (x : Shelf). x.id == s.id) ss s store.found).0)
 
+  -- the head of the unit of a node that is left is left
   head_of : (n : Node) → In n fallen → n.gone ≡ false → (h : Node) × In h nodes × (h.key ≡ n.head) × (h.gone ≡ false) × (is_head h ≡ true)
   head_of n on here = head_there nodes whole.sound.distinct whole.sound.heads whole.rooted whole.united n (within n on) here
 
@@ -138,6 +149,7 @@ module _ (t : Table Node) (us : List Unit) (ss : List Shelf) (old : Entry) (stor
       from true g b = sym (and-false (not g && b))
       from false g b = sym (and-true (not g && b))
 
+  -- the heads that fell are taken from those right below
   below_is : (k : NodeKey) →
       times (heads_below (map f nodes) k) (map f nodes) + times (is_hung t k) fallen ≡ times (heads_below nodes k) nodes
   below_is k =
@@ -146,6 +158,7 @@ module _ (t : Table Node) (us : List Unit) (ss : List Shelf) (old : Entry) (stor
       (within n on)) i)
       ∙ taken_count t nodes whole.sound.distinct at_key store.kept.named (heads_below nodes k) keys taken.once within
 
+  -- the slot of each head has the counts of its unit
   unit_before : (n : Node) → In n nodes → n.key.slot < length us → unit_at us n.key.slot ≡ unit_of nodes n.key
   unit_before n on inside = (in_all (HasUnit us nodes) nodes unit_has n on).1
 
@@ -179,9 +192,11 @@ module _ (t : Table Node) (us : List Unit) (ss : List Shelf) (old : Entry) (stor
       let o : (unit_at new n.key.slot).below ≡ times (heads_below (map f nodes) n.key) (map f nodes) = omega arith in
       λ i. record { live = l i; unready = w i; below = o i }
 
+  -- counting keeps the length
   long : length new ≡ length us
   long = unhung_long t fallen (untallied fallen us) ∙ untallied_long fallen us
 
+  -- each slot of a node of the collection has the counts of what is left
   pub has_now : HasUnits new (map f nodes)
   has_now = all_in (HasUnit new (map f nodes)) (map f nodes) (λ m there.
       let x = In-map f nodes m there in
@@ -190,6 +205,7 @@ module _ (t : Table Node) (us : List Unit) (ss : List Shelf) (old : Entry) (stor
       subst (λ (k : NodeKey). (k.slot < length new) × (unit_at new k.slot ≡ unit_of (map f nodes) k)) key
       (subst (λ (l : ℕ). x.0.key.slot < l) (sym long) inside, unit_after x.0 x.1 inside))
 
+  -- each slot that is written is that of a head of this collection
   stays : Stays t s.id us new
   stays k n is differ inside = (
     subst (λ (l : ℕ). k.slot < l) (sym long) inside,
@@ -234,6 +250,7 @@ module _ (t : Table Node) (us : List Unit) (ss : List Shelf) (old : Entry) (stor
   -- ---- what is found, where they are written as they went
 
   module _ (now : Table Node) (stores : Stores t now (map (gone_by going) fallen)) where
+    -- each key is looked up in the new table, where what fell is written
     pub look_then : (k : NodeKey) → node_at now k ≡ option_map f (node_at t k)
     look_then k = stores.look k ∙ by (node_at t k) refl
       where
@@ -251,6 +268,7 @@ module _ (t : Table Node) (us : List Unit) (ss : List Shelf) (old : Entry) (stor
         from None at e = cc
         from (Some m) at e = (m, at, one_option (f m) n e)
 
+    -- the keys are looked up one by one
     pub nodes_then : nodes_with now s.keys ≡ map f nodes
     nodes_then = looked-map f (node_at t) (node_at now) look_then s.keys
 
@@ -283,15 +301,19 @@ module _ (t : Table Node) (us : List Unit) (ss : List Shelf) (old : Entry) (stor
 
   module _ (now : Table Node) (stores : Stores t now (map (gone_by going) fallen))
       (rooted_now : are_rooted (reverse (map f nodes)) ≡ true) where
+    -- the look-up above
     look : (k : NodeKey) → node_at now k ≡ option_map f (node_at t k)
     look = look_then now stores
 
+    -- the nodes above
     nodes_now : nodes_with now s.keys ≡ map f nodes
     nodes_now = nodes_then now stores
 
+    -- only the nodes change
     pub now_is : collection_in now s ≡ with_nodes (map f) (collection_in t s)
     now_is = λ i. record (collection_in t s) { nodes = nodes_now i }
 
+    -- what fell kept its place, and takes with it what hung on it
     whole_after : IsWhole (with_nodes (map f) (collection_in t s))
     whole_after = record {
       sound = IsSound-map f same (collection_in t s) whole.sound;
@@ -308,6 +330,7 @@ module _ (t : Table Node) (us : List Unit) (ss : List Shelf) (old : Entry) (stor
     in_shelves : In s ss
     in_shelves = (In-find (λ (x : Shelf). x.id == s.id) ss s store.found).0
 
+    -- this collection is whole, and the others stay
     whole_now : AllByRecursion (λ (x : Shelf). IsWhole (collection_in now x)) ss
     whole_now = all_in (λ (x : Shelf). IsWhole (collection_in now x)) ss (λ x on. elim (either_way (x.id == s.id)) [
       | inl e ↦
@@ -320,6 +343,7 @@ module _ (t : Table Node) (us : List Unit) (ss : List Shelf) (old : Entry) (stor
           (all_at (λ (y : Shelf). IsWhole (collection_in t y)) ss store.kept.whole x on)
     ])
 
+    -- what falls keeps its place, so the store keeps its facts
     pub kept_now : IsStored now ss
     kept_now = kept-with f same (λ n h. or_second (falls n.key) n.gone (sym (gone_of going keys n) ∙ h)) t now stores.same.first
         stores.same.nexts stores.same.len look stores.parents ss whole_now store.kept
@@ -328,6 +352,7 @@ module _ (t : Table Node) (us : List Unit) (ss : List Shelf) (old : Entry) (stor
         or_second true b h = cc
         or_second false b h = h
 
+    -- the units of other collections stay, and those of this one are counted anew
     pub units_now : AreUnits new (map (collection_in now) ss)
     units_now =
         but_join new s.id (map (collection_in now) ss)
@@ -343,12 +368,15 @@ module _ (t : Table Node) (us : List Unit) (ss : List Shelf) (old : Entry) (stor
   -- the store agrees again
   module _ (now : Table Node) (after : List Unit) (entry : Entry) (gone : IsGoneSo t now us after old entry going origin keys)
       (rooted_now : are_rooted (reverse (map f nodes)) ≡ true) where
+    -- the shelf is the same
     same_keys : entry.keys.items ≡ old.keys.items
     same_keys = ap (λ (x : Shelf). x.keys) gone.shelf
 
+    -- the same keys
     nodes_are : nodes_with now entry.keys.items ≡ map f nodes
     nodes_are = ap (nodes_with now) same_keys ∙ nodes_then now gone.stores
 
+    -- what went is noted, or the entry is no longer tidy
     stays_over : entry.tidy ≡ true → list_any (over_but entry.noted.items) (nodes_with now entry.keys.items) ≡ false
     stays_over h =
         ap (λ (ks : List NodeKey). list_any (over_but entry.noted.items) (nodes_with now ks)) same_keys
@@ -356,6 +384,7 @@ module _ (t : Table Node) (us : List Unit) (ss : List Shelf) (old : Entry) (stor
         (ap (list_any (over_but entry.noted.items)) (sym (went_now t store.kept.named going keys now gone.stores)) ∙ gone.over h)
         (more_noted old.noted.items entry.noted.items gone.more nodes (store.tidy (gone.tidy h)))
 
+    -- what went is counted nowhere any more, so the counts are those of what is left
     pub store_now : StoreAgrees now after ss entry
     store_now =
         let less = gone.strong in

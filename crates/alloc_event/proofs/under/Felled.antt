@@ -46,6 +46,7 @@ module _ (handles : Handles) (t mid : Table Node) (us : List Unit) (ss : List Sh
   abbrev s : Shelf
   s = shelf_of e
 
+  -- only the nodes change
   lost_is : collection_in mid s ≡ with_nodes (after_loss fault) (collection_in t s)
   lost_is = λ i. record (collection_in t s) { nodes = went.nodes i }
 
@@ -67,6 +68,7 @@ module _ (handles : Handles) (t mid : Table Node) (us : List Unit) (ss : List Sh
         (subst (λ (x : Shelf). AreOrEnd (nodes_with mid x.keys) (nodes_with now x.keys)) went.shelf ends);
   }
 
+-- nothing hung on what fell, so no unit lost what held it
 pub felled_alone : (handles : Handles) (t now : Table Node) (us : List Unit) (ss : List Shelf) (e new : Entry) (fault : Fault)
     (due : List NodeKey) → IsWent t now us ss e new fault.origin (Some fault) None [] due →
     IsFelled handles t now us ss e new fault due

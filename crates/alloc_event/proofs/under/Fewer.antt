@@ -34,6 +34,7 @@ pub record OnlyGo (f : Node → Node) : Type 0 where
   pub constraints : (n : Node) → (f n).constraints ≡ n.constraints
   pub gone : (n : Node) → n.gone ≡ true → (f n).gone ≡ true
 
+-- a loss writes the fault and the mark alone
 only_lost : (taken : Node → Bool) (fault : Fault) → OnlyGo (lost taken fault)
 only_lost taken fault = record {
   key = λ n. refl;
@@ -46,6 +47,7 @@ only_lost taken fault = record {
   gone = λ n h. ap (λ (b : Bool). taken n || b) h ∙ or-true (taken n);
 }
 
+-- an end writes the mark alone
 pub only_ended : (ns : List Node) (top : NodeKey) → OnlyGo (ended ns top)
 only_ended ns top = record {
   key = λ n. refl;
@@ -58,6 +60,7 @@ only_ended ns top = record {
   gone = λ n h. ap (λ (b : Bool). is_under top (member_of ns n) || b) h ∙ or-true (is_under top (member_of ns n));
 }
 
+-- one after the other
 only_both : (taken : Node → Bool) (fault : Fault) (ns : List Node) (top : NodeKey) → OnlyGo (λ n. ended ns top (lost taken fault n))
 only_both taken fault ns top = record {
   key = λ n. refl;
@@ -77,6 +80,7 @@ pub record HaveGone (fault : Fault) (nodes now : List Node) : Type 0 where
   pub is : now ≡ map f nodes
   pub taken : (n : Node) → is_taken nodes fault.origin n ≡ true → (f n).gone ≡ true
 
+-- a loss, or a loss and an end, make exactly the listed nodes gone
 pub have_gone : (fault : Fault) (nodes now : List Node) → AreOrEnd (after_loss fault nodes) now → HaveGone fault nodes now
 have_gone fault nodes now (inl same) = record {
   f = lost (is_taken nodes fault.origin) fault;
@@ -128,6 +132,7 @@ module _ (c : Collection) (sound : IsSound c) (f : Node → Node) (only : OnlyGo
   abbrev now : List Node
   now = map f nodes
 
+  -- nothing comes back
   here_was : (n : Node) → (f n).gone ≡ false → n.gone ≡ false
   here_was n h = false_if n.gone (λ e. both_ways (f n).gone (only.gone n e) h)
 
@@ -166,11 +171,13 @@ module _ (c : Collection) (sound : IsSound c) (f : Node → Node) (only : OnlyGo
       and_both n.attached _ attached (and_both (not n.gone) _ (ap not (here_was n here)) (and_both (not n.allocated) _ (ap not waits)
       (ready_was n on here waits (head_own c sound n on attached) all)))
 
+  -- keys and heads are kept
   hangs_same : (hs : List NodeKey) (n : Node) → hangs_in_some now hs (f n) ≡ hangs_in_some nodes hs n
   hangs_same hs n = λ i. option_map_or (λ p. list_any-map (λ (q : Node). is_of p q && list_any (same_key q.head) hs)
       (λ (q : Node). is_of p q && list_any (same_key q.head) hs) f nodes
       (λ q there. λ j. same_key (only.key q j) p && list_any (same_key (only.head q j)) hs) i) (only.parent n i) false
 
+  -- a unit that is coming after was coming before, and hangs as it did
   pub closed_on : (hs : List NodeKey) → AreClosed nodes hs → AreClosed now hs
   closed_on hs closed m there coming hangs =
       let x = In-map f nodes m there in

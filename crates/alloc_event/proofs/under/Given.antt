@@ -53,18 +53,22 @@ use Rattle.alloc_event.proofs.under.Turns.{bare, due, hangs_more, turns_behind, 
 
 -- ---- lists
 
+-- by induction: no element changes
 pub still_map : (f : Node → Node) (xs : List Node) → ((x : Node) → In x xs → f x ≡ x) → map f xs ≡ xs
 still_map f [] same = refl
 still_map f (x ∷ xs) same = λ i. same x (inl refl) i ∷ still_map f xs (λ y on. same y (inr on)) i
 
+-- by induction: each element passes as it did before the map
 pub all_mapped : (p q : Node → Bool) (f : Node → Node) (ns : List Node) → ((n : Node) → p (f n) ≡ q n) → list_all p (map f ns) ≡ list_all q ns
 all_mapped p q f [] same = refl
 all_mapped p q f (n ∷ ns) same = λ i. same n i && all_mapped p q f ns same i
 
+-- by cases
 or_false : (b : Bool) → (b || false) ≡ b
 or_false true = refl
 or_false false = refl
 
+-- by cases on the option
 was_by : (g : Node → Node) (o : Option Node) (n : Node) → option_map g o ≡ Some n → (m : Node) × (o ≡ Some m) × (g m ≡ n)
 was_by g None n is = cc
 was_by g (Some m) n is = (m, refl, cc)
@@ -82,11 +86,13 @@ f k = given_all (k ∷ [])
 abbrev pub served : NodeKey → List Node → List Node
 served k nodes = after_all (k ∷ []) nodes
 
+-- the list has one head alone
 pub given_is : (k : NodeKey) (nodes : List Node) → served k nodes ≡ after_allocation k nodes
 given_is k nodes = map-In (f k) (given_buffers k) nodes (λ n on. λ i. record n {
   allocated = ((λ j. or_false (same_key n.head k) j) ∙ same_key-swap n.head k) i || n.allocated;
 })
 
+-- units go together through an allocation
 pub together_then : (k : NodeKey) (nodes : List Node) → GoTogether nodes → GoTogether (served k nodes)
 together_then k nodes old = subst GoTogether (sym (given_is k nodes)) (together_given k nodes old)
 
@@ -95,11 +101,13 @@ hangs_same : (k : NodeKey) (nodes : List Node) (head : NodeKey) (n : Node) → h
 hangs_same k nodes head n = λ i. option_map_or (λ p. any_map (λ (q : Node). is_of p q && same_key q.head head)
     (λ (q : Node). is_of p q && same_key q.head head) (f k) nodes (λ q. refl) i) n.parent false
 
+-- keys and heads are kept
 pub hangs_some_same : (k : NodeKey) (nodes : List Node) (hs : List NodeKey) (n : Node) →
     hangs_in_some (served k nodes) hs (f k n) ≡ hangs_in_some nodes hs n
 hangs_some_same k nodes hs n = λ i. option_map_or (λ p. any_map (λ (q : Node). is_of p q && list_any (same_key q.head) hs)
     (λ (q : Node). is_of p q && list_any (same_key q.head) hs) (f k) nodes (λ q. refl) i) n.parent false
 
+-- allocation changes nothing of what holds a unit
 pub held_then : (k : NodeKey) (nodes : List Node) → are_held_but [] nodes ≡ true → are_held_but [] (served k nodes) ≡ true
 held_then k nodes held = all_mapped (is_held (served k nodes)) (is_held nodes) (f k) nodes (λ n.
     ap (λ (b : Bool). n.gone || (not (is_head n) || b))
@@ -129,29 +137,36 @@ module _ (t now : Table Node) (us : List Unit) (ss : List Shelf) (e : Entry) (k 
   abbrev g : Node → Node
   g = given_at hs ks
 
+  -- the node keeps its place
   same_g : (m : Node) → IsSameNode (g m) m
   same_g m = same_given hs ks m
 
+  -- each collection is whole
   formed : IsWhole c0
   formed = whole t us ss e k place ws u turns
 
+  -- the head of a unit whose turn it is has no buffers
   top : IsBareHead nodes k
   top = bare t us ss e k place ws u turns next
 
+  -- the head of a unit whose turn it is
   first : IsDueHead t nodes k
   first = due t us ss e k place ws u turns next
 
   -- ---- the unit
 
+  -- the nodes of the unit go together with its head
   unit_bare : (m : Node) → In m nodes → m.head ≡ k → (m.allocated ≡ false) × (m.gone ≡ false)
   unit_bare m on own = (
     formed.together.alike m top.head on top.on (own ∙ sym top.key) (top.own ∙ sym top.key) top.here ∙ top.waits,
     formed.together.spared m top.head on top.on (own ∙ sym top.key) (top.own ∙ sym top.key) top.here top.waits,
   )
 
+  -- the list has one head alone
   one_of : (m : Node) → list_any (same_key m.head) hs ≡ true → m.head ≡ k
   one_of m h = same_key-true m.head k (sym (or_false (same_key m.head k)) ∙ h)
 
+  -- an attached head is no root
   children : AreChildren c0 hs
   children j h =
       let is : j ≡ k = same_key-true j k (sym (or_false (same_key j k)) ∙ h) in
@@ -160,6 +175,7 @@ module _ (t now : Table Node) (us : List Unit) (ss : List Shelf) (e : Entry) (k 
 
   -- ---- the table
 
+  -- each node of the unit was listed, so it is given
   each_given : (m : Node) → In m nodes → g m ≡ f k m
   each_given m on = elim (either_way (list_any (same_key m.key) ks)) [
     | inl h ↦ given_in hs ks m h
@@ -169,12 +185,15 @@ module _ (t now : Table Node) (us : List Unit) (ss : List Shelf) (e : Entry) (k 
         (of_unit t ss u.store.kept s u.store.found u.store.kept.kin k top ks listed m on (unit_bare m on own).1 own) out))
   ]
 
+  -- the keys are looked up one by one
   nodes_then : nodes_with now keys ≡ served k nodes
   nodes_then = looked-map g (node_at t) (node_at now) given.look keys ∙ map-In g (f k) nodes each_given
 
+  -- only the nodes change
   collection_then : collection_in now s ≡ with_nodes (after_all hs) c0
   collection_then = λ i. record c0 { nodes = nodes_then i }
 
+  -- the nodes of other collections are of other units
   others_stay : (x : Shelf) → x.id ≢ s.id → list_all (is_filed t x.id) x.keys ≡ true → collection_in now x ≡ collection_in t x
   others_stay x differ filed = λ i. record (collection_in t x) { nodes = stay i }
     where
@@ -193,9 +212,11 @@ module _ (t now : Table Node) (us : List Unit) (ss : List Shelf) (e : Entry) (k 
       stay : nodes_with now x.keys ≡ nodes_with t x.keys
       stay = looked-map g (node_at t) (node_at now) given.look x.keys ∙ still_map g (nodes_with t x.keys) apart
 
+  -- the keys of each shelf are filed
   filed_of : (x : Shelf) → In x ss → list_all (is_filed t x.id) x.keys ≡ true
   filed_of x there = all-In (λ (y : Shelf). list_all (is_filed t y.id) y.keys) ss x there u.store.kept.filed
 
+  -- this collection is whole, and the others stay
   whole_then : AllByRecursion (λ (x : Shelf). IsWhole (collection_in now x)) ss
   whole_then = all_in (λ (x : Shelf). IsWhole (collection_in now x)) ss (λ x there. elim (either_way (x.id == s.id)) [
     | inl h ↦
@@ -209,10 +230,12 @@ module _ (t now : Table Node) (us : List Unit) (ss : List Shelf) (e : Entry) (k 
         (all_at (λ (y : Shelf). IsWhole (collection_in t y)) ss u.store.kept.whole x there)
   ])
 
+  -- allocation keeps each node's place
   kept_then : IsStored now ss
   kept_then = kept-with g same_g (λ m h. sym (kept_given (λ (x : Node). x.gone) hs (λ x. refl) ks m) ∙ h) t now
       given.same.first given.same.nexts given.same.len given.look given.parents ss whole_then u.store.kept
 
+  -- allocation changes none of the counts of units
   units_then : AreUnits us (map (collection_in now) ss)
   units_then = subst (AreUnits us) (sym (collections-map g same_g t now given.look ss))
       (units_with us g same_g (λ m. kept_given (λ x. x.gone) hs (λ x. refl) ks m)
@@ -221,6 +244,7 @@ module _ (t now : Table Node) (us : List Unit) (ss : List Shelf) (e : Entry) (k 
 
   -- ---- the counts
 
+  -- the nodes of the unit camp on buffers that were not reserved before
   reserved_then : reserved_count (served k nodes)
       ≡ reserved_count nodes + sum_by (λ (d : Demand). d.camping) (demands_of (is_in_unit k) nodes)
   reserved_then =
@@ -263,6 +287,7 @@ module _ (t now : Table Node) (us : List Unit) (ss : List Shelf) (e : Entry) (k 
         | inr h ↦ h
       ]
 
+  -- a unit that is coming after was coming before, so it was listed
   closed_then : AreClosed (served k nodes) (turn_heads ws)
   closed_then m there coming hangs =
       let x = In-map (f k) nodes m there in
@@ -328,6 +353,7 @@ module _ (t now : Table Node) (us : List Unit) (ss : List Shelf) (e : Entry) (k 
         ]
       ]
 
+  -- what is next after hangs on this unit, and was listed
   next_then : list_any (is_next_but (turn_heads ws) (served k nodes)) (served k nodes) ≡ false
   next_then = false_if (list_any (is_next_but (turn_heads ws) (served k nodes)) (served k nodes)) (λ h.
       let x = In-list_any (is_next_but (turn_heads ws) (served k nodes)) (served k nodes) h in
@@ -338,12 +364,14 @@ module _ (t now : Table Node) (us : List Unit) (ss : List Shelf) (e : Entry) (k 
       (next_among y.0 y.1 (and_left (is_next_node (served k nodes) (f k y.0)) _ is))
       (not-true _ (and_right (is_next_node (served k nodes) (f k y.0)) _ is)))
 
+  -- the root did not wait
   none_waits_then : waiting (nodes_with now keys) ≡ None
   none_waits_then = ap waiting nodes_then ∙ wait_on c0 formed.sound hs children no_wait
 
   -- ---- all of it
 
   module _ (camping : ℕ) (camps : camping ≡ sum_by (λ (d : Demand). d.camping) (demands_of (is_in_unit k) nodes)) where
+    -- the store agrees, and the units behind are those that are due
     under_then : (b : Buffers) → e.buffers ≡ Some b →
         IsUnderWay now us ss (record e { reserved = e.reserved + camping }) [] (turn_heads ws)
     under_then b has = record {
@@ -369,6 +397,7 @@ module _ (t now : Table Node) (us : List Unit) (ss : List Shelf) (e : Entry) (k 
         never None h none = cc
         never (Some x) h none = cc
 
+    -- one forced step was made: the allocation of this unit
     pub given_led : (handles : Handles) (b : Buffers) → e.buffers ≡ Some b → is_abandoned_in handles t e ≡ false →
         late_failure k nodes b ≡ None →
         IsLed handles t now us ss e (record e { reserved = e.reserved + camping }) [] (turn_heads ws)

@@ -59,9 +59,11 @@ was_there : (goes gone has : Bool) → (not (goes || gone) && has) ≡ true → 
 was_there true gone has h = let no : false ≡ true = h in cc
 was_there false gone has h = h
 
+-- a loss allocates nothing
 pub served_lost : (taken : Node → Bool) (fault : Fault) (n : Node) → is_served (lost taken fault n) ≡ true → is_served n ≡ true
 served_lost taken fault n = was_there (taken n) n.gone n.allocated
 
+-- no effect allocates a unit
 pub served_effect : (key : NodeKey) (effect : Effect) (n : Node) → is_served (affected key effect n) ≡ true → is_served n ≡ true
 served_effect key Effect.Bound n h = h
 served_effect key Effect.Dispensable n h = h
@@ -79,6 +81,7 @@ module _ (pool : ℕ) (others : List Interval) (c : Collection) (distinct : are_
   abbrev IsRootIf : List Interval → Decision → Type 0
   IsRootIf held d = mark_of pool held d ≡ Allocated head → is_root_of c head ≡ true
 
+  -- the root that is left is the one of the collection
   root_is : (root : Node) → find is_root_left c.nodes ≡ Some root → root.key ≡ head → is_root_of c head ≡ true
   root_is root found same =
       let f = In-find is_root_left c.nodes root found in
@@ -87,10 +90,12 @@ module _ (pool : ℕ) (others : List Interval) (c : Collection) (distinct : are_
       ∙ and_left (is_none root.parent) (not root.gone) f.1)
 
   module _ (held : List Interval) where
+    -- an end allocates nothing
     ends_if : (o : Option Node) → IfSome (option_map (λ (n : Node). Ends n.key) o) (IsRootIf held)
     ends_if None = tt
     ends_if (Some n) = λ is. cc
 
+    -- a loss allocates nothing
     loses_if : (strong_open : Bool) (o : Option Node) →
         IfSome (option_and_then (λ (root : Node). when (root.allocated && (not (has_strong c.nodes) && not strong_open))
         (Loses root.key Cause.NoStrong)) o) (IsRootIf held)
@@ -102,11 +107,13 @@ module _ (pool : ℕ) (others : List Interval) (c : Collection) (distinct : are_
           | false ↦ tt
         ]
 
+    -- only the root's own unit is allocated first
     placed_if : (root : Node) → find is_root_left c.nodes ≡ Some root → (o : Option Failure) → outcome root.key o ≡ Allocated head →
         is_root_of c head ≡ true
     placed_if root found None is = let same : root.key ≡ head = cc in root_is root found same
     placed_if root found (Some why) is = cc
 
+    -- the first step allocates the root's unit, or loses the root
     step_if : (root : Node) → find is_root_left c.nodes ≡ Some root → (o : Option Failure) →
         IsRootIf held (option_map_or (λ why. Loses root.key (Cause.Failed why)) o (Places root.key (wanted_by root.key c.nodes)))
     step_if root found None =
@@ -114,6 +121,7 @@ module _ (pool : ℕ) (others : List Interval) (c : Collection) (distinct : are_
         held)) Failure.PoolFull)
     step_if root found (Some why) = λ is. cc
 
+    -- the same, where some root waits
     places_if : (o : Option Node) → find is_root_left c.nodes ≡ o →
         IfSome (option_map (λ (n : Node). first_step c.nodes n.key)
         (option_and_then (λ (root : Node). when (not root.allocated && list_all (is_ready_node root.key) c.nodes) root) o)) (IsRootIf held)
@@ -124,12 +132,14 @@ module _ (pool : ℕ) (others : List Interval) (c : Collection) (distinct : are_
         from false = tt
         from true = step_if n e (early_failure n.key c.nodes)
 
+    -- without buffers no attached unit is allocated
     allocates_if : (o : Option Buffers) → o ≡ None →
         IfSome (option_and_then (λ b. option_map (λ (n : Node). later_step c.nodes b n.key) (find (is_next_node c.nodes) c.nodes)) o)
         (IsRootIf held)
     allocates_if None none = tt
     allocates_if (Some b) none = cc
 
+    -- one of the four steps
     decided_if : c.buffers ≡ None → (strong_open : Bool) → IfSome (decided c.nodes c.buffers strong_open) (IsRootIf held)
     decided_if none strong_open =
         first_has (IsRootIf held) _ _ _ _
@@ -138,6 +148,7 @@ module _ (pool : ℕ) (others : List Interval) (c : Collection) (distinct : are_
         (places_if (find is_root_left c.nodes) refl)
         (allocates_if c.buffers none)
 
+  -- the forced step is the decided one
   pub root_allocated : (handles : Handles) → c.buffers ≡ None → forced pool (standing handles others c) ≡ Some (Allocated head) →
       is_root_of c head ≡ true
   root_allocated handles none forces =
@@ -199,6 +210,7 @@ one_more : (nodes : List Node) (b : Node) → is_served b ≡ false → list_any
 one_more nodes b none all =
     list_any-append is_served nodes (b ∷ []) ∙ or_both (list_any is_served nodes) _ all (ap (λ (x : Bool). x || false) none)
 
+-- by cases
 child_none : (attached gone has : Bool) → gone ≡ false → (not gone && has) ≡ false → (not attached && has) ≡ false
 child_none true gone has here none = refl
 child_none false gone has here none = ap (λ (b : Bool). not b && has) (sym here) ∙ none
@@ -227,6 +239,7 @@ given_changed Change.Nothing key c birth own = own
 
 -- ---- all collections
 
+-- by induction: the one that was put, and the others
 pub given_put : (new : Collection) (cs : List Collection) → IsServedByGiven new → AreServedByGiven cs → AreServedByGiven (put new cs)
 given_put new [] own all = (own, tt)
 given_put new (c ∷ cs) own all =
@@ -274,11 +287,13 @@ pub given_mapped : (f : Node → Node) → ((n : Node) → is_served (f n) ≡ t
 given_mapped f fewer [] all = tt
 given_mapped f fewer (c ∷ cs) all = (λ none. none_served f fewer c.nodes (all.0 none), given_mapped f fewer cs all.1)
 
+-- by induction over the collections
 pub given_filtered : (p : Node → Bool) (cs : List Collection) → AreServedByGiven cs →
     AreServedByGiven (map (with_nodes (filter p)) cs)
 given_filtered p [] all = tt
 given_filtered p (c ∷ cs) all = (λ none. none-filter p is_served c.nodes (all.0 none), given_filtered p cs all.1)
 
+-- by induction: some collections are left out
 pub given_some : (p : Collection → Bool) (cs : List Collection) → AreServedByGiven cs → AreServedByGiven (filter p cs)
 given_some p [] all = tt
 given_some p (c ∷ cs) all = from (p c) (given_some p cs all.1)
@@ -287,6 +302,7 @@ given_some p (c ∷ cs) all = from (p c) (given_some p cs all.1)
     from true on = (all.0, on)
     from false on = on
 
+-- by induction: nodes are left out, and perhaps the collection
 pub given_over : (id : ℕ) (cs : List Collection) → AreServedByGiven cs → AreServedByGiven (without_over_in id cs)
 given_over id [] all = tt
 given_over id (c ∷ cs) all = from (c.id == id) (is_left (tidied c)) (given_over id cs all.1)

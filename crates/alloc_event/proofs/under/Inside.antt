@@ -30,9 +30,11 @@ module _ (t : Table Node) (ss : List Shelf) (kept : IsStored t ss) (s : Shelf) (
   abbrev nodes : List Node
   nodes = nodes_with t s.keys
 
+  -- each collection is whole
   pub whole : IsWhole (collection_in t s)
   whole = whole_before t ss kept s found k
 
+  -- each node stands in the table under its key
   pub at : (m : Node) → In m nodes → node_at t m.key ≡ Some m
   at m on = at_key t ss kept s found k m on
 
@@ -47,9 +49,11 @@ module _ (t : Table Node) (ss : List Shelf) (kept : IsStored t ss) (s : Shelf) (
 
   -- ---- keys
 
+  -- the walk lists what it reaches
   pub inside_key : (key : NodeKey) → Inside key → list_any (same_key key) ks ≡ true
   inside_key key reach = list_any-from_Contains key_equivalence key ks ((gathered.walked.within key).1 reach)
 
+  -- the walk reaches what it lists
   pub key_inside : (key : NodeKey) → list_any (same_key key) ks ≡ true → Inside key
   key_inside key there = (gathered.walked.within key).0 (Contains-from_any same_key-true key ks there)
 
@@ -59,6 +63,7 @@ module _ (t : Table Node) (ss : List Shelf) (kept : IsStored t ss) (s : Shelf) (
   abbrev pub All : Type 0
   All = AreHeads t us s.id k ks hs
 
+  -- a listed key of a head stands in the list of heads
   pub head_back : All → (j : NodeKey) → list_any (same_key j) ks ≡ true → is_head_at t us s.id k j ≡ true → list_any (same_key j) hs ≡ true
   head_back all j there head =
       let x = In-list_any (same_key j) ks there in
@@ -74,6 +79,7 @@ module _ (t : Table Node) (ss : List Shelf) (kept : IsStored t ss) (s : Shelf) (
     | inr e ↦ cc
   ]
 
+  -- the list of heads has keys of the walk alone
   pub head_from : (j : NodeKey) → list_any (same_key j) hs ≡ true →
       (list_any (same_key j) ks ≡ true) × (is_head_at t us s.id k j ≡ true)
   head_from j there = elim gathered.are [
@@ -88,6 +94,7 @@ module _ (t : Table Node) (ss : List Shelf) (kept : IsStored t ss) (s : Shelf) (
         (In-any (same_key j) ks x.0 y.0 x.2, ap (is_head_at t us s.id k) (same_key-true j x.0 x.2) ∙ y.1)
   ]
 
+  -- the first head is listed
   pub first_in : list_any (same_key k) hs ≡ true
   first_in = elim gathered.are [
     | inl alone ↦ ap (list_any (same_key k)) alone ∙ or_left (same_key k k) false (same_key-refl k)
@@ -96,6 +103,7 @@ module _ (t : Table Node) (ss : List Shelf) (kept : IsStored t ss) (s : Shelf) (
 
   -- ---- the units' nodes
 
+  -- the constructor is injective
   one_node : (a b : Node) → Some a ≡ Some b → a ≡ b
   one_node a b e = cc
 
@@ -152,6 +160,7 @@ module _ (t : Table Node) (ss : List Shelf) (kept : IsStored t ss) (s : Shelf) (
         (still_here nodes whole.sound.distinct whole.sound.heads whole.rooted whole.united x.0 x.1 left) too (omega arith))
   ]
 
+  -- by induction on the line above the node
   pub of_unit : (n : Node) → In n nodes → n.gone ≡ false → list_any (same_key n.head) hs ≡ true → list_any (same_key n.key) ks ≡ true
   of_unit n on here own = unit_from (suc (length (above n.key))) n on here own (omega arith)
 

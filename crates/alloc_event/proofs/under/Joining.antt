@@ -61,6 +61,7 @@ others_put new id (c ∷ cs) same =
     let there : (c.id == id) ≡ false = ap (λ (i : ℕ). c.id == i) (sym same) ∙ other in
     rw (other, below, there) (ap (λ (xs : List Collection). c ∷ xs) (others_put new id cs same)))
 
+-- the collection was put in its place, and the others stay
 pub beside_put : (t now : Table Node) (ss behind : List Shelf) (c : Collection) (id : ℕ) → c.id ≡ id →
     map (collection_in now) behind ≡ put c (map (collection_in t) ss) → beside (forest_of now behind) id ≡ beside (forest_of t ss) id
 beside_put t now ss behind c id same is =
@@ -150,6 +151,7 @@ module _ (handles : Handles) (t mid : Table Node) (es : List Entry) (id at : ℕ
   abbrev ss : List Shelf
   ss = shelves_of es
 
+  -- the entry is set at the place of its id
   put_in_place : shelves_of (set es at new) ≡ put_shelf (shelf_of new) (shelves_of es)
   put_in_place =
       ap shelves_of (set_put new es at kept.rising (subst (λ (i : ℕ). place_in i es ≡ Some at) (sym own) told)) ∙ shelves_put new es
@@ -170,6 +172,7 @@ module _ (handles : Handles) (t mid : Table Node) (es : List Entry) (id at : ℕ
       (put_among t mid (shelf_of old) ss kept.rising there (λ x on differ. by.others x on (λ same. differ (same ∙ sym old_id))))
       ∙ put_twice (collection_in mid (shelf_of new)) (collection_in mid (shelf_of old)) (map (collection_in t) ss) (old_id ∙ sym own)
 
+  -- it is found at its place
   mid_is : collection_or_new (forest_of mid (shelves_of (set es at new))) id ≡ collection_in mid (shelf_of new)
   mid_is =
       here_is mid (set es at new) id at new (place_set id at es new own told)
@@ -179,6 +182,7 @@ module _ (handles : Handles) (t mid : Table Node) (es : List Entry) (id at : ℕ
       (birth : is_birth change ≡ false)
       (leads : Leads pool.size handles (beside (forest_of t (shelves_of es)) id) (changed_in t es id change)
       (collection_in mid (shelf_of new))) where
+    -- the later steps finish what the earlier ones began
     pub settled_on : IsSettledIn handles between left mid now (set es at new) behind id Change.Nothing →
         IsSettledIn handles pool left t now es behind id change
     settled_on s = record {
@@ -196,6 +200,7 @@ module _ (handles : Handles) (t mid : Table Node) (es : List Entry) (id at : ℕ
       holds = s.holds;
     }
 
+    -- one after the other
     same_on : SameTable mid now → SameTable t now
     same_on same = record {
       first = same.first ∙ by.same.first;

@@ -22,6 +22,7 @@ same_on t u now one two = record {
   len = two.len ∙ one.len;
 }
 
+-- one after the other
 pub beside_on : (t u now : Table Node) (ss : List Shelf) (id : ℕ) → IsBeside t u ss id → IsBeside u now ss id → IsBeside t now ss id
 beside_on t u now ss id one two = record {
   same = same_on t u now one.same two.same;
@@ -62,6 +63,7 @@ HaveTurns handles t now us vs old new buffers all left =
     IsLed handles t now vs ss old new [] (turn_heads left)
     × (AreTurns now old.keys.items left × (waits_among [] (nodes_with now old.keys.items) ≡ true))
 
+-- no turn was taken, so nothing changed
 pub turns_none : (handles : Handles) (t : Table Node) (us : List Unit) (e : Entry) (buffers : Buffers) (all : List Turn) →
     HaveTurns handles t t us us e e buffers all all
 turns_none handles t us e buffers all ss under turns waits given =

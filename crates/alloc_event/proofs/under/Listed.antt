@@ -61,9 +61,11 @@ module _ (t : Table Node) (ss : List Shelf) (kept : IsStored t ss) (s : Shelf) (
   abbrev nodes : List Node
   nodes = nodes_with t s.keys
 
+  -- each collection is whole
   whole : IsWhole (collection_in t s)
   whole = whole_before t ss kept s found k
 
+  -- each node stands in the table under its key
   at : (m : Node) → In m nodes → node_at t m.key ≡ Some m
   at m on = at_key t ss kept s found k m on
 
@@ -79,6 +81,7 @@ module _ (t : Table Node) (ss : List Shelf) (kept : IsStored t ss) (s : Shelf) (
   inside_key : (key : NodeKey) → Inside key → list_any (same_key key) ks ≡ true
   inside_key key reach = list_any-from_Contains key_equivalence key ks ((listed.within key).1 reach)
 
+  -- the walk reaches what it lists
   key_inside : (key : NodeKey) → list_any (same_key key) ks ≡ true → Inside key
   key_inside key there = (listed.within key).0 (Contains-from_any same_key-true key ks there)
 
@@ -100,6 +103,7 @@ module _ (t : Table Node) (ss : List Shelf) (kept : IsStored t ss) (s : Shelf) (
       none true = refl
       none false = refl
 
+  -- by induction on the line above: the walk goes down from the head within the unit
   unit_from : (fuel : ℕ) (n : Node) → In n nodes → n.gone ≡ false → n.head ≡ k → length (above n.key) < fuel →
       list_any (same_key n.key) ks ≡ true
   unit_from zero n on here own few = absurd (omega arith)
@@ -124,9 +128,11 @@ module _ (t : Table Node) (ss : List Shelf) (kept : IsStored t ss) (s : Shelf) (
         (kept.linked n.key n (at n on) here ∙ (up'.1 ∙ ap Some (sym x.2))))
   ]
 
+  -- so it lists each node of the unit
   pub of_unit : (n : Node) → In n nodes → n.gone ≡ false → n.head ≡ k → list_any (same_key n.key) ks ≡ true
   of_unit n on here own = unit_from (suc (length (above n.key))) n on here own (omega arith)
 
+  -- what it does not list is not of the unit
   outside : (n : Node) → In n nodes → list_any (same_key n.key) ks ≡ false → is_in_unit k n ≡ false
   outside n on out = false_if (is_in_unit k n) (λ h.
       both_ways (list_any (same_key n.key) ks)
@@ -146,6 +152,7 @@ module _ (t : Table Node) (ss : List Shelf) (kept : IsStored t ss) (s : Shelf) (
       let n = row_there (row_at t child) over up in
       (n.0, n.1, sym (kin child over n.0 q.0 n.1 up q.1) ∙ q.2)
 
+  -- what it lists is of the collection
   within : (n : Node) → In n (nodes_with t ks) → In n nodes
   within n on =
       let is : node_at t n.key ≡ Some n =
@@ -155,6 +162,7 @@ module _ (t : Table Node) (ss : List Shelf) (kept : IsStored t ss) (s : Shelf) (
       let same : n ≡ m.0 = cc in
       in_shelf t ss kept s.id s found n.key n is (ap (λ (x : Node). x.collection) same ∙ m.2)
 
+  -- the same, said of a key
   pub key_within : (n : Node) → node_at t n.key ≡ Some n → list_any (same_key n.key) ks ≡ true → In n nodes
   key_within n is h = within n (in_looked t kept.named Going.Leaves ks n is h)
 
@@ -163,9 +171,11 @@ module _ (t : Table Node) (ss : List Shelf) (kept : IsStored t ss) (s : Shelf) (
   abbrev pub asked : List Demand
   asked = filter_map (asked_there t k) ks
 
+  -- the demands are looked up one by one
   below_asks : asked ≡ demands_of (is_in_unit k) (nodes_with t ks)
   below_asks = joined (node_at t) (asked_in k) ks
 
+  -- only nodes of the unit are added, and these are all listed
   pub sum_is : sum_by (λ (d : Demand). d.camping) asked ≡ sum_by (λ (d : Demand). d.camping) (demands_of (is_in_unit k) nodes)
   sum_is =
       ap (sum_by (λ (d : Demand). d.camping)) below_asks
@@ -174,6 +184,7 @@ module _ (t : Table Node) (ss : List Shelf) (kept : IsStored t ss) (s : Shelf) (
       (λ n on out. ap (λ (b : Bool). option_map_or (λ (d : Demand). d.camping) (if b then n.constraints else None) 0) (outside n on out))
       ∙ sym (camped_sum (is_in_unit k) nodes)))
 
+  -- each demand of the unit is that of a listed node
   fewer : (d : Demand) → In d (demands_of (is_in_unit k) nodes) → In d asked
   fewer d on =
       let x = asked_of (is_in_unit k) nodes d on in
@@ -186,11 +197,13 @@ module _ (t : Table Node) (ss : List Shelf) (kept : IsStored t ss) (s : Shelf) (
       (asked_back (is_in_unit k) (nodes_with t ks) x.0 d
       (in_looked t kept.named Going.Leaves ks x.0 (at x.0 x.1) listed_there) x.2)
 
+  -- each listed demand is that of a node of the unit
   more : (d : Demand) → In d asked → In d (demands_of (is_in_unit k) nodes)
   more d on =
       let x = asked_of (is_in_unit k) (nodes_with t ks) d (subst (λ (ds : List Demand). In d ds) below_asks on) in
       asked_back (is_in_unit k) nodes x.0 d (within x.0 x.1) x.2
 
+  -- each list has what the other has, so the greatest is one
   pub greatest_is : (f : Demand → ℕ) → greatest f asked ≡ greatest f (demands_of (is_in_unit k) nodes)
   greatest_is f =
       let below = greatest f asked in

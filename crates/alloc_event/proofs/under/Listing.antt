@@ -88,6 +88,7 @@ module _ (t : Table Node) (ss : List Shelf) (kept : IsStored t ss) (s : Shelf) (
   -- ---- what lies below stands behind
 
   module _ (stopped : NodeKey → Bool) where
+    -- by induction on the walk: each child stands behind its parent
     pub behind : (key : NodeKey) → Within (parent_at t) stopped k key → (n : Node) → node_at t key ≡ Some n → n.gone ≡ false →
         (l i : ℕ) → slice_get s.keys l ≡ Some k → slice_get s.keys i ≡ Some key → (key ≡ k) ⊎ (l < i)
     behind _ Top n is here l i first on = inl refl
@@ -126,9 +127,11 @@ module _ (t : Table Node) (ss : List Shelf) (kept : IsStored t ss) (s : Shelf) (
         sym (list_any-IsPermutation (same_key key) (turn_heads ws) hs (IsPermutation-map (λ (w : Turn). w.head) ws vs moved))
         ∙ ap (list_any (same_key key)) heads
 
+    -- the walk found all
     gathered : IsGathered t us s.id k hs ks
     gathered = record { walked = walked; are = inr all }
 
+    -- each node stands in the table under its key
     at : (m : Node) → In m nodes → node_at t m.key ≡ Some m
     at m on = at_key t ss kept s found k m on
 
@@ -136,17 +139,20 @@ module _ (t : Table Node) (ss : List Shelf) (kept : IsStored t ss) (s : Shelf) (
     in_nodes : (j : NodeKey) (m : Node) → node_at t j ≡ Some m → is_ready_head us s.id m ≡ true → In m nodes
     in_nodes j m is ready = in_shelf t ss kept s.id s found j m is (eqb-true m.collection s.id (and_left (m.collection == s.id) _ ready))
 
+    -- each node's key is one of the shelf's
     listed : (j : NodeKey) (m : Node) → node_at t j ≡ Some m → In m nodes → list_any (same_key j) s.keys ≡ true
     listed j m is on =
         subst (λ (i : NodeKey). list_any (same_key i) s.keys ≡ true) (kept.named j m is) (key_listed t kept.named s.keys m on)
 
     -- ---- none is left out
 
+    -- each filed key has a node of the collection
     own : (j : NodeKey) → In j s.keys → (m : Node) → node_at t j ≡ Some m → m.collection == s.id ≡ true
     own j on m is =
         ap (λ (o : Option Node). option_map_or (λ (n : Node). n.collection == s.id) o false) (sym is)
         ∙ all-In (is_filed t s.id) s.keys j on (found_filed t s.id ss s kept.filed found)
 
+    -- what may come to its turn was walked, so it was listed
     none_out : list_any (left_out_at t us hs) s.keys ≡ false
     none_out = false_if (list_any (left_out_at t us hs) s.keys) (λ e.
         let x = In-list_any (left_out_at t us hs) s.keys e in
@@ -168,6 +174,7 @@ module _ (t : Table Node) (ss : List Shelf) (kept : IsStored t ss) (s : Shelf) (
         (inside.hangs_inside t ss kept s found us counts k hs ks gathered m.0 on hangs) head)
         (not-true _ (and_right (hangs_below t us hs m.0) _ m.2)))
 
+    -- none was left out
     closed : AreClosed nodes hs
     closed n on coming hangs =
         let one = and_right n.attached _ coming in
@@ -191,6 +198,7 @@ module _ (t : Table Node) (ss : List Shelf) (kept : IsStored t ss) (s : Shelf) (
           ],
         )
 
+    -- the head that is left has the key
     first_there : (m : Node) × In m nodes × (m.key ≡ k) × (m.gone ≡ false)
     first_there =
         let x = In-list_any (λ (n : Node). is_of k n && (not n.gone && is_head n)) nodes left in (
@@ -200,27 +208,32 @@ module _ (t : Table Node) (ss : List Shelf) (kept : IsStored t ss) (s : Shelf) (
           not-true x.0.gone (and_left (not x.0.gone) _ (and_right (is_of k x.0) _ x.2)),
         )
 
+    -- its key is one of the shelf's
     first_listed : list_any (same_key k) s.keys ≡ true
     first_listed =
         subst (λ (j : NodeKey). list_any (same_key j) s.keys ≡ true) first_there.2
         (key_listed t kept.named s.keys first_there.0 first_there.1)
 
+    -- the place was looked up for a listed key
     stands : (w : Turn) → In w vs → IsPlace s.keys w.head w.place
     stands w on = placed w (moved_in ws vs moved w on) (elim (kind w on).1 [
       | inl e ↦ subst (λ (j : NodeKey). list_any (same_key j) s.keys ≡ true) (sym e) first_listed
       | inr r ↦ listed w.head r.0 r.1 (in_nodes w.head r.0 r.1 r.2)
     ])
 
+    -- the key stands at its place
     at_place : (w : Turn) → In w vs → slice_get s.keys w.place ≡ Some w.head
     at_place w on =
         let p = stands w on in
         slice_get_read s.keys (length s.keys) w.place w.head refl p.within (sym p.is)
 
+    -- the facts above
     pub are_turns : AreTurns t s.keys vs
     are_turns = record { placed = stands; in_turn = in_turn_from vs rising; closed = closed }
 
     -- ---- the first
 
+    -- the first head is listed
     its_turn : (w : Turn) × In w vs × (w.head ≡ k)
     its_turn =
         let x = In-list_any (same_key k) hs (inside.first_in t ss kept s found us counts k hs ks gathered) in
@@ -240,6 +253,7 @@ module _ (t : Table Node) (ss : List Shelf) (kept : IsStored t ss) (s : Shelf) (
           (at_place its_turn.0 its_turn.1 ∙ ap Some its_turn.2) (at_place w on)
     ]
 
+    -- no other one has a smaller place than the first head
     pub first_is : (place : ℕ) × (rest : List Turn) × (vs ≡ record { place = place; head = k } ∷ rest)
     first_is = from vs refl
       where
@@ -257,6 +271,7 @@ module _ (t : Table Node) (ss : List Shelf) (kept : IsStored t ss) (s : Shelf) (
 
 -- ---- in a collection under way
 
+-- the lemmas above, at the collection of the entry
 pub turns_listed : (t : Table Node) (us : List Unit) (ss : List Shelf) (e : Entry) (loose due : List NodeKey) →
     IsUnderWay t us ss e loose due → (k : NodeKey) → is_head_left (nodes_with t e.keys.items) k ≡ true →
     (ks : List NodeKey) → IsWalked t us e.id k ks → (ws vs : List Turn) →

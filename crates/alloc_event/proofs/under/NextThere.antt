@@ -37,6 +37,7 @@ use Rattle.alloc_event.proofs.under.Ready.{none_next}
 pub wait_among : (nodes : List Node) (due : List NodeKey) → waiting nodes ≡ None → waits_among due nodes ≡ true
 wait_among nodes due none = ap (λ (o : Option Node). option_map_or (λ (n : Node). list_any (same_key n.key) due) o true) none
 
+-- none waits, since none is due
 pub none_waits : (nodes : List Node) → waits_among [] nodes ≡ true → waiting nodes ≡ None
 none_waits nodes h = from (waiting nodes) h
   where
@@ -80,16 +81,20 @@ module _ (t : Table Node) (us : List Unit) (ss : List Shelf) (e : Entry) (loose 
   abbrev nodes : List Node
   nodes = nodes_with t e.keys.items
 
+  -- each node stands in the table under its key
   at : (m : Node) → In m nodes → node_at t m.key ≡ Some m
   at m on = at_key t ss u.store.kept s u.store.found k m on
 
+  -- the head stands in the table under its key
   pub head_is : node_at t k ≡ Some head
   head_is = ap (node_at t) (sym head_key) ∙ at head head_on
 
+  -- the counts of each collection's units are right
   counted : HasUnits us nodes
   counted = all_at (λ c. HasUnits us c.nodes) _ u.store.units (collection_in t s)
       (In-map-back (collection_in t) ss s (In-find (λ (x : Shelf). x.id == s.id) ss s u.store.found).0)
 
+  -- the slot of the head has the counts of its unit
   unit_is : unit_at us k.slot ≡ unit_of nodes k
   unit_is = subst (λ (j : NodeKey). unit_at us j.slot ≡ unit_of nodes j) head_key
       (in_all (HasUnit us nodes) nodes counted head head_on).1

@@ -50,5 +50,6 @@ module _ (t : Table Node) (forest : IsForest t)
     own_reached _ (Up child above r free up) = own_kin child above up ∙ own_reached child r
     own_reached _ (Down above child r up) = sym (own_kin child above up) ∙ own_reached above r
 
+    -- each key that is taken is reached over parents, which are of one collection
     pub own_taken : (keys : List NodeKey) → IsTaken t origin keys → all_of id (nodes_with t keys) ≡ true
     own_taken keys taken = own_all t id keys (λ key on. own_reached key ((taken.fall key).0 (Contains-from_any same_key-true key keys on)))

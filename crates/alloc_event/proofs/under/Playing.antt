@@ -36,6 +36,7 @@ use Rattle.alloc_event.proofs.under.NextThere.{wait_among}
 
 -- ---- a loss
 
+-- nothing is due after a loss
 pub played_lost : (handles : Handles) (t now : Table Node) (us : List Unit) (ss : List Shelf) (old new : Entry) (fault : Fault) →
     IsFelled handles t now us ss old new fault [] →
     IsPlayedFrom handles (after_loss fault (nodes_with t old.keys.items)) t now us ss old new
@@ -50,6 +51,7 @@ played_lost handles t now us ss old new fault felled = record {
 
 -- ---- a unit ends, or none
 
+-- an end writes the mark alone
 same_ended : (ns : List Node) (top : NodeKey) (n : Node) → IsSameNode (ended ns top n) n
 same_ended ns top n = record { key = refl; parent = refl; attached = refl; collection = refl; head = refl }
 
@@ -77,6 +79,7 @@ holds_was ns top key n h =
     (sym (λ i. (same_key n.head key && not n.released) || (n.attached && hangs_mapped (ended ns top) (same_ended ns top) ns key n i))
     ∙ and_right (not (ended ns top n).gone) _ h)
 
+-- what holds a unit after held it before
 held_was : (ns : List Node) (top key : NodeKey) → list_any (holds_unit (after_end top ns) key) (after_end top ns) ≡ true →
     list_any (holds_unit ns key) ns ≡ true
 held_was ns top key h =
@@ -168,6 +171,7 @@ module _ (c d : Collection) (whole : IsWhole c) (whole_then : IsWhole d) (head :
       held_other true held out h = cc
       held_other false held out h = h
 
+  -- the root does not wait after, by cases on whether a unit ended
   pub root_none : waits_among [] d.nodes ≡ true
   root_none = wait_among d.nodes [] (by ends)
     where
@@ -188,9 +192,11 @@ module _ (t mid : Table Node) (us : List Unit) (ss : List Shelf) (e e1 : Entry) 
     abbrev nodes : List Node
     nodes = after_effect key effect (nodes_with t e.keys.items)
 
+    -- the same nodes, by the same keys
     were : nodes_with mid e1.keys.items ≡ nodes
     were = ap (λ (s : Shelf). nodes_with mid s.keys) affected.shelf ∙ affected.nodes
 
+    -- the same keys
     ends_then : AreOrEnd (nodes_with mid e1.keys.items) (nodes_with then e2.keys.items)
     ends_then = subst (λ (s : Shelf). AreOrEnd (nodes_with mid e1.keys.items) (nodes_with then s.keys)) (sym led.shelf) ends
 

@@ -39,6 +39,7 @@ next_none nodes = λ i. list_any (λ (n : Node). and_true (is_next_node nodes n)
     and_true true = refl
     and_true false = refl
 
+-- none is due, so none waits
 waits_none : (o : Option Node) → option_map_or (λ (n : Node). list_any (same_key n.key) []) o true ≡ true → o ≡ None
 waits_none None h = refl
 waits_none (Some n) h = let no : false ≡ true = h in absurd (cc)
@@ -102,12 +103,15 @@ module _ (t : Table Node) (us : List Unit) (ss : List Shelf) (e : Entry) (kept :
   abbrev nodes : List Node
   nodes = nodes_with t e.keys.items
 
+  -- each collection is whole
   whole : IsWhole (collection_in t (shelf_of e))
   whole = found_whole t e.id ss (shelf_of e) kept.whole found
 
+  -- a counted collection is calm
   none : AreNone (nodes_with t e.keys.items) e.buffers
   none = none_calm (collection_in t (shelf_of e)) counted.calm
 
+  -- without buffers no unit is next; with them none is, as the collection is calm
   no_next : (o : Option Buffers) → (o ≡ None → list_any is_served nodes ≡ false) → later nodes o ≡ None →
       list_any (is_next_node nodes) nodes ≡ false
   no_next None bare h = none_next nodes (bare refl)

@@ -60,18 +60,22 @@ module _ (t now : Table Node) (us new : List Unit) (ss : List Shelf) (e after : 
   abbrev fault : Fault
   fault = record { cause = Cause.Failed why; origin = k }
 
+  -- each collection is whole
   formed : IsWhole c0
   formed = whole t us ss e k place ws u turns
 
   abbrev head_node : Node
   head_node = head t us ss e k place ws u turns
 
+  -- the head is one of the nodes
   on : In head_node nodes
   on = head_on t us ss e k place ws u turns
 
+  -- the head has the key of its turn
   key : head_node.key ≡ k
   key = head_key t us ss e k place ws u turns
 
+  -- a fault, or a fault and an end, make nodes gone
   gone : HaveGone fault nodes (nodes_with now e.keys.items)
   gone = have_gone fault nodes (nodes_with now e.keys.items) felled.nodes
 
@@ -93,16 +97,20 @@ module _ (t now : Table Node) (us new : List Unit) (ss : List Shelf) (e after : 
       ∙ (λ i. is_below nodes (high i) (key i))
       ∙ or_left (same_key k k) _ (same_key-refl k)
 
+  -- the fault takes the node where it began
   head_gone : (gone.f head_node).gone ≡ true
   head_gone = gone.taken head_node head_taken
 
+  -- each collection is whole
   whole_now : IsWhole (collection_in now s)
   whole_now = subst (λ (x : Shelf). IsWhole (collection_in now x)) felled.shelf
       (found_whole now after.id ss (shelf_of after) felled.under.store.kept.whole felled.under.store.found)
 
+  -- the nodes of a unit go together in a whole collection
   together_now : GoTogether (map gone.f nodes)
   together_now = subst GoTogether gone.is whole_now.together
 
+  -- no root waited before, and going makes none wait
   waits_now : waiting (nodes_with now e.keys.items) ≡ None
   waits_now = ap waiting gone.is
       ∙ waits_on c0 formed.sound gone.f gone.only together_now no_wait
@@ -129,6 +137,7 @@ module _ (t now : Table Node) (us new : List Unit) (ss : List Shelf) (e after : 
       next_felled = subst (λ (x : Shelf).
           list_any (is_next_but (k ∷ turn_heads ws) (nodes_with now x.keys)) (nodes_with now x.keys) ≡ false) felled.shelf felled.under.next
 
+  -- the refused unit is not next any more
   under_now : IsUnderWay now new ss after [] (turn_heads ws)
   under_now = with_due now new ss after [] (k ∷ turn_heads ws) (turn_heads ws) felled.under
       (subst (λ (x : Shelf). list_any (is_next_but (turn_heads ws) (nodes_with now x.keys)) (nodes_with now x.keys) ≡ false)
@@ -136,6 +145,7 @@ module _ (t now : Table Node) (us new : List Unit) (ss : List Shelf) (e after : 
       (subst (λ (x : Shelf). waits_among (turn_heads ws) (nodes_with now x.keys) ≡ true) (sym felled.shelf)
       (wait_among (nodes_with now e.keys.items) (turn_heads ws) waits_now))
 
+  -- one forced step was made: the loss of this unit's head
   pub refused_led : (b : Buffers) → e.buffers ≡ Some b → is_abandoned_in handles t e ≡ false → late_failure k nodes b ≡ Some why →
       IsLed handles t now new ss e after [] (turn_heads ws)
       × (AreTurns now e.keys.items ws × (waits_among [] (nodes_with now e.keys.items) ≡ true))

@@ -47,6 +47,7 @@ greatest_same g xs ys fewer more =
     (greatest_fewer g (greatest g xs) ys xs more (le-ltb (greatest g xs) (greatest g xs) (omega arith))) in
     omega arith
 
+-- by cases
 or_false : (a : Bool) → (a || false) ≡ a
 or_false true = refl
 or_false false = refl
@@ -69,12 +70,15 @@ module _ (t : Table Node) (us : List Unit) (key : NodeKey) (effect : Effect) (n 
   abbrev test : Node → Bool
   test = is_in_unit n.head
 
+  -- an effect keeps the node's place
   same : (m : Node) → IsSameNode (f m) m
   same = same_affected key effect
 
+  -- the node and its head stand in the collection
   place : StandsIn t us s key effect n
   place = stands_in t us key effect n was ss s strong opens
 
+  -- the head has no buffers yet
   top : IsBareHead (nodes_with t s.keys) n.head
   top = record {
     head = place.head;
@@ -87,12 +91,15 @@ module _ (t : Table Node) (us : List Unit) (key : NodeKey) (effect : Effect) (n 
 
   -- ---- the nodes that are listed
 
+  -- each node stands in the table under its key
   at_key : (m : Node) → In m (nodes_with t ks) → node_at t m.key ≡ Some m
   at_key = in_all (λ (x : Node). node_at t x.key ≡ Some x) (nodes_with t ks) (looked_there t opens.kept.named ks)
 
+  -- what the walk lists is of the collection
   within : (m : Node) → In m (nodes_with t ks) → In m nodes
   within m on = key_within t ss opens.kept s opens.found kin n.head top ks listed m (at_key m on) (key_listed t opens.kept.named ks m on)
 
+  -- an effect changes neither the mark nor the head
   test_same : (m : Node) → is_in_unit n.head (f m) ≡ is_in_unit n.head m
   test_same m = λ i. not ((remains_affected key effect m).gone i) && same_key ((same m).head i) n.head
 
@@ -102,6 +109,7 @@ module _ (t : Table Node) (us : List Unit) (key : NodeKey) (effect : Effect) (n 
 
   -- ---- what they ask for
 
+  -- each listed node asks as it does with the effect
   asked_ks : asked_with t ks (n.head ∷ []) (affected key effect n) ≡ demands_of test (map (affected key effect) (nodes_with t ks))
   asked_ks =
       asked_is t ks (n.head ∷ []) (f n)
@@ -119,6 +127,7 @@ module _ (t : Table Node) (us : List Unit) (key : NodeKey) (effect : Effect) (n 
   abbrev all : List Demand
   all = demands_of test (map (affected key effect) (nodes_with t s.keys))
 
+  -- only nodes of the unit are added, and these are all listed
   sum_few : sum_by (λ (d : Demand). d.camping) few ≡ sum_by (λ (d : Demand). d.camping) all
   sum_few =
       camped_sum test (map f (nodes_with t ks))
@@ -128,6 +137,7 @@ module _ (t : Table Node) (us : List Unit) (key : NodeKey) (effect : Effect) (n 
       (test_same m ∙ false_if (test m) (λ own. both_ways (list_any (same_key m.key) ks) (inside m on own) out)))
       ∙ (sym (amount_map (camped_if test) f nodes) ∙ sym (camped_sum test (map f nodes)))))
 
+  -- a listed node is one of the collection
   to_all : (d : Demand) → In d few → In d all
   to_all d on =
       let x = asked_of test (map f (nodes_with t ks)) d on in
@@ -135,6 +145,7 @@ module _ (t : Table Node) (us : List Unit) (key : NodeKey) (effect : Effect) (n 
       asked_back test (map f nodes) x.0 d
       (subst (λ (m : Node). In m (map f nodes)) (sym y.2) (In-map-back f nodes y.0 (within y.0 y.1))) x.2
 
+  -- a node of the unit is listed
   to_few : (d : Demand) → In d all → In d few
   to_few d on =
       let x = asked_of test (map f nodes) d on in
@@ -145,6 +156,7 @@ module _ (t : Table Node) (us : List Unit) (key : NodeKey) (effect : Effect) (n 
       asked_back test (map f (nodes_with t ks)) x.0 d
       (subst (λ (m : Node). In m (map f (nodes_with t ks))) (sym y.2) (In-map-back f (nodes_with t ks) y.0 there)) x.2
 
+  -- each list has what the other has
   greatest_few : (g : Demand → ℕ) → greatest g few ≡ greatest g all
   greatest_few g = greatest_same g few all to_all to_few
 
@@ -160,11 +172,13 @@ module _ (t : Table Node) (us : List Unit) (key : NodeKey) (effect : Effect) (n 
 
   -- ---- what is reserved
 
+  -- the nodes of the unit go together with its head
   bare : (m : Node) → In m nodes → list_any (same_key m.head) (n.head ∷ []) ≡ true → m.allocated ≡ false
   bare m on h =
       let own : m.head ≡ n.head = same_key-true m.head n.head (sym (or_false (same_key m.head n.head)) ∙ h) in
       place.whole.together.alike m top.head on top.on (own ∙ sym top.key) (top.own ∙ sym top.key) top.here ∙ top.waits
 
+  -- no effect allocates a unit
   bare_now : (m : Node) → In m now → list_any (same_key m.head) (n.head ∷ []) ≡ true → m.allocated ≡ false
   bare_now m on h =
       let y = In-map f nodes m on in

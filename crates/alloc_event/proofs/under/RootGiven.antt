@@ -131,15 +131,19 @@ module _ (t now : Table Node) (us : List Unit) (ss : List Shelf) (e : Entry) (k 
   abbrev r : Node
   r = coming.root
 
+  -- the node keeps its place
   same_g : (m : Node) → IsSameNode (g m) m
   same_g m = same_given hs ks m
 
+  -- each collection is whole
   formed : IsWhole (collection_in t (shelf_of e))
   formed = whole_under t us ss e [] (k ∷ []) u
 
+  -- the root that waits is left, and has no buffers
   root : IsReadyRoot (nodes_with t e.keys.items) coming.root
   root = ready_root nodes r coming.waits
 
+  -- the root heads its own unit
   own_head : coming.root.head ≡ k
   own_head =
       let mine : heads_itself r ≡ true = all-In heads_itself nodes r root.on formed.sound.heads in
@@ -151,16 +155,20 @@ module _ (t now : Table Node) (us : List Unit) (ss : List Shelf) (e : Entry) (k 
 
   -- ---- the table
 
+  -- the head has no buffers yet
   top : IsBareHead (nodes_with t e.keys.items) k
   top = record { head = r; on = root.on; key = coming.own; own = own_head; here = root.here; waits = root.bare }
 
+  -- the nodes of the unit go together with the root
   unit_bare : (m : Node) → In m nodes → m.head ≡ k → m.gone ≡ false
   unit_bare m on own = formed.together.spared m r on root.on (own ∙ sym coming.own) (own_head ∙ sym coming.own) root.here root.bare
 
+  -- by cases
   one_is : (b : Bool) → (b || false) ≡ true → b ≡ true
   one_is true h = refl
   one_is false h = cc
 
+  -- each node of the unit was listed, so it is given
   each_given : (m : Node) → In m nodes → g m ≡ f m
   each_given m on = elim (either_way (list_any (same_key m.key) ks)) [
     | inl h ↦ given_in hs ks m h
@@ -170,6 +178,7 @@ module _ (t now : Table Node) (us : List Unit) (ss : List Shelf) (e : Entry) (k 
         (of_unit t ss u.store.kept s u.store.found u.store.kept.kin k top ks listed m on (unit_bare m on own) own) out))
   ]
 
+  -- the keys are looked up one by one
   nodes_then : nodes_with now e.keys.items ≡ served k (nodes_with t e.keys.items)
   nodes_then = looked-map g (node_at t) (node_at now) given.look keys ∙ map-In g f nodes each_given
 
@@ -182,9 +191,11 @@ module _ (t now : Table Node) (us : List Unit) (ss : List Shelf) (e : Entry) (k 
   }
   made_then = λ i. record { id = e.id; nodes = (nodes_then ∙ given_is k nodes) i; buffers = Some buffers; held = held }
 
+  -- the keys of each shelf are filed
   filed_of : (x : Shelf) → In x ss → list_all (is_filed t x.id) x.keys ≡ true
   filed_of x there = all-In (λ (y : Shelf). list_all (is_filed t y.id) y.keys) ss x there u.store.kept.filed
 
+  -- the nodes of other collections are of other units
   others_stay : (x : Shelf) → x.id ≢ e.id → list_all (is_filed t x.id) x.keys ≡ true → collection_in now x ≡ collection_in t x
   others_stay x differ filed = λ i. record (collection_in t x) { nodes = stay i }
     where
@@ -205,6 +216,7 @@ module _ (t now : Table Node) (us : List Unit) (ss : List Shelf) (e : Entry) (k 
 
   -- ---- the shelves
 
+  -- only the buffers change, of which being whole says that they are few
   whole' : IsWhole (collection_in t s')
   whole' = record {
     sound = record {
@@ -218,15 +230,18 @@ module _ (t now : Table Node) (us : List Unit) (ss : List Shelf) (e : Entry) (k 
     together = formed.together;
   }
 
+  -- the shelf is put in its place, with the same keys
   kept' : IsStored t ss'
   kept' =
       let put_same : put_shelf (shelf_of e) ss ≡ ss = found_put s ss u.store.kept.rising u.store.found in
       kept-put t t e.id [] (nothing_stored t) u.store.kept.named refl refl s' s ss refl refl u.store.kept.rising (rw put_same u.store.kept) tt tt
       (all_there s s' refl (λ (x : Shelf). IsWhole (collection_in t x)) ss u.store.kept.rising u.store.found whole' u.store.kept.whole)
 
+  -- the shelf is found where it was put
   found' : find (λ (x : Shelf). x.id == e.id) ss' ≡ Some s'
   found' = found_there s s' refl ss u.store.kept.rising u.store.found
 
+  -- this collection is whole, and the others stay
   whole_then : AllByRecursion (λ (x : Shelf). IsWhole (collection_in now x)) ss'
   whole_then = all_in (λ (x : Shelf). IsWhole (collection_in now x)) ss' (λ x there. elim (either_way (x.id == e.id)) [
     | inl h ↦
@@ -241,13 +256,16 @@ module _ (t now : Table Node) (us : List Unit) (ss : List Shelf) (e : Entry) (k 
         (all_at (λ (y : Shelf). IsWhole (collection_in t y)) ss' kept'.whole x there)
   ])
 
+  -- allocation keeps each node's place
   kept_then : IsStored now ss'
   kept_then = kept-with g same_g (λ m h. sym (kept_given (λ (x : Node). x.gone) hs (λ x. refl) ks m) ∙ h) t now
       given.same.first given.same.nexts given.same.len given.look given.parents ss' whole_then kept'
 
+  -- the shelf has the same keys
   units' : AreUnits us (map (collection_in t) ss')
   units' = units_there s s' refl us t ss u.store.kept.rising u.store.found (units_found t us e.id ss s u.store.units u.store.found) u.store.units
 
+  -- allocation changes none of the counts of units
   units_then : AreUnits us (map (collection_in now) ss')
   units_then = subst (AreUnits us) (sym (collections-map g same_g t now given.look ss'))
       (units_with us g same_g (λ m. kept_given (λ x. x.gone) hs (λ x. refl) ks m)
@@ -256,13 +274,16 @@ module _ (t now : Table Node) (us : List Unit) (ss : List Shelf) (e : Entry) (k 
 
   -- ---- the root
 
+  -- the root is of its own unit
   own_unit : list_any (same_key r.head) hs ≡ true
   own_unit = or_left (same_key r.head k) false (ap (λ (j : NodeKey). same_key j k) own_head ∙ same_key-refl k)
 
+  -- the root has its buffers, so it waits no more
   waits_then : waiting (served k (nodes_with t e.keys.items)) ≡ None
   waits_then = waits_none c0 formed.sound hs r root.on (and_both (is_none r.parent) (not r.gone) (ap is_none root.top) (ap not root.here))
       own_unit
 
+  -- the same, in the table
   pub waits_no_more : waits_among [] (nodes_with now e.keys.items) ≡ true
   waits_no_more = wait_among (nodes_with now e.keys.items) [] (subst (λ (ns : List Node). waiting ns ≡ None) (sym nodes_then) waits_then)
 
@@ -280,6 +301,7 @@ module _ (t now : Table Node) (us : List Unit) (ss : List Shelf) (e : Entry) (k 
   -- ---- the turns
 
   module _ (ws : List Turn) (place : ℕ) (turns : AreTurns t e.keys.items (record { place = place; head = k } ∷ ws)) where
+    -- with the units that follow among those that are due
     u_due : IsUnderWay t us ss e [] (k ∷ turn_heads ws)
     u_due = under_due t us ss e [] (k ∷ []) (k ∷ turn_heads ws)
         (λ j h. or_left (same_key j k) (list_any (same_key j) (turn_heads ws)) (or_false (same_key j k) h)) u
@@ -301,6 +323,7 @@ module _ (t now : Table Node) (us : List Unit) (ss : List Shelf) (e : Entry) (k 
         (and_both (not n.allocated) _ (ap not (or_none_right (list_any (same_key n.head) hs) n.allocated waits))
         (sym (ready_same n.key hs nodes) ∙ all)))
 
+    -- a unit that is coming after was coming before, so it was listed
     closed_then : AreClosed (served k nodes) (turn_heads ws)
     closed_then m there is hangs =
         let x = In-map f nodes m there in
@@ -309,6 +332,7 @@ module _ (t now : Table Node) (us : List Unit) (ss : List Shelf) (e : Entry) (k 
         (coming_was x.0 (ap (is_coming (served k nodes)) (sym x.2) ∙ is))
         (sym (hangs_some_same k nodes (turn_heads ws) x.0) ∙ (ap (hangs_in_some (served k nodes) (turn_heads ws)) (sym x.2) ∙ hangs))
 
+    -- the units behind the first one
     pub turns_then : AreTurns now e.keys.items ws
     turns_then =
         let behind = turns_behind t us ss e k place ws u_due turns in
@@ -385,6 +409,7 @@ module _ (t now : Table Node) (us : List Unit) (ss : List Shelf) (e : Entry) (k 
                   (In-any (is_allocated_node p) nodes m y.1 (and_both (not m.gone) _ here (and_both m.allocated _ h key)))
             ]
 
+    -- what is next after hangs on the root's unit, and was listed
     next_then : list_any (is_next_but (turn_heads ws) (served k nodes)) (served k nodes) ≡ false
     next_then = false_if (list_any (is_next_but (turn_heads ws) (served k nodes)) (served k nodes)) (λ h.
         let x = In-list_any (is_next_but (turn_heads ws) (served k nodes)) (served k nodes) h in
@@ -400,9 +425,11 @@ module _ (t now : Table Node) (us : List Unit) (ss : List Shelf) (e : Entry) (k 
     module _ (new : Entry) (shelf : shelf_of new ≡ s') (strong : new.strong ≡ e.strong) (tidy : new.tidy ≡ e.tidy)
         (noted : new.noted.items ≡ e.noted.items)
         (reserved : new.reserved ≡ reserved_count (after_allocation k (nodes_with t e.keys.items))) where
+      -- the same nodes, by the same keys
       keys_new : nodes_with now new.keys.items ≡ served k nodes
       keys_new = ap (λ (x : Shelf). nodes_with now x.keys) shelf ∙ nodes_then
 
+      -- the store agrees with the new shelf, and the units behind are those that are due
       pub under_then : IsUnderWay now us (put_shelf s' ss) new [] (turn_heads ws)
       under_then = record {
         store = record {
@@ -428,6 +455,7 @@ module _ (t now : Table Node) (us : List Unit) (ss : List Shelf) (e : Entry) (k 
 
       -- ---- and what follows was made
 
+      -- the allocation is the step, and what follows was played out
       pub rooted_given : (handles : Handles) (end : Table Node) (after : List Unit) (last : Entry) →
           IsPlayedOut handles now end after (put_shelf s' ss) new last → (v : Verdict) →
           ((c : Collection) → first_made k v c ≡ record {

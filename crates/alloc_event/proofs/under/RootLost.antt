@@ -42,6 +42,7 @@ pub record IsReadyRoot (nodes : List Node) (root : Node) : Type 0 where
   pub bare : root.allocated ≡ false
   pub ready : list_all (is_ready_node root.key) nodes ≡ true
 
+-- the root that waits is found, and passes each test
 pub ready_root : (nodes : List Node) (root : Node) → waiting nodes ≡ Some root → IsReadyRoot nodes root
 ready_root nodes root waits = from (find is_root_left nodes) refl waits
   where
@@ -76,9 +77,11 @@ ready_root nodes root waits = from (find is_root_left nodes) refl waits
 
 -- no unit of them is loose or due
 module _ (nodes : List Node) (gone : AreGone nodes) where
+  -- a gone head counts as held
   pub gone_held : are_held_but [] nodes ≡ true
   gone_held = all_on (λ (n : Node). list_any (same_key n.key) [] || is_held nodes n) nodes (λ n on. rw (gone n on) refl)
 
+  -- a gone head is not next
   pub gone_next : (due : List NodeKey) → list_any (is_next_but due nodes) nodes ≡ false
   gone_next due = none_passes (is_next_but due nodes) (λ n e. rw e (by n.attached (not (list_any (same_key n.key) due)))) nodes gone
     where
@@ -86,6 +89,7 @@ module _ (nodes : List Node) (gone : AreGone nodes) where
       by true b = refl
       by false b = refl
 
+  -- a gone root does not wait
   pub gone_waits : (due : List NodeKey) → waits_among due nodes ≡ true
   gone_waits due = from (waiting nodes) refl
     where
@@ -96,6 +100,7 @@ module _ (nodes : List Node) (gone : AreGone nodes) where
           let no : true ≡ false = sym (gone r root.on) ∙ root.here in
           absurd (cc)
 
+-- in a collection that is gone nothing is loose and nothing is due
 pub all_gone_under : (t : Table Node) (us : List Unit) (ss : List Shelf) (e : Entry) (loose due : List NodeKey) →
     AreGone (nodes_with t e.keys.items) → IsUnderWay t us ss e loose due → IsUnderWay t us ss e [] []
 all_gone_under t us ss e loose due gone under = record {
@@ -116,6 +121,7 @@ module _ (t : Table Node) (us : List Unit) (ss : List Shelf) (e : Entry) (head :
   abbrev fault : Fault
   fault = record { cause = Cause.Failed why; origin = head }
 
+  -- the root that waits is left
   root : IsReadyRoot (nodes_with t e.keys.items) coming.root
   root = ready_root nodes coming.root coming.waits
 
@@ -128,18 +134,22 @@ module _ (t : Table Node) (us : List Unit) (ss : List Shelf) (e : Entry) (head :
 
   module _ (handles : Handles) (now : Table Node) (after : List Unit) (new : Entry) (above : Option NodeKey)
       (went : IsWent t now after ss e new head (Some (record { cause = Cause.Failed why; origin = head })) above [] (head ∷ [])) where
+    -- the root's loss takes all that is left
     gone : AreGone (nodes_with now e.keys.items)
     gone =
         subst AreGone (sym went.nodes)
         (all_lost (collection_in t (shelf_of e)) (whole_under t us ss e [] (head ∷ []) under) coming.root root.on root.here root.top fault
         (sym coming.own))
 
+    -- the new entry has the same keys
     gone_new : AreGone (nodes_with now new.keys.items)
     gone_new = subst (λ (s : Shelf). AreGone (nodes_with now s.keys)) (sym went.shelf) gone
 
+    -- the shelf stands in its place
     same_shelves : put_shelf (shelf_of new) ss ≡ ss
     same_shelves = found_put (shelf_of new) ss went.under.store.kept.rising went.under.store.found
 
+    -- only the nodes change
     lost_is : with_nodes (after_loss (record { cause = Cause.Failed why; origin = head })) (collection_in t (shelf_of e))
         ≡ collection_in now (shelf_of new)
     lost_is =

@@ -53,12 +53,14 @@ module _ (t : Table Node) (us : List Unit) (ss : List Shelf) (e : Entry) (head :
   abbrev ns : List Node
   ns = nodes_with t e.keys.items
 
+  -- by cases
   top : (a b c : Bool) → (a || (b || (not c || true))) ≡ true
   top true b c = refl
   top false true c = refl
   top false false true = refl
   top false false false = refl
 
+  -- the unit that was loose is held, and the others were
   by : (n : Node) → (same_key n.key head ≡ true) ⊎ (same_key n.key head ≡ false) →
       (list_any (same_key n.key) (head ∷ loose) || is_held ns n) ≡ true →
       (list_any (same_key n.key) loose || is_held ns n) ≡ true
@@ -68,6 +70,7 @@ module _ (t : Table Node) (us : List Unit) (ss : List Shelf) (e : Entry) (head :
       rw own (top (list_any (same_key n.key) loose) n.gone (is_none n.parent || n.attached))
   by n (inr e) held = rw e at held
 
+  -- one unit less is loose
   pub under_held : IsUnderWay t us ss e loose due
   under_held = record {
     store = under.store;
@@ -89,9 +92,11 @@ module _ (t : Table Node) (us : List Unit) (key : NodeKey) (effect : Effect) (n 
   abbrev nodes : List Node
   nodes = nodes_with t s.keys
 
+  -- the node and its head stand in the collection
   place : StandsIn t us s key effect n
   place = stands_in t us key effect n was ss s strong opens
 
+  -- the effect concerns the one node with its key
   written_is : map (written (affected key effect n)) (nodes_with t s.keys) ≡ map (affected key effect) (nodes_with t s.keys)
   written_is = map-In (written (f n)) f nodes (λ m there.
       let swap : same_key (f n).key m.key ≡ same_key n.key m.key =
@@ -147,6 +152,7 @@ module _ (c : Collection) (sound : IsSound c) (head : NodeKey) (coming : IsComin
   abbrev pages : ℕ
   pages = pages_of (wanted_by head c.nodes).size
 
+  -- nothing is placed, and the root's loss is the step
   lost_so : (why : Failure) → wants ≡ Err why →
       (made before.size others (mark_of before.size (pages_in c ++ others) (Loses head (Cause.Failed why))) c ≡ first_made head verdict c)
       × (after.held ≡ by_page (pages_in (first_made head verdict c) ++ others))
@@ -158,11 +164,13 @@ module _ (c : Collection) (sound : IsSound c) (head : NodeKey) (coming : IsComin
             ∙ sym (ap (λ (v : Verdict). by_page (pages_in (first_made head v c) ++ others)) told.0)),
       )
 
+  -- the pool holds the same intervals in another order
   found_none : places before.size pages want.count before.held ≡ None → places before.size pages want.count (pages_in c ++ others) ≡ None
   found_none none =
       sym (places_sorted before.size pages want.count (pages_in c ++ others))
       ∙ (ap (places before.size pages want.count) (sym beside_is) ∙ none)
 
+  -- the buffers are placed, or the pool is full, which is the step
   given_so : wants ≡ Ok want → first_step c.nodes head ≡ Places head want → (v : Verdict) → verdict ≡ v →
       IsVerdict before after c.id c.held (Ok want) v →
       (made before.size others (mark_of before.size (pages_in c ++ others) (Places head want)) c ≡ first_made head v c)

@@ -112,30 +112,39 @@ module _ (handles : Handles) (t : Table Node) (es : List Entry) (id at : ℕ) (o
   abbrev c1 : Collection
   c1 = with_nodes (map (affected key effect)) (collection_in t (shelf_of old))
 
+  -- the place is that of the first entry with the id
   place : IsPlace id es at
   place = place_is id es at told
 
+  -- the entry at the place has the id that was looked for
   pub own_id : old.id ≡ id
   own_id = ap (λ (e : Entry). e.id) is ∙ place.id_is old
 
+  -- the change may be made, and the entry is counted
   opens : IsOpen t us (shelves_of es) (shelf_of old) (Change.Effect key effect) old.strong
   opens = opens_at t es id at old place is ready.kept ready.counted us ready.units (Change.Effect key effect) ready.change
 
+  -- the node and its head stand in the collection
   stands : StandsIn t us (shelf_of old) key effect planned.node
   stands = stands_in t us key effect n planned.was ss (shelf_of old) old.strong opens
 
+  -- the same nodes, by the same keys
   nodes_mid : nodes_with now mid.keys.items ≡ map (affected key effect) (nodes_with t old.keys.items)
   nodes_mid = ap (λ (s : Shelf). nodes_with now s.keys) affects.shelf ∙ affects.nodes
 
+  -- only the nodes change
   is_mid : collection_in now (shelf_of mid) ≡ with_nodes (map (affected key effect)) (collection_in t (shelf_of old))
   is_mid = ap (collection_in now) affects.shelf ∙ (λ i. record (collection_in t (shelf_of old)) { nodes = affects.nodes i })
 
+  -- the plan comes only where something holds the unit
   held1 : list_any (holds_unit nodes1 n.head) nodes1 ≡ true
   held1 = comes_held t us key effect n planned.was ss (shelf_of old) old.strong opens comes
 
+  -- the plan comes only where the head has no buffers
   bare1 : (h : Node) → In h (nodes_with t old.keys.items) → h.key ≡ planned.node.head → h.allocated ≡ false
   bare1 = comes_bare t us key effect n planned.was ss (shelf_of old) old.strong opens comes
 
+  -- the plan comes only where the unit waits for no node
   coming1 : IsComing (map (affected key effect) (nodes_with t old.keys.items)) planned.node.head
   coming1 = comes_coming t us key effect n planned.was ss (shelf_of old) old.strong opens comes
 
@@ -144,13 +153,16 @@ module _ (handles : Handles) (t : Table Node) (es : List Entry) (id at : ℕ) (o
   under1 = under_held now after ss mid n.head [] (n.head ∷ [])
       (subst (λ (ns : List Node). list_any (holds_unit ns n.head) ns ≡ true) (sym nodes_mid) held1) affects.under
 
+  -- the plan is of the node's unit
   pub under_mid : IsUnderWay now after (shelves_of es) mid [] (plan.head ∷ [])
   under_mid = subst (λ (k : NodeKey). IsUnderWay now after (shelves_of es) mid [] (k ∷ [])) (sym planned.head_is) under1
 
+  -- the plan is of the node's unit, in the new table
   pub coming_mid : IsComing (nodes_with now mid.keys.items) plan.head
   coming_mid = subst (λ (k : NodeKey). IsComing (nodes_with now mid.keys.items) k) (sym planned.head_is)
       (subst (λ (ns : List Node). IsComing ns n.head) (sym nodes_mid) coming1)
 
+  -- none was reserved before, or all was counted
   reserved1 : plan.reserved ≡ reserved_count (after_allocation planned.node.head nodes1)
   reserved1 = from planned.reserved_is
     where
@@ -163,12 +175,15 @@ module _ (handles : Handles) (t : Table Node) (es : List Entry) (id at : ℕ) (o
           (sym under.store.reserved ∙ alone.0)
       from (inr all) = all ∙ reserved_then t us key effect n planned.was ss (shelf_of old) old.strong opens
 
+  -- the same, in the new table
   pub reserved_mid : plan.reserved ≡ reserved_count (after_allocation plan.head (nodes_with now mid.keys.items))
   reserved_mid = reserved1 ∙ (λ i. reserved_count (after_allocation (sym planned.head_is i) (sym nodes_mid i)))
 
+  -- no unit is loose then
   no_end1 : find (is_deserted_node nodes1) nodes1 ≡ None
   no_end1 = subst (λ (ns : List Node). find (is_deserted_node ns) ns ≡ None) nodes_mid (no_end_under now after ss mid (n.head ∷ []) under1)
 
+  -- the plan counts the strong nodes and the demands with the effect
   wants_are : plan.wants ≡ wants_of (has_strong nodes1) (wanted_by n.head nodes1)
   wants_are =
       planned.wants_is
@@ -189,14 +204,17 @@ module _ (handles : Handles) (t : Table Node) (es : List Entry) (id at : ℕ) (o
       abbrev mark : Mark
       mark = mark_of before.size (pages_in c1 ++ others) (first_step nodes1 n.head)
 
+      -- the pool holds the buffers of all collections
       beside_is : before.held ≡ by_page (pages_in c1 ++ others)
       beside_is = pool_at handles t es id at old told is ready.kept ready.counted before.held parted of
 
+      -- the verdict is what the step makes
       step : (made before.size others mark c1 ≡ first_made n.head verdict c1)
           × (between.held ≡ by_page (pages_in (first_made n.head verdict c1) ++ others))
       step = step_made c1 stands.sound n.head coming1 no_end1 before between others beside_is plan.wants wants_are verdict
           (subst (λ (i : ℕ). IsVerdict before between i old.held.items plan.wants verdict) (sym own_id) found)
 
+      -- what is decided is what is forced
       forces : forced before.size (standing handles others c1) ≡ Some mark
       forces =
           forced_made handles before.size others c1
@@ -213,18 +231,23 @@ module _ (handles : Handles) (t : Table Node) (es : List Entry) (id at : ℕ) (o
 
       -- ---- the shelves
 
+      -- the effect keeps the shelf, and the allocation changes its buffers
       shelf_new : shelf_of new ≡ shelf_then verdict (shelf_of old)
       shelf_new = rooted.shelf ∙ ap (shelf_then verdict) affects.shelf
 
+      -- no verdict changes the id
       id_new : new.id ≡ old.id
       id_new = ap (λ (s : Shelf). s.id) shelf_new ∙ then_id verdict (shelf_of old)
 
+      -- the entry is set at the place of its id
       put_at : set es at new ≡ put_in new es
       put_at = set_put new es at ready.kept.rising (subst (λ (i : ℕ). place_in i es ≡ Some at) (sym (id_new ∙ own_id)) told)
 
+      -- so its shelf is put among the others
       shelves_are : shelves_of (set es at new) ≡ put_shelf (shelf_of new) (shelves_of es)
       shelves_are = ap shelves_of put_at ∙ shelves_put new es
 
+      -- one after the other
       by : IsBeside t then (shelves_of es) old.id
       by = record {
         same = record {
@@ -237,28 +260,35 @@ module _ (handles : Handles) (t : Table Node) (es : List Entry) (id at : ℕ) (o
             rooted.beside.others x on (λ same. differ (same ∙ ap (λ (s : Shelf). s.id) affects.shelf)) ∙ affects.beside.others x on differ;
       }
 
+      -- the others stay
       put_is : map (collection_in then) (put_shelf (shelf_of new) (shelves_of es))
           ≡ put (collection_in then (shelf_of new)) (map (collection_in t) (shelves_of es))
       put_is = put_there (shelf_of old) (shelf_of new) id_new t then ss ready.kept.rising opens.found by.others
 
+      -- so its collection is put among the others
       collections_are : map (collection_in then) (shelves_of (set es at new))
           ≡ put (collection_in then (shelf_of new)) (map (collection_in t) (shelves_of es))
       collections_are = ap (map (collection_in then)) shelves_are ∙ put_is
 
+      -- it stands where it was set
       is_new : get_or (set es at new) at new ≡ new
       is_new = get_or-set_same es at new new place.within
 
+      -- it has the id, so it is found at the same place
       pub told_new : place_in id (set es at new) ≡ Some at
       told_new = place_set id at es new (id_new ∙ own_id) told
 
+      -- the same with its own id
       told_own : place_in new.id (set es at new) ≡ Some at
       told_own = subst (λ (i : ℕ). place_in i (set es at new) ≡ Some at) (sym (id_new ∙ own_id)) told_new
 
+      -- the list of shelves is the one with the new shelf
       under_then : IsUnderWay then units (shelves_of (set es at new)) new [] rooted.due
       under_then = subst (λ (xs : List Shelf). IsUnderWay then units xs new [] rooted.due) (sym shelves_are) rooted.under
 
       -- ---- what comes last may be made
 
+      -- what is due is what is abandoned, or nothing
       pub may_close : MayClose handles then units (set es at new) at
       may_close = record {
         entry = new;
@@ -272,6 +302,7 @@ module _ (handles : Handles) (t : Table Node) (es : List Entry) (id at : ℕ) (o
             (but_beside t then old.id es by (counted_but t old.id es ready.counted)));
       }
 
+      -- the pool holds what the step left it
       held_new : between.held ≡ by_page (pages_in (collection_in then (shelf_of new)) ++ beside (forest_of t (shelves_of es)) new.id)
       held_new =
           step.1
@@ -279,6 +310,7 @@ module _ (handles : Handles) (t : Table Node) (es : List Entry) (id at : ℕ) (o
           (then_held n.head verdict (shelf_of old) c1 refl ∙ ap (λ (s : Shelf). s.held) (sym shelf_new))
           ∙ ap (λ (i : ℕ). by_page (pages_held new.held.items ++ beside (forest_of t (shelves_of es)) i)) (sym id_new))
 
+      -- so it holds the buffers of all collections
       pub pool_then : are_parted between.held ≡ true → IsPoolOf between (forest_of then (shelves_of (set es at new)))
       pool_then parted' =
           pool_back between.held t then (collection_in then (shelf_of new)) (shelf_of new) ss ready.kept.rising put_is parted' held_new
@@ -290,21 +322,25 @@ module _ (handles : Handles) (t : Table Node) (es : List Entry) (id at : ℕ) (o
       module _ (last : Table Node) (behind : List Entry) (left : List Unit) (pool : Holdings)
           (closes : Closes handles between pool then last (set es at new) behind left id) (size1 : between.size ≡ before.size)
           (size2 : pool.size ≡ between.size) where
+        -- the collection is there, so the change maps its nodes
         change_is : changed_in t es id (Change.Effect key effect) ≡ c1
         change_is =
             ap (changed (Change.Effect key effect) no_key)
             (here_is t es id at old told is)
 
+        -- the collection is found at its place
         then_is : collection_or_new (forest_of then (shelves_of (set es at new))) id ≡ collection_in then (shelf_of new)
         then_is =
             here_is then es2 id at new told_new (sym is_new)
 
+        -- the closing finishes from there
         rest : Finishes before.size handles then (shelves_of (set es at new)) last (shelves_of behind) (collection_in then (shelf_of new))
         rest =
             subst (λ (c : Collection). Finishes before.size handles then (shelves_of es2) last (shelves_of behind) c) then_is
             (subst (λ (size : ℕ). Finishes size handles then (shelves_of es2) last (shelves_of behind)
             (changed_in then es2 id Change.Nothing)) size1 closes.settled.finishes)
 
+        -- the step and the closing are all that is forced
         settled : IsSettledIn handles before pool t last es behind id (Change.Effect key effect)
         settled = record {
           finishes = subst (λ (c : Collection). Finishes before.size handles t ss last (shelves_of behind) c) (sym change_is)
@@ -315,6 +351,7 @@ module _ (handles : Handles) (t : Table Node) (es : List Entry) (id at : ℕ) (o
           holds = closes.settled.holds;
         }
 
+        -- the facts above
         pub outcome_root : IsOutcomeIn true handles before pool t last es behind id (Change.Effect key effect)
         outcome_root = record {
           settled = λ h. settled;

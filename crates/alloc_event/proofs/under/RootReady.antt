@@ -106,41 +106,51 @@ module _ (t : Table Node) (us : List Unit) (key : NodeKey) (effect : Effect) (n 
   abbrev now : List Node
   now = map (affected key effect) (nodes_with t s.keys)
 
+  -- an effect keeps the node's place
   same : (m : Node) → IsSameNode (f m) m
   same = same_affected key effect
 
+  -- the node and its head stand in the collection
   place : StandsIn t us s key effect n
   place = stands_in t us key effect n was ss s strong opens
 
+  -- the head stands in the table under its key
   head_at : node_at t n.head ≡ Some place.head
   head_at = ap (node_at t) (sym place.head_key) ∙ place.at_key place.head place.head_on
 
+  -- the slot of the head has the counts of its unit
   unit_is : unit_at us n.head.slot ≡ unit_of nodes n.head
   unit_is =
       subst (λ (k : NodeKey). unit_at us k.slot ≡ unit_of nodes k) place.head_key
       (all_at (HasUnit us nodes) nodes place.counted place.head place.head_on).1
 
+  -- one node changes
   count_is : (test : Node → Bool) → times test now + bit (test n) ≡ times test nodes + bit (test (f n))
   count_is test = times_changed test f nodes n place.whole.sound.distinct place.on (λ m there other. place.alone m other)
 
+  -- a head is of its own unit
   own : same_key n.head n.head ≡ true
   own = same_key-refl n.head
 
+  -- the effect keeps the head
   own_now : same_key (f n).head n.head ≡ true
   own_now = ap (λ (k : NodeKey). same_key k n.head) (same n).head ∙ own
 
+  -- the count of live nodes changes by the one node
   live_is : times (lives_in n.head) now + bit (is_live_node n) ≡ (unit_at us n.head.slot).live + bit (is_live_node (f n))
   live_is =
       ap (λ (b : Bool). times (lives_in n.head) now + bit b) (sym (lives_own n.head n own))
       ∙ (count_is (lives_in n.head)
       ∙ (λ i. (sym unit_is i).live + bit (lives_own n.head (f n) own_now i)))
 
+  -- the count of those that are waited for changes by the one node
   unready_is : times (waits_in n.head) now + bit (is_unready n) ≡ (unit_at us n.head.slot).unready + bit (is_unready (f n))
   unready_is =
       ap (λ (b : Bool). times (waits_in n.head) now + bit b) (sym (waits_own n.head n own))
       ∙ (count_is (waits_in n.head)
       ∙ (λ i. (sym unit_is i).unready + bit (waits_own n.head (f n) own_now i)))
 
+  -- no effect changes how many units hang right below
   below_is : times (heads_below now n.head) now ≡ times (heads_below nodes n.head) nodes
   below_is = below_mapped f same nodes (λ m. (remains_affected key effect m).gone) n.head
 
@@ -168,6 +178,7 @@ module _ (t : Table Node) (us : List Unit) (key : NodeKey) (effect : Effect) (n 
 
   -- ---- the root
 
+  -- the counts of the unit after the effect are those of its nodes
   comes_is : comes_first t us key effect
       ≡ (is_bare_root t n.head && (list_all (is_ready_node n.head) now && list_any (holds_unit now n.head) now))
   comes_is =
@@ -175,16 +186,20 @@ module _ (t : Table Node) (us : List Unit) (key : NodeKey) (effect : Effect) (n 
       (λ (m : Node). is_bare_root t m.head && is_held_ready (unit_then us m (affected key effect m))) o false) was
       ∙ ap (λ (b : Bool). is_bare_root t n.head && b) ready_then
 
+  -- the head in the table is the one of the collection
   bare_is : is_bare_root t n.head ≡ (is_root_left place.head && not place.head.allocated)
   bare_is = ap (λ (o : Option Node). option_map_or (λ (m : Node). is_root_left m && not m.allocated) o false) head_at
 
+  -- an effect changes neither the parent nor the mark
   root_same : (m : Node) → is_root_left (f m) ≡ is_root_left m
   root_same m = λ i. is_none ((same m).parent i) && not ((remains_affected key effect m).gone i)
 
   module _ (comes : comes_first t us key effect ≡ true) where
+    -- the premise, as the counts tell it
     parts : (is_bare_root t n.head && (list_all (is_ready_node n.head) now && list_any (holds_unit now n.head) now)) ≡ true
     parts = sym comes_is ∙ comes
 
+    -- the second half
     both : (list_all (is_ready_node n.head) now && list_any (holds_unit now n.head) now) ≡ true
     both = and_right (is_bare_root t n.head) _ parts
 
@@ -192,9 +207,11 @@ module _ (t : Table Node) (us : List Unit) (key : NodeKey) (effect : Effect) (n 
     pub comes_held : list_any (holds_unit now n.head) now ≡ true
     comes_held = and_right (list_all (is_ready_node n.head) now) _ both
 
+    -- the first half
     bare : (is_root_left place.head && not place.head.allocated) ≡ true
     bare = sym bare_is ∙ and_left (is_bare_root t n.head) _ parts
 
+    -- the collection has one root, and the head is it
     found : find is_root_left now ≡ Some (f place.head)
     found = root_found now place.sound.one_root (f place.head) (In-map-back f nodes place.head place.head_on)
         (root_same place.head ∙ and_left (is_root_left place.head) (not place.head.allocated) bare)
@@ -260,9 +277,11 @@ module _ (t : Table Node) (us : List Unit) (key : NodeKey) (effect : Effect) (n 
       either true = refl
       either false = refl
 
+  -- the head of the unit of a node that is left is left
   head : (h : Node) × In h nodes × (h.key ≡ n.head) × (h.gone ≡ false) × (is_head h ≡ true)
   head = head_there nodes place.whole.sound.distinct place.whole.sound.heads place.whole.rooted place.whole.united n place.on place.here
 
+  -- where the unit is held, the root waits only if the plan comes
   pub none_waits : comes_first t us key effect ≡ false → list_any (holds_unit now n.head) now ≡ true → waiting now ≡ None
   none_waits none held = from (waiting now) refl
     where

@@ -39,6 +39,7 @@ module _ (c : Collection) (whole : IsWhole c) (r : Node) (on : In r c.nodes) (he
       (chain c.nodes whole.sound.distinct whole.sound.heads whole.rooted whole.united r.key (left_in c.nodes r on here))
       (ap (λ (o : Option Node). option_map_or (λ (m : Node). m.parent) o None) (found_by_key c.nodes r whole.sound.distinct on) ∙ root)
 
+  -- the root is the highest of what its loss takes
   taken_below : (n : Node) → is_taken c.nodes r.key n ≡ is_below c.nodes r.key n.key
   taken_below n =
       ap (λ (o : Option Node). option_map_or (λ (x : Node).
@@ -79,6 +80,7 @@ pub record IsGivenRoot (t : Table Node) (keys : List NodeKey) : Type 0 where
   pub left : is_root_left node ≡ true
   pub allocated : node.allocated ≡ true
 
+-- by cases on the first key
 pub given_root : (t : Table Node) → ((key : NodeKey) (n : Node) → node_at t key ≡ Some n → n.key ≡ key) → (keys : List NodeKey) →
     has_given_root t keys ≡ true → IsGivenRoot t keys
 given_root t named [] given = let no : false ≡ true = given in absurd (cc)
@@ -97,15 +99,19 @@ given_root t named (k ∷ ks) given = from (node_at t k) refl given
     }
 
 module _ (t : Table Node) (keys : List NodeKey) (r : IsGivenRoot t keys) where
+  -- the root's key is the first
   nodes_are : nodes_with t keys ≡ r.node ∷ nodes_with t r.rest
   nodes_are = ap (nodes_with t) r.keys_are ∙ rw r.there refl
 
+  -- so it is the first node
   pub root_on : In r.node (nodes_with t keys)
   root_on = subst (In r.node) (sym nodes_are) (inl refl)
 
+  -- the root is left
   pub root_here : r.node.gone ≡ false
   root_here = not-true r.node.gone (and_right (is_none r.node.parent) (not r.node.gone) r.left)
 
+  -- the root has no parent
   pub root_top : r.node.parent ≡ None
   root_top = from r.node.parent (and_left (is_none r.node.parent) (not r.node.gone) r.left)
     where
@@ -113,6 +119,7 @@ module _ (t : Table Node) (keys : List NodeKey) (r : IsGivenRoot t keys) where
       from None h = refl
       from (Some p) h = cc
 
+  -- the first node passes
   root_found : find is_root_left (nodes_with t keys) ≡ Some r.node
   root_found = ap (find is_root_left) nodes_are ∙ rw r.left refl
 

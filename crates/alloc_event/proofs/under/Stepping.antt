@@ -39,6 +39,7 @@ held_same : (t now : Table Node) (ss : List Shelf) → all_held (forest_of t ss)
 held_same t now [] = refl
 held_same t now (s ∷ ss) = ap (λ (hs : List HeldBuffer). s.held ++ hs) (held_same t now ss)
 
+-- the pool speaks of held buffers alone, which stay
 pub pool_same : (pool : Holdings) (t now : Table Node) (ss : List Shelf) → IsPoolOf pool (forest_of t ss) → IsPoolOf pool (forest_of now ss)
 pool_same pool t now ss of =
     of ∙ ap (λ (hs : List HeldBuffer). sorted_by (λ (i : Interval). i.start) (map (λ (h : HeldBuffer). h.pages) hs)) (held_same t now ss)
@@ -92,6 +93,7 @@ node_there t ss kept id key there = by (node_at t key) refl
 
 module _ (handles : Handles) (t : Table Node) (us : List Unit) (es : List Entry) (id at : ℕ) (e : Entry) (told : place_in id es ≡ Some at)
     (is : e ≡ get_or es at e) (change : Change) (ready : IsReady t es us id change) (birth : is_birth change ≡ false) where
+  -- the entry at the place has the id that was looked for
   pub own_id : e.id ≡ id
   own_id = ap (λ (x : Entry). x.id) is ∙ (place_is id es at told).id_is e
 
@@ -110,6 +112,7 @@ module _ (handles : Handles) (t : Table Node) (us : List Unit) (es : List Entry)
   pub closes_now : MayClose handles t us es at
   closes_now = ready_close handles t us es id at e told is ready.counted begins
 
+  -- the collection is found at its place
   pub changed_is : changed_in t es id change ≡ changed change no_key (collection_in t (shelf_of e))
   changed_is = ap (changed change no_key) (here_is t es id at e told is)
 
@@ -117,12 +120,15 @@ module _ (handles : Handles) (t : Table Node) (us : List Unit) (es : List Entry)
 
   module _ (between : List Node) (made : changed change no_key (collection_in t (shelf_of e)) ≡ record (collection_in t (shelf_of e)) { nodes = between })
       (mid : Table Node) (after : List Unit) (new : Entry) (played : IsPlayedFrom handles between t mid after (shelves_of es) e new) where
+    -- the shelf is the same, so the list of shelves stays
     shelves : shelves_of (set es at new) ≡ shelves_of es
     shelves = shelves_stay es at e new is played.shelf
 
+    -- the shelf, and with it the id, is the same
     new_id : new.id ≡ id
     new_id = ap (λ (s : Shelf). s.id) played.shelf ∙ own_id
 
+    -- what is due is what is abandoned, or nothing
     pub may_play : MayClose handles mid after (set es at new) at
     may_play =
         may_close handles t mid after es id at told
@@ -134,10 +140,12 @@ module _ (handles : Handles) (t : Table Node) (us : List Unit) (es : List Entry)
     pub placed_played : place_in id (set es at new) ≡ Some at
     placed_played = place_set id at es new new_id told
 
+    -- the pool speaks of held buffers alone, which stay
     pub pool_played : (pool : Holdings) → IsPoolOf pool (forest_of t (shelves_of es)) → IsPoolOf pool (forest_of mid (shelves_of (set es at new)))
     pool_played pool of =
         subst (λ (ss : List Shelf). IsPoolOf pool (forest_of mid ss)) (sym shelves) (pool_same pool t mid (shelves_of es) of)
 
+    -- the steps lead from the changed collection on
     leads_on : (pool : ℕ) → Leads pool handles (beside (forest_of t (shelves_of es)) id) (changed_in t es id change)
         (collection_in mid (shelf_of new))
     leads_on pool =
@@ -147,6 +155,7 @@ module _ (handles : Handles) (t : Table Node) (us : List Unit) (es : List Entry)
         (record (collection_in t (shelf_of e)) { nodes = between }) (collection_in mid s)) (sym played.shelf)
         (played.leads pool (beside (forest_of t (shelves_of es)) id)))
 
+    -- the steps that were played and the closing are all that is forced
     pub outcome_played : (pool left : Holdings) (now : Table Node) (behind : List Entry) (last : List Unit) →
         Closes handles pool left mid now (set es at new) behind last id → left.size ≡ pool.size →
         IsOutcomeIn true handles pool left t now es behind id change
@@ -156,6 +165,7 @@ module _ (handles : Handles) (t : Table Node) (us : List Unit) (es : List Entry)
 
   -- ---- where nothing was changed
 
+  -- without a change the closing is all that is forced
   pub outcome_closed : (nothing : change ≡ Change.Nothing) (pool left : Holdings) (now : Table Node) (behind : List Entry)
       (last : List Unit) → Closes handles pool left t now es behind last id → left.size ≡ pool.size →
       IsOutcomeIn true handles pool left t now es behind id change

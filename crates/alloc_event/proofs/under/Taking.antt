@@ -41,10 +41,12 @@ module _ (t : Table Node) (us : List Unit) (ss : List Shelf) (e : Entry) (k : No
   abbrev nodes : List Node
   nodes = nodes_with t e.keys.items
 
+  -- the sums of the listed nodes are those of the unit
   late : refusal b e.reserved asks.camping asks.at_least asks.size ≡ late_failure k nodes b
   late = refusal_is t ss u.store.kept (shelf_of e) u.store.found u.store.kept.kin k (bare t us ss e k place ws u turns next) ks listed b e.reserved asks.camping
       asks.at_least asks.size u.store.reserved asked.camping asked.at_least asked.size
 
+  -- no reason to refuse, so the allocation is the step
   pub allocated_by : (now : Table Node) → IsGivenAt t now (k ∷ []) ks → refusal b e.reserved asks.camping asks.at_least asks.size ≡ None →
       IsLed handles t now us ss e (record e { reserved = e.reserved + asks.camping }) [] (turn_heads ws)
       × (AreTurns now e.keys.items ws × (waits_among [] (nodes_with now e.keys.items) ≡ true))
@@ -53,6 +55,7 @@ module _ (t : Table Node) (us : List Unit) (ss : List Shelf) (e : Entry) (k : No
       (asked.camping ∙ sum_is t ss u.store.kept (shelf_of e) u.store.found u.store.kept.kin k (bare t us ss e k place ws u turns next) ks listed)
       handles b has stays (sym late ∙ enough)
 
+  -- a reason to refuse, so the loss is the step
   pub refused_by : (now : Table Node) (new : List Unit) (after : Entry) (why : Failure) →
       IsFelled handles t now new ss e after (record { cause = Cause.Failed why; origin = k }) (k ∷ turn_heads ws) →
       refusal b e.reserved asks.camping asks.at_least asks.size ≡ Some why →

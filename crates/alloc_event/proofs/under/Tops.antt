@@ -32,9 +32,11 @@ module _ (t : Table Node) (ss : List Shelf) (s : Shelf) (kept : IsStored t ss)
   abbrev falls : NodeKey → Bool
   falls k = list_any (same_key k) keys
 
+  -- each collection is whole
   pub entire : IsWhole (collection_in t s)
   entire = whole t ss s kept found
 
+  -- the nodes are linked as the table links them
   pub on_ties : IsTied t nodes
   on_ties = tied t ss s kept found
 
@@ -45,9 +47,11 @@ module _ (t : Table Node) (ss : List Shelf) (s : Shelf) (kept : IsStored t ss)
   abbrev pub top : Node
   top = highest.node
 
+  -- the top is one of the nodes
   pub top_on : In top nodes
   top_on = highest.on
 
+  -- the top is left
   pub top_here : top.gone ≡ false
   top_here = highest.here
 
@@ -56,6 +60,7 @@ module _ (t : Table Node) (ss : List Shelf) (s : Shelf) (kept : IsStored t ss)
   takes_below n on here =
       fall_line t nodes on_ties origin left keys taken.fall n on here ∙ ap (λ (k : NodeKey). is_below nodes k n.key) (sym highest.is)
 
+  -- the top lies below itself
   top_falls : falls top.key ≡ true
   top_falls =
       takes_below top top_on top_here
@@ -63,12 +68,15 @@ module _ (t : Table Node) (ss : List Shelf) (s : Shelf) (kept : IsStored t ss)
 
   -- its parent does not
   module _ (p : NodeKey) (up : top.parent ≡ Some p) where
+    -- the parent of a node that is left is left
     parent_left : is_left_of nodes p ≡ true
     parent_left = left_parent nodes entire.rooted top p top_on top_here up
 
+    -- so it stands in the collection
     pub parent : IsLeft nodes p
     parent = left_node nodes p parent_left
 
+    -- the line above the parent is shorter than that above the top
     parent_over : is_below nodes top.key p ≡ false
     parent_over = false_if (is_below nodes top.key p) (λ e.
         let d = entire.sound.distinct in
@@ -81,6 +89,7 @@ module _ (t : Table Node) (ss : List Shelf) (s : Shelf) (kept : IsStored t ss)
         ap length (step nodes d h r u top top_on top_here p up) in
         absurd (omega arith))
 
+    -- so the failure does not take it
     pub parent_out : falls p ≡ false
     parent_out =
         ap falls (sym parent.is)

@@ -188,32 +188,41 @@ module _ (t : Table Node) (us : List Unit) (ss : List Shelf) (e : Entry) (k : No
     -- ---- it is next
 
     module _ (next : is_next_there t us k ≡ true) where
+      -- the first half of being next
       pub turn : has_turn_at t k ≡ true
       turn = and_left (has_turn_at t k) _ next
 
+      -- the counts say that it waits for no node
       pub ready : list_all (is_ready_node k) nodes ≡ true
       ready = ready_by t us ss e [] (k ∷ turn_heads ws) u k head head_on head_key (eqb-true (unit_at us k.slot).unready 0 (and_right (has_turn_at t k) _ next))
 
+      -- the head is attached and has no buffers
       waits : is_waiting_head head ≡ true
       waits = ap (λ (o : Option Node). option_map_or is_waiting_head o false) (sym head_is)
           ∙ and_left (option_map_or is_waiting_head (node_at t k) false) _ turn
 
+      -- the head waits, so it is not gone
       pub head_here : head.gone ≡ false
       head_here = not-true head.gone (and_left (not head.gone) _ (and_right head.attached _ waits))
 
+      -- the head has its turn by the table
       pub due : IsDueHead t nodes k
       due = due_head t ss u.store.kept s u.store.found k turn head head_on head_here
           (head_own (collection_in t s) whole.sound head head_on (and_left head.attached _ waits) ∙ head_key)
 
+      -- so it has no buffers
       pub bare : IsBareHead nodes k
       bare = due_bare t nodes k due
 
+      -- no two nodes have one key
       pub due_is : due.head ≡ head
       due_is = one due.head head due.on head_on (due.key ∙ sym head_key)
 
+      -- the head is left
       pub left : is_left_of nodes k ≡ true
       left = subst (λ (j : NodeKey). is_left_of nodes j ≡ true) head_key (left_in nodes head head_on head_here)
 
+      -- its parent is allocated, and its unit waits for no node
       next_here : is_next_node nodes due.head ≡ true
       next_here =
           and_both due.head.attached _ due.attached

@@ -55,9 +55,11 @@ module _ (t : Table Node) (us : List Unit) (ss : List Shelf) (old : Entry) (loos
   abbrev pub goes : Node → Node
   goes = goes_of going keys
 
+  -- each collection is whole
   whole : IsWhole (collection_in t s)
   whole = entire t ss s opens.store.kept opens.store.found gone.forest origin left keys gone.taken
 
+  -- each node stands in the table under its key
   at : (n : Node) → In n nodes → node_at t n.key ≡ Some n
   at = at_key t ss s opens.store.kept opens.store.found
 
@@ -70,9 +72,11 @@ module _ (t : Table Node) (us : List Unit) (ss : List Shelf) (old : Entry) (loos
       ∙ all-In (λ (n : Node). n.collection == old.id) nodes x.node x.on
       (looked-of t old.id old.keys.items (found_filed t old.id ss s opens.store.kept.filed opens.store.found))) keys gone.taken
 
+  -- what goes is written, and nothing else
   nodes_now : nodes_with now old.keys.items ≡ map goes nodes
   nodes_now = nodes_then t us ss old opens.store going origin keys gone.taken own now gone.stores
 
+  -- the entry has the same keys
   nodes_new : nodes_with now new.keys.items ≡ map goes nodes
   nodes_new = ap (λ (x : Shelf). nodes_with now x.keys) gone.shelf ∙ nodes_now
 
@@ -92,6 +96,7 @@ module _ (t : Table Node) (us : List Unit) (ss : List Shelf) (old : Entry) (loos
           and_both (not n.gone) n.allocated (ap not (or_none_right (falls n.key) n.gone here))
           (sym (given_of going keys n) ∙ and_right (not (goes n).gone) _ h)
 
+  -- only this collection changed
   beside : IsBeside t now ss old.id
   beside = record {
     same = gone.stores.same;
@@ -103,9 +108,11 @@ module _ (t : Table Node) (us : List Unit) (ss : List Shelf) (old : Entry) (loos
   abbrev highest : Node
   highest = top t ss s opens.store.kept opens.store.found gone.forest origin left keys gone.taken
 
+  -- the top is one of the nodes
   highest_on : In highest nodes
   highest_on = top_on t ss s opens.store.kept opens.store.found gone.forest origin left keys gone.taken
 
+  -- the top is left
   highest_here : highest.gone ≡ false
   highest_here = top_here t ss s opens.store.kept opens.store.found gone.forest origin left keys gone.taken
 
@@ -154,21 +161,27 @@ module _ (t : Table Node) (us : List Unit) (ss : List Shelf) (old : Entry) (loos
       abbrev over : Node
       over = (parent t ss s opens.store.kept opens.store.found gone.forest origin left keys gone.taken p up).node
 
+      -- the parent of the top is one of the nodes
       over_on : In over nodes
       over_on = (parent t ss s opens.store.kept opens.store.found gone.forest origin left keys gone.taken p up).on
 
+      -- it has the key that the top names
       over_key : over.key ≡ p
       over_key = (parent t ss s opens.store.kept opens.store.found gone.forest origin left keys gone.taken p up).is
 
+      -- it is left
       over_here : over.gone ≡ false
       over_here = (parent t ss s opens.store.kept opens.store.found gone.forest origin left keys gone.taken p up).here
 
+      -- no two nodes have one key
       over_one : (q : Node) → In q nodes → q.key ≡ over.key → q ≡ over
       over_one q on is = distinct_one nodes whole.sound.distinct q over on over_on is
 
+      -- the top names its key
       up_over : highest.parent ≡ Some over.key
       up_over = up ∙ ap Some (sym over_key)
 
+      -- what falls is the top, or hangs on something that falls
       ups : (x : Node) → In x nodes → x.gone ≡ false → falls x.key ≡ true → (x ≡ highest) ⊎ ((q : NodeKey) × (x.parent ≡ Some q) ×
           (falls q ≡ true))
       ups x on here h = elim (up_falls t ss s opens.store.kept opens.store.found gone.forest origin left keys gone.taken x on here h) [
@@ -214,6 +227,7 @@ module _ (t : Table Node) (us : List Unit) (ss : List Shelf) (old : Entry) (loos
           (ap (λ (k : NodeKey). same_key k over.head) x.2 ∙ same_key-refl over.head)
           (and_both (not x.0.gone) (is_head x.0) (ap not x.3) x.4))
 
+      -- the unit above may have lost what held it; no other one did
       by_parent : IsWent t now after ss old new origin fault (Some over.head) loose due
       by_parent =
           went_so (Some over.head)
@@ -225,11 +239,13 @@ module _ (t : Table Node) (us : List Unit) (ss : List Shelf) (old : Entry) (loos
           (given_of going keys) (gone_of going keys) (goes_not going keys) guard due opens.root)
           head_left
 
+      -- the parent stands in the table
       over_found : option_map_or (head_of t) highest.parent None ≡ Some over.head
       over_found =
           ap (λ (o : Option NodeKey). option_map_or (head_of t) o None) up_over
           ∙ ap (option_map (λ (n : Node). n.head)) (at over over_on)
 
+    -- by cases on whether the top has a parent
     pub went : IsWent t now after ss old new origin fault (head_over t keys) loose due
     went = elim (none_or_some highest.parent) [
       | inl none ↦
@@ -245,6 +261,7 @@ module _ (t : Table Node) (us : List Unit) (ss : List Shelf) (old : Entry) (loos
 module _ (t : Table Node) (us : List Unit) (ss : List Shelf) (old : Entry) (loose due : List NodeKey)
     (opens : IsUnderWay t us ss old loose due) (now : Table Node) (after : List Unit) (new : Entry) (origin : NodeKey)
     (keys : List NodeKey) where
+  -- the failure of the node takes exactly these keys
   pub went_lost : (fault : Fault) → IsGoneSo t now us after old new (Going.Fails fault) origin keys →
       is_left_of (nodes_with t old.keys.items) origin ≡ true → fault.origin ≡ origin →
       IsWent t now after ss old new origin (Some fault) (head_over t keys) loose due

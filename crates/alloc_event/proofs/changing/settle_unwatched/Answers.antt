@@ -36,17 +36,20 @@ close_there-requires-clause-pool c =
 
 -- what is closed at the place of the collection
 module _ (c : goal.After-close_there) where
+  -- the parent is there, as the birth may be made
   up : Above c.args.table.now (shelves_of c.args.entries.now.items) c.args.id c.args.parent (option_and_then (node_at c.args.table.now)
       c.args.parent)
   up = above_is c.args.table.now (shelves_of c.args.entries.now.items) c.requires.kept c.args.id c.args.parent c.args.attached
       c.args.client c.args.event c.requires.change
 
+  -- the collection has the node that was born, so its entry has a place
   there : (at : ℕ) × (place_in c.args.id c.bear_counted.new.entries.items ≡ Some at)
   there =
       child_there c.args.table.now c.bear_counted.new.table c.args.entries.now.items c.bear_counted.new.entries.items c.requires.kept
       c.args.id c.args.parent c.args.attached c.args.client c.args.event _ up c.in_ok-key.key c.in_ok-key.ensures.bears
       c.in_ok-key.ensures.entries
 
+  -- the contract of the closing at that place
   closed : Closes (total c.args.holds.now) c.args.pool.now c.close_there.new.pool c.bear_counted.new.table c.close_there.new.table
       c.bear_counted.new.entries.items c.close_there.new.entries.items c.close_there.new.units.items c.args.id
   closed = c.close_there.ensures.closes there.0 there.1

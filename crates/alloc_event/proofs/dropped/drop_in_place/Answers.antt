@@ -77,12 +77,15 @@ module _ (c : goal.After-part-2) where
   abbrev new : Entry
   new = record (c.index_mut.result.now) { held = c.return_home.new.held }
 
+  -- the place that was found
   told : place_in c.args.buffer.collection c.args.entries.now.items ≡ Some c.in-Some.at
   told = sym (rw c.deref.ensures.value at c.place_of.ensures) ∙ c.in-Some.is
 
+  -- both look at the same place
   read : c.index.result.now ≡ c.index_mut.result.now
   read = one_entry es id at c.index.result.now old told c.index.ensures c.index_mut.ensures.value
 
+  -- only the held buffers change, by those that are home
   returned : IsReturned (total c.args.holds.now) old new
   returned = record {
     id = refl;
@@ -92,6 +95,7 @@ module _ (c : goal.After-part-2) where
         ∙ ap (λ (e : Entry). filter (is_out (total c.args.holds.now) (nat_lt 0 e.strong)) old.held.items) read;
   }
 
+  -- no step is forced: a strong node lives, or the buffers are not abandoned
   none : decided (nodes_with c.args.table.now c.index_mut.result.now.keys.items) c.index_mut.result.now.buffers
       (is_held_strongly (total c.args.holds.now) c.index_mut.result.now.id c.index_mut.result.now.buffers) ≡ None
   none =
@@ -114,6 +118,7 @@ module _ (c : goal.After-part-2) where
             ∙ lt-ltb 0 c.index.result.now.strong w.if-not-strong_live.false)
       ]
 
+  -- the pool holds the buffers of the collection and those of the others
   held_before : c.args.pool.now.held ≡ by_page (pages_held c.index_mut.result.now.held.items
       ++ beside (forest_of c.args.table.now (shelves_of c.args.entries.now.items)) c.index_mut.result.now.id)
   held_before =

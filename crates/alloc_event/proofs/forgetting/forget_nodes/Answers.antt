@@ -51,21 +51,27 @@ returns-in_default-clause-kept c =
 
 module _ (t : Table Node) (es : List Entry) (kept : IsStored t (shelves_of es)) (counted : AreCounted t es) (id at : ℕ)
     (told : place_in id es ≡ Some at) (old : Entry) (is : (d : Entry) → at < length es → old ≡ get_or es at d) where
+  -- the entry is found at its place
   place : IsPlace id es at
   place = place_is id es at told
 
+  -- the place is that of the first entry with the id
   found : find (λ (e : Entry). e.id == id) es ≡ Some old
   found = place.found old ∙ ap Some (sym (is old place.within))
 
+  -- the shelf is found where the entry is
   shelf : find (λ (x : Shelf). x.id == id) (shelves_of es) ≡ Some (shelf_of old)
   shelf = shelf_found id es ∙ ap (option_map shelf_of) found
 
+  -- the entry at the place has the id that was looked for
   own : old.id ≡ id
   own = ap (λ (e : Entry). e.id) (is old place.within) ∙ place.id_is old
 
+  -- the entry is counted, which says so
   tidy : old.tidy ≡ true → list_any (over_but old.noted.items) (nodes_with t old.keys.items) ≡ false
   tidy = (found_counted t id es old counted found).tidy
 
+  -- what the store says of each collection says it of this one
   forgettable : IsForgettable t old
   forgettable = record {
     named = kept.named;
@@ -156,12 +162,15 @@ module _ (c : goal.After-entries-1) where
   abbrev new : Entry
   new = c.forget_of.new.entry
 
+  -- the place that was found
   told : place_in c.args.id es ≡ Some c.in-Some.at
   told = sym (rw c.deref.ensures.value at c.place_of.ensures) ∙ c.in-Some.is
 
+  -- the entry that is lent stands at the place
   is : (d : Entry) → c.in-Some.at < length es → old ≡ get_or es c.in-Some.at d
   is d within = c.index_mut-entry.ensures.value ∙ get_or_default es c.in-Some.at old d within
 
+  -- the keys of the nodes that were taken out are dropped, and the rest stays
   thin_shelf : shelf_of new ≡ thinned now (shelf_of old)
   thin_shelf = λ i. record {
     id = c.forget_of.ensures.entry.id i;

@@ -55,26 +55,33 @@ module _ (c : goal.After-entries-1) where
     reserved = c.in-Some-reserved_after.reserved;
   }
 
+  -- the place that was found
   told : place_in c.args.id es ≡ Some c.in-Some.at
   told = sym (rw c.deref.ensures.value at c.place_of.ensures) ∙ c.in-Some.is
 
+  -- the entry is found at its place
   place : IsPlace c.args.id es c.in-Some.at
   place = place_is c.args.id es c.in-Some.at told
 
+  -- the entry that is read stands there
   is : old ≡ get_or es c.in-Some.at old
   is = c.index-entry.ensures
 
+  -- the entry that is lent is the one that was read
   again : c.index_mut-entry.result.now ≡ old
   again = c.index_mut-entry.ensures.value ∙ get_or_default es c.in-Some.at c.index_mut-entry.result.now old place.within ∙ sym is
 
+  -- the change may be made, and the entry is counted
   opens : IsOpen c.args.table.now c.args.units.now.items (shelves_of es) (shelf_of old) c.args.change.now old.strong
   opens = opens_at c.args.table.now es c.args.id c.in-Some.at old place is c.requires.kept c.requires.counted c.args.units.now.items
       c.requires.units c.args.change.now c.requires.change
 
+  -- the contract of the change, where it was made
   made : IsMade c.args.table.now c.change_in_place.new.table c.change_in_place.new.units.items (shelves_of es) (shelf_of old)
       c.args.change.now c.in-Some-change_in_place.left
   made = c.in-Some-change_in_place.ensures.some (shelves_of es) (shelf_of old) opens
 
+  -- a node is over as before, and the entry keeps what it notes
   tidies : new.tidy ≡ true → list_any (over_but new.noted.items) (nodes_with c.change_in_place.new.table old.keys.items) ≡ false
   tidies h = made.over new.noted.items
       ∙ ap (λ (x : Entry). list_any (over_but x.noted.items) (nodes_with c.args.table.now old.keys.items)) again
@@ -82,18 +89,21 @@ module _ (c : goal.After-entries-1) where
       c.requires.units c.args.change.now c.requires.change
       (sym (ap (λ (x : Entry). x.tidy) again) ∙ h)
 
+  -- what is reserved was counted before the change, and is told anew
   reserved_now : new.reserved ≡ reserved_count (nodes_with c.change_in_place.new.table old.keys.items)
   reserved_now = c.in-Some-reserved_after.ensures c.args.units.now.items (shelves_of es) (shelf_of old) old.strong opens
       (reserved_at c.args.table.now es c.args.id c.in-Some.at old place is c.requires.kept c.requires.counted c.args.units.now.items
       c.requires.units c.args.change.now c.requires.change)
       ∙ ap reserved_count (sym made.nodes)
 
+  -- only the counts of the entry change
   same_shelves : shelves_of (set es c.in-Some.at new) ≡ shelves_of es
   same_shelves = shelves_at c.args.table.now es c.args.id c.in-Some.at old place is c.requires.kept c.requires.counted
       c.args.units.now.items c.requires.units c.args.change.now c.requires.change
       c.change_in_place.new.table c.change_in_place.new.units.items c.in-Some-change_in_place.left made.done new (ap shelf_of again) refl
       tidies
 
+  -- the contract of the change says so
   rests : is_kept_by (total c.args.holds.now) c.args.table.now (shelf_of old) c.in-Some-change_in_place.left ≡ true
   rests = c.in-Some-change_in_place.ensures.rests
 

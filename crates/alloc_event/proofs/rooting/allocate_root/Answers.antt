@@ -80,25 +80,32 @@ module _ (c : goal.After-close-arg-5-1) where
   abbrev plan : Plan
   plan = c.in-Some-planned.plan
 
+  -- the place that was found
   told : place_in c.args.id c.args.entries.now.items ≡ Some c.in-Some.at
   told = sym (rw c.deref.ensures.value at c.place_of.ensures) ∙ c.in-Some.is
 
+  -- the entry is found at its place
   place : IsPlace c.args.id c.args.entries.now.items c.in-Some.at
   place = place_is c.args.id c.args.entries.now.items c.in-Some.at told
 
+  -- the entry that is lent is the one that was read
   again : c.index_mut-entry.result.now ≡ c.index-entry.result.now
   again = c.index_mut-entry.ensures.value ∙ get_or_default es c.in-Some.at c.index_mut-entry.result.now old place.within
       ∙ sym c.index-entry.ensures
 
+  -- the premise at the entry that was found
   under : IsUnderWay c.args.table.now c.args.units.now.items (shelves_of c.args.entries.now.items) c.index-entry.result.now [] []
   under = c.requires.under old (place.found old ∙ ap Some (sym c.index-entry.ensures))
 
+  -- the contract of the plan, read at the units
   planned : IsPlanned c.args.table.now c.args.units.now.items c.index-entry.result.now c.args.key c.args.effect.now c.in-Some-planned.plan
   planned = rw c.deref-2.ensures.value at c.in-Some-planned.ensures.some
 
+  -- the contract of the plan, read at the units
   comes : comes_first c.args.table.now c.args.units.now.items c.args.key c.args.effect.now ≡ true
   comes = rw c.deref-2.ensures.value at c.in-Some-planned.ensures.comes
 
+  -- the effect was made on the node of the plan, which alone concerns its unit
   affects : IsAffected c.args.table.now c.affect_here.new.table c.affect_here.new.units.items (shelves_of c.args.entries.now.items)
       c.index-entry.result.now c.affect_here.new.entry c.args.key c.args.effect.now planned.node.head
   affects =
@@ -115,10 +122,12 @@ module _ (c : goal.After-close-arg-5-1) where
       (own ∙ sym (ap (λ (e : Entry). e.id) again))
       (subst (λ (e : Entry). StoreAgrees t us (shelves_of es) e) (sym again) under.store)))
 
+  -- the contract of the placing
   found : IsVerdict c.args.pool.now c.place_wanted.new.pool c.args.id c.index-entry.result.now.held.items c.in-Some-planned.plan.wants
       c.in_ok-verdict.verdict
   found = c.in_ok-verdict.ensures.verdict
 
+  -- the contract of the allocation, from the collection with the effect
   rooted : IsRooted (total c.args.holds.now) c.affect_here.new.table c.settle_first.new.table c.settle_first.new.units.items
       (shelves_of c.args.entries.now.items) c.affect_here.new.entry c.settle_first.new.entry c.in-Some-planned.plan.head
       c.in_ok-verdict.verdict

@@ -26,6 +26,7 @@ known : (t : Table Node) (ss : List Shelf) → IsStored t ss → (f : Forest) (k
 known t ss kept f key is some = ap is_some (sym (node_is t ss kept key)) ∙ ap (λ (g : Forest). is_some (forest_node g key)) is ∙ some
 
 module _ (c : goal.After-note_over) where
+  -- the key is known, so the table has a node there
   there : (n : Node) × (node_at c.self.inside.table c.args.key ≡ Some n)
   there = some_is (node_at c.self.inside.table c.args.key) (known c.self.inside.table (shelves_of c.self.inside.entries.items)
       c.self.invariant.kept c.args.self.now c.args.key c.self.view_is c.requires)
@@ -33,16 +34,19 @@ module _ (c : goal.After-note_over) where
   abbrev n : Node
   n = there.0
 
+  -- the node has the key that it is stored under
   named : n.key ≡ c.args.key
   named = c.self.invariant.kept.named _ _ there.1
 
   abbrev after : Node
   after = record n { end = c.args.end }
 
+  -- the write under its own key
   writes : Writes c.self.inside.table c.put_end.new.table n.key after
   writes = subst (λ (k : NodeKey). Writes c.self.inside.table c.put_end.new.table k after) (sym named)
       (c.put_end.ensures.writes n there.1)
 
+  -- the table with the node under its own key
   becomes : c.put_end.new.table ≡ table_with_node c.self.inside.table n.key after
   becomes = c.put_end.ensures.becomes n there.1 ∙ ap (λ (k : NodeKey). table_with_node c.self.inside.table k after) (sym named)
 
@@ -59,6 +63,7 @@ module _ (c : goal.After-note_over) where
   over_is : c.in-Some.over ≡ is_over (record n { end = c.args.end })
   over_is = ap (λ (o : Option (ℕ × Bool)). option_map_or (λ p. p.1) o false) (sym c.in-Some.is ∙ c.put_end.ensures.told n there.1)
 
+  -- the function answers the collection of the node
   id_is : c.in-Some.id ≡ n.collection
   id_is = ap (λ (o : Option (ℕ × Bool)). option_map_or (λ p. p.0) o 0) (sym c.in-Some.is ∙ c.put_end.ensures.told n there.1)
 
