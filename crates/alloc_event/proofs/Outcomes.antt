@@ -1,16 +1,10 @@
 -- A change where nothing was done before it, and one that leaves the pool as it is.
-use Rattle.std.proofs.Common.{◌≡◌, ℕ, Bool, true, List, Result, Ok, Err, OnOk, is_ok, refl}
+use Rattle.alloc_event.proofs.Common.{◌≡◌, ℕ, Bool, true, List, refl, Table, Change, Entry, Node, Unit, forest_of, shelves_of, Handles}
+use Rattle.std.proofs.Common.{Result, Ok, Err, OnOk, is_ok}
 use Rattle.buffer_pool.specs.Holdings.{Holdings}
-use Rattle.node_table.specs.Table.{Table}
-use Rattle.alloc_event.specs.declared.change.Change.{Change}
-use Rattle.alloc_event.specs.declared.entry.Entry.{Entry}
-use Rattle.alloc_event.specs.declared.node.Node.{Node}
-use Rattle.alloc_event.specs.declared.units.Unit.{Unit}
 use Rattle.alloc_event.specs.Counts.{HaveUnits}
 use Rattle.alloc_event.specs.Forest.{IsPoolOf}
-use Rattle.alloc_event.specs.Kept.{forest_of, shelves_of}
 use Rattle.alloc_event.specs.Outcomes.{IsOutcome, IsOutcomeIn, IsReady, IsUnchanged}
-use Rattle.alloc_event.specs.Settling.{Handles}
 use Rattle.alloc_event.proofs.intervals.Pools.{pool_stays}
 
 -- where nothing changed, the change may still be made

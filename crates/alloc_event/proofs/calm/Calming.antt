@@ -1,26 +1,17 @@
 -- Where no step would be forced in a collection, were a strong handle open: then none is while a strong node lives.
-use Rattle.std.proofs.Common.{◌≡◌, ℕ, ◌+◌, refl, ap, sym, ◌∙◌, Bool, true, false, not, ◌&&◌, ◌||◌, inl, inr, List, [], ◌∷◌, map, reverse, Option, Some, None, is_none, is_some, arith}
-use Rattle.std.proofs.lemmas.Bool.{not-true}
-use Rattle.std.specs.List.{list_any, list_all, find, filter}
-use Rattle.std.specs.Option.{option_map, option_map_or, option_and_then}
+use Rattle.alloc_event.proofs.Common.{◌≡◌, ℕ, ◌+◌, refl, ap, sym, ◌∙◌, Bool, true, false, not, ◌&&◌, ◌||◌, inl, inr, List, [], ◌∷◌, map, reverse, Option, Some, None, is_none, is_some, arith, not-true, list_any, list_all, find, filter, option_map_or, option_and_then, NodeKey, Buffers, Cause, same_key, when, times, In, both_ways, either_way, Node, strong_count, has_strong, waiting, Collection, with_nodes, IsWhole, members_of, node_of, is_deserted_node, is_live_node, is_next_node, is_ready_node, is_root_left}
+use Rattle.std.specs.Option.{option_map}
 use Rattle.std.proofs.Math.Bool.{or-true}
-use Rattle.sm_names.specs.declared.keys.NodeKey.{NodeKey}
-use Rattle.sm_names.specs.declared.outcomes.Buffers.{Buffers}
-use Rattle.sm_names.specs.declared.outcomes.Cause.{Cause}
 use Rattle.sm_names.specs.Forced.{is_deserted, is_next_head}
 use Rattle.sm_names.specs.Members.{Member, is_ready, root_left}
-use Rattle.sm_names.specs.Sameness.{same_key}
-use Rattle.sm_names.specs.Words.{first_some, when, times}
-use Rattle.sm_names.proofs.ListLaws.{In, In-filter, In-filter-back, filter-swap, map-In, filter-all}
-use Rattle.sm_names.proofs.SamenessLaws.{both_ways, either_way, none_is}
+use Rattle.sm_names.specs.Words.{first_some}
+use Rattle.sm_names.proofs.ListLaws.{In-filter, In-filter-back, filter-swap, map-In, filter-all}
+use Rattle.sm_names.proofs.SamenessLaws.{none_is}
 use Rattle.sm_names.proofs.PlaceLaws.{map-None}
-use Rattle.alloc_event.specs.declared.node.Node.{Node}
-use Rattle.alloc_event.specs.Calm.{IsCalm, strong_count}
-use Rattle.alloc_event.specs.Decisions.{Decision, Ends, Loses, decided, first_step, has_strong, later_step, waiting}
-use Rattle.alloc_event.specs.Forest.{Collection, with_nodes}
-use Rattle.alloc_event.specs.Kept.{IsWhole}
-use Rattle.alloc_event.specs.Nodes.{above_among, member_of, members_of, node_of}
-use Rattle.alloc_event.specs.Questions.{is_allocated_node, is_below, is_deserted_node, is_live_node, is_next_node, is_ready_node, is_root_left, lives_below}
+use Rattle.alloc_event.specs.Calm.{IsCalm}
+use Rattle.alloc_event.specs.Decisions.{Decision, Ends, Loses, decided, first_step, later_step}
+use Rattle.alloc_event.specs.Nodes.{above_among, member_of}
+use Rattle.alloc_event.specs.Questions.{is_allocated_node, is_below, lives_below}
 use Rattle.alloc_event.proofs.tables.Chains.{one_line}
 use Rattle.alloc_event.proofs.calm.Forcing.{deserted_tie, next_tie, ready_tie, root_tie}
 use Rattle.alloc_event.proofs.tables.KeptRoots.{map-reverse_aux, rooted_filter}

@@ -1,25 +1,18 @@
 -- What the code decides is what is forced.
-use Rattle.std.proofs.Common.{ℕ, ◌+◌, ◌≡◌, refl, ap, ◌∙◌, Bool, true, false, not, ◌&&◌, ◌||◌, ◌==◌, nat_lt, max, if◌then◌else◌, is_none, is_some, List, [], ◌∷◌, ◌++◌, map, Option, Some, None}
-use Rattle.std.specs.List.{list_any, list_all, find, filter, filter_map, sum_by}
-use Rattle.std.specs.Option.{option_map, option_map_or, option_and_then}
-use Rattle.sm_names.specs.declared.keys.Interval.{Interval}
-use Rattle.sm_names.specs.declared.keys.NodeKey.{NodeKey}
-use Rattle.sm_names.specs.declared.outcomes.Buffers.{Buffers}
-use Rattle.sm_names.specs.declared.outcomes.Cause.{Cause}
+use Rattle.alloc_event.proofs.Common.{ℕ, ◌+◌, ◌≡◌, refl, ap, ◌∙◌, Bool, true, false, not, ◌&&◌, ◌||◌, ◌==◌, nat_lt, if◌then◌else◌, is_none, is_some, List, [], ◌∷◌, ◌++◌, map, Option, Some, None, list_any, list_all, find, filter, sum_by, option_map_or, option_and_then, Interval, NodeKey, Buffers, Cause, Demand, forced, same_key, when, Node, has_strong, waiting, Collection, members_of, is_deserted_node, is_next_node, is_ready_node, is_root_left, Handles, standing}
+use Rattle.std.proofs.Common.{max}
+use Rattle.std.specs.List.{filter_map}
+use Rattle.std.specs.Option.{option_map}
 use Rattle.sm_names.specs.declared.outcomes.Failure.{Failure}
-use Rattle.sm_names.specs.Demands.{Demand}
-use Rattle.sm_names.specs.Forced.{Standing, forced, ending, abandoned, initial_allocation, initial_failure, logical_allocation, logical_failure, outcome, is_deserted, is_allocated, is_next_head}
+use Rattle.sm_names.specs.Forced.{Standing, ending, abandoned, initial_allocation, initial_failure, logical_allocation, logical_failure, outcome, is_deserted, is_allocated, is_next_head}
 use Rattle.sm_names.specs.Marks.{Mark, Loss, Ended}
 use Rattle.sm_names.specs.Members.{Member, is_live, is_root, is_settled, is_under, is_ready, some_live, some_strong_live, subtree, unit, root_left, demands, greatest, wanted, asked, reserved}
 use Rattle.sm_names.specs.Pages.{places, pages_of}
-use Rattle.sm_names.specs.Sameness.{same_key}
-use Rattle.sm_names.specs.Words.{first_some, when}
-use Rattle.alloc_event.specs.declared.node.Node.{Node}
-use Rattle.alloc_event.specs.Decisions.{Allocates, Decision, Ends, Loses, Places, decided, decisions, early_failure, first_step, has_strong, late_failure, later_step, mark_of, waiting, wanted_by}
-use Rattle.alloc_event.specs.Forest.{Collection, pages_in}
-use Rattle.alloc_event.specs.Nodes.{member_of, members_of}
-use Rattle.alloc_event.specs.Questions.{demands_of, is_allocated_node, is_below, is_deserted_node, is_in_unit, is_next_node, is_ready_node, is_root_left, is_served, lives_below}
-use Rattle.alloc_event.specs.Settling.{Handles, standing}
+use Rattle.sm_names.specs.Words.{first_some}
+use Rattle.alloc_event.specs.Decisions.{Allocates, Decision, Ends, Loses, Places, decided, decisions, early_failure, first_step, late_failure, later_step, mark_of, wanted_by}
+use Rattle.alloc_event.specs.Forest.{pages_in}
+use Rattle.alloc_event.specs.Nodes.{member_of}
+use Rattle.alloc_event.specs.Questions.{demands_of, is_allocated_node, is_below, is_in_unit, is_served, lives_below}
 use Rattle.alloc_event.proofs.lists.Filters.{any-map_filter, all-map_filter, find-map_filter, any-filter, all-filter, made-filter_map, above_greatest}
 use Rattle.alloc_event.proofs.lists.Booleans.{and_again_behind, and_again_last, and_again_pair, and_again_swap, settled_once}
 

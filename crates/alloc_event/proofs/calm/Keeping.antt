@@ -1,25 +1,12 @@
 -- A calm collection stays calm where one node changes, as far as the counts of its unit tell.
-use Rattle.std.proofs.Common.{◌≡◌, ℕ, ◌<◌, nat_lt, refl, ap, sym, ◌∙◌, subst, Bool, true, false, not, ◌&&◌, ◌||◌, is_none, ◌⊎◌, inl, inr, List, [], ◌∷◌, map, Option, Some, None, arith}
-use Rattle.std.proofs.lemmas.Bool.{ltb-true, not-true}
-use Rattle.std.specs.List.{list_any, list_all, find}
-use Rattle.std.specs.Option.{option_map, option_map_or, option_and_then}
-use Rattle.sm_names.specs.declared.keys.NodeKey.{NodeKey}
-use Rattle.sm_names.specs.declared.outcomes.Buffers.{Buffers}
-use Rattle.sm_names.specs.Sameness.{same_key}
-use Rattle.sm_names.specs.Words.{times, when}
-use Rattle.sm_names.proofs.ListLaws.{In, In-find, In-list_any, In-map, In-map-back, find-none, list_any-map, none-find}
-use Rattle.sm_names.proofs.SamenessLaws.{and_both, and_left, and_right, both_ways, either_way, false_if, or_cases, or_left, or_right, same_key-true}
-use Rattle.sm_names.proofs.StandingLaws.{In-any}
-use Rattle.sm_names.proofs.SizeLaws.{all_on}
-use Rattle.alloc_event.specs.declared.node.Node.{Node}
+use Rattle.alloc_event.proofs.Common.{◌≡◌, ℕ, ◌<◌, nat_lt, refl, ap, sym, ◌∙◌, subst, Bool, true, false, not, ◌&&◌, ◌||◌, is_none, ◌⊎◌, inl, inr, List, [], ◌∷◌, map, Option, Some, None, arith, not-true, list_any, list_all, find, option_map_or, option_and_then, NodeKey, Buffers, same_key, times, when, In, In-find, In-list_any, In-map, In-map-back, and_both, and_left, and_right, both_ways, either_way, false_if, or_cases, or_left, or_right, same_key-true, In-any, all_on, Node, waiting, Collection, with_nodes, IsWhole, is_of, is_deserted_node, is_next_node, is_ready_node, is_root_left, lives_in, waits_in, is_head}
+use Rattle.std.proofs.lemmas.Bool.{ltb-true}
+use Rattle.std.specs.Option.{option_map}
+use Rattle.sm_names.proofs.ListLaws.{find-none, list_any-map, none-find}
 use Rattle.alloc_event.specs.Calm.{IsCalm}
-use Rattle.alloc_event.specs.Decisions.{later_step, waiting}
-use Rattle.alloc_event.specs.Forest.{Collection, with_nodes}
-use Rattle.alloc_event.specs.Kept.{IsWhole}
-use Rattle.alloc_event.specs.Nodes.{is_of}
-use Rattle.alloc_event.specs.Questions.{is_allocated_node, is_deserted_node, is_next_node, is_ready_node, is_root_left}
-use Rattle.alloc_event.specs.Counts.{heads_below, lives_in, waits_in}
-use Rattle.alloc_event.specs.Units.{is_head}
+use Rattle.alloc_event.specs.Decisions.{later_step}
+use Rattle.alloc_event.specs.Questions.{is_allocated_node}
+use Rattle.alloc_event.specs.Counts.{heads_below}
 use Rattle.alloc_event.proofs.calm.Together.{together_same}
 use Rattle.alloc_event.proofs.calm.Calming.{AreNone, calm_none, find_map, later, none_calm}
 use Rattle.alloc_event.proofs.tallies.Holding.{are_held, hangs_in, held_where, holds_unit, is_held, none_deserted}

@@ -1,6 +1,5 @@
 -- The nodes of a unit go together through all forced steps.
-use Rattle.alloc_event.specs.Forest.{Collection}
-use Rattle.alloc_event.specs.Kept.{IsWhole}
+use Rattle.alloc_event.proofs.Common.{Collection, IsWhole}
 use Rattle.alloc_event.proofs.calm.Together.{AreFormed}
 
 -- the nodes of a whole collection are formed so

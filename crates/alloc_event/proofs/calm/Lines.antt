@@ -1,5 +1,6 @@
 -- What lies above a node whose parent stands at a place before it.
-use Rattle.std.proofs.Common.{◌≡◌, ℕ, zero, suc, ap, List, [], ◌∷◌, ◌++◌, take, drop, Some, slice_get}
+use Rattle.alloc_event.proofs.Common.{◌≡◌, ℕ, zero, suc, ap, List, [], ◌∷◌, ◌++◌, take, drop, Some}
+use Rattle.std.proofs.Common.{slice_get}
 use Rattle.std.proofs.lemmas.Option.{same_Some}
 
 -- ---- places

@@ -1,36 +1,21 @@
 -- A collection that rests, whether one of its strong nodes is live or not: nothing is forced in it, and no buffer goes home.
-use Rattle.std.proofs.Common.{◌≡◌, ℕ, ◌==◌, ◌⊎◌, Bool, true, false, ◌&&◌, not, nat_lt, inl, inr, List, [], ◌∷◌, ◌++◌, drop, Option, Some, None, option_map, is_none, is_some, refl, sym, ap, subst, ◌∙◌}
-use Rattle.std.proofs.lemmas.Bool.{not-true}
-use Rattle.std.specs.List.{cons_option, find, list_all}
-use Rattle.std.specs.Option.{option_map_or, option_and_then, unwrap_or}
-use Rattle.sm_names.specs.declared.keys.HeldBuffer.{HeldBuffer}
-use Rattle.sm_names.specs.declared.keys.Interval.{Interval}
-use Rattle.sm_names.specs.declared.keys.NodeKey.{NodeKey}
-use Rattle.sm_names.specs.declared.outcomes.Buffers.{Buffers}
-use Rattle.sm_names.specs.declared.outcomes.Cause.{Cause}
-use Rattle.sm_names.specs.Forced.{forced}
+use Rattle.alloc_event.proofs.Common.{◌≡◌, ℕ, ◌==◌, ◌⊎◌, Bool, true, false, ◌&&◌, not, nat_lt, inl, inr, List, [], ◌∷◌, ◌++◌, drop, Option, Some, None, option_map, is_none, is_some, refl, sym, ap, subst, ◌∙◌, not-true, cons_option, find, list_all, option_map_or, option_and_then, HeldBuffer, Interval, NodeKey, Buffers, Cause, forced, when, and_both, and_left, and_right, both_ways, either_way, or_cases, or_left, or_right, Table, node_at, Entry, Node, strong_count, has_strong, Collection, IsStored, IsWhole, Shelf, collection_in, forest_of, is_filed, nodes_with, shelf_of, shelves_of, members_of, is_root_left, Handles, collection_or_new, standing, In}
+use Rattle.std.specs.Option.{unwrap_or}
 use Rattle.sm_names.specs.Members.{some_strong_live}
-use Rattle.sm_names.specs.Words.{first_some, when}
-use Rattle.sm_names.proofs.SamenessLaws.{and_both, and_left, and_right, both_ways, either_way, or_cases, or_left, or_right}
-use Rattle.node_table.specs.Table.{Table, node_at}
-use Rattle.alloc_event.specs.declared.entry.Entry.{Entry}
-use Rattle.alloc_event.specs.declared.node.Node.{Node}
-use Rattle.alloc_event.specs.Calm.{AreCounted, IsCalm, strong_count}
-use Rattle.alloc_event.specs.Decisions.{Decision, Ends, Loses, decided, first_step, has_strong, mark_of}
+use Rattle.sm_names.specs.Words.{first_some}
+use Rattle.alloc_event.specs.Calm.{AreCounted, IsCalm}
+use Rattle.alloc_event.specs.Decisions.{Decision, Ends, Loses, decided, first_step, mark_of}
 use Rattle.alloc_event.specs.Dropped.{has_given_root}
-use Rattle.alloc_event.specs.Forest.{Collection, pages_in}
-use Rattle.alloc_event.specs.Kept.{IsStored, IsWhole, Shelf, collection_in, forest_of, is_filed, nodes_with, shelf_of, shelves_of}
-use Rattle.alloc_event.specs.Nodes.{members_of}
-use Rattle.alloc_event.specs.Questions.{is_root_left}
+use Rattle.alloc_event.specs.Forest.{pages_in}
 use Rattle.alloc_event.specs.Resting.{is_at_rest, is_kept_by}
 use Rattle.alloc_event.specs.Scenes.{given_few, is_held_strongly, is_out}
-use Rattle.alloc_event.specs.Settling.{Handles, collection_or_new, given_back, is_home_in, standing}
+use Rattle.alloc_event.specs.Settling.{given_back, is_home_in}
 use Rattle.alloc_event.specs.Still.{IsStill}
 use Rattle.alloc_event.proofs.calm.Calming.{AreNone, none_calm, none_decided}
 use Rattle.alloc_event.proofs.calm.Forcing.{forced_made, strong_tie}
 use Rattle.alloc_event.proofs.calm.Watched.{all_out, found_counted, strong_lives}
 use Rattle.alloc_event.proofs.changes.Altering.{found_filed, found_whole}
-use Rattle.sm_names.proofs.ListLaws.{In, filter-list_all}
+use Rattle.sm_names.proofs.ListLaws.{filter-list_all}
 use Rattle.alloc_event.proofs.shelves.Showing.{collection_is, shelf_found}
 
 -- ---- what is forced

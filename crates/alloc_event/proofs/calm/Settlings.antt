@@ -1,10 +1,7 @@
 -- One forced step after another, until none applies.
-use Rattle.std.proofs.Common.{ℕ, ◌≡◌, subst, List, Some}
-use Rattle.sm_names.specs.declared.keys.Interval.{Interval}
-use Rattle.sm_names.specs.Forced.{forced}
+use Rattle.alloc_event.proofs.Common.{ℕ, ◌≡◌, subst, List, Some, Interval, forced, Collection, Handles, Settles, standing}
 use Rattle.sm_names.specs.Marks.{Mark}
-use Rattle.alloc_event.specs.Forest.{Collection}
-use Rattle.alloc_event.specs.Settling.{Handles, Settles, Forces, standing, made}
+use Rattle.alloc_event.specs.Settling.{Forces, made}
 
 -- one step more in front
 pub step_settles : (pool : ℕ) (handles : Handles) (others : List Interval) (old new after : Collection) (mark : Mark) →

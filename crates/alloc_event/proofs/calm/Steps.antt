@@ -1,23 +1,12 @@
 -- A decision is on nodes that are there, and changes something.
-use Rattle.std.proofs.Common.{ℕ, ◌≡◌, ◌≤◌, zero, suc, refl, ap, sym, ◌∙◌, subst, Bool, true, false, not, ◌&&◌, ◌||◌, ◌==◌, nat_lt, is_none, List, [], ◌∷◌, Option, Some, None, inl, inr, arith}
-use Rattle.std.proofs.lemmas.Bool.{ltb-false, not-true}
-use Rattle.std.specs.List.{list_any, list_all, find}
-use Rattle.std.specs.Option.{option_map, option_map_or, option_and_then, IfSome}
-use Rattle.sm_names.specs.declared.keys.NodeKey.{NodeKey}
-use Rattle.sm_names.specs.declared.outcomes.Buffers.{Buffers}
-use Rattle.sm_names.specs.declared.outcomes.Cause.{Cause}
+use Rattle.alloc_event.proofs.Common.{ℕ, ◌≡◌, ◌≤◌, zero, suc, refl, ap, sym, ◌∙◌, subst, Bool, true, false, not, ◌&&◌, ◌||◌, ◌==◌, nat_lt, is_none, List, [], ◌∷◌, Option, Some, None, inl, inr, arith, not-true, list_any, list_all, find, option_map_or, option_and_then, NodeKey, Buffers, Cause, same_key, when, In, In-find, and_left, and_right, and_both, or_left, or_right, both_ways, false_if, same_key-true, same_key-refl, In-any, Node, has_strong, is_left_of, Collection, is_of, node_of, is_deserted_node, is_next_node, is_ready_node, is_root_left, are_distinct, heads_itself}
+use Rattle.std.proofs.lemmas.Bool.{ltb-false}
+use Rattle.std.specs.Option.{option_map, IfSome}
 use Rattle.sm_names.specs.declared.outcomes.Failure.{Failure}
-use Rattle.sm_names.specs.Sameness.{same_key}
-use Rattle.sm_names.specs.Words.{first_some, when}
-use Rattle.sm_names.proofs.ListLaws.{In, In-find}
-use Rattle.sm_names.proofs.SamenessLaws.{and_left, and_right, and_both, or_left, or_right, both_ways, false_if, same_key-true, same_key-refl}
-use Rattle.sm_names.proofs.StandingLaws.{In-any}
-use Rattle.alloc_event.specs.declared.node.Node.{Node}
-use Rattle.alloc_event.specs.Decisions.{Allocates, Ends, IsStep, Loses, Places, decided, early_failure, first_step, has_strong, has_waiting, is_left_of, late_failure, later_step, wanted_by}
-use Rattle.alloc_event.specs.Forest.{Collection}
-use Rattle.alloc_event.specs.Nodes.{is_of, node_of}
-use Rattle.alloc_event.specs.Questions.{is_deserted_node, is_next_node, is_ready_node, is_root_left, is_allocated_node}
-use Rattle.alloc_event.specs.Scenes.{are_distinct, heads_itself, IsSound}
+use Rattle.sm_names.specs.Words.{first_some}
+use Rattle.alloc_event.specs.Decisions.{Allocates, Ends, IsStep, Loses, Places, decided, early_failure, first_step, has_waiting, late_failure, later_step, wanted_by}
+use Rattle.alloc_event.specs.Questions.{is_allocated_node}
+use Rattle.alloc_event.specs.Scenes.{IsSound}
 use Rattle.alloc_event.specs.Settling.{is_root_of}
 use Rattle.alloc_event.proofs.calm.Forcing.{asked_tie}
 

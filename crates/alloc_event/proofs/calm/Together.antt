@@ -1,17 +1,10 @@
 -- The nodes of a unit go together, whatever is changed or forced.
-use Rattle.std.proofs.Common.{◌≡◌, ℕ, zero, suc, ◌<◌, refl, ap, sym, ◌∙◌, subst, Bool, true, false, ◌||◌, ◌⊎◌, inl, inr, is_none, length, List, [], ◌∷◌, ◌++◌, map, reverse, filter, Some, arith}
-use Rattle.std.specs.List.{list_all}
-use Rattle.sm_names.specs.declared.keys.NodeKey.{NodeKey}
-use Rattle.sm_names.specs.Sameness.{same_key}
-use Rattle.sm_names.proofs.ListLaws.{In, In-append, In-filter, In-map}
-use Rattle.sm_names.proofs.SamenessLaws.{both_ways, either_way, or_none_left, or_none_right}
-use Rattle.alloc_event.specs.declared.change.Effect.{Effect}
-use Rattle.alloc_event.specs.declared.node.Node.{Node}
-use Rattle.alloc_event.specs.Decisions.{is_left_of}
-use Rattle.alloc_event.specs.Nodes.{affected, after_allocation, after_effect, given_buffers}
-use Rattle.alloc_event.specs.Scenes.{are_distinct, heads_itself}
-use Rattle.alloc_event.specs.Ties.{are_rooted}
-use Rattle.alloc_event.specs.Units.{GoTogether, are_united, is_head}
+use Rattle.alloc_event.proofs.Common.{◌≡◌, ℕ, zero, suc, ◌<◌, refl, ap, sym, ◌∙◌, subst, Bool, true, false, ◌||◌, ◌⊎◌, inl, inr, is_none, length, List, [], ◌∷◌, ◌++◌, map, reverse, Some, arith, list_all, NodeKey, same_key, In, In-map, both_ways, either_way, Effect, Node, is_left_of, affected, are_distinct, heads_itself, are_rooted, is_head}
+use Rattle.std.proofs.Common.{filter}
+use Rattle.sm_names.proofs.ListLaws.{In-append, In-filter}
+use Rattle.sm_names.proofs.SamenessLaws.{or_none_left, or_none_right}
+use Rattle.alloc_event.specs.Nodes.{after_allocation, after_effect, given_buffers}
+use Rattle.alloc_event.specs.Units.{GoTogether, are_united}
 use Rattle.alloc_event.proofs.tables.Rooted.{distinct_one, left_parent}
 use Rattle.alloc_event.proofs.tallies.Holding.{has_parent, line, own_head, shared, step, still_here}
 

@@ -1,21 +1,13 @@
 -- The first of the nodes that pass a test is the one that all others lie below.
-use Rattle.std.proofs.Common.{◌≡◌, ◌++◌, if◌then◌else◌, refl, ap, sym, ◌∙◌, subst, Bool, true, false, inl, inr, List, [], ◌∷◌, reverse, Option, Some, None}
+use Rattle.alloc_event.proofs.Common.{◌≡◌, ◌++◌, if◌then◌else◌, refl, ap, sym, ◌∙◌, subst, Bool, true, false, inl, inr, List, [], ◌∷◌, reverse, Option, Some, None, find, list_any, option_map_or, NodeKey, same_key, In, In-list_any, and_right, both_ways, either_way, false_if, or_cases, same_key-refl, same_key-true, In-any, Node, is_left_of, is_of, node_of, are_distinct, are_rooted}
 use Rattle.std.proofs.lemmas.List.{reverse-append}
-use Rattle.std.specs.List.{find, list_any}
-use Rattle.std.specs.Option.{option_map_or}
-use Rattle.sm_names.specs.declared.keys.NodeKey.{NodeKey}
-use Rattle.sm_names.specs.Sameness.{same_key}
 use Rattle.sm_names.specs.Words.{last_match}
-use Rattle.sm_names.proofs.ListLaws.{In, In-list_any, In-reverse, In-reverse-back}
+use Rattle.sm_names.proofs.ListLaws.{In-reverse, In-reverse-back}
 use Rattle.sm_names.proofs.ReachLaws.{IsChain}
-use Rattle.sm_names.proofs.SamenessLaws.{and_right, both_ways, either_way, false_if, or_cases, or_none_left, or_none_right, same_key-comm, same_key-refl, same_key-true}
-use Rattle.sm_names.proofs.StandingLaws.{In-any}
-use Rattle.alloc_event.specs.declared.node.Node.{Node}
-use Rattle.alloc_event.specs.Decisions.{is_left_of}
-use Rattle.alloc_event.specs.Nodes.{above_among, is_of, node_of}
+use Rattle.sm_names.proofs.SamenessLaws.{or_none_left, or_none_right, same_key-comm}
+use Rattle.alloc_event.specs.Nodes.{above_among}
 use Rattle.alloc_event.specs.Questions.{is_below}
-use Rattle.alloc_event.specs.Scenes.{are_distinct}
-use Rattle.alloc_event.specs.Ties.{are_rooted, hangs_on}
+use Rattle.alloc_event.specs.Ties.{hangs_on}
 use Rattle.alloc_event.proofs.tables.Chains.{one_line}
 use Rattle.alloc_event.proofs.tables.Rooted.{AreOne, distinct_one, left_in, left_node, line_among, line_of}
 use Rattle.alloc_event.proofs.calm.Steps.{found_by_key}

@@ -1,13 +1,7 @@
 -- The nodes of a unit are of one unit still, whatever is changed or forced.
-use Rattle.std.proofs.Common.{◌≡◌, refl, ap, sym, ◌∙◌, Bool, true, false, ◌||◌, ◌&&◌, not, inl, inr, List, [], ◌∷◌, ◌++◌, map, reverse, is_none}
+use Rattle.alloc_event.proofs.Common.{◌≡◌, refl, ap, sym, ◌∙◌, Bool, true, false, ◌||◌, ◌&&◌, not, inl, inr, List, [], ◌∷◌, ◌++◌, map, reverse, is_none, filter, list_all, option_map_or, same_key, In, and_both, and_left, and_right, either_way, all_on, Node}
 use Rattle.std.proofs.lemmas.List.{reverse-append}
-use Rattle.std.specs.List.{filter, list_all}
-use Rattle.std.specs.Option.{option_map_or}
-use Rattle.sm_names.specs.Sameness.{same_key}
-use Rattle.sm_names.proofs.ListLaws.{In, In-reverse, list_all-filter}
-use Rattle.sm_names.proofs.SamenessLaws.{and_both, and_left, and_right, either_way}
-use Rattle.sm_names.proofs.SizeLaws.{all_on}
-use Rattle.alloc_event.specs.declared.node.Node.{Node}
+use Rattle.sm_names.proofs.ListLaws.{In-reverse, list_all-filter}
 use Rattle.alloc_event.specs.Units.{are_united, shares_unit}
 use Rattle.alloc_event.proofs.tables.KeptRoots.{filter-reverse_aux, map-reverse_aux}
 

@@ -1,20 +1,11 @@
 -- A collection with a strong live node: nothing is forced in it, and no buffer is home.
-use Rattle.std.proofs.Common.{◌≡◌, ℕ, zero, suc, Bool, true, false, ◌&&◌, ◌==◌, not, nat_lt, List, [], ◌∷◌, Some, cond, refl, sym, subst, ◌∙◌, arith}
-use Rattle.std.proofs.lemmas.Bool.{lt-ltb}
-use Rattle.std.specs.List.{find, list_all, list_any}
+use Rattle.alloc_event.proofs.Common.{◌≡◌, ℕ, zero, suc, Bool, true, false, ◌&&◌, ◌==◌, not, nat_lt, List, [], ◌∷◌, Some, cond, refl, sym, subst, ◌∙◌, arith, lt-ltb, find, list_all, list_any, HeldBuffer, Table, Entry, Node, strong_count, has_strong, Collection, members_of, Handles}
 use Rattle.sm_names.specs.declared.keys.Strength.{Strength}
 use Rattle.sm_names.specs.Handles.{is_home}
 use Rattle.sm_names.specs.Members.{some_strong_live}
-use Rattle.sm_names.specs.declared.keys.HeldBuffer.{HeldBuffer}
-use Rattle.node_table.specs.Table.{Table}
-use Rattle.alloc_event.specs.declared.entry.Entry.{Entry}
-use Rattle.alloc_event.specs.declared.node.Node.{Node}
-use Rattle.alloc_event.specs.Calm.{AreCounted, IsCounted, strong_count}
-use Rattle.alloc_event.specs.Decisions.{has_strong}
-use Rattle.alloc_event.specs.Forest.{Collection}
+use Rattle.alloc_event.specs.Calm.{AreCounted, IsCounted}
 use Rattle.alloc_event.specs.Kept.{is_strong}
-use Rattle.alloc_event.specs.Nodes.{members_of}
-use Rattle.alloc_event.specs.Settling.{Handles, is_home_in}
+use Rattle.alloc_event.specs.Settling.{is_home_in}
 use Rattle.alloc_event.proofs.calm.Calming.{count_none, count_some}
 use Rattle.alloc_event.proofs.calm.Forcing.{strong_tie}
 

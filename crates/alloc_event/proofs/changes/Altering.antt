@@ -1,19 +1,10 @@
 -- A change to a collection that is there: what it keeps of the nodes, and where they lie.
-use Rattle.std.proofs.Common.{◌≡◌, ℕ, ◌<◌, ◌==◌, nat_lt, Bool, true, false, ◌||◌, ◌&&◌, not, List, [], ◌∷◌, map, Option, Some, None, option_map, is_some, cond, refl, sym, ap, subst, ◌∙◌, inl, inr, arith}
-use Rattle.std.specs.List.{list_any, list_all, find, cons_option, AllByRecursion}
-use Rattle.std.specs.Option.{option_map_or}
-use Rattle.std.proofs.lemmas.Bool.{eqb-true, eq-eqb, ne_eqb, ltb-true, lt-ltb, false≢true}
+use Rattle.alloc_event.proofs.Common.{◌≡◌, ℕ, ◌<◌, ◌==◌, nat_lt, Bool, true, false, ◌||◌, ◌&&◌, not, List, [], ◌∷◌, map, Option, Some, None, option_map, is_some, cond, refl, sym, ap, subst, ◌∙◌, inl, inr, arith, list_any, list_all, find, cons_option, AllByRecursion, option_map_or, eqb-true, eq-eqb, lt-ltb, false≢true, NodeKey, same_key, and_left, and_right, or_cases, same_key-true, Table, node_at, Change, Effect, Node, Collection, with_nodes, Shelf, AreRising, IsStored, IsWhole, put_shelf, collection_in, nodes_with, forest_of, all_keys, are_filed, is_filed, affected}
+use Rattle.std.proofs.lemmas.Bool.{ne_eqb, ltb-true}
 use Rattle.std.proofs.lemmas.List.Folds.{list_any-append}
-use Rattle.sm_names.specs.declared.keys.NodeKey.{NodeKey}
-use Rattle.sm_names.specs.Sameness.{same_key}
-use Rattle.sm_names.proofs.SamenessLaws.{and_left, and_right, or_cases, same_key-true}
-use Rattle.node_table.specs.Table.{Table, node_at}
-use Rattle.alloc_event.specs.declared.change.Change.{Change}
-use Rattle.alloc_event.specs.declared.change.Effect.{Effect}
-use Rattle.alloc_event.specs.declared.node.Node.{Node}
-use Rattle.alloc_event.specs.Forest.{Collection, with_nodes, node_at as forest_node}
-use Rattle.alloc_event.specs.Kept.{Shelf, AreRising, IsStored, IsWhole, put_shelf, collection_in, nodes_with, forest_of, all_keys, are_filed, is_filed, all_of}
-use Rattle.alloc_event.specs.Nodes.{affected, lost, is_taken}
+use Rattle.alloc_event.specs.Forest.{node_at as forest_node}
+use Rattle.alloc_event.specs.Kept.{all_of}
+use Rattle.alloc_event.specs.Nodes.{lost, is_taken}
 use Rattle.alloc_event.specs.Scenes.{has_tracker_room}
 use Rattle.alloc_event.specs.Settling.{changed, is_birth, no_key, fits, is_there, has_collection}
 use Rattle.alloc_event.proofs.changes.Finishing.{keys_in}

@@ -1,25 +1,16 @@
 -- A change that was made in its place and forces nothing: the forest then, and the entry of its collection.
-use Rattle.std.proofs.Common.{◌≡◌, ℕ, ◌==◌, true, false, List, map, get_or, set, Some, None, option_map, refl, sym, ap, subst, ◌∙◌}
+use Rattle.alloc_event.proofs.Common.{◌≡◌, ℕ, ◌==◌, true, false, List, map, get_or, set, Some, None, option_map, refl, sym, ap, subst, ◌∙◌, find, list_all, list_any, Interval, forced, Table, Change, Entry, Node, Unit, over_but, strong_count, AreUnits, Collection, IsStored, Shelf, are_filed, collection_in, forest_of, is_filed, nodes_with, place_in, put_shelf, shelf_of, shelves_of, reserved_count, Handles, Settles, collection_or_new, put, standing}
 use Rattle.std.proofs.lemmas.List.{get_or_default}
-use Rattle.std.specs.List.{find, list_all, list_any}
-use Rattle.sm_names.specs.declared.keys.Interval.{Interval}
-use Rattle.sm_names.specs.Forced.{forced}
-use Rattle.node_table.specs.Table.{Table}
-use Rattle.alloc_event.specs.declared.change.Change.{Change}
-use Rattle.alloc_event.specs.declared.entry.Entry.{Entry}
-use Rattle.alloc_event.specs.declared.node.Node.{Node}
-use Rattle.alloc_event.specs.declared.units.Unit.{Unit}
-use Rattle.alloc_event.specs.Calm.{AreCounted, IsCalm, IsCounted, over_but, strong_count}
-use Rattle.alloc_event.specs.Counts.{AreUnits, HaveUnits}
+use Rattle.alloc_event.specs.Calm.{AreCounted, IsCalm, IsCounted}
+use Rattle.alloc_event.specs.Counts.{HaveUnits}
 use Rattle.alloc_event.specs.Dropped.{has_given_root}
-use Rattle.alloc_event.specs.Forest.{Collection, beside}
+use Rattle.alloc_event.specs.Forest.{beside}
 use Rattle.alloc_event.specs.InPlace.{IsDone, IsOpen}
-use Rattle.alloc_event.specs.Kept.{Finishes, IsStored, Shelf, Stores, are_filed, collection_in, forest_of, is_filed, nodes_with, place_in, put_shelf, shelf_of, shelves_of}
+use Rattle.alloc_event.specs.Kept.{Finishes, Stores}
 use Rattle.alloc_event.specs.Outcomes.{IsOutcome, changed_in}
-use Rattle.alloc_event.specs.Reserved.{reserved_count}
 use Rattle.alloc_event.specs.Resting.{is_kept_by}
 use Rattle.alloc_event.specs.Scenes.{given_few}
-use Rattle.alloc_event.specs.Settling.{Handles, MayChange, Rests, Settles, changed, collection_or_new, given_back, no_key, put, standing}
+use Rattle.alloc_event.specs.Settling.{MayChange, Rests, changed, given_back, no_key}
 use Rattle.alloc_event.proofs.changes.Altering.{found_filed, found_put, found_whole}
 use Rattle.alloc_event.proofs.calm.Resting.{back_kept, few_found, rests_kept, rests_on}
 use Rattle.alloc_event.proofs.shelves.Counted.{counted_but, counted_put, filed_every, moved_but, set_shelves}

@@ -1,35 +1,24 @@
 -- A collection of which a handle was dropped: nothing is forced in it, and only one buffer goes home.
-use Rattle.std.proofs.Common.{◌≡◌, ℕ, ◌<◌, ◌==◌, zero, suc, Bool, true, false, ◌||◌, ◌&&◌, not, nat_lt, List, [], ◌∷◌, ◌++◌, map, length, get_or, set, Option, Some, None, option_map, refl, sym, ap, subst, ◌∙◌, ◌⊎◌, inl, inr, arith}
+use Rattle.alloc_event.proofs.Common.{◌≡◌, ℕ, ◌<◌, ◌==◌, zero, suc, Bool, true, false, ◌||◌, ◌&&◌, not, nat_lt, List, [], ◌∷◌, ◌++◌, map, length, get_or, set, Option, Some, None, option_map, refl, sym, ap, subst, ◌∙◌, ◌⊎◌, inl, inr, arith, find, filter, list_all, AllByRecursion, option_map_or, Interval, NodeKey, HeldBuffer, and_both, and_left, and_right, either_way, Table, node_at, Entry, Node, Unit, has_strong, Collection, IsStored, IsWhole, Shelf, collection_in, forest_of, nodes_with, place_in, put_shelf, shelf_of, shelves_of, members_of, is_root_left, Handles, collection_or_new, put}
 use Rattle.std.proofs.lemmas.List.{get_or_default}
-use Rattle.std.specs.List.{find, filter, list_all, AllByRecursion}
-use Rattle.std.specs.Option.{option_map_or, unwrap_or}
+use Rattle.std.specs.Option.{unwrap_or}
 use Rattle.sm_names.specs.declared.keys.BufferName.{BufferName}
-use Rattle.sm_names.specs.declared.keys.Interval.{Interval}
-use Rattle.sm_names.specs.declared.keys.NodeKey.{NodeKey}
 use Rattle.sm_names.specs.declared.keys.Strength.{Strength}
 use Rattle.sm_names.specs.Handles.{is_home}
 use Rattle.sm_names.specs.Members.{some_strong_live}
 use Rattle.sm_names.specs.Sameness.{same_buffer}
-use Rattle.sm_names.specs.declared.keys.HeldBuffer.{HeldBuffer}
 use Rattle.sm_names.specs.Words.{sorted_by}
 use Rattle.sm_names.proofs.HandleLaws.{same_buffer-true}
-use Rattle.sm_names.proofs.SamenessLaws.{and_both, and_left, and_right, either_way}
 use Rattle.sm_names.proofs.ListLaws.{filter-list_all}
-use Rattle.node_table.specs.Table.{Table, node_at}
-use Rattle.alloc_event.specs.declared.entry.Entry.{Entry}
-use Rattle.alloc_event.specs.declared.node.Node.{Node}
-use Rattle.alloc_event.specs.declared.units.Unit.{Unit}
 use Rattle.alloc_event.specs.Calm.{AreCounted, IsCounted}
 use Rattle.alloc_event.specs.Counts.{HasUnits, HaveUnits}
-use Rattle.alloc_event.specs.Decisions.{decided, has_strong, mark_of}
+use Rattle.alloc_event.specs.Decisions.{decided, mark_of}
 use Rattle.alloc_event.specs.Dropped.{are_others_out, are_rest_out, has_given_root}
-use Rattle.alloc_event.specs.Forest.{Collection, all_held, beside, collection_at, pages_in}
-use Rattle.alloc_event.specs.Kept.{Finishes, IsStored, IsWhole, Shelf, Stores, collection_in, forest_of, nodes_with, place_in, put_shelf, shelf_of, shelves_of, stored}
-use Rattle.alloc_event.specs.Nodes.{members_of}
+use Rattle.alloc_event.specs.Forest.{all_held, beside, collection_at, pages_in}
+use Rattle.alloc_event.specs.Kept.{Finishes, Stores, stored}
 use Rattle.alloc_event.specs.Parted.{are_parted}
-use Rattle.alloc_event.specs.Questions.{is_root_left}
 use Rattle.alloc_event.specs.Scenes.{by_page, given_few, is_held_strongly, is_out, pages_held}
-use Rattle.alloc_event.specs.Settling.{Handles, Rests, collection_or_new, given_back, put}
+use Rattle.alloc_event.specs.Settling.{Rests, given_back}
 use Rattle.alloc_event.proofs.calm.Calming.{none_calm}
 use Rattle.alloc_event.proofs.calm.Forcing.{forced_made}
 use Rattle.alloc_event.proofs.calm.Resting.{root_first, still_decided}

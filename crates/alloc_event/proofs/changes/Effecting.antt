@@ -1,35 +1,20 @@
 -- An effect that is made in its place, and what the count of strong live nodes becomes.
-use Rattle.std.proofs.Common.{◌≡◌, ◌≢◌, ℕ, zero, suc, nat_lt, ◌+◌, ◌==◌, Bool, true, false, ◌||◌, ◌&&◌, not, if◌then◌else◌, is_none, is_some, ◌<◌, ◌⊎◌, inl, inr, List, [], ◌∷◌, map, length, set, Option, Some, None, option_map, refl, sym, ap, subst, ◌∙◌, arith}
-use Rattle.std.proofs.lemmas.Bool.{eqb-true, lt-ltb, not-true}
+use Rattle.alloc_event.proofs.Common.{◌≡◌, ◌≢◌, ℕ, zero, suc, nat_lt, ◌+◌, ◌==◌, Bool, true, false, ◌||◌, ◌&&◌, not, if◌then◌else◌, is_none, is_some, ◌<◌, ◌⊎◌, inl, inr, List, [], ◌∷◌, map, length, set, Option, Some, None, option_map, refl, sym, ap, subst, ◌∙◌, arith, eqb-true, lt-ltb, not-true, list_all, list_any, option_map_or, NodeKey, Cause, forced, same_key, times, In, In-find, In-list_any, In-map, In-map-back, and_both, and_left, and_right, both_ways, either_way, false_if, same_key-refl, same_key-true, Table, node_at, parent_at, Change, Effect, Node, Unit, strong_count, over_but, AreUnits, lives_in, unit_at, waits_in, Collection, with_nodes, IsStored, IsWhole, Shelf, collection_in, forest_of, is_filed, nodes_with, affected, is_over, is_live_node, collection_or_new, put, standing, is_head}
 use Rattle.std.proofs.lemmas.List.{get_or-set_other, get_or-set_same, length-set}
-use Rattle.std.specs.List.{list_all, list_any}
-use Rattle.std.specs.Option.{option_map_or, unwrap_or}
+use Rattle.std.specs.Option.{unwrap_or}
 use Rattle.std.proofs.Math.Bool.{and-false}
-use Rattle.sm_names.specs.declared.keys.NodeKey.{NodeKey}
-use Rattle.sm_names.specs.declared.outcomes.Cause.{Cause}
-use Rattle.sm_names.specs.Forced.{forced}
-use Rattle.sm_names.specs.Sameness.{same_key}
-use Rattle.sm_names.specs.Words.{times}
-use Rattle.sm_names.proofs.ListLaws.{In, In-find, In-list_any, In-map, In-map-back}
-use Rattle.sm_names.proofs.SamenessLaws.{and_both, and_left, and_right, both_ways, either_way, false_if, same_key-refl, same_key-true, or_none_right}
-use Rattle.node_table.specs.Table.{Table, node_at, parent_at}
+use Rattle.sm_names.proofs.SamenessLaws.{or_none_right}
 use Rattle.node_table.specs.Changes.{Writes}
 use Rattle.node_table.specs.Lending.{table_with_node}
-use Rattle.alloc_event.specs.declared.change.Change.{Change}
-use Rattle.alloc_event.specs.declared.change.Effect.{Effect}
-use Rattle.alloc_event.specs.declared.node.Node.{Node}
-use Rattle.alloc_event.specs.declared.units.Unit.{Unit}
-use Rattle.alloc_event.specs.Calm.{IsCalm, strong_count, over_but}
-use Rattle.alloc_event.specs.Counts.{AreUnits, HasUnit, HasUnits, decrement_if, heads_below, is_unready, lives_in, no_unit, unit_at, unit_of, waits_in}
+use Rattle.alloc_event.specs.Calm.{IsCalm}
+use Rattle.alloc_event.specs.Counts.{HasUnit, HasUnits, decrement_if, heads_below, is_unready, no_unit, unit_of}
 use Rattle.alloc_event.specs.Dropped.{has_given_root}
 use Rattle.alloc_event.specs.Due.{is_due_at, is_served_at}
-use Rattle.alloc_event.specs.Forest.{Collection, beside, with_nodes}
+use Rattle.alloc_event.specs.Forest.{beside}
 use Rattle.alloc_event.specs.InPlace.{IsMade, IsOpen, MayAffect, bit, is_plain}
-use Rattle.alloc_event.specs.Kept.{Finishes, IsStored, IsWhole, Shelf, Stores, collection_in, forest_of, is_filed, is_strong, nodes_with}
-use Rattle.alloc_event.specs.Nodes.{affected, is_over}
-use Rattle.alloc_event.specs.Questions.{is_allocated_node, is_live_node}
-use Rattle.alloc_event.specs.Settling.{Rests, changed, collection_or_new, given_back, is_there, no_key, put, standing}
-use Rattle.alloc_event.specs.Units.{is_head}
+use Rattle.alloc_event.specs.Kept.{Finishes, Stores, is_strong}
+use Rattle.alloc_event.specs.Questions.{is_allocated_node}
+use Rattle.alloc_event.specs.Settling.{Rests, changed, given_back, is_there, no_key}
 use Rattle.alloc_event.proofs.calm.Together.{together_effect}
 use Rattle.alloc_event.proofs.tallies.Amounts.{times_changed}
 use Rattle.alloc_event.proofs.changes.Altering.{found_filed, found_put, found_whole, looked-of, same_affected}

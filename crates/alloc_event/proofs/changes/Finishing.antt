@@ -1,17 +1,8 @@
 -- What stays true where a collection that was worked on is put back.
-use Rattle.std.proofs.Common.{◌≡◌, ◌≢◌, ℕ, ◌<◌, ◌==◌, Bool, true, false, List, [], ◌∷◌, map, Option, Some, None, option_map, is_some, cond, refl, sym, ap, subst, ◌∙◌, inl, inr, arith}
-use Rattle.std.specs.List.{list_all, AllByRecursion, cons_option}
-use Rattle.std.specs.Option.{option_map_or}
-use Rattle.std.proofs.lemmas.Bool.{eqb-true, eqb-false, cases_eq, false≢true, ltb-true}
-use Rattle.sm_names.specs.declared.keys.NodeKey.{NodeKey}
-use Rattle.sm_names.specs.Sameness.{same_key}
-use Rattle.sm_names.proofs.ListLaws.{In}
-use Rattle.sm_names.proofs.SamenessLaws.{and_left, and_right, same_key-true}
-use Rattle.node_table.specs.Table.{Table, node_at, parent_at, was_given}
-use Rattle.alloc_event.specs.declared.node.Node.{Node}
-use Rattle.alloc_event.specs.Forest.{Collection}
-use Rattle.alloc_event.specs.Kept.{AreHeadsGiven, Shelf, AreRising, IsStored, IsWhole, Stores, put_shelf, collection_in, nodes_with, all_keys, are_filed, is_filed, all_of, stored, written}
-use Rattle.alloc_event.specs.Settling.{put}
+use Rattle.alloc_event.proofs.Common.{◌≡◌, ◌≢◌, ℕ, ◌<◌, ◌==◌, Bool, true, false, List, [], ◌∷◌, map, Option, Some, None, option_map, is_some, cond, refl, sym, ap, subst, ◌∙◌, inl, inr, arith, list_all, AllByRecursion, cons_option, option_map_or, eqb-true, eqb-false, false≢true, NodeKey, same_key, In, and_left, and_right, same_key-true, Table, node_at, parent_at, Node, Collection, Shelf, AreRising, IsStored, IsWhole, put_shelf, collection_in, nodes_with, all_keys, are_filed, is_filed, put}
+use Rattle.std.proofs.lemmas.Bool.{cases_eq, ltb-true}
+use Rattle.node_table.specs.Table.{was_given}
+use Rattle.alloc_event.specs.Kept.{AreHeadsGiven, Stores, all_of, stored, written}
 use Rattle.alloc_event.proofs.tables.Kin.{kin_kept}
 use Rattle.alloc_event.proofs.tables.Writing.{given-same}
 use Rattle.alloc_event.proofs.tables.Hanging.{in_all}

@@ -1,15 +1,8 @@
 -- A shelf that is put in the place of another with its id.
-use Rattle.std.proofs.Common.{◌≡◌, ◌≢◌, ℕ, ◌<◌, ◌==◌, nat_lt, refl, ap, ◌∙◌, true, false, inl, inr, List, [], ◌∷◌, map, Some, arith}
-use Rattle.std.proofs.lemmas.Bool.{eq-eqb, eqb-false, eqb-true, le-ltb}
-use Rattle.std.specs.List.{AllByRecursion, find}
-use Rattle.sm_names.proofs.ListLaws.{In, In-find, map-In}
-use Rattle.sm_names.proofs.SamenessLaws.{either_way}
-use Rattle.node_table.specs.Table.{Table}
-use Rattle.alloc_event.specs.declared.node.Node.{Node}
-use Rattle.alloc_event.specs.declared.units.Unit.{Unit}
-use Rattle.alloc_event.specs.Counts.{AreUnits, HasUnits}
-use Rattle.alloc_event.specs.Kept.{AreRising, Shelf, collection_in, nodes_with, put_shelf}
-use Rattle.alloc_event.specs.Settling.{put}
+use Rattle.alloc_event.proofs.Common.{◌≡◌, ◌≢◌, ℕ, ◌<◌, ◌==◌, nat_lt, refl, ap, ◌∙◌, true, false, inl, inr, List, [], ◌∷◌, map, Some, arith, eq-eqb, eqb-false, eqb-true, AllByRecursion, find, In, In-find, either_way, Table, Node, Unit, AreUnits, AreRising, Shelf, collection_in, nodes_with, put_shelf, put}
+use Rattle.std.proofs.lemmas.Bool.{le-ltb}
+use Rattle.sm_names.proofs.ListLaws.{map-In}
+use Rattle.alloc_event.specs.Counts.{HasUnits}
 use Rattle.alloc_event.proofs.tallies.Slots.{all_at}
 
 -- ---- one shelf in the place of another with its id

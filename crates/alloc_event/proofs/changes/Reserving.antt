@@ -1,20 +1,8 @@
 -- What is reserved in a collection once an effect is made in it.
-use Rattle.std.proofs.Common.{◌≡◌, ℕ, ◌+◌, true, false, List, map, Option, Some, None, IfSome, refl, sym, ap, subst, ◌∙◌}
-use Rattle.sm_names.specs.declared.keys.NodeKey.{NodeKey}
-use Rattle.sm_names.specs.declared.outcomes.Cause.{Cause}
-use Rattle.sm_names.specs.Demands.{Demand}
-use Rattle.sm_names.specs.Sameness.{same_key}
-use Rattle.sm_names.proofs.ListLaws.{In}
-use Rattle.sm_names.proofs.SamenessLaws.{same_key-refl}
-use Rattle.node_table.specs.Table.{Table, node_at}
-use Rattle.alloc_event.specs.declared.change.Change.{Change}
-use Rattle.alloc_event.specs.declared.change.Effect.{Effect}
-use Rattle.alloc_event.specs.declared.node.Node.{Node}
-use Rattle.alloc_event.specs.declared.units.Unit.{Unit}
+use Rattle.alloc_event.proofs.Common.{◌≡◌, ℕ, ◌+◌, true, false, List, map, Option, Some, None, refl, sym, ap, subst, ◌∙◌, NodeKey, Cause, Demand, same_key, In, same_key-refl, Table, node_at, Change, Effect, Node, Unit, IsWhole, Shelf, collection_in, nodes_with, affected, reserved_count}
+use Rattle.std.proofs.Common.{IfSome}
 use Rattle.alloc_event.specs.InPlace.{IsOpen}
-use Rattle.alloc_event.specs.Kept.{IsWhole, Shelf, collection_in, nodes_with}
-use Rattle.alloc_event.specs.Nodes.{affected}
-use Rattle.alloc_event.specs.Reserved.{asked_by, camped, reserved_count}
+use Rattle.alloc_event.specs.Reserved.{asked_by, camped}
 use Rattle.alloc_event.proofs.changes.Altering.{found_whole}
 use Rattle.alloc_event.proofs.changes.Effecting.{alone_affected}
 use Rattle.alloc_event.proofs.tables.Hanging.{in_all, looked_there}

@@ -1,17 +1,12 @@
 -- What was finished of one collection, told of the forest.
-use Rattle.std.proofs.Common.{◌≡◌, ℕ, Bool, true, false, ◌||◌, nat_lt, nat_le, List, [], ◌∷◌, ◌++◌, slice_index_or, Option, Some, None, refl, sym, ap, subst, ◌∙◌, arith}
-use Rattle.std.specs.Option.{option_map_or}
+use Rattle.alloc_event.proofs.Common.{◌≡◌, ℕ, Bool, true, false, ◌||◌, nat_lt, List, [], ◌∷◌, ◌++◌, Option, Some, None, refl, sym, ap, subst, ◌∙◌, arith, option_map_or, NodeKey, forced, same_key, Table, Change, Node, Collection, Shelf, IsStored, forest_of, node_of, Handles, Settles, collection_or_new, standing}
+use Rattle.std.proofs.Common.{nat_le, slice_index_or}
 use Rattle.std.proofs.lemmas.Bool.{le-leb}
-use Rattle.sm_names.specs.declared.keys.NodeKey.{NodeKey}
-use Rattle.sm_names.specs.Forced.{forced}
-use Rattle.sm_names.specs.Sameness.{same_key}
-use Rattle.node_table.specs.Table.{Table, was_given}
-use Rattle.alloc_event.specs.declared.change.Change.{Change}
-use Rattle.alloc_event.specs.declared.node.Node.{Node}
-use Rattle.alloc_event.specs.Forest.{Collection, given, beside}
-use Rattle.alloc_event.specs.Kept.{Shelf, IsStored, Finishes, Gives, SameTable, forest_of}
-use Rattle.alloc_event.specs.Nodes.{node_of, new_child}
-use Rattle.alloc_event.specs.Settling.{Handles, Settled, Settles, changed, collection_or_new, given_back, is_birth, no_key, standing, with_birth}
+use Rattle.node_table.specs.Table.{was_given}
+use Rattle.alloc_event.specs.Forest.{given, beside}
+use Rattle.alloc_event.specs.Kept.{Finishes, Gives, SameTable}
+use Rattle.alloc_event.specs.Nodes.{new_child}
+use Rattle.alloc_event.specs.Settling.{Settled, changed, given_back, is_birth, no_key, with_birth}
 use Rattle.alloc_event.proofs.newborns.Newborn.{before_is}
 
 -- a key was given by the forest where the table gave it

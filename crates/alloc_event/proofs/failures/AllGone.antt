@@ -1,17 +1,8 @@
 -- What takes the root takes all that is left of a collection, and nothing is forced in one that is gone.
-use Rattle.std.proofs.Common.{◌≡◌, refl, ap, sym, ◌∙◌, subst, Bool, true, false, ◌||◌, inl, inr, List, [], ◌∷◌, drop, Option, Some, None, is_none, is_some}
-use Rattle.std.specs.List.{find, list_all, list_any}
-use Rattle.std.specs.Option.{option_map_or}
+use Rattle.alloc_event.proofs.Common.{◌≡◌, refl, ap, sym, ◌∙◌, subst, Bool, true, false, ◌||◌, inl, inr, List, [], ◌∷◌, drop, Option, Some, None, is_none, is_some, find, list_all, list_any, option_map_or, NodeKey, Buffers, In, and_left, and_right, both_ways, Node, strong_count, is_left_of, is_deserted_node, is_next_node, is_root_left, are_rooted}
 use Rattle.std.proofs.Math.Bool.{and-false}
-use Rattle.sm_names.specs.declared.keys.NodeKey.{NodeKey}
-use Rattle.sm_names.specs.declared.outcomes.Buffers.{Buffers}
-use Rattle.sm_names.proofs.ListLaws.{In}
-use Rattle.sm_names.proofs.SamenessLaws.{and_left, and_right, both_ways}
-use Rattle.alloc_event.specs.declared.node.Node.{Node}
-use Rattle.alloc_event.specs.Calm.{strong_count}
-use Rattle.alloc_event.specs.Decisions.{decided, is_left_of}
-use Rattle.alloc_event.specs.Questions.{is_deserted_node, is_next_node, is_root_left}
-use Rattle.alloc_event.specs.Ties.{are_rooted, hangs_on}
+use Rattle.alloc_event.specs.Decisions.{decided}
+use Rattle.alloc_event.specs.Ties.{hangs_on}
 use Rattle.alloc_event.proofs.calm.Calming.{later}
 use Rattle.alloc_event.proofs.calm.Steps.{all-In}
 use Rattle.alloc_event.proofs.calm.Resting.{still_decided}

@@ -1,25 +1,11 @@
 -- A calm collection stays calm where nodes fall, as far as the counts of the unit above them tell.
-use Rattle.std.proofs.Common.{◌≡◌, ℕ, zero, suc, ◌<◌, refl, ap, sym, ◌∙◌, subst, Bool, true, false, not, ◌&&◌, ◌||◌, is_none, ◌⊎◌, inl, inr, List, [], ◌∷◌, map, length, Option, Some, None, arith}
-use Rattle.std.proofs.lemmas.Bool.{not-true, not-false}
-use Rattle.std.specs.List.{list_any, list_all, find}
-use Rattle.std.specs.Option.{option_map, option_map_or}
+use Rattle.alloc_event.proofs.Common.{◌≡◌, ℕ, zero, suc, ◌<◌, refl, ap, sym, ◌∙◌, subst, Bool, true, false, not, ◌&&◌, ◌||◌, is_none, ◌⊎◌, inl, inr, List, [], ◌∷◌, map, length, Option, Some, None, arith, not-true, list_any, list_all, find, option_map_or, NodeKey, same_key, times, In, In-list_any, In-map, In-map-back, and_both, and_left, and_right, both_ways, either_way, false_if, same_key-true, some-injective, In-any, all_on, Node, waits_in, is_left_of, waiting, Collection, IsWhole, is_of, is_next_node, is_ready_node, is_root_left, are_distinct, heads_itself, is_head}
+use Rattle.std.proofs.lemmas.Bool.{not-false}
+use Rattle.std.specs.Option.{option_map}
 use Rattle.std.proofs.Math.Bool.{or-true}
-use Rattle.sm_names.specs.declared.keys.NodeKey.{NodeKey}
-use Rattle.sm_names.specs.Sameness.{same_key}
-use Rattle.sm_names.specs.Words.{times}
-use Rattle.sm_names.proofs.ListLaws.{In, In-list_any, In-map, In-map-back, list_any-map}
-use Rattle.sm_names.proofs.SamenessLaws.{and_both, and_left, and_right, both_ways, either_way, false_if, same_key-true, or_none_right, or_none_left, some-injective}
-use Rattle.sm_names.proofs.StandingLaws.{In-any}
-use Rattle.sm_names.proofs.SizeLaws.{all_on}
-use Rattle.alloc_event.specs.declared.node.Node.{Node}
-use Rattle.alloc_event.specs.Counts.{waits_in}
-use Rattle.alloc_event.specs.Decisions.{is_left_of, waiting}
-use Rattle.alloc_event.specs.Forest.{Collection}
-use Rattle.alloc_event.specs.Kept.{IsWhole}
-use Rattle.alloc_event.specs.Nodes.{is_of}
-use Rattle.alloc_event.specs.Questions.{is_allocated_node, is_next_node, is_ready_node, is_root_left}
-use Rattle.alloc_event.specs.Scenes.{are_distinct, heads_itself}
-use Rattle.alloc_event.specs.Units.{is_head}
+use Rattle.sm_names.proofs.ListLaws.{list_any-map}
+use Rattle.sm_names.proofs.SamenessLaws.{or_none_right, or_none_left}
+use Rattle.alloc_event.specs.Questions.{is_allocated_node}
 use Rattle.alloc_event.proofs.calm.Calming.{count_none}
 use Rattle.alloc_event.proofs.tallies.Holding.{hangs_in, line, own_head, shared, step, still_here}
 use Rattle.alloc_event.proofs.calm.Keeping.{some_pass}

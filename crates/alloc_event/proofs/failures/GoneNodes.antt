@@ -1,18 +1,9 @@
 -- A node that goes: what it keeps, what it counts for no more, and how it is written.
-use Rattle.std.proofs.Common.{◌≡◌, ℕ, ◌==◌, refl, ap, sym, ◌∙◌, subst, Bool, true, false, not, ◌&&◌, ◌||◌, ◌⊎◌, inl, inr, if◌then◌else◌, List, [], ◌∷◌, map, Option, Some, None}
-use Rattle.std.specs.List.{cons_option, list_all, list_any}
-use Rattle.std.specs.Option.{option_map_or}
+use Rattle.alloc_event.proofs.Common.{◌≡◌, ℕ, ◌==◌, refl, ap, sym, ◌∙◌, subst, Bool, true, false, not, ◌&&◌, ◌||◌, ◌⊎◌, inl, inr, if◌then◌else◌, List, [], ◌∷◌, map, Option, Some, None, cons_option, list_all, list_any, option_map_or, NodeKey, same_key, In, and_both, and_left, and_right, either_way, or_cases, same_key-refl, same_key-true, Table, node_at, Node, lives_in, waits_in, is_filed, nodes_with}
 use Rattle.std.proofs.Math.Bool.{and-false, and-true}
-use Rattle.sm_names.specs.declared.keys.NodeKey.{NodeKey}
-use Rattle.sm_names.specs.Sameness.{same_key}
-use Rattle.sm_names.proofs.ListLaws.{In}
-use Rattle.sm_names.proofs.SamenessLaws.{and_both, and_left, and_right, either_way, or_cases, same_key-refl, same_key-true}
-use Rattle.node_table.specs.Table.{Table, node_at}
 use Rattle.alloc_event.specs.declared.falling.Going.{Going}
-use Rattle.alloc_event.specs.declared.node.Node.{Node}
-use Rattle.alloc_event.specs.Counts.{lives_in, waits_in}
 use Rattle.alloc_event.specs.Falling.{gone_by}
-use Rattle.alloc_event.specs.Kept.{all_of, is_filed, is_strong, nodes_with, stored, written}
+use Rattle.alloc_event.specs.Kept.{all_of, is_strong, stored, written}
 use Rattle.alloc_event.specs.Reserved.{camped}
 use Rattle.alloc_event.proofs.changes.Finishing.{keys_in}
 use Rattle.alloc_event.proofs.lists.Lookups.{same_key-swap}

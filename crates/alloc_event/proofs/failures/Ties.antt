@@ -1,25 +1,19 @@
 -- What a failure takes of a table of nodes is what a loss takes of their collection.
-use Rattle.std.proofs.Common.{◌≡◌, refl, ap, sym, ◌∙◌, subst, Bool, true, false, cond, ◌||◌, ◌&&◌, not, inl, inr, List, [], ◌∷◌, map, reverse, filter, Option, Some, None, is_some, ◌↔◌}
+use Rattle.alloc_event.proofs.Common.{◌≡◌, refl, ap, sym, ◌∙◌, subst, Bool, true, false, cond, ◌||◌, ◌&&◌, not, inl, inr, List, [], ◌∷◌, map, reverse, Option, Some, None, is_some, list_any, option_map_or, NodeKey, same_key, In, In-find, In-list_any, In-map, In-map-back, and_both, and_left, and_right, either_way, or_right, same_key-refl, same_key-true, In-any, Table, node_at, parent_at, Node, is_left_of, is_of, members_of, node_of}
+use Rattle.std.proofs.Common.{filter, ◌↔◌}
 use Rattle.std.proofs.lemmas.Bool.{not_from_false}
 use Rattle.std.proofs.lemmas.Map.Views.{Contains-from_any, list_any-from_Contains}
 use Rattle.std.specs.Cmp.{IsEquivalence}
-use Rattle.std.specs.List.{list_any}
-use Rattle.std.specs.Option.{option_map_or}
-use Rattle.sm_names.specs.declared.keys.NodeKey.{NodeKey}
 use Rattle.sm_names.specs.declared.outcomes.Fault.{Fault}
 use Rattle.sm_names.specs.Changes.{blocks, highest}
 use Rattle.sm_names.specs.Losses.{Reach, top}
 use Rattle.sm_names.specs.Members.{Member, is_under}
-use Rattle.sm_names.specs.Sameness.{same_key}
-use Rattle.sm_names.proofs.ListLaws.{In, In-filter, In-filter-back, In-find, In-list_any, In-map, In-map-back, is_some-find, map-In}
+use Rattle.sm_names.proofs.ListLaws.{In-filter, In-filter-back, is_some-find, map-In}
 use Rattle.sm_names.proofs.ReachLaws.{IsChain, top_on}
-use Rattle.sm_names.proofs.SamenessLaws.{and_both, and_left, and_right, either_way, or_right, same_key-comm, same_key-refl, same_key-true}
-use Rattle.sm_names.proofs.StandingLaws.{In-any, both_tests, top-same}
-use Rattle.node_table.specs.Table.{Table, node_at, parent_at}
+use Rattle.sm_names.proofs.SamenessLaws.{same_key-comm}
+use Rattle.sm_names.proofs.StandingLaws.{both_tests, top-same}
 use Rattle.failure_domains.specs.Falls.{blocked_at}
-use Rattle.alloc_event.specs.declared.node.Node.{Node}
-use Rattle.alloc_event.specs.Decisions.{is_left_of}
-use Rattle.alloc_event.specs.Nodes.{above_among, after_loss, is_of, is_taken, lost, member_of, members_of, node_of}
+use Rattle.alloc_event.specs.Nodes.{above_among, after_loss, is_taken, lost, member_of}
 use Rattle.alloc_event.proofs.tables.Chains.{reached_by_line}
 use Rattle.alloc_event.specs.Ties.{IsFall, IsTied, is_blocking}
 use Rattle.alloc_event.specs.Questions.{is_below}

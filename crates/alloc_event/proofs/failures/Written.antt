@@ -1,22 +1,16 @@
 -- Nodes that are written as they go, one after another.
-use Rattle.std.proofs.Common.{◌≡◌, ◌≢◌, ℕ, zero, suc, ◌<◌, Bool, true, false, ◌||◌, inl, if◌then◌else◌, List, [], ◌∷◌, ◌++◌, length, map, take, get_or, Option, Some, None, option_map, refl, ap, sym, ◌∙◌, subst, arith}
+use Rattle.alloc_event.proofs.Common.{◌≡◌, ◌≢◌, ℕ, zero, suc, ◌<◌, Bool, true, false, ◌||◌, inl, if◌then◌else◌, List, [], ◌∷◌, ◌++◌, length, map, take, get_or, Option, Some, None, option_map, refl, ap, sym, ◌∙◌, subst, arith, cons_option, list_any, option_map_or, NodeKey, same_key, or_right, same_key-refl, Table, node_at, Node, nodes_with, is_over}
 use Rattle.std.proofs.Math.Bool.{or-false}
 use Rattle.std.proofs.lemmas.List.{append-nil, map-append}
 use Rattle.std.proofs.lemmas.List.Elements.{filter_map-append}
 use Rattle.std.proofs.lemmas.List.Folds.{list_any-append}
-use Rattle.std.specs.List.{AllPairs, cons_option, list_any}
-use Rattle.std.specs.Option.{option_map_or}
-use Rattle.sm_names.specs.declared.keys.NodeKey.{NodeKey}
-use Rattle.sm_names.specs.Sameness.{same_key}
-use Rattle.sm_names.proofs.SamenessLaws.{or_none_left, or_none_right, or_right, same_key-refl}
-use Rattle.node_table.specs.Table.{Table, node_at}
+use Rattle.std.specs.List.{AllPairs}
+use Rattle.sm_names.proofs.SamenessLaws.{or_none_left, or_none_right}
 use Rattle.node_table.specs.Changes.{Writes}
 use Rattle.node_table.specs.Lending.{table_with_node}
 use Rattle.alloc_event.specs.declared.falling.Going.{Going}
-use Rattle.alloc_event.specs.declared.node.Node.{Node}
 use Rattle.alloc_event.specs.Falling.{gone_by}
-use Rattle.alloc_event.specs.Kept.{Stores, nodes_with, stored}
-use Rattle.alloc_event.specs.Nodes.{is_over}
+use Rattle.alloc_event.specs.Kept.{Stores, stored}
 use Rattle.alloc_event.proofs.failures.GoneNodes.{gone_same, stored_goes}
 use Rattle.alloc_event.proofs.lists.Lookups.{same_key-swap}
 use Rattle.alloc_event.proofs.tables.Storing.{Stores-more}

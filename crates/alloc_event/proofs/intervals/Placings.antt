@@ -1,24 +1,19 @@
 -- What the allocation of a root unit makes of a collection and of the pool.
-use Rattle.std.proofs.Common.{ℕ, ◌+◌, ◌≡◌, refl, ap, sym, ◌∙◌, subst, Bool, if◌then◌else◌, is_none, List, [], ◌∷◌, ◌++◌, map, length, Option, Some, append_assoc}
+use Rattle.alloc_event.proofs.Common.{ℕ, ◌+◌, ◌≡◌, refl, ap, sym, ◌∙◌, subst, Bool, if◌then◌else◌, is_none, List, [], ◌∷◌, ◌++◌, map, length, Option, Some, option_map_or, Interval, NodeKey, Buffers, HeldBuffer, when, Collection, with_nodes}
+use Rattle.std.proofs.Common.{append_assoc}
 use Rattle.std.proofs.lemmas.List.{map-append}
 use Rattle.std.specs.List.{range_with_len}
-use Rattle.std.specs.Option.{option_map_or}
-use Rattle.sm_names.specs.declared.keys.Interval.{Interval}
-use Rattle.sm_names.specs.declared.keys.NodeKey.{NodeKey}
-use Rattle.sm_names.specs.declared.outcomes.Buffers.{Buffers}
 use Rattle.sm_names.specs.declared.outcomes.Failure.{Failure}
 use Rattle.sm_names.specs.Apart.{at_pages}
 use Rattle.sm_names.specs.Forced.{outcome}
 use Rattle.sm_names.specs.Handles.{names}
 use Rattle.sm_names.specs.Marks.{Mark}
 use Rattle.sm_names.specs.Pages.{places, pages_of}
-use Rattle.sm_names.specs.declared.keys.HeldBuffer.{HeldBuffer}
 use Rattle.sm_names.specs.Timelines.{laid_out}
-use Rattle.sm_names.specs.Words.{when}
 use Rattle.sm_names.proofs.PlaceLaws.{places_same}
 use Rattle.buffer_pool.specs.Holdings.{with_buffers}
 use Rattle.alloc_event.specs.Decisions.{IsPlacing, Places, mark_of}
-use Rattle.alloc_event.specs.Forest.{Collection, pages_in, with_nodes}
+use Rattle.alloc_event.specs.Forest.{pages_in}
 use Rattle.alloc_event.specs.Nodes.{after_allocation}
 use Rattle.alloc_event.specs.Scenes.{by_page, laid, name_of}
 use Rattle.alloc_event.specs.Settling.{is_root_of, made}

@@ -1,15 +1,9 @@
 -- The pages of the pool, of one collection and of those beside it.
-use Rattle.std.proofs.Common.{◌≡◌, true, List, [], ◌∷◌, ◌++◌, map, refl, sym, ap, ◌∙◌}
+use Rattle.alloc_event.proofs.Common.{◌≡◌, true, List, [], ◌∷◌, ◌++◌, map, refl, sym, ap, ◌∙◌, Interval, HeldBuffer, Table, Node, Collection, Shelf, AreRising, put_shelf, collection_in, forest_of, put}
 use Rattle.std.specs.List.{flat_map}
-use Rattle.sm_names.specs.declared.keys.Interval.{Interval}
-use Rattle.sm_names.specs.declared.keys.HeldBuffer.{HeldBuffer}
 use Rattle.sm_names.specs.Words.{sorted_by}
-use Rattle.node_table.specs.Table.{Table}
-use Rattle.alloc_event.specs.declared.node.Node.{Node}
-use Rattle.alloc_event.specs.Forest.{Collection, all_held, pages_in, beside}
-use Rattle.alloc_event.specs.Kept.{Shelf, AreRising, put_shelf, collection_in, forest_of}
+use Rattle.alloc_event.specs.Forest.{all_held, pages_in, beside}
 use Rattle.alloc_event.specs.Parted.{are_parted}
-use Rattle.alloc_event.specs.Settling.{put}
 use Rattle.alloc_event.proofs.lists.SameIntervals.{start_of, parted-sorted}
 use Rattle.alloc_event.proofs.shelves.Putting.{put-map, pages_held, pages-put}
 

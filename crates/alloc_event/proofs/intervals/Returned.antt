@@ -1,17 +1,14 @@
 -- A buffer that gives its pages back leaves those of the others in order.
-use Rattle.std.proofs.Common.{ℕ, ◌+◌, ◌≡◌, ◌≤◌, ◌<◌, refl, ap, sym, ◌∙◌, subst, Bool, true, false, not, ◌&&◌, ◌==◌, nat_lt, nat_le, cond, List, [], ◌∷◌, ◌++◌, length, take, drop, get_or, Contains, inl, inr, append_assoc, arith}
-use Rattle.std.proofs.lemmas.Bool.{ltb-true, ltb-false, leb-true, eqb-true, eq-eqb, not-true}
+use Rattle.alloc_event.proofs.Common.{ℕ, ◌+◌, ◌≡◌, ◌≤◌, ◌<◌, refl, ap, sym, ◌∙◌, subst, Bool, true, false, not, ◌&&◌, ◌==◌, nat_lt, cond, List, [], ◌∷◌, ◌++◌, length, take, drop, get_or, inl, inr, arith, eqb-true, eq-eqb, not-true, list_all, filter, Interval, times, In, and_both, and_left, and_right, either_way, HeldBuffer}
+use Rattle.std.proofs.Common.{nat_le, Contains, append_assoc}
+use Rattle.std.proofs.lemmas.Bool.{ltb-true, ltb-false, leb-true}
 use Rattle.std.proofs.lemmas.List.{take_more, at_drop_more}
 use Rattle.std.proofs.lemmas.List.Elements.{filter-append}
-use Rattle.std.specs.List.{list_all, filter}
-use Rattle.sm_names.specs.declared.keys.Interval.{Interval}
-use Rattle.sm_names.specs.Words.{times}
-use Rattle.sm_names.proofs.ListLaws.{In, times-append}
-use Rattle.sm_names.proofs.SamenessLaws.{and_both, and_left, and_right, and_swap, either_way}
+use Rattle.sm_names.proofs.ListLaws.{times-append}
+use Rattle.sm_names.proofs.SamenessLaws.{and_swap}
 use Rattle.buffer_pool.specs.Holdings.{in_order, without}
 use Rattle.buffer_pool.specs.Holes.{end_of}
 use Rattle.failure_domains.proofs.Lists.{Contains-head, Contains-tail}
-use Rattle.sm_names.specs.declared.keys.HeldBuffer.{HeldBuffer}
 use Rattle.alloc_event.specs.Scenes.{by_page, pages_held}
 use Rattle.alloc_event.proofs.lists.ByPage.{put_in, front, behind, not_lt}
 

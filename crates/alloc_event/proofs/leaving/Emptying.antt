@@ -1,15 +1,8 @@
 -- What stays true of a forest without a collection that has no node.
-use Rattle.std.proofs.Common.{◌≡◌, ℕ, zero, suc, ◌+◌, ◌<◌, ◌==◌, Bool, true, false, not, List, [], ◌∷◌, ◌++◌, map, length, Option, Some, None, option_map, cond, refl, sym, ap, subst, ◌∙◌, arith}
-use Rattle.std.specs.List.{list_all, filter, find, remove, AllByRecursion}
-use Rattle.std.specs.Option.{option_map_or}
-use Rattle.std.proofs.lemmas.Bool.{eqb-true, ne_eqb}
-use Rattle.sm_names.specs.declared.keys.NodeKey.{NodeKey}
-use Rattle.sm_names.proofs.SamenessLaws.{and_left, and_right, some-injective}
-use Rattle.node_table.specs.Table.{Table}
-use Rattle.alloc_event.specs.declared.entry.Entry.{Entry}
-use Rattle.alloc_event.specs.declared.node.Node.{Node}
-use Rattle.alloc_event.specs.Forest.{Collection, collection_at, is_left}
-use Rattle.alloc_event.specs.Kept.{Shelf, shelf_of, shelves_of, place_in, AreRising, IsStored, IsWhole, collection_in, nodes_with, forest_of, all_keys, are_filed, is_filed}
+use Rattle.alloc_event.proofs.Common.{◌≡◌, ℕ, zero, suc, ◌+◌, ◌<◌, ◌==◌, Bool, true, false, not, List, [], ◌∷◌, ◌++◌, map, length, Option, Some, None, option_map, cond, refl, sym, ap, subst, ◌∙◌, arith, list_all, filter, find, AllByRecursion, option_map_or, eqb-true, NodeKey, and_left, and_right, some-injective, Table, Entry, Node, Collection, Shelf, shelf_of, shelves_of, place_in, AreRising, IsStored, IsWhole, collection_in, nodes_with, forest_of, all_keys, are_filed, is_filed}
+use Rattle.std.specs.List.{remove}
+use Rattle.std.proofs.lemmas.Bool.{ne_eqb}
+use Rattle.alloc_event.specs.Forest.{collection_at, is_left}
 use Rattle.alloc_event.proofs.shelves.Showing.{filed-length, filed_found, collection_is}
 
 -- of another collection

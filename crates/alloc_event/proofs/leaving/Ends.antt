@@ -1,14 +1,10 @@
 -- What stays true of a forest where the end of a node is put elsewhere.
-use Rattle.std.proofs.Common.{◌≡◌, ◌≢◌, map, Some, option_map, refl, sym, ap, subst, List}
-use Rattle.sm_names.specs.declared.keys.NodeKey.{NodeKey}
-use Rattle.node_table.specs.Table.{Table, node_at}
+use Rattle.alloc_event.proofs.Common.{◌≡◌, ◌≢◌, map, Some, option_map, refl, sym, ap, subst, List, NodeKey, Table, node_at, Node, with_nodes, Shelf, forest_of, IsStored}
 use Rattle.node_table.specs.Changes.{Writes}
 use Rattle.node_table.specs.Lending.{table_with_node}
 use Rattle.node_table.proofs.Keys.{same_key-equal, same_key-apart}
 use Rattle.alloc_event.specs.declared.node.End.{End}
-use Rattle.alloc_event.specs.declared.node.Node.{Node}
-use Rattle.alloc_event.specs.Forest.{with_nodes, on_collections}
-use Rattle.alloc_event.specs.Kept.{Shelf, forest_of, IsStored}
+use Rattle.alloc_event.specs.Forest.{on_collections}
 use Rattle.alloc_event.specs.Nodes.{with_end}
 use Rattle.alloc_event.proofs.calm.Together.{together_same}
 use Rattle.alloc_event.proofs.tables.Writing.{IsSameNode, look-changed, kept-map, collections-map, parents-written}

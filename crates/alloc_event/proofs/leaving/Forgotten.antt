@@ -1,17 +1,7 @@
 -- What is left once the nodes of a collection that are over are forgotten.
-use Rattle.std.proofs.Common.{◌≡◌, ℕ, ◌==◌, Bool, true, false, cond, inl, inr, Option, Some, None, List, [], ◌∷◌, map, refl, sym, ap, subst, ◌∙◌}
-use Rattle.std.specs.List.{cons_option, find, list_all, list_any}
-use Rattle.node_table.specs.Table.{Table, node_at}
-use Rattle.sm_names.specs.declared.keys.NodeKey.{NodeKey}
-use Rattle.sm_names.specs.Sameness.{same_key}
-use Rattle.sm_names.proofs.ListLaws.{In}
-use Rattle.sm_names.proofs.SamenessLaws.{and_left, and_right, both_ways, either_way, or_cases, same_key-true}
-use Rattle.sm_names.proofs.StandingLaws.{In-any}
-use Rattle.alloc_event.specs.declared.node.Node.{Node}
+use Rattle.alloc_event.proofs.Common.{◌≡◌, ℕ, ◌==◌, Bool, true, false, cond, inl, inr, Option, Some, None, List, [], ◌∷◌, map, refl, sym, ap, subst, ◌∙◌, cons_option, find, list_all, list_any, Table, node_at, NodeKey, same_key, In, and_left, and_right, both_ways, either_way, or_cases, same_key-true, In-any, Node, Shelf, AreRising, IsStored, are_filed, collection_in, is_filed, nodes_with, is_over}
 use Rattle.alloc_event.specs.Forest.{without_over_in}
 use Rattle.alloc_event.specs.Forgetting.{left_at, thin_in, thinned, unless_over, without_bare}
-use Rattle.alloc_event.specs.Kept.{Shelf, AreRising, IsStored, are_filed, collection_in, is_filed, nodes_with}
-use Rattle.alloc_event.specs.Nodes.{is_over}
 use Rattle.alloc_event.proofs.changes.Altering.{found_id}
 use Rattle.alloc_event.proofs.shelves.Showing.{filed_found}
 use Rattle.alloc_event.proofs.leaving.Thinning.{thinned-same}

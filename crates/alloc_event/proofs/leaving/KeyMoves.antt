@@ -1,5 +1,6 @@
 -- A key that is taken out of a list whose first cells are left over.
-use Rattle.std.proofs.Common.{ℕ, suc, ◌≡◌, ◌+◌, ◌-◌, ◌<◌, ◌≤◌, ap, sym, ◌∙◌, List, ◌++◌, length, take, drop, arith, append_assoc}
+use Rattle.alloc_event.proofs.Common.{ℕ, suc, ◌≡◌, ◌+◌, ◌<◌, ◌≤◌, ap, sym, ◌∙◌, List, ◌++◌, length, take, drop, arith}
+use Rattle.std.proofs.Common.{◌-◌, append_assoc}
 use Rattle.std.specs.List.{copy_within, remove}
 use Rattle.std.proofs.lemmas.List.{drop-drop, drop_at, length-take-le, take-append-drop}
 use Rattle.std.proofs.lemmas.List.Edits.{remove-append_right}

@@ -1,14 +1,8 @@
 -- Nodes that are over, but for those that are noted.
-use Rattle.std.proofs.Common.{◌≡◌, refl, ap, ◌∙◌, Bool, true, false, not, ◌&&◌, inl, inr, List, [], ◌∷◌}
-use Rattle.std.specs.List.{list_any}
+use Rattle.alloc_event.proofs.Common.{◌≡◌, refl, ap, ◌∙◌, Bool, true, false, not, ◌&&◌, inl, inr, List, [], ◌∷◌, list_any, same_key, either_way, Node, NodeKey, over_but, is_over}
 use Rattle.std.proofs.Math.Bool.{and-false}
-use Rattle.sm_names.specs.Sameness.{same_key}
-use Rattle.sm_names.proofs.SamenessLaws.{either_way, or_none_left, or_none_right}
-use Rattle.alloc_event.specs.declared.node.Node.{Node}
-use Rattle.sm_names.specs.declared.keys.NodeKey.{NodeKey}
-use Rattle.alloc_event.specs.Calm.{over_but}
+use Rattle.sm_names.proofs.SamenessLaws.{or_none_left, or_none_right}
 use Rattle.alloc_event.specs.Forgetting.{AreMore}
-use Rattle.alloc_event.specs.Nodes.{is_over}
 
 -- a node that is not over is not, whichever are noted
 pub not_over_but : (noted : List NodeKey) (n : Node) → is_over n ≡ false → over_but noted n ≡ false

@@ -1,20 +1,8 @@
 -- A collection of which no other nodes are over than are noted: to look at those is to look at all.
-use Rattle.std.proofs.Common.{◌≡◌, refl, ap, sym, ◌∙◌, subst, Bool, true, false, not, ◌&&◌, ◌||◌, ◌⊎◌, inl, inr, List, [], ◌∷◌, cond, Option, Some, None, is_some, ◌==◌}
+use Rattle.alloc_event.proofs.Common.{◌≡◌, refl, ap, sym, ◌∙◌, subst, Bool, true, false, not, ◌&&◌, ◌||◌, ◌⊎◌, inl, inr, List, [], ◌∷◌, cond, Option, Some, None, is_some, ◌==◌, eqb-true, filter, list_all, list_any, option_map_or, NodeKey, same_key, In, In-list_any, both_ways, either_way, same_key-true, Table, node_at, Entry, Node, over_but, is_filed, nodes_with, is_over}
 use Rattle.std.proofs.Math.Bool.{and-false}
-use Rattle.std.proofs.lemmas.Bool.{eqb-true}
-use Rattle.std.specs.List.{filter, list_all, list_any}
-use Rattle.std.specs.Option.{option_map_or}
-use Rattle.sm_names.specs.declared.keys.NodeKey.{NodeKey}
-use Rattle.sm_names.specs.Sameness.{same_key}
-use Rattle.sm_names.proofs.ListLaws.{In, In-list_any, filter-In}
-use Rattle.sm_names.proofs.SamenessLaws.{both_ways, either_way, same_key-true}
-use Rattle.node_table.specs.Table.{Table, node_at}
-use Rattle.alloc_event.specs.declared.entry.Entry.{Entry}
-use Rattle.alloc_event.specs.declared.node.Node.{Node}
-use Rattle.alloc_event.specs.Calm.{over_but}
+use Rattle.sm_names.proofs.ListLaws.{filter-In}
 use Rattle.alloc_event.specs.Forgetting.{IsForgettable, is_found, is_left_by, is_own_if_over, left_at, unless_over}
-use Rattle.alloc_event.specs.Kept.{is_filed, nodes_with}
-use Rattle.alloc_event.specs.Nodes.{is_over}
 use Rattle.alloc_event.proofs.calm.Steps.{all-In}
 use Rattle.alloc_event.proofs.leaving.Forgotten.{in_nodes}
 use Rattle.alloc_event.proofs.leaving.Noted.{none_but}

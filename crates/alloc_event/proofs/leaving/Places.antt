@@ -1,12 +1,9 @@
 -- A key of a list in which no key stands twice, and its place.
-use Rattle.std.proofs.Common.{◌≡◌, ℕ, zero, suc, ◌<◌, refl, ap, sym, ◌∙◌, subst, Bool, true, false, not, ◌||◌, ◌==◌, cond, get_or, List, [], ◌∷◌, ◌++◌, length, Some, arith}
-use Rattle.std.specs.List.{filter, find, list_any, remove}
-use Rattle.std.proofs.lemmas.Bool.{false≢true, not-true}
+use Rattle.alloc_event.proofs.Common.{◌≡◌, ℕ, zero, suc, ◌<◌, refl, ap, sym, ◌∙◌, subst, Bool, true, false, not, ◌||◌, ◌==◌, cond, get_or, List, [], ◌∷◌, ◌++◌, length, Some, arith, filter, find, list_any, false≢true, not-true, NodeKey, same_key, and_both, and_left, and_right, false_if, or_left, or_right, same_key-refl, same_key-true, Shelf, all_keys}
+use Rattle.std.specs.List.{remove}
 use Rattle.std.proofs.lemmas.List.Folds.{list_any-append}
-use Rattle.sm_names.specs.declared.keys.NodeKey.{NodeKey}
-use Rattle.sm_names.specs.Sameness.{same_key}
-use Rattle.sm_names.proofs.SamenessLaws.{and_both, and_left, and_right, false_if, or_none_left, or_left, or_right, same_key-refl, same_key-true}
-use Rattle.alloc_event.specs.Kept.{Shelf, all_keys, are_apart}
+use Rattle.sm_names.proofs.SamenessLaws.{or_none_left}
+use Rattle.alloc_event.specs.Kept.{are_apart}
 use Rattle.alloc_event.proofs.changes.Altering.{Some-shelf}
 use Rattle.alloc_event.proofs.leaving.Thinning.{lacks-filter}
 

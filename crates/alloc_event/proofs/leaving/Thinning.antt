@@ -1,21 +1,13 @@
 -- What stays true of a forest where a node was taken out, and its key is dropped.
-use Rattle.std.proofs.Common.{◌≡◌, ℕ, suc, ◌+◌, ◌==◌, ◌<◌, Bool, true, false, ◌||◌, not, List, [], ◌∷◌, ◌++◌, map, length, drop, Option, Some, None, is_some, cond, refl, sym, ap, subst, ◌∙◌, inl, inr, arith}
-use Rattle.std.specs.List.{list_any, list_all, filter, cons_option, AllByRecursion}
-use Rattle.std.specs.Option.{option_map_or}
-use Rattle.std.proofs.lemmas.Bool.{false≢true, not-true}
+use Rattle.alloc_event.proofs.Common.{◌≡◌, ℕ, suc, ◌+◌, ◌==◌, ◌<◌, Bool, true, false, ◌||◌, not, List, [], ◌∷◌, ◌++◌, map, length, drop, Option, Some, None, is_some, cond, refl, sym, ap, subst, ◌∙◌, inl, inr, arith, list_any, list_all, filter, cons_option, AllByRecursion, option_map_or, false≢true, not-true, NodeKey, same_key, In, and_both, and_left, and_right, either_way, or_cases, or_left, or_right, same_key-true, Table, node_at, parent_at, Node, Collection, with_nodes, Shelf, AreRising, IsStored, IsWhole, all_keys, are_filed, collection_in, is_filed, nodes_with, is_of, are_distinct, heads_itself}
 use Rattle.std.proofs.lemmas.List.Elements.{filter-append}
-use Rattle.sm_names.specs.declared.keys.NodeKey.{NodeKey}
-use Rattle.sm_names.specs.Sameness.{same_key}
-use Rattle.sm_names.proofs.ListLaws.{In, filter-list_all, list_all-filter}
-use Rattle.sm_names.proofs.SamenessLaws.{and_both, and_left, and_right, either_way, or_both, or_cases, or_left, or_none_left, or_none_right, or_right, same_key-true}
-use Rattle.node_table.specs.Table.{Table, node_at, parent_at, table_len}
+use Rattle.sm_names.proofs.ListLaws.{filter-list_all, list_all-filter}
+use Rattle.sm_names.proofs.SamenessLaws.{or_both, or_none_left, or_none_right}
+use Rattle.node_table.specs.Table.{table_len}
 use Rattle.node_table.proofs.Keys.{same_key-equal}
-use Rattle.alloc_event.specs.declared.node.Node.{Node}
-use Rattle.alloc_event.specs.Forest.{Collection, with_nodes}
 use Rattle.alloc_event.specs.Forgetting.{TakesOut, is_found, thinned}
-use Rattle.alloc_event.specs.Kept.{Shelf, AreRising, IsStored, IsWhole, all_keys, are_apart, are_filed, collection_in, is_filed, nodes_with}
-use Rattle.alloc_event.specs.Nodes.{is_of}
-use Rattle.alloc_event.specs.Scenes.{IsSound, are_distinct, heads_itself}
+use Rattle.alloc_event.specs.Kept.{are_apart}
+use Rattle.alloc_event.specs.Scenes.{IsSound}
 use Rattle.alloc_event.proofs.tables.Hanging.{looked_gone}
 use Rattle.alloc_event.proofs.tables.KeptRoots.{rooted_filter}
 use Rattle.alloc_event.proofs.tables.Kin.{kin_kept}

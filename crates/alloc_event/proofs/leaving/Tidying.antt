@@ -1,19 +1,11 @@
 -- A collection without the nodes that are over, and collections without those of which nothing is left.
-use Rattle.std.proofs.Common.{◌≡◌, ℕ, suc, ◌==◌, ◌<◌, Bool, true, false, ◌&&◌, not, List, [], ◌∷◌, ◌++◌, map, length, Option, Some, None, is_some, cond, refl, sym, ap, ◌∙◌, inl, inr, arith}
-use Rattle.std.specs.List.{find, list_any, list_all, filter, cons_option, AllByRecursion}
-use Rattle.std.specs.Option.{option_map_or}
-use Rattle.std.proofs.lemmas.Bool.{false≢true, eqb-true, eqb-false, ne_eqb, eq-eqb, false_from_ne_true}
-use Rattle.sm_names.specs.declared.keys.NodeKey.{NodeKey}
-use Rattle.sm_names.specs.Sameness.{same_key}
-use Rattle.sm_names.proofs.SamenessLaws.{and_both, and_left, and_right, or_cases, or_left, or_right, same_key-true}
+use Rattle.alloc_event.proofs.Common.{◌≡◌, ℕ, suc, ◌==◌, ◌<◌, Bool, true, false, ◌&&◌, not, List, [], ◌∷◌, ◌++◌, map, length, Option, Some, None, is_some, cond, refl, sym, ap, ◌∙◌, inl, inr, arith, find, list_any, list_all, filter, cons_option, AllByRecursion, option_map_or, false≢true, eqb-true, eqb-false, eq-eqb, NodeKey, same_key, and_both, and_left, and_right, or_cases, or_left, or_right, same_key-true, Table, node_at, Node, Shelf, AreRising, IsStored, IsWhole, all_keys, are_filed, collection_in, is_filed, nodes_with, is_over}
+use Rattle.std.proofs.lemmas.Bool.{ne_eqb, false_from_ne_true}
 use Rattle.sm_names.proofs.ListLaws.{filter-list_all, list_all-filter}
-use Rattle.node_table.specs.Table.{Table, node_at}
 use Rattle.node_table.proofs.Keys.{same_key-equal}
-use Rattle.alloc_event.specs.declared.node.Node.{Node}
 use Rattle.alloc_event.specs.Forest.{is_left, tidied, without_over_in}
 use Rattle.alloc_event.specs.Forgetting.{is_bare, is_found, left_at, thin_in, thinned, unless_over, without_bare}
-use Rattle.alloc_event.specs.Kept.{Shelf, AreRising, IsStored, IsWhole, all_keys, are_apart, are_filed, collection_in, is_filed, nodes_with}
-use Rattle.alloc_event.specs.Nodes.{is_over}
+use Rattle.alloc_event.specs.Kept.{are_apart}
 use Rattle.alloc_event.proofs.leaving.Thinning.{filed_all}
 
 -- a key of a collection has a node of it

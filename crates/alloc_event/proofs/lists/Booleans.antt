@@ -1,5 +1,5 @@
 -- Tests that say the same.
-use Rattle.std.proofs.Common.{◌≡◌, refl, Bool, true, false, ◌&&◌, ◌||◌, not}
+use Rattle.alloc_event.proofs.Common.{◌≡◌, refl, Bool, true, false, ◌&&◌, ◌||◌, not}
 
 -- the same behind another
 pub and_again_behind : (a r b : Bool) → (a && (r && (a && b))) ≡ (r && (a && b))

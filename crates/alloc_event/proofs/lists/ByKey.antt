@@ -1,6 +1,6 @@
 -- A binary search of keys in order finds each key that is there.
-use Rattle.std.proofs.Common.{◌≡◌, ℕ, suc, ◌<◌, inl, inr, refl, ap, sym, ◌∙◌, subst, List, [], ◌∷◌, length, get_or, Result, Ok, Err, is_ok, arith}
-use Rattle.std.specs.List.{list_any}
+use Rattle.alloc_event.proofs.Common.{◌≡◌, ℕ, suc, ◌<◌, inl, inr, refl, ap, sym, ◌∙◌, subst, List, [], ◌∷◌, length, get_or, arith, list_any, NodeKey, same_key, In, In-list_any, false_if, same_key-refl, same_key-true, In-any}
+use Rattle.std.proofs.Common.{Result, Ok, Err, is_ok}
 use Rattle.std.specs.List.Sorted.{IsBinarySearchResult, IsSearchInRange, IsSorted}
 use Rattle.std.specs.Ordering.{MatchOrdering, nat_cmp, ordering_then}
 use Rattle.std.specs.declared.cmp.Ordering.{Ordering}
@@ -10,11 +10,7 @@ use Rattle.std.specs.Cmp.{ranks}
 use Rattle.std.proofs.lemmas.Bool.{cases_order}
 use Rattle.std.proofs.lemmas.List.Sorted.{searchable_from_sorted}
 use Rattle.sm_names.specs.contracts.keys.NodeKeyOrd.TheImpl.Laws.{total-law}
-use Rattle.sm_names.specs.declared.keys.NodeKey.{NodeKey}
-use Rattle.sm_names.specs.Sameness.{same_key}
-use Rattle.sm_names.proofs.ListLaws.{In, In-get_or, In-list_any}
-use Rattle.sm_names.proofs.SamenessLaws.{false_if, same_key-refl, same_key-true}
-use Rattle.sm_names.proofs.StandingLaws.{In-any}
+use Rattle.sm_names.proofs.ListLaws.{In-get_or}
 use Rattle.alloc_event.specs.Falling.{key_order}
 
 -- by cases on the first order

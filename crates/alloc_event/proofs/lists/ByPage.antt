@@ -1,11 +1,8 @@
 -- Intervals in order of page, as a pool keeps them.
-use Rattle.std.proofs.Common.{ℕ, ◌≡◌, ◌<◌, ◌≤◌, refl, ap, sym, ◌∙◌, Bool, true, false, ◌||◌, nat_lt, cond, List, [], ◌∷◌, ◌++◌, map, inl, inr, arith}
-use Rattle.std.proofs.lemmas.Bool.{ltb-true, ltb-false, lt-ltb}
-use Rattle.std.specs.List.{list_any}
-use Rattle.sm_names.specs.declared.keys.Interval.{Interval}
+use Rattle.alloc_event.proofs.Common.{ℕ, ◌≡◌, ◌<◌, ◌≤◌, refl, ap, sym, ◌∙◌, Bool, true, false, ◌||◌, nat_lt, cond, List, [], ◌∷◌, ◌++◌, map, inl, inr, arith, lt-ltb, list_any, Interval, either_way}
+use Rattle.std.proofs.lemmas.Bool.{ltb-true, ltb-false}
 use Rattle.sm_names.specs.Apart.{at_pages}
 use Rattle.sm_names.specs.Words.{insert_by}
-use Rattle.sm_names.proofs.SamenessLaws.{either_way}
 use Rattle.alloc_event.specs.Scenes.{by_page}
 use Rattle.alloc_event.proofs.lists.SameIntervals.{or_swap}
 use Rattle.buffer_pool.specs.Holdings.{with_buffers, with_interval}

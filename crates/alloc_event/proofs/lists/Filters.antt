@@ -1,10 +1,11 @@
 -- Tests over lists that were filtered and mapped.
-use Rattle.std.proofs.Common.{ℕ, ◌≡◌, ◌<◌, ◌≤◌, max, nat_lt, refl, ap, sym, ◌∙◌, Bool, true, false, not, ◌&&◌, ◌||◌, cond, if◌then◌else◌, List, [], ◌∷◌, map, Option, Some, None, inl, inr, arith}
-use Rattle.std.specs.List.{list_any, list_all, find, filter, filter_map, fold, cons_option}
+use Rattle.alloc_event.proofs.Common.{ℕ, ◌≡◌, ◌<◌, ◌≤◌, nat_lt, refl, ap, sym, ◌∙◌, Bool, true, false, not, ◌&&◌, ◌||◌, cond, if◌then◌else◌, List, [], ◌∷◌, map, Option, Some, None, inl, inr, arith, list_any, list_all, find, filter, cons_option, lt-ltb, either_way, or_cases, or_right}
+use Rattle.std.proofs.Common.{max}
+use Rattle.std.specs.List.{filter_map, fold}
 use Rattle.std.specs.Option.{option_map}
-use Rattle.std.proofs.lemmas.Bool.{ltb-true, ltb-false, lt-ltb}
+use Rattle.std.proofs.lemmas.Bool.{ltb-true, ltb-false}
 use Rattle.std.proofs.Math.Bool.{or_assoc}
-use Rattle.sm_names.proofs.SamenessLaws.{either_way, or_cases, or_false, or_right}
+use Rattle.sm_names.proofs.SamenessLaws.{or_false}
 use Rattle.sm_names.proofs.StandingLaws.{both_tests}
 use Rattle.sm_names.proofs.BitLaws.{none_below}
 

@@ -1,12 +1,7 @@
 -- The nodes that a list of keys finds, by a look-up of one key.
-use Rattle.std.proofs.Common.{◌≡◌, Bool, true, false, ◌||◌, not, List, [], ◌∷◌, map, Option, Some, None, option_map, cond, if◌then◌else◌, refl, sym, ap, ◌∙◌}
-use Rattle.std.specs.List.{filter, filter_map, list_any, cons_option}
-use Rattle.sm_names.specs.declared.keys.NodeKey.{NodeKey}
-use Rattle.sm_names.specs.Sameness.{same_key}
-use Rattle.sm_names.proofs.SamenessLaws.{same_key-true}
+use Rattle.alloc_event.proofs.Common.{◌≡◌, Bool, true, false, ◌||◌, not, List, [], ◌∷◌, map, Option, Some, None, option_map, cond, if◌then◌else◌, refl, sym, ap, ◌∙◌, filter, list_any, cons_option, NodeKey, same_key, same_key-true, Node, is_of, node_of}
+use Rattle.std.specs.List.{filter_map}
 use Rattle.node_table.proofs.Keys.{same_key-equal, same_key-apart, false-same_key}
-use Rattle.alloc_event.specs.declared.node.Node.{Node}
-use Rattle.alloc_event.specs.Nodes.{is_of, node_of}
 
 -- a look-up of nodes by key
 abbrev pub Look : Type 0

@@ -1,6 +1,7 @@
 -- A loop over the buffers of a collection.
-use Rattle.std.proofs.Common.{ℕ, ◌≡◌, ◌+◌, ◌-◌, ◌<◌, ◌∙◌, zero, suc, refl, ap, subst, Bool, true, false, ◌||◌, map, arith}
-use Rattle.std.specs.List.{list_any, range_with_len}
+use Rattle.alloc_event.proofs.Common.{ℕ, ◌≡◌, ◌+◌, ◌<◌, ◌∙◌, zero, suc, refl, ap, subst, Bool, true, false, ◌||◌, map, arith, list_any}
+use Rattle.std.proofs.Common.{◌-◌}
+use Rattle.std.specs.List.{range_with_len}
 
 -- the test of the next one, and of those after it
 pub any_from : {A : Type 0} (test : A → Bool) (f : ℕ → A) (i n : ℕ) → i < n →

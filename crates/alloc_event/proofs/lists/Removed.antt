@@ -1,8 +1,7 @@
 -- Lists of which one is taken out, and those that a filter leaves.
-use Rattle.std.proofs.Common.{ℕ, zero, suc, ◌+◌, ◌≡◌, ◌<◌, ◌∙◌, ◌≤◌, refl, sym, ap, true, false, inl, inr, Bool, List, [], ◌∷◌, ◌++◌, length, take, drop, get_or, arith}
+use Rattle.alloc_event.proofs.Common.{ℕ, zero, suc, ◌+◌, ◌≡◌, ◌<◌, ◌∙◌, ◌≤◌, refl, sym, ap, true, false, inl, inr, Bool, List, [], ◌∷◌, ◌++◌, length, take, drop, get_or, arith, filter, list_all, and_both, and_left, and_right, either_way}
 use Rattle.std.proofs.lemmas.List.{at_drop_more, take-append-drop}
-use Rattle.std.specs.List.{filter, list_all, remove}
-use Rattle.sm_names.proofs.SamenessLaws.{and_both, and_left, and_right, either_way}
+use Rattle.std.specs.List.{remove}
 
 module _ {X : Type 0} (p : X → Bool) where
   -- no more pass than there are

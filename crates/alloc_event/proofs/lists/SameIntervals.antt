@@ -1,10 +1,7 @@
 -- Lists of the same intervals in another order, of which no two begin at one page: sorted by page they are one list.
-use Rattle.std.proofs.Common.{◌≡◌, ◌≢◌, ℕ, ◌<◌, ◌≤◌, ◌==◌, nat_lt, Bool, true, false, ◌||◌, ◌&&◌, not, List, [], ◌∷◌, ◌++◌, cond, refl, sym, ap, ◌∙◌, inl, inr, arith}
-use Rattle.std.specs.List.{list_any}
-use Rattle.std.proofs.lemmas.Bool.{lt-ltb, le-ltb, eq-eqb, ne_eqb, eqb-true, eqb-false, cases_lt, ltb-true, leb-true, false≢true}
-use Rattle.sm_names.specs.declared.keys.Interval.{Interval}
+use Rattle.alloc_event.proofs.Common.{◌≡◌, ◌≢◌, ℕ, ◌<◌, ◌≤◌, ◌==◌, nat_lt, Bool, true, false, ◌||◌, ◌&&◌, not, List, [], ◌∷◌, ◌++◌, cond, refl, sym, ap, ◌∙◌, inl, inr, arith, list_any, lt-ltb, eq-eqb, eqb-true, eqb-false, false≢true, Interval, and_left, and_right}
+use Rattle.std.proofs.lemmas.Bool.{le-ltb, ne_eqb, cases_lt, ltb-true, leb-true}
 use Rattle.sm_names.specs.Words.{insert_by, sorted_by}
-use Rattle.sm_names.proofs.SamenessLaws.{and_left, and_right}
 use Rattle.alloc_event.specs.Parted.{begins_with, are_parted}
 use Rattle.buffer_pool.specs.Holdings.{in_order}
 use Rattle.buffer_pool.specs.Holes.{end_of}

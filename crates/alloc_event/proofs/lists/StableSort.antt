@@ -1,12 +1,11 @@
 -- A stable sort by a number gives what putting the elements in place one after another gives.
-use Rattle.std.proofs.Common.{ℕ, suc, ◌≡◌, ◌==◌, ◌<◌, ◌≤◌, refl, ap, sym, ◌∙◌, Bool, true, false, ◌&&◌, not, nat_lt, cond, inl, inr, List, [], ◌∷◌, length, arith}
-use Rattle.std.specs.List.{filter, AllByRecursion, slice_index_or}
+use Rattle.alloc_event.proofs.Common.{ℕ, suc, ◌≡◌, ◌==◌, ◌<◌, ◌≤◌, refl, ap, sym, ◌∙◌, Bool, true, false, ◌&&◌, not, nat_lt, cond, inl, inr, List, [], ◌∷◌, length, arith, filter, AllByRecursion, eqb-true, eqb-false, eq-eqb, either_way}
+use Rattle.std.specs.List.{slice_index_or}
 use Rattle.std.specs.List.Sorted.{ties, IsNonDecreasingBy, IsSortedByKey, IsStableByKey}
 use Rattle.std.specs.Ordering.{is_lt, nat_cmp}
-use Rattle.std.proofs.lemmas.Bool.{eqb-true, eqb-false, eq-eqb, ne_eqb, ltb-true, ltb-false}
+use Rattle.std.proofs.lemmas.Bool.{ne_eqb, ltb-true, ltb-false}
 use Rattle.std.proofs.lemmas.List.Sorted.{IsNonDecreasingBy-from_sort}
 use Rattle.sm_names.specs.Words.{insert_by, sorted_by}
-use Rattle.sm_names.proofs.SamenessLaws.{either_way}
 use Rattle.alloc_event.proofs.lists.ByPage.{not_lt}
 
 -- ---- numbers

@@ -1,16 +1,12 @@
 -- A node that is born: what the table has, and what stays true.
-use Rattle.std.proofs.Common.{◌≡◌, ℕ, ◌+◌, nat_lt, nat_le, Bool, true, false, length, Option, Some, None, option_map, cond, if◌then◌else◌, refl, sym, ap, subst, ◌∙◌, inl, inr, Result, Ok, Err, IfOk, arith}
-use Rattle.std.specs.Option.{option_map_or}
-use Rattle.std.proofs.lemmas.Bool.{ne_eqb, lt-ltb, le-leb, false≢true, cases_eq}
+use Rattle.alloc_event.proofs.Common.{◌≡◌, ℕ, ◌+◌, nat_lt, Bool, true, false, length, Option, Some, None, option_map, cond, if◌then◌else◌, refl, sym, ap, subst, ◌∙◌, inl, inr, arith, option_map_or, lt-ltb, false≢true, NodeKey, same_key, either_way, Table, node_at, parent_at, Node}
+use Rattle.std.proofs.Common.{nat_le, Result, Ok, Err, IfOk}
+use Rattle.std.proofs.lemmas.Bool.{ne_eqb, le-leb, cases_eq}
 use Rattle.std.proofs.lemmas.List.{get_or_past}
-use Rattle.sm_names.specs.declared.keys.NodeKey.{NodeKey}
-use Rattle.sm_names.specs.Sameness.{same_key}
-use Rattle.sm_names.proofs.SamenessLaws.{either_way}
-use Rattle.node_table.specs.Table.{Row, Table, row_at, node_at, parent_at, parent_in, next_at, was_given}
+use Rattle.node_table.specs.Table.{Row, row_at, parent_in, next_at, was_given}
 use Rattle.node_table.specs.Changes.{Births, Writes, at_parent, with_child}
 use Rattle.node_table.specs.Lending.{table_with_node}
 use Rattle.node_table.proofs.Keys.{key_cases, same_key-equal, same_key-apart}
-use Rattle.alloc_event.specs.declared.node.Node.{Node}
 use Rattle.alloc_event.specs.Kept.{Bears, born, named}
 use Rattle.alloc_event.proofs.tables.Writing.{look-written, parents-written}
 

@@ -1,24 +1,14 @@
 -- A birth leaves a calm collection calm.
-use Rattle.std.proofs.Common.{◌≡◌, ℕ, ap, refl, sym, subst, ◌∙◌, Bool, true, false, not, ◌&&◌, List, [], ◌∷◌, ◌++◌, Option, Some, None, option_map, is_some}
-use Rattle.std.specs.List.{find, list_any}
-use Rattle.std.specs.Option.{option_and_then, option_map_or}
-use Rattle.sm_names.specs.declared.keys.NodeKey.{NodeKey}
-use Rattle.sm_names.specs.declared.outcomes.Buffers.{Buffers}
-use Rattle.sm_names.specs.declared.outcomes.Cause.{Cause}
+use Rattle.alloc_event.proofs.Common.{◌≡◌, ℕ, ap, refl, sym, subst, ◌∙◌, Bool, true, false, not, ◌&&◌, List, [], ◌∷◌, ◌++◌, Option, Some, None, option_map, is_some, find, list_any, option_and_then, option_map_or, NodeKey, Buffers, Cause, when, Change, Node, waiting, Collection, is_of, members_of, node_of, is_deserted_node, is_next_node}
 use Rattle.sm_names.specs.Forced.{Standing, is_deserted, is_next_head, logical_failure, outcome}
 use Rattle.sm_names.specs.Marks.{Ended, Loss, Mark}
 use Rattle.sm_names.specs.Members.{Member, demands, reserved, root_left, some_strong_live, unit}
-use Rattle.sm_names.specs.Words.{when}
 use Rattle.sm_names.proofs.PlaceLaws.{map-None}
 use Rattle.sm_names.proofs.RestLaws.{AtRest}
 use Rattle.sm_names.proofs.SamenessLaws.{none_is}
-use Rattle.alloc_event.specs.declared.change.Change.{Change}
-use Rattle.alloc_event.specs.declared.node.Node.{Node}
 use Rattle.alloc_event.specs.Calm.{IsCalm}
-use Rattle.alloc_event.specs.Decisions.{later_step, waiting}
-use Rattle.alloc_event.specs.Forest.{Collection}
-use Rattle.alloc_event.specs.Nodes.{is_of, member_of, members_of, new_child, new_root, node_of}
-use Rattle.alloc_event.specs.Questions.{is_deserted_node, is_next_node}
+use Rattle.alloc_event.specs.Decisions.{later_step}
+use Rattle.alloc_event.specs.Nodes.{member_of, new_child, new_root}
 use Rattle.alloc_event.specs.Settling.{changed}
 use Rattle.alloc_event.proofs.calm.Calming.{calm_none, later, none_calm, wait_tie}
 use Rattle.alloc_event.proofs.calm.Forcing.{deserted_tie, next_tie}

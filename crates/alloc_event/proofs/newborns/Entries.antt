@@ -1,17 +1,10 @@
 -- The entries once a node is born of which nothing else follows.
-use Rattle.std.proofs.Common.{◌≡◌, ℕ, ◌+◌, ◌==◌, Bool, false, if◌then◌else◌, List, [], Option, Some, None, option_map, get_or, set, Result, Ok, Err, IfOk, OnOk, OnErr, refl, sym, ap, subst, ◌∙◌, arith}
+use Rattle.alloc_event.proofs.Common.{◌≡◌, ℕ, ◌+◌, ◌==◌, Bool, false, if◌then◌else◌, List, [], Option, Some, None, option_map, get_or, set, refl, sym, ap, subst, ◌∙◌, arith, find, list_any, option_map_or, NodeKey, Table, Entry, Node, strong_count, over_but, Collection, IsStored, Shelf, collection_in, forest_of, place_in, put_shelf, shelf_of, shelves_of, nodes_with, reserved_count, collection_or_new}
+use Rattle.std.proofs.Common.{Result, Ok, Err, IfOk, OnOk, OnErr}
 use Rattle.std.proofs.lemmas.List.{get_or_default}
-use Rattle.std.specs.List.{find, list_any}
-use Rattle.std.specs.Option.{option_map_or, unwrap_or}
-use Rattle.sm_names.specs.declared.keys.NodeKey.{NodeKey}
-use Rattle.node_table.specs.Table.{Table}
-use Rattle.alloc_event.specs.declared.entry.Entry.{Entry}
-use Rattle.alloc_event.specs.declared.node.Node.{Node}
-use Rattle.alloc_event.specs.Calm.{AreCounted, IsCalm, IsCounted, put_in, strong_count, over_but}
-use Rattle.alloc_event.specs.Forest.{Collection}
-use Rattle.alloc_event.specs.Kept.{Bears, IsStored, Shelf, born, collection_in, forest_of, place_in, put_shelf, shelf_of, shelves_of, nodes_with}
-use Rattle.alloc_event.specs.Reserved.{reserved_count}
-use Rattle.alloc_event.specs.Settling.{collection_or_new}
+use Rattle.std.specs.Option.{unwrap_or}
+use Rattle.alloc_event.specs.Calm.{AreCounted, IsCalm, IsCounted, put_in}
+use Rattle.alloc_event.specs.Kept.{Bears, born}
 use Rattle.alloc_event.specs.Still.{no_shelf, shelf_before, shelf_with}
 use Rattle.alloc_event.proofs.newborns.Forest.{still_collection}
 use Rattle.alloc_event.proofs.shelves.Counted.{counted_but, counted_put, counted_set, moved_all, recounted, set_shelves, shelves_put}

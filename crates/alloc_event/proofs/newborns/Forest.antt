@@ -1,20 +1,14 @@
 -- What stays true of a forest with one node more.
-use Rattle.std.proofs.Common.{◌≡◌, ℕ, suc, ◌<◌, ◌==◌, ◌⊎◌, Bool, true, false, ◌||◌, List, [], ◌∷◌, ◌++◌, map, length, Option, Some, None, refl, sym, ap, subst, ◌∙◌, inl, inr, arith, append_assoc}
-use Rattle.std.specs.List.{list_any, list_all, find, flat_map, cons_option, AllByRecursion}
-use Rattle.std.specs.Option.{option_map_or}
-use Rattle.std.proofs.lemmas.Bool.{eq-eqb, ltb-true, false≢true}
+use Rattle.alloc_event.proofs.Common.{◌≡◌, ℕ, suc, ◌<◌, ◌==◌, ◌⊎◌, Bool, true, false, ◌||◌, List, [], ◌∷◌, ◌++◌, map, length, Option, Some, None, refl, sym, ap, subst, ◌∙◌, inl, inr, arith, list_any, list_all, find, cons_option, AllByRecursion, option_map_or, eq-eqb, false≢true, NodeKey, same_key, HeldBuffer, and_left, and_right, or_right, same_key-true, some-injective, Table, node_at, parent_at, Node, Collection, Shelf, AreRising, IsStored, IsWhole, put_shelf, collection_in, nodes_with, forest_of, all_keys, are_filed, is_filed, put}
+use Rattle.std.proofs.Common.{append_assoc}
+use Rattle.std.specs.List.{flat_map}
+use Rattle.std.proofs.lemmas.Bool.{ltb-true}
 use Rattle.std.proofs.lemmas.List.Elements.{filter_map-append}
 use Rattle.std.proofs.lemmas.List.Folds.{list_any-append}
-use Rattle.sm_names.specs.declared.keys.NodeKey.{NodeKey}
-use Rattle.sm_names.specs.Sameness.{same_key}
-use Rattle.sm_names.specs.declared.keys.HeldBuffer.{HeldBuffer}
-use Rattle.sm_names.proofs.SamenessLaws.{and_left, and_right, or_right, same_key-true, some-injective}
-use Rattle.node_table.specs.Table.{Table, node_at, parent_at, was_given}
+use Rattle.node_table.specs.Table.{was_given}
 use Rattle.node_table.proofs.Keys.{key_cases, same_key-equal, same_key-apart}
-use Rattle.alloc_event.specs.declared.node.Node.{Node}
-use Rattle.alloc_event.specs.Forest.{Collection, all_held}
-use Rattle.alloc_event.specs.Kept.{Shelf, AreKin, AreRising, IsStored, IsWhole, Bears, put_shelf, collection_in, nodes_with, forest_of, all_keys, are_apart, are_filed, is_filed}
-use Rattle.alloc_event.specs.Settling.{put}
+use Rattle.alloc_event.specs.Forest.{all_held}
+use Rattle.alloc_event.specs.Kept.{AreKin, Bears, are_apart}
 use Rattle.alloc_event.proofs.lists.SameIntervals.{or_swap, part_swap}
 use Rattle.alloc_event.proofs.changes.Altering.{none_above}
 use Rattle.alloc_event.proofs.changes.Finishing.{whole-map, whole-unmap}

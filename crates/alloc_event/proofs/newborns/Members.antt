@@ -1,21 +1,14 @@
 -- Where nothing was forced, a newborn that comes last among the nodes of a collection forces nothing.
-use Rattle.std.proofs.Common.{◌≡◌, refl, ap, sym, ◌∙◌, Bool, true, false, cond, ◌&&◌, ◌||◌, not, ◌⊎◌, inl, inr, List, [], ◌∷◌, ◌++◌, Option, Some, None, is_some}
+use Rattle.alloc_event.proofs.Common.{◌≡◌, refl, ap, sym, ◌∙◌, Bool, true, false, cond, ◌&&◌, ◌||◌, not, ◌⊎◌, inl, inr, List, [], ◌∷◌, ◌++◌, Option, Some, None, is_some, list_any, list_all, find, option_map_or, option_and_then, NodeKey, Buffers, Cause, Demand, same_key, when, In, and_left, both_ways, either_way, or_left, or_right, same_key-refl, same_key-true}
 use Rattle.std.proofs.lemmas.List.Elements.{filter-append}
 use Rattle.std.proofs.lemmas.List.Folds.{find-append, list_any-append, list_all-append}
-use Rattle.std.specs.List.{list_any, list_all, find}
-use Rattle.std.specs.Option.{option_map_or, option_map, option_and_then, option_or}
-use Rattle.sm_names.specs.declared.keys.NodeKey.{NodeKey}
-use Rattle.sm_names.specs.declared.outcomes.Buffers.{Buffers}
-use Rattle.sm_names.specs.declared.outcomes.Cause.{Cause}
-use Rattle.sm_names.specs.Demands.{Demand}
+use Rattle.std.specs.Option.{option_map, option_or}
 use Rattle.sm_names.specs.Forced.{Standing, ending, abandoned, logical_allocation, logical_failure, outcome, is_allocated, is_deserted, is_next_head}
 use Rattle.sm_names.specs.Marks.{Mark, Loss, Ended}
 use Rattle.sm_names.specs.Members.{Member, is_live, is_ready, is_root, is_settled, is_under, root_left, some_live, some_strong_live, subtree, unit, demands, reserved}
-use Rattle.sm_names.specs.Sameness.{same_key}
-use Rattle.sm_names.specs.Words.{when}
-use Rattle.sm_names.proofs.ListLaws.{In, find-none, none-find}
+use Rattle.sm_names.proofs.ListLaws.{find-none, none-find}
 use Rattle.sm_names.proofs.RestLaws.{AtRest}
-use Rattle.sm_names.proofs.SamenessLaws.{and_left, both_ways, either_way, or_both, or_left, or_parts, or_right, same_key-refl, same_key-true}
+use Rattle.sm_names.proofs.SamenessLaws.{or_both, or_parts}
 use Rattle.sm_names.proofs.PlaceLaws.{map-None}
 
 -- ---- lists

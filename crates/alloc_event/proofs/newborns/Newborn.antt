@@ -1,26 +1,17 @@
 -- The collection that a node is born into.
-use Rattle.std.proofs.Common.{◌≡◌, ℕ, ◌<◌, ◌==◌, Bool, true, false, ◌||◌, ◌&&◌, ◌⊎◌, not, List, [], ◌∷◌, ◌++◌, drop, reverse, Option, Some, None, option_map, is_some, IsSome, IfSome, refl, sym, ap, subst, ◌∙◌, inl, inr}
-use Rattle.std.specs.List.{list_any, list_all, find, AllByRecursion}
-use Rattle.std.specs.Option.{option_map_or, option_and_then, unwrap_or}
-use Rattle.std.proofs.lemmas.Bool.{eqb-true, eq-eqb, false≢true, not-true}
+use Rattle.alloc_event.proofs.Common.{◌≡◌, ℕ, ◌<◌, ◌==◌, Bool, true, false, ◌||◌, ◌&&◌, ◌⊎◌, not, List, [], ◌∷◌, ◌++◌, drop, reverse, Option, Some, None, option_map, is_some, refl, sym, ap, subst, ◌∙◌, inl, inr, list_any, list_all, find, AllByRecursion, option_map_or, option_and_then, eqb-true, eq-eqb, false≢true, not-true, NodeKey, same_key, In, In-find, and_left, and_right, both_ways, either_way, or_cases, or_left, or_right, same_key-refl, same_key-true, some-injective, In-any, Table, node_at, Change, Node, is_left_of, Collection, Shelf, AreRising, IsStored, IsWhole, put_shelf, collection_in, nodes_with, forest_of, all_keys, are_filed, is_filed, is_of, node_of, are_distinct, heads_itself, collection_or_new, are_rooted}
+use Rattle.std.proofs.Common.{IsSome, IfSome}
+use Rattle.std.specs.Option.{unwrap_or}
 use Rattle.std.proofs.lemmas.List.{map-append}
 use Rattle.std.proofs.lemmas.List.Folds.{list_any-append}
-use Rattle.sm_names.specs.declared.keys.NodeKey.{NodeKey}
-use Rattle.sm_names.specs.Sameness.{same_key}
-use Rattle.sm_names.proofs.ListLaws.{In, In-find}
-use Rattle.sm_names.proofs.SamenessLaws.{and_left, and_right, both_ways, either_way, or_cases, or_left, or_none_left, or_none_right, or_right, same_key-refl, same_key-true, some-injective}
-use Rattle.sm_names.proofs.StandingLaws.{In-any}
-use Rattle.node_table.specs.Table.{Table, node_at, row_at, was_given}
+use Rattle.sm_names.proofs.SamenessLaws.{or_none_left, or_none_right}
+use Rattle.node_table.specs.Table.{row_at, was_given}
 use Rattle.node_table.proofs.Keys.{same_key-equal}
-use Rattle.alloc_event.specs.declared.change.Change.{Change}
-use Rattle.alloc_event.specs.declared.node.Node.{Node}
-use Rattle.alloc_event.specs.Decisions.{is_left_of}
-use Rattle.alloc_event.specs.Forest.{Collection, all_held}
-use Rattle.alloc_event.specs.Kept.{Shelf, AreRising, IsStored, IsWhole, Bears, Gives, SameTable, born, put_shelf, collection_in, nodes_with, forest_of, all_keys, are_filed, is_filed}
-use Rattle.alloc_event.specs.Nodes.{is_of, node_of, new_root}
-use Rattle.alloc_event.specs.Scenes.{IsSound, are_distinct, heads_itself}
-use Rattle.alloc_event.specs.Settling.{MayChange, collection_or_new, with_birth, has_collection}
-use Rattle.alloc_event.specs.Ties.{are_rooted}
+use Rattle.alloc_event.specs.Forest.{all_held}
+use Rattle.alloc_event.specs.Kept.{Bears, Gives, SameTable, born}
+use Rattle.alloc_event.specs.Nodes.{new_root}
+use Rattle.alloc_event.specs.Scenes.{IsSound}
+use Rattle.alloc_event.specs.Settling.{MayChange, with_birth, has_collection}
 use Rattle.alloc_event.specs.Units.{GoTogether, are_united, shares_unit}
 use Rattle.alloc_event.proofs.changes.Altering.{filed_at, kept_of, found_id, found_filed, found_whole, shelf_by, none_above}
 use Rattle.alloc_event.proofs.newborns.Bearing.{born_key}

@@ -1,24 +1,14 @@
 -- A birth forces nothing, where nothing was forced.
-use Rattle.std.proofs.Common.{◌≡◌, ℕ, refl, ap, sym, ◌∙◌, Bool, false, not, inl, inr, List, [], ◌∷◌, ◌++◌, map, reverse, Option, Some, None}
-use Rattle.std.proofs.lemmas.Bool.{not-true}
+use Rattle.alloc_event.proofs.Common.{◌≡◌, ℕ, refl, ap, sym, ◌∙◌, Bool, false, not, inl, inr, List, [], ◌∷◌, ◌++◌, map, reverse, Option, Some, None, not-true, filter, list_any, option_map_or, Interval, NodeKey, forced, same_key, In, In-map, both_ways, either_way, In-any, Change, Node, Collection, is_of, members_of, node_of, Handles, Settles, standing}
 use Rattle.std.proofs.lemmas.List.{map-append, reverse-append}
 use Rattle.std.proofs.lemmas.List.Elements.{filter-append}
-use Rattle.std.specs.List.{filter, list_any}
-use Rattle.std.specs.Option.{option_map_or}
-use Rattle.sm_names.specs.declared.keys.Interval.{Interval}
-use Rattle.sm_names.specs.declared.keys.NodeKey.{NodeKey}
-use Rattle.sm_names.specs.Forced.{Standing, forced}
+use Rattle.sm_names.specs.Forced.{Standing}
 use Rattle.sm_names.specs.Members.{Member}
-use Rattle.sm_names.specs.Sameness.{same_key}
-use Rattle.sm_names.proofs.ListLaws.{In, In-filter, In-map, map-In}
+use Rattle.sm_names.proofs.ListLaws.{In-filter, map-In}
 use Rattle.sm_names.proofs.RestLaws.{at_rest, none_forced}
-use Rattle.sm_names.proofs.SamenessLaws.{both_ways, either_way, same_key-comm}
-use Rattle.sm_names.proofs.StandingLaws.{In-any}
-use Rattle.alloc_event.specs.declared.change.Change.{Change}
-use Rattle.alloc_event.specs.declared.node.Node.{Node}
-use Rattle.alloc_event.specs.Forest.{Collection}
-use Rattle.alloc_event.specs.Nodes.{above_among, is_of, member_of, members_of, new_child, new_root, node_of}
-use Rattle.alloc_event.specs.Settling.{Handles, Settles, Rests, changed, standing}
+use Rattle.sm_names.proofs.SamenessLaws.{same_key-comm}
+use Rattle.alloc_event.specs.Nodes.{above_among, member_of, new_child, new_root}
+use Rattle.alloc_event.specs.Settling.{Rests, changed}
 use Rattle.alloc_event.proofs.newborns.Members.{IsNewborn, rests_with}
 
 -- no node that is not gone has the key as its parent

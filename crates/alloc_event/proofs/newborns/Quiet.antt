@@ -1,31 +1,20 @@
 -- A birth in a collection where nothing else changes with it.
-use Rattle.std.proofs.Common.{◌≡◌, ℕ, ◌+◌, Bool, true, false, ◌||◌, ◌&&◌, ◌==◌, not, if◌then◌else◌, List, [], ◌∷◌, ◌++◌, map, reverse, Option, Some, None, option_map, refl, sym, ap, subst, ◌∙◌, inl, inr, arith}
-use Rattle.std.specs.List.{find, list_all, list_any}
-use Rattle.std.specs.Option.{option_map_or, unwrap_or}
+use Rattle.alloc_event.proofs.Common.{◌≡◌, ℕ, ◌+◌, Bool, true, false, ◌||◌, ◌&&◌, ◌==◌, not, if◌then◌else◌, List, [], ◌∷◌, ◌++◌, map, reverse, Option, Some, None, option_map, refl, sym, ap, subst, ◌∙◌, inl, inr, arith, find, list_all, list_any, option_map_or, NodeKey, forced, HeldBuffer, same_key, and_left, and_right, both_ways, either_way, same_key-refl, In-any, Table, Entry, Node, strong_count, over_but, Collection, Shelf, IsStored, put_shelf, collection_in, forest_of, shelf_of, is_of, members_of, reserved_count, Handles, collection_or_new, put, standing, are_rooted}
+use Rattle.std.specs.Option.{unwrap_or}
 use Rattle.std.proofs.lemmas.List.{map-append}
 use Rattle.std.proofs.lemmas.List.Folds.{list_any-append}
-use Rattle.sm_names.specs.declared.keys.NodeKey.{NodeKey}
 use Rattle.sm_names.specs.declared.keys.Strength.{Strength}
-use Rattle.sm_names.specs.Forced.{forced}
 use Rattle.sm_names.specs.Handles.{is_home}
 use Rattle.sm_names.specs.Members.{is_live, some_strong_live, Member}
-use Rattle.sm_names.specs.declared.keys.HeldBuffer.{HeldBuffer}
-use Rattle.sm_names.specs.Sameness.{same_key}
 use Rattle.sm_names.proofs.ListLaws.{filter-list_all, times-append}
-use Rattle.sm_names.proofs.SamenessLaws.{and_left, and_right, both_ways, either_way, or_both, same_key-refl}
-use Rattle.sm_names.proofs.StandingLaws.{In-any}
-use Rattle.node_table.specs.Table.{Table}
-use Rattle.alloc_event.specs.declared.entry.Entry.{Entry}
-use Rattle.alloc_event.specs.declared.node.Node.{Node}
-use Rattle.alloc_event.specs.Calm.{IsCalm, IsCounted, strong_count, over_but}
+use Rattle.sm_names.proofs.SamenessLaws.{or_both}
+use Rattle.alloc_event.specs.Calm.{IsCalm, IsCounted}
 use Rattle.alloc_event.proofs.leaving.Noted.{not_over_but}
-use Rattle.alloc_event.specs.Forest.{Collection, all_held, beside}
-use Rattle.alloc_event.specs.Kept.{Shelf, IsStored, Bears, Finishes, born, put_shelf, collection_in, forest_of, is_strong, shelf_of}
-use Rattle.alloc_event.specs.Nodes.{is_of, member_of, members_of}
-use Rattle.alloc_event.specs.Reserved.{reserved_count}
-use Rattle.alloc_event.specs.Settling.{Handles, collection_or_new, given_back, is_home_in, put, standing, with_birth}
+use Rattle.alloc_event.specs.Forest.{all_held, beside}
+use Rattle.alloc_event.specs.Kept.{Bears, Finishes, born, is_strong}
+use Rattle.alloc_event.specs.Nodes.{member_of}
+use Rattle.alloc_event.specs.Settling.{given_back, is_home_in, with_birth}
 use Rattle.alloc_event.specs.Still.{IsStill, no_shelf, shelf_before, shelf_with}
-use Rattle.alloc_event.specs.Ties.{are_rooted}
 use Rattle.alloc_event.proofs.changes.Altering.{shelf_by}
 use Rattle.alloc_event.proofs.newborns.NothingForced.{HaveOthers, births_force_nothing, birth_settles, members_more}
 use Rattle.alloc_event.proofs.newborns.Calmness.{births_calm}

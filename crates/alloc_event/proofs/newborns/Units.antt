@@ -1,26 +1,13 @@
 -- The counts of units, once a node is born and counted.
-use Rattle.std.proofs.Common.{◌≡◌, ◌≢◌, ℕ, ◌+◌, ◌<◌, ◌≤◌, ◌==◌, nat_lt, Bool, true, false, if◌then◌else◌, List, [], ◌∷◌, ◌++◌, map, length, reverse, set, Option, Some, None, refl, sym, ap, subst, ◌∙◌, ◌⊎◌, inl, inr, arith}
-use Rattle.std.proofs.lemmas.Bool.{eqb-true}
+use Rattle.alloc_event.proofs.Common.{◌≡◌, ◌≢◌, ℕ, ◌+◌, ◌<◌, ◌≤◌, ◌==◌, nat_lt, Bool, true, false, if◌then◌else◌, List, [], ◌∷◌, ◌++◌, map, length, reverse, set, Option, Some, None, refl, sym, ap, subst, ◌∙◌, ◌⊎◌, inl, inr, arith, eqb-true, cons_option, list_all, list_any, NodeKey, same_key, times, In, In-find, both_ways, either_way, same_key-refl, In-any, Table, node_at, Node, Unit, AreUnits, lives_in, unit_at, waits_in, Collection, IsStored, IsWhole, Shelf, all_keys, collection_in, forest_of, is_filed, nodes_with, put_shelf, is_of, are_distinct, collection_or_new, put, are_rooted}
 use Rattle.std.proofs.lemmas.List.{get_or-set_other, get_or-set_same, length-append, length-set}
-use Rattle.std.specs.List.{cons_option, list_all, list_any}
 use Rattle.std.specs.Option.{unwrap_or}
-use Rattle.sm_names.specs.declared.keys.NodeKey.{NodeKey}
-use Rattle.sm_names.specs.Sameness.{same_key}
-use Rattle.sm_names.specs.Words.{times}
-use Rattle.sm_names.proofs.ListLaws.{In, In-append, In-find, times-append, times-le-length, times-zero}
-use Rattle.sm_names.proofs.SamenessLaws.{both_ways, either_way, same_key-refl}
-use Rattle.sm_names.proofs.StandingLaws.{In-any}
-use Rattle.node_table.specs.Table.{Table, node_at, table_len}
-use Rattle.alloc_event.specs.declared.node.Node.{Node}
-use Rattle.alloc_event.specs.declared.units.Unit.{Unit}
-use Rattle.alloc_event.specs.Counts.{AreUnits, AreUnitsBut, HasUnit, HasUnits, head_above, heads_below, lives_in, no_unit, reckoned, tallied, unit_at, unit_of, waits_in}
-use Rattle.alloc_event.specs.Forest.{Collection, collection_at}
-use Rattle.alloc_event.specs.Kept.{Bears, IsStored, IsWhole, Shelf, all_keys, born, collection_in, forest_of, is_filed, nodes_with, put_shelf}
-use Rattle.alloc_event.specs.Nodes.{is_of}
-use Rattle.alloc_event.specs.Scenes.{are_distinct}
-use Rattle.alloc_event.specs.Settling.{collection_or_new, put}
+use Rattle.sm_names.proofs.ListLaws.{In-append, times-append, times-le-length, times-zero}
+use Rattle.node_table.specs.Table.{table_len}
+use Rattle.alloc_event.specs.Counts.{AreUnitsBut, HasUnit, HasUnits, head_above, heads_below, no_unit, reckoned, tallied, unit_of}
+use Rattle.alloc_event.specs.Forest.{collection_at}
+use Rattle.alloc_event.specs.Kept.{Bears, born}
 use Rattle.alloc_event.specs.Still.{shelf_before, shelf_with}
-use Rattle.alloc_event.specs.Ties.{are_rooted}
 use Rattle.alloc_event.proofs.changes.Altering.{looked-of, shelf_by}
 use Rattle.alloc_event.proofs.tables.Hanging.{all_in, in_all, looked_there}
 use Rattle.alloc_event.proofs.tallies.Holding.{head_there}

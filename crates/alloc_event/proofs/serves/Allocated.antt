@@ -1,19 +1,9 @@
 -- Attached units that are allocated in their places: what is forced besides stays as it was.
-use Rattle.std.proofs.Common.{◌≡◌, refl, ap, ◌∙◌, Bool, true, false, not, ◌&&◌, ◌||◌, is_none, List, [], ◌∷◌, map, Option, Some, None}
-use Rattle.std.specs.List.{list_all, list_any, find}
-use Rattle.std.specs.Option.{option_map, option_map_or, option_and_then}
-use Rattle.sm_names.specs.declared.keys.NodeKey.{NodeKey}
-use Rattle.sm_names.specs.declared.outcomes.Cause.{Cause}
-use Rattle.sm_names.specs.Sameness.{same_key}
-use Rattle.sm_names.specs.Words.{when}
-use Rattle.sm_names.proofs.ListLaws.{In-find}
-use Rattle.sm_names.proofs.SamenessLaws.{and_left, both_ways, false_if, same_key-true}
-use Rattle.alloc_event.specs.declared.node.Node.{Node}
-use Rattle.alloc_event.specs.Decisions.{Decision, Loses, has_strong, waiting}
+use Rattle.alloc_event.proofs.Common.{◌≡◌, refl, ap, ◌∙◌, Bool, true, false, not, ◌&&◌, ◌||◌, is_none, List, [], ◌∷◌, map, Option, Some, None, list_all, list_any, find, option_map_or, option_and_then, NodeKey, Cause, same_key, when, In-find, and_left, both_ways, false_if, same_key-true, Node, has_strong, waiting, Collection, is_deserted_node, is_ready_node, is_root_left, heads_itself}
+use Rattle.std.specs.Option.{option_map}
+use Rattle.alloc_event.specs.Decisions.{Decision, Loses}
 use Rattle.alloc_event.specs.Falls.{given_all}
-use Rattle.alloc_event.specs.Forest.{Collection}
-use Rattle.alloc_event.specs.Questions.{is_deserted_node, is_ready_node, is_root_left}
-use Rattle.alloc_event.specs.Scenes.{IsSound, heads_itself}
+use Rattle.alloc_event.specs.Scenes.{IsSound}
 use Rattle.alloc_event.specs.Settling.{is_root_of}
 use Rattle.alloc_event.proofs.calm.Calming.{find_map}
 use Rattle.alloc_event.proofs.calm.Steps.{all-In, found_by_key}

@@ -1,13 +1,7 @@
 -- One collection that changed with the steps that follow, among the others that stay.
-use Rattle.std.proofs.Common.{◌≡◌, ◌≢◌, ◌<◌, ◌==◌, nat_lt, refl, false, inl, inr, List, [], ◌∷◌, map, Some, arith}
-use Rattle.std.proofs.lemmas.Bool.{eqb-false, eqb-true, le-ltb}
-use Rattle.std.specs.List.{find}
-use Rattle.sm_names.proofs.ListLaws.{In, In-find, map-In}
-use Rattle.sm_names.proofs.SamenessLaws.{either_way}
-use Rattle.node_table.specs.Table.{Table}
-use Rattle.alloc_event.specs.declared.node.Node.{Node}
-use Rattle.alloc_event.specs.Kept.{AreRising, Shelf, collection_in}
-use Rattle.alloc_event.specs.Settling.{put}
+use Rattle.alloc_event.proofs.Common.{◌≡◌, ◌≢◌, ◌<◌, ◌==◌, nat_lt, refl, false, inl, inr, List, [], ◌∷◌, map, Some, arith, eqb-false, eqb-true, find, In, In-find, either_way, Table, Node, AreRising, Shelf, collection_in, put}
+use Rattle.std.proofs.lemmas.Bool.{le-ltb}
+use Rattle.sm_names.proofs.ListLaws.{map-In}
 use Rattle.alloc_event.proofs.changes.Altering.{Some-shelf}
 use Rattle.alloc_event.proofs.tallies.Slots.{all_at}
 

@@ -1,21 +1,9 @@
 -- A unit that is to be allocated, as the table tells before it is.
-use Rattle.std.proofs.Common.{◌≡◌, refl, ap, sym, ◌∙◌, subst, Bool, true, false, not, ◌&&◌, ◌||◌, ◌==◌, inl, inr, is_none, List, [], ◌∷◌, Option, Some, None}
-use Rattle.std.proofs.lemmas.Bool.{eq-eqb, not-true}
-use Rattle.std.specs.List.{cons_option, find, list_all, list_any}
-use Rattle.std.specs.Option.{option_map_or}
-use Rattle.sm_names.specs.declared.keys.NodeKey.{NodeKey}
-use Rattle.sm_names.specs.Sameness.{same_key}
-use Rattle.sm_names.proofs.ListLaws.{In, In-list_any, times-zero}
-use Rattle.sm_names.proofs.SamenessLaws.{and_both, and_left, and_right, both_ways, either_way, or_left, or_right, same_key-refl, same_key-true}
-use Rattle.node_table.specs.Table.{Table, node_at, parent_at}
-use Rattle.alloc_event.specs.declared.node.Node.{Node}
-use Rattle.alloc_event.specs.declared.units.Unit.{Unit}
-use Rattle.alloc_event.specs.Counts.{HasUnit, HasUnits, unit_at, waits_in}
-use Rattle.alloc_event.specs.Forest.{Collection}
-use Rattle.alloc_event.specs.Kept.{IsStored, IsWhole, Shelf, collection_in, nodes_with}
-use Rattle.alloc_event.specs.Nodes.{is_of}
-use Rattle.alloc_event.specs.Questions.{is_ready_node, is_served}
-use Rattle.alloc_event.specs.Scenes.{IsSound, heads_itself}
+use Rattle.alloc_event.proofs.Common.{◌≡◌, refl, ap, sym, ◌∙◌, subst, Bool, true, false, not, ◌&&◌, ◌||◌, ◌==◌, inl, inr, is_none, List, [], ◌∷◌, Option, Some, None, eq-eqb, not-true, cons_option, find, list_all, list_any, option_map_or, NodeKey, same_key, In, In-list_any, and_both, and_left, and_right, both_ways, either_way, or_left, or_right, same_key-refl, same_key-true, Table, node_at, parent_at, Node, Unit, unit_at, waits_in, Collection, IsStored, IsWhole, Shelf, collection_in, nodes_with, is_of, is_ready_node, heads_itself}
+use Rattle.sm_names.proofs.ListLaws.{times-zero}
+use Rattle.alloc_event.specs.Counts.{HasUnit, HasUnits}
+use Rattle.alloc_event.specs.Questions.{is_served}
+use Rattle.alloc_event.specs.Scenes.{IsSound}
 use Rattle.alloc_event.specs.Serving.{hangs_below, has_turn_at, is_left_out, is_of_some, is_served_there, is_waiting_head, left_out_at}
 use Rattle.alloc_event.specs.Settling.{is_root_of}
 use Rattle.alloc_event.proofs.calm.Steps.{all-In, found_by_key}

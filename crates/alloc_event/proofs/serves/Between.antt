@@ -1,24 +1,8 @@
 -- An effect and with it the allocation of units without buffers, in their places: the nodes in between, and then.
-use Rattle.std.proofs.Common.{◌≡◌, ℕ, ◌==◌, refl, ap, sym, ◌∙◌, subst, true, false, inl, inr, List, map, Some}
-use Rattle.std.specs.List.{list_any, sum_by}
-use Rattle.sm_names.specs.declared.keys.NodeKey.{NodeKey}
-use Rattle.sm_names.specs.declared.outcomes.Cause.{Cause}
-use Rattle.sm_names.specs.Demands.{Demand}
-use Rattle.sm_names.specs.Sameness.{same_key}
-use Rattle.sm_names.proofs.ListLaws.{In, In-find, In-map-back}
-use Rattle.sm_names.proofs.SamenessLaws.{both_ways, either_way, same_key-true}
-use Rattle.node_table.specs.Table.{Table, node_at}
-use Rattle.alloc_event.specs.declared.change.Change.{Change}
-use Rattle.alloc_event.specs.declared.change.Effect.{Effect}
-use Rattle.alloc_event.specs.declared.node.Node.{Node}
-use Rattle.alloc_event.specs.declared.units.Unit.{Unit}
+use Rattle.alloc_event.proofs.Common.{◌≡◌, ℕ, ◌==◌, refl, ap, sym, ◌∙◌, subst, true, false, inl, inr, List, map, Some, list_any, sum_by, NodeKey, Cause, Demand, same_key, In, In-find, In-map-back, both_ways, either_way, same_key-true, Table, node_at, Change, Effect, Node, Unit, Collection, with_nodes, IsWhole, Shelf, collection_in, nodes_with, affected, reserved_count, heads_itself}
 use Rattle.alloc_event.specs.Counts.{HasUnits}
-use Rattle.alloc_event.specs.Forest.{Collection, with_nodes}
 use Rattle.alloc_event.specs.InPlace.{IsOpen}
-use Rattle.alloc_event.specs.Kept.{IsWhole, Shelf, collection_in, nodes_with}
-use Rattle.alloc_event.specs.Nodes.{affected}
-use Rattle.alloc_event.specs.Reserved.{reserved_count}
-use Rattle.alloc_event.specs.Scenes.{IsSound, heads_itself}
+use Rattle.alloc_event.specs.Scenes.{IsSound}
 use Rattle.alloc_event.proofs.calm.Steps.{all-In}
 use Rattle.alloc_event.proofs.changes.Altering.{same_affected}
 use Rattle.alloc_event.proofs.changes.Effecting.{alone_affected, remains_affected}

@@ -1,15 +1,8 @@
 -- Where the buffers are enough for all units that are allocated together, they are for each in its turn.
-use Rattle.std.proofs.Common.{◌≡◌, ℕ, ◌+◌, refl, Bool, true, false, not, ◌&&◌, ◌||◌, if◌then◌else◌, List, Option, None, arith}
-use Rattle.std.specs.List.{list_any, sum_by}
-use Rattle.std.specs.Option.{option_map_or}
-use Rattle.sm_names.specs.declared.keys.NodeKey.{NodeKey}
-use Rattle.sm_names.specs.Demands.{Demand}
-use Rattle.sm_names.specs.Sameness.{same_key}
-use Rattle.sm_names.proofs.ListLaws.{In}
-use Rattle.alloc_event.specs.declared.node.Node.{Node}
+use Rattle.alloc_event.proofs.Common.{◌≡◌, ℕ, ◌+◌, refl, Bool, true, false, not, ◌&&◌, ◌||◌, if◌then◌else◌, List, Option, None, arith, list_any, sum_by, option_map_or, NodeKey, Demand, same_key, In, Node, reserved_count}
 use Rattle.alloc_event.specs.Falls.{given_all}
 use Rattle.alloc_event.specs.Questions.{demands_of}
-use Rattle.alloc_event.specs.Reserved.{camped, reserved_count}
+use Rattle.alloc_event.specs.Reserved.{camped}
 use Rattle.alloc_event.specs.Serving.{is_in_some}
 use Rattle.alloc_event.proofs.serves.Allocated.{after_all}
 use Rattle.alloc_event.proofs.tallies.Reserved.{amount_both, amount_map, camped_if, camped_sum, reserved_is}

@@ -1,15 +1,6 @@
 -- Attached units that become ready are what is allocated next, and nothing after them.
-use Rattle.std.proofs.Common.{◌≡◌, Bool, true, false, not, ◌&&◌, ◌||◌, is_none, List}
-use Rattle.std.specs.List.{list_any}
-use Rattle.std.specs.Option.{option_map_or}
-use Rattle.sm_names.specs.declared.keys.NodeKey.{NodeKey}
-use Rattle.sm_names.specs.Sameness.{same_key}
-use Rattle.sm_names.proofs.ListLaws.{In}
-use Rattle.sm_names.proofs.SamenessLaws.{same_key-true}
-use Rattle.alloc_event.specs.declared.node.Node.{Node}
-use Rattle.alloc_event.specs.Forest.{Collection}
-use Rattle.alloc_event.specs.Nodes.{is_of}
-use Rattle.alloc_event.specs.Scenes.{IsSound, heads_itself}
+use Rattle.alloc_event.proofs.Common.{◌≡◌, Bool, true, false, not, ◌&&◌, ◌||◌, is_none, List, list_any, option_map_or, NodeKey, same_key, In, same_key-true, Node, Collection, is_of, heads_itself}
+use Rattle.alloc_event.specs.Scenes.{IsSound}
 use Rattle.alloc_event.proofs.calm.Steps.{all-In}
 use Rattle.alloc_event.proofs.serves.Allocated.{AreChildren}
 

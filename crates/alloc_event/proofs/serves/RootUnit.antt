@@ -1,17 +1,7 @@
 -- The unit of a root that is allocated, with those that follow: what is forced besides stays as it was, and no attached unit is next.
-use Rattle.std.proofs.Common.{◌≡◌, refl, ap, sym, ◌∙◌, true, not, ◌&&◌, ◌||◌, inl, inr, is_none, is_some, drop, List, [], ◌∷◌, Option, Some, None}
-use Rattle.std.specs.List.{list_all, list_any, find}
-use Rattle.std.specs.Option.{option_map, option_and_then}
-use Rattle.sm_names.specs.declared.keys.NodeKey.{NodeKey}
-use Rattle.sm_names.specs.Sameness.{same_key}
-use Rattle.sm_names.specs.Words.{when}
-use Rattle.sm_names.proofs.ListLaws.{In}
-use Rattle.sm_names.proofs.SamenessLaws.{and_left}
-use Rattle.alloc_event.specs.declared.node.Node.{Node}
-use Rattle.alloc_event.specs.Decisions.{waiting}
+use Rattle.alloc_event.proofs.Common.{◌≡◌, refl, ap, sym, ◌∙◌, true, not, ◌&&◌, ◌||◌, inl, inr, is_none, is_some, drop, List, [], ◌∷◌, Option, Some, None, list_all, list_any, find, option_and_then, NodeKey, same_key, when, In, and_left, Node, waiting, Collection, is_ready_node, is_root_left}
+use Rattle.std.specs.Option.{option_map}
 use Rattle.alloc_event.specs.Falls.{given_all}
-use Rattle.alloc_event.specs.Forest.{Collection}
-use Rattle.alloc_event.specs.Questions.{is_ready_node, is_root_left}
 use Rattle.alloc_event.specs.Scenes.{IsSound}
 use Rattle.alloc_event.proofs.calm.Calming.{find_map}
 use Rattle.alloc_event.proofs.calm.Steps.{all-In}

@@ -1,14 +1,7 @@
 -- Attached units that wait for one event and are allocated one after another, in the order of the forced steps.
-use Rattle.std.proofs.Common.{◌≡◌, refl, ap, true, false, List, [], ◌∷◌, Some, None}
-use Rattle.std.specs.List.{list_any}
-use Rattle.sm_names.specs.declared.keys.NodeKey.{NodeKey}
-use Rattle.sm_names.specs.declared.outcomes.Buffers.{Buffers}
-use Rattle.sm_names.specs.Sameness.{same_key}
-use Rattle.alloc_event.specs.declared.node.Node.{Node}
+use Rattle.alloc_event.proofs.Common.{◌≡◌, refl, ap, true, false, List, [], ◌∷◌, Some, None, list_any, NodeKey, Buffers, same_key, Node, Collection, with_nodes, is_next_node}
 use Rattle.alloc_event.specs.Calm.{IsCalm}
 use Rattle.alloc_event.specs.Decisions.{late_failure}
-use Rattle.alloc_event.specs.Forest.{Collection, with_nodes}
-use Rattle.alloc_event.specs.Questions.{is_next_node}
 use Rattle.alloc_event.specs.Scenes.{IsSound}
 use Rattle.alloc_event.proofs.serves.Allocated.{AreChildren, after_all}
 

@@ -1,16 +1,8 @@
 -- What units ask for that are to be allocated, and what is reserved besides.
-use Rattle.std.proofs.Common.{◌≡◌, ℕ, refl, ap, sym, ◌∙◌, subst, Bool, true, false, not, ◌&&◌, if◌then◌else◌, ◌⊎◌, inl, inr, List, [], ◌∷◌, map, Option, Some, None, nat_lt}
-use Rattle.std.specs.List.{cons_option, filter_map, list_any}
-use Rattle.std.specs.Option.{option_and_then}
-use Rattle.sm_names.specs.declared.keys.NodeKey.{NodeKey}
-use Rattle.sm_names.specs.Demands.{Demand}
+use Rattle.alloc_event.proofs.Common.{◌≡◌, ℕ, refl, ap, sym, ◌∙◌, subst, Bool, true, false, not, ◌&&◌, if◌then◌else◌, ◌⊎◌, inl, inr, List, [], ◌∷◌, map, Option, Some, None, nat_lt, cons_option, list_any, option_and_then, NodeKey, Demand, In, In-list_any, both_ways, either_way, false_if, In-any, Table, node_at, Node, nodes_with}
+use Rattle.std.specs.List.{filter_map}
 use Rattle.sm_names.specs.Members.{greatest}
-use Rattle.sm_names.proofs.ListLaws.{In, In-list_any}
-use Rattle.sm_names.proofs.SamenessLaws.{both_ways, either_way, false_if}
-use Rattle.sm_names.proofs.StandingLaws.{In-any}
-use Rattle.node_table.specs.Table.{Table, node_at}
-use Rattle.alloc_event.specs.declared.node.Node.{Node}
-use Rattle.alloc_event.specs.Kept.{nodes_with, written}
+use Rattle.alloc_event.specs.Kept.{written}
 use Rattle.alloc_event.specs.Questions.{demands_of, is_served}
 use Rattle.alloc_event.specs.Serving.{asked_with, is_in_some}
 use Rattle.alloc_event.proofs.lists.Filters.{above_greatest}

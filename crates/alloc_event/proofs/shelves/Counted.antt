@@ -1,23 +1,15 @@
 -- Entries that are counted stay so, where one is put among them.
-use Rattle.std.proofs.Common.{◌≡◌, ◌≢◌, ℕ, zero, suc, ◌+◌, ◌<◌, ◌≤◌, ◌==◌, ◌&&◌, Bool, true, false, ◌⊎◌, inl, inr, List, [], ◌∷◌, map, length, get_or, set, if◌then◌else◌, cond, Option, Some, None, option_map, is_some, sym, ap, subst, ◌∙◌, refl, arith}
-use Rattle.std.specs.List.{AllByRecursion, cons_option, filter, list_all, list_any, remove}
-use Rattle.std.proofs.lemmas.Bool.{eqb-true, eqb-false, ltb-true}
-use Rattle.sm_names.specs.declared.keys.NodeKey.{NodeKey}
-use Rattle.sm_names.specs.Sameness.{same_key}
-use Rattle.sm_names.proofs.ListLaws.{In, In-map, times-le-length}
-use Rattle.sm_names.proofs.SamenessLaws.{and_left, and_right, both_ways, either_way, same_key-refl, same_key-true, some-injective}
-use Rattle.sm_names.proofs.StandingLaws.{In-any}
-use Rattle.node_table.specs.Table.{Table, node_at}
-use Rattle.alloc_event.specs.declared.entry.Entry.{Entry}
+use Rattle.alloc_event.proofs.Common.{◌≡◌, ◌≢◌, ℕ, zero, suc, ◌+◌, ◌<◌, ◌≤◌, ◌==◌, ◌&&◌, Bool, true, false, ◌⊎◌, inl, inr, List, [], ◌∷◌, map, length, get_or, set, if◌then◌else◌, cond, Option, Some, None, option_map, is_some, sym, ap, subst, ◌∙◌, refl, arith, AllByRecursion, cons_option, filter, list_all, list_any, eqb-true, eqb-false, NodeKey, same_key, In, In-map, and_left, and_right, both_ways, either_way, same_key-refl, same_key-true, some-injective, In-any, Table, node_at, Entry, Node, strong_count, over_but, Collection, AreRising, IsWhole, Shelf, are_filed, collection_in, is_filed, nodes_with, place_in, put_shelf, shelf_of, shelves_of, is_over, reserved_count}
+use Rattle.std.specs.List.{remove}
+use Rattle.std.proofs.lemmas.Bool.{ltb-true}
+use Rattle.sm_names.proofs.ListLaws.{times-le-length}
 use Rattle.alloc_event.specs.declared.node.End.{End}
-use Rattle.alloc_event.specs.declared.node.Node.{Node}
-use Rattle.alloc_event.specs.Calm.{AreCounted, AreCountedBut, IsCalm, IsCounted, put_in, strong_count, over_but}
+use Rattle.alloc_event.specs.Calm.{AreCounted, AreCountedBut, IsCalm, IsCounted, put_in}
 use Rattle.alloc_event.specs.Forgetting.{IsNotedIn, IsNoting, IsThinned}
-use Rattle.alloc_event.specs.Forest.{Collection}
 use Rattle.alloc_event.specs.Forgetting.{is_found, left_at, unless_over}
-use Rattle.alloc_event.specs.Kept.{AreRising, IsWhole, Shelf, are_filed, collection_in, is_filed, is_strong, nodes_with, place_in, put_shelf, shelf_of, shelves_of}
-use Rattle.alloc_event.specs.Nodes.{is_over, is_spent, with_end}
-use Rattle.alloc_event.specs.Reserved.{camped, reserved_count}
+use Rattle.alloc_event.specs.Kept.{is_strong}
+use Rattle.alloc_event.specs.Nodes.{is_spent, with_end}
+use Rattle.alloc_event.specs.Reserved.{camped}
 use Rattle.alloc_event.proofs.changes.Altering.{looked-of}
 use Rattle.alloc_event.proofs.calm.Calming.{IsPlain, calm_filter, calm_map, strong_filter, times_map}
 use Rattle.alloc_event.proofs.tables.Hanging.{in_all, looked_there}

@@ -1,13 +1,7 @@
 -- Entries of which one loses keys, or goes.
-use Rattle.std.proofs.Common.{◌≡◌, ℕ, zero, suc, ◌+◌, ◌==◌, Bool, true, false, List, [], ◌∷◌, get_or, set, remove, Option, Some, None, option_map, cond, refl, sym, ap, subst, ◌∙◌, arith}
-use Rattle.std.proofs.lemmas.Bool.{eq-eqb}
-use Rattle.std.specs.List.{find}
-use Rattle.sm_names.proofs.SamenessLaws.{some-injective}
-use Rattle.node_table.specs.Table.{Table}
-use Rattle.alloc_event.specs.declared.entry.Entry.{Entry}
-use Rattle.alloc_event.specs.declared.node.Node.{Node}
+use Rattle.alloc_event.proofs.Common.{◌≡◌, ℕ, zero, suc, ◌+◌, ◌==◌, Bool, true, false, List, [], ◌∷◌, get_or, set, Option, Some, None, option_map, cond, refl, sym, ap, subst, ◌∙◌, arith, eq-eqb, find, some-injective, Table, Entry, Node, Shelf, AreRising, place_in, shelf_of, shelves_of}
+use Rattle.std.proofs.Common.{remove}
 use Rattle.alloc_event.specs.Forgetting.{is_bare, thin_in, thinned, without_bare}
-use Rattle.alloc_event.specs.Kept.{Shelf, AreRising, place_in, shelf_of, shelves_of}
 use Rattle.alloc_event.proofs.shelves.Entries.{none_in}
 use Rattle.alloc_event.proofs.shelves.Showing.{shelf_found}
 use Rattle.alloc_event.proofs.leaving.Tidying.{above_other, bare_others, none_others, thin_others}

@@ -1,15 +1,12 @@
 -- Where a collection stands among entries of rising ids.
-use Rattle.std.proofs.Common.{◌≡◌, ◌≢◌, ℕ, zero, suc, ◌+◌, ◌<◌, ◌≤◌, Bool, true, false, nat_lt, ◌==◌, List, [], ◌∷◌, length, get_or, set, Option, Some, None, option_map, cond, refl, sym, ap, ◌∙◌, subst, arith, inl, inr}
-use Rattle.std.specs.List.{prefix_len, AllByRecursion, find, slice_get, insert}
+use Rattle.alloc_event.proofs.Common.{◌≡◌, ◌≢◌, ℕ, zero, suc, ◌+◌, ◌<◌, ◌≤◌, Bool, true, false, nat_lt, ◌==◌, List, [], ◌∷◌, length, get_or, set, Option, Some, None, option_map, cond, refl, sym, ap, ◌∙◌, subst, arith, inl, inr, AllByRecursion, find, eqb-true, lt-ltb, eq-eqb, some-injective, Entry, Shelf, AreRising, place_in, shelf_of, shelves_of}
+use Rattle.std.specs.List.{prefix_len, slice_get, insert}
 use Rattle.std.specs.List.Sorted.{IsNonDecreasingBy, IsPartitionPoint}
 use Rattle.std.proofs.lemmas.List.Elements.{All-from_recursion}
-use Rattle.std.proofs.lemmas.Bool.{eqb-true, lt-ltb, le-ltb, eq-eqb, ne_eqb, cases_lt}
+use Rattle.std.proofs.lemmas.Bool.{le-ltb, ne_eqb, cases_lt}
 use Rattle.std.proofs.lemmas.Option.{slice_get-get_or}
 use Rattle.std.proofs.lemmas.List.Sums.{prefix_len_is, prefix_len-le-length}
-use Rattle.sm_names.proofs.SamenessLaws.{some-injective}
-use Rattle.alloc_event.specs.declared.entry.Entry.{Entry}
 use Rattle.alloc_event.specs.Calm.{put_in}
-use Rattle.alloc_event.specs.Kept.{Shelf, AreRising, place_in, shelf_of, shelves_of}
 
 -- ids that are greater, of shelves and of entries
 pub above_shelves : (id : ℕ) (es : List Entry) → AllByRecursion (λ (later : Shelf). id < later.id) (shelves_of es) →

@@ -1,16 +1,10 @@
 -- The live nodes and the buffers of a forest, in order, told by its table and its entries.
-use Rattle.std.proofs.Common.{ℕ, ◌≡◌, refl, ap, ◌∙◌, nat_lt, cond, true, false, Bool, List, [], ◌∷◌, ◌++◌, map}
-use Rattle.std.specs.List.{filter, flat_map}
+use Rattle.alloc_event.proofs.Common.{ℕ, ◌≡◌, refl, ap, ◌∙◌, nat_lt, cond, true, false, Bool, List, [], ◌∷◌, ◌++◌, map, filter, Table, Entry, HeldBuffer, Node, Shelf, all_keys, forest_of, nodes_with, shelves_of, is_live_node}
+use Rattle.std.specs.List.{flat_map}
 use Rattle.sm_names.specs.Words.{insert_by, sorted_by}
-use Rattle.node_table.specs.Table.{Table}
-use Rattle.alloc_event.specs.declared.entry.Entry.{Entry}
-use Rattle.sm_names.specs.declared.keys.HeldBuffer.{HeldBuffer}
-use Rattle.alloc_event.specs.declared.node.Node.{Node}
 use Rattle.alloc_event.specs.Forest.{held_by_page, live_keys}
-use Rattle.alloc_event.specs.Kept.{Shelf, all_keys, forest_of, nodes_with, shelves_of}
 use Rattle.alloc_event.proofs.newborns.Forest.{helds_in}
 use Rattle.alloc_event.proofs.shelves.Showing.{nodes_of_all}
-use Rattle.alloc_event.specs.Questions.{is_live_node}
 
 -- the live nodes by birth are those of all keys
 pub live_in_order : (t : Table Node) (ss : List Shelf) →

@@ -1,15 +1,9 @@
 -- A shelf that is put in its place among others.
-use Rattle.std.proofs.Common.{◌≡◌, ℕ, ◌<◌, ◌==◌, nat_lt, true, false, ◌&&◌, not, List, [], ◌∷◌, ◌++◌, map, refl, sym, ap, subst, ◌∙◌, inl, inr, arith}
-use Rattle.std.specs.List.{list_all, filter, flat_map, AllByRecursion}
-use Rattle.std.proofs.lemmas.Bool.{lt-ltb, le-ltb, eq-eqb, ne_eqb, eqb-true, cases_lt, cases_eq, ltb-true, ltb-false, eqb-false}
+use Rattle.alloc_event.proofs.Common.{◌≡◌, ℕ, ◌<◌, ◌==◌, nat_lt, true, false, ◌&&◌, not, List, [], ◌∷◌, ◌++◌, map, refl, sym, ap, subst, ◌∙◌, inl, inr, arith, list_all, filter, AllByRecursion, lt-ltb, eq-eqb, eqb-true, eqb-false, NodeKey, HeldBuffer, Table, Node, Collection, Shelf, AreRising, put_shelf, collection_in, all_keys, are_filed, is_filed, put}
+use Rattle.std.specs.List.{flat_map}
+use Rattle.std.proofs.lemmas.Bool.{le-ltb, ne_eqb, cases_lt, cases_eq, ltb-true, ltb-false}
 use Rattle.std.proofs.lemmas.List.{map-append}
-use Rattle.sm_names.specs.declared.keys.NodeKey.{NodeKey}
-use Rattle.sm_names.specs.declared.keys.HeldBuffer.{HeldBuffer}
-use Rattle.node_table.specs.Table.{Table}
-use Rattle.alloc_event.specs.declared.node.Node.{Node}
-use Rattle.alloc_event.specs.Forest.{Collection, pages_in}
-use Rattle.alloc_event.specs.Kept.{Shelf, AreRising, put_shelf, collection_in, all_keys, are_filed, is_filed}
-use Rattle.alloc_event.specs.Settling.{put}
+use Rattle.alloc_event.specs.Forest.{pages_in}
 use Rattle.alloc_event.proofs.lists.SameIntervals.{Alike, Alike-refl, Alike-trans, Alike-front, Alike-shift, less_of}
 
 -- three ways in which one number lies to another

@@ -1,21 +1,11 @@
 -- What the forest that a table and entries make is read as.
-use Rattle.std.proofs.Common.{◌≡◌, ◌≤◌, IfSome, ℕ, ◌==◌, ◌+◌, Bool, true, false, not, List, [], ◌∷◌, ◌++◌, length, map, Option, Some, None, option_map, cond, if◌then◌else◌, refl, sym, ap, subst, ◌∙◌, arith, length-append}
-use Rattle.std.specs.List.{filter, find, flat_map, list_any, list_all, cons_option}
-use Rattle.std.specs.Option.{option_map_or}
+use Rattle.alloc_event.proofs.Common.{◌≡◌, ◌≤◌, ℕ, ◌==◌, ◌+◌, Bool, true, false, not, List, [], ◌∷◌, ◌++◌, length, map, Option, Some, None, option_map, cond, if◌then◌else◌, refl, sym, ap, subst, ◌∙◌, arith, filter, find, list_any, list_all, cons_option, option_map_or, Interval, NodeKey, Buffers, same_key, and_left, and_right, Table, node_at, Entry, Node, Collection, node_of, Shelf, shelf_of, shelves_of, nodes_with, collection_in, forest_of, all_keys, is_filed, are_filed, IsStored}
+use Rattle.std.proofs.Common.{IfSome, length-append}
+use Rattle.std.specs.List.{flat_map}
 use Rattle.std.proofs.lemmas.Bool.{leb-true}
 use Rattle.std.proofs.lemmas.List.Elements.{filter_map-append}
-use Rattle.sm_names.specs.declared.keys.Interval.{Interval}
-use Rattle.sm_names.specs.declared.keys.NodeKey.{NodeKey}
-use Rattle.sm_names.specs.declared.outcomes.Buffers.{Buffers}
-use Rattle.sm_names.specs.Sameness.{same_key}
-use Rattle.sm_names.proofs.SamenessLaws.{and_left, and_right}
-use Rattle.node_table.specs.Table.{Table, node_at}
-use Rattle.alloc_event.specs.declared.entry.Entry.{Entry}
-use Rattle.alloc_event.specs.declared.node.Node.{Node}
-use Rattle.alloc_event.specs.Forest.{Collection, all_nodes, beside, collection_at, node_at as forest_node, pages_in, summary_of}
-use Rattle.alloc_event.specs.Nodes.{node_of}
+use Rattle.alloc_event.specs.Forest.{all_nodes, beside, collection_at, node_at as forest_node, pages_in, summary_of}
 use Rattle.alloc_event.specs.Scenes.{given_few, pages_held}
-use Rattle.alloc_event.specs.Kept.{Shelf, shelf_of, shelves_of, nodes_with, collection_in, forest_of, all_keys, is_filed, are_filed, IsStored}
 use Rattle.alloc_event.proofs.lists.Lookups.{nothing, node_of-looked}
 
 -- the nodes of all collections are those of all keys

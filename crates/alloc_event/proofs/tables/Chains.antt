@@ -1,11 +1,8 @@
 -- What a failure reaches, of the nodes whose lines up to a root are known.
-use Rattle.std.proofs.Common.{◌≡◌, refl, ap, sym, ◌∙◌, subst, Bool, true, false, ◌⊎◌, inl, inr, List, [], ◌∷◌, Option, Some, None, ◌↔◌}
-use Rattle.std.specs.List.{list_any}
-use Rattle.sm_names.specs.declared.keys.NodeKey.{NodeKey}
+use Rattle.alloc_event.proofs.Common.{◌≡◌, refl, ap, sym, ◌∙◌, subst, Bool, true, false, ◌⊎◌, inl, inr, List, [], ◌∷◌, Option, Some, None, list_any, NodeKey, same_key, both_ways, either_way, or_right, same_key-true}
+use Rattle.std.proofs.Common.{◌↔◌}
 use Rattle.sm_names.specs.Losses.{Reach, Origin, Up, Down, top}
-use Rattle.sm_names.specs.Sameness.{same_key}
 use Rattle.sm_names.proofs.ReachLaws.{IsChain, climbs, descends, top_on}
-use Rattle.sm_names.proofs.SamenessLaws.{both_ways, either_way, or_right, same_key-true}
 
 module _ (parent : NodeKey → Option NodeKey) where
   -- a node has one line up to its root

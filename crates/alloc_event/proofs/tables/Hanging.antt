@@ -1,15 +1,8 @@
 -- Nodes that are left once a collection was changed were left before, on the parents that the table has.
-use Rattle.std.proofs.Common.{◌≡◌, refl, ap, sym, ◌∙◌, subst, true, false, not, inl, inr, List, [], ◌∷◌, reverse, Option, Some, None}
+use Rattle.alloc_event.proofs.Common.{◌≡◌, refl, ap, sym, ◌∙◌, subst, true, false, not, inl, inr, List, [], ◌∷◌, reverse, Option, Some, None, AllByRecursion, cons_option, NodeKey, In, same_key-true, Table, node_at, parent_at, Node, nodes_with, is_of, are_rooted}
 use Rattle.std.proofs.lemmas.Bool.{not-false}
-use Rattle.std.specs.List.{AllByRecursion, cons_option}
-use Rattle.sm_names.specs.declared.keys.NodeKey.{NodeKey}
-use Rattle.sm_names.proofs.ListLaws.{In}
-use Rattle.sm_names.proofs.SamenessLaws.{same_key-true}
-use Rattle.node_table.specs.Table.{Table, node_at, parent_at}
-use Rattle.alloc_event.specs.declared.node.Node.{Node}
-use Rattle.alloc_event.specs.Kept.{IsHung, nodes_with}
-use Rattle.alloc_event.specs.Nodes.{is_of}
-use Rattle.alloc_event.specs.Ties.{IsTied, are_rooted}
+use Rattle.alloc_event.specs.Kept.{IsHung}
+use Rattle.alloc_event.specs.Ties.{IsTied}
 
 -- ---- what holds of all
 

@@ -1,28 +1,17 @@
 -- The nodes of a collection stay on their parents, whatever is changed or forced.
-use Rattle.std.proofs.Common.{◌≡◌, ℕ, refl, ap, sym, ◌∙◌, subst, Bool, true, false, cond, ◌||◌, inl, inr, List, [], ◌∷◌, ◌++◌, map, reverse, Option, Some, None, is_some}
+use Rattle.alloc_event.proofs.Common.{◌≡◌, ℕ, refl, ap, sym, ◌∙◌, subst, Bool, true, false, cond, ◌||◌, inl, inr, List, [], ◌∷◌, ◌++◌, map, reverse, Option, Some, None, is_some, filter, list_any, option_map_or, Interval, NodeKey, same_key, In, In-find, In-map, In-map-back, and_both, and_left, and_right, both_ways, either_way, or_right, same_key-refl, same_key-true, In-any, Change, Effect, Node, is_left_of, Collection, affected, is_of, members_of, node_of, Handles, Settles, are_rooted}
 use Rattle.std.proofs.lemmas.List.{reverse-append}
-use Rattle.std.specs.List.{filter, list_any}
-use Rattle.std.specs.Option.{option_map_or}
-use Rattle.sm_names.specs.declared.keys.Interval.{Interval}
-use Rattle.sm_names.specs.declared.keys.NodeKey.{NodeKey}
 use Rattle.sm_names.specs.declared.outcomes.Fault.{Fault}
 use Rattle.sm_names.specs.Changes.{highest}
 use Rattle.sm_names.specs.Marks.{Mark, Called, Loss, Allocated, Ended}
 use Rattle.sm_names.specs.Members.{is_under}
-use Rattle.sm_names.specs.Sameness.{same_key}
-use Rattle.sm_names.proofs.ListLaws.{In, In-append, In-filter, In-filter-back, In-find, In-map, In-map-back, In-reverse, In-reverse-back, is_some-find}
+use Rattle.sm_names.proofs.ListLaws.{In-append, In-filter, In-filter-back, In-reverse, In-reverse-back, is_some-find}
 use Rattle.sm_names.proofs.ReachLaws.{IsChain}
-use Rattle.sm_names.proofs.SamenessLaws.{and_both, and_left, and_right, both_ways, either_way, or_parts, or_right, same_key-refl, same_key-true}
-use Rattle.sm_names.proofs.StandingLaws.{In-any}
-use Rattle.alloc_event.specs.declared.change.Change.{Change}
-use Rattle.alloc_event.specs.declared.change.Effect.{Effect}
-use Rattle.alloc_event.specs.declared.node.Node.{Node}
-use Rattle.alloc_event.specs.Decisions.{is_left_of}
-use Rattle.alloc_event.specs.Forest.{Collection}
-use Rattle.alloc_event.specs.Nodes.{above_among, affected, after_allocation, after_effect, after_end, after_loss, ended, given_buffers, is_of, is_taken, lost, member_of, members_of, new_child, new_root, node_of}
-use Rattle.alloc_event.specs.Settling.{Handles, Settles, Rests, Forces, changed, is_root_of, made}
+use Rattle.sm_names.proofs.SamenessLaws.{or_parts}
+use Rattle.alloc_event.specs.Nodes.{above_among, after_allocation, after_effect, after_end, after_loss, ended, given_buffers, is_taken, lost, member_of, new_child, new_root}
+use Rattle.alloc_event.specs.Settling.{Rests, Forces, changed, is_root_of, made}
 use Rattle.alloc_event.proofs.tables.Chains.{one_line}
-use Rattle.alloc_event.specs.Ties.{FitsChange, are_rooted, hangs_on}
+use Rattle.alloc_event.specs.Ties.{FitsChange, hangs_on}
 use Rattle.alloc_event.proofs.tables.Rooted.{AreOne, HasLine, IsRooted, left_in, left_node, left_within, line_of}
 use mathlib.Core.List.{reverse_aux}
 

@@ -1,8 +1,5 @@
 -- Nodes stay of the collections of their parents.
-use Rattle.std.proofs.Common.{◌≡◌, Some, sym, ◌∙◌}
-use Rattle.sm_names.specs.declared.keys.NodeKey.{NodeKey}
-use Rattle.node_table.specs.Table.{Table, node_at, parent_at}
-use Rattle.alloc_event.specs.declared.node.Node.{Node}
+use Rattle.alloc_event.proofs.Common.{◌≡◌, Some, sym, ◌∙◌, NodeKey, Table, node_at, parent_at, Node}
 use Rattle.alloc_event.specs.Kept.{AreKin}
 
 -- where each node that is there was there, of the same collection, and no key has another parent

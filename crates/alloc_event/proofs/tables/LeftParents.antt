@@ -1,19 +1,7 @@
 -- The parent of a node that is not gone is in the table, and not gone.
-use Rattle.std.proofs.Common.{◌≡◌, ℕ, ap, sym, ◌∙◌, subst, true, false, ◌==◌, ◌&&◌, not, List, [], Option, Some, None, refl}
-use Rattle.std.proofs.lemmas.Bool.{eqb-true, false≢true, not-true}
-use Rattle.std.specs.List.{find}
-use Rattle.std.specs.Option.{option_map_or}
-use Rattle.sm_names.specs.declared.keys.NodeKey.{NodeKey}
-use Rattle.sm_names.proofs.ListLaws.{In, In-find}
-use Rattle.sm_names.proofs.SamenessLaws.{and_left, and_right, both_ways}
-use Rattle.node_table.specs.Table.{Table, node_at, parent_at}
-use Rattle.alloc_event.specs.declared.change.Change.{Change}
-use Rattle.alloc_event.specs.declared.node.Node.{Node}
-use Rattle.alloc_event.specs.Decisions.{is_left_of}
-use Rattle.alloc_event.specs.Forest.{Collection}
-use Rattle.alloc_event.specs.Kept.{Shelf, IsStored, forest_of, loses_left, nodes_with}
-use Rattle.alloc_event.specs.Nodes.{is_of}
-use Rattle.alloc_event.specs.Settling.{MayChange, collection_or_new, is_there}
+use Rattle.alloc_event.proofs.Common.{◌≡◌, ℕ, ap, sym, ◌∙◌, subst, true, false, ◌==◌, ◌&&◌, not, List, [], Option, Some, None, refl, eqb-true, false≢true, not-true, find, option_map_or, NodeKey, In, In-find, and_left, and_right, both_ways, Table, node_at, parent_at, Change, Node, is_left_of, Collection, Shelf, IsStored, forest_of, nodes_with, is_of, collection_or_new}
+use Rattle.alloc_event.specs.Kept.{loses_left}
+use Rattle.alloc_event.specs.Settling.{MayChange, is_there}
 use Rattle.alloc_event.proofs.tables.Hanging.{in_all, looked_there}
 use Rattle.alloc_event.proofs.newborns.Newborn.{before_is, found_above}
 use Rattle.alloc_event.proofs.tables.Rooted.{left_in, left_node, left_parent}

@@ -1,10 +1,5 @@
 -- The nodes of a collection that is kept, in the table.
-use Rattle.std.proofs.Common.{◌≡◌, ◌==◌, false, List, Some}
-use Rattle.std.specs.List.{find}
-use Rattle.sm_names.proofs.ListLaws.{In}
-use Rattle.node_table.specs.Table.{Table, node_at, parent_at}
-use Rattle.alloc_event.specs.declared.node.Node.{Node}
-use Rattle.alloc_event.specs.Kept.{IsStored, IsWhole, Shelf, collection_in, nodes_with}
+use Rattle.alloc_event.proofs.Common.{◌≡◌, ◌==◌, false, List, Some, find, In, Table, node_at, parent_at, Node, IsStored, IsWhole, Shelf, collection_in, nodes_with}
 use Rattle.alloc_event.specs.Ties.{IsTied}
 use Rattle.alloc_event.proofs.changes.Altering.{found_whole}
 use Rattle.alloc_event.proofs.tables.Hanging.{in_all, looked_hung, looked_there, looked_tied}

@@ -1,21 +1,10 @@
 -- The nodes of a collection hang on their parents: that of each node that is not gone stands before it, and is not gone.
-use Rattle.std.proofs.Common.{◌≡◌, refl, ap, sym, ◌∙◌, subst, true, false, ◌&&◌, not, inl, inr, List, [], ◌∷◌, reverse, Option, Some, None}
-use Rattle.std.proofs.lemmas.Bool.{not-true, not_from_false}
-use Rattle.std.specs.List.{list_any}
-use Rattle.std.specs.Option.{option_map_or}
-use Rattle.sm_names.specs.declared.keys.NodeKey.{NodeKey}
-use Rattle.sm_names.specs.Sameness.{same_key}
-use Rattle.sm_names.proofs.ListLaws.{In, In-list_any, In-reverse, In-reverse-back}
+use Rattle.alloc_event.proofs.Common.{◌≡◌, refl, ap, sym, ◌∙◌, subst, true, false, ◌&&◌, not, inl, inr, List, [], ◌∷◌, reverse, Option, Some, None, not-true, list_any, option_map_or, NodeKey, same_key, In, In-list_any, and_both, and_left, and_right, both_ways, either_way, or_right, same_key-refl, same_key-true, In-any, Node, is_left_of, Collection, IsWhole, is_of, are_distinct, are_rooted}
+use Rattle.std.proofs.lemmas.Bool.{not_from_false}
+use Rattle.sm_names.proofs.ListLaws.{In-reverse, In-reverse-back}
 use Rattle.sm_names.proofs.ReachLaws.{IsChain}
-use Rattle.sm_names.proofs.SamenessLaws.{and_both, and_left, and_right, both_ways, either_way, or_right, same_key-refl, same_key-true}
-use Rattle.sm_names.proofs.StandingLaws.{In-any}
-use Rattle.alloc_event.specs.declared.node.Node.{Node}
-use Rattle.alloc_event.specs.Decisions.{is_left_of}
-use Rattle.alloc_event.specs.Forest.{Collection}
-use Rattle.alloc_event.specs.Kept.{IsWhole}
-use Rattle.alloc_event.specs.Nodes.{above_among, is_of}
-use Rattle.alloc_event.specs.Scenes.{are_distinct}
-use Rattle.alloc_event.specs.Ties.{hangs_on, are_rooted}
+use Rattle.alloc_event.specs.Nodes.{above_among}
+use Rattle.alloc_event.specs.Ties.{hangs_on}
 
 -- nodes with one key are one node
 abbrev pub AreOne : List Node → Type 0

@@ -1,14 +1,9 @@
 -- Nodes that are written one after another, each in the place of the one with its key.
-use Rattle.std.proofs.Common.{◌≡◌, Bool, true, false, List, [], ◌∷◌, ◌++◌, ◌⊎◌, inl, inr, Option, Some, None, option_map, is_some, cond, if◌then◌else◌, refl, ap, ◌∙◌, IsSome}
-use Rattle.std.proofs.lemmas.Bool.{false≢true}
-use Rattle.sm_names.specs.declared.keys.NodeKey.{NodeKey}
-use Rattle.sm_names.specs.Sameness.{same_key}
-use Rattle.sm_names.proofs.ListLaws.{In}
-use Rattle.sm_names.proofs.SamenessLaws.{either_way, same_key-true}
-use Rattle.node_table.specs.Table.{Row, Table, row_at, node_at}
+use Rattle.alloc_event.proofs.Common.{◌≡◌, Bool, true, false, List, [], ◌∷◌, ◌++◌, ◌⊎◌, inl, inr, Option, Some, None, option_map, is_some, cond, if◌then◌else◌, refl, ap, ◌∙◌, false≢true, NodeKey, same_key, In, either_way, same_key-true, Table, node_at, Node}
+use Rattle.std.proofs.Common.{IsSome}
+use Rattle.node_table.specs.Table.{Row, row_at}
 use Rattle.node_table.specs.Changes.{Writes}
 use Rattle.node_table.specs.Lending.{table_with_node}
-use Rattle.alloc_event.specs.declared.node.Node.{Node}
 use Rattle.alloc_event.specs.Kept.{written, stored, Stores}
 use Rattle.alloc_event.proofs.lists.Lookups.{nothing}
 use Rattle.alloc_event.proofs.tables.Writing.{look-written, parents-written}

@@ -1,20 +1,17 @@
 -- A node that is taken out of the table, with its children cut.
-use Rattle.std.proofs.Common.{◌≡◌, ◌≢◌, suc, ◌+◌, ◌<◌, nat_lt, slice_index_or, Bool, true, false, not, List, [], ◌∷◌, length, Option, Some, None, option_map, IsSome, Contains, cond, if◌then◌else◌, refl, sym, ap, subst, ◌∙◌, inl, inr, arith}
+use Rattle.alloc_event.proofs.Common.{◌≡◌, ◌≢◌, suc, ◌+◌, ◌<◌, nat_lt, Bool, true, false, not, List, [], ◌∷◌, length, Option, Some, None, option_map, cond, if◌then◌else◌, refl, sym, ap, subst, ◌∙◌, inl, inr, arith, NodeKey, same_key, some-injective, Table, node_at, parent_at, Node, Shelf, forest_of}
+use Rattle.std.proofs.Common.{slice_index_or, IsSome, Contains}
 use Rattle.std.specs.Option.{MatchOption}
 use Rattle.std.proofs.lemmas.List.{get_or_past}
-use Rattle.sm_names.specs.declared.keys.NodeKey.{NodeKey}
-use Rattle.sm_names.specs.Sameness.{same_key}
-use Rattle.sm_names.proofs.SamenessLaws.{some-injective}
-use Rattle.node_table.specs.Table.{Row, Table, row_at, node_at, parent_at, parent_in, children_at, children_in, table_len}
+use Rattle.node_table.specs.Table.{Row, row_at, parent_in, children_at, children_in, table_len}
 use Rattle.node_table.specs.Changes.{Cuts, Removes, SameKeys, at_parent, without_child, without_parent}
 use Rattle.node_table.specs.Forest.{IsForest, first_key}
 use Rattle.node_table.proofs.Keys.{key_cases, same_key-equal, same_key-apart}
 use Rattle.node_table.proofs.Lists.{without, without_lacks, Contains-head}
 use Rattle.node_table.proofs.Runs.{without-short}
-use Rattle.alloc_event.specs.declared.node.Node.{Node}
 use Rattle.alloc_event.specs.Forest.{SameKeys as SameForest}
 use Rattle.alloc_event.specs.Forgetting.{IsChild, Unlinks, TakesOut}
-use Rattle.alloc_event.specs.Kept.{Shelf, forest_of, TakesOut as Leaves}
+use Rattle.alloc_event.specs.Kept.{TakesOut as Leaves}
 
 -- the node of a row
 abbrev node_in : Option (Row Node) → Option Node

@@ -1,18 +1,11 @@
 -- The walk over the keys of a collection that takes out the nodes that are over.
-use Rattle.std.proofs.Common.{◌≡◌, ◌≢◌, Bool, true, false, List, [], ◌∷◌, ◌++◌, map, Option, Some, None, cond, refl, sym, ap, subst, ◌∙◌, inl, inr}
-use Rattle.std.specs.List.{list_any}
-use Rattle.std.specs.Option.{option_map_or}
+use Rattle.alloc_event.proofs.Common.{◌≡◌, ◌≢◌, Bool, true, false, List, [], ◌∷◌, ◌++◌, map, Option, Some, None, cond, refl, sym, ap, subst, ◌∙◌, inl, inr, list_any, option_map_or, NodeKey, same_key, and_left, or_right, Table, node_at, Node, Shelf, IsStored, is_over}
 use Rattle.std.proofs.lemmas.List.Folds.{list_any-append}
-use Rattle.sm_names.specs.declared.keys.NodeKey.{NodeKey}
-use Rattle.sm_names.specs.Sameness.{same_key}
-use Rattle.sm_names.proofs.SamenessLaws.{and_left, or_false, or_right}
-use Rattle.node_table.specs.Table.{Table, node_at}
+use Rattle.sm_names.proofs.SamenessLaws.{or_false}
 use Rattle.node_table.specs.Changes.{SameKeys}
 use Rattle.node_table.proofs.Keys.{key_cases, same_key-equal, same_key-apart}
-use Rattle.alloc_event.specs.declared.node.Node.{Node}
 use Rattle.alloc_event.specs.Forgetting.{TakesOut, left_at, thinned, unless_over}
-use Rattle.alloc_event.specs.Kept.{Shelf, IsStored}
-use Rattle.alloc_event.specs.Nodes.{is_over, is_spent}
+use Rattle.alloc_event.specs.Nodes.{is_spent}
 use Rattle.alloc_event.proofs.tables.TakingOut.{SameKeys-refl, SameKeys-trans}
 use Rattle.alloc_event.proofs.leaving.Thinning.{all_thinned-same, found_before, taken-kept, thinned-twice}
 

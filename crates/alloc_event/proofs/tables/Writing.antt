@@ -1,17 +1,10 @@
 -- What stays true of a forest where nodes are written in their places.
-use Rattle.std.proofs.Common.{◌≡◌, ◌≢◌, ℕ, ◌==◌, nat_le, nat_lt, slice_index_or, false, ◌&&◌, List, [], ◌∷◌, map, drop, Option, Some, None, option_map, is_some, if◌then◌else◌, refl, sym, ap, subst, ◌∙◌, inl, inr}
-use Rattle.std.specs.List.{list_any, list_all, AllByRecursion}
-use Rattle.std.specs.Option.{option_map_or}
-use Rattle.sm_names.specs.declared.keys.NodeKey.{NodeKey}
-use Rattle.sm_names.specs.Sameness.{same_key}
-use Rattle.node_table.specs.Table.{Row, Table, row_at, node_at, parent_at, parent_in, table_len, was_given}
+use Rattle.alloc_event.proofs.Common.{◌≡◌, ◌≢◌, ℕ, ◌==◌, nat_lt, false, ◌&&◌, List, [], ◌∷◌, map, drop, Option, Some, None, option_map, is_some, if◌then◌else◌, refl, sym, ap, subst, ◌∙◌, inl, inr, list_any, list_all, AllByRecursion, option_map_or, NodeKey, same_key, Table, node_at, parent_at, Node, Collection, with_nodes, Shelf, collection_in, is_filed, are_filed, IsStored, IsWhole, nodes_with, is_of, are_distinct, heads_itself}
+use Rattle.std.proofs.Common.{nat_le, slice_index_or}
+use Rattle.node_table.specs.Table.{Row, row_at, parent_in, table_len, was_given}
 use Rattle.node_table.specs.Changes.{Writes, with_node}
 use Rattle.node_table.proofs.Keys.{key_cases, same_key-equal, same_key-apart}
-use Rattle.alloc_event.specs.declared.node.Node.{Node}
-use Rattle.alloc_event.specs.Forest.{Collection, with_nodes}
-use Rattle.alloc_event.specs.Kept.{Shelf, collection_in, is_filed, are_filed, IsStored, IsWhole, nodes_with}
-use Rattle.alloc_event.specs.Nodes.{is_of}
-use Rattle.alloc_event.specs.Scenes.{IsSound, are_distinct, heads_itself}
+use Rattle.alloc_event.specs.Scenes.{IsSound}
 use Rattle.alloc_event.specs.Units.{GoTogether}
 use Rattle.alloc_event.proofs.tables.KeptRoots.{rooted_same}
 use Rattle.alloc_event.proofs.tables.Kin.{kin_kept}

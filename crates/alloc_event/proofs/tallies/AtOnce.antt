@@ -1,14 +1,7 @@
 -- Nodes are counted no longer one after another, each for its unit and for the one right above that at once.
-use Rattle.std.proofs.Common.{◌≡◌, ℕ, zero, suc, refl, ap, ◌∙◌, Bool, true, false, List, [], ◌∷◌, set, Option, Some, None, if◌then◌else◌}
-use Rattle.std.specs.List.{cons_option}
-use Rattle.sm_names.specs.declared.keys.NodeKey.{NodeKey}
-use Rattle.node_table.specs.Table.{Table, node_at}
-use Rattle.alloc_event.specs.declared.node.Node.{Node}
-use Rattle.alloc_event.specs.declared.units.Unit.{Unit}
-use Rattle.alloc_event.specs.Counts.{head_above, is_unready, unit_at}
+use Rattle.alloc_event.proofs.Common.{◌≡◌, ℕ, zero, suc, refl, ap, ◌∙◌, Bool, true, false, List, [], ◌∷◌, set, Option, Some, None, if◌then◌else◌, cons_option, NodeKey, Table, node_at, Node, Unit, unit_at, nodes_with, is_live_node}
+use Rattle.alloc_event.specs.Counts.{head_above, is_unready}
 use Rattle.alloc_event.specs.Falling.{lowered, unhung, unreckoned, untallied, without_below, without_node}
-use Rattle.alloc_event.specs.Kept.{nodes_with}
-use Rattle.alloc_event.specs.Questions.{is_live_node}
 
 -- two changes of counts that commute do so at any two slots
 changed_both : (A B : Unit → Unit) → ((u : Unit) → A (B u) ≡ B (A u)) → (us : List Unit) (i j : ℕ) →

@@ -1,24 +1,13 @@
 -- Where something holds each unit, no node is deserted; and something does, where none is.
-use Rattle.std.proofs.Common.{◌≡◌, ℕ, zero, suc, ◌+◌, ◌<◌, ◌≤◌, refl, ap, sym, ◌∙◌, subst, Bool, true, false, not, ◌&&◌, ◌||◌, ◌⊎◌, is_none, inl, inr, List, [], ◌∷◌, length, reverse, Option, Some, None, arith}
-use Rattle.std.proofs.lemmas.Bool.{not-true}
+use Rattle.alloc_event.proofs.Common.{◌≡◌, ℕ, zero, suc, ◌+◌, ◌<◌, ◌≤◌, refl, ap, sym, ◌∙◌, subst, Bool, true, false, not, ◌&&◌, ◌||◌, ◌⊎◌, is_none, inl, inr, List, [], ◌∷◌, length, reverse, Option, Some, None, arith, not-true, list_any, list_all, option_map_or, NodeKey, same_key, In, In-list_any, and_both, and_left, and_right, both_ways, either_way, false_if, or_cases, or_left, or_right, same_key-refl, same_key-true, In-any, all_on, Node, is_left_of, is_of, node_of, is_deserted_node, is_live_node, are_distinct, heads_itself, are_rooted, is_head}
 use Rattle.std.proofs.lemmas.List.{length-reverse}
-use Rattle.std.specs.List.{list_any, list_all}
-use Rattle.std.specs.Option.{option_map_or}
-use Rattle.sm_names.specs.declared.keys.NodeKey.{NodeKey}
-use Rattle.sm_names.specs.Sameness.{same_key}
-use Rattle.sm_names.proofs.ListLaws.{In, In-list_any, In-reverse, In-reverse-back}
+use Rattle.sm_names.proofs.ListLaws.{In-reverse, In-reverse-back}
 use Rattle.sm_names.proofs.ReachLaws.{IsChain}
-use Rattle.sm_names.proofs.SamenessLaws.{and_both, and_left, and_right, both_ways, either_way, false_if, or_cases, or_left, or_right, same_key-refl, same_key-true}
-use Rattle.sm_names.proofs.StandingLaws.{In-any}
-use Rattle.sm_names.proofs.SizeLaws.{all_on}
-use Rattle.alloc_event.specs.declared.node.Node.{Node}
 pub use Rattle.alloc_event.specs.Counts.{hangs_in}
-use Rattle.alloc_event.specs.Decisions.{is_left_of}
-use Rattle.alloc_event.specs.Nodes.{above_among, is_of, node_of}
-use Rattle.alloc_event.specs.Questions.{is_below, is_deserted_node, is_live_node, lives_below}
-use Rattle.alloc_event.specs.Scenes.{are_distinct, heads_itself}
-use Rattle.alloc_event.specs.Ties.{are_rooted, hangs_on}
-use Rattle.alloc_event.specs.Units.{are_united, is_head, is_parent, shares_unit}
+use Rattle.alloc_event.specs.Nodes.{above_among}
+use Rattle.alloc_event.specs.Questions.{is_below, lives_below}
+use Rattle.alloc_event.specs.Ties.{hangs_on}
+use Rattle.alloc_event.specs.Units.{are_united, is_parent, shares_unit}
 use Rattle.alloc_event.proofs.tables.Chains.{one_line}
 use Rattle.alloc_event.proofs.tables.Rooted.{AreOne, distinct_one, left_in, left_node, left_parent, line_of}
 use Rattle.alloc_event.proofs.calm.Steps.{all-In, found_by_key}

@@ -1,24 +1,10 @@
 -- How many units hang right below one, as it is counted in the table and as it is said of a collection.
-use Rattle.std.proofs.Common.{◌≡◌, ◌≢◌, ℕ, ◌+◌, ◌<◌, ◌≤◌, ◌==◌, nat_lt, refl, ap, sym, ◌∙◌, subst, Bool, true, false, not, ◌&&◌, ◌||◌, ◌⊎◌, inl, inr, if◌then◌else◌, List, [], ◌∷◌, map, reverse, length, set, Option, Some, None, option_map, arith}
-use Rattle.std.proofs.lemmas.Bool.{eqb-false, eqb-true, lt-ltb}
+use Rattle.alloc_event.proofs.Common.{◌≡◌, ◌≢◌, ℕ, ◌+◌, ◌<◌, ◌≤◌, ◌==◌, nat_lt, refl, ap, sym, ◌∙◌, subst, Bool, true, false, not, ◌&&◌, ◌||◌, ◌⊎◌, inl, inr, if◌then◌else◌, List, [], ◌∷◌, map, reverse, length, set, Option, Some, None, option_map, arith, eqb-false, eqb-true, lt-ltb, list_any, option_map_or, NodeKey, same_key, times, In, In-list_any, and_both, and_left, and_right, both_ways, either_way, false_if, same_key-refl, same_key-true, some-injective, In-any, Table, node_at, Node, Unit, unit_at, is_of, are_distinct, are_rooted}
 use Rattle.std.proofs.lemmas.List.{get_or-set_other, get_or-set_same, length-set}
-use Rattle.std.specs.List.{list_any}
-use Rattle.std.specs.Option.{option_map_or}
-use Rattle.sm_names.specs.declared.keys.NodeKey.{NodeKey}
-use Rattle.sm_names.specs.Sameness.{same_key}
-use Rattle.sm_names.specs.Words.{times}
-use Rattle.sm_names.proofs.ListLaws.{In, In-list_any, list_any-map}
-use Rattle.sm_names.proofs.SamenessLaws.{and_both, and_left, and_right, both_ways, either_way, false_if, same_key-refl, same_key-true, some-injective}
-use Rattle.sm_names.proofs.StandingLaws.{In-any}
-use Rattle.node_table.specs.Table.{Table, node_at}
-use Rattle.alloc_event.specs.declared.node.Node.{Node}
-use Rattle.alloc_event.specs.declared.units.Unit.{Unit}
-use Rattle.alloc_event.specs.Counts.{hangs_in, head_above, head_of, heads_below, hung, no_unit, unit_at, with_below}
+use Rattle.sm_names.proofs.ListLaws.{list_any-map}
+use Rattle.alloc_event.specs.Counts.{hangs_in, head_above, head_of, heads_below, hung, no_unit, with_below}
 use Rattle.alloc_event.specs.Falling.{lowered, unhung, without_below}
 use Rattle.alloc_event.specs.InPlace.{bit}
-use Rattle.alloc_event.specs.Nodes.{is_of}
-use Rattle.alloc_event.specs.Scenes.{are_distinct}
-use Rattle.alloc_event.specs.Ties.{are_rooted}
 use Rattle.alloc_event.proofs.calm.Calming.{times_map}
 use Rattle.alloc_event.proofs.tables.Rooted.{distinct_one, left_node, left_parent}
 use Rattle.alloc_event.proofs.tables.Writing.{IsSameNode}

@@ -1,17 +1,8 @@
 -- What the counts of a unit are, once nodes were counted for their units.
-use Rattle.std.proofs.Common.{◌≡◌, ◌≢◌, ℕ, ◌+◌, ◌<◌, ◌≤◌, ◌==◌, nat_lt, refl, ap, sym, ◌∙◌, subst, Bool, true, false, not, ◌&&◌, ◌||◌, ◌⊎◌, inl, inr, if◌then◌else◌, List, [], ◌∷◌, length, set, is_some, arith}
-use Rattle.std.proofs.lemmas.Bool.{eqb-false, eqb-true, lt-ltb}
+use Rattle.alloc_event.proofs.Common.{◌≡◌, ◌≢◌, ℕ, ◌+◌, ◌<◌, ◌≤◌, ◌==◌, nat_lt, refl, ap, sym, ◌∙◌, subst, Bool, true, false, not, ◌&&◌, ◌||◌, ◌⊎◌, inl, inr, if◌then◌else◌, List, [], ◌∷◌, length, set, is_some, arith, eqb-false, eqb-true, lt-ltb, NodeKey, same_key, times, In, either_way, same_key-refl, same_key-true, Node, Unit, is_live_node, lives_in, unit_at, waits_in}
 use Rattle.std.proofs.lemmas.List.{get_or-set_other, get_or-set_same, length-set}
-use Rattle.sm_names.specs.declared.keys.NodeKey.{NodeKey}
-use Rattle.sm_names.specs.Sameness.{same_key}
-use Rattle.sm_names.specs.Words.{times}
-use Rattle.sm_names.proofs.ListLaws.{In}
-use Rattle.sm_names.proofs.SamenessLaws.{either_way, same_key-refl, same_key-true}
-use Rattle.alloc_event.specs.declared.node.Node.{Node}
-use Rattle.alloc_event.specs.declared.units.Unit.{Unit}
 use Rattle.alloc_event.specs.InPlace.{bit}
-use Rattle.alloc_event.specs.Questions.{is_live_node}
-use Rattle.alloc_event.specs.Counts.{cleared, is_unready, lives_in, no_unit, raised, tallied, unit_at, waits_in, with_node}
+use Rattle.alloc_event.specs.Counts.{cleared, is_unready, no_unit, raised, tallied, with_node}
 
 -- a key of another slot is another key
 pub other_slot : (a b : NodeKey) → a.slot ≢ b.slot → same_key a b ≡ false

@@ -1,21 +1,8 @@
 -- What is reserved, node by node: what each camps on is added up.
-use Rattle.std.proofs.Common.{◌≡◌, ◌≢◌, ℕ, ◌+◌, Bool, true, false, if◌then◌else◌, inl, inr, List, [], ◌∷◌, ◌++◌, map, Option, Some, None, refl, sym, ap, subst, ◌∙◌, arith}
-use Rattle.std.proofs.lemmas.Bool.{not-true}
-use Rattle.std.specs.List.{AllPairs, cons_option, filter, fold, list_any, sum_by}
-use Rattle.std.specs.Option.{option_map_or}
-use Rattle.sm_names.specs.declared.keys.NodeKey.{NodeKey}
-use Rattle.sm_names.specs.Demands.{Demand}
-use Rattle.sm_names.specs.Sameness.{same_key}
-use Rattle.sm_names.proofs.ListLaws.{In}
-use Rattle.sm_names.proofs.SamenessLaws.{and_left, and_right, both_ways, either_way, same_key-refl, same_key-true}
-use Rattle.sm_names.proofs.StandingLaws.{In-any}
-use Rattle.node_table.specs.Table.{Table, node_at}
-use Rattle.alloc_event.specs.declared.node.Node.{Node}
-use Rattle.alloc_event.specs.Kept.{nodes_with}
-use Rattle.alloc_event.specs.Nodes.{is_of}
+use Rattle.alloc_event.proofs.Common.{◌≡◌, ◌≢◌, ℕ, ◌+◌, Bool, true, false, if◌then◌else◌, inl, inr, List, [], ◌∷◌, ◌++◌, map, Option, Some, None, refl, sym, ap, subst, ◌∙◌, arith, not-true, cons_option, filter, list_any, sum_by, option_map_or, NodeKey, Demand, same_key, In, and_left, and_right, both_ways, either_way, same_key-refl, same_key-true, In-any, Table, node_at, Node, nodes_with, is_of, reserved_count, are_distinct}
+use Rattle.std.specs.List.{AllPairs, fold}
 use Rattle.alloc_event.specs.Questions.{demands_of, is_served}
-use Rattle.alloc_event.specs.Reserved.{camped, reserved_count}
-use Rattle.alloc_event.specs.Scenes.{are_distinct}
+use Rattle.alloc_event.specs.Reserved.{camped}
 use Rattle.alloc_event.proofs.lists.Lookups.{same_key-swap}
 use Rattle.alloc_event.proofs.tallies.Amounts.{amount_changed, amount_of}
 use Rattle.alloc_event.proofs.tallies.Untold.{first_once, rest_once}

@@ -1,27 +1,14 @@
 -- The counts in the slots of keys: which stay where others change.
-use Rattle.std.proofs.Common.{◌≡◌, ◌≢◌, ℕ, ◌+◌, ◌<◌, ◌≤◌, ◌==◌, nat_lt, refl, ap, sym, ◌∙◌, subst, Bool, true, false, ◌&&◌, ◌⊎◌, inl, inr, if◌then◌else◌, slice_index_or, List, [], ◌∷◌, map, filter, length, reverse, Option, Some, None, option_map, not, arith}
-use Rattle.std.proofs.lemmas.Bool.{eqb-false, eqb-true}
-use Rattle.std.specs.List.{AllByRecursion, find, list_all, list_any}
-use Rattle.std.specs.Option.{option_map_or, unwrap_or}
-use Rattle.sm_names.specs.declared.keys.Interval.{Interval}
-use Rattle.sm_names.specs.declared.keys.NodeKey.{NodeKey}
+use Rattle.alloc_event.proofs.Common.{◌≡◌, ◌≢◌, ℕ, ◌+◌, ◌<◌, ◌≤◌, ◌==◌, nat_lt, refl, ap, sym, ◌∙◌, subst, Bool, true, false, ◌&&◌, ◌⊎◌, inl, inr, if◌then◌else◌, List, [], ◌∷◌, map, length, reverse, Option, Some, None, option_map, not, arith, eqb-false, eqb-true, AllByRecursion, find, list_all, list_any, option_map_or, Interval, NodeKey, same_key, times, In, In-find, In-list_any, In-map, In-map-back, and_left, and_right, both_ways, either_way, false_if, same_key-true, In-any, Table, node_at, Change, Node, Unit, AreUnits, lives_in, unit_at, waits_in, Collection, with_nodes, AreRising, IsStored, IsWhole, Shelf, are_filed, collection_in, is_filed, nodes_with, is_of, is_over, are_distinct, Handles, Settles, collection_or_new, put, are_rooted}
+use Rattle.std.proofs.Common.{slice_index_or, filter}
+use Rattle.std.specs.Option.{unwrap_or}
 use Rattle.sm_names.specs.Marks.{Mark, Called, Loss, Allocated, Ended}
-use Rattle.sm_names.specs.Sameness.{same_key}
-use Rattle.sm_names.specs.Words.{times}
-use Rattle.sm_names.proofs.ListLaws.{In, In-filter, In-filter-back, In-find, In-list_any, In-map, In-map-back}
-use Rattle.sm_names.proofs.SamenessLaws.{and_left, and_right, both_ways, either_way, false_if, same_key-true}
-use Rattle.sm_names.proofs.StandingLaws.{In-any}
-use Rattle.node_table.specs.Table.{Row, Table, next_at, node_at}
-use Rattle.alloc_event.specs.declared.change.Change.{Change}
-use Rattle.alloc_event.specs.declared.node.Node.{Node}
-use Rattle.alloc_event.specs.declared.units.Unit.{Unit}
-use Rattle.alloc_event.specs.Counts.{AreUnits, AreUnitsBut, HasUnit, HasSlots, HasUnits, HaveSlots, cleared, hangs_in, head_above, heads_below, lives_in, no_unit, reckoned, tallied, unit_at, unit_of, waits_in}
-use Rattle.alloc_event.specs.Forest.{Collection, Forest, collection_at, is_left, tidied, with_nodes, without_over_in}
-use Rattle.alloc_event.specs.Kept.{AreRising, IsStored, IsWhole, Shelf, are_filed, collection_in, is_filed, nodes_with}
-use Rattle.alloc_event.specs.Nodes.{is_of, is_over, is_spent}
-use Rattle.alloc_event.specs.Scenes.{are_distinct}
-use Rattle.alloc_event.specs.Settling.{Forces, Handles, Rests, Settles, changed, collection_or_new, is_birth, is_root_of, made, put}
-use Rattle.alloc_event.specs.Ties.{are_rooted}
+use Rattle.sm_names.proofs.ListLaws.{In-filter, In-filter-back}
+use Rattle.node_table.specs.Table.{Row, next_at}
+use Rattle.alloc_event.specs.Counts.{AreUnitsBut, HasUnit, HasSlots, HasUnits, HaveSlots, cleared, hangs_in, head_above, heads_below, no_unit, reckoned, tallied, unit_of}
+use Rattle.alloc_event.specs.Forest.{Forest, collection_at, is_left, tidied, without_over_in}
+use Rattle.alloc_event.specs.Nodes.{is_spent}
+use Rattle.alloc_event.specs.Settling.{Forces, Rests, changed, is_birth, is_root_of, made}
 use Rattle.alloc_event.proofs.changes.Altering.{found_filed, found_id, found_whole, looked-of}
 use Rattle.alloc_event.proofs.calm.Calming.{times_map}
 use Rattle.alloc_event.proofs.changes.Finishing.{looked-keys}

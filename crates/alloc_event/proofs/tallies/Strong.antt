@@ -1,14 +1,9 @@
 -- Whether a strong node of a collection is live, told by its nodes.
-use Rattle.std.proofs.Common.{◌≡◌, ℕ, ◌==◌, Bool, true, false, ◌||◌, ◌&&◌, not, List, [], ◌∷◌, map, Option, Some, option_map, refl, ap, ◌∙◌}
-use Rattle.std.specs.List.{list_any, filter, find}
-use Rattle.std.specs.Option.{option_map_or}
+use Rattle.alloc_event.proofs.Common.{◌≡◌, ℕ, ◌==◌, Bool, true, false, ◌||◌, ◌&&◌, not, List, [], ◌∷◌, map, Option, Some, option_map, refl, ap, ◌∙◌, list_any, filter, find, option_map_or, Table, Entry, Node, Collection, shelf_of, shelves_of, collection_in, nodes_with, forest_of, members_of}
 use Rattle.sm_names.specs.Members.{Member, is_live as lives, some_strong_live}
-use Rattle.node_table.specs.Table.{Table}
-use Rattle.alloc_event.specs.declared.entry.Entry.{Entry}
-use Rattle.alloc_event.specs.declared.node.Node.{Node}
-use Rattle.alloc_event.specs.Forest.{Collection, collection_at}
-use Rattle.alloc_event.specs.Kept.{shelf_of, shelves_of, collection_in, nodes_with, forest_of, is_strong}
-use Rattle.alloc_event.specs.Nodes.{member_of, members_of}
+use Rattle.alloc_event.specs.Forest.{collection_at}
+use Rattle.alloc_event.specs.Kept.{is_strong}
+use Rattle.alloc_event.specs.Nodes.{member_of}
 use Rattle.alloc_event.proofs.shelves.Showing.{shelf_found, collection_is}
 
 -- by whether the first node is gone

@@ -1,26 +1,12 @@
 -- What the counts of units are, once nodes that fell are counted no longer.
-use Rattle.std.proofs.Common.{◌≡◌, ◌≢◌, ℕ, zero, suc, ◌+◌, ◌<◌, ◌≤◌, ◌==◌, nat_lt, refl, ap, sym, ◌∙◌, subst, Bool, true, false, not, ◌&&◌, ◌||◌, ◌⊎◌, inl, inr, if◌then◌else◌, List, [], ◌∷◌, length, set, Option, Some, None, arith}
-use Rattle.std.proofs.lemmas.Bool.{eqb-false, eqb-true, lt-ltb, not-true}
+use Rattle.alloc_event.proofs.Common.{◌≡◌, ◌≢◌, ℕ, zero, suc, ◌+◌, ◌<◌, ◌≤◌, ◌==◌, nat_lt, refl, ap, sym, ◌∙◌, subst, Bool, true, false, not, ◌&&◌, ◌||◌, ◌⊎◌, inl, inr, if◌then◌else◌, List, [], ◌∷◌, length, set, Option, Some, None, arith, eqb-false, eqb-true, lt-ltb, not-true, cons_option, list_any, NodeKey, same_key, times, In, and_left, and_right, both_ways, either_way, same_key-refl, same_key-true, In-any, Table, node_at, Node, Unit, lives_in, unit_at, waits_in, nodes_with, is_of, is_live_node, are_distinct}
 use Rattle.std.proofs.lemmas.List.{get_or-set_other, get_or-set_same, length-set}
 use Rattle.std.proofs.lemmas.Map.Views.{Contains-from_any}
-use Rattle.std.specs.List.{AllPairs, cons_option, list_any}
+use Rattle.std.specs.List.{AllPairs}
 use Rattle.std.proofs.Math.Bool.{and-false}
-use Rattle.sm_names.specs.declared.keys.NodeKey.{NodeKey}
-use Rattle.sm_names.specs.Sameness.{same_key}
-use Rattle.sm_names.specs.Words.{times}
-use Rattle.sm_names.proofs.ListLaws.{In}
-use Rattle.sm_names.proofs.SamenessLaws.{and_left, and_right, both_ways, either_way, same_key-refl, same_key-true}
-use Rattle.sm_names.proofs.StandingLaws.{In-any}
-use Rattle.node_table.specs.Table.{Table, node_at}
-use Rattle.alloc_event.specs.declared.node.Node.{Node}
-use Rattle.alloc_event.specs.declared.units.Unit.{Unit}
-use Rattle.alloc_event.specs.Counts.{is_unready, lives_in, no_unit, unit_at, waits_in}
+use Rattle.alloc_event.specs.Counts.{is_unready, no_unit}
 use Rattle.alloc_event.specs.Falling.{lowered, untallied, without_node}
 use Rattle.alloc_event.specs.InPlace.{bit}
-use Rattle.alloc_event.specs.Kept.{nodes_with}
-use Rattle.alloc_event.specs.Nodes.{is_of}
-use Rattle.alloc_event.specs.Questions.{is_live_node}
-use Rattle.alloc_event.specs.Scenes.{are_distinct}
 use Rattle.alloc_event.proofs.lists.Lookups.{same_key-swap}
 use Rattle.alloc_event.proofs.tallies.Reckoning.{lives_gone, lives_other, lives_own, other_slot, times_more, waits_gone, waits_other, waits_own}
 

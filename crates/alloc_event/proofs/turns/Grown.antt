@@ -1,16 +1,11 @@
 -- Each node of a collection that is not gone stands behind its parent, and is of its unit unless it is attached.
-use Rattle.std.proofs.Common.{ℕ, zero, suc, ◌<◌, ◌≡◌, refl, ap, sym, ◌∙◌, Bool, true, false, not, ◌||◌, is_none, List, [], ◌∷◌, ◌++◌, take, drop, reverse, Option, Some, None, inl, inr, arith}
+use Rattle.alloc_event.proofs.Common.{ℕ, zero, suc, ◌<◌, ◌≡◌, refl, ap, sym, ◌∙◌, Bool, true, false, not, ◌||◌, is_none, List, [], ◌∷◌, ◌++◌, take, drop, reverse, Option, Some, None, inl, inr, arith, list_all, option_map_or, NodeKey, same_key, In, and_left, and_right, same_key-refl, Node, is_left_of, are_rooted}
 use Rattle.std.proofs.lemmas.List.{append_assoc, reverse-append}
-use Rattle.std.specs.List.{list_all, slice_get}
-use Rattle.std.specs.Option.{option_map_or}
-use Rattle.sm_names.specs.declared.keys.NodeKey.{NodeKey}
-use Rattle.sm_names.specs.Sameness.{same_key}
-use Rattle.sm_names.proofs.ListLaws.{In, In-reverse}
-use Rattle.sm_names.proofs.SamenessLaws.{and_left, and_right, same_key-comm, same_key-refl}
-use Rattle.alloc_event.specs.declared.node.Node.{Node}
-use Rattle.alloc_event.specs.Decisions.{is_left_of}
+use Rattle.std.specs.List.{slice_get}
+use Rattle.sm_names.proofs.ListLaws.{In-reverse}
+use Rattle.sm_names.proofs.SamenessLaws.{same_key-comm}
 use Rattle.alloc_event.specs.Falls.{AreGrown, Hangs, IsPlaced, Roots}
-use Rattle.alloc_event.specs.Ties.{are_rooted, hangs_on}
+use Rattle.alloc_event.specs.Ties.{hangs_on}
 use Rattle.alloc_event.specs.Units.{are_united, is_parent, shares_unit}
 use Rattle.alloc_event.proofs.calm.Lines.{parted_at}
 use Rattle.alloc_event.proofs.calm.Steps.{all-In}

@@ -1,24 +1,12 @@
 -- The nodes of a collection stand as its keys do, each behind its parent and the head of its parent's unit.
-use Rattle.std.proofs.Common.{◌≡◌, ℕ, zero, suc, ◌<◌, ◌==◌, refl, ap, sym, ◌∙◌, subst, Bool, true, false, ◌||◌, inl, inr, is_none, List, [], ◌∷◌, Option, Some, None, option_map, arith, not}
-use Rattle.std.specs.List.{cons_option, find, list_all, slice_get, list_any}
-use Rattle.std.specs.Option.{option_map_or}
-use Rattle.sm_names.specs.declared.keys.NodeKey.{NodeKey}
-use Rattle.sm_names.specs.Sameness.{same_key}
-use Rattle.sm_names.proofs.SamenessLaws.{and_left, and_right, either_way, or_left, or_right, same_key-true, some-injective, both_ways, same_key-refl}
-use Rattle.node_table.specs.Table.{Table, node_at}
-use Rattle.alloc_event.specs.declared.node.Node.{Node}
+use Rattle.alloc_event.proofs.Common.{◌≡◌, ℕ, zero, suc, ◌<◌, ◌==◌, refl, ap, sym, ◌∙◌, subst, Bool, true, false, ◌||◌, inl, inr, is_none, List, [], ◌∷◌, Option, Some, None, option_map, arith, not, cons_option, find, list_all, list_any, option_map_or, NodeKey, same_key, and_left, and_right, either_way, or_left, or_right, same_key-true, some-injective, both_ways, same_key-refl, Table, node_at, Node, IsStored, IsWhole, Shelf, collection_in, is_filed, nodes_with, are_distinct, heads_itself, not-true, In, In-any, is_of}
+use Rattle.std.specs.List.{slice_get}
 use Rattle.alloc_event.specs.Falls.{AreGrown, Hangs, IsHanging, Roots}
 use Rattle.alloc_event.specs.InTurn.{IsKeyAt}
-use Rattle.alloc_event.specs.Kept.{IsStored, IsWhole, Shelf, collection_in, is_filed, nodes_with}
-use Rattle.alloc_event.specs.Scenes.{are_distinct, heads_itself}
 use Rattle.alloc_event.proofs.calm.Steps.{all-In}
 use Rattle.alloc_event.proofs.changes.Altering.{found_filed, found_whole}
 use Rattle.alloc_event.proofs.serves.Before.{node_there}
 use Rattle.alloc_event.proofs.turns.Grown.{grown_by}
-use Rattle.std.proofs.lemmas.Bool.{not-true}
-use Rattle.sm_names.proofs.ListLaws.{In}
-use Rattle.sm_names.proofs.StandingLaws.{In-any}
-use Rattle.alloc_event.specs.Nodes.{is_of}
 
 -- ---- places in lists
 

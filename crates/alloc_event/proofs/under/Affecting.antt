@@ -1,32 +1,16 @@
 -- An effect on one node: the store agrees again, and only the node's unit may be held by nothing then, or come to its turn.
-use Rattle.std.proofs.Common.{◌≡◌, ℕ, ◌+◌, ◌<◌, ◌==◌, is_none, refl, ap, sym, ◌∙◌, subst, true, false, not, ◌&&◌, ◌||◌, inl, inr, IsSome, List, [], ◌∷◌, map, length, set, Option, Some, None}
-use Rattle.std.proofs.lemmas.Bool.{eq-eqb}
+use Rattle.alloc_event.proofs.Common.{◌≡◌, ℕ, ◌+◌, ◌<◌, ◌==◌, is_none, refl, ap, sym, ◌∙◌, subst, true, false, not, ◌&&◌, ◌||◌, inl, inr, List, [], ◌∷◌, map, length, set, Option, Some, None, eq-eqb, find, list_all, list_any, option_map_or, NodeKey, same_key, times, In, In-map-back, and_both, false_if, same_key-refl, same_key-true, In-any, Table, node_at, Effect, Entry, Node, Unit, over_but, strong_count, lives_in, unit_at, waits_in, IsWhole, Shelf, collection_in, is_filed, nodes_with, shelf_of, affected, is_of, reserved_count, is_head}
+use Rattle.std.proofs.Common.{IsSome}
 use Rattle.std.proofs.lemmas.List.{length-set}
-use Rattle.std.specs.List.{find, list_all, list_any}
-use Rattle.std.specs.Option.{option_map, option_map_or}
-use Rattle.sm_names.specs.declared.keys.NodeKey.{NodeKey}
-use Rattle.sm_names.specs.Sameness.{same_key}
-use Rattle.sm_names.specs.Words.{times}
-use Rattle.sm_names.proofs.ListLaws.{In, In-map-back}
-use Rattle.sm_names.proofs.SamenessLaws.{and_both, false_if, same_key-refl, same_key-true}
-use Rattle.sm_names.proofs.StandingLaws.{In-any}
+use Rattle.std.specs.Option.{option_map}
 use Rattle.node_table.specs.Changes.{Writes, with_node}
 use Rattle.node_table.specs.Lending.{table_with_node}
 use Rattle.node_table.proofs.Keys.{key_cases}
-use Rattle.node_table.specs.Table.{Row, Table, node_at, row_at}
-use Rattle.alloc_event.specs.declared.change.Effect.{Effect}
-use Rattle.alloc_event.specs.declared.entry.Entry.{Entry}
-use Rattle.alloc_event.specs.declared.node.Node.{Node}
-use Rattle.alloc_event.specs.declared.units.Unit.{Unit}
-use Rattle.alloc_event.specs.Calm.{over_but, strong_count}
-use Rattle.alloc_event.specs.Counts.{lives_in, unit_at, waits_in}
+use Rattle.node_table.specs.Table.{Row, row_at}
 use Rattle.alloc_event.specs.InPlace.{MayAffect}
-use Rattle.alloc_event.specs.Kept.{IsWhole, Shelf, collection_in, is_filed, nodes_with, shelf_of}
-use Rattle.alloc_event.specs.Nodes.{affected, is_of}
 use Rattle.alloc_event.specs.Questions.{is_served}
-use Rattle.alloc_event.specs.Reserved.{camped, reserved_count}
+use Rattle.alloc_event.specs.Reserved.{camped}
 use Rattle.alloc_event.specs.UnderWay.{Affects, IsAffected, IsUnderWay, StoreAgrees, are_held_but, is_head_left, is_next_but, waits_among}
-use Rattle.alloc_event.specs.Units.{is_head}
 use Rattle.alloc_event.proofs.calm.Calming.{any_map}
 use Rattle.alloc_event.proofs.calm.Steps.{all-In}
 use Rattle.alloc_event.proofs.changes.Altering.{found_whole, same_affected}

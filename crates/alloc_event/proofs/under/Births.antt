@@ -1,27 +1,16 @@
 -- A birth, after which what is left to be done is done at the place of the collection.
-use Rattle.std.proofs.Common.{◌≡◌, ℕ, ◌==◌, refl, ap, sym, ◌∙◌, subst, Bool, true, false, List, [], ◌∷◌, map, get_or, Option, Some, None, option_map}
-use Rattle.std.proofs.lemmas.Bool.{eq-eqb}
+use Rattle.alloc_event.proofs.Common.{◌≡◌, ℕ, ◌==◌, refl, ap, sym, ◌∙◌, subst, Bool, true, false, List, [], ◌∷◌, map, get_or, Option, Some, None, option_map, eq-eqb, find, HeldBuffer, NodeKey, In, In-find, Table, Change, Entry, Node, Unit, Collection, IsStored, Shelf, collection_in, forest_of, nodes_with, place_in, put_shelf, shelf_of, shelves_of, is_of, node_of, Handles, collection_or_new, put}
 use Rattle.std.proofs.lemmas.List.{get_or_default}
-use Rattle.std.specs.List.{find}
 use Rattle.std.specs.Option.{unwrap_or}
-use Rattle.sm_names.specs.declared.keys.HeldBuffer.{HeldBuffer}
-use Rattle.sm_names.specs.declared.keys.NodeKey.{NodeKey}
 use Rattle.sm_names.specs.Words.{sorted_by}
-use Rattle.sm_names.proofs.ListLaws.{In, In-find}
 use Rattle.buffer_pool.specs.Holdings.{Holdings}
-use Rattle.node_table.specs.Table.{Table}
-use Rattle.alloc_event.specs.declared.change.Change.{Change}
-use Rattle.alloc_event.specs.declared.entry.Entry.{Entry}
-use Rattle.alloc_event.specs.declared.node.Node.{Node}
-use Rattle.alloc_event.specs.declared.units.Unit.{Unit}
 use Rattle.alloc_event.specs.Calm.{AreCounted}
 use Rattle.alloc_event.specs.Closing.{MayClose}
 use Rattle.alloc_event.specs.Counts.{HaveUnits}
-use Rattle.alloc_event.specs.Forest.{Collection, IsPoolOf}
+use Rattle.alloc_event.specs.Forest.{IsPoolOf}
 use Rattle.alloc_event.specs.Given.{AreServedByGiven, HaveGiven, IsServedByGiven}
-use Rattle.alloc_event.specs.Kept.{Bears, Finishes, Gives, IsStored, SameTable, Shelf, born, collection_in, forest_of, nodes_with, place_in, put_shelf, shelf_of, shelves_of}
-use Rattle.alloc_event.specs.Nodes.{is_of, node_of}
-use Rattle.alloc_event.specs.Settling.{Handles, collection_or_new, put, with_birth}
+use Rattle.alloc_event.specs.Kept.{Bears, Finishes, Gives, SameTable, born}
+use Rattle.alloc_event.specs.Settling.{with_birth}
 use Rattle.alloc_event.specs.Still.{shelf_before, shelf_with}
 use Rattle.alloc_event.proofs.changes.Altering.{shelf_by}
 use Rattle.alloc_event.proofs.lists.SameIntervals.{start_of}

@@ -1,22 +1,11 @@
 -- One node of a calm collection changes: only its own unit may be held by nothing then, or come to its turn.
-use Rattle.std.proofs.Common.{◌≡◌, refl, ap, sym, ◌∙◌, subst, Bool, true, false, not, ◌&&◌, ◌||◌, ◌⊎◌, inl, inr, is_none, List, [], ◌∷◌, map, Option, Some, None}
-use Rattle.std.proofs.lemmas.Bool.{not-true}
+use Rattle.alloc_event.proofs.Common.{◌≡◌, refl, ap, sym, ◌∙◌, subst, Bool, true, false, not, ◌&&◌, ◌||◌, ◌⊎◌, inl, inr, is_none, List, [], ◌∷◌, map, Option, Some, None, not-true, list_any, list_all, find, option_map_or, option_and_then, NodeKey, same_key, when, In, In-list_any, In-map, In-map-back, and_both, and_left, and_right, both_ways, either_way, false_if, or_left, or_right, same_key-refl, same_key-true, all_on, In-any, Node, is_of, is_next_node, is_ready_node, is_root_left, is_head}
 use Rattle.std.proofs.Math.Bool.{or-true}
-use Rattle.std.specs.List.{list_any, list_all, find}
-use Rattle.std.specs.Option.{option_map, option_map_or, option_and_then}
-use Rattle.sm_names.specs.declared.keys.NodeKey.{NodeKey}
-use Rattle.sm_names.specs.Sameness.{same_key}
-use Rattle.sm_names.specs.Words.{when}
-use Rattle.sm_names.proofs.ListLaws.{In, In-list_any, In-map, In-map-back, list_any-map}
-use Rattle.sm_names.proofs.SamenessLaws.{and_both, and_left, and_right, both_ways, either_way, false_if, or_left, or_right, same_key-refl, same_key-true}
-use Rattle.sm_names.proofs.SizeLaws.{all_on}
-use Rattle.sm_names.proofs.StandingLaws.{In-any}
-use Rattle.alloc_event.specs.declared.node.Node.{Node}
+use Rattle.std.specs.Option.{option_map}
+use Rattle.sm_names.proofs.ListLaws.{list_any-map}
 use Rattle.alloc_event.specs.Counts.{hangs_in}
-use Rattle.alloc_event.specs.Nodes.{is_of}
-use Rattle.alloc_event.specs.Questions.{is_allocated_node, is_next_node, is_ready_node, is_root_left}
+use Rattle.alloc_event.specs.Questions.{is_allocated_node}
 use Rattle.alloc_event.specs.UnderWay.{are_held_but, holds_unit, is_held, is_next_but, waits_among}
-use Rattle.alloc_event.specs.Units.{is_head}
 use Rattle.alloc_event.proofs.calm.Calming.{any_map, find_map}
 use Rattle.alloc_event.proofs.calm.Steps.{all-In}
 use Rattle.alloc_event.proofs.tables.Writing.{IsSameNode}

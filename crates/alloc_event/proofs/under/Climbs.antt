@@ -1,10 +1,6 @@
 -- The climb over units that nothing holds but the one below, step by step.
-use Rattle.std.proofs.Common.{◌≡◌, ℕ, zero, suc, ◌+◌, ◌-◌, ◌≤◌, ◌⊎◌, inl, inr, refl, ap, sym, ◌∙◌, List, Option, Some, None, arith}
-use Rattle.std.specs.Option.{option_map_or}
-use Rattle.sm_names.specs.declared.keys.NodeKey.{NodeKey}
-use Rattle.node_table.specs.Table.{Table}
-use Rattle.alloc_event.specs.declared.node.Node.{Node}
-use Rattle.alloc_event.specs.declared.units.Unit.{Unit}
+use Rattle.alloc_event.proofs.Common.{◌≡◌, ℕ, zero, suc, ◌+◌, ◌≤◌, ◌⊎◌, inl, inr, refl, ap, sym, ◌∙◌, List, Option, Some, None, arith, option_map_or, NodeKey, Table, Node, Unit}
+use Rattle.std.proofs.Common.{◌-◌}
 use Rattle.alloc_event.specs.Climbing.{climbed, unit_over}
 
 module _ (t : Table Node) (us : List Unit) where

@@ -1,39 +1,25 @@
 -- The last steps: the root of buffers that are abandoned is lost, and the pages of buffers that are home go back.
-use Rattle.std.proofs.Common.{◌≡◌, ◌<◌, ℕ, ◌==◌, ◌⊎◌, inl, inr, refl, ap, sym, ◌∙◌, subst, Bool, true, false, not, nat_lt, ◌&&◌, ◌++◌, List, [], ◌∷◌, map, get_or, set, Option, Some, None, option_map, slice_get, arith}
-use Rattle.std.proofs.lemmas.Bool.{eqb-true, le-ltb, lt-ltb, not-true}
+use Rattle.alloc_event.proofs.Common.{◌≡◌, ◌<◌, ℕ, ◌==◌, ◌⊎◌, inl, inr, refl, ap, sym, ◌∙◌, subst, Bool, true, false, not, nat_lt, ◌&&◌, ◌++◌, List, [], ◌∷◌, map, get_or, set, Option, Some, None, option_map, arith, eqb-true, lt-ltb, not-true, filter, find, list_all, option_map_or, HeldBuffer, Interval, NodeKey, Cause, forced, and_both, and_left, and_right, either_way, some-injective, Table, Change, Entry, Node, Unit, AreUnits, has_strong, Collection, with_nodes, IsStored, IsWhole, Shelf, collection_in, forest_of, nodes_with, place_in, shelf_of, shelves_of, is_root_left, Handles, Settles, standing}
+use Rattle.std.proofs.Common.{slice_get}
+use Rattle.std.proofs.lemmas.Bool.{le-ltb}
 use Rattle.std.proofs.lemmas.List.{get_or-set_same, get_or_default, set-set}
-use Rattle.std.specs.List.{filter, find, list_all}
-use Rattle.std.specs.Option.{option_map_or}
-use Rattle.sm_names.specs.declared.keys.HeldBuffer.{HeldBuffer}
-use Rattle.sm_names.specs.declared.keys.Interval.{Interval}
-use Rattle.sm_names.specs.declared.keys.NodeKey.{NodeKey}
 use Rattle.sm_names.specs.declared.keys.Strength.{Strength}
-use Rattle.sm_names.specs.declared.outcomes.Cause.{Cause}
 use Rattle.sm_names.specs.declared.outcomes.Fault.{Fault}
-use Rattle.sm_names.specs.Forced.{forced}
 use Rattle.sm_names.specs.Marks.{Loss}
 use Rattle.sm_names.specs.Words.{sorted_by}
 use Rattle.sm_names.proofs.ListLaws.{filter-list_all}
-use Rattle.sm_names.proofs.SamenessLaws.{and_both, and_left, and_right, either_way, some-injective}
 use Rattle.buffer_pool.specs.Holdings.{Holdings}
-use Rattle.node_table.specs.Table.{Table}
-use Rattle.alloc_event.specs.declared.change.Change.{Change}
-use Rattle.alloc_event.specs.declared.entry.Entry.{Entry}
-use Rattle.alloc_event.specs.declared.node.Node.{Node}
-use Rattle.alloc_event.specs.declared.units.Unit.{Unit}
 use Rattle.alloc_event.specs.Calm.{AreCounted, AreCountedBut, IsCounted}
 use Rattle.alloc_event.specs.Closing.{Closes, IsClosed, MayClose}
-use Rattle.alloc_event.specs.Counts.{AreUnits, HaveUnits}
-use Rattle.alloc_event.specs.Decisions.{decided, has_strong, mark_of}
+use Rattle.alloc_event.specs.Counts.{HaveUnits}
+use Rattle.alloc_event.specs.Decisions.{decided, mark_of}
 use Rattle.alloc_event.specs.Dropped.{has_given_root}
-use Rattle.alloc_event.specs.Forest.{Collection, all_held, beside, pages_in, with_nodes}
-use Rattle.alloc_event.specs.Kept.{IsStored, IsWhole, Shelf, collection_in, forest_of, nodes_with, place_in, shelf_of, shelves_of}
+use Rattle.alloc_event.specs.Forest.{all_held, beside, pages_in}
 use Rattle.alloc_event.specs.Nodes.{after_loss}
 use Rattle.alloc_event.specs.Outcomes.{IsSettledIn}
 use Rattle.alloc_event.specs.Parted.{are_parted}
-use Rattle.alloc_event.specs.Questions.{is_root_left}
 use Rattle.alloc_event.specs.Scenes.{by_page, is_held_strongly, is_out, pages_held}
-use Rattle.alloc_event.specs.Settling.{Forces, Handles, Settles, standing}
+use Rattle.alloc_event.specs.Settling.{Forces}
 use Rattle.alloc_event.specs.UnderWay.{IsBeside, IsUnderWay, IsWent, Leads, MayGo, is_abandoned_in}
 use Rattle.alloc_event.proofs.calm.Forcing.{forced_made}
 use Rattle.alloc_event.proofs.calm.Resting.{root_first, still_decided}

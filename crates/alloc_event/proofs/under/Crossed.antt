@@ -1,22 +1,8 @@
 -- Where nodes go, each unit is held as it was but the one right above them, and none comes to its turn by it.
-use Rattle.std.proofs.Common.{◌≡◌, ◌<◌, refl, ap, sym, ◌∙◌, subst, Bool, true, false, not, ◌&&◌, ◌||◌, is_none, ◌⊎◌, inl, inr, List, ◌∷◌, map, Option, Some, None}
-use Rattle.std.proofs.lemmas.Bool.{not-true}
-use Rattle.std.specs.List.{find, list_all, list_any}
-use Rattle.std.specs.Option.{option_and_then, option_map, option_map_or}
-use Rattle.sm_names.specs.declared.keys.NodeKey.{NodeKey}
-use Rattle.sm_names.specs.Sameness.{same_key}
-use Rattle.sm_names.specs.Words.{times, when}
-use Rattle.sm_names.proofs.ListLaws.{In, In-find, In-list_any, In-map, In-map-back}
-use Rattle.sm_names.proofs.SamenessLaws.{and_both, and_left, and_right, both_ways, either_way, false_if, or_cases, or_left, or_right, same_key-refl, same_key-true}
-use Rattle.sm_names.proofs.StandingLaws.{In-any}
-use Rattle.sm_names.proofs.SizeLaws.{all_on}
-use Rattle.alloc_event.specs.declared.node.Node.{Node}
-use Rattle.alloc_event.specs.Counts.{hangs_in, waits_in}
-use Rattle.alloc_event.specs.Forest.{Collection}
-use Rattle.alloc_event.specs.Kept.{IsWhole}
-use Rattle.alloc_event.specs.Questions.{is_next_node, is_ready_node, is_root_left}
+use Rattle.alloc_event.proofs.Common.{◌≡◌, ◌<◌, refl, ap, sym, ◌∙◌, subst, Bool, true, false, not, ◌&&◌, ◌||◌, is_none, ◌⊎◌, inl, inr, List, ◌∷◌, map, Option, Some, None, not-true, find, list_all, list_any, option_and_then, option_map_or, NodeKey, same_key, times, when, In, In-find, In-list_any, In-map, In-map-back, and_both, and_left, and_right, both_ways, either_way, false_if, or_cases, or_left, or_right, same_key-refl, same_key-true, In-any, all_on, Node, waits_in, Collection, IsWhole, is_next_node, is_ready_node, is_root_left, is_head}
+use Rattle.std.specs.Option.{option_map}
+use Rattle.alloc_event.specs.Counts.{hangs_in}
 use Rattle.alloc_event.specs.UnderWay.{are_held_but, holds_unit, is_held, is_next_but, waits_among}
-use Rattle.alloc_event.specs.Units.{is_head}
 use Rattle.alloc_event.proofs.calm.Steps.{all-In}
 use Rattle.alloc_event.proofs.failures.Crossing.{crossed, find-In, hangs_same, hung_above, next_before, ready_before, root_one, stays}
 use Rattle.alloc_event.proofs.tables.Writing.{IsSameNode}

@@ -1,29 +1,14 @@
 -- The unit that comes to its turn and is next is what is forced: it is allocated, or its head fails.
-use Rattle.std.proofs.Common.{◌≡◌, ℕ, zero, suc, ◌<◌, ◌==◌, ◌++◌, refl, ap, ◌∙◌, Bool, true, false, not, ◌&&◌, inl, inr, List, [], ◌∷◌, Option, Some, None, arith}
-use Rattle.std.proofs.lemmas.Bool.{eqb-false, lt-ltb}
-use Rattle.std.specs.List.{find, list_all}
-use Rattle.std.specs.Option.{option_map, option_map_or}
-use Rattle.sm_names.specs.declared.keys.Interval.{Interval}
-use Rattle.sm_names.specs.declared.keys.NodeKey.{NodeKey}
-use Rattle.sm_names.specs.declared.outcomes.Buffers.{Buffers}
-use Rattle.sm_names.specs.declared.outcomes.Cause.{Cause}
+use Rattle.alloc_event.proofs.Common.{◌≡◌, ℕ, zero, suc, ◌<◌, ◌==◌, ◌++◌, refl, ap, ◌∙◌, Bool, true, false, not, ◌&&◌, inl, inr, List, [], ◌∷◌, Option, Some, None, arith, eqb-false, lt-ltb, find, list_all, option_map_or, Interval, NodeKey, Buffers, Cause, forced, when, either_way, Table, Entry, Node, Unit, has_strong, waiting, IsWhole, Shelf, collection_in, is_filed, nodes_with, shelf_of, is_deserted_node, is_root_left, Handles, standing}
+use Rattle.std.specs.Option.{option_map}
 use Rattle.sm_names.specs.declared.outcomes.Failure.{Failure}
-use Rattle.sm_names.specs.Forced.{forced}
-use Rattle.sm_names.specs.Words.{first_some, when}
+use Rattle.sm_names.specs.Words.{first_some}
 use Rattle.sm_names.proofs.ListLaws.{find-none}
-use Rattle.sm_names.proofs.SamenessLaws.{either_way}
-use Rattle.node_table.specs.Table.{Table}
-use Rattle.alloc_event.specs.declared.entry.Entry.{Entry}
-use Rattle.alloc_event.specs.declared.node.Node.{Node}
 use Rattle.alloc_event.specs.declared.rounds.Turn.{Turn}
-use Rattle.alloc_event.specs.declared.units.Unit.{Unit}
-use Rattle.alloc_event.specs.Decisions.{Allocates, Ends, Loses, decided, first_step, has_strong, late_failure, later_step, mark_of, waiting}
+use Rattle.alloc_event.specs.Decisions.{Allocates, Ends, Loses, decided, first_step, late_failure, later_step, mark_of}
 use Rattle.alloc_event.specs.Dropped.{has_given_root}
 use Rattle.alloc_event.specs.Forest.{pages_in}
-use Rattle.alloc_event.specs.Kept.{IsWhole, Shelf, collection_in, is_filed, nodes_with, shelf_of}
-use Rattle.alloc_event.specs.Questions.{is_deserted_node, is_root_left}
 use Rattle.alloc_event.specs.Scenes.{is_held_strongly}
-use Rattle.alloc_event.specs.Settling.{Handles, standing}
 use Rattle.alloc_event.specs.TakingTurn.{is_next_there}
 use Rattle.alloc_event.specs.UnderWay.{AreTurns, IsUnderWay, is_abandoned_in, turn_heads}
 use Rattle.alloc_event.proofs.calm.Forcing.{forced_made}

@@ -1,21 +1,10 @@
 -- What takes the root takes all that is left of a collection, and nothing is forced in one that is gone.
-use Rattle.std.proofs.Common.{◌≡◌, ◌==◌, refl, ap, ◌∙◌, subst, Bool, true, false, not, ◌&&◌, ◌||◌, List, reverse, Option, Some, None, is_none}
+use Rattle.alloc_event.proofs.Common.{◌≡◌, ◌==◌, refl, ap, ◌∙◌, subst, Bool, true, false, not, ◌&&◌, ◌||◌, List, reverse, Option, Some, None, is_none, find, list_all, list_any, option_and_then, option_map_or, NodeKey, same_key, when, In, or_right, all_on, Table, Node, is_left_of, IsStored, Shelf, nodes_with, is_next_node, is_ready_node, is_root_left}
 use Rattle.std.proofs.Math.Bool.{and-false}
-use Rattle.std.specs.List.{find, list_all, list_any}
-use Rattle.std.specs.Option.{option_and_then, option_map_or}
-use Rattle.sm_names.specs.declared.keys.NodeKey.{NodeKey}
-use Rattle.sm_names.specs.Sameness.{same_key}
-use Rattle.sm_names.specs.Words.{when}
-use Rattle.sm_names.proofs.ListLaws.{In, In-reverse, In-reverse-back}
-use Rattle.sm_names.proofs.SamenessLaws.{or_right}
-use Rattle.sm_names.proofs.SizeLaws.{all_on}
+use Rattle.sm_names.proofs.ListLaws.{In-reverse, In-reverse-back}
 use Rattle.node_table.specs.Forest.{IsForest}
-use Rattle.node_table.specs.Table.{Table}
-use Rattle.alloc_event.specs.declared.node.Node.{Node}
-use Rattle.alloc_event.specs.Decisions.{is_left_of}
 use Rattle.alloc_event.specs.Falling.{IsTaken}
-use Rattle.alloc_event.specs.Kept.{IsStored, Shelf, nodes_with}
-use Rattle.alloc_event.specs.Questions.{is_below, is_next_node, is_ready_node, is_root_left}
+use Rattle.alloc_event.specs.Questions.{is_below}
 use Rattle.alloc_event.specs.UnderWay.{are_held_but, is_held, is_next_but, waits_among}
 use Rattle.alloc_event.proofs.failures.AllGone.{AreGone, all_hang, none_found, none_passes, one_root}
 use Rattle.alloc_event.proofs.tallies.Holding.{below_parent, below_self}

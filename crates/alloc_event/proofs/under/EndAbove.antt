@@ -1,33 +1,19 @@
 -- Where nothing holds a unit, the counts tell how far up nothing but the unit below holds one, and the highest of those ends.
-use Rattle.std.proofs.Common.{◌≡◌, ℕ, zero, suc, ◌≤◌, nat_lt, refl, ap, sym, ◌∙◌, subst, Bool, true, false, not, ◌&&◌, ◌||◌, ◌==◌, is_some, inl, inr, List, [], ◌∷◌, ◌++◌, map, length, reverse, Option, Some, None, option_map, arith}
-use Rattle.std.proofs.lemmas.Bool.{eq-eqb, eqb-true, ltb-false, not-true}
+use Rattle.alloc_event.proofs.Common.{◌≡◌, ℕ, zero, suc, ◌≤◌, nat_lt, refl, ap, sym, ◌∙◌, subst, Bool, true, false, not, ◌&&◌, ◌||◌, ◌==◌, is_some, inl, inr, List, [], ◌∷◌, ◌++◌, map, length, reverse, Option, Some, None, option_map, arith, eq-eqb, eqb-true, not-true, cons_option, find, list_any, option_and_then, Interval, NodeKey, forced, same_key, times, when, In, In-find, In-list_any, In-map-back, and_both, and_left, and_right, either_way, or_right, same_key-true, all_on, Table, node_at, parent_at, Entry, Node, Unit, lives_in, unit_at, is_left_of, Collection, IsWhole, Shelf, all_keys, collection_in, nodes_with, shelf_of, is_of, is_deserted_node, Handles, Settles, standing, is_head}
+use Rattle.std.proofs.lemmas.Bool.{ltb-false}
 use Rattle.std.proofs.lemmas.List.{length-append, length-reverse}
-use Rattle.std.specs.List.{cons_option, find, list_any}
-use Rattle.std.specs.Option.{option_and_then}
-use Rattle.sm_names.specs.declared.keys.Interval.{Interval}
-use Rattle.sm_names.specs.declared.keys.NodeKey.{NodeKey}
-use Rattle.sm_names.specs.Forced.{forced}
 use Rattle.sm_names.specs.Marks.{Ended}
-use Rattle.sm_names.specs.Sameness.{same_key}
-use Rattle.sm_names.specs.Words.{times, when}
-use Rattle.sm_names.proofs.ListLaws.{In, In-find, In-list_any, In-map-back}
 use Rattle.sm_names.proofs.ReachLaws.{IsChain}
-use Rattle.sm_names.proofs.SamenessLaws.{and_both, and_left, and_right, either_way, or_none_left, or_none_right, or_right, same_key-true}
-use Rattle.sm_names.proofs.SizeLaws.{all_on}
-use Rattle.node_table.specs.Table.{Table, node_at, parent_at, table_len}
-use Rattle.alloc_event.specs.declared.entry.Entry.{Entry}
-use Rattle.alloc_event.specs.declared.node.Node.{Node}
-use Rattle.alloc_event.specs.declared.units.Unit.{Unit}
+use Rattle.sm_names.proofs.SamenessLaws.{or_none_left, or_none_right}
+use Rattle.node_table.specs.Table.{table_len}
 use Rattle.alloc_event.specs.Climbing.{climbed, is_held_once, unit_over}
-use Rattle.alloc_event.specs.Counts.{HasUnit, HasUnits, heads_below, is_held_by, lives_in, unit_at, unit_of}
-use Rattle.alloc_event.specs.Decisions.{Ends, decided, is_left_of, mark_of}
-use Rattle.alloc_event.specs.Forest.{Collection, pages_in}
-use Rattle.alloc_event.specs.Kept.{IsWhole, Shelf, all_keys, collection_in, nodes_with, shelf_of}
-use Rattle.alloc_event.specs.Nodes.{after_end, is_of}
-use Rattle.alloc_event.specs.Questions.{is_below, is_deserted_node}
-use Rattle.alloc_event.specs.Settling.{Forces, Handles, Settles, standing}
+use Rattle.alloc_event.specs.Counts.{HasUnit, HasUnits, heads_below, is_held_by, unit_of}
+use Rattle.alloc_event.specs.Decisions.{Ends, decided, mark_of}
+use Rattle.alloc_event.specs.Forest.{pages_in}
+use Rattle.alloc_event.specs.Nodes.{after_end}
+use Rattle.alloc_event.specs.Questions.{is_below}
+use Rattle.alloc_event.specs.Settling.{Forces}
 use Rattle.alloc_event.specs.UnderWay.{IsLed, IsUnderWay, IsWent, MayGo, and_loose, are_held_but, holds_unit, is_head_left, is_held}
-use Rattle.alloc_event.specs.Units.{is_head}
 use Rattle.alloc_event.proofs.calm.Forcing.{forced_made}
 use Rattle.alloc_event.proofs.calm.Keeping.{below_held, either_holds, lives_held}
 use Rattle.alloc_event.proofs.calm.Steps.{all-In}

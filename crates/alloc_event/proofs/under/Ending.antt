@@ -1,26 +1,13 @@
 -- Units one above another that nothing holds but the one below: their heads alone are deserted, and the highest is the first. Once it
 -- ended with all below it, something holds each unit.
-use Rattle.std.proofs.Common.{◌≡◌, ℕ, zero, suc, ◌+◌, ◌<◌, ◌≤◌, refl, ap, sym, ◌∙◌, subst, Bool, true, false, not, ◌&&◌, ◌||◌, ◌⊎◌, is_none, inl, inr, List, [], ◌∷◌, length, reverse, Option, Some, None, arith}
-use Rattle.std.proofs.lemmas.Bool.{not-true}
+use Rattle.alloc_event.proofs.Common.{◌≡◌, ℕ, zero, suc, ◌+◌, ◌<◌, ◌≤◌, refl, ap, sym, ◌∙◌, subst, Bool, true, false, not, ◌&&◌, ◌||◌, ◌⊎◌, is_none, inl, inr, List, [], ◌∷◌, length, reverse, Option, Some, None, arith, not-true, find, list_any, list_all, option_map_or, NodeKey, same_key, times, In, In-list_any, In-map, In-map-back, and_both, and_left, and_right, both_ways, either_way, false_if, or_cases, or_left, or_right, same_key-refl, same_key-true, all_on, In-any, Node, lives_in, is_left_of, is_of, is_deserted_node, is_live_node, are_distinct, heads_itself, are_rooted, is_head}
 use Rattle.std.proofs.lemmas.List.{length-reverse}
-use Rattle.std.specs.List.{find, list_any, list_all}
-use Rattle.std.specs.Option.{option_map_or}
-use Rattle.sm_names.specs.declared.keys.NodeKey.{NodeKey}
-use Rattle.sm_names.specs.Sameness.{same_key}
-use Rattle.sm_names.specs.Words.{times}
-use Rattle.sm_names.proofs.ListLaws.{In, In-list_any, In-map, In-map-back, list_any-map, times-zero}
-use Rattle.sm_names.proofs.SamenessLaws.{and_both, and_left, and_right, both_ways, either_way, false_if, or_cases, or_left, or_right, same_key-refl, same_key-true}
-use Rattle.sm_names.proofs.SizeLaws.{all_on}
-use Rattle.sm_names.proofs.StandingLaws.{In-any}
-use Rattle.alloc_event.specs.declared.node.Node.{Node}
-use Rattle.alloc_event.specs.Counts.{hangs_in, heads_below, lives_in}
-use Rattle.alloc_event.specs.Decisions.{is_left_of}
-use Rattle.alloc_event.specs.Nodes.{after_end, ended, is_of}
-use Rattle.alloc_event.specs.Questions.{is_below, is_deserted_node, is_live_node, lives_below}
-use Rattle.alloc_event.specs.Scenes.{are_distinct, heads_itself}
-use Rattle.alloc_event.specs.Ties.{are_rooted}
+use Rattle.sm_names.proofs.ListLaws.{list_any-map, times-zero}
+use Rattle.alloc_event.specs.Counts.{hangs_in, heads_below}
+use Rattle.alloc_event.specs.Nodes.{after_end, ended}
+use Rattle.alloc_event.specs.Questions.{is_below, lives_below}
 use Rattle.alloc_event.specs.UnderWay.{are_held_but, holds_unit, is_held}
-use Rattle.alloc_event.specs.Units.{are_united, is_head}
+use Rattle.alloc_event.specs.Units.{are_united}
 use Rattle.alloc_event.proofs.calm.Calming.{count_none}
 use Rattle.alloc_event.proofs.calm.Steps.{all-In}
 use Rattle.alloc_event.proofs.calm.Topmost.{find_top}

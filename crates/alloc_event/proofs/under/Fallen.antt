@@ -1,29 +1,14 @@
 -- Nodes that went in their places while forced steps are made, and the counts of those that are left.
-use Rattle.std.proofs.Common.{◌≡◌, ◌≢◌, ℕ, ◌+◌, ◌<◌, ◌==◌, refl, ap, sym, ◌∙◌, subst, Bool, true, false, not, ◌&&◌, ◌||◌, inl, inr, List, map, reverse, length, Option, Some, None, option_map, arith}
-use Rattle.std.proofs.lemmas.Bool.{eqb-false, eqb-true}
+use Rattle.alloc_event.proofs.Common.{◌≡◌, ◌≢◌, ℕ, ◌+◌, ◌<◌, ◌==◌, refl, ap, sym, ◌∙◌, subst, Bool, true, false, not, ◌&&◌, ◌||◌, inl, inr, List, map, reverse, length, Option, Some, None, option_map, arith, eqb-false, eqb-true, AllByRecursion, find, list_all, list_any, option_map_or, NodeKey, same_key, times, In, In-find, In-list_any, In-map, In-map-back, both_ways, either_way, false_if, same_key-true, In-any, Table, node_at, parent_at, Node, Unit, over_but, strong_count, AreUnits, lives_in, unit_at, waits_in, Collection, with_nodes, IsStored, IsWhole, Shelf, collection_in, is_filed, nodes_with, shelf_of, reserved_count, are_rooted, is_head, Entry}
 use Rattle.std.proofs.lemmas.Map.Views.{Contains-from_any, list_any-from_Contains}
-use Rattle.std.specs.List.{AllByRecursion, find, list_all, list_any}
-use Rattle.std.specs.Option.{option_map_or}
 use Rattle.std.proofs.Math.Bool.{and-false, and-true}
-use Rattle.sm_names.specs.declared.keys.NodeKey.{NodeKey}
-use Rattle.sm_names.specs.Sameness.{same_key}
-use Rattle.sm_names.specs.Words.{times}
-use Rattle.sm_names.proofs.ListLaws.{In, In-find, In-list_any, In-map, In-map-back}
-use Rattle.sm_names.proofs.SamenessLaws.{both_ways, either_way, false_if, same_key-true}
-use Rattle.sm_names.proofs.StandingLaws.{In-any}
-use Rattle.node_table.specs.Table.{Table, node_at, parent_at}
 use Rattle.failure_domains.specs.Falls.{blocked_at}
 use Rattle.alloc_event.specs.declared.falling.Going.{Going}
-use Rattle.alloc_event.specs.declared.node.Node.{Node}
-use Rattle.alloc_event.specs.declared.units.Unit.{Unit}
-use Rattle.alloc_event.specs.Calm.{over_but, strong_count}
-use Rattle.alloc_event.specs.Counts.{AreUnits, AreUnitsBut, HasUnit, HasUnits, hangs_in, head_above, heads_below, lives_in, unit_at, unit_of, waits_in}
+use Rattle.alloc_event.specs.Counts.{AreUnitsBut, HasUnit, HasUnits, hangs_in, head_above, heads_below, unit_of}
 use Rattle.alloc_event.specs.Falling.{IsTaken, gone_by, unreckoned, untallied}
-use Rattle.alloc_event.specs.Forest.{Collection, with_nodes}
-use Rattle.alloc_event.specs.Kept.{IsStored, IsWhole, Shelf, Stores, all_of, collection_in, is_filed, is_strong, nodes_with, shelf_of, stored}
-use Rattle.alloc_event.specs.Reserved.{reserved_count}
-use Rattle.alloc_event.specs.Ties.{are_rooted, is_blocking}
-use Rattle.alloc_event.specs.Units.{GoTogether, is_head}
+use Rattle.alloc_event.specs.Kept.{Stores, all_of, is_strong, stored}
+use Rattle.alloc_event.specs.Ties.{is_blocking}
+use Rattle.alloc_event.specs.Units.{GoTogether}
 use Rattle.alloc_event.proofs.changes.Altering.{found_filed, found_whole, looked-of}
 use Rattle.alloc_event.proofs.calm.Calming.{times_map}
 use Rattle.alloc_event.proofs.failures.Ties.{key_equivalence}
@@ -43,7 +28,6 @@ use Rattle.alloc_event.proofs.calm.United.{united_mapped}
 use Rattle.alloc_event.proofs.tallies.Untold.{but, taken_count, times_same, untallied_long, untallied_other, untallied_takes}
 use Rattle.alloc_event.proofs.tables.Writing.{IsSameNode, IsSound-map, kept-with}
 use Rattle.sm_names.specs.Losses.{Up}
-use Rattle.alloc_event.specs.declared.entry.Entry.{Entry}
 use Rattle.alloc_event.specs.GoingDown.{IsGoneSo}
 use Rattle.alloc_event.specs.UnderWay.{StoreAgrees}
 use Rattle.alloc_event.proofs.failures.Written.{went_now}

@@ -1,19 +1,10 @@
 -- What a fault takes goes in its place, and what nothing holds then ends.
-use Rattle.std.proofs.Common.{◌≡◌, ap, sym, ◌∙◌, subst, true, false, not, ◌&&◌, inl, is_some, option_copied, Bor, List, [], Option, Some, None}
-use Rattle.sm_names.specs.declared.keys.NodeKey.{NodeKey}
+use Rattle.alloc_event.proofs.Common.{◌≡◌, ap, sym, ◌∙◌, subst, true, false, not, ◌&&◌, inl, is_some, List, [], Option, Some, None, NodeKey, In-list_any, and_left, same_key-true, Table, node_at, Entry, Node, Unit, Collection, with_nodes, Shelf, collection_in, nodes_with, shelf_of, is_of, Handles, Settles, is_head}
+use Rattle.std.proofs.Common.{option_copied, Bor}
 use Rattle.sm_names.specs.declared.outcomes.Fault.{Fault}
-use Rattle.sm_names.proofs.ListLaws.{In-list_any}
-use Rattle.sm_names.proofs.SamenessLaws.{and_left, same_key-true}
-use Rattle.node_table.specs.Table.{Table, node_at}
-use Rattle.alloc_event.specs.declared.entry.Entry.{Entry}
-use Rattle.alloc_event.specs.declared.node.Node.{Node}
-use Rattle.alloc_event.specs.declared.units.Unit.{Unit}
-use Rattle.alloc_event.specs.Forest.{Collection, with_nodes}
-use Rattle.alloc_event.specs.Kept.{SameTable, Shelf, collection_in, nodes_with, shelf_of}
-use Rattle.alloc_event.specs.Nodes.{after_loss, is_of}
-use Rattle.alloc_event.specs.Settling.{Handles, Settles}
+use Rattle.alloc_event.specs.Kept.{SameTable}
+use Rattle.alloc_event.specs.Nodes.{after_loss}
 use Rattle.alloc_event.specs.UnderWay.{AreOrEnd, IsFelled, IsLed, IsWent, Leads, is_head_left}
-use Rattle.alloc_event.specs.Units.{is_head}
 use Rattle.alloc_event.proofs.tables.Hanging.{in_all, looked_there}
 
 -- the one after the other

@@ -1,23 +1,11 @@
 -- Nodes of which some went: none may come to its turn that might not before.
-use Rattle.std.proofs.Common.{◌≡◌, refl, ap, sym, ◌∙◌, subst, Bool, true, false, not, ◌&&◌, ◌||◌, ◌⊎◌, inl, inr, is_none, is_some, List, [], ◌∷◌, drop, map, Option, Some, None}
+use Rattle.alloc_event.proofs.Common.{◌≡◌, refl, ap, sym, ◌∙◌, subst, Bool, true, false, not, ◌&&◌, ◌||◌, ◌⊎◌, inl, inr, is_none, is_some, List, [], ◌∷◌, drop, map, Option, Some, None, not-true, find, list_all, list_any, option_and_then, option_map_or, NodeKey, same_key, when, In, In-find, In-map, In-map-back, and_both, and_left, and_right, both_ways, either_way, false_if, same_key-true, all_on, Node, waiting, Collection, is_of, is_ready_node, is_root_left, heads_itself}
 use Rattle.std.proofs.Math.Bool.{or-true}
-use Rattle.std.proofs.lemmas.Bool.{not-true}
-use Rattle.std.specs.List.{find, list_all, list_any}
-use Rattle.std.specs.Option.{option_and_then, option_map_or}
-use Rattle.sm_names.specs.declared.keys.NodeKey.{NodeKey}
 use Rattle.sm_names.specs.declared.outcomes.Fault.{Fault}
 use Rattle.sm_names.specs.Members.{is_under}
-use Rattle.sm_names.specs.Sameness.{same_key}
-use Rattle.sm_names.specs.Words.{when}
-use Rattle.sm_names.proofs.ListLaws.{In, In-find, In-map, In-map-back, list_any-map, map-map}
-use Rattle.sm_names.proofs.SamenessLaws.{and_both, and_left, and_right, both_ways, either_way, false_if, same_key-true}
-use Rattle.sm_names.proofs.SizeLaws.{all_on}
-use Rattle.alloc_event.specs.declared.node.Node.{Node}
-use Rattle.alloc_event.specs.Decisions.{waiting}
-use Rattle.alloc_event.specs.Forest.{Collection}
-use Rattle.alloc_event.specs.Nodes.{after_loss, ended, is_of, is_taken, lost, member_of}
-use Rattle.alloc_event.specs.Questions.{is_ready_node, is_root_left}
-use Rattle.alloc_event.specs.Scenes.{IsSound, heads_itself}
+use Rattle.sm_names.proofs.ListLaws.{list_any-map, map-map}
+use Rattle.alloc_event.specs.Nodes.{after_loss, ended, is_taken, lost, member_of}
+use Rattle.alloc_event.specs.Scenes.{IsSound}
 use Rattle.alloc_event.specs.UnderWay.{AreClosed, AreOrEnd, hangs_in_some, is_coming}
 use Rattle.alloc_event.specs.Units.{GoTogether}
 use Rattle.alloc_event.proofs.calm.Steps.{all-In}

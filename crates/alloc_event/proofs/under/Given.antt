@@ -1,36 +1,20 @@
 -- A unit that comes to its turn is allocated in its place.
-use Rattle.std.proofs.Common.{◌≡◌, ◌≢◌, ℕ, ◌+◌, ◌==◌, refl, ap, sym, ◌∙◌, subst, Bool, true, false, not, ◌&&◌, ◌||◌, ◌⊎◌, inl, inr, List, [], ◌∷◌, map, Option, Some, None, option_map}
-use Rattle.std.proofs.lemmas.Bool.{eqb-false, eqb-true, not-true}
-use Rattle.std.specs.List.{AllByRecursion, list_all, list_any, sum_by}
-use Rattle.std.specs.Option.{option_map_or}
-use Rattle.sm_names.specs.declared.keys.Interval.{Interval}
-use Rattle.sm_names.specs.declared.keys.NodeKey.{NodeKey}
-use Rattle.sm_names.specs.declared.outcomes.Buffers.{Buffers}
-use Rattle.sm_names.specs.Demands.{Demand}
+use Rattle.alloc_event.proofs.Common.{◌≡◌, ◌≢◌, ℕ, ◌+◌, ◌==◌, refl, ap, sym, ◌∙◌, subst, Bool, true, false, not, ◌&&◌, ◌||◌, ◌⊎◌, inl, inr, List, [], ◌∷◌, map, Option, Some, None, option_map, eqb-false, eqb-true, not-true, AllByRecursion, list_all, list_any, sum_by, option_map_or, Interval, NodeKey, Buffers, Demand, same_key, In, In-find, In-list_any, In-map, and_both, and_left, and_right, both_ways, either_way, false_if, or_cases, or_left, or_right, same_key-refl, same_key-true, In-any, Table, node_at, Entry, Node, Unit, over_but, strong_count, AreUnits, lives_in, waits_in, waiting, Collection, with_nodes, IsStored, IsWhole, Shelf, collection_in, is_filed, nodes_with, shelf_of, is_of, is_next_node, reserved_count, Handles, is_head}
 use Rattle.sm_names.specs.Marks.{Allocated}
-use Rattle.sm_names.specs.Sameness.{same_key}
-use Rattle.sm_names.proofs.ListLaws.{In, In-find, In-list_any, In-map, map-In}
-use Rattle.sm_names.proofs.SamenessLaws.{and_both, and_left, and_right, both_ways, either_way, false_if, or_cases, or_left, or_none_left, or_none_right, or_right, same_key-refl, same_key-true}
-use Rattle.sm_names.proofs.StandingLaws.{In-any}
-use Rattle.node_table.specs.Table.{Table, node_at}
-use Rattle.alloc_event.specs.declared.entry.Entry.{Entry}
-use Rattle.alloc_event.specs.declared.node.Node.{Node}
+use Rattle.sm_names.proofs.ListLaws.{map-In}
+use Rattle.sm_names.proofs.SamenessLaws.{or_none_left, or_none_right}
 use Rattle.alloc_event.specs.declared.rounds.Turn.{Turn}
-use Rattle.alloc_event.specs.declared.units.Unit.{Unit}
-use Rattle.alloc_event.specs.Calm.{over_but, strong_count}
-use Rattle.alloc_event.specs.Counts.{AreUnits, hangs_in, lives_in, waits_in}
-use Rattle.alloc_event.specs.Decisions.{late_failure, waiting}
+use Rattle.alloc_event.specs.Counts.{hangs_in}
+use Rattle.alloc_event.specs.Decisions.{late_failure}
 use Rattle.alloc_event.specs.Falls.{given_all}
-use Rattle.alloc_event.specs.Forest.{Collection, with_nodes}
-use Rattle.alloc_event.specs.Kept.{IsStored, IsWhole, Shelf, collection_in, is_filed, is_strong, nodes_with, shelf_of}
-use Rattle.alloc_event.specs.Nodes.{after_allocation, given_buffers, is_of}
-use Rattle.alloc_event.specs.Questions.{demands_of, is_allocated_node, is_in_unit, is_next_node}
-use Rattle.alloc_event.specs.Reserved.{reserved_count}
+use Rattle.alloc_event.specs.Kept.{is_strong}
+use Rattle.alloc_event.specs.Nodes.{after_allocation, given_buffers}
+use Rattle.alloc_event.specs.Questions.{demands_of, is_allocated_node, is_in_unit}
 use Rattle.alloc_event.specs.Serving.{IsGivenAt, given_at}
-use Rattle.alloc_event.specs.Settling.{Handles, is_root_of, made}
+use Rattle.alloc_event.specs.Settling.{is_root_of, made}
 use Rattle.alloc_event.specs.TakingTurn.{IsUnitListed, is_next_there}
 use Rattle.alloc_event.specs.UnderWay.{AreClosed, AreTurns, IsLed, IsUnderWay, are_held_but, hangs_in_some, holds_unit, is_abandoned_in, is_coming, is_held, is_next_but, turn_heads, waits_among}
-use Rattle.alloc_event.specs.Units.{GoTogether, is_head}
+use Rattle.alloc_event.specs.Units.{GoTogether}
 use Rattle.alloc_event.proofs.calm.Calming.{any_map, times_map}
 use Rattle.alloc_event.proofs.calm.Settlings.{step_settles}
 use Rattle.alloc_event.proofs.calm.Steps.{all-In}

@@ -1,39 +1,25 @@
 -- A node has buffers only where its collection was given some: so it is after each step and each change.
-use Rattle.std.proofs.Common.{◌≡◌, ◌==◌, if◌then◌else◌, ℕ, refl, ap, sym, ◌∙◌, subst, Bool, true, false, not, ◌&&◌, ◌||◌, inl, inr, List, [], ◌∷◌, ◌++◌, map, Option, Some, None, option_map, is_none, IfSome}
+use Rattle.alloc_event.proofs.Common.{◌≡◌, ◌==◌, if◌then◌else◌, ℕ, refl, ap, sym, ◌∙◌, subst, Bool, true, false, not, ◌&&◌, ◌||◌, inl, inr, List, [], ◌∷◌, ◌++◌, map, Option, Some, None, option_map, is_none, filter, find, list_all, list_any, option_and_then, option_map_or, Interval, NodeKey, Buffers, Cause, forced, when, In, In-find, In-list_any, In-map, and_left, both_ways, either_way, false_if, In-any, Table, Change, Effect, Entry, Node, Unit, has_strong, Collection, with_nodes, IsStored, Shelf, collection_in, forest_of, shelves_of, affected, is_over, are_distinct, is_deserted_node, is_next_node, is_ready_node, is_root_left, Handles, Settles, collection_or_new, put, standing}
+use Rattle.std.proofs.Common.{IfSome}
 use Rattle.std.proofs.lemmas.List.Folds.{list_any-append}
-use Rattle.std.specs.List.{filter, find, list_all, list_any}
-use Rattle.std.specs.Option.{option_and_then, option_map_or, unwrap_or}
-use Rattle.sm_names.specs.declared.keys.Interval.{Interval}
-use Rattle.sm_names.specs.declared.keys.NodeKey.{NodeKey}
-use Rattle.sm_names.specs.declared.outcomes.Buffers.{Buffers}
-use Rattle.sm_names.specs.declared.outcomes.Cause.{Cause}
+use Rattle.std.specs.Option.{unwrap_or}
 use Rattle.sm_names.specs.declared.outcomes.Failure.{Failure}
 use Rattle.sm_names.specs.declared.outcomes.Fault.{Fault}
-use Rattle.sm_names.specs.Forced.{forced, outcome}
+use Rattle.sm_names.specs.Forced.{outcome}
 use Rattle.sm_names.specs.Marks.{Mark, Called, Loss, Allocated, Ended}
 use Rattle.sm_names.specs.Pages.{places, pages_of}
-use Rattle.sm_names.specs.Words.{when}
-use Rattle.sm_names.proofs.ListLaws.{In, In-find, In-list_any, In-map}
-use Rattle.sm_names.proofs.SamenessLaws.{and_left, both_ways, either_way, false_if, or_both}
-use Rattle.sm_names.proofs.StandingLaws.{In-any}
+use Rattle.sm_names.proofs.SamenessLaws.{or_both}
 use Rattle.buffer_pool.specs.Holdings.{Holdings}
-use Rattle.node_table.specs.Table.{Table}
-use Rattle.alloc_event.specs.declared.change.Change.{Change}
-use Rattle.alloc_event.specs.declared.change.Effect.{Effect}
-use Rattle.alloc_event.specs.declared.entry.Entry.{Entry}
-use Rattle.alloc_event.specs.declared.node.Node.{Node}
-use Rattle.alloc_event.specs.declared.units.Unit.{Unit}
 use Rattle.alloc_event.specs.Calm.{IsForest}
 use Rattle.alloc_event.specs.Counts.{HaveUnits}
-use Rattle.alloc_event.specs.Decisions.{Decision, Ends, Loses, Places, decided, early_failure, first_step, has_strong, later_step, mark_of, wanted_by}
-use Rattle.alloc_event.specs.Forest.{Collection, beside, collection_at, is_left, pages_in, tidied, with_nodes, without_over_in}
+use Rattle.alloc_event.specs.Decisions.{Decision, Ends, Loses, Places, decided, early_failure, first_step, later_step, mark_of, wanted_by}
+use Rattle.alloc_event.specs.Forest.{beside, collection_at, is_left, pages_in, tidied, without_over_in}
 use Rattle.alloc_event.specs.Given.{AreServedByGiven, IsServedByGiven}
-use Rattle.alloc_event.specs.Kept.{Finishes, IsStored, Shelf, born, collection_in, forest_of, shelves_of}
+use Rattle.alloc_event.specs.Kept.{Finishes, born}
 use Rattle.alloc_event.specs.Outcomes.{IsOutcomeIn}
-use Rattle.alloc_event.specs.Nodes.{affected, ended, given_buffers, is_over, is_taken, lost}
-use Rattle.alloc_event.specs.Scenes.{are_distinct}
-use Rattle.alloc_event.specs.Questions.{is_deserted_node, is_next_node, is_ready_node, is_root_left, is_served}
-use Rattle.alloc_event.specs.Settling.{Handles, Settles, Rests, Forces, changed, collection_or_new, given_back, is_birth, is_root_of, made, no_key, put, standing}
+use Rattle.alloc_event.specs.Nodes.{ended, given_buffers, is_taken, lost}
+use Rattle.alloc_event.specs.Questions.{is_served}
+use Rattle.alloc_event.specs.Settling.{Rests, Forces, changed, given_back, is_birth, is_root_of, made, no_key}
 use Rattle.alloc_event.proofs.calm.Forcing.{forced_made}
 use Rattle.alloc_event.proofs.calm.Steps.{first_has, found_by_key}
 use Rattle.alloc_event.proofs.changes.Altering.{change_makes}

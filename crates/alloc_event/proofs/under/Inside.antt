@@ -1,23 +1,11 @@
 -- What a walk within units finds that come to their turn together: each of their nodes, and the heads right below them.
-use Rattle.std.proofs.Common.{◌≡◌, ℕ, zero, suc, ◌<◌, ◌==◌, refl, ap, sym, ◌∙◌, subst, Bool, true, false, not, ◌&&◌, ◌||◌, ◌⊎◌, inl, inr, length, filter, List, [], ◌∷◌, Option, Some, arith}
-use Rattle.std.proofs.lemmas.Bool.{not-true}
+use Rattle.alloc_event.proofs.Common.{◌≡◌, ℕ, zero, suc, ◌<◌, ◌==◌, refl, ap, sym, ◌∙◌, subst, Bool, true, false, not, ◌&&◌, ◌||◌, ◌⊎◌, inl, inr, length, List, [], ◌∷◌, Option, Some, arith, not-true, find, list_any, option_map_or, NodeKey, same_key, In, In-list_any, and_left, and_right, either_way, or_cases, or_left, same_key-refl, same_key-true, In-any, Table, node_at, parent_at, Node, Unit, unit_at, is_left_of, IsStored, IsWhole, Shelf, collection_in, nodes_with, is_head}
+use Rattle.std.proofs.Common.{filter}
 use Rattle.std.proofs.lemmas.Map.Views.{Contains-from_any, list_any-from_Contains}
-use Rattle.std.specs.List.{find, list_any}
-use Rattle.std.specs.Option.{option_map_or}
-use Rattle.sm_names.specs.declared.keys.NodeKey.{NodeKey}
-use Rattle.sm_names.specs.Sameness.{same_key}
-use Rattle.sm_names.proofs.ListLaws.{In, In-filter, In-filter-back, In-list_any}
-use Rattle.sm_names.proofs.SamenessLaws.{and_left, and_right, either_way, or_cases, or_left, same_key-refl, same_key-true}
-use Rattle.sm_names.proofs.StandingLaws.{In-any}
-use Rattle.node_table.specs.Table.{Table, node_at, parent_at}
+use Rattle.sm_names.proofs.ListLaws.{In-filter, In-filter-back}
 use Rattle.failure_domains.specs.Falls.{Below, Top, Within, stopped_at}
-use Rattle.alloc_event.specs.declared.node.Node.{Node}
-use Rattle.alloc_event.specs.declared.units.Unit.{Unit}
-use Rattle.alloc_event.specs.Counts.{HasUnits, unit_at}
-use Rattle.alloc_event.specs.Decisions.{is_left_of}
-use Rattle.alloc_event.specs.Kept.{IsStored, IsWhole, Shelf, collection_in, nodes_with}
+use Rattle.alloc_event.specs.Counts.{HasUnits}
 use Rattle.alloc_event.specs.Serving.{AreHeads, IsGathered, hangs_below, is_head_at, is_of_some, is_outside, is_ready_head, is_waiting_head}
-use Rattle.alloc_event.specs.Units.{is_head}
 use Rattle.alloc_event.proofs.failures.Ties.{key_equivalence}
 use Rattle.alloc_event.proofs.serves.Before.{at_key, node_there, some_there, whole_before}
 use Rattle.alloc_event.proofs.serves.Next.{head_own}

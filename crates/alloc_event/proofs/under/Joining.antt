@@ -1,26 +1,15 @@
 -- Steps that were made one after another, joined: what the later ones finish, the earlier ones did.
-use Rattle.std.proofs.Common.{◌≡◌, ◌≢◌, ℕ, zero, suc, ◌+◌, ◌==◌, ◌⊎◌, arith, inl, inr, nat_lt, refl, ap, sym, ◌∙◌, subst, true, false, not, List, [], ◌∷◌, map, get_or, set, Option, Some, None, option_map}
-use Rattle.std.proofs.lemmas.Bool.{eq-eqb}
+use Rattle.alloc_event.proofs.Common.{◌≡◌, ◌≢◌, ℕ, zero, suc, ◌+◌, ◌==◌, ◌⊎◌, arith, inl, inr, nat_lt, refl, ap, sym, ◌∙◌, subst, true, false, not, List, [], ◌∷◌, map, get_or, set, Option, Some, None, option_map, eq-eqb, filter, find, Interval, NodeKey, forced, In, either_way, some-injective, Table, Change, Entry, Node, Unit, Collection, IsStored, Shelf, collection_in, forest_of, place_in, put_shelf, shelf_of, shelves_of, Handles, Settles, collection_or_new, put, standing}
 use Rattle.std.proofs.lemmas.List.{get_or-set_same, get_or_default}
-use Rattle.std.specs.List.{filter, find, flat_map}
+use Rattle.std.specs.List.{flat_map}
 use Rattle.std.specs.Option.{unwrap_or}
-use Rattle.sm_names.specs.declared.keys.Interval.{Interval}
-use Rattle.sm_names.specs.declared.keys.NodeKey.{NodeKey}
-use Rattle.sm_names.specs.Forced.{forced}
-use Rattle.sm_names.proofs.ListLaws.{In}
-use Rattle.sm_names.proofs.SamenessLaws.{either_way, some-injective}
 use Rattle.buffer_pool.specs.Holdings.{Holdings}
-use Rattle.node_table.specs.Table.{Table}
-use Rattle.alloc_event.specs.declared.change.Change.{Change}
-use Rattle.alloc_event.specs.declared.entry.Entry.{Entry}
-use Rattle.alloc_event.specs.declared.node.Node.{Node}
-use Rattle.alloc_event.specs.declared.units.Unit.{Unit}
 use Rattle.alloc_event.specs.Calm.{AreCountedBut}
 use Rattle.alloc_event.specs.Closing.{Closes, MayClose}
-use Rattle.alloc_event.specs.Forest.{Collection, beside, pages_in}
-use Rattle.alloc_event.specs.Kept.{Finishes, IsStored, SameTable, Shelf, collection_in, forest_of, place_in, put_shelf, shelf_of, shelves_of}
+use Rattle.alloc_event.specs.Forest.{beside, pages_in}
+use Rattle.alloc_event.specs.Kept.{Finishes, SameTable}
 use Rattle.alloc_event.specs.Outcomes.{IsOutcomeIn, IsSettledIn, changed_in}
-use Rattle.alloc_event.specs.Settling.{Handles, Settles, collection_or_new, given_back, is_birth, no_key, put, standing}
+use Rattle.alloc_event.specs.Settling.{given_back, is_birth, no_key}
 use Rattle.alloc_event.specs.UnderWay.{IsBeside, IsUnderWay, Leads, is_abandoned_in}
 use Rattle.alloc_event.proofs.serves.Among.{put_among}
 use Rattle.alloc_event.proofs.shelves.Counted.{moved, set_shelves, shelves_put}

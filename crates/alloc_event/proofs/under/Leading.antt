@@ -1,14 +1,7 @@
 -- Forced steps one after another, and the units that had their turn so far.
-use Rattle.std.proofs.Common.{◌≡◌, ℕ, sym, ◌∙◌, ap, subst, refl, true, false, List, [], ◌∷◌, Some}
-use Rattle.sm_names.specs.declared.keys.NodeKey.{NodeKey}
-use Rattle.sm_names.specs.declared.outcomes.Buffers.{Buffers}
-use Rattle.node_table.specs.Table.{Table}
-use Rattle.alloc_event.specs.declared.entry.Entry.{Entry}
-use Rattle.alloc_event.specs.declared.node.Node.{Node}
+use Rattle.alloc_event.proofs.Common.{◌≡◌, ℕ, sym, ◌∙◌, ap, subst, refl, true, false, List, [], ◌∷◌, Some, NodeKey, Buffers, Table, Entry, Node, Unit, Shelf, collection_in, nodes_with, Handles}
 use Rattle.alloc_event.specs.declared.rounds.Turn.{Turn}
-use Rattle.alloc_event.specs.declared.units.Unit.{Unit}
-use Rattle.alloc_event.specs.Kept.{SameTable, Shelf, collection_in, nodes_with}
-use Rattle.alloc_event.specs.Settling.{Handles}
+use Rattle.alloc_event.specs.Kept.{SameTable}
 use Rattle.alloc_event.specs.UnderWay.{AreTurns, IsBeside, IsLed, IsUnderWay, Leads, is_abandoned_in, turn_heads, waits_among}
 
 -- ---- steps one after another

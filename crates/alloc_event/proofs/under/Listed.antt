@@ -1,30 +1,20 @@
 -- What a walk over one unit finds: each of its nodes, so that what these ask for is what the unit asks for.
-use Rattle.std.proofs.Common.{◌≡◌, ℕ, zero, suc, ◌+◌, ◌<◌, ◌≤◌, ◌==◌, nat_lt, refl, ap, sym, ◌∙◌, subst, Bool, true, false, not, ◌&&◌, ◌||◌, if◌then◌else◌, inl, inr, length, List, [], ◌∷◌, Option, Some, None, arith}
-use Rattle.std.proofs.lemmas.Bool.{eqb-true, le-ltb, ltb-false, not-true}
+use Rattle.alloc_event.proofs.Common.{◌≡◌, ℕ, zero, suc, ◌+◌, ◌<◌, ◌≤◌, ◌==◌, nat_lt, refl, ap, sym, ◌∙◌, subst, Bool, true, false, not, ◌&&◌, ◌||◌, if◌then◌else◌, inl, inr, length, List, [], ◌∷◌, Option, Some, None, arith, eqb-true, not-true, cons_option, find, list_any, sum_by, option_and_then, option_map_or, NodeKey, Buffers, Demand, same_key, when, In, and_left, and_right, both_ways, either_way, false_if, same_key-refl, same_key-true, Table, node_at, parent_at, Node, is_left_of, IsStored, IsWhole, Shelf, collection_in, nodes_with, reserved_count, is_head}
+use Rattle.std.proofs.lemmas.Bool.{le-ltb, ltb-false}
 use Rattle.std.proofs.lemmas.Map.Views.{Contains-from_any, list_any-from_Contains}
-use Rattle.std.specs.List.{cons_option, filter_map, find, list_any, sum_by}
-use Rattle.std.specs.Option.{option_and_then, option_map, option_map_or}
-use Rattle.sm_names.specs.declared.keys.NodeKey.{NodeKey}
-use Rattle.sm_names.specs.declared.outcomes.Buffers.{Buffers}
+use Rattle.std.specs.List.{filter_map}
+use Rattle.std.specs.Option.{option_map}
 use Rattle.sm_names.specs.declared.outcomes.Failure.{Failure}
-use Rattle.sm_names.specs.Demands.{Demand}
 use Rattle.sm_names.specs.Members.{greatest}
-use Rattle.sm_names.specs.Sameness.{same_key}
-use Rattle.sm_names.specs.Words.{first_some, when}
-use Rattle.sm_names.proofs.ListLaws.{In}
-use Rattle.sm_names.proofs.SamenessLaws.{and_left, and_right, both_ways, either_way, false_if, same_key-refl, same_key-true}
-use Rattle.node_table.specs.Table.{Row, Table, node_at, parent_at, parent_in, row_at}
+use Rattle.sm_names.specs.Words.{first_some}
+use Rattle.node_table.specs.Table.{Row, parent_in, row_at}
 use Rattle.failure_domains.specs.Falls.{Below, Top, Within, stopped_at}
 use Rattle.alloc_event.specs.declared.falling.Going.{Going}
-use Rattle.alloc_event.specs.declared.node.Node.{Node}
-use Rattle.alloc_event.specs.Decisions.{is_left_of, late_failure}
-use Rattle.alloc_event.specs.Kept.{IsStored, IsWhole, Shelf, collection_in, nodes_with}
+use Rattle.alloc_event.specs.Decisions.{late_failure}
 use Rattle.alloc_event.specs.Questions.{demands_of, is_in_unit}
 use Rattle.alloc_event.specs.Refusing.{refusal}
-use Rattle.alloc_event.specs.Reserved.{reserved_count}
 use Rattle.alloc_event.specs.TakingTurn.{IsUnitListed, asked_there}
 use Rattle.alloc_event.specs.InTurn.{asked_in}
-use Rattle.alloc_event.specs.Units.{is_head}
 use Rattle.alloc_event.proofs.calm.Steps.{all-In}
 use Rattle.alloc_event.proofs.changes.Altering.{found_filed, looked-of}
 use Rattle.alloc_event.proofs.failures.GoneNodes.{in_looked}

@@ -1,31 +1,18 @@
 -- The units that may come to their turn by one, in a list: from what a walk finds to the order of their places.
-use Rattle.std.proofs.Common.{◌≡◌, ℕ, suc, ◌<◌, ◌≤◌, ◌==◌, nat_lt, refl, ap, sym, ◌∙◌, subst, Bool, true, false, not, ◌&&◌, ◌⊎◌, inl, inr, filter, get_or, length, slice_get, List, [], ◌∷◌, ◌++◌, map, Option, Some, None, arith}
-use Rattle.std.proofs.lemmas.Bool.{eqb-true, lt-ltb, not-true}
+use Rattle.alloc_event.proofs.Common.{◌≡◌, ℕ, suc, ◌<◌, ◌≤◌, ◌==◌, nat_lt, refl, ap, sym, ◌∙◌, subst, Bool, true, false, not, ◌&&◌, ◌⊎◌, inl, inr, get_or, length, List, [], ◌∷◌, ◌++◌, map, Option, Some, None, arith, eqb-true, lt-ltb, not-true, find, list_any, option_map_or, NodeKey, same_key, In-list_any, In-map, In-map-back, and_both, and_left, and_right, both_ways, either_way, false_if, or_cases, or_right, same_key-refl, same_key-true, some-injective, In-any, Table, node_at, parent_at, Entry, Node, Unit, AreUnits, unit_at, IsStored, Shelf, collection_in, is_filed, nodes_with, shelf_of, is_of, is_head}
+use Rattle.std.proofs.Common.{filter, slice_get}
 use Rattle.std.proofs.lemmas.List.Sorted.{All-permutation, IsPermutation-map, list_any-IsPermutation}
 use Rattle.std.proofs.lemmas.Option.{slice_get_read}
-use Rattle.std.specs.List.{find, list_any}
 use Rattle.std.specs.List.Sorted.{IsNonDecreasingBy, IsPermutation}
-use Rattle.std.specs.Option.{option_map_or}
-use Rattle.sm_names.specs.declared.keys.NodeKey.{NodeKey}
 use Rattle.sm_names.specs.Elements.{In}
-use Rattle.sm_names.specs.Sameness.{same_key}
-use Rattle.sm_names.proofs.ListLaws.{In-append, In-get_or, In-list_any, In-map, In-map-back}
-use Rattle.sm_names.proofs.SamenessLaws.{and_both, and_left, and_right, both_ways, either_way, false_if, or_cases, or_right, same_key-refl, same_key-true, some-injective}
-use Rattle.sm_names.proofs.StandingLaws.{In-any}
-use Rattle.node_table.specs.Table.{Table, node_at, parent_at}
+use Rattle.sm_names.proofs.ListLaws.{In-append, In-get_or}
 use Rattle.failure_domains.specs.Falls.{Below, Top, Within, stopped_at}
-use Rattle.alloc_event.specs.declared.entry.Entry.{Entry}
 use Rattle.alloc_event.specs.declared.falling.Going.{Going}
-use Rattle.alloc_event.specs.declared.node.Node.{Node}
 use Rattle.alloc_event.specs.declared.rounds.Turn.{Turn}
-use Rattle.alloc_event.specs.declared.units.Unit.{Unit}
-use Rattle.alloc_event.specs.Counts.{AreUnits, HasUnits, unit_at}
+use Rattle.alloc_event.specs.Counts.{HasUnits}
 use Rattle.alloc_event.specs.Falls.{Hangs, Roots}
 use Rattle.alloc_event.specs.Forgetting.{IsPlace}
-use Rattle.alloc_event.specs.Kept.{IsStored, Shelf, collection_in, is_filed, nodes_with, shelf_of}
-use Rattle.alloc_event.specs.Nodes.{is_of}
 use Rattle.alloc_event.specs.Serving.{AreHeads, IsGathered, IsWalked, hangs_below, is_head_at, is_left_out, is_outside, is_ready_head, is_waiting_head, left_out_at}
-use Rattle.alloc_event.specs.Units.{is_head}
 use Rattle.alloc_event.specs.UnderWay.{AreClosed, AreInTurn, ArePlacedIfThere, AreTurns, IsUnderWay, is_head_left, turn_heads}
 use Rattle.alloc_event.proofs.calm.Steps.{all-In}
 use Rattle.alloc_event.proofs.changes.Altering.{Some-shelf, found_filed}

@@ -1,29 +1,13 @@
 -- Whether an attached unit is next, which its head, the node above it and the counts tell, while forced steps are being made.
-use Rattle.std.proofs.Common.{◌≡◌, ℕ, ◌==◌, refl, ap, sym, ◌∙◌, subst, Bool, true, false, not, ◌&&◌, ◌||◌, inl, inr, is_none, List, [], ◌∷◌, Option, Some, None, IsSome, option_map}
-use Rattle.std.proofs.lemmas.Bool.{eq-eqb, not-true}
-use Rattle.std.specs.List.{list_all, list_any}
-use Rattle.std.specs.Option.{option_map_or}
-use Rattle.sm_names.specs.declared.keys.NodeKey.{NodeKey}
-use Rattle.sm_names.specs.Sameness.{same_key}
-use Rattle.sm_names.specs.Words.{times}
-use Rattle.sm_names.proofs.ListLaws.{In, In-find, In-list_any, In-map-back}
-use Rattle.sm_names.proofs.SamenessLaws.{and_both, and_left, and_right, both_ways, either_way, false_if, or_right, same_key-refl, same_key-true}
-use Rattle.sm_names.proofs.SizeLaws.{all_on}
-use Rattle.sm_names.proofs.StandingLaws.{In-any}
-use Rattle.node_table.specs.Table.{Row, Table, node_at, parent_at, row_at}
-use Rattle.alloc_event.specs.declared.entry.Entry.{Entry}
-use Rattle.alloc_event.specs.declared.node.Node.{Node}
+use Rattle.alloc_event.proofs.Common.{◌≡◌, ℕ, ◌==◌, refl, ap, sym, ◌∙◌, subst, Bool, true, false, not, ◌&&◌, ◌||◌, inl, inr, is_none, List, [], ◌∷◌, Option, Some, None, option_map, eq-eqb, not-true, list_all, list_any, option_map_or, NodeKey, same_key, times, In, In-find, In-list_any, In-map-back, and_both, and_left, and_right, both_ways, either_way, false_if, or_right, same_key-refl, same_key-true, all_on, In-any, Table, node_at, parent_at, Entry, Node, Unit, unit_at, waits_in, waiting, Shelf, collection_in, nodes_with, shelf_of, is_of, is_next_node, is_ready_node, is_head}
+use Rattle.std.proofs.Common.{IsSome}
+use Rattle.node_table.specs.Table.{Row, row_at}
 use Rattle.alloc_event.specs.declared.rounds.Turn.{Turn}
-use Rattle.alloc_event.specs.declared.units.Unit.{Unit}
-use Rattle.alloc_event.specs.Counts.{HasUnit, HasUnits, unit_at, unit_of, waits_in}
-use Rattle.alloc_event.specs.Decisions.{waiting}
-use Rattle.alloc_event.specs.Kept.{Shelf, collection_in, nodes_with, shelf_of}
-use Rattle.alloc_event.specs.Nodes.{is_of}
-use Rattle.alloc_event.specs.Questions.{is_allocated_node, is_next_node, is_ready_node, is_served}
+use Rattle.alloc_event.specs.Counts.{HasUnit, HasUnits, unit_of}
+use Rattle.alloc_event.specs.Questions.{is_allocated_node, is_served}
 use Rattle.alloc_event.specs.Serving.{has_turn_at, is_served_there, is_waiting_head}
 use Rattle.alloc_event.specs.TakingTurn.{is_next_there}
 use Rattle.alloc_event.specs.UnderWay.{IsUnderWay, is_head_left, is_next_but, turn_heads, waits_among}
-use Rattle.alloc_event.specs.Units.{is_head}
 use Rattle.alloc_event.proofs.calm.Calming.{count_none}
 use Rattle.alloc_event.proofs.serves.Before.{at_key}
 use Rattle.alloc_event.proofs.tables.Hanging.{in_all}

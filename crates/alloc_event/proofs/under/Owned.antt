@@ -1,17 +1,13 @@
 -- What a failure takes of a table is of one collection, where parents are.
-use Rattle.std.proofs.Common.{◌≡◌, ℕ, ◌==◌, refl, ap, sym, ◌∙◌, true, List, Option, Some, None, option_map}
+use Rattle.alloc_event.proofs.Common.{◌≡◌, ℕ, ◌==◌, refl, ap, sym, ◌∙◌, true, List, Option, Some, None, option_map, option_map_or, NodeKey, same_key-true, Table, node_at, parent_at, Node, nodes_with}
 use Rattle.std.proofs.lemmas.Map.Views.{Contains-from_any}
-use Rattle.std.specs.Option.{option_map_or}
 use Rattle.std.specs.Prelude.{IsSome}
-use Rattle.sm_names.specs.declared.keys.NodeKey.{NodeKey}
 use Rattle.sm_names.specs.Losses.{Down, Origin, Reach, Up}
-use Rattle.sm_names.proofs.SamenessLaws.{same_key-true}
 use Rattle.node_table.specs.Forest.{IsForest}
-use Rattle.node_table.specs.Table.{Row, Table, node_at, parent_at, parent_in, row_at}
+use Rattle.node_table.specs.Table.{Row, parent_in, row_at}
 use Rattle.failure_domains.specs.Falls.{blocked_at}
-use Rattle.alloc_event.specs.declared.node.Node.{Node}
 use Rattle.alloc_event.specs.Falling.{IsTaken}
-use Rattle.alloc_event.specs.Kept.{all_of, nodes_with}
+use Rattle.alloc_event.specs.Kept.{all_of}
 use Rattle.alloc_event.specs.Ties.{is_blocking}
 use Rattle.alloc_event.proofs.tables.Links.{own_all, own_at}
 

@@ -1,30 +1,11 @@
 -- A loss or an effect that is made in its place, with all that it forces.
-use Rattle.std.proofs.Common.{◌≡◌, ℕ, refl, ap, sym, ◌∙◌, subst, Bool, true, false, not, ◌&&◌, ◌||◌, ◌⊎◌, inl, inr, is_none, List, [], ◌∷◌, Option, Some, None}
-use Rattle.std.proofs.lemmas.Bool.{not-true}
-use Rattle.std.specs.List.{find, list_all, list_any}
-use Rattle.std.specs.Option.{option_and_then, option_map_or}
-use Rattle.sm_names.specs.declared.keys.NodeKey.{NodeKey}
+use Rattle.alloc_event.proofs.Common.{◌≡◌, ℕ, refl, ap, sym, ◌∙◌, subst, Bool, true, false, not, ◌&&◌, ◌||◌, ◌⊎◌, inl, inr, is_none, List, [], ◌∷◌, Option, Some, None, not-true, find, list_all, list_any, option_and_then, option_map_or, NodeKey, same_key, when, In, In-find, In-list_any, In-map, In-map-back, and_both, and_left, and_right, either_way, same_key-true, all_on, In-any, Table, Effect, Entry, Node, Unit, waiting, Collection, IsWhole, Shelf, collection_in, nodes_with, shelf_of, is_of, is_ready_node, is_root_left, Handles, Settles, is_head}
 use Rattle.sm_names.specs.declared.outcomes.Fault.{Fault}
 use Rattle.sm_names.specs.Members.{is_under}
-use Rattle.sm_names.specs.Sameness.{same_key}
-use Rattle.sm_names.specs.Words.{when}
-use Rattle.sm_names.proofs.ListLaws.{In, In-find, In-list_any, In-map, In-map-back}
-use Rattle.sm_names.proofs.SamenessLaws.{and_both, and_left, and_right, either_way, or_none_right, same_key-true}
-use Rattle.sm_names.proofs.SizeLaws.{all_on}
-use Rattle.sm_names.proofs.StandingLaws.{In-any}
-use Rattle.node_table.specs.Table.{Table}
-use Rattle.alloc_event.specs.declared.change.Effect.{Effect}
-use Rattle.alloc_event.specs.declared.entry.Entry.{Entry}
-use Rattle.alloc_event.specs.declared.node.Node.{Node}
-use Rattle.alloc_event.specs.declared.units.Unit.{Unit}
-use Rattle.alloc_event.specs.Decisions.{waiting}
-use Rattle.alloc_event.specs.Forest.{Collection}
-use Rattle.alloc_event.specs.Kept.{IsWhole, Shelf, collection_in, nodes_with, shelf_of}
-use Rattle.alloc_event.specs.Nodes.{after_effect, after_end, after_loss, ended, is_of, member_of}
-use Rattle.alloc_event.specs.Questions.{is_ready_node, is_root_left}
-use Rattle.alloc_event.specs.Settling.{Handles, Settles}
+use Rattle.sm_names.proofs.SamenessLaws.{or_none_right}
+use Rattle.alloc_event.specs.Nodes.{after_effect, after_end, after_loss, ended, member_of}
 use Rattle.alloc_event.specs.UnderWay.{AreOrEnd, IsAffected, IsBeside, IsFelled, IsLed, IsPlayedFrom, IsPlayedOut, IsUnderWay, Leads, are_held_but, holds_unit, is_head_left, is_held, waits_among}
-use Rattle.alloc_event.specs.Units.{GoTogether, is_head}
+use Rattle.alloc_event.specs.Units.{GoTogether}
 use Rattle.alloc_event.proofs.calm.Steps.{all-In}
 use Rattle.alloc_event.proofs.changes.Altering.{found_whole}
 use Rattle.alloc_event.proofs.tables.Rooted.{distinct_one}

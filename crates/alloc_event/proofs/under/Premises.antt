@@ -1,18 +1,8 @@
 -- The slot of each node, as what holds of each forest says it.
-use Rattle.std.proofs.Common.{◌≡◌, ◌<◌, ◌∙◌, inl, inr, refl, sym, ap, subst, List, [], ◌∷◌, length, map, Option, Some, None, false, true}
+use Rattle.alloc_event.proofs.Common.{◌≡◌, ◌<◌, ◌∙◌, inl, inr, refl, sym, ap, subst, List, [], ◌∷◌, length, map, Option, Some, None, false, true, cons_option, list_any, same_key, In, or_cases, same_key-true, NodeKey, Table, node_at, Entry, Node, Unit, AreUnits, IsStored, Shelf, all_keys, collection_in, nodes_with, shelves_of}
 use Rattle.std.proofs.lemmas.List.Folds.{list_any-append}
-use Rattle.std.specs.List.{cons_option, list_any}
-use Rattle.sm_names.specs.Sameness.{same_key}
-use Rattle.sm_names.proofs.ListLaws.{In}
-use Rattle.sm_names.proofs.SamenessLaws.{or_cases, same_key-true}
 use Rattle.alloc_event.proofs.tables.Hanging.{in_all}
-use Rattle.sm_names.specs.declared.keys.NodeKey.{NodeKey}
-use Rattle.node_table.specs.Table.{Table, node_at}
-use Rattle.alloc_event.specs.declared.entry.Entry.{Entry}
-use Rattle.alloc_event.specs.declared.node.Node.{Node}
-use Rattle.alloc_event.specs.declared.units.Unit.{Unit}
-use Rattle.alloc_event.specs.Counts.{AreUnits, HasUnit, HaveUnits}
-use Rattle.alloc_event.specs.Kept.{IsStored, Shelf, all_keys, collection_in, nodes_with, shelves_of}
+use Rattle.alloc_event.specs.Counts.{HasUnit, HaveUnits}
 
 -- each slot is in the list
 pub inside_of : (t : Table Node) (us : List Unit) (es : List Entry) → IsStored t (shelves_of es) → HaveUnits us t es →

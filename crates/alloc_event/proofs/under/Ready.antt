@@ -1,25 +1,12 @@
 -- A collection that is under way with no unit loose or due is calm, and a calm one is such.
-use Rattle.std.proofs.Common.{◌≡◌, ◌<◌, ℕ, ◌==◌, refl, ap, sym, ◌∙◌, subst, Bool, true, false, not, ◌&&◌, inl, List, [], map, length, get_or, Option, Some, None}
-use Rattle.std.specs.List.{find, list_any}
-use Rattle.std.specs.Option.{option_map_or}
-use Rattle.sm_names.specs.declared.keys.NodeKey.{NodeKey}
-use Rattle.sm_names.specs.declared.outcomes.Buffers.{Buffers}
-use Rattle.sm_names.specs.Sameness.{same_key}
-use Rattle.sm_names.proofs.ListLaws.{In-list_any, find-none, none-find}
-use Rattle.sm_names.proofs.SamenessLaws.{and_both, and_left, and_right, both_ways, false_if}
-use Rattle.sm_names.proofs.StandingLaws.{In-any}
+use Rattle.alloc_event.proofs.Common.{◌≡◌, ◌<◌, ℕ, ◌==◌, refl, ap, sym, ◌∙◌, subst, Bool, true, false, not, ◌&&◌, inl, List, [], map, length, get_or, Option, Some, None, find, list_any, option_map_or, NodeKey, Buffers, same_key, In-list_any, and_both, and_left, and_right, both_ways, false_if, In-any, Table, node_at, Entry, Node, Unit, AreUnits, waiting, IsStored, IsWhole, Shelf, collection_in, nodes_with, place_in, shelf_of, shelves_of, is_deserted_node, is_next_node, Handles}
+use Rattle.sm_names.proofs.ListLaws.{find-none, none-find}
 use Rattle.sm_names.proofs.PlaceLaws.{map-None}
-use Rattle.node_table.specs.Table.{Table, node_at}
-use Rattle.alloc_event.specs.declared.entry.Entry.{Entry}
-use Rattle.alloc_event.specs.declared.node.Node.{Node}
-use Rattle.alloc_event.specs.declared.units.Unit.{Unit}
 use Rattle.alloc_event.specs.Calm.{AreCounted, IsCounted}
 use Rattle.alloc_event.specs.Closing.{MayClose}
-use Rattle.alloc_event.specs.Counts.{AreUnits, HaveUnits}
-use Rattle.alloc_event.specs.Decisions.{later_step, waiting}
-use Rattle.alloc_event.specs.Kept.{IsStored, IsWhole, Shelf, collection_in, nodes_with, place_in, shelf_of, shelves_of}
-use Rattle.alloc_event.specs.Questions.{is_allocated_node, is_deserted_node, is_next_node, is_served}
-use Rattle.alloc_event.specs.Settling.{Handles}
+use Rattle.alloc_event.specs.Counts.{HaveUnits}
+use Rattle.alloc_event.specs.Decisions.{later_step}
+use Rattle.alloc_event.specs.Questions.{is_allocated_node, is_served}
 use Rattle.alloc_event.specs.UnderWay.{IsUnderWay, is_next_but}
 use Rattle.alloc_event.proofs.calm.Calming.{AreNone, calm_none, later, none_calm}
 use Rattle.alloc_event.proofs.calm.Watched.{found_counted}

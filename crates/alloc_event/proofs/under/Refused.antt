@@ -1,29 +1,13 @@
 -- A unit that comes to its turn is refused, and its head fails.
-use Rattle.std.proofs.Common.{◌≡◌, ℕ, refl, ap, sym, ◌∙◌, subst, Bool, true, false, not, ◌||◌, List, [], ◌∷◌, map, reverse, Some, None}
-use Rattle.std.proofs.lemmas.Bool.{not-true}
-use Rattle.std.specs.List.{list_any}
-use Rattle.sm_names.specs.declared.keys.NodeKey.{NodeKey}
-use Rattle.sm_names.specs.declared.outcomes.Buffers.{Buffers}
-use Rattle.sm_names.specs.declared.outcomes.Cause.{Cause}
+use Rattle.alloc_event.proofs.Common.{◌≡◌, ℕ, refl, ap, sym, ◌∙◌, subst, Bool, true, false, not, ◌||◌, List, [], ◌∷◌, map, reverse, Some, None, not-true, list_any, NodeKey, Buffers, Cause, same_key, In, In-list_any, In-map, and_both, and_left, and_right, both_ways, false_if, or_left, same_key-refl, In-any, Table, Entry, Node, Unit, waiting, Collection, with_nodes, IsWhole, Shelf, collection_in, nodes_with, shelf_of, node_of, is_next_node, Handles}
 use Rattle.sm_names.specs.declared.outcomes.Failure.{Failure}
 use Rattle.sm_names.specs.declared.outcomes.Fault.{Fault}
 use Rattle.sm_names.specs.Losses.{top as topmost}
 use Rattle.sm_names.specs.Marks.{Loss}
-use Rattle.sm_names.specs.Sameness.{same_key}
-use Rattle.sm_names.proofs.ListLaws.{In, In-list_any, In-map}
-use Rattle.sm_names.proofs.SamenessLaws.{and_both, and_left, and_right, both_ways, false_if, or_left, same_key-refl}
-use Rattle.sm_names.proofs.StandingLaws.{In-any}
-use Rattle.node_table.specs.Table.{Table}
-use Rattle.alloc_event.specs.declared.entry.Entry.{Entry}
-use Rattle.alloc_event.specs.declared.node.Node.{Node}
 use Rattle.alloc_event.specs.declared.rounds.Turn.{Turn}
-use Rattle.alloc_event.specs.declared.units.Unit.{Unit}
-use Rattle.alloc_event.specs.Decisions.{late_failure, waiting}
-use Rattle.alloc_event.specs.Forest.{Collection, with_nodes}
-use Rattle.alloc_event.specs.Kept.{IsWhole, Shelf, collection_in, nodes_with, shelf_of}
-use Rattle.alloc_event.specs.Nodes.{above_among, after_loss, is_taken, node_of}
-use Rattle.alloc_event.specs.Questions.{blocks_here, is_below, is_next_node}
-use Rattle.alloc_event.specs.Settling.{Handles}
+use Rattle.alloc_event.specs.Decisions.{late_failure}
+use Rattle.alloc_event.specs.Nodes.{above_among, after_loss, is_taken}
+use Rattle.alloc_event.specs.Questions.{blocks_here, is_below}
 use Rattle.alloc_event.specs.TakingTurn.{is_next_there}
 use Rattle.alloc_event.specs.Units.{GoTogether}
 use Rattle.alloc_event.specs.UnderWay.{AreClosed, AreTurns, IsFelled, IsLed, IsUnderWay, is_abandoned_in, is_next_but, turn_heads, waits_among}

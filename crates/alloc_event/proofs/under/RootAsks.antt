@@ -1,27 +1,16 @@
 -- What the nodes of the root's unit ask for with an effect, by a walk over the unit alone.
-use Rattle.std.proofs.Common.{◌≡◌, ◌≤◌, ℕ, ◌+◌, max, refl, ap, sym, ◌∙◌, subst, Bool, true, false, not, ◌&&◌, ◌||◌, if◌then◌else◌, inl, inr, List, [], ◌∷◌, map, Some, None, arith}
-use Rattle.std.proofs.lemmas.Bool.{le-ltb, ltb-false, not-true}
-use Rattle.std.specs.List.{list_any, sum_by}
-use Rattle.std.specs.Option.{option_map_or}
-use Rattle.sm_names.specs.declared.keys.NodeKey.{NodeKey}
-use Rattle.sm_names.specs.Demands.{Demand}
+use Rattle.alloc_event.proofs.Common.{◌≡◌, ◌≤◌, ℕ, ◌+◌, refl, ap, sym, ◌∙◌, subst, Bool, true, false, not, ◌&&◌, ◌||◌, if◌then◌else◌, inl, inr, List, [], ◌∷◌, map, Some, None, arith, not-true, list_any, sum_by, option_map_or, NodeKey, Demand, same_key, In, In-map, In-map-back, and_left, and_right, both_ways, either_way, false_if, same_key-refl, same_key-true, Table, node_at, parent_at, Change, Effect, Node, Unit, Shelf, nodes_with, affected, reserved_count}
+use Rattle.std.proofs.Common.{max}
+use Rattle.std.proofs.lemmas.Bool.{le-ltb, ltb-false}
 use Rattle.sm_names.specs.Members.{greatest}
-use Rattle.sm_names.specs.Sameness.{same_key}
-use Rattle.sm_names.proofs.ListLaws.{In, In-map, In-map-back, map-In}
-use Rattle.sm_names.proofs.SamenessLaws.{and_left, and_right, both_ways, either_way, false_if, same_key-refl, same_key-true}
-use Rattle.node_table.specs.Table.{Table, node_at, parent_at}
-use Rattle.alloc_event.specs.declared.change.Change.{Change}
-use Rattle.alloc_event.specs.declared.change.Effect.{Effect}
+use Rattle.sm_names.proofs.ListLaws.{map-In}
 use Rattle.alloc_event.specs.declared.falling.Going.{Going}
-use Rattle.alloc_event.specs.declared.node.Node.{Node}
-use Rattle.alloc_event.specs.declared.units.Unit.{Unit}
 use Rattle.alloc_event.specs.Decisions.{wanted_by}
 use Rattle.alloc_event.specs.First.{wanted_of}
 use Rattle.alloc_event.specs.InPlace.{IsOpen}
-use Rattle.alloc_event.specs.Kept.{Shelf, nodes_with, written}
-use Rattle.alloc_event.specs.Nodes.{affected, after_allocation}
+use Rattle.alloc_event.specs.Kept.{written}
+use Rattle.alloc_event.specs.Nodes.{after_allocation}
 use Rattle.alloc_event.specs.Questions.{demands_of, is_in_unit}
-use Rattle.alloc_event.specs.Reserved.{reserved_count}
 use Rattle.alloc_event.specs.Serving.{asked_with, is_in_some}
 use Rattle.alloc_event.specs.TakingTurn.{IsUnitListed}
 use Rattle.alloc_event.proofs.changes.Altering.{same_affected}

@@ -1,37 +1,18 @@
 -- The root's unit is allocated with its buffers, and the attached units that follow have their turns.
-use Rattle.std.proofs.Common.{◌≡◌, ◌≢◌, ℕ, ◌==◌, nat_lt, refl, ap, sym, ◌∙◌, subst, Bool, true, false, not, ◌&&◌, ◌||◌, is_none, inl, inr, List, [], ◌∷◌, map, Option, Some, None}
-use Rattle.std.proofs.lemmas.Bool.{eqb-false, eqb-true, not-true}
-use Rattle.std.specs.List.{AllByRecursion, find, list_all, list_any}
-use Rattle.std.specs.Option.{option_map_or}
-use Rattle.sm_names.specs.declared.keys.HeldBuffer.{HeldBuffer}
-use Rattle.sm_names.specs.declared.keys.NodeKey.{NodeKey}
-use Rattle.sm_names.specs.declared.outcomes.Buffers.{Buffers}
-use Rattle.sm_names.specs.Sameness.{same_key}
-use Rattle.sm_names.proofs.ListLaws.{In, In-find, In-list_any, In-map, map-In}
-use Rattle.sm_names.proofs.SamenessLaws.{and_both, and_left, and_right, both_ways, either_way, false_if, or_cases, or_left, or_none_right, same_key-refl, same_key-true}
-use Rattle.sm_names.proofs.StandingLaws.{In-any}
-use Rattle.node_table.specs.Table.{Table, node_at}
-use Rattle.alloc_event.specs.declared.entry.Entry.{Entry}
-use Rattle.alloc_event.specs.declared.node.Node.{Node}
+use Rattle.alloc_event.proofs.Common.{◌≡◌, ◌≢◌, ℕ, ◌==◌, nat_lt, refl, ap, sym, ◌∙◌, subst, Bool, true, false, not, ◌&&◌, ◌||◌, is_none, inl, inr, List, [], ◌∷◌, map, Option, Some, None, eqb-false, eqb-true, not-true, AllByRecursion, find, list_all, list_any, option_map_or, HeldBuffer, NodeKey, Buffers, same_key, In, In-find, In-list_any, In-map, and_both, and_left, and_right, both_ways, either_way, false_if, or_cases, or_left, same_key-refl, same_key-true, In-any, Table, node_at, Entry, Node, Unit, over_but, strong_count, AreUnits, lives_in, waits_in, waiting, Collection, IsStored, IsWhole, Shelf, collection_in, is_filed, nodes_with, put_shelf, shelf_of, is_of, is_next_node, reserved_count, heads_itself, Handles, Settles, is_head}
+use Rattle.sm_names.proofs.ListLaws.{map-In}
+use Rattle.sm_names.proofs.SamenessLaws.{or_none_right}
 use Rattle.alloc_event.specs.declared.rooting.Verdict.{Verdict}
 use Rattle.alloc_event.specs.declared.rounds.Turn.{Turn}
-use Rattle.alloc_event.specs.declared.units.Unit.{Unit}
-use Rattle.alloc_event.specs.Calm.{over_but, strong_count}
-use Rattle.alloc_event.specs.Counts.{AreUnits, lives_in, waits_in}
-use Rattle.alloc_event.specs.Decisions.{waiting}
 use Rattle.alloc_event.specs.Falls.{given_all}
-use Rattle.alloc_event.specs.Forest.{Collection}
-use Rattle.alloc_event.specs.Kept.{IsStored, IsWhole, Shelf, collection_in, is_filed, is_strong, nodes_with, put_shelf, shelf_of}
-use Rattle.alloc_event.specs.Nodes.{after_allocation, is_of}
-use Rattle.alloc_event.specs.Questions.{is_allocated_node, is_next_node}
-use Rattle.alloc_event.specs.Reserved.{reserved_count}
+use Rattle.alloc_event.specs.Kept.{is_strong}
+use Rattle.alloc_event.specs.Nodes.{after_allocation}
+use Rattle.alloc_event.specs.Questions.{is_allocated_node}
 use Rattle.alloc_event.specs.Rooting.{IsComing, IsRooted, first_made, shelf_then}
-use Rattle.alloc_event.specs.Scenes.{given_few, heads_itself}
+use Rattle.alloc_event.specs.Scenes.{given_few}
 use Rattle.alloc_event.specs.Serving.{IsGivenAt, given_at}
-use Rattle.alloc_event.specs.Settling.{Handles, Settles}
 use Rattle.alloc_event.specs.TakingTurn.{IsUnitListed}
 use Rattle.alloc_event.specs.UnderWay.{AreClosed, AreTurns, IsPlayedOut, IsUnderWay, are_held_but, hangs_in_some, is_coming, is_head_left, is_next_but, turn_heads, waits_among}
-use Rattle.alloc_event.specs.Units.{is_head}
 use Rattle.alloc_event.proofs.calm.Calming.{any_map, times_map}
 use Rattle.alloc_event.proofs.calm.Steps.{all-In}
 use Rattle.alloc_event.proofs.changes.Altering.{found_filed, found_put, looked-of}

@@ -1,29 +1,10 @@
 -- A root whose unit comes to its allocation, and is lost instead.
-use Rattle.std.proofs.Common.{◌≡◌, refl, ap, sym, ◌∙◌, subst, Bool, true, false, not, ◌&&◌, ◌||◌, is_none, inl, List, [], ◌∷◌, Option, Some, None}
-use Rattle.std.proofs.lemmas.Bool.{not-true}
-use Rattle.std.specs.List.{find, list_all, list_any}
-use Rattle.std.specs.Option.{option_and_then, option_map_or}
-use Rattle.sm_names.specs.declared.keys.NodeKey.{NodeKey}
-use Rattle.sm_names.specs.declared.outcomes.Cause.{Cause}
+use Rattle.alloc_event.proofs.Common.{◌≡◌, refl, ap, sym, ◌∙◌, subst, Bool, true, false, not, ◌&&◌, ◌||◌, is_none, inl, List, [], ◌∷◌, Option, Some, None, not-true, find, list_all, list_any, option_and_then, option_map_or, NodeKey, Cause, same_key, when, In, In-find, and_left, and_right, all_on, Table, Entry, Node, Unit, is_left_of, waiting, Collection, with_nodes, Shelf, collection_in, nodes_with, put_shelf, shelf_of, is_ready_node, is_root_left, Handles, Settles}
 use Rattle.sm_names.specs.declared.outcomes.Failure.{Failure}
 use Rattle.sm_names.specs.declared.outcomes.Fault.{Fault}
-use Rattle.sm_names.specs.Sameness.{same_key}
-use Rattle.sm_names.specs.Words.{when}
-use Rattle.sm_names.proofs.ListLaws.{In, In-find}
-use Rattle.sm_names.proofs.SamenessLaws.{and_left, and_right}
-use Rattle.sm_names.proofs.SizeLaws.{all_on}
-use Rattle.node_table.specs.Table.{Table}
-use Rattle.alloc_event.specs.declared.entry.Entry.{Entry}
-use Rattle.alloc_event.specs.declared.node.Node.{Node}
 use Rattle.alloc_event.specs.declared.rooting.Verdict.{Verdict}
-use Rattle.alloc_event.specs.declared.units.Unit.{Unit}
-use Rattle.alloc_event.specs.Decisions.{is_left_of, waiting}
-use Rattle.alloc_event.specs.Forest.{Collection, with_nodes}
-use Rattle.alloc_event.specs.Kept.{Shelf, collection_in, nodes_with, put_shelf, shelf_of}
 use Rattle.alloc_event.specs.Nodes.{after_loss}
-use Rattle.alloc_event.specs.Questions.{is_ready_node, is_root_left}
 use Rattle.alloc_event.specs.Rooting.{IsComing, IsRooted}
-use Rattle.alloc_event.specs.Settling.{Handles, Settles}
 use Rattle.alloc_event.specs.UnderWay.{IsUnderWay, IsWent, MayGo, are_held_but, is_held, is_next_but, waits_among}
 use Rattle.alloc_event.proofs.changes.Altering.{found_put}
 use Rattle.alloc_event.proofs.failures.AllGone.{AreGone, none_passes}

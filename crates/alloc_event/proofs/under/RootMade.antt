@@ -1,39 +1,23 @@
 -- The root's unit comes to its allocation by an effect: what is forced then.
-use Rattle.std.proofs.Common.{◌≡◌, ℕ, refl, ap, sym, ◌∙◌, subst, Bool, true, false, not, ◌&&◌, ◌||◌, inl, inr, is_none, ◌⊎◌, if◌then◌else◌, List, [], ◌∷◌, ◌++◌, map, Option, Some, None, option_map, Result, Ok, Err}
-use Rattle.std.specs.List.{find, list_any, sum_by}
-use Rattle.std.specs.Option.{IfSome, option_and_then, option_map_or}
-use Rattle.sm_names.specs.declared.keys.HeldBuffer.{HeldBuffer}
-use Rattle.sm_names.specs.declared.keys.Interval.{Interval}
-use Rattle.sm_names.specs.declared.keys.NodeKey.{NodeKey}
-use Rattle.sm_names.specs.declared.outcomes.Buffers.{Buffers}
-use Rattle.sm_names.specs.declared.outcomes.Cause.{Cause}
+use Rattle.alloc_event.proofs.Common.{◌≡◌, ℕ, refl, ap, sym, ◌∙◌, subst, Bool, true, false, not, ◌&&◌, ◌||◌, inl, inr, is_none, ◌⊎◌, if◌then◌else◌, List, [], ◌∷◌, ◌++◌, map, Option, Some, None, option_map, find, list_any, sum_by, option_and_then, option_map_or, HeldBuffer, Interval, NodeKey, Buffers, Cause, Demand, same_key, when, either_way, same_key-true, all_on, Table, node_at, Change, Effect, Entry, Node, Unit, has_strong, waiting, Collection, Shelf, nodes_with, affected, is_deserted_node, is_root_left, reserved_count}
+use Rattle.std.proofs.Common.{Result, Ok, Err}
+use Rattle.std.specs.Option.{IfSome}
 use Rattle.sm_names.specs.declared.outcomes.Failure.{Failure}
-use Rattle.sm_names.specs.Demands.{Demand}
 use Rattle.sm_names.specs.Forced.{outcome}
 use Rattle.sm_names.specs.Handles.{names}
 use Rattle.sm_names.specs.Marks.{Mark}
 use Rattle.sm_names.specs.Pages.{places, pages_of}
-use Rattle.sm_names.specs.Sameness.{same_key}
 use Rattle.sm_names.specs.Timelines.{laid_out}
-use Rattle.sm_names.specs.Words.{first_some, when}
+use Rattle.sm_names.specs.Words.{first_some}
 use Rattle.sm_names.proofs.ListLaws.{map-In}
-use Rattle.sm_names.proofs.SamenessLaws.{either_way, same_key-true}
-use Rattle.sm_names.proofs.SizeLaws.{all_on}
 use Rattle.buffer_pool.specs.Holdings.{Holdings, with_buffers}
-use Rattle.node_table.specs.Table.{Table, node_at}
-use Rattle.alloc_event.specs.declared.change.Change.{Change}
-use Rattle.alloc_event.specs.declared.change.Effect.{Effect}
-use Rattle.alloc_event.specs.declared.entry.Entry.{Entry}
-use Rattle.alloc_event.specs.declared.node.Node.{Node}
 use Rattle.alloc_event.specs.declared.rooting.Verdict.{Verdict}
-use Rattle.alloc_event.specs.declared.units.Unit.{Unit}
-use Rattle.alloc_event.specs.Decisions.{Decision, Ends, IsPlacing, IsStep, Loses, Places, decided, early_failure, first_step, has_strong, mark_of, waiting, wanted_by}
-use Rattle.alloc_event.specs.Forest.{Collection, pages_in}
+use Rattle.alloc_event.specs.Decisions.{Decision, Ends, IsPlacing, IsStep, Loses, Places, decided, early_failure, first_step, mark_of, wanted_by}
+use Rattle.alloc_event.specs.Forest.{pages_in}
 use Rattle.alloc_event.specs.InPlace.{IsOpen}
-use Rattle.alloc_event.specs.Kept.{Shelf, nodes_with, written}
-use Rattle.alloc_event.specs.Nodes.{affected, after_allocation, given_buffers}
-use Rattle.alloc_event.specs.Questions.{demands_of, is_deserted_node, is_root_left, is_served}
-use Rattle.alloc_event.specs.Reserved.{reserved_count}
+use Rattle.alloc_event.specs.Kept.{written}
+use Rattle.alloc_event.specs.Nodes.{after_allocation, given_buffers}
+use Rattle.alloc_event.specs.Questions.{demands_of, is_served}
 use Rattle.alloc_event.specs.Rooting.{IsComing, IsVerdict, first_made, is_served_then, served_with, wants_of}
 use Rattle.alloc_event.specs.Scenes.{IsSound, by_page}
 use Rattle.alloc_event.specs.Settling.{made}

@@ -1,42 +1,24 @@
 -- The root's unit comes to its allocation by an effect, and all that follows is made: the forest then.
-use Rattle.std.proofs.Common.{◌≡◌, ℕ, ◌==◌, refl, ap, sym, ◌∙◌, subst, true, false, not, ◌&&◌, inl, inr, List, [], ◌∷◌, ◌++◌, map, get_or, set, Option, Some, None, option_map}
-use Rattle.std.proofs.lemmas.Bool.{eqb-true, not-true}
+use Rattle.alloc_event.proofs.Common.{◌≡◌, ℕ, ◌==◌, refl, ap, sym, ◌∙◌, subst, true, false, not, ◌&&◌, inl, inr, List, [], ◌∷◌, ◌++◌, map, get_or, set, Option, Some, None, option_map, eqb-true, not-true, find, list_any, sum_by, option_map_or, HeldBuffer, Interval, NodeKey, Demand, forced, In, and_left, and_right, Table, node_at, Change, Effect, Entry, Node, Unit, has_strong, waiting, Collection, with_nodes, IsStored, Shelf, collection_in, forest_of, nodes_with, place_in, put_shelf, shelf_of, shelves_of, affected, is_deserted_node, reserved_count, Handles, Settles, collection_or_new, put, standing}
 use Rattle.std.proofs.lemmas.List.{get_or-set_same}
-use Rattle.std.specs.List.{find, list_any, sum_by}
-use Rattle.std.specs.Option.{option_map_or}
-use Rattle.sm_names.specs.declared.keys.HeldBuffer.{HeldBuffer}
-use Rattle.sm_names.specs.declared.keys.Interval.{Interval}
-use Rattle.sm_names.specs.declared.keys.NodeKey.{NodeKey}
-use Rattle.sm_names.specs.Demands.{Demand}
-use Rattle.sm_names.specs.Forced.{forced}
 use Rattle.sm_names.specs.Marks.{Mark}
 use Rattle.sm_names.specs.Words.{sorted_by}
-use Rattle.sm_names.proofs.ListLaws.{In}
-use Rattle.sm_names.proofs.SamenessLaws.{and_left, and_right}
 use Rattle.buffer_pool.specs.Holdings.{Holdings}
-use Rattle.node_table.specs.Table.{Table, node_at}
-use Rattle.alloc_event.specs.declared.change.Change.{Change}
-use Rattle.alloc_event.specs.declared.change.Effect.{Effect}
-use Rattle.alloc_event.specs.declared.entry.Entry.{Entry}
-use Rattle.alloc_event.specs.declared.node.Node.{Node}
 use Rattle.alloc_event.specs.declared.rooting.Plan.{Plan}
 use Rattle.alloc_event.specs.declared.rooting.Verdict.{Verdict}
-use Rattle.alloc_event.specs.declared.units.Unit.{Unit}
 use Rattle.alloc_event.specs.Calm.{AreCountedBut, put_in}
 use Rattle.alloc_event.specs.Closing.{Closes, MayClose}
-use Rattle.alloc_event.specs.Decisions.{first_step, has_strong, mark_of, waiting, wanted_by}
-use Rattle.alloc_event.specs.Forest.{Collection, IsPoolOf, all_held, beside, pages_in, with_nodes}
+use Rattle.alloc_event.specs.Decisions.{first_step, mark_of, wanted_by}
+use Rattle.alloc_event.specs.Forest.{IsPoolOf, all_held, beside, pages_in}
 use Rattle.alloc_event.specs.InPlace.{IsOpen}
-use Rattle.alloc_event.specs.Kept.{Finishes, IsStored, Shelf, collection_in, forest_of, nodes_with, place_in, put_shelf, shelf_of, shelves_of}
-use Rattle.alloc_event.specs.Nodes.{affected, after_allocation}
+use Rattle.alloc_event.specs.Kept.{Finishes}
+use Rattle.alloc_event.specs.Nodes.{after_allocation}
 use Rattle.alloc_event.specs.Outcomes.{IsOutcomeIn, IsReady, IsSettledIn, changed_in}
 use Rattle.alloc_event.specs.Parted.{are_parted}
-use Rattle.alloc_event.specs.Questions.{is_deserted_node}
-use Rattle.alloc_event.specs.Reserved.{reserved_count}
 use Rattle.alloc_event.specs.Rooting.{IsComing, IsPlanned, IsReservedThen, IsRooted, IsVerdict, comes_first, first_made, shelf_then, wants_of}
 use Rattle.alloc_event.specs.Scenes.{by_page, pages_held}
 use Rattle.alloc_event.specs.Serving.{asked_with}
-use Rattle.alloc_event.specs.Settling.{Forces, Handles, Settles, changed, collection_or_new, is_there, made, no_key, put, standing}
+use Rattle.alloc_event.specs.Settling.{Forces, changed, is_there, made, no_key}
 use Rattle.alloc_event.specs.UnderWay.{IsAffected, IsBeside, IsUnderWay, Leads, are_held_but, holds_unit}
 use Rattle.alloc_event.proofs.calm.Forcing.{forced_made}
 use Rattle.alloc_event.proofs.changes.Done.{opens_at}

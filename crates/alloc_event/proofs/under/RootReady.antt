@@ -1,29 +1,11 @@
 -- By the counts an effect makes the root's unit ready exactly where its nodes tell so.
-use Rattle.std.proofs.Common.{◌≡◌, ℕ, zero, suc, ◌+◌, ◌==◌, nat_lt, refl, ap, sym, ◌∙◌, subst, Bool, true, false, not, ◌&&◌, ◌||◌, is_none, inl, inr, List, [], ◌∷◌, map, Option, Some, None, arith}
-use Rattle.std.proofs.lemmas.Bool.{lt-ltb, ne_eqb, not-true}
-use Rattle.std.specs.List.{find, list_all, list_any}
-use Rattle.std.specs.Option.{option_and_then, option_map_or}
-use Rattle.sm_names.specs.declared.keys.NodeKey.{NodeKey}
-use Rattle.sm_names.specs.Sameness.{same_key}
-use Rattle.sm_names.specs.Words.{times, when}
-use Rattle.sm_names.proofs.ListLaws.{In, In-map, In-map-back}
-use Rattle.sm_names.proofs.SamenessLaws.{and_both, and_left, and_right, both_ways, either_way, same_key-refl, same_key-true}
-use Rattle.sm_names.proofs.SizeLaws.{all_on}
-use Rattle.node_table.specs.Table.{Table, node_at}
-use Rattle.alloc_event.specs.declared.change.Change.{Change}
-use Rattle.alloc_event.specs.declared.change.Effect.{Effect}
-use Rattle.alloc_event.specs.declared.node.Node.{Node}
-use Rattle.alloc_event.specs.declared.units.Unit.{Unit}
-use Rattle.alloc_event.specs.Calm.{strong_count}
-use Rattle.alloc_event.specs.Counts.{HasUnit, decrement_if, hangs_in, heads_below, is_unready, lives_in, unit_at, unit_of, unit_then, waits_in}
-use Rattle.alloc_event.specs.Decisions.{has_strong, waiting}
+use Rattle.alloc_event.proofs.Common.{◌≡◌, ℕ, zero, suc, ◌+◌, ◌==◌, nat_lt, refl, ap, sym, ◌∙◌, subst, Bool, true, false, not, ◌&&◌, ◌||◌, is_none, inl, inr, List, [], ◌∷◌, map, Option, Some, None, arith, lt-ltb, not-true, find, list_all, list_any, option_and_then, option_map_or, NodeKey, same_key, times, when, In, In-map, In-map-back, and_both, and_left, and_right, both_ways, either_way, same_key-refl, same_key-true, all_on, Table, node_at, Change, Effect, Node, Unit, strong_count, lives_in, unit_at, waits_in, has_strong, waiting, Shelf, collection_in, nodes_with, affected, is_live_node, is_ready_node, is_root_left, is_head}
+use Rattle.std.proofs.lemmas.Bool.{ne_eqb}
+use Rattle.alloc_event.specs.Counts.{HasUnit, decrement_if, hangs_in, heads_below, is_unready, unit_of, unit_then}
 use Rattle.alloc_event.specs.InPlace.{IsOpen, bit}
-use Rattle.alloc_event.specs.Kept.{Shelf, collection_in, is_strong, nodes_with}
-use Rattle.alloc_event.specs.Nodes.{affected}
-use Rattle.alloc_event.specs.Questions.{is_live_node, is_ready_node, is_root_left}
+use Rattle.alloc_event.specs.Kept.{is_strong}
 use Rattle.alloc_event.specs.Rooting.{IsComing, comes_first, is_bare_root, is_held_ready}
 use Rattle.alloc_event.specs.UnderWay.{are_held_but, holds_unit, is_held}
-use Rattle.alloc_event.specs.Units.{is_head}
 use Rattle.alloc_event.proofs.calm.Calming.{count_none, count_some, none_calm}
 use Rattle.alloc_event.proofs.calm.Steps.{all-In}
 use Rattle.alloc_event.proofs.changes.Altering.{same_affected}

@@ -1,27 +1,16 @@
 -- The root of a collection: what its loss takes, and that it is lost where the buffers are abandoned.
-use Rattle.std.proofs.Common.{◌≡◌, refl, ap, sym, ◌∙◌, subst, Bool, true, false, not, ◌&&◌, inl, inr, List, [], ◌∷◌, reverse, Option, Some, None, is_none}
-use Rattle.std.proofs.lemmas.Bool.{not-true}
-use Rattle.std.specs.List.{find, list_any}
-use Rattle.std.specs.Option.{option_map, option_map_or, option_and_then}
-use Rattle.sm_names.specs.declared.keys.NodeKey.{NodeKey}
-use Rattle.sm_names.specs.declared.outcomes.Buffers.{Buffers}
-use Rattle.sm_names.specs.declared.outcomes.Cause.{Cause}
+use Rattle.alloc_event.proofs.Common.{◌≡◌, refl, ap, sym, ◌∙◌, subst, Bool, true, false, not, ◌&&◌, inl, inr, List, [], ◌∷◌, reverse, Option, Some, None, is_none, not-true, find, list_any, option_map_or, option_and_then, NodeKey, Buffers, Cause, same_key, when, In, In-map, and_left, and_right, either_way, or_left, or_right, Table, node_at, Node, has_strong, waiting, Collection, IsWhole, nodes_with, members_of, is_deserted_node, is_root_left}
+use Rattle.std.specs.Option.{option_map}
 use Rattle.sm_names.specs.declared.outcomes.Fault.{Fault}
 use Rattle.sm_names.specs.Changes.{blocks, highest}
 use Rattle.sm_names.specs.Losses.{top}
 use Rattle.sm_names.specs.Members.{Member, is_under}
-use Rattle.sm_names.specs.Sameness.{same_key}
-use Rattle.sm_names.specs.Words.{first_some, when}
-use Rattle.sm_names.proofs.ListLaws.{In, In-map, In-reverse, In-reverse-back}
-use Rattle.sm_names.proofs.SamenessLaws.{and_left, and_right, either_way, or_left, or_right}
-use Rattle.node_table.specs.Table.{Table, node_at}
-use Rattle.alloc_event.specs.declared.node.Node.{Node}
-use Rattle.alloc_event.specs.Decisions.{Decision, Ends, Loses, decided, first_step, has_strong, waiting}
+use Rattle.sm_names.specs.Words.{first_some}
+use Rattle.sm_names.proofs.ListLaws.{In-reverse, In-reverse-back}
+use Rattle.alloc_event.specs.Decisions.{Decision, Ends, Loses, decided, first_step}
 use Rattle.alloc_event.specs.Dropped.{has_given_root}
-use Rattle.alloc_event.specs.Forest.{Collection}
-use Rattle.alloc_event.specs.Kept.{IsWhole, nodes_with}
-use Rattle.alloc_event.specs.Nodes.{above_among, after_loss, is_taken, lost, member_of, members_of}
-use Rattle.alloc_event.specs.Questions.{is_below, is_deserted_node, is_root_left}
+use Rattle.alloc_event.specs.Nodes.{above_among, after_loss, is_taken, lost, member_of}
+use Rattle.alloc_event.specs.Questions.{is_below}
 use Rattle.alloc_event.proofs.calm.Calming.{later}
 use Rattle.alloc_event.proofs.calm.Steps.{found_by_key}
 use Rattle.alloc_event.proofs.failures.AllGone.{AreGone, all_hang, one_root}

@@ -1,28 +1,17 @@
 -- Steps that were made from a collection to which a change was made, joined to the whole event.
-use Rattle.std.proofs.Common.{◌≡◌, ℕ, zero, suc, ◌<◌, ◌==◌, length, arith, true, false, not, ◌&&◌, IsSome, refl, ap, sym, subst, ◌∙◌, List, [], ◌∷◌, ◌++◌, map, set, get_or, is_some, Option, Some, None, option_map}
-use Rattle.std.proofs.lemmas.Bool.{eqb-true, false≢true, not-true}
-use Rattle.std.specs.List.{find}
-use Rattle.std.specs.Option.{option_map_or, unwrap_or}
-use Rattle.sm_names.proofs.ListLaws.{In-find}
-use Rattle.sm_names.proofs.SamenessLaws.{and_left, and_right}
-use Rattle.sm_names.specs.declared.keys.HeldBuffer.{HeldBuffer}
-use Rattle.sm_names.specs.declared.keys.NodeKey.{NodeKey}
-use Rattle.sm_names.specs.declared.keys.Interval.{Interval}
+use Rattle.alloc_event.proofs.Common.{◌≡◌, ℕ, zero, suc, ◌<◌, ◌==◌, length, arith, true, false, not, ◌&&◌, refl, ap, sym, subst, ◌∙◌, List, [], ◌∷◌, ◌++◌, map, set, get_or, is_some, Option, Some, None, option_map, eqb-true, false≢true, not-true, find, option_map_or, In-find, and_left, and_right, HeldBuffer, NodeKey, Interval, Table, node_at, Change, Entry, Node, Unit, Collection, IsStored, Shelf, collection_in, forest_of, place_in, shelf_of, shelves_of, Handles, collection_or_new}
+use Rattle.std.proofs.Common.{IsSome}
+use Rattle.std.specs.Option.{unwrap_or}
 use Rattle.sm_names.specs.Words.{sorted_by}
 use Rattle.buffer_pool.specs.Holdings.{Holdings}
-use Rattle.node_table.specs.Table.{Row, Table, node_at, row_at}
-use Rattle.alloc_event.specs.declared.change.Change.{Change}
-use Rattle.alloc_event.specs.declared.entry.Entry.{Entry}
-use Rattle.alloc_event.specs.declared.node.Node.{Node}
-use Rattle.alloc_event.specs.declared.units.Unit.{Unit}
+use Rattle.node_table.specs.Table.{Row, row_at}
 use Rattle.alloc_event.specs.Calm.{AreCountedBut}
 use Rattle.alloc_event.specs.Closing.{Closes, MayClose}
-use Rattle.alloc_event.specs.Forest.{Collection, IsPoolOf, all_held, beside, node_at as forest_node}
+use Rattle.alloc_event.specs.Forest.{IsPoolOf, all_held, beside, node_at as forest_node}
 use Rattle.alloc_event.specs.Given.{IsServedByGiven}
-use Rattle.alloc_event.specs.Kept.{IsStored, Shelf, collection_in, forest_of, place_in, shelf_of, shelves_of}
 use Rattle.alloc_event.specs.Outcomes.{IsOutcomeIn, IsReady, IsSettledIn, changed_in}
 use Rattle.alloc_event.specs.Scenes.{given_few}
-use Rattle.alloc_event.specs.Settling.{Handles, changed, collection_or_new, is_birth, is_there as is_there_in, no_key}
+use Rattle.alloc_event.specs.Settling.{changed, is_birth, is_there as is_there_in, no_key}
 use Rattle.alloc_event.specs.UnderWay.{IsBeside, IsPlayedFrom, IsUnderWay, Leads}
 use Rattle.alloc_event.proofs.changes.Altering.{change_kept, found_whole}
 use Rattle.alloc_event.proofs.shelves.Counted.{counted_but}

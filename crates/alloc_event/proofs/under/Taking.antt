@@ -1,23 +1,13 @@
 -- A unit that comes to its turn, and what its nodes ask for: it is allocated where the buffers are enough, and refused where not.
-use Rattle.std.proofs.Common.{◌≡◌, ℕ, ◌+◌, ap, sym, ◌∙◌, true, false, List, [], ◌∷◌, Some, None}
-use Rattle.std.specs.List.{filter_map, sum_by}
-use Rattle.sm_names.specs.declared.keys.NodeKey.{NodeKey}
-use Rattle.sm_names.specs.declared.outcomes.Buffers.{Buffers}
-use Rattle.sm_names.specs.declared.outcomes.Cause.{Cause}
+use Rattle.alloc_event.proofs.Common.{◌≡◌, ℕ, ◌+◌, ap, sym, ◌∙◌, true, false, List, [], ◌∷◌, Some, None, sum_by, NodeKey, Buffers, Cause, Demand, Table, node_at, Entry, Node, Unit, Shelf, nodes_with, shelf_of, Handles}
+use Rattle.std.specs.List.{filter_map}
 use Rattle.sm_names.specs.declared.outcomes.Failure.{Failure}
-use Rattle.sm_names.specs.Demands.{Demand}
 use Rattle.sm_names.specs.Members.{greatest}
-use Rattle.node_table.specs.Table.{Table, node_at}
 use Rattle.alloc_event.specs.declared.asks.Asks.{Asks}
-use Rattle.alloc_event.specs.declared.entry.Entry.{Entry}
-use Rattle.alloc_event.specs.declared.node.Node.{Node}
 use Rattle.alloc_event.specs.declared.rounds.Turn.{Turn}
-use Rattle.alloc_event.specs.declared.units.Unit.{Unit}
 use Rattle.alloc_event.specs.Decisions.{late_failure}
-use Rattle.alloc_event.specs.Kept.{Shelf, nodes_with, shelf_of}
 use Rattle.alloc_event.specs.Refusing.{refusal}
 use Rattle.alloc_event.specs.Serving.{IsGivenAt, given_at}
-use Rattle.alloc_event.specs.Settling.{Handles}
 use Rattle.alloc_event.specs.TakingTurn.{IsUnitListed, asked_there, is_next_there}
 use Rattle.alloc_event.specs.UnderWay.{AreTurns, IsFelled, IsLed, IsUnderWay, is_abandoned_in, turn_heads, waits_among}
 use Rattle.alloc_event.proofs.serves.Giving.{same_given}

@@ -1,21 +1,13 @@
 -- The highest node that a failure takes stands first of what it takes, and its parent stays.
-use Rattle.std.proofs.Common.{◌≡◌, ◌==◌, refl, ap, sym, ◌∙◌, subst, Bool, true, false, ◌⊎◌, inl, inr, List, [], ◌∷◌, length, Option, Some, arith}
+use Rattle.alloc_event.proofs.Common.{◌≡◌, ◌==◌, refl, ap, sym, ◌∙◌, subst, Bool, true, false, ◌⊎◌, inl, inr, List, [], ◌∷◌, length, Option, Some, arith, find, list_any, option_map_or, NodeKey, same_key, In, both_ways, either_way, false_if, same_key-true, Table, parent_at, Node, is_left_of, IsStored, IsWhole, Shelf, collection_in, nodes_with}
 use Rattle.std.proofs.lemmas.Map.Views.{Contains-from_any, list_any-from_Contains}
-use Rattle.std.specs.List.{Contains, find, flat_map, list_any}
-use Rattle.std.specs.Option.{option_map_or}
-use Rattle.sm_names.specs.declared.keys.NodeKey.{NodeKey}
+use Rattle.std.specs.List.{Contains, flat_map}
 use Rattle.sm_names.specs.Losses.{Up}
-use Rattle.sm_names.specs.Sameness.{same_key}
-use Rattle.sm_names.proofs.ListLaws.{In}
-use Rattle.sm_names.proofs.SamenessLaws.{both_ways, either_way, false_if, same_key-true}
 use Rattle.node_table.specs.Forest.{IsForest}
-use Rattle.node_table.specs.Table.{Table, children_at, parent_at}
+use Rattle.node_table.specs.Table.{children_at}
 use Rattle.failure_domains.specs.Falls.{IsByLayers, blocked_at}
 use Rattle.failure_domains.proofs.Lists.{Contains-cases, flat_map_source}
-use Rattle.alloc_event.specs.declared.node.Node.{Node}
-use Rattle.alloc_event.specs.Decisions.{is_left_of}
 use Rattle.alloc_event.specs.Falling.{IsTaken}
-use Rattle.alloc_event.specs.Kept.{IsStored, IsWhole, Shelf, collection_in, nodes_with}
 use Rattle.alloc_event.specs.Questions.{is_below}
 use Rattle.alloc_event.specs.Ties.{IsTied, is_blocking}
 use Rattle.alloc_event.proofs.failures.Ties.{fall_line, highest_at, highest_left, key_equivalence}

@@ -1,27 +1,11 @@
 -- An attached unit that comes to its turn, of those that may: whether it is next, and that no other is before it.
-use Rattle.std.proofs.Common.{◌≡◌, ℕ, zero, suc, ◌<◌, ◌≤◌, refl, ap, sym, ◌∙◌, subst, Bool, true, false, not, ◌&&◌, ◌||◌, inl, inr, List, [], ◌∷◌, Option, Some, None, arith}
-use Rattle.std.proofs.lemmas.Bool.{eqb-true, not-true}
+use Rattle.alloc_event.proofs.Common.{◌≡◌, ℕ, zero, suc, ◌<◌, ◌≤◌, refl, ap, sym, ◌∙◌, subst, Bool, true, false, not, ◌&&◌, ◌||◌, inl, inr, List, [], ◌∷◌, Option, Some, None, arith, eqb-true, not-true, find, list_all, list_any, option_map_or, NodeKey, same_key, In, In-list_any, In-map, and_both, and_left, and_right, both_ways, either_way, false_if, or_cases, or_right, same_key-refl, same_key-true, some-injective, In-any, Table, node_at, Entry, Node, Unit, unit_at, is_left_of, waiting, IsWhole, Shelf, collection_in, nodes_with, shelf_of, is_of, is_next_node, is_ready_node, Handles}
 use Rattle.std.proofs.lemmas.Option.{slice_get-get_or}
-use Rattle.std.specs.List.{find, list_all, list_any, slice_get}
-use Rattle.std.specs.Option.{option_map_or}
-use Rattle.sm_names.specs.declared.keys.NodeKey.{NodeKey}
-use Rattle.sm_names.specs.Sameness.{same_key}
-use Rattle.sm_names.proofs.ListLaws.{In, In-list_any, In-map}
-use Rattle.sm_names.proofs.SamenessLaws.{and_both, and_left, and_right, both_ways, either_way, false_if, or_cases, or_right, same_key-refl, same_key-true, some-injective}
-use Rattle.sm_names.proofs.StandingLaws.{In-any}
-use Rattle.node_table.specs.Table.{Table, node_at}
-use Rattle.alloc_event.specs.declared.entry.Entry.{Entry}
-use Rattle.alloc_event.specs.declared.node.Node.{Node}
+use Rattle.std.specs.List.{slice_get}
 use Rattle.alloc_event.specs.declared.rounds.Turn.{Turn}
-use Rattle.alloc_event.specs.declared.units.Unit.{Unit}
-use Rattle.alloc_event.specs.Counts.{unit_at}
-use Rattle.alloc_event.specs.Decisions.{is_left_of, waiting}
 use Rattle.alloc_event.specs.Forgetting.{IsPlace}
-use Rattle.alloc_event.specs.Kept.{IsWhole, Shelf, collection_in, nodes_with, shelf_of}
-use Rattle.alloc_event.specs.Nodes.{is_of}
-use Rattle.alloc_event.specs.Questions.{is_allocated_node, is_next_node, is_ready_node}
+use Rattle.alloc_event.specs.Questions.{is_allocated_node}
 use Rattle.alloc_event.specs.Serving.{has_turn_at, is_waiting_head}
-use Rattle.alloc_event.specs.Settling.{Handles}
 use Rattle.alloc_event.specs.TakingTurn.{is_next_there}
 use Rattle.alloc_event.specs.UnderWay.{AreClosed, AreTurns, IsLed, IsUnderWay, hangs_in_some, is_next_but, turn_heads, waits_among}
 use Rattle.alloc_event.proofs.serves.Before.{IsBareHead, IsDueHead, at_key, due_bare, due_head, whole_before}

@@ -1,29 +1,17 @@
 -- What is lost or ends with a node is gone, and the collection is still under way.
-use Rattle.std.proofs.Common.{◌≡◌, ◌==◌, refl, ap, sym, ◌∙◌, subst, Bool, true, false, not, ◌&&◌, ◌||◌, ◌⊎◌, inl, inr, is_none, List, map, reverse, Option, Some, None, option_map}
-use Rattle.std.proofs.lemmas.Bool.{not-true}
-use Rattle.std.specs.List.{list_all, list_any}
-use Rattle.std.specs.Option.{option_map_or}
-use Rattle.sm_names.specs.declared.keys.NodeKey.{NodeKey}
+use Rattle.alloc_event.proofs.Common.{◌≡◌, ◌==◌, refl, ap, sym, ◌∙◌, subst, Bool, true, false, not, ◌&&◌, ◌||◌, ◌⊎◌, inl, inr, is_none, List, map, reverse, Option, Some, None, option_map, not-true, list_all, list_any, option_map_or, NodeKey, same_key, In, In-list_any, In-map, In-map-back, and_both, and_left, and_right, both_ways, either_way, false_if, or_cases, or_left, or_right, same_key-refl, In-any, Table, node_at, parent_at, Entry, Node, Unit, is_left_of, IsWhole, Shelf, collection_in, is_filed, nodes_with, shelf_of, is_of, are_rooted, is_head}
 use Rattle.sm_names.specs.declared.outcomes.Fault.{Fault}
-use Rattle.sm_names.specs.Sameness.{same_key}
-use Rattle.sm_names.proofs.ListLaws.{In, In-list_any, In-map, In-map-back, map-In}
-use Rattle.sm_names.proofs.SamenessLaws.{and_both, and_left, and_right, both_ways, either_way, false_if, none_or_some, or_cases, or_left, or_none_right, or_right, same_key-refl}
-use Rattle.sm_names.proofs.StandingLaws.{In-any}
-use Rattle.node_table.specs.Table.{Table, node_at, parent_at}
-use Rattle.alloc_event.specs.declared.entry.Entry.{Entry}
+use Rattle.sm_names.proofs.ListLaws.{map-In}
+use Rattle.sm_names.proofs.SamenessLaws.{none_or_some, or_none_right}
 use Rattle.alloc_event.specs.declared.falling.Going.{Going}
-use Rattle.alloc_event.specs.declared.node.Node.{Node}
-use Rattle.alloc_event.specs.declared.units.Unit.{Unit}
 use Rattle.alloc_event.specs.Counts.{head_of}
-use Rattle.alloc_event.specs.Decisions.{is_left_of}
 use Rattle.alloc_event.specs.Falling.{gone_by}
 use Rattle.alloc_event.specs.GoingDown.{IsGoneSo, head_over}
-use Rattle.alloc_event.specs.Kept.{IsWhole, Shelf, all_of, collection_in, is_filed, nodes_with, shelf_of}
-use Rattle.alloc_event.specs.Nodes.{after_end, after_loss, ended, is_of, lost}
+use Rattle.alloc_event.specs.Kept.{all_of}
+use Rattle.alloc_event.specs.Nodes.{after_end, after_loss, ended, lost}
 use Rattle.alloc_event.specs.Questions.{is_below, is_served}
-use Rattle.alloc_event.specs.Ties.{IsFall, are_rooted, is_blocking}
+use Rattle.alloc_event.specs.Ties.{IsFall, is_blocking}
 use Rattle.alloc_event.specs.UnderWay.{IsBeside, IsUnderWay, IsWent, and_loose, are_held_but, gone_down, is_head_left, is_next_but, waits_among}
-use Rattle.alloc_event.specs.Units.{is_head}
 use Rattle.alloc_event.proofs.changes.Altering.{found_filed, looked-of}
 use Rattle.alloc_event.proofs.calm.Steps.{all-In}
 use Rattle.alloc_event.proofs.failures.AllGone.{AreGone}

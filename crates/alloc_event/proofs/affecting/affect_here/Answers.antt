@@ -1,19 +1,10 @@
 -- The node is written, and its unit counted.
-use Rattle.std.proofs.Common.{◌≡◌, ◌+◌, ◌<◌, ℕ, false, length, List, map, Some, refl, sym, ap, subst, ◌∙◌}
-use Rattle.sm_names.specs.declared.keys.NodeKey.{NodeKey}
-use Rattle.sm_names.specs.Words.{times}
+use Rattle.alloc_event.proofs.Common.{◌≡◌, ◌+◌, ◌<◌, ℕ, false, length, List, map, Some, refl, sym, ap, subst, ◌∙◌, NodeKey, times, node_at, Entry, Node, Unit, strong_count, lives_in, unit_at, waits_in, nodes_with, shelf_of, affected, is_live_node, reserved_count}
 use Rattle.node_table.specs.Changes.{Writes}
 use Rattle.node_table.specs.Lending.{table_with_node}
-use Rattle.node_table.specs.Table.{node_at}
-use Rattle.alloc_event.specs.declared.entry.Entry.{Entry}
-use Rattle.alloc_event.specs.declared.node.Node.{Node}
-use Rattle.alloc_event.specs.declared.units.Unit.{Unit}
-use Rattle.alloc_event.specs.Calm.{strong_count}
-use Rattle.alloc_event.specs.Counts.{is_unready, lives_in, unit_at, unit_then, waits_in}
-use Rattle.alloc_event.specs.Kept.{is_strong, nodes_with, shelf_of}
-use Rattle.alloc_event.specs.Nodes.{affected}
-use Rattle.alloc_event.specs.Questions.{is_live_node}
-use Rattle.alloc_event.specs.Reserved.{camped, reserved_count}
+use Rattle.alloc_event.specs.Counts.{is_unready, unit_then}
+use Rattle.alloc_event.specs.Kept.{is_strong}
+use Rattle.alloc_event.specs.Reserved.{camped}
 use Rattle.alloc_event.specs.UnderWay.{Affects}
 use Rattle.alloc_event.proofs.changes.Altering.{same_affected}
 use Rattle.alloc_event.proofs.changes.Effecting.{decremented, less_is, live_before, live_is, strong_before, strong_is, unready_before, unready_is}

@@ -1,7 +1,6 @@
 -- The node is stored under the key, and then knows it.
-use Rattle.std.proofs.Common.{◌≡◌, Some, option_map, refl, ap}
-use Rattle.node_table.specs.Table.{Row, node_at}
-use Rattle.alloc_event.specs.declared.node.Node.{Node}
+use Rattle.alloc_event.proofs.Common.{◌≡◌, Some, option_map, refl, ap, node_at, Node}
+use Rattle.node_table.specs.Table.{Row}
 use Rattle.alloc_event.specs.Kept.{named}
 use Rattle.alloc_event.proofs.newborns.Bearing.{bears_node}
 use Rattle.alloc_event.proofs.bearing.bear.Goals as goal

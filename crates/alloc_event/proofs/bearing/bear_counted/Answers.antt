@@ -1,7 +1,5 @@
 -- The node is born, and counted for its unit.
-use Rattle.std.proofs.Common.{ℕ, ◌<◌, length, ap, sym, subst, ◌∙◌}
-use Rattle.sm_names.specs.declared.keys.NodeKey.{NodeKey}
-use Rattle.alloc_event.specs.Kept.{shelves_of}
+use Rattle.alloc_event.proofs.Common.{ℕ, ◌<◌, length, ap, sym, subst, ◌∙◌, NodeKey, shelves_of}
 use Rattle.alloc_event.proofs.newborns.Bearing.{born_key}
 use Rattle.alloc_event.proofs.newborns.Units.{newborn_units}
 use Rattle.alloc_event.proofs.newborns.Newborn.{above_is}

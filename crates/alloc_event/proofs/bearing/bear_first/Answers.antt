@@ -1,8 +1,7 @@
 -- The entry of the new collection has the key alone.
-use Rattle.std.proofs.Common.{◌≡◌, refl, rules, true, None, [], ◌∷◌, ap, ◌∙◌}
-use Rattle.alloc_event.specs.declared.entry.Entry.{Entry}
+use Rattle.alloc_event.proofs.Common.{◌≡◌, refl, true, None, [], ◌∷◌, ap, ◌∙◌, Entry, shelf_of}
+use Rattle.std.proofs.Common.{rules}
 use Rattle.alloc_event.specs.Calm.{put_in}
-use Rattle.alloc_event.specs.Kept.{shelf_of}
 use Rattle.alloc_event.specs.Still.{no_shelf, shelf_with}
 use Rattle.alloc_event.proofs.bearing.bear_first.Goals as goal
 

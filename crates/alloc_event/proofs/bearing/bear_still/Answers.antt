@@ -1,13 +1,8 @@
 -- The node is born among those of its collection, or is its first.
-use Rattle.std.proofs.Common.{◌≡◌, ℕ, ◌==◌, Bool, List, Option, Some, None, option_map, IfSome, IsSome, sym, ◌∙◌, ap, subst, arith}
-use Rattle.std.specs.List.{find}
-use Rattle.std.specs.Option.{option_and_then}
-use Rattle.sm_names.specs.declared.keys.NodeKey.{NodeKey}
-use Rattle.node_table.specs.Table.{Table, node_at, row_at}
-use Rattle.alloc_event.specs.declared.change.Change.{Change}
-use Rattle.alloc_event.specs.declared.entry.Entry.{Entry}
-use Rattle.alloc_event.specs.declared.node.Node.{Node}
-use Rattle.alloc_event.specs.Kept.{IsStored, Shelf, born, forest_of, place_in, shelf_of, shelves_of}
+use Rattle.alloc_event.proofs.Common.{◌≡◌, ℕ, ◌==◌, Bool, List, Option, Some, None, option_map, sym, ◌∙◌, ap, subst, arith, find, option_and_then, NodeKey, Table, node_at, Change, Entry, Node, IsStored, Shelf, forest_of, place_in, shelf_of, shelves_of}
+use Rattle.std.proofs.Common.{IfSome, IsSome}
+use Rattle.node_table.specs.Table.{row_at}
+use Rattle.alloc_event.specs.Kept.{born}
 use Rattle.alloc_event.specs.Settling.{MayChange, no_key}
 use Rattle.alloc_event.proofs.newborns.Bearing.{born_parent, born_weak, named_bears}
 use Rattle.alloc_event.proofs.newborns.Entries.{among_counted, among_shelves, by_two, first_counted, first_shelves, on_three, on_two, refused_counted, refused_shelves, refused_two}

@@ -1,5 +1,6 @@
 -- The collection was given few buffers.
-use Rattle.std.proofs.Common.{sym, ◌∙◌, ap, option_copied}
+use Rattle.alloc_event.proofs.Common.{sym, ◌∙◌, ap}
+use Rattle.std.proofs.Common.{option_copied}
 use Rattle.alloc_event.proofs.calm.Resting.{few_found}
 use Rattle.alloc_event.proofs.changing.is_watched.Goals as goal
 

@@ -1,9 +1,7 @@
 -- Where a strong node is live the node is born in its place; else the collection is worked on.
-use Rattle.std.proofs.Common.{map, List, Result, Ok, Err, IfOk, sym, ◌∙◌, ap}
-use Rattle.sm_names.specs.declared.keys.HeldBuffer.{HeldBuffer}
+use Rattle.alloc_event.proofs.Common.{map, List, sym, ◌∙◌, ap, HeldBuffer, total, shelves_of}
+use Rattle.std.proofs.Common.{Result, Ok, Err, IfOk}
 use Rattle.sm_names.specs.Words.{sorted_by}
-use Rattle.buffer_holds.specs.Counts.{total}
-use Rattle.alloc_event.specs.Kept.{shelves_of}
 use Rattle.alloc_event.proofs.lists.SameIntervals.{start_of}
 use Rattle.alloc_event.proofs.newborns.Entries.{on_two}
 use Rattle.alloc_event.proofs.newborns.Newborn.{above_is}

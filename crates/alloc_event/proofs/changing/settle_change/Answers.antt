@@ -1,5 +1,5 @@
 -- Where nothing was done at once, the steps begin as it did.
-use Rattle.std.proofs.Common.{refl}
+use Rattle.alloc_event.proofs.Common.{refl}
 use Rattle.alloc_event.proofs.Outcomes.{made_in_pool, later_in, still_ready}
 use Rattle.alloc_event.proofs.changing.settle_change.Goals as goal
 

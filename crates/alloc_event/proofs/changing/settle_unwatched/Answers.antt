@@ -1,10 +1,6 @@
 -- The node is born, and what is left to be done then is done.
-use Rattle.std.proofs.Common.{◌≡◌, ℕ, Some}
-use Rattle.std.specs.Option.{option_and_then}
-use Rattle.buffer_holds.specs.Counts.{total}
-use Rattle.node_table.specs.Table.{node_at}
+use Rattle.alloc_event.proofs.Common.{◌≡◌, ℕ, Some, option_and_then, total, node_at, place_in, shelves_of}
 use Rattle.alloc_event.specs.Closing.{Closes}
-use Rattle.alloc_event.specs.Kept.{place_in, shelves_of}
 use Rattle.alloc_event.proofs.newborns.Newborn.{Above, above_is}
 use Rattle.alloc_event.proofs.under.Births.{calm_close, child_there, finishes_born, given_born_all, given_closed, gives_born, kept_born, pool_born}
 use Rattle.alloc_event.proofs.changing.settle_unwatched.Goals as goal

@@ -1,10 +1,7 @@
 -- What is left to be done is done at the place of the collection.
-use Rattle.std.proofs.Common.{◌≡◌, [], refl, arith, set}
-use Rattle.buffer_holds.specs.Counts.{total}
-use Rattle.alloc_event.specs.declared.entry.Entry.{Entry}
+use Rattle.alloc_event.proofs.Common.{◌≡◌, [], refl, arith, set, total, Entry, forest_of, shelves_of}
 use Rattle.alloc_event.specs.Closing.{IsClosed}
 use Rattle.alloc_event.specs.Forest.{beside}
-use Rattle.alloc_event.specs.Kept.{forest_of, shelves_of}
 use Rattle.alloc_event.proofs.shelves.Entries.{place_is}
 use Rattle.alloc_event.proofs.under.Closing.{closes_strong, closes_weak, out_is, pages_mid, under_is}
 use Rattle.alloc_event.proofs.under.Ready.{whole_under}

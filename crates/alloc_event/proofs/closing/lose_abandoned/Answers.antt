@@ -1,9 +1,5 @@
 -- Where the buffers are abandoned the root is lost, and else nothing is forced.
-use Rattle.std.proofs.Common.{◌≡◌, ◌∙◌, ◌&&◌, ◌==◌, not, sym, subst, inl, inr, [], List}
-use Rattle.std.proofs.lemmas.Bool.{eq-eqb}
-use Rattle.sm_names.specs.declared.keys.NodeKey.{NodeKey}
-use Rattle.sm_names.proofs.SamenessLaws.{and_both, and_right, both_ways}
-use Rattle.buffer_holds.specs.Counts.{total}
+use Rattle.alloc_event.proofs.Common.{◌≡◌, ◌∙◌, ◌&&◌, ◌==◌, not, sym, subst, inl, inr, [], List, eq-eqb, NodeKey, and_both, and_right, both_ways, total}
 use Rattle.alloc_event.specs.Dropped.{has_given_root}
 use Rattle.alloc_event.specs.Scenes.{is_held_strongly}
 use Rattle.alloc_event.specs.UnderWay.{IsUnderWay}

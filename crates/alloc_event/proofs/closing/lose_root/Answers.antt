@@ -1,6 +1,6 @@
 -- The first node is the root, which is lost with all that is left.
-use Rattle.std.proofs.Common.{◌≡◌, ◌∙◌, sym, ap, [], List, Some, slice_get}
-use Rattle.sm_names.specs.declared.keys.NodeKey.{NodeKey}
+use Rattle.alloc_event.proofs.Common.{◌≡◌, ◌∙◌, sym, ap, [], List, Some, NodeKey}
+use Rattle.std.proofs.Common.{slice_get}
 use Rattle.alloc_event.proofs.under.Closing.{closed_lost, may_go}
 use Rattle.alloc_event.proofs.closing.lose_root.Goals as goal
 

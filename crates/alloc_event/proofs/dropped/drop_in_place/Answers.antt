@@ -1,13 +1,8 @@
 -- The buffer of the collection goes home, and nothing is forced in it.
-use Rattle.std.proofs.Common.{◌≡◌, ◌∙◌, ◌&&◌, ◌⊎◌, ◌++◌, ℕ, List, nat_lt, not, true, false, None, Some, inl, inr, refl, sym, ap, arith}
-use Rattle.std.proofs.lemmas.Bool.{lt-ltb}
-use Rattle.std.specs.List.{filter}
-use Rattle.buffer_holds.specs.Counts.{total}
-use Rattle.alloc_event.specs.declared.entry.Entry.{Entry}
+use Rattle.alloc_event.proofs.Common.{◌≡◌, ◌∙◌, ◌&&◌, ◌⊎◌, ◌++◌, ℕ, List, nat_lt, not, true, false, None, Some, inl, inr, refl, sym, ap, arith, lt-ltb, filter, total, Entry, forest_of, nodes_with, place_in, shelves_of}
 use Rattle.alloc_event.specs.Decisions.{decided}
 use Rattle.alloc_event.specs.Dropped.{are_rest_out, has_given_root}
 use Rattle.alloc_event.specs.Forest.{beside}
-use Rattle.alloc_event.specs.Kept.{forest_of, nodes_with, place_in, shelves_of}
 use Rattle.alloc_event.specs.Scenes.{by_page, is_held_strongly, is_out, pages_held}
 use Rattle.alloc_event.proofs.changes.Dropped.{IsReturned, decides_none, few_at, finishes_so, one_entry, pool_at, pool_so, rest_at, stored_so, units_so}
 use Rattle.alloc_event.proofs.shelves.Entries.{place_is}

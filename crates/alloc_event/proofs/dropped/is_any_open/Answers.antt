@@ -1,8 +1,8 @@
-use Rattle.std.proofs.Common.{ℕ, ◌≡◌, ◌+◌, ◌-◌, ◌<◌, ◌∙◌, ◌||◌, sym, ap, Bool, false, map, nat_lt, arith}
-use Rattle.std.specs.List.{list_any, range_with_len}
+use Rattle.alloc_event.proofs.Common.{ℕ, ◌≡◌, ◌+◌, ◌<◌, ◌∙◌, ◌||◌, sym, ap, Bool, false, map, nat_lt, arith, list_any, total}
+use Rattle.std.proofs.Common.{◌-◌}
+use Rattle.std.specs.List.{range_with_len}
 use Rattle.sm_names.specs.declared.keys.BufferName.{BufferName}
 use Rattle.sm_names.specs.declared.keys.Strength.{Strength}
-use Rattle.buffer_holds.specs.Counts.{total}
 use Rattle.alloc_event.proofs.lists.Ranges.{any_from}
 use Rattle.alloc_event.proofs.dropped.is_any_open.Goals as goal
 

@@ -1,9 +1,9 @@
-use Rattle.std.proofs.Common.{◌≡◌, ◌-◌, map, nat_lt}
-use Rattle.std.specs.List.{list_any, range_with_len}
+use Rattle.alloc_event.proofs.Common.{◌≡◌, map, nat_lt, list_any, total}
+use Rattle.std.proofs.Common.{◌-◌}
+use Rattle.std.specs.List.{range_with_len}
 use Rattle.sm_names.specs.declared.keys.BufferName.{BufferName}
 use Rattle.sm_names.specs.declared.keys.Strength.{Strength}
 use Rattle.sm_names.specs.Handles.{names}
-use Rattle.buffer_holds.specs.Counts.{total}
 use Rattle.alloc_event.specs.Scenes.{name_of}
 use Rattle.alloc_event.proofs.dropped.is_any_open.Given as goal
 

@@ -1,8 +1,7 @@
 -- Where the buffer is not home, none is.
-use Rattle.std.proofs.Common.{◌≡◌, ◌∙◌, false, sym}
+use Rattle.alloc_event.proofs.Common.{◌≡◌, ◌∙◌, false, sym, total}
 use Rattle.sm_names.specs.declared.keys.Strength.{Strength}
 use Rattle.sm_names.specs.Handles.{is_home}
-use Rattle.buffer_holds.specs.Counts.{total}
 use Rattle.alloc_event.proofs.changes.Dropped.{none_goes, strong_keeps}
 use Rattle.alloc_event.proofs.dropped.return_home.Goals.{else-not-strong_live-via-then-not-strong_live+else-home, else-not-strong_live-via-else-not-strong_live}
 use Rattle.alloc_event.proofs.dropped.return_home.Goals as goal

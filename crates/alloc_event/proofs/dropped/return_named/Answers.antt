@@ -1,15 +1,11 @@
 -- The buffer goes from the list, and its pages from the pool.
-use Rattle.std.proofs.Common.{◌≡◌, ◌<◌, ◌+◌, ◌∙◌, ◌∷◌, ◌++◌, ◌||◌, sym, ap, subst, not, false, List, length, take, drop, get_or, arith}
-use Rattle.std.specs.List.{filter}
+use Rattle.alloc_event.proofs.Common.{◌≡◌, ◌<◌, ◌+◌, ◌∙◌, ◌∷◌, ◌++◌, ◌||◌, sym, ap, subst, not, false, List, length, take, drop, get_or, arith, filter, Interval, total, HeldBuffer}
 use Rattle.sm_names.specs.declared.keys.BufferName.{BufferName}
-use Rattle.sm_names.specs.declared.keys.Interval.{Interval}
 use Rattle.sm_names.specs.declared.keys.Strength.{Strength}
 use Rattle.sm_names.specs.Handles.{is_home}
 use Rattle.sm_names.specs.Sameness.{same_buffer}
 use Rattle.sm_names.proofs.HandleLaws.{same_buffer-true}
-use Rattle.buffer_holds.specs.Counts.{total}
 use Rattle.buffer_pool.specs.Holdings.{Holdings}
-use Rattle.sm_names.specs.declared.keys.HeldBuffer.{HeldBuffer}
 use Rattle.alloc_event.specs.Scenes.{by_page, is_out, pages_held}
 use Rattle.alloc_event.proofs.intervals.Returned.{holds_one, one_returned}
 use Rattle.alloc_event.proofs.lists.Removed.{all_removed, around, filter_removed, left_around, take_removed}

@@ -1,7 +1,5 @@
-use Rattle.std.proofs.Common.{◌≡◌, ◌≤◌, ◌-◌, ◌++◌, false, true, List, length, take}
-use Rattle.std.specs.List.{filter}
-use Rattle.sm_names.specs.declared.keys.Interval.{Interval}
-use Rattle.buffer_holds.specs.Counts.{total}
+use Rattle.alloc_event.proofs.Common.{◌≡◌, ◌≤◌, ◌++◌, false, true, List, length, take, filter, Interval, total}
+use Rattle.std.proofs.Common.{◌-◌}
 use Rattle.buffer_pool.specs.Holdings.{IsSound}
 use Rattle.alloc_event.specs.Dropped.{are_rest_out}
 use Rattle.alloc_event.specs.Scenes.{by_page, is_out, pages_held}

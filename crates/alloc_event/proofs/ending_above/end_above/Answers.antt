@@ -1,9 +1,8 @@
 -- Nothing changes where something holds the unit; else the highest that nothing holds but the one below ends, as it is forced to.
-use Rattle.std.proofs.Common.{◌≡◌, [], ◌∷◌, List, true, false, inl, inr, refl, ap, sym, ◌∙◌}
+use Rattle.alloc_event.proofs.Common.{◌≡◌, [], ◌∷◌, List, true, false, inl, inr, refl, ap, sym, ◌∙◌, Unit, unit_at}
 use Rattle.node_table.specs.Table.{table_len}
-use Rattle.alloc_event.specs.declared.units.Unit.{Unit}
 use Rattle.alloc_event.specs.Climbing.{climbed}
-use Rattle.alloc_event.specs.Counts.{is_held_by, unit_at}
+use Rattle.alloc_event.specs.Counts.{is_held_by}
 use Rattle.alloc_event.proofs.under.EndAbove.{ended_led, held_led, may_end}
 use Rattle.alloc_event.proofs.ending_above.end_above.Goals as goal
 

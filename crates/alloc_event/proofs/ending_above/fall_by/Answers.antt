@@ -1,6 +1,5 @@
 -- What fell is gone, and what nothing holds then ended.
-use Rattle.std.proofs.Common.{◌≡◌, refl, sym, ◌∙◌, subst, true}
-use Rattle.alloc_event.specs.Kept.{Shelf, nodes_with}
+use Rattle.alloc_event.proofs.Common.{◌≡◌, refl, sym, ◌∙◌, subst, true, Shelf, nodes_with}
 use Rattle.alloc_event.specs.UnderWay.{is_head_left}
 use Rattle.alloc_event.proofs.under.Felled.{felled_alone, felled_on, head_row, lent_there}
 use Rattle.alloc_event.proofs.ending_above.fall_by.Goals as goal

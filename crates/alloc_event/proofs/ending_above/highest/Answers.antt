@@ -1,5 +1,5 @@
 -- The climb ends where it would with as many steps as there are nodes.
-use Rattle.std.proofs.Common.{sym, ◌∙◌, inl, inr, arith}
+use Rattle.alloc_event.proofs.Common.{sym, ◌∙◌, inl, inr, arith}
 use Rattle.node_table.specs.Table.{table_len}
 use Rattle.alloc_event.proofs.under.Climbs.{all_made, one_more}
 use Rattle.alloc_event.proofs.ending_above.highest.Goals as goal

@@ -1,4 +1,5 @@
-use Rattle.std.proofs.Common.{◌≡◌, ◌+◌, ℕ, IsSome}
+use Rattle.alloc_event.proofs.Common.{◌≡◌, ◌+◌, ℕ}
+use Rattle.std.proofs.Common.{IsSome}
 use Rattle.node_table.specs.Table.{row_at}
 use Rattle.alloc_event.specs.Climbing.{climbed}
 use Rattle.alloc_event.proofs.ending_above.highest.Given as goal

@@ -1,5 +1,5 @@
 -- The ids rise, so all smaller ones stand before the last.
-use Rattle.std.proofs.Common.{arith}
+use Rattle.alloc_event.proofs.Common.{arith}
 use Rattle.alloc_event.proofs.shelves.Entries.{before_equal, before_greater}
 use Rattle.alloc_event.proofs.entry.before_last.Goals as goal
 

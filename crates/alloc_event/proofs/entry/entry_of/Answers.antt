@@ -1,5 +1,6 @@
 -- The entry is the one at its place.
-use Rattle.std.proofs.Common.{◌≡◌, sym, ◌∙◌, arith, option_copied}
+use Rattle.alloc_event.proofs.Common.{◌≡◌, sym, ◌∙◌, arith}
+use Rattle.std.proofs.Common.{option_copied}
 use Rattle.std.specs.List.{slice_get}
 use Rattle.std.proofs.lemmas.Grind.{common_steps}
 use Rattle.std.proofs.lemmas.Option.{gets}

@@ -1,5 +1,5 @@
 -- The ids rise, so the collection stands behind all smaller ones.
-use Rattle.std.proofs.Common.{arith}
+use Rattle.alloc_event.proofs.Common.{arith}
 use Rattle.alloc_event.proofs.shelves.Entries.{before_equal}
 use Rattle.alloc_event.proofs.entry.guessed.Goals as goal
 

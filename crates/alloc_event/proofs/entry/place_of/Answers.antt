@@ -1,5 +1,5 @@
 -- The entry with the id can only stand behind all smaller ones.
-use Rattle.std.proofs.Common.{sym, arith}
+use Rattle.alloc_event.proofs.Common.{sym, arith}
 use Rattle.std.proofs.lemmas.List.{get_or_default}
 use Rattle.alloc_event.proofs.shelves.Entries.{place_found, place_none}
 use Rattle.alloc_event.proofs.entry.place_of.Goals.{else-at-entries-via-then-at-entries+else-entries-at, else-at-entries-via-else-at-entries}

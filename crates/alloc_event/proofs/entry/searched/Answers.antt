@@ -1,7 +1,7 @@
 -- The test of ids is partitioned, since the ids rise.
+use Rattle.alloc_event.proofs.Common.{nat_lt, Entry}
 use Rattle.std.proofs.lemmas.List.Sorted.{IsPartitionedBy-ltb, IsPartitionPoint-from_clause}
-use Rattle.std.proofs.Common.{rules, nat_lt}
-use Rattle.alloc_event.specs.declared.entry.Entry.{Entry}
+use Rattle.std.proofs.Common.{rules}
 use Rattle.alloc_event.proofs.shelves.Entries.{rises, prefix_len-partition}
 use Rattle.alloc_event.proofs.entry.searched.Goals as goal
 

@@ -1,5 +1,5 @@
 -- A key that is not found by the search is not there.
-use Rattle.std.proofs.Common.{sym, ◌∙◌}
+use Rattle.alloc_event.proofs.Common.{sym, ◌∙◌}
 use Rattle.alloc_event.proofs.lists.ByKey.{found}
 use Rattle.alloc_event.proofs.following.is_among.Goals as goal
 

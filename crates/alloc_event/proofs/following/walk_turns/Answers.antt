@@ -1,12 +1,11 @@
 -- No key stands twice, so there are no more than there are nodes.
-use Rattle.std.proofs.Common.{Result, Ok, Err, OnOk, IsOk, IsSome, get_or}
+use Rattle.alloc_event.proofs.Common.{get_or, NodeKey, Table, parent_at, Node}
+use Rattle.std.proofs.Common.{Result, Ok, Err, OnOk, IsOk, IsSome}
 use Rattle.std.proofs.lemmas.List.Elements.{Contains-get_or}
-use Rattle.sm_names.specs.declared.keys.NodeKey.{NodeKey}
-use Rattle.node_table.specs.Table.{Table, parent_at, row_at}
+use Rattle.node_table.specs.Table.{row_at}
 use Rattle.node_table.proofs.Depths.{there-above}
 use Rattle.failure_domains.specs.Falls.{Below, Top, Within, stopped_at}
 use Rattle.failure_domains.proofs.Rooms.{keys_fit}
-use Rattle.alloc_event.specs.declared.node.Node.{Node}
 use Rattle.alloc_event.specs.Serving.{is_outside}
 use Rattle.alloc_event.proofs.following.walk_turns.Goals as goal
 

@@ -1,4 +1,4 @@
-use Rattle.std.proofs.Common.{length}
+use Rattle.alloc_event.proofs.Common.{length}
 use Rattle.node_table.specs.Table.{children_at}
 use Rattle.alloc_event.proofs.tables.TakingOut.{CutsOff}
 use Rattle.alloc_event.proofs.forgetting.cut_children.Given as goal

@@ -1,8 +1,6 @@
 -- The entry at the place of the id goes, if it has no key and no buffer.
-use Rattle.std.proofs.Common.{◌≡◌, true, false, get_or, Some, None, sym, ◌∙◌, ap, arith}
-use Rattle.alloc_event.specs.declared.entry.Entry.{Entry}
+use Rattle.alloc_event.proofs.Common.{◌≡◌, true, false, get_or, Some, None, sym, ◌∙◌, ap, arith, Entry, place_in, shelf_of, shelves_of}
 use Rattle.alloc_event.specs.Forgetting.{is_bare}
-use Rattle.alloc_event.specs.Kept.{place_in, shelf_of, shelves_of}
 use Rattle.alloc_event.proofs.shelves.Counted.{counted_removed}
 use Rattle.alloc_event.proofs.shelves.Dropping.{bare_none, keep_bare, remove_bare}
 use Rattle.alloc_event.proofs.shelves.Entries.{place_is}

@@ -1,6 +1,5 @@
 -- What stands at the place is the key, which stands once.
-use Rattle.std.proofs.Common.{sym, ◌∙◌, subst, List}
-use Rattle.sm_names.specs.declared.keys.NodeKey.{NodeKey}
+use Rattle.alloc_event.proofs.Common.{sym, ◌∙◌, subst, List, NodeKey}
 use Rattle.alloc_event.specs.Forgetting.{IsPlace}
 use Rattle.alloc_event.proofs.leaving.Places.{without_at}
 use Rattle.alloc_event.proofs.forgetting.drop_key.Goals as goal

@@ -1,9 +1,7 @@
 -- One key more is looked at, and dropped or not.
-use Rattle.std.proofs.Common.{◌≡◌, ◌∷◌, [], List, not, sym, ◌∙◌, ap, rules}
+use Rattle.alloc_event.proofs.Common.{◌≡◌, ◌∷◌, [], List, not, sym, ◌∙◌, ap, filter, NodeKey, same_key}
+use Rattle.std.proofs.Common.{rules}
 use Rattle.std.proofs.lemmas.List.{nil_from_length}
-use Rattle.std.specs.List.{filter}
-use Rattle.sm_names.specs.declared.keys.NodeKey.{NodeKey}
-use Rattle.sm_names.specs.Sameness.{same_key}
 use Rattle.sm_names.proofs.ListLaws.{filter-In}
 use Rattle.alloc_event.specs.Forgetting.{is_left_by}
 use Rattle.alloc_event.specs.Kept.{are_apart}

@@ -1,5 +1,4 @@
-use Rattle.std.proofs.Common.{◌≡◌, length, true}
-use Rattle.std.specs.List.{filter}
+use Rattle.alloc_event.proofs.Common.{◌≡◌, length, true, filter}
 use Rattle.alloc_event.specs.Forgetting.{is_left_by}
 use Rattle.alloc_event.specs.Kept.{are_apart}
 use Rattle.alloc_event.proofs.forgetting.drop_keys.Given as goal

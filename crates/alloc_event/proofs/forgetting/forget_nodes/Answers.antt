@@ -1,16 +1,8 @@
 -- The nodes that are over are taken out, with their keys; where none is, nothing changes.
-use Rattle.std.proofs.Common.{◌≡◌, ℕ, ◌<◌, ◌==◌, true, false, List, length, get_or, Some, None, option_map, sym, ◌∙◌, ap, subst, arith}
+use Rattle.alloc_event.proofs.Common.{◌≡◌, ℕ, ◌<◌, ◌==◌, true, false, List, length, get_or, Some, None, option_map, sym, ◌∙◌, ap, subst, arith, find, list_any, NodeKey, same_key, Table, Entry, Node, over_but, IsStored, Shelf, nodes_with, place_in, shelf_of, shelves_of, is_over}
 use Rattle.std.proofs.lemmas.List.{get_or_default}
-use Rattle.std.specs.List.{find, list_any}
-use Rattle.sm_names.specs.declared.keys.NodeKey.{NodeKey}
-use Rattle.sm_names.specs.Sameness.{same_key}
-use Rattle.node_table.specs.Table.{Table}
-use Rattle.alloc_event.specs.declared.entry.Entry.{Entry}
-use Rattle.alloc_event.specs.declared.node.Node.{Node}
-use Rattle.alloc_event.specs.Calm.{AreCounted, over_but}
+use Rattle.alloc_event.specs.Calm.{AreCounted}
 use Rattle.alloc_event.specs.Forgetting.{IsForgettable, IsThinned, is_bare, left_at, thinned}
-use Rattle.alloc_event.specs.Kept.{IsStored, Shelf, nodes_with, place_in, shelf_of, shelves_of}
-use Rattle.alloc_event.specs.Nodes.{is_over}
 use Rattle.alloc_event.proofs.calm.Watched.{found_counted}
 use Rattle.alloc_event.proofs.changes.Altering.{found_filed}
 use Rattle.alloc_event.proofs.leaving.Forgotten.{thin_filed, tidy_left}

@@ -1,7 +1,5 @@
 -- The nodes that are over are taken out, and their keys.
-use Rattle.std.proofs.Common.{◌≡◌, ◌∙◌, sym, true}
-use Rattle.std.proofs.lemmas.Bool.{false≢true}
-use Rattle.std.specs.List.{list_all}
+use Rattle.alloc_event.proofs.Common.{◌≡◌, ◌∙◌, sym, true, false≢true, list_all}
 use Rattle.alloc_event.specs.Forgetting.{is_own_if_over}
 use Rattle.alloc_event.proofs.leaving.OnlyNoted.{noted_found, noted_left}
 use Rattle.alloc_event.proofs.forgetting.forget_of.Goals.{then-entry, else-entry}

@@ -1,7 +1,6 @@
 -- The nodes that are over are forgotten, and then the collection, if it is bare.
-use Rattle.std.proofs.Common.{map, sym, ◌∙◌, ap, subst}
+use Rattle.alloc_event.proofs.Common.{map, sym, ◌∙◌, ap, subst, AreRising, IsStored, collection_in, shelves_of}
 use Rattle.alloc_event.specs.Forgetting.{without_bare}
-use Rattle.alloc_event.specs.Kept.{AreRising, IsStored, collection_in, shelves_of}
 use Rattle.alloc_event.proofs.leaving.Forgotten.{forgotten_collections, forgotten_kept, forgotten_rising}
 use Rattle.alloc_event.proofs.forgetting.forget_over.Goals as goal
 

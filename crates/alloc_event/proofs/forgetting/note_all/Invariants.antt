@@ -1,9 +1,5 @@
-use Rattle.std.proofs.Common.{◌≡◌, length, true, false, List}
-use Rattle.std.specs.List.{list_any}
-use Rattle.sm_names.specs.declared.keys.NodeKey.{NodeKey}
-use Rattle.alloc_event.specs.Calm.{over_but}
+use Rattle.alloc_event.proofs.Common.{◌≡◌, length, true, false, List, list_any, NodeKey, over_but, nodes_with}
 use Rattle.alloc_event.specs.Forgetting.{AreMore, IsNoting}
-use Rattle.alloc_event.specs.Kept.{nodes_with}
 use Rattle.alloc_event.proofs.forgetting.note_all.Given as goal
 
 -- once those of the rest that are over are noted, those of all are

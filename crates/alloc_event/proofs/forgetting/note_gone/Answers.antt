@@ -1,6 +1,5 @@
 -- Where none of those that went is over, none is but those that are noted.
-use Rattle.std.proofs.Common.{◌∙◌, sym}
-use Rattle.alloc_event.specs.Kept.{nodes_with}
+use Rattle.alloc_event.proofs.Common.{◌∙◌, sym, nodes_with}
 use Rattle.alloc_event.proofs.leaving.Noted.{fewer_over}
 use Rattle.alloc_event.proofs.forgetting.note_gone.Goals as goal
 

@@ -1,9 +1,7 @@
 -- Only the entry of the collection is noted.
-use Rattle.std.proofs.Common.{◌≡◌, Some, None, sym, ◌∙◌, ap, subst, arith}
+use Rattle.alloc_event.proofs.Common.{◌≡◌, Some, None, sym, ◌∙◌, ap, subst, arith, Entry, place_in, shelf_of}
 use Rattle.std.proofs.lemmas.List.{get_or_default}
-use Rattle.alloc_event.specs.declared.entry.Entry.{Entry}
 use Rattle.alloc_event.specs.Forgetting.{IsNotedIn, IsNoting}
-use Rattle.alloc_event.specs.Kept.{place_in, shelf_of}
 use Rattle.alloc_event.proofs.shelves.Counted.{noted, noted_none, noted_set, set_shelves}
 use Rattle.alloc_event.proofs.shelves.Entries.{place_is}
 use Rattle.alloc_event.proofs.forgetting.note_over.Goals as goal

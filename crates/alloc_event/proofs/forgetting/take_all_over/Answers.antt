@@ -1,5 +1,5 @@
 -- What is left is the same, whether all are looked at or those that are noted.
-use Rattle.std.proofs.Common.{◌∙◌, ap}
+use Rattle.alloc_event.proofs.Common.{◌∙◌, ap}
 use Rattle.alloc_event.specs.Forgetting.{left_at}
 use Rattle.alloc_event.proofs.forgetting.take_all_over.Goals as goal
 

@@ -1,5 +1,5 @@
 -- The node is removed once its children are cut.
-use Rattle.std.proofs.Common.{sym, ◌∙◌}
+use Rattle.alloc_event.proofs.Common.{sym, ◌∙◌}
 use Rattle.alloc_event.proofs.tables.TakingOut.{takes_out}
 use Rattle.alloc_event.proofs.forgetting.take_out.Goals as goal
 

@@ -1,5 +1,6 @@
 -- One node more is looked at, and goes or stays.
-use Rattle.std.proofs.Common.{◌≡◌, ◌++◌, ◌∷◌, [], sym, subst, ◌∙◌, rules}
+use Rattle.alloc_event.proofs.Common.{◌≡◌, ◌++◌, ◌∷◌, [], sym, subst, ◌∙◌}
+use Rattle.std.proofs.Common.{rules}
 use Rattle.alloc_event.proofs.tables.Walking.{Walks, Walks-none, Walks-goes, Walks-stays}
 use Rattle.alloc_event.proofs.forgetting.take_out_over.Goals as goal
 

@@ -1,4 +1,4 @@
-use Rattle.std.proofs.Common.{length}
+use Rattle.alloc_event.proofs.Common.{length}
 use Rattle.alloc_event.proofs.tables.Walking.{Walks}
 use Rattle.alloc_event.proofs.forgetting.take_out_over.Given as goal
 

@@ -1,8 +1,6 @@
 -- What goes down is what is lost or ends.
-use Rattle.std.proofs.Common.{Option, Some, None, refl, sym, subst}
-use Rattle.sm_names.specs.declared.keys.NodeKey.{NodeKey}
+use Rattle.alloc_event.proofs.Common.{Option, Some, None, refl, sym, subst, NodeKey, nodes_with}
 use Rattle.sm_names.specs.declared.outcomes.Fault.{Fault}
-use Rattle.alloc_event.specs.Kept.{nodes_with}
 use Rattle.alloc_event.specs.UnderWay.{IsWent, MayGo}
 use Rattle.alloc_event.proofs.under.Went.{went_ended, went_lost}
 use Rattle.alloc_event.proofs.tables.Links.{still_named}

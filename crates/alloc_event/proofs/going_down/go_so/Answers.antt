@@ -1,14 +1,10 @@
 -- What a failure takes is written as it goes, and neither the units nor the entry count it any more.
-use Rattle.std.proofs.Common.{◌+◌, ◌-◌, ℕ, List, map, sym, ◌∙◌, ap, subst, rules}
-use Rattle.std.specs.List.{list_any}
-use Rattle.sm_names.specs.declared.keys.NodeKey.{NodeKey}
+use Rattle.alloc_event.proofs.Common.{◌+◌, ℕ, List, map, sym, ◌∙◌, ap, subst, list_any, NodeKey, over_but, strong_count, nodes_with, is_over, reserved_count}
+use Rattle.std.proofs.Common.{◌-◌, rules}
 use Rattle.alloc_event.specs.declared.falling.Going.{Going}
-use Rattle.alloc_event.specs.Calm.{over_but, strong_count}
 use Rattle.alloc_event.specs.Falling.{gone_by, unreckoned}
 use Rattle.alloc_event.specs.GoingDown.{head_over}
-use Rattle.alloc_event.specs.Kept.{Stores, nodes_with}
-use Rattle.alloc_event.specs.Nodes.{is_over}
-use Rattle.alloc_event.specs.Reserved.{reserved_count}
+use Rattle.alloc_event.specs.Kept.{Stores}
 use Rattle.alloc_event.proofs.failures.Written.{went_now}
 use Rattle.alloc_event.proofs.tables.Links.{still_named}
 use Rattle.alloc_event.proofs.going_down.go_so.Goals as goal

@@ -1,6 +1,5 @@
 -- Nothing of the nodes changes, and a strong one is live, or the collection rests without one.
-use Rattle.std.proofs.Common.{sym, subst}
-use Rattle.alloc_event.specs.declared.change.Change.{Change}
+use Rattle.alloc_event.proofs.Common.{sym, subst, Change}
 use Rattle.alloc_event.specs.InPlace.{IsMade, IsOpen}
 use Rattle.alloc_event.proofs.changes.Effecting.{made_nothing}
 use Rattle.alloc_event.proofs.in_place.change_in_place.Goals as goal

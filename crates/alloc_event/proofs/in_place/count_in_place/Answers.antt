@@ -1,20 +1,12 @@
 -- The node is written, and the counts tell that nothing is forced.
-use Rattle.std.proofs.Common.{◌≡◌, ◌+◌, ◌<◌, ◌⊎◌, false, inl, inr, List, map, length, option_copied, Some, sym, ◌∙◌, ap, subst, arith}
-use Rattle.sm_names.specs.declared.keys.NodeKey.{NodeKey}
-use Rattle.sm_names.specs.Words.{times}
-use Rattle.node_table.specs.Table.{node_at}
+use Rattle.alloc_event.proofs.Common.{◌≡◌, ◌+◌, ◌<◌, ◌⊎◌, false, inl, inr, List, map, length, Some, sym, ◌∙◌, ap, subst, arith, NodeKey, times, node_at, Change, Node, Unit, strong_count, lives_in, unit_at, waits_in, nodes_with, affected, is_live_node}
+use Rattle.std.proofs.Common.{option_copied}
 use Rattle.node_table.specs.Changes.{Writes}
 use Rattle.node_table.specs.Lending.{table_with_node}
-use Rattle.alloc_event.specs.declared.change.Change.{Change}
-use Rattle.alloc_event.specs.declared.node.Node.{Node}
-use Rattle.alloc_event.specs.declared.units.Unit.{Unit}
-use Rattle.alloc_event.specs.Calm.{strong_count}
-use Rattle.alloc_event.specs.Counts.{is_unready, lives_in, unit_at, waits_in}
+use Rattle.alloc_event.specs.Counts.{is_unready}
 use Rattle.alloc_event.specs.Due.{is_due_at}
 use Rattle.alloc_event.specs.InPlace.{IsMade, bit}
-use Rattle.alloc_event.specs.Kept.{is_strong, nodes_with}
-use Rattle.alloc_event.specs.Nodes.{affected}
-use Rattle.alloc_event.specs.Questions.{is_live_node}
+use Rattle.alloc_event.specs.Kept.{is_strong}
 use Rattle.alloc_event.proofs.calm.Keeping.{either_holds}
 use Rattle.alloc_event.proofs.changes.Altering.{same_affected}
 use Rattle.alloc_event.proofs.changes.Effecting.{counted_made, less_is, live_before, live_is, may_affect, strong_before, strong_is, unready_before, unready_is}

@@ -1,13 +1,8 @@
 -- An effect that changes no count forces nothing.
-use Rattle.std.proofs.Common.{◌≡◌, ◌==◌, ◌&&◌, not, false, Option, Some, sym, ◌∙◌, ap, subst}
-use Rattle.std.specs.Option.{option_map_or}
-use Rattle.sm_names.specs.declared.keys.NodeKey.{NodeKey}
-use Rattle.node_table.specs.Table.{node_at}
+use Rattle.alloc_event.proofs.Common.{◌≡◌, ◌==◌, ◌&&◌, not, false, Option, Some, sym, ◌∙◌, ap, subst, option_map_or, NodeKey, node_at, Node, nodes_with, affected}
 use Rattle.node_table.specs.Changes.{Writes}
 use Rattle.node_table.specs.Lending.{table_with_node}
-use Rattle.alloc_event.specs.declared.node.Node.{Node}
-use Rattle.alloc_event.specs.Kept.{is_strong, nodes_with}
-use Rattle.alloc_event.specs.Nodes.{affected}
+use Rattle.alloc_event.specs.Kept.{is_strong}
 use Rattle.alloc_event.proofs.calm.Calming.{times_map}
 use Rattle.alloc_event.proofs.changes.Effecting.{may_affect, plain_affected, plain_made}
 use Rattle.alloc_event.proofs.serves.Before.{node_there}

@@ -1,15 +1,7 @@
 -- The change is made in its place, and the entry of the collection has the count.
-use Rattle.std.proofs.Common.{◌≡◌, true, false, List, Some, map, get_or, set, refl, sym, ◌∙◌, ap, subst, arith}
+use Rattle.alloc_event.proofs.Common.{◌≡◌, true, false, List, Some, map, get_or, set, refl, sym, ◌∙◌, ap, subst, arith, list_any, total, Change, Entry, AreUnits, Shelf, collection_in, nodes_with, place_in, shelf_of, shelves_of, over_but, reserved_count}
 use Rattle.std.proofs.lemmas.List.{get_or_default}
-use Rattle.std.specs.List.{list_any}
-use Rattle.buffer_holds.specs.Counts.{total}
-use Rattle.alloc_event.specs.declared.change.Change.{Change}
-use Rattle.alloc_event.specs.declared.entry.Entry.{Entry}
-use Rattle.alloc_event.specs.Counts.{AreUnits}
 use Rattle.alloc_event.specs.InPlace.{IsMade, IsOpen}
-use Rattle.alloc_event.specs.Kept.{Shelf, collection_in, nodes_with, place_in, shelf_of, shelves_of}
-use Rattle.alloc_event.specs.Calm.{over_but}
-use Rattle.alloc_event.specs.Reserved.{reserved_count}
 use Rattle.alloc_event.specs.Resting.{is_kept_by}
 use Rattle.alloc_event.proofs.changes.Altering.{tracker_room}
 use Rattle.alloc_event.proofs.changes.Done.{few_at, opens_at, outcome_at, reserved_at, shelves_at, tidy_at}

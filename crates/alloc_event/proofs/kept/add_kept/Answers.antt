@@ -1,5 +1,5 @@
 -- The node of one key more comes last.
-use Rattle.std.proofs.Common.{arith}
+use Rattle.alloc_event.proofs.Common.{arith}
 use Rattle.std.proofs.lemmas.Grind.{common_steps}
 use Rattle.std.proofs.lemmas.List.Elements.{filter_map-append}
 use Rattle.alloc_event.proofs.kept.add_kept.Goals.{in-Some+in_ok-push, in_default}

@@ -1,5 +1,4 @@
-use Rattle.std.proofs.Common.{◌≡◌, ◌++◌, take}
-use Rattle.alloc_event.specs.Kept.{nodes_with}
+use Rattle.alloc_event.proofs.Common.{◌≡◌, ◌++◌, take, nodes_with}
 use Rattle.alloc_event.proofs.kept.add_kept.Given as goal
 
 -- so far the nodes with these keys

@@ -1,5 +1,5 @@
 -- The node of one key more comes last, if it is live.
-use Rattle.std.proofs.Common.{arith}
+use Rattle.alloc_event.proofs.Common.{arith}
 use Rattle.std.proofs.lemmas.Grind.{common_steps}
 use Rattle.std.proofs.lemmas.List.Elements.{filter_map-append, filter-append}
 use Rattle.alloc_event.proofs.kept.add_live.Goals.{in-Some+then-is_live+in_ok-push, in-Some+else-is_live, in_default}

@@ -1,8 +1,5 @@
-use Rattle.std.proofs.Common.{◌≡◌, ◌++◌, take}
-use Rattle.std.specs.List.{filter}
-use Rattle.alloc_event.specs.Kept.{nodes_with}
+use Rattle.alloc_event.proofs.Common.{◌≡◌, ◌++◌, take, filter, nodes_with, is_live_node}
 use Rattle.alloc_event.proofs.kept.add_live.Given as goal
-use Rattle.alloc_event.specs.Questions.{is_live_node}
 
 -- so far the live nodes with these keys
 abbrev pub invariant-loop-key : goal.invariant-loop-key

@@ -1,4 +1,4 @@
-use Rattle.std.proofs.Common.{◌≡◌, ◌++◌, take}
+use Rattle.alloc_event.proofs.Common.{◌≡◌, ◌++◌, take}
 use Rattle.alloc_event.specs.Scenes.{pages_held}
 use Rattle.alloc_event.proofs.kept.add_pages.Given as goal
 

@@ -1,12 +1,11 @@
 -- The buffers of one entry more come last.
-use Rattle.std.proofs.Common.{List, arith, rules, ap, ◌∙◌}
+use Rattle.alloc_event.proofs.Common.{List, arith, ap, ◌∙◌, Entry, HeldBuffer}
+use Rattle.std.proofs.Common.{rules}
 use Rattle.std.specs.List.{flat_map}
 use Rattle.std.proofs.lemmas.Grind.{common_steps, flat_map-append}
 use Rattle.std.proofs.lemmas.List.{take_all}
 use Rattle.std.proofs.lemmas.List.Sorted.{answers_always}
 use Rattle.sm_names.specs.Words.{sorted_by}
-use Rattle.alloc_event.specs.declared.entry.Entry.{Entry}
-use Rattle.sm_names.specs.declared.keys.HeldBuffer.{HeldBuffer}
 use Rattle.alloc_event.proofs.lists.StableSort.{stable_sorted}
 use Rattle.alloc_event.proofs.kept.held_by_page.Goals as goal
 

@@ -1,4 +1,4 @@
-use Rattle.std.proofs.Common.{◌≡◌, take}
+use Rattle.alloc_event.proofs.Common.{◌≡◌, take}
 use Rattle.std.specs.List.{flat_map}
 use Rattle.alloc_event.specs.declared.entry.Entry.{Entry as Kept}
 use Rattle.alloc_event.proofs.kept.held_by_page.Given as goal

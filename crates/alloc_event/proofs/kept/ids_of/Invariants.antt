@@ -1,4 +1,4 @@
-use Rattle.std.proofs.Common.{◌≡◌, map, take}
+use Rattle.alloc_event.proofs.Common.{◌≡◌, map, take}
 use Rattle.alloc_event.specs.declared.entry.Entry.{Entry as Kept}
 use Rattle.alloc_event.proofs.kept.ids_of.Given as goal
 

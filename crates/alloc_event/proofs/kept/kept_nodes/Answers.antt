@@ -1,5 +1,5 @@
 -- The nodes of one entry more come last.
-use Rattle.std.proofs.Common.{arith}
+use Rattle.alloc_event.proofs.Common.{arith}
 use Rattle.std.proofs.lemmas.Grind.{common_steps, flat_map-append}
 use Rattle.std.proofs.lemmas.List.{map-append}
 use Rattle.std.proofs.lemmas.List.Elements.{filter_map-append}

@@ -1,5 +1,4 @@
-use Rattle.std.proofs.Common.{◌≡◌, take}
-use Rattle.alloc_event.specs.Kept.{all_keys, nodes_with, shelves_of}
+use Rattle.alloc_event.proofs.Common.{◌≡◌, take, all_keys, nodes_with, shelves_of}
 use Rattle.alloc_event.proofs.kept.kept_nodes.Given as goal
 
 -- so far the nodes of these entries

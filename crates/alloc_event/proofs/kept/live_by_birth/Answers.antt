@@ -1,17 +1,13 @@
 -- The nodes of one entry more come last.
-use Rattle.std.proofs.Common.{List, arith, rules, map, ap, ◌∙◌}
-use Rattle.std.specs.List.{filter}
+use Rattle.alloc_event.proofs.Common.{List, arith, map, ap, ◌∙◌, filter, Entry, all_keys, nodes_with, shelves_of, Node, is_live_node}
+use Rattle.std.proofs.Common.{rules}
 use Rattle.std.proofs.lemmas.Grind.{common_steps, flat_map-append}
 use Rattle.std.proofs.lemmas.List.{map-append, take_all}
 use Rattle.std.proofs.lemmas.List.Elements.{filter_map-append, filter-append}
 use Rattle.std.proofs.lemmas.List.Sorted.{answers_always}
 use Rattle.sm_names.specs.Words.{sorted_by}
-use Rattle.alloc_event.specs.declared.entry.Entry.{Entry}
-use Rattle.alloc_event.specs.Kept.{all_keys, nodes_with, shelves_of}
-use Rattle.alloc_event.specs.declared.node.Node.{Node}
 use Rattle.alloc_event.proofs.lists.StableSort.{stable_sorted}
 use Rattle.alloc_event.proofs.kept.live_by_birth.Goals as goal
-use Rattle.alloc_event.specs.Questions.{is_live_node}
 
 pub loop-entry-preserved : goal.loop-entry-preserved
 loop-entry-preserved c = grind (arith, common_steps, map-append, flat_map-append, filter_map-append, filter-append)

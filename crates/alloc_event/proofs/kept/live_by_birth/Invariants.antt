@@ -1,9 +1,5 @@
-use Rattle.std.proofs.Common.{◌≡◌, map, take}
-use Rattle.std.specs.List.{filter}
-use Rattle.alloc_event.specs.declared.node.Node.{Node}
-use Rattle.alloc_event.specs.Kept.{all_keys, nodes_with, shelves_of}
+use Rattle.alloc_event.proofs.Common.{◌≡◌, map, take, filter, Node, all_keys, nodes_with, shelves_of, is_live_node}
 use Rattle.alloc_event.proofs.kept.live_by_birth.Given as goal
-use Rattle.alloc_event.specs.Questions.{is_live_node}
 
 -- so far the live nodes of these entries
 abbrev pub invariant-loop-entry : goal.invariant-loop-entry

@@ -1,5 +1,5 @@
-use Rattle.std.proofs.Common.{◌≡◌, ◌==◌, not, take}
-use Rattle.std.specs.List.{filter, flat_map}
+use Rattle.alloc_event.proofs.Common.{◌≡◌, ◌==◌, not, take, filter}
+use Rattle.std.specs.List.{flat_map}
 use Rattle.alloc_event.specs.declared.entry.Entry.{Entry as Kept}
 use Rattle.alloc_event.specs.Scenes.{pages_held}
 use Rattle.alloc_event.proofs.kept.pages_beside.Given as goal

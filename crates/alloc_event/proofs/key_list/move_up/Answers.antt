@@ -1,5 +1,5 @@
 -- The cells lie one further.
-use Rattle.std.proofs.Common.{◌+◌, ◌∙◌, ap, drop}
+use Rattle.alloc_event.proofs.Common.{◌+◌, ◌∙◌, ap, drop}
 use Rattle.alloc_event.proofs.leaving.KeyMoves.{moved_over}
 use Rattle.alloc_event.proofs.key_list.move_up.Goals as goal
 

@@ -1,5 +1,5 @@
 -- The buffers are placed, and stand before the others.
-use Rattle.std.proofs.Common.{ℕ, ◌++◌, ◌∙◌, sym, ap, length, arith, List}
+use Rattle.alloc_event.proofs.Common.{ℕ, ◌++◌, ◌∙◌, sym, ap, length, arith, List}
 use Rattle.sm_names.specs.Pages.{places}
 use Rattle.sm_names.proofs.PlaceLaws.{places_first}
 use Rattle.buffer_pool.specs.Holdings.{with_buffers}

@@ -1,4 +1,5 @@
-use Rattle.std.proofs.Common.{◌≡◌, ◌≤◌, ◌+◌, ◌++◌, length, take, drop, vec_capacity}
+use Rattle.alloc_event.proofs.Common.{◌≡◌, ◌≤◌, ◌+◌, ◌++◌, length, take, drop}
+use Rattle.std.proofs.Common.{vec_capacity}
 use Rattle.alloc_event.specs.Scenes.{laid}
 use Rattle.alloc_event.proofs.placing.lay_out.Given as goal
 

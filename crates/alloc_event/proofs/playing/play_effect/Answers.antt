@@ -1,13 +1,6 @@
 -- The effect is made, what nothing holds then ends, and what is due has its turn.
-use Rattle.std.proofs.Common.{◌≡◌, ◌∙◌, ap, subst, not, List, [], ◌∷◌, Bor, Option, Some, None, option_copied}
-use Rattle.sm_names.specs.declared.keys.NodeKey.{NodeKey}
-use Rattle.buffer_holds.specs.Counts.{total}
-use Rattle.node_table.specs.Table.{Table}
-use Rattle.alloc_event.specs.declared.change.Effect.{Effect}
-use Rattle.alloc_event.specs.declared.entry.Entry.{Entry}
-use Rattle.alloc_event.specs.declared.node.Node.{Node}
-use Rattle.alloc_event.specs.declared.units.Unit.{Unit}
-use Rattle.alloc_event.specs.Kept.{Shelf}
+use Rattle.alloc_event.proofs.Common.{◌≡◌, ◌∙◌, ap, subst, not, List, [], ◌∷◌, Option, Some, None, NodeKey, total, Table, Effect, Entry, Node, Unit, Shelf}
+use Rattle.std.proofs.Common.{Bor, option_copied}
 use Rattle.alloc_event.specs.UnderWay.{IsAffected}
 use Rattle.alloc_event.proofs.under.Affecting.{affected_on}
 use Rattle.alloc_event.proofs.under.Felled.{head_row, lent_there}

@@ -1,14 +1,6 @@
 -- The units are listed and have their turns, or nothing is due.
-use Rattle.std.proofs.Common.{◌≡◌, ◌∙◌, sym, ap, subst, true, false, Bool, List, [], ◌∷◌}
-use Rattle.sm_names.proofs.ListLaws.{In-list_any}
-use Rattle.sm_names.proofs.SamenessLaws.{same_key-true}
-use Rattle.sm_names.specs.declared.keys.NodeKey.{NodeKey}
-use Rattle.node_table.specs.Table.{Table}
-use Rattle.alloc_event.specs.declared.node.Node.{Node}
+use Rattle.alloc_event.proofs.Common.{◌≡◌, ◌∙◌, sym, ap, subst, true, false, Bool, List, [], ◌∷◌, In-list_any, same_key-true, NodeKey, Table, Node, Unit, nodes_with, is_of}
 use Rattle.alloc_event.specs.declared.rounds.Turn.{Turn}
-use Rattle.alloc_event.specs.declared.units.Unit.{Unit}
-use Rattle.alloc_event.specs.Kept.{nodes_with}
-use Rattle.alloc_event.specs.Nodes.{is_of}
 use Rattle.alloc_event.specs.TakingTurn.{is_next_there}
 use Rattle.alloc_event.specs.UnderWay.{AreTurns, IsUnderWay, turn_heads}
 use Rattle.alloc_event.proofs.under.NextThere.{listed_due, none_due, told_left, told_there}

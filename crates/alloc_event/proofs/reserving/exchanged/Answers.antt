@@ -1,5 +1,5 @@
 -- What the sum loses and what it gains.
-use Rattle.std.proofs.Common.{sym, ◌∙◌}
+use Rattle.alloc_event.proofs.Common.{sym, ◌∙◌}
 use Rattle.alloc_event.proofs.reserving.exchanged.Goals as goal
 
 pub returns : goal.returns

@@ -1,10 +1,7 @@
 -- Only an effect that sets constraints changes what is reserved.
-use Rattle.std.proofs.Common.{◌≡◌, Some, None, ap, sym, subst, ◌∙◌}
-use Rattle.alloc_event.specs.declared.change.Change.{Change}
-use Rattle.alloc_event.specs.declared.change.Effect.{Effect}
+use Rattle.alloc_event.proofs.Common.{◌≡◌, Some, None, ap, sym, subst, ◌∙◌, Change, Effect, nodes_with, reserved_count}
 use Rattle.alloc_event.specs.InPlace.{IsOpen}
-use Rattle.alloc_event.specs.Kept.{nodes_with}
-use Rattle.alloc_event.specs.Reserved.{asked_by, effected, reserved_count}
+use Rattle.alloc_event.specs.Reserved.{asked_by, effected}
 use Rattle.alloc_event.proofs.changes.Reserving.{asked_is, if_some, reserved_same}
 use Rattle.alloc_event.proofs.reserving.reserved_after.Goals as goal
 

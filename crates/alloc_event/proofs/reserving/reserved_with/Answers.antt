@@ -1,11 +1,6 @@
 -- The node camps on what it asks for now in place of what it asked for.
-use Rattle.std.proofs.Common.{◌≡◌, ℕ, ◌+◌, Some, map, ap, sym, ◌∙◌}
-use Rattle.node_table.specs.Table.{node_at}
-use Rattle.alloc_event.specs.declared.change.Effect.{Effect}
-use Rattle.alloc_event.specs.declared.node.Node.{Node}
-use Rattle.alloc_event.specs.Kept.{nodes_with}
-use Rattle.alloc_event.specs.Nodes.{affected}
-use Rattle.alloc_event.specs.Reserved.{camped, reserved_count}
+use Rattle.alloc_event.proofs.Common.{◌≡◌, ℕ, ◌+◌, Some, map, ap, sym, ◌∙◌, node_at, Effect, Node, nodes_with, affected, reserved_count}
+use Rattle.alloc_event.specs.Reserved.{camped}
 use Rattle.alloc_event.proofs.changes.Reserving.{if_some, reserved_then}
 use Rattle.alloc_event.proofs.reserving.reserved_with.Goals as goal
 

@@ -1,7 +1,6 @@
-use Rattle.std.proofs.Common.{ℕ, ◌≡◌, ◌+◌, Bool, true, nat_lt, subst, sym, arith}
+use Rattle.alloc_event.proofs.Common.{ℕ, ◌≡◌, ◌+◌, Bool, true, nat_lt, subst, sym, arith, total}
 use Rattle.sm_names.specs.declared.keys.BufferName.{BufferName}
 use Rattle.sm_names.specs.declared.keys.Strength.{Strength}
-use Rattle.buffer_holds.specs.Counts.{total}
 use Rattle.alloc_event.specs.Scenes.{is_held_strongly, name_of}
 use Rattle.alloc_event.proofs.lists.Ranges.{any_at}
 use Rattle.alloc_event.proofs.resting.is_given_open.Goals as goal

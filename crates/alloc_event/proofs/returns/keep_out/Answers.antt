@@ -1,6 +1,4 @@
-use Rattle.std.proofs.Common.{◌≡◌, ◌<◌, ◌∙◌, sym, ap, subst, not, false, length, get_or, arith}
-use Rattle.std.specs.List.{filter}
-use Rattle.buffer_holds.specs.Counts.{total}
+use Rattle.alloc_event.proofs.Common.{◌≡◌, ◌<◌, ◌∙◌, sym, ap, subst, not, false, length, get_or, arith, filter, total}
 use Rattle.alloc_event.specs.Scenes.{is_out}
 use Rattle.alloc_event.proofs.lists.Removed.{filter_empty, filter_removed, filter_whole, take_removed}
 use Rattle.alloc_event.proofs.returns.keep_out.Goals as goal

@@ -1,6 +1,5 @@
-use Rattle.std.proofs.Common.{◌≡◌, ◌≤◌, ◌-◌, length, take}
-use Rattle.std.specs.List.{filter}
-use Rattle.buffer_holds.specs.Counts.{total}
+use Rattle.alloc_event.proofs.Common.{◌≡◌, ◌≤◌, length, take, filter, total}
+use Rattle.std.proofs.Common.{◌-◌}
 use Rattle.alloc_event.specs.Scenes.{is_out}
 use Rattle.alloc_event.proofs.returns.keep_out.Given as goal
 

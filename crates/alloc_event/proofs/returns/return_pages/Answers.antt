@@ -1,9 +1,5 @@
-use Rattle.std.proofs.Common.{ℕ, ◌≡◌, ◌<◌, ◌≤◌, ◌+◌, ◌∙◌, ◌++◌, ◌∷◌, refl, sym, ap, Bool, true, false, cond, List, length, take, drop, get_or, arith}
+use Rattle.alloc_event.proofs.Common.{ℕ, ◌≡◌, ◌<◌, ◌≤◌, ◌+◌, ◌∙◌, ◌++◌, ◌∷◌, refl, sym, ap, Bool, true, false, cond, List, length, take, drop, get_or, arith, filter, Interval, total, HeldBuffer}
 use Rattle.std.proofs.lemmas.List.Filters.{length-filter_more}
-use Rattle.std.specs.List.{filter}
-use Rattle.sm_names.specs.declared.keys.Interval.{Interval}
-use Rattle.buffer_holds.specs.Counts.{total}
-use Rattle.sm_names.specs.declared.keys.HeldBuffer.{HeldBuffer}
 use Rattle.buffer_pool.specs.Holdings.{in_order}
 use Rattle.buffer_pool.proofs.Runs.{in_order-without_run}
 use Rattle.alloc_event.specs.Runs.{rest_of}

@@ -1,7 +1,4 @@
-use Rattle.std.proofs.Common.{◌≡◌, ◌≤◌, ◌++◌, List, length, take, drop}
-use Rattle.std.specs.List.{filter}
-use Rattle.sm_names.specs.declared.keys.Interval.{Interval}
-use Rattle.buffer_holds.specs.Counts.{total}
+use Rattle.alloc_event.proofs.Common.{◌≡◌, ◌≤◌, ◌++◌, List, length, take, drop, filter, Interval, total}
 use Rattle.buffer_pool.specs.Holdings.{IsSound}
 use Rattle.alloc_event.specs.Runs.{HoldsRun, rest_of}
 use Rattle.alloc_event.specs.Scenes.{by_page, is_out, pages_held}

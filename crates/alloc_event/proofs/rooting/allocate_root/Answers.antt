@@ -1,17 +1,9 @@
 -- The root's unit comes to its allocation, and what is forced is made in its place.
-use Rattle.std.proofs.Common.{◌≡◌, ◌∙◌, true, false, List, [], Some, None, set, get_or, sym, ap, subst, arith}
+use Rattle.alloc_event.proofs.Common.{◌≡◌, ◌∙◌, true, false, List, [], Some, None, set, get_or, sym, ap, subst, arith, some-injective, total, Table, Change, Entry, Node, Unit, place_in, shelves_of}
 use Rattle.std.proofs.lemmas.List.{get_or_default}
-use Rattle.sm_names.proofs.SamenessLaws.{some-injective}
-use Rattle.buffer_holds.specs.Counts.{total}
 use Rattle.buffer_pool.specs.Holdings.{Holdings}
-use Rattle.node_table.specs.Table.{Table}
-use Rattle.alloc_event.specs.declared.change.Change.{Change}
-use Rattle.alloc_event.specs.declared.entry.Entry.{Entry}
-use Rattle.alloc_event.specs.declared.node.Node.{Node}
 use Rattle.alloc_event.specs.declared.rooting.Plan.{Plan}
-use Rattle.alloc_event.specs.declared.units.Unit.{Unit}
 use Rattle.alloc_event.specs.Closing.{Closes}
-use Rattle.alloc_event.specs.Kept.{place_in, shelves_of}
 use Rattle.alloc_event.specs.Outcomes.{IsOutcomeIn}
 use Rattle.alloc_event.specs.Rooting.{IsPlanned, IsRooted, IsVerdict, comes_first}
 use Rattle.alloc_event.specs.UnderWay.{Affects, IsAffected, IsUnderWay, StoreAgrees}

@@ -1,17 +1,8 @@
 -- The root's unit has its buffers, and those that follow it had their turns.
-use Rattle.std.proofs.Common.{◌≡◌, ℕ, ◌+◌, ◌∷◌, [], List, Some, length, refl, ap, sym, subst, ◌∙◌, arith}
-use Rattle.sm_names.specs.declared.keys.HeldBuffer.{HeldBuffer}
-use Rattle.sm_names.specs.declared.keys.NodeKey.{NodeKey}
-use Rattle.buffer_holds.specs.Counts.{total}
-use Rattle.node_table.specs.Table.{Table}
-use Rattle.alloc_event.specs.declared.entry.Entry.{Entry}
-use Rattle.alloc_event.specs.declared.node.Node.{Node}
+use Rattle.alloc_event.proofs.Common.{◌≡◌, ℕ, ◌+◌, ◌∷◌, [], List, Some, length, refl, ap, sym, subst, ◌∙◌, arith, HeldBuffer, NodeKey, total, Table, Entry, Node, Unit, Shelf, nodes_with, put_shelf, shelf_of, reserved_count}
 use Rattle.alloc_event.specs.declared.rooting.Verdict.{Verdict}
 use Rattle.alloc_event.specs.declared.rounds.Turn.{Turn}
-use Rattle.alloc_event.specs.declared.units.Unit.{Unit}
-use Rattle.alloc_event.specs.Kept.{Shelf, nodes_with, put_shelf, shelf_of}
 use Rattle.alloc_event.specs.Nodes.{after_allocation}
-use Rattle.alloc_event.specs.Reserved.{reserved_count}
 use Rattle.alloc_event.specs.Rooting.{IsComing, IsRooted}
 use Rattle.alloc_event.specs.Serving.{IsGivenAt}
 use Rattle.alloc_event.specs.UnderWay.{AreTurns, IsUnderWay}

@@ -1,6 +1,6 @@
-use Rattle.std.proofs.Common.{◌≡◌, ◌≤◌, ◌+◌, ◌*◌, drop}
-use Rattle.std.specs.List.{filter_map, fold, sum_by}
-use Rattle.sm_names.specs.Demands.{Demand}
+use Rattle.alloc_event.proofs.Common.{◌≡◌, ◌≤◌, ◌+◌, drop, sum_by, Demand}
+use Rattle.std.proofs.Common.{◌*◌}
+use Rattle.std.specs.List.{filter_map, fold}
 use Rattle.alloc_event.specs.Rooting.{served_at}
 use Rattle.alloc_event.proofs.rooting.reserved_then.Given as goal
 

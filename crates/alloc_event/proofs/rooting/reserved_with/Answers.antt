@@ -1,6 +1,4 @@
-use Rattle.std.proofs.Common.{◌≡◌, inr}
-use Rattle.std.specs.List.{sum_by}
-use Rattle.sm_names.specs.Demands.{Demand}
+use Rattle.alloc_event.proofs.Common.{◌≡◌, inr, sum_by, Demand}
 use Rattle.alloc_event.specs.Rooting.{served_with}
 use Rattle.alloc_event.proofs.rooting.reserved_with.Goals as goal
 

@@ -1,8 +1,5 @@
 -- One more is placed.
-use Rattle.std.proofs.Common.{◌∙◌, List, ap, subst, sym}
-use Rattle.std.specs.List.{list_any}
-use Rattle.sm_names.specs.declared.keys.NodeKey.{NodeKey}
-use Rattle.sm_names.specs.Sameness.{same_key}
+use Rattle.alloc_event.proofs.Common.{◌∙◌, List, ap, subst, sym, list_any, NodeKey, same_key}
 use Rattle.alloc_event.specs.Forgetting.{IsPlace}
 use Rattle.alloc_event.proofs.under.Listing.{placed_more}
 use Rattle.alloc_event.proofs.rounds.list_head.Goals as goal

@@ -1,4 +1,5 @@
-use Rattle.std.proofs.Common.{◌≡◌, ◌≤◌, filter, length, take, vec_capacity}
+use Rattle.alloc_event.proofs.Common.{◌≡◌, ◌≤◌, length, take}
+use Rattle.std.proofs.Common.{filter, vec_capacity}
 use Rattle.alloc_event.specs.Serving.{is_head_at}
 use Rattle.alloc_event.specs.UnderWay.{ArePlacedIfThere, turn_heads}
 use Rattle.alloc_event.proofs.rounds.list_heads.Given as goal

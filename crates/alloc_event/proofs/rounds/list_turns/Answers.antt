@@ -1,6 +1,6 @@
 -- What the walk finds is listed by birth.
-use Rattle.std.proofs.Common.{ap, ◌∙◌, filter, List}
-use Rattle.sm_names.specs.declared.keys.NodeKey.{NodeKey}
+use Rattle.alloc_event.proofs.Common.{ap, ◌∙◌, List, NodeKey}
+use Rattle.std.proofs.Common.{filter}
 use Rattle.alloc_event.specs.Serving.{is_head_at}
 use Rattle.alloc_event.proofs.under.Listing.{turns_listed}
 use Rattle.alloc_event.proofs.rounds.list_turns.Goals as goal

@@ -1,6 +1,4 @@
-use Rattle.std.proofs.Common.{◌≡◌, false, take}
-use Rattle.std.specs.List.{list_any}
-use Rattle.sm_names.specs.Sameness.{same_key}
+use Rattle.alloc_event.proofs.Common.{◌≡◌, false, take, list_any, same_key}
 use Rattle.alloc_event.proofs.rounds.place_by_pass.Given as goal
 
 -- none so far is the key

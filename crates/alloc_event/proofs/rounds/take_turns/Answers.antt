@@ -1,7 +1,6 @@
 -- One unit after another.
-use Rattle.std.proofs.Common.{◌≡◌, ◌+◌, ◌<◌, List, ◌∷◌, drop, get_or, length, refl, sym, ◌∙◌, subst, arith}
+use Rattle.alloc_event.proofs.Common.{◌≡◌, ◌+◌, ◌<◌, List, ◌∷◌, drop, get_or, length, refl, sym, ◌∙◌, subst, arith, total}
 use Rattle.std.proofs.lemmas.List.{drop_more}
-use Rattle.buffer_holds.specs.Counts.{total}
 use Rattle.alloc_event.specs.declared.rounds.Turn.{Turn}
 use Rattle.alloc_event.proofs.under.Leading.{HaveTurns, turns_more, turns_none}
 use Rattle.alloc_event.proofs.rounds.take_turns.Goals as goal

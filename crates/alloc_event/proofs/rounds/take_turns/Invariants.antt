@@ -1,8 +1,6 @@
-use Rattle.std.proofs.Common.{◌≡◌, ◌≤◌, drop, Some, vec_capacity}
-use Rattle.buffer_holds.specs.Counts.{total}
-use Rattle.sm_names.specs.declared.keys.NodeKey.{NodeKey}
-use Rattle.node_table.specs.Table.{node_at, table_len}
-use Rattle.alloc_event.specs.declared.node.Node.{Node}
+use Rattle.alloc_event.proofs.Common.{◌≡◌, ◌≤◌, drop, Some, total, NodeKey, node_at, Node}
+use Rattle.std.proofs.Common.{vec_capacity}
+use Rattle.node_table.specs.Table.{table_len}
 use Rattle.alloc_event.proofs.under.Leading.{HaveTurns}
 use Rattle.alloc_event.proofs.rounds.take_turns.Given as goal
 

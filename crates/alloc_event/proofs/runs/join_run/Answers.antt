@@ -1,4 +1,5 @@
-use Rattle.std.proofs.Common.{◌≤◌, subst, Contains, arith}
+use Rattle.alloc_event.proofs.Common.{◌≤◌, subst, arith}
+use Rattle.std.proofs.Common.{Contains}
 use Rattle.buffer_pool.proofs.Runs.{HasRun-more, run-few, without_run-had}
 use Rattle.alloc_event.proofs.runs.join_run.Goals as goal
 

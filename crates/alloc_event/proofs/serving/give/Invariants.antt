@@ -1,4 +1,4 @@
-use Rattle.std.proofs.Common.{take}
+use Rattle.alloc_event.proofs.Common.{take}
 use Rattle.alloc_event.specs.Serving.{IsGivenAt}
 use Rattle.alloc_event.proofs.serving.give.Given as goal
 

@@ -1,12 +1,8 @@
 -- The node is written as one of an allocated unit.
-use Rattle.std.proofs.Common.{rules, ◌≡◌, Some, true, ◌||◌, sym, ◌∙◌, subst}
-use Rattle.std.specs.List.{list_any}
-use Rattle.sm_names.specs.declared.keys.NodeKey.{NodeKey}
-use Rattle.sm_names.specs.Sameness.{same_key}
+use Rattle.alloc_event.proofs.Common.{◌≡◌, Some, true, ◌||◌, sym, ◌∙◌, subst, list_any, NodeKey, same_key, node_at, Node}
+use Rattle.std.proofs.Common.{rules}
 use Rattle.node_table.specs.Changes.{Writes}
 use Rattle.node_table.specs.Lending.{table_with_node}
-use Rattle.node_table.specs.Table.{node_at}
-use Rattle.alloc_event.specs.declared.node.Node.{Node}
 use Rattle.alloc_event.specs.Falls.{given_all}
 use Rattle.alloc_event.proofs.serves.Giving.{given_written}
 use Rattle.alloc_event.proofs.serving.give_at.Goals as goal

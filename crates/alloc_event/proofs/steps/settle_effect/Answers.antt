@@ -1,12 +1,6 @@
 -- The root's unit waits for its buffers only where it is allocated or refused first.
-use Rattle.std.proofs.Common.{◌≡◌, ◌==◌, [], List, Some, Ok, true, ap, subst, ◌∙◌}
-use Rattle.std.specs.List.{find}
-use Rattle.node_table.specs.Table.{Table}
-use Rattle.alloc_event.specs.declared.change.Change.{Change}
-use Rattle.alloc_event.specs.declared.entry.Entry.{Entry}
-use Rattle.alloc_event.specs.declared.node.Node.{Node}
-use Rattle.alloc_event.specs.Decisions.{waiting}
-use Rattle.alloc_event.specs.Kept.{nodes_with}
+use Rattle.alloc_event.proofs.Common.{◌≡◌, ◌==◌, [], List, Some, true, ap, subst, ◌∙◌, find, Table, Change, Entry, Node, waiting, nodes_with}
+use Rattle.std.proofs.Common.{Ok}
 use Rattle.alloc_event.specs.Nodes.{after_effect}
 use Rattle.alloc_event.specs.Outcomes.{was_made}
 use Rattle.alloc_event.specs.UnderWay.{are_held_but}

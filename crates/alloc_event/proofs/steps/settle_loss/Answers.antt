@@ -1,10 +1,5 @@
 -- The loss is made, and what is forced by it, and then the collection is closed.
-use Rattle.std.proofs.Common.{◌≡◌, List, Some, refl, sym, ◌∙◌, arith}
-use Rattle.buffer_holds.specs.Counts.{total}
-use Rattle.alloc_event.specs.declared.change.Change.{Change}
-use Rattle.alloc_event.specs.declared.entry.Entry.{Entry}
-use Rattle.alloc_event.specs.declared.units.Unit.{Unit}
-use Rattle.alloc_event.specs.Kept.{nodes_with, place_in, shelf_of, shelves_of}
+use Rattle.alloc_event.proofs.Common.{◌≡◌, List, Some, refl, sym, ◌∙◌, arith, total, Change, Entry, Unit, nodes_with, place_in, shelf_of, shelves_of}
 use Rattle.alloc_event.specs.Nodes.{after_loss}
 use Rattle.alloc_event.specs.UnderWay.{IsPlayedFrom}
 use Rattle.alloc_event.proofs.shelves.Entries.{place_is}

@@ -1,10 +1,5 @@
 -- The collection is closed.
-use Rattle.std.proofs.Common.{◌≡◌, List, Some, refl, sym, ◌∙◌}
-use Rattle.buffer_holds.specs.Counts.{total}
-use Rattle.alloc_event.specs.declared.change.Change.{Change}
-use Rattle.alloc_event.specs.declared.entry.Entry.{Entry}
-use Rattle.alloc_event.specs.declared.units.Unit.{Unit}
-use Rattle.alloc_event.specs.Kept.{place_in}
+use Rattle.alloc_event.proofs.Common.{◌≡◌, List, Some, refl, sym, ◌∙◌, total, Change, Entry, Unit, place_in}
 use Rattle.alloc_event.proofs.shelves.Entries.{place_is}
 use Rattle.alloc_event.proofs.under.Stepping.{closes_now, entry_there, is_there, outcome_closed}
 use Rattle.alloc_event.proofs.steps.settle_nothing.Goals as goal

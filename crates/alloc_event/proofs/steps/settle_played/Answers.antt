@@ -1,10 +1,5 @@
 -- The effect is made, and what is forced by it, and then the collection is closed.
-use Rattle.std.proofs.Common.{◌≡◌, List, Some, refl, sym, ◌∙◌, ap, arith}
-use Rattle.buffer_holds.specs.Counts.{total}
-use Rattle.alloc_event.specs.declared.change.Change.{Change}
-use Rattle.alloc_event.specs.declared.entry.Entry.{Entry}
-use Rattle.alloc_event.specs.declared.units.Unit.{Unit}
-use Rattle.alloc_event.specs.Kept.{nodes_with, place_in, shelves_of}
+use Rattle.alloc_event.proofs.Common.{◌≡◌, List, Some, refl, sym, ◌∙◌, ap, arith, total, Change, Entry, Unit, nodes_with, place_in, shelves_of}
 use Rattle.alloc_event.specs.Nodes.{after_effect}
 use Rattle.alloc_event.specs.UnderWay.{IsPlayedFrom}
 use Rattle.alloc_event.proofs.changes.Altering.{tracker_room}

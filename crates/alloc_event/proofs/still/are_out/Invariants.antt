@@ -1,6 +1,4 @@
-use Rattle.std.proofs.Common.{◌≡◌, length}
-use Rattle.std.specs.List.{list_all}
-use Rattle.buffer_holds.specs.Counts.{total}
+use Rattle.alloc_event.proofs.Common.{◌≡◌, length, list_all, total}
 use Rattle.alloc_event.specs.Scenes.{is_out}
 use Rattle.alloc_event.proofs.still.are_out.Given as goal
 

@@ -1,7 +1,7 @@
 -- The entry takes its place.
-use Rattle.std.proofs.Common.{◌≡◌, Some, None, sym, ◌∙◌, ap, arith, rules}
+use Rattle.alloc_event.proofs.Common.{◌≡◌, Some, None, sym, ◌∙◌, ap, arith, place_in, shelves_of}
+use Rattle.std.proofs.Common.{rules}
 use Rattle.std.specs.List.{insert}
-use Rattle.alloc_event.specs.Kept.{place_in, shelves_of}
 use Rattle.alloc_event.proofs.shelves.Counted.{shelves_put}
 use Rattle.alloc_event.proofs.shelves.Entries.{place_is, before, before_within, set_put, insert_put}
 use Rattle.alloc_event.proofs.store.put_entry.Goals as goal

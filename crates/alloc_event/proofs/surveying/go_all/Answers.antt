@@ -1,7 +1,6 @@
 -- One node after another.
-use Rattle.std.proofs.Common.{◌≡◌, ◌||◌, Bool, ap, ◌∙◌, sym}
+use Rattle.alloc_event.proofs.Common.{◌≡◌, ◌||◌, Bool, ap, ◌∙◌, sym, NodeKey}
 use Rattle.std.proofs.lemmas.List.{take_more}
-use Rattle.sm_names.specs.declared.keys.NodeKey.{NodeKey}
 use Rattle.alloc_event.proofs.failures.Written.{once_before, over_more, went_more}
 use Rattle.alloc_event.proofs.surveying.go_all.Goals.{then-over, else-over}
 use Rattle.alloc_event.proofs.surveying.go_all.Goals as goal

@@ -1,8 +1,6 @@
-use Rattle.std.proofs.Common.{◌≡◌, map, take}
-use Rattle.std.specs.List.{list_any}
+use Rattle.alloc_event.proofs.Common.{◌≡◌, map, take, list_any, nodes_with, is_over}
 use Rattle.alloc_event.specs.Falling.{gone_by}
-use Rattle.alloc_event.specs.Kept.{Stores, nodes_with}
-use Rattle.alloc_event.specs.Nodes.{is_over}
+use Rattle.alloc_event.specs.Kept.{Stores}
 use Rattle.alloc_event.proofs.surveying.go_all.Given as goal
 
 -- so far these nodes went

@@ -1,8 +1,6 @@
 -- What is reserved is a sum over the nodes.
-use Rattle.std.proofs.Common.{◌≡◌, List, drop, sym, ◌∙◌, ap, arith}
+use Rattle.alloc_event.proofs.Common.{◌≡◌, List, drop, sym, ◌∙◌, ap, arith, NodeKey, nodes_with}
 use Rattle.std.proofs.lemmas.List.{drop_all}
-use Rattle.sm_names.specs.declared.keys.NodeKey.{NodeKey}
-use Rattle.alloc_event.specs.Kept.{nodes_with}
 use Rattle.alloc_event.specs.Reserved.{camped}
 use Rattle.alloc_event.proofs.tallies.Amounts.{amount_of}
 use Rattle.alloc_event.proofs.tallies.Reserved.{reserved_is}

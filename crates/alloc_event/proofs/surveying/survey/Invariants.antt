@@ -1,6 +1,5 @@
-use Rattle.std.proofs.Common.{◌≡◌, ◌≤◌, ◌+◌, ◌*◌, drop}
-use Rattle.alloc_event.specs.Calm.{strong_count}
-use Rattle.alloc_event.specs.Kept.{nodes_with}
+use Rattle.alloc_event.proofs.Common.{◌≡◌, ◌≤◌, ◌+◌, drop, strong_count, nodes_with}
+use Rattle.std.proofs.Common.{◌*◌}
 use Rattle.alloc_event.specs.Reserved.{camped}
 use Rattle.alloc_event.proofs.tallies.Amounts.{amount_of}
 use Rattle.alloc_event.proofs.surveying.survey.Given as goal

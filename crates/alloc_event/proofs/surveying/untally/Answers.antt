@@ -1,9 +1,7 @@
 -- One node after another, each at once.
-use Rattle.std.proofs.Common.{List, ap, get_or, drop, ◌+◌, sym, ◌∙◌}
+use Rattle.alloc_event.proofs.Common.{List, ap, get_or, drop, ◌+◌, sym, ◌∙◌, NodeKey, nodes_with}
 use Rattle.std.proofs.lemmas.List.{drop_more}
-use Rattle.sm_names.specs.declared.keys.NodeKey.{NodeKey}
 use Rattle.alloc_event.specs.Falling.{unreckoned}
-use Rattle.alloc_event.specs.Kept.{nodes_with}
 use Rattle.alloc_event.proofs.tallies.AtOnce.{unreckoned_on}
 use Rattle.alloc_event.proofs.surveying.untally.Goals as goal
 

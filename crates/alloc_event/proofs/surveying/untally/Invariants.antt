@@ -1,6 +1,5 @@
-use Rattle.std.proofs.Common.{◌≡◌, drop}
+use Rattle.alloc_event.proofs.Common.{◌≡◌, drop, nodes_with}
 use Rattle.alloc_event.specs.Falling.{unreckoned}
-use Rattle.alloc_event.specs.Kept.{nodes_with}
 use Rattle.alloc_event.proofs.surveying.untally.Given as goal
 
 -- what is made with the rest is what is made with all

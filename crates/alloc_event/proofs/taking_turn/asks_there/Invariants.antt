@@ -1,6 +1,6 @@
-use Rattle.std.proofs.Common.{◌≡◌, ◌≤◌, ◌+◌, ◌*◌, max, drop}
-use Rattle.std.specs.List.{filter_map, fold, sum_by}
-use Rattle.sm_names.specs.Demands.{Demand}
+use Rattle.alloc_event.proofs.Common.{◌≡◌, ◌≤◌, ◌+◌, drop, sum_by, Demand}
+use Rattle.std.proofs.Common.{◌*◌, max}
+use Rattle.std.specs.List.{filter_map, fold}
 use Rattle.sm_names.specs.Members.{greatest}
 use Rattle.alloc_event.specs.TakingTurn.{asked_there}
 use Rattle.alloc_event.proofs.taking_turn.asks_there.Given as goal

@@ -1,10 +1,6 @@
 -- The unit is next or not; if it is, it is allocated, or refused and fails.
-use Rattle.std.proofs.Common.{◌≡◌, ap, sym, ◌∙◌, subst, Bool, true, false, List, [], ◌∷◌}
-use Rattle.sm_names.specs.declared.keys.NodeKey.{NodeKey}
-use Rattle.node_table.specs.Table.{Table}
+use Rattle.alloc_event.proofs.Common.{◌≡◌, ap, sym, ◌∙◌, subst, Bool, true, false, List, [], ◌∷◌, NodeKey, Table, Node, Unit}
 use Rattle.alloc_event.specs.declared.asks.Asks.{Asks}
-use Rattle.alloc_event.specs.declared.node.Node.{Node}
-use Rattle.alloc_event.specs.declared.units.Unit.{Unit}
 use Rattle.alloc_event.specs.Serving.{IsGivenAt}
 use Rattle.alloc_event.specs.TakingTurn.{is_next_there}
 use Rattle.alloc_event.proofs.under.Taking.{AreAsked, allocated_by, given_named, refused_by}

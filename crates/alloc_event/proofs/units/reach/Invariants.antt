@@ -1,4 +1,5 @@
-use Rattle.std.proofs.Common.{◌+◌, ◌-◌, vec_len}
+use Rattle.alloc_event.proofs.Common.{◌+◌}
+use Rattle.std.proofs.Common.{◌-◌, vec_len}
 use Rattle.alloc_event.specs.Counts.{Extends}
 use Rattle.alloc_event.proofs.units.reach.Given as goal
 

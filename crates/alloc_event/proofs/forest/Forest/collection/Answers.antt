@@ -1,7 +1,6 @@
 -- The entry with the id is the collection.
-use Rattle.std.proofs.Common.{◌≡◌, Some, length, sym, ◌∙◌, ap, option_map, arith}
+use Rattle.alloc_event.proofs.Common.{◌≡◌, Some, length, sym, ◌∙◌, ap, option_map, arith, shelf_of, shelves_of}
 use Rattle.alloc_event.specs.Forest.{summary_of}
-use Rattle.alloc_event.specs.Kept.{shelf_of, shelves_of}
 use Rattle.alloc_event.proofs.changes.Altering.{found_whole}
 use Rattle.alloc_event.proofs.shelves.Showing.{collection_some, collection_none, few_given, shelf_found}
 use Rattle.alloc_event.proofs.forest.Forest.collection.Goals as goal

@@ -1,17 +1,9 @@
 -- The node leaves the table, and its key the entry of its collection.
-use Rattle.std.proofs.Common.{◌≡◌, not, map, true, false, Some, None, is_some, get_or, refl, sym, ◌∙◌, ap, subst, arith}
+use Rattle.alloc_event.proofs.Common.{◌≡◌, not, map, true, false, Some, None, is_some, get_or, refl, sym, ◌∙◌, ap, subst, arith, option_map_or, and_left, same_key-refl, node_at, Entry, Node, AreUnits, collection_in, nodes_with, place_in, shelf_of, shelves_of, is_of, is_over}
 use Rattle.std.proofs.lemmas.List.{get_or_default}
-use Rattle.std.specs.Option.{option_map_or}
-use Rattle.sm_names.proofs.SamenessLaws.{and_left, same_key-refl}
-use Rattle.node_table.specs.Table.{node_at}
-use Rattle.alloc_event.specs.declared.entry.Entry.{Entry}
-use Rattle.alloc_event.specs.declared.node.Node.{Node}
 use Rattle.alloc_event.specs.Forest.{Forest, node_at as forest_node}
 use Rattle.alloc_event.specs.Calm.{IsCounted}
-use Rattle.alloc_event.specs.Counts.{AreUnits}
 use Rattle.alloc_event.specs.Given.{AreServedByGiven}
-use Rattle.alloc_event.specs.Kept.{collection_in, nodes_with, place_in, shelf_of, shelves_of}
-use Rattle.alloc_event.specs.Nodes.{is_of, is_over}
 use Rattle.alloc_event.proofs.shelves.Counted.{counted_set, dropped_all, drops_one, recounted}
 use Rattle.alloc_event.proofs.shelves.Entries.{place_is}
 use Rattle.alloc_event.proofs.leaving.Leaving.{goes, kept-without, collections-without, set_without, shelf_without, never_none}

@@ -1,11 +1,7 @@
 -- The entry has no node, and is removed.
-use Rattle.std.proofs.Common.{◌≡◌, ◌==◌, not, map, Some, false, sym, ◌∙◌, ap, subst, arith}
-use Rattle.std.specs.Option.{option_map_or}
-use Rattle.std.proofs.lemmas.Bool.{false≢true}
-use Rattle.alloc_event.specs.Counts.{AreUnits}
-use Rattle.alloc_event.specs.Forest.{Collection, Forest, collection_at, is_left}
+use Rattle.alloc_event.proofs.Common.{◌≡◌, ◌==◌, not, map, Some, false, sym, ◌∙◌, ap, subst, arith, option_map_or, false≢true, AreUnits, Collection, collection_in, place_in, shelves_of}
+use Rattle.alloc_event.specs.Forest.{Forest, collection_at, is_left}
 use Rattle.alloc_event.specs.Given.{AreServedByGiven}
-use Rattle.alloc_event.specs.Kept.{collection_in, place_in, shelves_of}
 use Rattle.alloc_event.proofs.shelves.Counted.{counted_removed}
 use Rattle.alloc_event.proofs.leaving.Emptying.{remove_shelf, collections_beside, kept-beside, left_none}
 use Rattle.alloc_event.proofs.shelves.Entries.{place_is, none_in}

@@ -1,8 +1,6 @@
 -- The forest is what the table and the entries are then.
-use Rattle.std.proofs.Common.{map, subst, sym}
-use Rattle.alloc_event.specs.Counts.{AreUnits}
+use Rattle.alloc_event.proofs.Common.{map, subst, sym, AreUnits, collection_in, shelves_of}
 use Rattle.alloc_event.specs.Given.{AreServedByGiven}
-use Rattle.alloc_event.specs.Kept.{collection_in, shelves_of}
 use Rattle.alloc_event.proofs.changes.Finishing.{whole-map}
 use Rattle.alloc_event.proofs.tallies.Slots.{units_over}
 use Rattle.alloc_event.proofs.tables.TakingOut.{SameKeys-shown}

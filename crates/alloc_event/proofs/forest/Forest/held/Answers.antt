@@ -1,5 +1,5 @@
 -- The buffers of all collections are those of the entries.
-use Rattle.std.proofs.Common.{sym, ◌∙◌}
+use Rattle.alloc_event.proofs.Common.{sym, ◌∙◌}
 use Rattle.alloc_event.proofs.shelves.Ordered.{held_in_order}
 use Rattle.alloc_event.proofs.forest.Forest.held.Goals as goal
 

@@ -1,5 +1,5 @@
 -- The entries have the ids of the collections.
-use Rattle.std.proofs.Common.{sym, ◌∙◌}
+use Rattle.alloc_event.proofs.Common.{sym, ◌∙◌}
 use Rattle.alloc_event.proofs.shelves.Showing.{ids_of_all}
 use Rattle.alloc_event.proofs.forest.Forest.ids.Goals as goal
 

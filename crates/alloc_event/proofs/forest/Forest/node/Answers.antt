@@ -1,6 +1,5 @@
 -- The table has each node of the forest.
-use Rattle.std.proofs.Common.{sym, ◌∙◌}
-use Rattle.alloc_event.specs.Kept.{shelves_of}
+use Rattle.alloc_event.proofs.Common.{sym, ◌∙◌, shelves_of}
 use Rattle.alloc_event.proofs.shelves.Showing.{node_is}
 use Rattle.alloc_event.proofs.forest.Forest.node.Goals as goal
 

@@ -1,6 +1,5 @@
 -- The nodes of all collections are those of all keys.
-use Rattle.std.proofs.Common.{sym, ◌∙◌}
-use Rattle.alloc_event.specs.Kept.{shelves_of}
+use Rattle.alloc_event.proofs.Common.{sym, ◌∙◌, shelves_of}
 use Rattle.alloc_event.proofs.shelves.Showing.{nodes_of_all}
 use Rattle.alloc_event.proofs.forest.Forest.nodes.Goals as goal
 

@@ -1,5 +1,5 @@
 -- The other entries hold the pages of the other collections.
-use Rattle.std.proofs.Common.{sym, ◌∙◌}
+use Rattle.alloc_event.proofs.Common.{sym, ◌∙◌}
 use Rattle.alloc_event.proofs.shelves.Showing.{pages_of_others}
 use Rattle.alloc_event.proofs.forest.Forest.pages_beside.Goals as goal
 

@@ -1,17 +1,10 @@
 -- One node is written, and the others stay.
-use Rattle.std.proofs.Common.{refl, sym, ◌∙◌, ◌≡◌, ℕ, Bool, true, false, List, Option, Some, is_some, map, ap, subst}
-use Rattle.std.proofs.lemmas.Bool.{false≢true}
-use Rattle.sm_names.specs.declared.keys.NodeKey.{NodeKey}
-use Rattle.std.specs.Option.{option_map_or}
+use Rattle.alloc_event.proofs.Common.{refl, sym, ◌∙◌, ◌≡◌, ℕ, Bool, true, false, List, Option, Some, is_some, map, ap, subst, false≢true, NodeKey, option_map_or, Table, node_at, Node, AreUnits, with_nodes, IsStored, Shelf, are_filed, collection_in, forest_of, shelves_of, is_over}
 use Rattle.node_table.specs.Changes.{Writes}
 use Rattle.node_table.specs.Lending.{table_with_node}
-use Rattle.node_table.specs.Table.{Table, node_at}
-use Rattle.alloc_event.specs.declared.node.Node.{Node}
-use Rattle.alloc_event.specs.Counts.{AreUnits}
-use Rattle.alloc_event.specs.Forest.{Forest, node_at as forest_node, on_collections, with_nodes}
+use Rattle.alloc_event.specs.Forest.{Forest, node_at as forest_node, on_collections}
 use Rattle.alloc_event.specs.Given.{AreServedByGiven}
-use Rattle.alloc_event.specs.Kept.{IsStored, Shelf, are_filed, collection_in, forest_of, shelves_of}
-use Rattle.alloc_event.specs.Nodes.{is_over, with_end}
+use Rattle.alloc_event.specs.Nodes.{with_end}
 use Rattle.alloc_event.proofs.shelves.Counted.{ends_tidy, mapped_all}
 use Rattle.alloc_event.proofs.leaving.Ends.{ends-kept, ends-look, ends-shown}
 use Rattle.alloc_event.proofs.shelves.Showing.{node_is}

@@ -1,9 +1,7 @@
 -- What was finished is told of the forest.
-use Rattle.std.proofs.Common.{None, is_ok, refl, subst}
-use Rattle.buffer_holds.specs.Counts.{total}
-use Rattle.alloc_event.specs.declared.change.Change.{Change}
+use Rattle.alloc_event.proofs.Common.{None, refl, subst, total, Change, forest_of, shelves_of}
+use Rattle.std.proofs.Common.{is_ok}
 use Rattle.alloc_event.specs.Forest.{Forest}
-use Rattle.alloc_event.specs.Kept.{forest_of, shelves_of}
 use Rattle.alloc_event.specs.Settling.{Settled}
 use Rattle.alloc_event.proofs.Outcomes.{on_ok}
 use Rattle.alloc_event.proofs.changes.Tellings.{settled_change}

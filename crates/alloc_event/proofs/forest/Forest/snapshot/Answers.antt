@@ -1,7 +1,5 @@
 -- The entry with the id is the collection.
-use Rattle.std.proofs.Common.{Some, sym, ◌∙◌, ap, option_map, subst}
-use Rattle.alloc_event.specs.Forest.{Collection}
-use Rattle.alloc_event.specs.Kept.{collection_in, shelf_of, shelves_of}
+use Rattle.alloc_event.proofs.Common.{Some, sym, ◌∙◌, ap, option_map, subst, Collection, collection_in, shelf_of, shelves_of}
 use Rattle.alloc_event.specs.Scenes.{IsSound}
 use Rattle.alloc_event.proofs.changes.Altering.{found_whole}
 use Rattle.alloc_event.proofs.shelves.Showing.{collection_is, collection_none, shelf_found}

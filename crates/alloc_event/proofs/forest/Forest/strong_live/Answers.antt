@@ -1,10 +1,6 @@
 -- The count of the entry tells it.
-use Rattle.std.proofs.Common.{false, sym, ◌∙◌, ap}
-use Rattle.std.specs.Option.{option_map_or}
+use Rattle.alloc_event.proofs.Common.{false, sym, ◌∙◌, ap, option_map_or, Collection, nodes_with, members_of}
 use Rattle.sm_names.specs.Members.{some_strong_live}
-use Rattle.alloc_event.specs.Forest.{Collection}
-use Rattle.alloc_event.specs.Kept.{nodes_with}
-use Rattle.alloc_event.specs.Nodes.{members_of}
 use Rattle.alloc_event.proofs.shelves.Showing.{collection_none}
 use Rattle.alloc_event.proofs.tallies.Strong.{strong_found}
 use Rattle.alloc_event.proofs.calm.Watched.{found_counted, strong_told}

@@ -1,8 +1,6 @@
-use Rattle.std.proofs.Common.{rules, not, ap, ◌∙◌}
+use Rattle.alloc_event.proofs.Common.{not, ap, ◌∙◌, filter, NodeKey, same_key}
+use Rattle.std.proofs.Common.{rules}
 use Rattle.std.proofs.lemmas.Fn.{filter_same}
-use Rattle.std.specs.List.{filter}
-use Rattle.sm_names.specs.declared.keys.NodeKey.{NodeKey}
-use Rattle.sm_names.specs.Sameness.{same_key}
 use Rattle.alloc_event.specs.Keys.{Listed}
 use Rattle.alloc_event.proofs.key_list.KeyList.forget.Goals as goal
 

@@ -1,6 +1,6 @@
 -- The closure computes the test.
-use Rattle.std.proofs.Common.{rules, ap, ◌∙◌}
-use Rattle.std.specs.List.{filter}
+use Rattle.alloc_event.proofs.Common.{ap, ◌∙◌, filter}
+use Rattle.std.proofs.Common.{rules}
 use Rattle.std.proofs.lemmas.Fn.{filter_same}
 use Rattle.alloc_event.specs.Forgetting.{is_found}
 use Rattle.alloc_event.specs.Keys.{Listed}

@@ -1,5 +1,5 @@
 -- The keys behind it lie one lower.
-use Rattle.std.proofs.Common.{◌∙◌, ap, drop}
+use Rattle.alloc_event.proofs.Common.{◌∙◌, ap, drop}
 use Rattle.std.specs.List.{remove}
 use Rattle.alloc_event.specs.Keys.{Listed}
 use Rattle.alloc_event.proofs.leaving.KeyMoves.{moved_down}
