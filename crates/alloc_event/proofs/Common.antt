@@ -17,11 +17,11 @@ pub use Rattle.sm_names.specs.declared.keys.NodeKey.{NodeKey}
 pub use Rattle.sm_names.specs.declared.outcomes.Buffers.{Buffers}
 pub use Rattle.sm_names.specs.declared.outcomes.Cause.{Cause}
 pub use Rattle.node_table.specs.Table.{Table, node_at, parent_at}
-pub use Rattle.alloc_event.specs.Calm.{over_but, strong_count}
+pub use Rattle.alloc_event.specs.Calm.{over_except, strong_count}
 pub use Rattle.alloc_event.specs.Counts.{AreUnits, lives_in, unit_at, waits_in}
 pub use Rattle.alloc_event.specs.Decisions.{has_strong, is_left_of, waiting}
 pub use Rattle.alloc_event.specs.Forest.{Collection, with_nodes}
-pub use Rattle.alloc_event.specs.Kept.{AreRising, IsStored, IsWhole, Shelf, all_keys, are_filed, collection_in, forest_of, is_filed, nodes_with, place_in, put_shelf, shelf_of, shelves_of}
+pub use Rattle.alloc_event.specs.Shelves.{AreRising, IsStored, IsWhole, Shelf, all_keys, are_filed, collection_in, forest_of, is_filed, nodes_with, place_in, put_shelf, shelf_of, shelves_of}
 pub use Rattle.alloc_event.specs.Nodes.{affected, is_of, is_over, members_of, node_of}
 pub use Rattle.alloc_event.specs.Questions.{is_deserted_node, is_live_node, is_next_node, is_ready_node, is_root_left}
 pub use Rattle.alloc_event.specs.Reserved.{reserved_count}
@@ -33,5 +33,5 @@ pub use Rattle.alloc_event.specs.declared.change.Change.{Change}
 pub use Rattle.alloc_event.specs.declared.change.Effect.{Effect}
 pub use Rattle.alloc_event.specs.declared.entry.Entry.{Entry}
 pub use Rattle.alloc_event.specs.declared.node.Node.{Node}
-pub use Rattle.alloc_event.specs.declared.units.Unit.{Unit}
+pub use Rattle.alloc_event.specs.declared.unit_counts.Unit.{Unit}
 pub use Rattle.buffer_holds.specs.Counts.{total}

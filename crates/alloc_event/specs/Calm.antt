@@ -8,42 +8,42 @@ use Rattle.sm_names.specs.Words.{times}
 use Rattle.node_table.specs.Table.{Table}
 use Rattle.alloc_event.specs.declared.entry.Entry.{Entry}
 use Rattle.alloc_event.specs.declared.node.Node.{Node}
-use Rattle.alloc_event.specs.declared.units.Unit.{Unit}
+use Rattle.alloc_event.specs.declared.unit_counts.Unit.{Unit}
 use Rattle.alloc_event.specs.Counts.{HaveUnits}
 use Rattle.alloc_event.specs.Decisions.{decided}
 use Rattle.alloc_event.specs.Forest.{Collection}
 use Rattle.alloc_event.specs.Given.{HaveGiven}
-use Rattle.alloc_event.specs.Kept.{IsStored, collection_in, is_strong, nodes_with, shelf_of, shelves_of}
+use Rattle.alloc_event.specs.Shelves.{IsStored, collection_in, is_strong, nodes_with, shelf_of, shelves_of}
 use Rattle.alloc_event.specs.Nodes.{is_over}
 use Rattle.alloc_event.specs.Reserved.{reserved_count}
 
 -- no step would be forced in the collection, were a strong handle open
-abbrev pub IsCalm : Collection → Type 0
-IsCalm c = decided c.nodes c.buffers true ≡ None
+abbrev pub IsQuiescent : Collection → Type 0
+IsQuiescent c = decided c.nodes c.buffers true ≡ None
 
 -- how many of the nodes are live and strong
 abbrev pub strong_count : List Node → ℕ
 strong_count nodes = times is_strong nodes
 
 -- the node is over, and none of those that are noted
-abbrev pub over_but : List NodeKey → Node → Bool
-over_but noted n = is_over n && not (list_any (same_key n.key) noted)
+abbrev pub over_except : List NodeKey → Node → Bool
+over_except garbage n = is_over n && not (list_any (same_key n.key) garbage)
 
 -- the collection of the entry is calm, its counts are those of its nodes, and where it is tidy none of them is over but
 -- those that are noted
 pub record IsCounted (t : Table Node) (e : Entry) : Type 0 where
-  pub calm : IsCalm (collection_in t (shelf_of e))
+  pub calm : IsQuiescent (collection_in t (shelf_of e))
   pub strong : e.strong ≡ strong_count (nodes_with t e.keys.items)
   pub reserved : e.reserved ≡ reserved_count (nodes_with t e.keys.items)
-  pub tidy : e.tidy ≡ true → list_any (over_but e.noted.items) (nodes_with t e.keys.items) ≡ false
+  pub garbage_known : e.garbage_known ≡ true → list_any (over_except e.garbage.items) (nodes_with t e.keys.items) ≡ false
 
 -- so of each entry
 abbrev pub AreCounted : Table Node → List Entry → Type 0
 AreCounted t es = AllByRecursion (IsCounted t) es
 
 -- and of each but the one with this id
-abbrev pub AreCountedBut : Table Node → ℕ → List Entry → Type 0
-AreCountedBut t id es = AllByRecursion (λ (e : Entry). e.id ≢ id → IsCounted t e) es
+abbrev pub AreCountedExcept : Table Node → ℕ → List Entry → Type 0
+AreCountedExcept t id es = AllByRecursion (λ (e : Entry). e.id ≢ id → IsCounted t e) es
 
 -- the entries by id, with this one in place of the one with its id
 abbrev pub put_in : Entry → List Entry → List Entry

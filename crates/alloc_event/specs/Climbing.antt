@@ -5,7 +5,7 @@ use Rattle.sm_names.specs.declared.keys.NodeKey.{NodeKey}
 use Rattle.sm_names.specs.Words.{when}
 use Rattle.node_table.specs.Table.{Table, node_at, parent_at}
 use Rattle.alloc_event.specs.declared.node.Node.{Node}
-use Rattle.alloc_event.specs.declared.units.Unit.{Unit}
+use Rattle.alloc_event.specs.declared.unit_counts.Unit.{Unit}
 use Rattle.alloc_event.specs.Counts.{unit_at}
 
 -- the unit that the node is of has its head, and nothing holds it but one unit right below

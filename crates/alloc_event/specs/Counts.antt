@@ -8,9 +8,9 @@ use Rattle.sm_names.specs.Words.{times}
 use Rattle.node_table.specs.Table.{Table, node_at}
 use Rattle.alloc_event.specs.declared.entry.Entry.{Entry}
 use Rattle.alloc_event.specs.declared.node.Node.{Node}
-use Rattle.alloc_event.specs.declared.units.Unit.{Unit}
+use Rattle.alloc_event.specs.declared.unit_counts.Unit.{Unit}
 use Rattle.alloc_event.specs.Forest.{Collection}
-use Rattle.alloc_event.specs.Kept.{collection_in, shelves_of}
+use Rattle.alloc_event.specs.Shelves.{collection_in, shelves_of}
 use Rattle.alloc_event.specs.Nodes.{is_of}
 use Rattle.alloc_event.specs.Questions.{is_live_node, is_ready_node}
 
@@ -69,8 +69,8 @@ abbrev pub AreUnits : List Unit → List Collection → Type 0
 AreUnits units cs = AllByRecursion (λ (c : Collection). HasUnits units c.nodes) cs
 
 -- and of each but the one with this id
-abbrev pub AreUnitsBut : List Unit → ℕ → List Collection → Type 0
-AreUnitsBut units id cs = AllByRecursion (λ (c : Collection). c.id ≢ id → HasUnits units c.nodes) cs
+abbrev pub AreUnitsExcept : List Unit → ℕ → List Collection → Type 0
+AreUnitsExcept units id cs = AllByRecursion (λ (c : Collection). c.id ≢ id → HasUnits units c.nodes) cs
 
 -- so of each collection of a forest
 abbrev pub HaveUnits : List Unit → Table Node → List Entry → Type 0

@@ -17,7 +17,7 @@ use Rattle.sm_names.specs.Words.{first_some, when}
 use Rattle.alloc_event.specs.declared.node.Node.{Node}
 use Rattle.alloc_event.specs.Forest.{Collection}
 use Rattle.alloc_event.specs.Nodes.{is_of, members_of}
-use Rattle.alloc_event.specs.Questions.{demands_of, is_deserted_node, is_in_unit, is_live_node, is_next_node, is_ready_node, is_root_left, is_served}
+use Rattle.alloc_event.specs.Questions.{demands_of, is_deserted_node, is_in_unit, is_live_node, is_next_node, is_ready_node, is_root_left, has_buffers}
 use Rattle.alloc_event.specs.Settling.{is_root_of}
 
 -- a forced step that is to be made, before the pool was asked for places: the node leaves, and all below it; or it fails; or the root
@@ -59,7 +59,7 @@ early_failure head nodes = first_some (
 -- why the attached unit with this head can't be allocated
 abbrev pub late_failure : NodeKey → List Node → Buffers → Option Failure
 late_failure head nodes buffers = first_some (
-    when (nat_lt buffers.count (sum_by (λ (d : Demand). d.camping) (demands_of is_served nodes)
+    when (nat_lt buffers.count (sum_by (λ (d : Demand). d.camping) (demands_of has_buffers nodes)
     + sum_by (λ (d : Demand). d.camping) (demands_of (is_in_unit head) nodes))
     || nat_lt buffers.count (greatest (λ d. d.at_least) (demands_of (is_in_unit head) nodes))) Failure.TooFew
     ∷ when (nat_lt buffers.size (greatest (λ d. d.size) (demands_of (is_in_unit head) nodes))) Failure.TooSmall

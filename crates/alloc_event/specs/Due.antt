@@ -6,9 +6,9 @@ use Rattle.node_table.specs.Table.{Table, node_at, parent_at}
 use Rattle.alloc_event.specs.declared.node.Node.{Node}
 
 -- there is a node with this key, and its unit has its buffers
-abbrev pub is_served_at : Table Node → NodeKey → Bool
-is_served_at t key = option_map_or (λ (n : Node). n.allocated) (node_at t key) false
+abbrev pub has_buffers_at : Table Node → NodeKey → Bool
+has_buffers_at t key = option_map_or (λ (n : Node). n.allocated) (node_at t key) false
 
 -- the unit with this head has no buffers, and the one above it has them, if there is one
 abbrev pub is_due_at : Table Node → NodeKey → Bool
-is_due_at t head = not (is_served_at t head) && option_map_or (is_served_at t) (parent_at t head) true
+is_due_at t head = not (has_buffers_at t head) && option_map_or (has_buffers_at t) (parent_at t head) true

@@ -4,12 +4,12 @@ use Rattle.std.specs.List.{AllByRecursion, list_any}
 use Rattle.node_table.specs.Table.{Table}
 use Rattle.alloc_event.specs.declared.node.Node.{Node}
 use Rattle.alloc_event.specs.Forest.{Collection}
-use Rattle.alloc_event.specs.Kept.{Shelf, collection_in}
-use Rattle.alloc_event.specs.Questions.{is_served}
+use Rattle.alloc_event.specs.Shelves.{Shelf, collection_in}
+use Rattle.alloc_event.specs.Questions.{has_buffers}
 
 -- a node of it has buffers only if it was given some
 abbrev pub IsServedByGiven : Collection → Type 0
-IsServedByGiven c = c.buffers ≡ None → list_any is_served c.nodes ≡ false
+IsServedByGiven c = c.buffers ≡ None → list_any has_buffers c.nodes ≡ false
 
 -- so of each collection
 abbrev pub AreServedByGiven : List Collection → Type 0

@@ -5,12 +5,12 @@ use Rattle.node_table.specs.Table.{Table}
 use Rattle.alloc_event.specs.declared.change.Change.{Change}
 use Rattle.alloc_event.specs.declared.entry.Entry.{Entry}
 use Rattle.alloc_event.specs.declared.node.Node.{Node}
-use Rattle.alloc_event.specs.declared.units.Unit.{Unit}
+use Rattle.alloc_event.specs.declared.unit_counts.Unit.{Unit}
 use Rattle.alloc_event.specs.Calm.{AreCounted}
 use Rattle.alloc_event.specs.Counts.{HaveUnits}
 use Rattle.alloc_event.specs.Forest.{Collection, IsPoolOf}
 use Rattle.alloc_event.specs.Given.{HaveGiven}
-use Rattle.alloc_event.specs.Kept.{Finishes, IsStored, SameTable, forest_of, shelves_of}
+use Rattle.alloc_event.specs.Shelves.{Finishes, IsStored, SameTable, forest_of, shelves_of}
 use Rattle.alloc_event.specs.Settling.{Handles, MayChange, changed, collection_or_new, no_key}
 
 -- the change may be made to this collection of the forest

@@ -53,8 +53,8 @@ abbrev pub is_in_unit : NodeKey → Node → Bool
 is_in_unit head n = not n.gone && same_key n.head head
 
 -- the node is in an allocated unit, and not gone
-abbrev pub is_served : Node → Bool
-is_served n = not n.gone && n.allocated
+abbrev pub has_buffers : Node → Bool
+has_buffers n = not n.gone && n.allocated
 
 -- what those nodes ask for that pass the test
 abbrev pub demands_of : (Node → Bool) → List Node → List Demand

@@ -7,15 +7,15 @@ use Rattle.alloc_event.specs.declared.change.Change.{Change}
 use Rattle.alloc_event.specs.declared.change.Effect.{Effect}
 use Rattle.alloc_event.specs.declared.node.Node.{Node}
 use Rattle.alloc_event.specs.Nodes.{after_effect}
-use Rattle.alloc_event.specs.Questions.{demands_of, is_served}
+use Rattle.alloc_event.specs.Questions.{demands_of, has_buffers}
 
 -- how many buffers the nodes camp on that are in allocated units and not gone
 abbrev pub reserved_count : List Node → ℕ
-reserved_count nodes = sum_by (λ (d : Demand). d.camping) (demands_of is_served nodes)
+reserved_count nodes = sum_by (λ (d : Demand). d.camping) (demands_of has_buffers nodes)
 
 -- how many of them this node camps on
 abbrev pub camped : Node → ℕ
-camped n = option_map_or (λ (d : Demand). d.camping) (if is_served n then n.constraints else None) 0
+camped n = option_map_or (λ (d : Demand). d.camping) (if has_buffers n then n.constraints else None) 0
 
 -- what the effect makes its node ask for, if it sets its constraints
 abbrev pub asked_by : Effect → Option Demand

@@ -4,7 +4,7 @@ use Rattle.std.specs.List.{list_all}
 use Rattle.node_table.specs.Table.{Table}
 use Rattle.alloc_event.specs.declared.node.Node.{Node}
 use Rattle.alloc_event.specs.Dropped.{has_given_root}
-use Rattle.alloc_event.specs.Kept.{Shelf}
+use Rattle.alloc_event.specs.Shelves.{Shelf}
 use Rattle.alloc_event.specs.Scenes.{is_held_strongly, is_out}
 use Rattle.alloc_event.specs.Settling.{Handles}
 

@@ -7,7 +7,7 @@ use Rattle.sm_names.specs.declared.keys.NodeKey.{NodeKey}
 use Rattle.sm_names.specs.Forced.{forced}
 use Rattle.sm_names.specs.declared.keys.HeldBuffer.{HeldBuffer}
 use Rattle.alloc_event.specs.Forest.{Collection}
-use Rattle.alloc_event.specs.Kept.{Shelf}
+use Rattle.alloc_event.specs.Shelves.{Shelf}
 use Rattle.alloc_event.specs.Settling.{Handles, is_home_in, standing}
 
 -- no step is forced, and no buffer that is held is home

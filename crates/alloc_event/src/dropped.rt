@@ -8,24 +8,24 @@ ghost use Rattle.sm_names.specs.declared.keys.Strength.{Strength as Grade};
 ghost use Rattle.sm_names.specs.Handles.{is_home, names};
 ghost use Rattle.buffer_holds.specs.Counts.{total};
 ghost use Rattle.alloc_event.specs.declared.change.Change.{Change as Changed};
-ghost use Rattle.alloc_event.specs.declared.units.Unit.{Unit as Counts};
+ghost use Rattle.alloc_event.specs.declared.unit_counts.Unit.{Unit as Counts};
 ghost use Rattle.alloc_event.specs.Calm.{AreCounted, IsForest};
 ghost use Rattle.alloc_event.specs.Counts.{HaveUnits};
 ghost use Rattle.alloc_event.specs.Dropped.{are_others_out, are_rest_out, has_given_root, is_given_root};
 ghost use Rattle.alloc_event.specs.Forest.{IsPoolOf, collection_at};
-ghost use Rattle.alloc_event.specs.Kept.{Finishes, IsStored, forest_of, shelves_of};
+ghost use Rattle.alloc_event.specs.Shelves.{Finishes, IsStored, forest_of, shelves_of};
 ghost use Rattle.alloc_event.specs.Outcomes.{IsOutcomeIn};
 ghost use Rattle.alloc_event.specs.Scenes.{by_page, given_few, is_held_strongly, is_out, name_of, pages_held};
 ghost use Rattle.alloc_event.specs.Settling.{collection_or_new};
 
 use crate::change::Change;
-use crate::changing::settle_change;
 use crate::entry::{Entry, place_of};
 use crate::node::Node;
-use crate::placing::part;
+use crate::placement::assert_disjoint;
 use crate::returns::look_at;
-use crate::room::Room;
-use crate::units::Unit;
+use crate::scratch::Scratch;
+use crate::settle::settle_change;
+use crate::unit_counts::Unit;
 use buffer_holds::Holds;
 use buffer_pool::Pool;
 use node_table::NodeTable;
@@ -63,7 +63,7 @@ pub(crate) fn is_abandoned(table: &NodeTable<Node>, entry: &Entry, holds: &Holds
 
 /// The buffer with this name is not held any longer, and gives its pages back. It costs a pass over
 /// the names.
-fn return_named(held: &mut Vec<HeldBuffer>, pool: &mut Pool, holds: &Holds, buffer: BufferName)
+fn free_buffer(held: &mut Vec<HeldBuffer>, pool: &mut Pool, holds: &Holds, buffer: BufferName)
     requires home { is_home (total holds.now buffer Grade.Strong) (total holds.now buffer Grade.Weak) false ≡ true }
     requires pool { (others : List Interval) × (pool.old.held ≡ by_page (pages_held held.old.items ++ others)) }
     requires others { are_rest_out (total holds.now) buffer false held.old.items ≡ true }
@@ -86,7 +86,7 @@ fn return_named(held: &mut Vec<HeldBuffer>, pool: &mut Pool, holds: &Holds, buff
 }
 
 /// The buffer with this name gives its pages back, if it is home. No other one is home.
-fn return_home(
+fn free_if_home(
     held: &mut Vec<HeldBuffer>,
     pool: &mut Pool,
     holds: &Holds,
@@ -101,7 +101,7 @@ fn return_home(
     ensures size { pool.new.size ≡ pool.old.size }
 {
     if !strong_live && holds.home(buffer, strong_live) {
-        return_named(held, pool, holds, buffer);
+        free_buffer(held, pool, holds, buffer);
     }
 }
 
@@ -138,9 +138,9 @@ fn drop_in_place(
     if !strong_live && is_abandoned(table, &entries[at], holds) {
         return false;
     }
-    part(pool);
-    return_home(&mut entries[at].held, pool, holds, buffer, strong_live);
-    part(pool);
+    assert_disjoint(pool);
+    free_if_home(&mut entries[at].held, pool, holds, buffer, strong_live);
+    assert_disjoint(pool);
     true
 }
 
@@ -153,7 +153,7 @@ pub(crate) fn settle_dropped(
     pool: &mut Pool,
     holds: &Holds,
     buffer: BufferName,
-    room: &mut Room,
+    room: &mut Scratch,
 ) -> Result<(), NoMemory>
     requires forest { IsForest table.old entries.old.items units.old.items }
     requires others { option_map_or (are_others_out (total holds.now) buffer)

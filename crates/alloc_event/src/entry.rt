@@ -1,7 +1,7 @@
 //! A collection as it is kept, and the collections by their ids.
 ghost use Rattle.std.specs.Prelude.{◌≡◌, ◌==◌, nat_lt, option_copied, IfSome};
 ghost use Rattle.std.specs.List.{prefix_len, find};
-ghost use Rattle.alloc_event.specs.Kept.{AreRising, place_in, shelves_of};
+ghost use Rattle.alloc_event.specs.Shelves.{AreRising, place_in, shelves_of};
 
 use crate::key_list::KeyList;
 use sm_names::{Buffers, CollectionId, HeldBuffer, NodeKey};
@@ -20,7 +20,7 @@ pub(crate) struct Entry {
     /// The buffers whose pages were not given back, by index.
     pub(crate) held: Vec<HeldBuffer>,
     /// The keys of nodes that are over, until they are forgotten.
-    pub(crate) noted: Vec<NodeKey>,
+    pub(crate) garbage: Vec<NodeKey>,
     /// How many of its nodes are live and strong.
     pub(crate) strong: usize,
     /// What it was given.
@@ -28,7 +28,7 @@ pub(crate) struct Entry {
     /// Where it stands first, the place at which the last collection was found by a search: a guess.
     pub(crate) guess: Cell<u16>,
     /// It is known that none of its nodes is over, but for those that are noted.
-    pub(crate) tidy: bool,
+    pub(crate) garbage_known: bool,
 }
 
 /// How many collections have a smaller id, if the last one tells it: it has this id or a smaller one.

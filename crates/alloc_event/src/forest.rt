@@ -13,17 +13,17 @@ ghost use Rattle.alloc_event.specs.Settling.{MayChange, Settled};
 ghost use Rattle.alloc_event.specs.Snapshots.{collection_of};
 
 use crate::change::Change;
-use crate::changing::{settle_birth, settle_change};
 use crate::dropped::settle_dropped;
 use crate::entry::{Entry, entry_of, place_of};
-use crate::forgetting::{forget_over, note_over, take_out};
-use crate::kept::{copy_out, held_by_page, ids_of, kept_nodes, live_by_birth, pages_beside};
+use crate::garbage::{forget_over, list_garbage, take_out};
+use crate::lookup::{copy_out, held_by_page, ids_of, kept_nodes, live_by_birth, pages_beside};
 use crate::node::{End, Node};
-use crate::room::Room;
+use crate::scratch::Scratch;
+use crate::settle::{settle_birth, settle_change};
 use crate::snapshot::Snapshot;
 use crate::store::put_end;
 use crate::summary::Summary;
-use crate::units::Unit;
+use crate::unit_counts::Unit;
 use buffer_holds::Holds;
 use buffer_pool::Pool;
 use node_table::NodeTable;
@@ -40,7 +40,7 @@ pub struct Forest {
     // What is counted of the unit whose head has the slot.
     units: Vec<Unit>,
     // For what falls.
-    room: Room,
+    room: Scratch,
 }
 
 impl Model for Forest {
@@ -48,7 +48,7 @@ impl Model for Forest {
 
     ghost Value = { Forest };
 
-    ghost use Rattle.alloc_event.specs.Kept.{forest_of, shelves_of};
+    ghost use Rattle.alloc_event.specs.Shelves.{forest_of, shelves_of};
     ghost use Rattle.alloc_event.specs.Calm.{IsForest};
 
     ghost view = { λ f. forest_of f.table (shelves_of f.entries.items) };
@@ -65,7 +65,7 @@ impl Forest {
             table: NodeTable::new(alloc, limit),
             entries: Vec::new(alloc),
             units: Vec::new(alloc),
-            room: Room::new(alloc),
+            room: Scratch::new(alloc),
         }
     }
 
@@ -135,8 +135,8 @@ impl Forest {
             event,
         } = change
         {
-            self.room.make(table.len().saturating_add(1))?;
-            let keys = &mut self.room.going;
+            self.room.reserve(table.len().saturating_add(1))?;
+            let keys = &mut self.room.removed;
             let key = settle_birth(
                 table, entries, units, pool, holds, collection, parent, attached, client, event,
                 keys,
@@ -306,7 +306,7 @@ impl Forest {
         ensures { self.new ≡ on_collections (with_nodes (map (with_end key end))) self.old }
     {
         if let Some((id, over)) = put_end(&mut self.table, key, end) {
-            note_over(&mut self.entries, id, key, over);
+            list_garbage(&mut self.entries, id, key, over);
         }
     }
 

@@ -2,9 +2,9 @@
 ghost use Rattle.std.specs.Prelude.{◌≡◌, ◌+◌, ◌-◌, ◌++◌, ◌∷◌, ◌<◌, ◌≤◌, ◌^◌, [], length, not, drop, vec_capacity, OnOk};
 ghost use Rattle.std.specs.List.{filter, remove};
 ghost use Rattle.sm_names.specs.Sameness.{same_key};
-ghost use Rattle.alloc_event.specs.Forgetting.{is_found};
+ghost use Rattle.alloc_event.specs.Garbage.{is_found};
 
-use crate::forgetting::is_found;
+use crate::garbage::is_found;
 use crate::node::Node;
 use node_table::NodeTable;
 use sm_names::NodeKey;

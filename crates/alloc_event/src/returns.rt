@@ -7,7 +7,7 @@ ghost use Rattle.buffer_pool.specs.Holdings.{without, IsSound as IsSoundPool};
 ghost use Rattle.alloc_event.specs.Runs.{rest_of, HoldsRun};
 ghost use Rattle.alloc_event.specs.Scenes.{by_page, is_out, pages_held};
 
-use crate::runs::{Run, give_run, join_run};
+use crate::page_ranges::{PageRange, extend_range, return_range};
 use buffer_holds::{Holds, Spot};
 use buffer_pool::Pool;
 use sm_names::HeldBuffer;
@@ -15,7 +15,7 @@ use sm_names::HeldBuffer;
 /// The buffers that are home give their pages back, and are not held any longer. It takes no memory,
 /// and costs a look at the handles of each buffer, two where some stay held and others go, with a shift
 /// for each that goes, and what the pool takes.
-pub(crate) fn send_home(
+pub(crate) fn free_home_buffers(
     held: &mut Vec<HeldBuffer>,
     pool: &mut Pool,
     holds: &Holds,
@@ -28,7 +28,7 @@ pub(crate) fn send_home(
     ensures size { pool.new.size ≡ pool.old.size }
 {
     let out = return_pages(held, pool, holds, strong_live);
-    keep_out(held, holds, strong_live, out);
+    keep_held(held, holds, strong_live, out);
 }
 
 /// Each buffer that is home gives its pages back, together with those that lie side by side with it.
@@ -45,12 +45,12 @@ fn return_pages(held: &[HeldBuffer], pool: &mut Pool, holds: &Holds, strong_live
 {
     look_at(pool);
     let mut near = Spot::new();
-    let mut run = Run::new();
+    let mut run = PageRange::new();
     let mut out = 0;
     for buffer in held {
         out += return_one(*buffer, pool, holds, strong_live, &mut near, &mut run);
     }
-    give_run(pool, run);
+    return_range(pool, run);
     out
 }
 
@@ -62,7 +62,7 @@ fn return_one(
     holds: &Holds,
     strong_live: bool,
     near: &mut Spot,
-    run: &mut Run,
+    run: &mut PageRange,
 ) -> usize
     requires sound { IsSoundPool pool.old }
     requires run { HoldsRun run.old pool.old.held }
@@ -75,7 +75,7 @@ fn return_one(
     ensures out { result ≡ (if is_out (total holds.now) strong_live buffer then 1 else 0) }
 {
     if holds.home_near(buffer.buffer, strong_live, near) {
-        *run = join_run(pool, *run, buffer.pages);
+        *run = extend_range(pool, *run, buffer.pages);
         return 0;
     }
     1
@@ -89,7 +89,7 @@ pub(crate) fn look_at(pool: &Pool)
 }
 
 /// The buffers that are home are not held any longer. So many are not.
-fn keep_out(held: &mut Vec<HeldBuffer>, holds: &Holds, strong_live: bool, out: usize)
+fn keep_held(held: &mut Vec<HeldBuffer>, holds: &Holds, strong_live: bool, out: usize)
     requires { out ≡ length (filter (is_out (total holds.now) strong_live) held.old.items) }
     ensures { held.new.items ≡ filter (is_out (total holds.now) strong_live) held.old.items }
 {

@@ -3,13 +3,13 @@ ghost use Rattle.std.specs.Prelude.{◌≡◌, Some, None, vec_len, vec_capacity
 ghost use Rattle.node_table.specs.Table.{node_at};
 ghost use Rattle.node_table.specs.Changes.{Writes};
 ghost use Rattle.node_table.specs.Lending.{table_with_node};
-ghost use Rattle.alloc_event.specs.declared.node.Node.{Node as Kept};
+ghost use Rattle.alloc_event.specs.declared.node.Node.{Node as NodeValue};
 ghost use Rattle.alloc_event.specs.Calm.{put_in};
-ghost use Rattle.alloc_event.specs.Kept.{shelf_of, shelves_of, put_shelf, AreRising};
+ghost use Rattle.alloc_event.specs.Shelves.{shelf_of, shelves_of, put_shelf, AreRising};
 ghost use Rattle.alloc_event.specs.Nodes.{is_over};
 
 use crate::entry::{Entry, entries_before, place_of};
-use crate::kept::is_over;
+use crate::lookup::is_over;
 use crate::node::{End, Node};
 use node_table::NodeTable;
 use sm_names::{CollectionId, HeldBuffer, NodeKey};
@@ -23,9 +23,9 @@ pub(crate) fn put_end(
     end: End,
 ) -> Option<(CollectionId, bool)>
     ensures none { result ≡ None → node_at table.old key ≡ None }
-    ensures told { (n : Kept) → node_at table.old key ≡ Some n → result ≡ Some (n.collection, is_over (record n { end = end })) }
-    ensures becomes { (n : Kept) → node_at table.old key ≡ Some n → table.new ≡ table_with_node table.old key (record n { end = end }) }
-    ensures writes { (n : Kept) → node_at table.old key ≡ Some n → Writes table.old table.new key (record n { end = end }) }
+    ensures told { (n : NodeValue) → node_at table.old key ≡ Some n → result ≡ Some (n.collection, is_over (record n { end = end })) }
+    ensures becomes { (n : NodeValue) → node_at table.old key ≡ Some n → table.new ≡ table_with_node table.old key (record n { end = end }) }
+    ensures writes { (n : NodeValue) → node_at table.old key ≡ Some n → Writes table.old table.new key (record n { end = end }) }
 {
     match table.get_mut(key) {
         Some(node) => {

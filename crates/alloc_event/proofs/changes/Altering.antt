@@ -3,7 +3,7 @@ use Rattle.alloc_event.proofs.Common.{◌≡◌, ℕ, ◌<◌, ◌==◌, nat_lt,
 use Rattle.std.proofs.lemmas.Bool.{ne_eqb, ltb-true}
 use Rattle.std.proofs.lemmas.List.Folds.{list_any-append}
 use Rattle.alloc_event.specs.Forest.{node_at as forest_node}
-use Rattle.alloc_event.specs.Kept.{all_of}
+use Rattle.alloc_event.specs.Shelves.{all_of}
 use Rattle.alloc_event.specs.Nodes.{lost, is_taken}
 use Rattle.alloc_event.specs.Scenes.{has_tracker_room}
 use Rattle.alloc_event.specs.Settling.{changed, is_birth, no_key, fits, is_there, has_collection}

@@ -1,23 +1,23 @@
 -- A change that was made in its place and forces nothing: the forest then, and the entry of its collection.
-use Rattle.alloc_event.proofs.Common.{◌≡◌, ℕ, ◌==◌, true, false, List, map, get_or, set, Some, None, option_map, refl, sym, ap, subst, ◌∙◌, find, list_all, list_any, Interval, forced, Table, Change, Entry, Node, Unit, over_but, strong_count, AreUnits, Collection, IsStored, Shelf, are_filed, collection_in, forest_of, is_filed, nodes_with, place_in, put_shelf, shelf_of, shelves_of, reserved_count, Handles, Settles, collection_or_new, put, standing}
+use Rattle.alloc_event.proofs.Common.{◌≡◌, ℕ, ◌==◌, true, false, List, map, get_or, set, Some, None, option_map, refl, sym, ap, subst, ◌∙◌, find, list_all, list_any, Interval, forced, Table, Change, Entry, Node, Unit, over_except, strong_count, AreUnits, Collection, IsStored, Shelf, are_filed, collection_in, forest_of, is_filed, nodes_with, place_in, put_shelf, shelf_of, shelves_of, reserved_count, Handles, Settles, collection_or_new, put, standing}
 use Rattle.std.proofs.lemmas.List.{get_or_default}
-use Rattle.alloc_event.specs.Calm.{AreCounted, IsCalm, IsCounted}
+use Rattle.alloc_event.specs.Calm.{AreCounted, IsQuiescent, IsCounted}
 use Rattle.alloc_event.specs.Counts.{HaveUnits}
 use Rattle.alloc_event.specs.Dropped.{has_given_root}
 use Rattle.alloc_event.specs.Forest.{beside}
-use Rattle.alloc_event.specs.InPlace.{IsDone, IsOpen}
-use Rattle.alloc_event.specs.Kept.{Finishes, Stores}
+use Rattle.alloc_event.specs.Unforced.{IsDone, IsOpen}
+use Rattle.alloc_event.specs.Shelves.{Finishes, Stores}
 use Rattle.alloc_event.specs.Outcomes.{IsOutcome, changed_in}
 use Rattle.alloc_event.specs.Resting.{is_kept_by}
 use Rattle.alloc_event.specs.Scenes.{given_few}
 use Rattle.alloc_event.specs.Settling.{MayChange, Rests, changed, given_back, no_key}
 use Rattle.alloc_event.proofs.changes.Altering.{found_filed, found_put, found_whole}
-use Rattle.alloc_event.proofs.calm.Resting.{back_kept, few_found, rests_kept, rests_on}
+use Rattle.alloc_event.proofs.quiescence.Resting.{back_kept, few_found, rests_kept, rests_on}
 use Rattle.alloc_event.proofs.shelves.Counted.{counted_but, counted_put, filed_every, moved_but, set_shelves}
 use Rattle.alloc_event.proofs.shelves.Entries.{IsPlace, set_put}
 use Rattle.alloc_event.proofs.changes.Finishing.{collection-beside, collections-put, keys_in}
 use Rattle.alloc_event.proofs.shelves.Showing.{shelf_found}
-use Rattle.alloc_event.proofs.calm.Watched.{found_counted}
+use Rattle.alloc_event.proofs.quiescence.Watched.{found_counted}
 
 -- where nodes were written, and nothing is forced while a strong one lives, or the collection rests without
 module _ (t now : Table Node) (ss : List Shelf) (s : Shelf) (kept : IsStored t ss) (found : find (λ (x : Shelf). x.id == s.id) ss ≡ Some s)
@@ -36,7 +36,7 @@ module _ (t now : Table Node) (ss : List Shelf) (s : Shelf) (kept : IsStored t s
       ((pool : ℕ) (handles : Handles) (others : List Interval) → forced pool (standing handles others (collection_in now s)) ≡ None →
       Settles pool handles others (record (collection_in t s) { nodes = between }) (collection_in now s)) →
       (after : List Unit) (lives : ℕ) → lives ≡ strong_count (nodes_with now s.keys) →
-      IsCalm (collection_in now s) →
+      IsQuiescent (collection_in now s) →
       AreUnits after (map (collection_in now) ss) → IsDone t now after ss s change lives
   done_led kept_now roots between change_is leads after lives count_now calm_now units_now =
       let filed_now = found_filed now s.id ss s kept_now.filed found in
@@ -68,7 +68,7 @@ module _ (t now : Table Node) (ss : List Shelf) (s : Shelf) (kept : IsStored t s
   pub done_by : IsStored now ss → (has_given_root t s.keys ≡ false → has_given_root now s.keys ≡ false) →
       changed change no_key (collection_or_new (forest_of t ss) s.id) ≡ collection_in now s →
       (after : List Unit) (lives : ℕ) → lives ≡ strong_count (nodes_with now s.keys) →
-      IsCalm (collection_in now s) →
+      IsQuiescent (collection_in now s) →
       AreUnits after (map (collection_in now) ss) → IsDone t now after ss s change lives
   done_by kept_now roots change_is =
       done_led kept_now roots (nodes_with now s.keys) change_is (λ pool handles others rest. Rests (collection_in now s) rest)
@@ -105,8 +105,8 @@ module _ (t : Table Node) (es : List Entry) (id at : ℕ) (old : Entry) (place :
   few_at = few_found t es id old kept found
 
   -- where it was tidy none of its nodes was over but the noted one
-  pub tidy_at : old.tidy ≡ true → list_any (over_but old.noted.items) (nodes_with t old.keys.items) ≡ false
-  tidy_at h = (found_counted t id es old all found).tidy h
+  pub tidy_at : old.garbage_known ≡ true → list_any (over_except old.garbage.items) (nodes_with t old.keys.items) ≡ false
+  tidy_at h = (found_counted t id es old all found).garbage_known h
 
   -- what was reserved was counted
   pub reserved_at : old.reserved ≡ reserved_count (nodes_with t old.keys.items)
@@ -114,7 +114,7 @@ module _ (t : Table Node) (es : List Entry) (id at : ℕ) (old : Entry) (place :
 
   module _ (now : Table Node) (after : List Unit) (left : ℕ) (made : IsDone t now after (shelves_of es) (shelf_of old) change left)
       (new : Entry) (same : shelf_of new ≡ shelf_of old) (strong : new.strong ≡ left)
-      (tidy : new.tidy ≡ true → list_any (over_but new.noted.items) (nodes_with now old.keys.items) ≡ false) where
+      (garbage_known : new.garbage_known ≡ true → list_any (over_except new.garbage.items) (nodes_with now old.keys.items) ≡ false) where
     -- the entry at the place has the same shelf as before, so the list of shelves stays
     pub shelves_at : shelves_of (set es at new) ≡ shelves_of es
     shelves_at = set_shelves es at new (λ within. same ∙ ap shelf_of (is ∙ get_or_default es at old new within))
@@ -142,10 +142,10 @@ module _ (t : Table Node) (es : List Entry) (id at : ℕ) (old : Entry) (place :
         (λ e differ filed. made.others (shelf_of e) (λ one. differ (one ∙ sym (ap (λ (s : Shelf). s.id) same))) filed)
         (counted_but t new.id es all))
         (record {
-          calm = subst (λ (s : Shelf). IsCalm (collection_in now s)) (sym same) made.calm;
+          calm = subst (λ (s : Shelf). IsQuiescent (collection_in now s)) (sym same) made.calm;
           strong = strong ∙ made.strong ∙ ap (λ (s : Shelf). strong_count (nodes_with now s.keys)) (sym same);
           reserved = reserved ∙ ap (λ (s : Shelf). reserved_count (nodes_with now s.keys)) (sym same);
-          tidy = λ h. ap (λ (s : Shelf). list_any (over_but new.noted.items) (nodes_with now s.keys)) same ∙ tidy h;
+          garbage_known = λ h. ap (λ (s : Shelf). list_any (over_except new.garbage.items) (nodes_with now s.keys)) same ∙ garbage_known h;
         }))
 
     -- so that it was made

@@ -15,14 +15,14 @@ use Rattle.alloc_event.specs.Counts.{HasUnits, HaveUnits}
 use Rattle.alloc_event.specs.Decisions.{decided, mark_of}
 use Rattle.alloc_event.specs.Dropped.{are_others_out, are_rest_out, has_given_root}
 use Rattle.alloc_event.specs.Forest.{all_held, beside, collection_at, pages_in}
-use Rattle.alloc_event.specs.Kept.{Finishes, Stores, stored}
-use Rattle.alloc_event.specs.Parted.{are_parted}
+use Rattle.alloc_event.specs.Shelves.{Finishes, Stores, stored}
+use Rattle.alloc_event.specs.Starts.{starts_differ}
 use Rattle.alloc_event.specs.Scenes.{by_page, given_few, is_held_strongly, is_out, pages_held}
 use Rattle.alloc_event.specs.Settling.{Rests, given_back}
-use Rattle.alloc_event.proofs.calm.Calming.{none_calm}
-use Rattle.alloc_event.proofs.calm.Forcing.{forced_made}
-use Rattle.alloc_event.proofs.calm.Resting.{root_first, still_decided}
-use Rattle.alloc_event.proofs.calm.Watched.{found_counted, strong_lives, strong_told}
+use Rattle.alloc_event.proofs.quiescence.Calming.{none_calm}
+use Rattle.alloc_event.proofs.quiescence.Forcing.{forced_made}
+use Rattle.alloc_event.proofs.quiescence.Resting.{root_first, still_decided}
+use Rattle.alloc_event.proofs.quiescence.Watched.{found_counted, strong_lives, strong_told}
 use Rattle.alloc_event.proofs.changes.Altering.{found_filed, found_put, found_whole}
 use Rattle.alloc_event.proofs.changes.Finishing.{kept-put, whole-map, whole-put, whole-unmap}
 use Rattle.alloc_event.proofs.intervals.Pools.{pool_back, pool_beside}
@@ -190,7 +190,7 @@ module _ (handles : Handles) (t : Table Node) (es : List Entry) (id at : ℕ) (o
   put_same = found_put (shelf_of old) ss kept.rising own_found
 
   -- the pages beside it
-  pub pool_at : (held : List Interval) → are_parted held ≡ true →
+  pub pool_at : (held : List Interval) → starts_differ held ≡ true →
       held ≡ sorted_by start_of (map (λ (h : HeldBuffer). h.pages) (all_held (forest_of t (shelves_of es)))) →
       held ≡ by_page (pages_held old.held.items ++ beside (forest_of t (shelves_of es)) old.id)
   pool_at held parted of =
@@ -263,7 +263,7 @@ module _ (handles : Handles) (t : Table Node) (es : List Entry) (id at : ℕ) (o
         units_set us t es at new (λ within. r.keys ∙ ap (λ (e : Entry). e.keys) (is ∙ get_or_default es at old new within)) units
 
     -- the pool's intervals are those of all collections, of which one changed
-    pub pool_so : (held : List Interval) → are_parted held ≡ true →
+    pub pool_so : (held : List Interval) → starts_differ held ≡ true →
         held ≡ by_page (pages_held new.held.items ++ beside (forest_of t (shelves_of es)) old.id) →
         held ≡ sorted_by start_of (map (λ (h : HeldBuffer). h.pages) (all_held (forest_of t (shelves_of (set es at new)))))
     pool_so held parted of =

@@ -1,31 +1,31 @@
 -- An effect that is made in its place, and what the count of strong live nodes becomes.
-use Rattle.alloc_event.proofs.Common.{◌≡◌, ◌≢◌, ℕ, zero, suc, nat_lt, ◌+◌, ◌==◌, Bool, true, false, ◌||◌, ◌&&◌, not, if◌then◌else◌, is_none, is_some, ◌<◌, ◌⊎◌, inl, inr, List, [], ◌∷◌, map, length, set, Option, Some, None, option_map, refl, sym, ap, subst, ◌∙◌, arith, eqb-true, lt-ltb, not-true, list_all, list_any, option_map_or, NodeKey, Cause, forced, same_key, times, In, In-find, In-list_any, In-map, In-map-back, and_both, and_left, and_right, both_ways, either_way, false_if, same_key-refl, same_key-true, Table, node_at, parent_at, Change, Effect, Node, Unit, strong_count, over_but, AreUnits, lives_in, unit_at, waits_in, Collection, with_nodes, IsStored, IsWhole, Shelf, collection_in, forest_of, is_filed, nodes_with, affected, is_over, is_live_node, collection_or_new, put, standing, is_head}
+use Rattle.alloc_event.proofs.Common.{◌≡◌, ◌≢◌, ℕ, zero, suc, nat_lt, ◌+◌, ◌==◌, Bool, true, false, ◌||◌, ◌&&◌, not, if◌then◌else◌, is_none, is_some, ◌<◌, ◌⊎◌, inl, inr, List, [], ◌∷◌, map, length, set, Option, Some, None, option_map, refl, sym, ap, subst, ◌∙◌, arith, eqb-true, lt-ltb, not-true, list_all, list_any, option_map_or, NodeKey, Cause, forced, same_key, times, In, In-find, In-list_any, In-map, In-map-back, and_both, and_left, and_right, both_ways, either_way, false_if, same_key-refl, same_key-true, Table, node_at, parent_at, Change, Effect, Node, Unit, strong_count, over_except, AreUnits, lives_in, unit_at, waits_in, Collection, with_nodes, IsStored, IsWhole, Shelf, collection_in, forest_of, is_filed, nodes_with, affected, is_over, is_live_node, collection_or_new, put, standing, is_head}
 use Rattle.std.proofs.lemmas.List.{get_or-set_other, get_or-set_same, length-set}
 use Rattle.std.specs.Option.{unwrap_or}
 use Rattle.std.proofs.Math.Bool.{and-false}
 use Rattle.sm_names.proofs.SamenessLaws.{or_none_right}
 use Rattle.node_table.specs.Changes.{Writes}
 use Rattle.node_table.specs.Lending.{table_with_node}
-use Rattle.alloc_event.specs.Calm.{IsCalm}
+use Rattle.alloc_event.specs.Calm.{IsQuiescent}
 use Rattle.alloc_event.specs.Counts.{HasUnit, HasUnits, decrement_if, heads_below, is_unready, no_unit, unit_of}
 use Rattle.alloc_event.specs.Dropped.{has_given_root}
-use Rattle.alloc_event.specs.Due.{is_due_at, is_served_at}
+use Rattle.alloc_event.specs.Due.{is_due_at, has_buffers_at}
 use Rattle.alloc_event.specs.Forest.{beside}
-use Rattle.alloc_event.specs.InPlace.{IsMade, IsOpen, MayAffect, bit, is_plain}
-use Rattle.alloc_event.specs.Kept.{Finishes, Stores, is_strong}
+use Rattle.alloc_event.specs.Unforced.{IsMade, IsOpen, MayAffect, bit, is_plain}
+use Rattle.alloc_event.specs.Shelves.{Finishes, Stores, is_strong}
 use Rattle.alloc_event.specs.Questions.{is_allocated_node}
 use Rattle.alloc_event.specs.Settling.{Rests, changed, given_back, is_there, no_key}
-use Rattle.alloc_event.proofs.calm.Together.{together_effect}
+use Rattle.alloc_event.proofs.quiescence.Together.{together_effect}
 use Rattle.alloc_event.proofs.tallies.Amounts.{times_changed}
 use Rattle.alloc_event.proofs.changes.Altering.{found_filed, found_put, found_whole, looked-of, same_affected}
-use Rattle.alloc_event.proofs.calm.Calming.{IsPlain, any_map, calm_map, times_map}
-use Rattle.alloc_event.proofs.calm.Resting.{back_kept, rests_kept, roots_stay}
+use Rattle.alloc_event.proofs.quiescence.Calming.{IsPlain, any_map, calm_map, times_map}
+use Rattle.alloc_event.proofs.quiescence.Resting.{back_kept, rests_kept, roots_stay}
 use Rattle.alloc_event.proofs.changes.Done.{done_by}
 use Rattle.alloc_event.proofs.changes.Finishing.{collection-beside}
 use Rattle.alloc_event.proofs.tables.Hanging.{all_in, in_all, looked_there}
 use Rattle.alloc_event.proofs.tallies.Holding.{head_there, holds_unit}
 use Rattle.alloc_event.proofs.tallies.Hung.{below_mapped}
-use Rattle.alloc_event.proofs.calm.Keeping.{below_held, calm_changed, has_turn, lives_held}
+use Rattle.alloc_event.proofs.quiescence.Keeping.{below_held, calm_changed, has_turn, lives_held}
 use Rattle.alloc_event.proofs.tables.LeftParents.{loss_left}
 use Rattle.alloc_event.proofs.lists.Lookups.{looked-map}
 use Rattle.alloc_event.proofs.shelves.Putting.{put-map}
@@ -33,7 +33,7 @@ use Rattle.alloc_event.proofs.tallies.Reckoning.{lives_other, lives_own, waits_o
 use Rattle.alloc_event.proofs.tables.Rooted.{IsLeft, left_node}
 use Rattle.alloc_event.proofs.shelves.Showing.{collection_is, node_is}
 use Rattle.alloc_event.proofs.tallies.Slots.{Stays, all_at, but_all, but_join, but_moved, but_stays, one_shelf, one_slot, units_mapped}
-use Rattle.alloc_event.proofs.calm.Steps.{all-In}
+use Rattle.alloc_event.proofs.quiescence.Steps.{all-In}
 use Rattle.alloc_event.proofs.tables.Storing.{Stores-more, Stores-none}
 use Rattle.alloc_event.proofs.tables.Writing.{IsSameNode, kept-map, look-changed, parents-written}
 
@@ -276,7 +276,7 @@ module _ (t now : Table Node) (us : List Unit) (key : NodeKey) (effect : Effect)
       ∙ none)
 
   module _ (after : List Unit) (lives : ℕ) (lives_is : lives ≡ strong_count (map f nodes))
-      (calm_now : IsCalm (collection_in now s)) (units_now : AreUnits after (map (collection_in now) ss)) where
+      (calm_now : IsQuiescent (collection_in now s)) (units_now : AreUnits after (map (collection_in now) ss)) where
     -- the nodes are those after the effect
     count_now : lives ≡ strong_count (nodes_with now s.keys)
     count_now = lives_is ∙ ap strong_count (sym nodes_now)
@@ -289,8 +289,8 @@ module _ (t now : Table Node) (us : List Unit) (key : NodeKey) (effect : Effect)
         ∙ sym now_is
 
     -- being over is kept, and so is the key
-    over_same : (noted : List NodeKey) (m : Node) → over_but noted (f m) ≡ over_but noted m
-    over_same noted m = λ i. (remains_affected key effect m).over i && not (list_any (same_key ((same m).key i)) noted)
+    over_same : (garbage : List NodeKey) (m : Node) → over_except garbage (f m) ≡ over_except garbage m
+    over_same garbage m = λ i. (remains_affected key effect m).over i && not (list_any (same_key ((same m).key i)) garbage)
 
     -- the one write makes exactly the change, and nothing more is forced
     pub made_now : IsMade t now after ss s (Change.Effect key effect) lives
@@ -299,7 +299,7 @@ module _ (t now : Table Node) (us : List Unit) (key : NodeKey) (effect : Effect)
           true filed refl)
           kept_now roots change_is after lives count_now calm_now units_now;
       nodes = nodes_now;
-      over = λ noted. ap (list_any (over_but noted)) nodes_now ∙ any_map (over_but noted) (over_but noted) f nodes (over_same noted);
+      over = λ garbage. ap (list_any (over_except garbage)) nodes_now ∙ any_map (over_except garbage) (over_except garbage) f nodes (over_same garbage);
     }
 
   -- ---- the units
@@ -331,10 +331,10 @@ module _ (t now : Table Node) (us : List Unit) (key : NodeKey) (effect : Effect)
   below_same k = below_mapped f same nodes (λ m. (remains_affected key effect m).gone) k
 
   -- an effect that neither releases nor sets constraints changes no count of units
-  pub plain_made : is_plain effect ≡ true → IsCalm (collection_in t s) → (lives : ℕ) → lives ≡ strong_count (map f nodes) →
+  pub plain_made : is_plain effect ≡ true → IsQuiescent (collection_in t s) → (lives : ℕ) → lives ≡ strong_count (map f nodes) →
       IsMade t now us ss s (Change.Effect key effect) lives
   plain_made is calm lives lives_is =
-      made_now us lives lives_is (subst IsCalm (sym now_is) (calm_map (collection_in t s) f (plain_affected key effect is) calm))
+      made_now us lives lives_is (subst IsQuiescent (sym now_is) (calm_map (collection_in t s) f (plain_affected key effect is) calm))
       (units_join us (λ k m at differ within. (within, refl)) (units_mapped us f nodes (λ m. (same m).key) counts unit_has))
     where
       counts : (k : NodeKey) → unit_of (map f nodes) k ≡ unit_of nodes k
@@ -391,20 +391,20 @@ module _ (t now : Table Node) (us : List Unit) (key : NodeKey) (effect : Effect)
       ∙ (λ i. (sym unit_is i).unready + bit (waits_own n.head (f n) own_unit_now i)))
 
   -- a unit that is not due has its buffers, or the one above it has none
-  turnless : (h : Node) → In h nodes → (o : Option NodeKey) → h.parent ≡ o → option_map_or (is_served_at t) o true ≡ false →
+  turnless : (h : Node) → In h nodes → (o : Option NodeKey) → h.parent ≡ o → option_map_or (has_buffers_at t) o true ≡ false →
       option_map_or (λ parent. list_any (is_allocated_node parent) nodes) o true ≡ false
   turnless h there None is none = cc
   turnless h there (Some p) is none = false_if (list_any (is_allocated_node p) nodes) (λ e.
       let x = In-list_any (is_allocated_node p) nodes e in
       let rest : (x.0.allocated && same_key x.0.key p) ≡ true = and_right (not x.0.gone) _ x.2 in
       let at : node_at t p ≡ Some x.0 = ap (node_at t) (sym (same_key-true x.0.key p (and_right x.0.allocated _ rest))) ∙ at_key x.0 x.1 in
-      both_ways (is_served_at t p)
+      both_ways (has_buffers_at t p)
       (ap (λ (o : Option Node). option_map_or (λ (m : Node). m.allocated) o false) at ∙ and_left x.0.allocated _ rest) none)
 
   -- not due means that it has its buffers, or the unit above has none
   not_due : is_due_at t n.head ≡ false → ((h : Node) → In h nodes → h.key ≡ n.head → h.allocated ≡ true)
       ⊎ ((h : Node) → In h nodes → h.key ≡ n.head → has_turn nodes h ≡ false)
-  not_due idle = elim (either_way (is_served_at t n.head)) [
+  not_due idle = elim (either_way (has_buffers_at t n.head)) [
     | inl e ↦ inl (λ h there is.
         ap (λ (o : Option Node). option_map_or (λ (m : Node). m.allocated) o false) (sym (at_key h there) ∙ ap (node_at t) is) ∙ e)
     | inr e ↦ inr (λ h there is.
@@ -412,8 +412,8 @@ module _ (t now : Table Node) (us : List Unit) (key : NodeKey) (effect : Effect)
         let one : h ≡ head.0 = cc in
         let stays : h.gone ≡ false = ap (λ (m : Node). m.gone) one ∙ head.3 in
         let up : parent_at t n.head ≡ h.parent = ap (parent_at t) (sym is) ∙ opens.kept.linked h.key h (at_key h there) stays in
-        let none : option_map_or (is_served_at t) (parent_at t n.head) true ≡ false = rw e at idle in
-        turnless h there h.parent refl (ap (λ (o : Option NodeKey). option_map_or (is_served_at t) o true) (sym up) ∙ none))
+        let none : option_map_or (has_buffers_at t) (parent_at t n.head) true ≡ false = rw e at idle in
+        turnless h there h.parent refl (ap (λ (o : Option NodeKey). option_map_or (has_buffers_at t) o true) (sym up) ∙ none))
   ]
 
   module _ (within : n.head.slot < length us) (next : Unit) (live_next : next.live ≡ times (lives_in n.head) (map f nodes))
@@ -482,13 +482,13 @@ module _ (t now : Table Node) (us : List Unit) (key : NodeKey) (effect : Effect)
             )
 
     -- something holds the unit, and where it is due it does not become ready
-    pub counted_made : IsCalm (collection_in t s) → (lives : ℕ) → lives ≡ strong_count (map f nodes) →
+    pub counted_made : IsQuiescent (collection_in t s) → (lives : ℕ) → lives ≡ strong_count (map f nodes) →
         (0 < next.live) ⊎ (0 < next.below) →
         (is_unready n ≡ false) ⊎ ((0 < next.unready) ⊎ (is_due_at t n.head ≡ false)) →
         IsMade t now after_one ss s (Change.Effect key effect) lives
     counted_made calm lives lives_is live guard =
         made_now after_one lives lives_is
-        (subst IsCalm (sym now_is) (calm_changed (collection_in t s) whole f same (λ m. (remains_affected key effect m).gone) (λ m.
+        (subst IsQuiescent (sym now_is) (calm_changed (collection_in t s) whole f same (λ m. (remains_affected key effect m).gone) (λ m.
         (remains_affected key effect m).allocated) n on alone
         (holds live) (guarded guard) calm))
         (units_join after_one stays_one has_one)
@@ -540,5 +540,5 @@ made_nothing t us ss s strong opens =
         same = record { first = refl; nexts = refl; limit = refl; len = refl };
       };
       nodes = refl;
-      over = λ noted. refl;
+      over = λ garbage. refl;
     }

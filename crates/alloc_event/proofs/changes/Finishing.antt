@@ -2,7 +2,7 @@
 use Rattle.alloc_event.proofs.Common.{◌≡◌, ◌≢◌, ℕ, ◌<◌, ◌==◌, Bool, true, false, List, [], ◌∷◌, map, Option, Some, None, option_map, is_some, cond, refl, sym, ap, subst, ◌∙◌, inl, inr, arith, list_all, AllByRecursion, cons_option, option_map_or, eqb-true, eqb-false, false≢true, NodeKey, same_key, In, and_left, and_right, same_key-true, Table, node_at, parent_at, Node, Collection, Shelf, AreRising, IsStored, IsWhole, put_shelf, collection_in, nodes_with, all_keys, are_filed, is_filed, put}
 use Rattle.std.proofs.lemmas.Bool.{cases_eq, ltb-true}
 use Rattle.node_table.specs.Table.{was_given}
-use Rattle.alloc_event.specs.Kept.{AreHeadsGiven, Stores, all_of, stored, written}
+use Rattle.alloc_event.specs.Shelves.{AreHeadsGiven, Stores, all_of, stored, written}
 use Rattle.alloc_event.proofs.tables.Kin.{kin_kept}
 use Rattle.alloc_event.proofs.tables.Writing.{given-same}
 use Rattle.alloc_event.proofs.tables.Hanging.{in_all}

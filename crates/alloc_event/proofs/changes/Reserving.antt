@@ -1,7 +1,7 @@
 -- What is reserved in a collection once an effect is made in it.
 use Rattle.alloc_event.proofs.Common.{◌≡◌, ℕ, ◌+◌, true, false, List, map, Option, Some, None, refl, sym, ap, subst, ◌∙◌, NodeKey, Cause, Demand, same_key, In, same_key-refl, Table, node_at, Change, Effect, Node, Unit, IsWhole, Shelf, collection_in, nodes_with, affected, reserved_count}
 use Rattle.std.proofs.Common.{IfSome}
-use Rattle.alloc_event.specs.InPlace.{IsOpen}
+use Rattle.alloc_event.specs.Unforced.{IsOpen}
 use Rattle.alloc_event.specs.Reserved.{asked_by, camped}
 use Rattle.alloc_event.proofs.changes.Altering.{found_whole}
 use Rattle.alloc_event.proofs.changes.Effecting.{alone_affected}

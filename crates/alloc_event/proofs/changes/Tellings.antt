@@ -4,7 +4,7 @@ use Rattle.std.proofs.Common.{nat_le, slice_index_or}
 use Rattle.std.proofs.lemmas.Bool.{le-leb}
 use Rattle.node_table.specs.Table.{was_given}
 use Rattle.alloc_event.specs.Forest.{given, beside}
-use Rattle.alloc_event.specs.Kept.{Finishes, Gives, SameTable}
+use Rattle.alloc_event.specs.Shelves.{Finishes, Gives, SameTable}
 use Rattle.alloc_event.specs.Nodes.{new_child}
 use Rattle.alloc_event.specs.Settling.{Settled, changed, given_back, is_birth, no_key, with_birth}
 use Rattle.alloc_event.proofs.newborns.Newborn.{before_is}

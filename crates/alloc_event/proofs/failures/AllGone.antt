@@ -3,9 +3,9 @@ use Rattle.alloc_event.proofs.Common.{◌≡◌, refl, ap, sym, ◌∙◌, subst
 use Rattle.std.proofs.Math.Bool.{and-false}
 use Rattle.alloc_event.specs.Decisions.{decided}
 use Rattle.alloc_event.specs.Ties.{hangs_on}
-use Rattle.alloc_event.proofs.calm.Calming.{later}
-use Rattle.alloc_event.proofs.calm.Steps.{all-In}
-use Rattle.alloc_event.proofs.calm.Resting.{still_decided}
+use Rattle.alloc_event.proofs.quiescence.Calming.{later}
+use Rattle.alloc_event.proofs.quiescence.Steps.{all-In}
+use Rattle.alloc_event.proofs.quiescence.Resting.{still_decided}
 use Rattle.alloc_event.proofs.failures.GoneNodes.{strong_gone}
 use Rattle.alloc_event.proofs.tables.Rooted.{left_node}
 
@@ -70,16 +70,16 @@ one_root (n ∷ ns) all a b (inr on) too first second =
 pub all_hang : (P : Node → Type 0) (nodes : List Node) → ((n : Node) → In n nodes → n.gone ≡ false → n.parent ≡ None → P n) →
     ((p n : Node) → In n nodes → n.gone ≡ false → n.parent ≡ Some p.key → P p → P n) →
     (ns : List Node) → ((n : Node) → In n ns → In n nodes) → are_rooted ns ≡ true → (n : Node) → In n ns → n.gone ≡ false → P n
-all_hang P nodes root below [] part rooted n on here = absurd on
-all_hang P nodes root below (m ∷ older) part rooted n on here =
-    by (all_hang P nodes root below older (λ x there. part x (inr there)) (and_right (hangs_on older m) (are_rooted older) rooted)) on
+all_hang P nodes root below [] assert_disjoint rooted n on here = absurd on
+all_hang P nodes root below (m ∷ older) assert_disjoint rooted n on here =
+    by (all_hang P nodes root below older (λ x there. assert_disjoint x (inr there)) (and_right (hangs_on older m) (are_rooted older) rooted)) on
   where
     from : ((x : Node) → In x older → x.gone ≡ false → P x) → (o : Option NodeKey) → n.parent ≡ o →
         option_map_or (is_left_of older) o true ≡ true → P n
-    from rest None up stays = root n (part n on) here up
+    from rest None up stays = root n (assert_disjoint n on) here up
     from rest (Some p) up stays =
         let x = left_node older p stays in
-        below x.node n (part n on) here (up ∙ ap Some (sym x.is)) (rest x.node x.on x.here)
+        below x.node n (assert_disjoint n on) here (up ∙ ap Some (sym x.is)) (rest x.node x.on x.here)
 
     by : ((x : Node) → In x older → x.gone ≡ false → P x) → In n (m ∷ older) → P n
     by rest (inl is) =

@@ -6,11 +6,11 @@ use Rattle.std.proofs.Math.Bool.{or-true}
 use Rattle.sm_names.proofs.ListLaws.{list_any-map}
 use Rattle.sm_names.proofs.SamenessLaws.{or_none_right, or_none_left}
 use Rattle.alloc_event.specs.Questions.{is_allocated_node}
-use Rattle.alloc_event.proofs.calm.Calming.{count_none}
+use Rattle.alloc_event.proofs.quiescence.Calming.{count_none}
 use Rattle.alloc_event.proofs.tallies.Holding.{hangs_in, line, own_head, shared, step, still_here}
-use Rattle.alloc_event.proofs.calm.Keeping.{some_pass}
+use Rattle.alloc_event.proofs.quiescence.Keeping.{some_pass}
 use Rattle.alloc_event.proofs.tables.Rooted.{left_parent}
-use Rattle.alloc_event.proofs.calm.Steps.{all-In}
+use Rattle.alloc_event.proofs.quiescence.Steps.{all-In}
 use Rattle.alloc_event.proofs.tables.Writing.{IsSameNode}
 
 -- what is found, where tests agree

@@ -1,9 +1,9 @@
 -- A node that goes: what it keeps, what it counts for no more, and how it is written.
 use Rattle.alloc_event.proofs.Common.{◌≡◌, ℕ, ◌==◌, refl, ap, sym, ◌∙◌, subst, Bool, true, false, not, ◌&&◌, ◌||◌, ◌⊎◌, inl, inr, if◌then◌else◌, List, [], ◌∷◌, map, Option, Some, None, cons_option, list_all, list_any, option_map_or, NodeKey, same_key, In, and_both, and_left, and_right, either_way, or_cases, same_key-refl, same_key-true, Table, node_at, Node, lives_in, waits_in, is_filed, nodes_with}
 use Rattle.std.proofs.Math.Bool.{and-false, and-true}
-use Rattle.alloc_event.specs.declared.falling.Going.{Going}
-use Rattle.alloc_event.specs.Falling.{gone_by}
-use Rattle.alloc_event.specs.Kept.{all_of, is_strong, stored, written}
+use Rattle.alloc_event.specs.declared.loss_marks.Going.{Going}
+use Rattle.alloc_event.specs.LossMarks.{gone_by}
+use Rattle.alloc_event.specs.Shelves.{all_of, is_strong, stored, written}
 use Rattle.alloc_event.specs.Reserved.{camped}
 use Rattle.alloc_event.proofs.changes.Finishing.{keys_in}
 use Rattle.alloc_event.proofs.lists.Lookups.{same_key-swap}

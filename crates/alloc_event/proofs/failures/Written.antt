@@ -8,9 +8,9 @@ use Rattle.std.specs.List.{AllPairs}
 use Rattle.sm_names.proofs.SamenessLaws.{or_none_left, or_none_right}
 use Rattle.node_table.specs.Changes.{Writes}
 use Rattle.node_table.specs.Lending.{table_with_node}
-use Rattle.alloc_event.specs.declared.falling.Going.{Going}
-use Rattle.alloc_event.specs.Falling.{gone_by}
-use Rattle.alloc_event.specs.Kept.{Stores, stored}
+use Rattle.alloc_event.specs.declared.loss_marks.Going.{Going}
+use Rattle.alloc_event.specs.LossMarks.{gone_by}
+use Rattle.alloc_event.specs.Shelves.{Stores, stored}
 use Rattle.alloc_event.proofs.failures.GoneNodes.{gone_same, stored_goes}
 use Rattle.alloc_event.proofs.lists.Lookups.{same_key-swap}
 use Rattle.alloc_event.proofs.tables.Storing.{Stores-more}

@@ -6,7 +6,7 @@ use Rattle.node_table.proofs.Keys.{same_key-equal, same_key-apart}
 use Rattle.alloc_event.specs.declared.node.End.{End}
 use Rattle.alloc_event.specs.Forest.{on_collections}
 use Rattle.alloc_event.specs.Nodes.{with_end}
-use Rattle.alloc_event.proofs.calm.Together.{together_same}
+use Rattle.alloc_event.proofs.quiescence.Together.{together_same}
 use Rattle.alloc_event.proofs.tables.Writing.{IsSameNode, look-changed, kept-map, collections-map, parents-written}
 
 module _ (key : NodeKey) (end : End) where

@@ -1,7 +1,7 @@
 -- What is left once the nodes of a collection that are over are forgotten.
 use Rattle.alloc_event.proofs.Common.{◌≡◌, ℕ, ◌==◌, Bool, true, false, cond, inl, inr, Option, Some, None, List, [], ◌∷◌, map, refl, sym, ap, subst, ◌∙◌, cons_option, find, list_all, list_any, Table, node_at, NodeKey, same_key, In, and_left, and_right, both_ways, either_way, or_cases, same_key-true, In-any, Node, Shelf, AreRising, IsStored, are_filed, collection_in, is_filed, nodes_with, is_over}
 use Rattle.alloc_event.specs.Forest.{without_over_in}
-use Rattle.alloc_event.specs.Forgetting.{left_at, thin_in, thinned, unless_over, without_bare}
+use Rattle.alloc_event.specs.Garbage.{left_at, thin_in, thinned, unless_over, without_bare}
 use Rattle.alloc_event.proofs.changes.Altering.{found_id}
 use Rattle.alloc_event.proofs.shelves.Showing.{filed_found}
 use Rattle.alloc_event.proofs.leaving.Thinning.{thinned-same}

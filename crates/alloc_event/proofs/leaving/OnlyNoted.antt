@@ -1,47 +1,47 @@
 -- A collection of which no other nodes are over than are noted: to look at those is to look at all.
-use Rattle.alloc_event.proofs.Common.{◌≡◌, refl, ap, sym, ◌∙◌, subst, Bool, true, false, not, ◌&&◌, ◌||◌, ◌⊎◌, inl, inr, List, [], ◌∷◌, cond, Option, Some, None, is_some, ◌==◌, eqb-true, filter, list_all, list_any, option_map_or, NodeKey, same_key, In, In-list_any, both_ways, either_way, same_key-true, Table, node_at, Entry, Node, over_but, is_filed, nodes_with, is_over}
+use Rattle.alloc_event.proofs.Common.{◌≡◌, refl, ap, sym, ◌∙◌, subst, Bool, true, false, not, ◌&&◌, ◌||◌, ◌⊎◌, inl, inr, List, [], ◌∷◌, cond, Option, Some, None, is_some, ◌==◌, eqb-true, filter, list_all, list_any, option_map_or, NodeKey, same_key, In, In-list_any, both_ways, either_way, same_key-true, Table, node_at, Entry, Node, over_except, is_filed, nodes_with, is_over}
 use Rattle.std.proofs.Math.Bool.{and-false}
 use Rattle.sm_names.proofs.ListLaws.{filter-In}
-use Rattle.alloc_event.specs.Forgetting.{IsForgettable, is_found, is_left_by, is_own_if_over, left_at, unless_over}
-use Rattle.alloc_event.proofs.calm.Steps.{all-In}
+use Rattle.alloc_event.specs.Garbage.{IsForgettable, is_found, is_left_by, is_own_if_over, left_at, unless_over}
+use Rattle.alloc_event.proofs.quiescence.Steps.{all-In}
 use Rattle.alloc_event.proofs.leaving.Forgotten.{in_nodes}
 use Rattle.alloc_event.proofs.leaving.Noted.{none_but}
 use Rattle.alloc_event.proofs.lists.Lookups.{same_key-swap}
 use Rattle.alloc_event.proofs.shelves.Counted.{none_each, own_key}
 
-module _ (t : Table Node) (e : Entry) (can : IsForgettable t e) (tidy : e.tidy ≡ true)
-    (own : list_all (is_own_if_over t e.id) e.noted.items ≡ true) where
+module _ (t : Table Node) (e : Entry) (can : IsForgettable t e) (garbage_known : e.garbage_known ≡ true)
+    (own : list_all (is_own_if_over t e.id) e.garbage.items ≡ true) where
   abbrev keys : List NodeKey
   keys = e.keys.items
 
-  abbrev noted : List NodeKey
-  noted = e.noted.items
+  abbrev garbage : List NodeKey
+  garbage = e.garbage.items
 
   -- a node of the collection that is not noted is not over
-  unnoted : (k : NodeKey) (n : Node) → node_at t k ≡ Some n → list_any (same_key k) keys ≡ true → list_any (same_key k) noted ≡ false →
+  unnoted : (k : NodeKey) (n : Node) → node_at t k ≡ Some n → list_any (same_key k) keys ≡ true → list_any (same_key k) garbage ≡ false →
       is_over n ≡ false
   unnoted k n is there other =
-      none_but noted n (none_each (over_but noted) (nodes_with t keys) (can.tidy tidy) n (in_nodes t keys k n is there))
-      (ap (λ (j : NodeKey). list_any (same_key j) noted) (can.named k n is) ∙ other)
+      none_but garbage n (none_each (over_except garbage) (nodes_with t keys) (can.garbage_known garbage_known) n (in_nodes t keys k n is there))
+      (ap (λ (j : NodeKey). list_any (same_key j) garbage) (can.named k n is) ∙ other)
 
   -- a noted node that is over is one of the collection
-  listed : (k : NodeKey) (n : Node) → node_at t k ≡ Some n → list_any (same_key k) noted ≡ true → is_over n ≡ true →
+  listed : (k : NodeKey) (n : Node) → node_at t k ≡ Some n → list_any (same_key k) garbage ≡ true → is_over n ≡ true →
       list_any (same_key k) keys ≡ true
   listed k n is on over =
-      let x = In-list_any (same_key k) noted on in
+      let x = In-list_any (same_key k) garbage on in
       let test : is_own_if_over t e.id k ≡ true =
       subst (λ (j : NodeKey). is_own_if_over t e.id j ≡ true) (sym (same_key-true k x.0 x.2))
-      (all-In (is_own_if_over t e.id) noted x.0 x.1 own) in
+      (all-In (is_own_if_over t e.id) garbage x.0 x.1 own) in
       let id : (n.collection == e.id) ≡ true =
       (λ i. not (sym over i) || n.collection == e.id)
       ∙ ap (λ (o : Option Node). option_map_or (λ (m : Node). not (is_over m) || m.collection == e.id) o true) (sym is) ∙ test in
       can.all k n is (eqb-true n.collection e.id id)
 
   -- each key finds what is left, whether all are looked at or those that are noted
-  pub noted_left : (k : NodeKey) → left_at t noted k ≡ left_at t keys k
-  noted_left k = by (list_any (same_key k) noted) refl (list_any (same_key k) keys) refl (node_at t k) refl
+  pub noted_left : (k : NodeKey) → left_at t garbage k ≡ left_at t keys k
+  noted_left k = by (list_any (same_key k) garbage) refl (list_any (same_key k) keys) refl (node_at t k) refl
     where
-      by : (a : Bool) → list_any (same_key k) noted ≡ a → (b : Bool) → list_any (same_key k) keys ≡ b →
+      by : (a : Bool) → list_any (same_key k) garbage ≡ a → (b : Bool) → list_any (same_key k) keys ≡ b →
           (o : Option Node) → node_at t k ≡ o → cond a (unless_over o) o ≡ cond b (unless_over o) o
       by true on true there o is = refl
       by false on false there o is = refl
@@ -55,29 +55,29 @@ module _ (t : Table Node) (e : Entry) (can : IsForgettable t e) (tidy : e.tidy �
 
   -- so it is for the keys of the collection
   pub noted_found : (now : Table Node) → ((k : NodeKey) → node_at now k ≡ left_at t keys k) →
-      filter (is_left_by t noted) keys ≡ filter (is_found now) keys
+      filter (is_left_by t garbage) keys ≡ filter (is_found now) keys
   noted_found now look =
-      filter-In (is_left_by t noted) (is_found now) keys
+      filter-In (is_left_by t garbage) (is_found now) keys
       (λ k on. from k on (node_at t k) refl (all-In (is_filed t e.id) keys k on can.filed))
     where
       from : (k : NodeKey) → In k keys → (o : Option Node) → node_at t k ≡ o → is_filed t e.id k ≡ true →
-          is_left_by t noted k ≡ is_found now k
+          is_left_by t garbage k ≡ is_found now k
       from k on None is filed =
           let no : false ≡ true = ap (λ (o : Option Node). option_map_or (λ (n : Node). n.collection == e.id) o false) (sym is) ∙ filed in
           absurd (cc)
       from k on (Some n) is filed =
           let there : list_any (same_key k) keys ≡ true = own_key keys k on in
           let now_is : node_at now k ≡ unless_over (Some n) = look k ∙ rw there (ap unless_over is) in
-          let left : is_left_by t noted k ≡ not (list_any (same_key k) noted && is_over n) =
-          ap (λ (o : Option Node). not (list_any (same_key k) noted && option_map_or is_over o false)) is in
+          let left : is_left_by t garbage k ≡ not (list_any (same_key k) garbage && is_over n) =
+          ap (λ (o : Option Node). not (list_any (same_key k) garbage && option_map_or is_over o false)) is in
           left ∙ (by (either_way (is_over n)) ∙ ap is_some (sym now_is))
         where
-          by : (is_over n ≡ true) ⊎ (is_over n ≡ false) → not (list_any (same_key k) noted && is_over n) ≡ is_some (unless_over (Some n))
-          by (inl over) = elim (either_way (list_any (same_key k) noted)) [
+          by : (is_over n ≡ true) ⊎ (is_over n ≡ false) → not (list_any (same_key k) garbage && is_over n) ≡ is_some (unless_over (Some n))
+          by (inl over) = elim (either_way (list_any (same_key k) garbage)) [
             | inl h ↦ rw (over, h) refl
             | inr h ↦ both_ways (is_over n) over (unnoted k n is (own_key keys k on) h)
           ]
-          by (inr e) = rw e (ap not (and-false (list_any (same_key k) noted)))
+          by (inr e) = rw e (ap not (and-false (list_any (same_key k) garbage)))
 
 -- ---- keys that are dropped one after another
 

@@ -3,7 +3,7 @@ use Rattle.alloc_event.proofs.Common.{◌≡◌, ℕ, zero, suc, ◌<◌, refl, 
 use Rattle.std.specs.List.{remove}
 use Rattle.std.proofs.lemmas.List.Folds.{list_any-append}
 use Rattle.sm_names.proofs.SamenessLaws.{or_none_left}
-use Rattle.alloc_event.specs.Kept.{are_apart}
+use Rattle.alloc_event.specs.Shelves.{are_apart}
 use Rattle.alloc_event.proofs.changes.Altering.{Some-shelf}
 use Rattle.alloc_event.proofs.leaving.Thinning.{lacks-filter}
 

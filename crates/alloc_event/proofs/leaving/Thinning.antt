@@ -5,8 +5,8 @@ use Rattle.sm_names.proofs.ListLaws.{filter-list_all, list_all-filter}
 use Rattle.sm_names.proofs.SamenessLaws.{or_both, or_none_left, or_none_right}
 use Rattle.node_table.specs.Table.{table_len}
 use Rattle.node_table.proofs.Keys.{same_key-equal}
-use Rattle.alloc_event.specs.Forgetting.{TakesOut, is_found, thinned}
-use Rattle.alloc_event.specs.Kept.{are_apart}
+use Rattle.alloc_event.specs.Garbage.{TakesOut, is_found, thinned}
+use Rattle.alloc_event.specs.Shelves.{are_apart}
 use Rattle.alloc_event.specs.Scenes.{IsSound}
 use Rattle.alloc_event.proofs.tables.Hanging.{looked_gone}
 use Rattle.alloc_event.proofs.tables.KeptRoots.{rooted_filter}
@@ -15,8 +15,8 @@ use Rattle.alloc_event.proofs.tables.LeftParents.{childless}
 use Rattle.alloc_event.proofs.lists.Lookups.{looked-without}
 use Rattle.alloc_event.proofs.tables.Rooted.{whole_rooted}
 use Rattle.alloc_event.proofs.tables.TakingOut.{same_first}
-use Rattle.alloc_event.proofs.calm.Together.{together_filter}
-use Rattle.alloc_event.proofs.calm.United.{united_filter}
+use Rattle.alloc_event.proofs.quiescence.Together.{together_filter}
+use Rattle.alloc_event.proofs.quiescence.United.{united_filter}
 use Rattle.alloc_event.proofs.changes.Finishing.{place-filed}
 
 -- ---- lists of which some elements are kept

@@ -4,8 +4,8 @@ use Rattle.std.proofs.lemmas.Bool.{ne_eqb, false_from_ne_true}
 use Rattle.sm_names.proofs.ListLaws.{filter-list_all, list_all-filter}
 use Rattle.node_table.proofs.Keys.{same_key-equal}
 use Rattle.alloc_event.specs.Forest.{is_left, tidied, without_over_in}
-use Rattle.alloc_event.specs.Forgetting.{is_bare, is_found, left_at, thin_in, thinned, unless_over, without_bare}
-use Rattle.alloc_event.specs.Kept.{are_apart}
+use Rattle.alloc_event.specs.Garbage.{is_bare, is_found, left_at, thin_in, thinned, unless_over, without_bare}
+use Rattle.alloc_event.specs.Shelves.{are_apart}
 use Rattle.alloc_event.proofs.leaving.Thinning.{filed_all}
 
 -- a key of a collection has a node of it

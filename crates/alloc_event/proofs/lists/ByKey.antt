@@ -11,7 +11,7 @@ use Rattle.std.proofs.lemmas.Bool.{cases_order}
 use Rattle.std.proofs.lemmas.List.Sorted.{searchable_from_sorted}
 use Rattle.sm_names.specs.contracts.keys.NodeKeyOrd.TheImpl.Laws.{total-law}
 use Rattle.sm_names.proofs.ListLaws.{In-get_or}
-use Rattle.alloc_event.specs.Falling.{key_order}
+use Rattle.alloc_event.specs.LossMarks.{key_order}
 
 -- by cases on the first order
 both_tie : (a b : Ordering) → ordering_then a b ≡ Equal → (a ≡ Equal) × (b ≡ Equal)

@@ -2,7 +2,7 @@
 use Rattle.alloc_event.proofs.Common.{◌≡◌, ◌≢◌, ℕ, ◌<◌, ◌≤◌, ◌==◌, nat_lt, Bool, true, false, ◌||◌, ◌&&◌, not, List, [], ◌∷◌, ◌++◌, cond, refl, sym, ap, ◌∙◌, inl, inr, arith, list_any, lt-ltb, eq-eqb, eqb-true, eqb-false, false≢true, Interval, and_left, and_right}
 use Rattle.std.proofs.lemmas.Bool.{le-ltb, ne_eqb, cases_lt, ltb-true, leb-true}
 use Rattle.sm_names.specs.Words.{insert_by, sorted_by}
-use Rattle.alloc_event.specs.Parted.{begins_with, are_parted}
+use Rattle.alloc_event.specs.Starts.{begins_with, starts_differ}
 use Rattle.buffer_pool.specs.Holdings.{in_order}
 use Rattle.buffer_pool.specs.Holes.{end_of}
 
@@ -13,8 +13,8 @@ start_of i = i.start
 -- the tests find the same in both, and where no two begin at one page, the two are one list once sorted
 pub record Alike (xs ys : List Interval) : Type 0 where
   pub any : (test : Interval → Bool) → list_any test xs ≡ list_any test ys
-  pub parted : are_parted xs ≡ are_parted ys
-  pub sorted : are_parted xs ≡ true → sorted_by start_of xs ≡ sorted_by start_of ys
+  pub parted : starts_differ xs ≡ starts_differ ys
+  pub sorted : starts_differ xs ≡ true → sorted_by start_of xs ≡ sorted_by start_of ys
 
 -- each list is alike to itself
 pub Alike-refl : (xs : List Interval) → Alike xs xs
@@ -98,7 +98,7 @@ insert-swap x y (z ∷ zs) differ = elim (cases_lt z.start x.start) [
 ]
 
 -- the first begins elsewhere than the second
-parts_first : (x y : Interval) (zs : List Interval) → are_parted (x ∷ y ∷ zs) ≡ true → x.start ≢ y.start
+parts_first : (x y : Interval) (zs : List Interval) → starts_differ (x ∷ y ∷ zs) ≡ true → x.start ≢ y.start
 parts_first x y zs parted same =
     let one : (y.start == x.start) ≡ true = eq-eqb _ _ (sym same) in
     false≢true (rw one at parted)
@@ -108,7 +108,7 @@ Alike-swap : (x y : Interval) (zs : List Interval) → Alike (x ∷ y ∷ zs) (y
 Alike-swap x y zs = record {
   any = λ test. or_swap (test x) (test y) (list_any test zs);
   parted = rw (eqb-swap y.start x.start) (part_swap (x.start == y.start) (list_any (begins_with x) zs) (list_any (begins_with y) zs)
-      (are_parted zs));
+      (starts_differ zs));
   sorted = λ parted. insert-swap x y (sorted_by start_of zs) (λ same. parts_first x y zs parted same);
 }
 
@@ -141,12 +141,12 @@ any-insert test x (z ∷ zs) =
     ]
 
 -- one more in its place parts the list as in front
-parted-insert : (x : Interval) (zs : List Interval) → are_parted (insert_by start_of x zs) ≡ are_parted (x ∷ zs)
+parted-insert : (x : Interval) (zs : List Interval) → starts_differ (insert_by start_of x zs) ≡ starts_differ (x ∷ zs)
 parted-insert x [] = refl
 parted-insert x (z ∷ zs) =
-    elim (nat_lt z.start x.start) as (λ b. are_parted (cond b (z ∷ insert_by start_of x zs) (x ∷ z ∷ zs)) ≡ are_parted (x ∷ z ∷ zs)) [
+    elim (nat_lt z.start x.start) as (λ b. starts_differ (cond b (z ∷ insert_by start_of x zs) (x ∷ z ∷ zs)) ≡ starts_differ (x ∷ z ∷ zs)) [
       | true ↦ rw (any-insert (begins_with z) x zs, parted-insert x zs, eqb-swap x.start z.start)
-          (part_swap (z.start == x.start) (list_any (begins_with z) zs) (list_any (begins_with x) zs) (are_parted zs))
+          (part_swap (z.start == x.start) (list_any (begins_with z) zs) (list_any (begins_with x) zs) (starts_differ zs))
       | false ↦ refl
     ]
 
@@ -156,7 +156,7 @@ any-sorted test [] = refl
 any-sorted test (x ∷ xs) = any-insert test x (sorted_by start_of xs) ∙ ap (λ b. test x || b) (any-sorted test xs)
 
 -- by induction: no two begin at one page before or after sorting
-pub parted-sorted : (xs : List Interval) → are_parted (sorted_by start_of xs) ≡ are_parted xs
+pub parted-sorted : (xs : List Interval) → starts_differ (sorted_by start_of xs) ≡ starts_differ xs
 parted-sorted [] = refl
 parted-sorted (x ∷ xs) = parted-insert x (sorted_by start_of xs) ∙ rw (any-sorted (begins_with x) xs, parted-sorted xs) refl
 
@@ -170,7 +170,7 @@ none_before low high x (i ∷ is) ok below =
     rw (other) (none_before (end_of i) high x is (and_right _ _ (and_right _ _ ok)) (omega arith))
 
 -- intervals in order are parted
-pub parted-in_order : (low high : ℕ) (is : List Interval) → in_order low high is ≡ true → are_parted is ≡ true
+pub parted-in_order : (low high : ℕ) (is : List Interval) → in_order low high is ≡ true → starts_differ is ≡ true
 parted-in_order low high [] ok = refl
 parted-in_order low high (i ∷ is) ok =
     let some : 0 < i.pages = ltb-true _ _ (and_left _ _ (and_right _ _ ok)) in

@@ -7,7 +7,7 @@ use Rattle.node_table.specs.Table.{Row, row_at, parent_in, next_at, was_given}
 use Rattle.node_table.specs.Changes.{Births, Writes, at_parent, with_child}
 use Rattle.node_table.specs.Lending.{table_with_node}
 use Rattle.node_table.proofs.Keys.{key_cases, same_key-equal, same_key-apart}
-use Rattle.alloc_event.specs.Kept.{Bears, born, named}
+use Rattle.alloc_event.specs.Shelves.{Bears, born, named}
 use Rattle.alloc_event.proofs.tables.Writing.{look-written, parents-written}
 
 -- ---- the table

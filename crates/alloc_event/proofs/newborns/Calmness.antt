@@ -6,12 +6,12 @@ use Rattle.sm_names.specs.Members.{Member, demands, reserved, root_left, some_st
 use Rattle.sm_names.proofs.PlaceLaws.{map-None}
 use Rattle.sm_names.proofs.RestLaws.{AtRest}
 use Rattle.sm_names.proofs.SamenessLaws.{none_is}
-use Rattle.alloc_event.specs.Calm.{IsCalm}
+use Rattle.alloc_event.specs.Calm.{IsQuiescent}
 use Rattle.alloc_event.specs.Decisions.{later_step}
 use Rattle.alloc_event.specs.Nodes.{member_of, new_child, new_root}
 use Rattle.alloc_event.specs.Settling.{changed}
-use Rattle.alloc_event.proofs.calm.Calming.{calm_none, later, none_calm, wait_tie}
-use Rattle.alloc_event.proofs.calm.Forcing.{deserted_tie, next_tie}
+use Rattle.alloc_event.proofs.quiescence.Calming.{calm_none, later, none_calm, wait_tie}
+use Rattle.alloc_event.proofs.quiescence.Forcing.{deserted_tie, next_tie}
 use Rattle.alloc_event.proofs.newborns.Members.{IsNewborn, rests_with}
 use Rattle.alloc_event.proofs.newborns.NothingForced.{HaveOthers, childless, members_more}
 
@@ -64,7 +64,7 @@ module _ (c : Collection) where
       (find (is_next_head ms) ms) h)) refl
 
   -- no step is left in the collection, so none is among its members
-  pub calm_rest : IsCalm c → AtRest (kept_open c)
+  pub calm_rest : IsQuiescent c → AtRest (kept_open c)
   calm_rest calm =
       let none = none_calm c calm in
       record {
@@ -75,7 +75,7 @@ module _ (c : Collection) where
       }
 
   -- no step is left among the members, so none is in the collection
-  pub rest_calm : AtRest (kept_open c) → IsCalm c
+  pub rest_calm : AtRest (kept_open c) → IsQuiescent c
   rest_calm rest =
       calm_none c (record {
         no_end = map-None (member_of c.nodes) (find (is_deserted_node c.nodes) c.nodes)
@@ -86,10 +86,10 @@ module _ (c : Collection) where
 
 -- ---- births
 
-module _ (c : Collection) (calm : IsCalm c) where
+module _ (c : Collection) (calm : IsQuiescent c) where
   -- the birth of this node leaves it calm
   node_calm : (b : Node) → list_any (is_of b.key) c.nodes ≡ false → b.gone ≡ false →
-      IsNewborn (members_of c.nodes) (member_of (c.nodes ++ b ∷ []) b) → IsCalm (record c { nodes = c.nodes ++ b ∷ [] })
+      IsNewborn (members_of c.nodes) (member_of (c.nodes ++ b ∷ []) b) → IsQuiescent (record c { nodes = c.nodes ++ b ∷ [] })
   node_calm b fresh here newborn =
       let grown : Collection = record c { nodes = c.nodes ++ b ∷ [] } in
       let is : kept_open grown ≡ record (kept_open c) { members = members_of c.nodes ++ member_of (c.nodes ++ b ∷ []) b ∷ [] } =
@@ -100,7 +100,7 @@ module _ (c : Collection) (calm : IsCalm c) where
   -- a birth leaves it calm: its key is none of the nodes'
   pub births_calm : (parent : Option NodeKey) (attached : Bool) (client event : ℕ) (key : NodeKey) →
       list_any (is_of key) c.nodes ≡ false → HaveOthers c.nodes key →
-      IsCalm (changed (Change.Birth parent attached client event) key c)
+      IsQuiescent (changed (Change.Birth parent attached client event) key c)
   births_calm None attached client event key fresh parents =
       node_calm (new_root key c.id event client) fresh refl
       (record {
@@ -113,7 +113,7 @@ module _ (c : Collection) (calm : IsCalm c) where
   births_calm (Some above) attached client event key fresh parents = from (node_of c.nodes above)
     where
       from : (o : Option Node) →
-          IsCalm (option_map_or (λ n. record c { nodes = c.nodes ++ new_child attached key event client n ∷ [] }) o c)
+          IsQuiescent (option_map_or (λ n. record c { nodes = c.nodes ++ new_child attached key event client n ∷ [] }) o c)
       from None = calm
       from (Some n) =
           node_calm (new_child attached key event client n) fresh refl

@@ -1,10 +1,10 @@
 -- The entries once a node is born of which nothing else follows.
-use Rattle.alloc_event.proofs.Common.{◌≡◌, ℕ, ◌+◌, ◌==◌, Bool, false, if◌then◌else◌, List, [], Option, Some, None, option_map, get_or, set, refl, sym, ap, subst, ◌∙◌, arith, find, list_any, option_map_or, NodeKey, Table, Entry, Node, strong_count, over_but, Collection, IsStored, Shelf, collection_in, forest_of, place_in, put_shelf, shelf_of, shelves_of, nodes_with, reserved_count, collection_or_new}
+use Rattle.alloc_event.proofs.Common.{◌≡◌, ℕ, ◌+◌, ◌==◌, Bool, false, if◌then◌else◌, List, [], Option, Some, None, option_map, get_or, set, refl, sym, ap, subst, ◌∙◌, arith, find, list_any, option_map_or, NodeKey, Table, Entry, Node, strong_count, over_except, Collection, IsStored, Shelf, collection_in, forest_of, place_in, put_shelf, shelf_of, shelves_of, nodes_with, reserved_count, collection_or_new}
 use Rattle.std.proofs.Common.{Result, Ok, Err, IfOk, OnOk, OnErr}
 use Rattle.std.proofs.lemmas.List.{get_or_default}
 use Rattle.std.specs.Option.{unwrap_or}
-use Rattle.alloc_event.specs.Calm.{AreCounted, IsCalm, IsCounted, put_in}
-use Rattle.alloc_event.specs.Kept.{Bears, born}
+use Rattle.alloc_event.specs.Calm.{AreCounted, IsQuiescent, IsCounted, put_in}
+use Rattle.alloc_event.specs.Shelves.{Bears, born}
 use Rattle.alloc_event.specs.Still.{no_shelf, shelf_before, shelf_with}
 use Rattle.alloc_event.proofs.newborns.Forest.{still_collection}
 use Rattle.alloc_event.proofs.shelves.Counted.{counted_but, counted_put, counted_set, moved_all, recounted, set_shelves, shelves_put}
@@ -12,7 +12,7 @@ use Rattle.alloc_event.proofs.shelves.Entries.{IsPlace, set_put}
 use Rattle.alloc_event.proofs.newborns.Newborn.{Above}
 use Rattle.alloc_event.proofs.newborns.Quiet.{counted_born}
 use Rattle.alloc_event.proofs.shelves.Showing.{collection_is, shelf_found}
-use Rattle.alloc_event.proofs.calm.Watched.{found_counted}
+use Rattle.alloc_event.proofs.quiescence.Watched.{found_counted}
 
 -- what facts of an answer make true of it
 pub on_three : {A E : Type 0} {P Q : A → Type 0} {X Z : Type 0} (r : Result A E) → IfOk r P → IfOk r Q → OnOk r X →
@@ -65,7 +65,7 @@ module _ (t : Table Node) (es : List Entry) (ok : IsStored t (shelves_of es)) (a
 
     -- where memory was refused
     module _ (new : Entry) (same : shelf_of new ≡ shelf_of old) (strong : new.strong ≡ old.strong)
-        (reserved : new.reserved ≡ old.reserved) (tidy : new.tidy ≡ old.tidy) (noted : new.noted.items ≡ old.noted.items) where
+        (reserved : new.reserved ≡ old.reserved) (garbage_known : new.garbage_known ≡ old.garbage_known) (garbage : new.garbage.items ≡ old.garbage.items) where
       -- a refusal keeps the shelf, so the list of shelves stays
       pub refused_shelves : shelves_of (set es at new) ≡ shelves_of es
       refused_shelves = set_shelves es at new (λ within. same ∙ ap shelf_of (is ∙ get_or_default es at old new within))
@@ -74,7 +74,7 @@ module _ (t : Table Node) (es : List Entry) (ok : IsStored t (shelves_of es)) (a
       pub refused_counted : AreCounted t (set es at new)
       refused_counted = counted_set t es at new
           (λ within was. recounted t old new (ap (collection_in t) same) strong reserved (λ h.
-          ap (λ (ks : List NodeKey). list_any (over_but ks) (nodes_with t old.keys.items)) noted ∙ counted.tidy (sym tidy ∙ h)) counted)
+          ap (λ (ks : List NodeKey). list_any (over_except ks) (nodes_with t old.keys.items)) garbage ∙ counted.garbage_known (sym garbage_known ∙ h)) counted)
           all
 
     -- where the node was born
@@ -94,18 +94,18 @@ module _ (t : Table Node) (es : List Entry) (ok : IsStored t (shelves_of es)) (a
       module _ (now : Table Node) (parent : Option NodeKey) (attached : Bool) (client event : ℕ) (above : Option Node)
           (over : Above t (shelves_of es) id parent above)
           (bears : Bears t now (born above attached id event client key))
-          (strong : new.strong ≡ old.strong + more_strong above) (reserved : new.reserved ≡ old.reserved) (tidy : new.tidy ≡ old.tidy)
-          (noted : new.noted.items ≡ old.noted.items) where
+          (strong : new.strong ≡ old.strong + more_strong above) (reserved : new.reserved ≡ old.reserved) (garbage_known : new.garbage_known ≡ old.garbage_known)
+          (garbage : new.garbage.items ≡ old.garbage.items) where
         -- the others are counted as before, and the one with the new node by its own count
         pub among_counted : AreCounted now (set es at new)
         among_counted = subst (AreCounted now) (sym put_is)
             (counted_put now new es ok.rising
             (counted_but now new.id es (moved_all t now es ok.filed (λ e filed. still_collection t now _ bears (shelf_of e) filed) all))
             (counted_born t now (shelves_of es) ok id parent attached client event above over key bears
-            (subst IsCalm (sym at_is) counted.calm) new shelf_is
+            (subst IsQuiescent (sym at_is) counted.calm) new shelf_is
             (strong ∙ ap (λ (n : ℕ). n + more_strong above) (counted.strong ∙ ap (λ (c : Collection). strong_count c.nodes) (sym at_is)))
             (reserved ∙ counted.reserved ∙ ap (λ (c : Collection). reserved_count c.nodes) (sym at_is))
-            (λ h. (λ i. list_any (over_but (noted i)) (at_is i).nodes) ∙ counted.tidy (sym tidy ∙ h))))
+            (λ h. (λ i. list_any (over_except (garbage i)) (at_is i).nodes) ∙ counted.garbage_known (sym garbage_known ∙ h))))
 
   -- the first node of a collection
   module _ (none : find (λ (e : Entry). e.id == id) es ≡ None) (key : NodeKey) (new : Entry) (shelf : shelf_of new ≡ shelf_with
@@ -137,9 +137,9 @@ module _ (t : Table Node) (es : List Entry) (ok : IsStored t (shelves_of es)) (a
           counted_put now new es ok.rising
           (counted_but now new.id es (moved_all t now es ok.filed (λ e filed. still_collection t now _ bears (shelf_of e) filed) all))
           (counted_born t now (shelves_of es) ok id parent attached client event above over key bears
-          (subst IsCalm (sym empty_is) refl) new first_is
+          (subst IsQuiescent (sym empty_is) refl) new first_is
           (let base : strong_count (collection_or_new (forest_of t (shelves_of es)) id).nodes ≡ 0 =
           ap (λ (c : Collection). strong_count c.nodes) empty_is in
           omega (arith, strong, base))
           (reserved ∙ sym (ap (λ (c : Collection). reserved_count c.nodes) empty_is))
-          (λ h. ap (λ (c : Collection). list_any (over_but new.noted.items) c.nodes) empty_is))
+          (λ h. ap (λ (c : Collection). list_any (over_except new.garbage.items) c.nodes) empty_is))

@@ -8,7 +8,7 @@ use Rattle.std.proofs.lemmas.List.Folds.{list_any-append}
 use Rattle.node_table.specs.Table.{was_given}
 use Rattle.node_table.proofs.Keys.{key_cases, same_key-equal, same_key-apart}
 use Rattle.alloc_event.specs.Forest.{all_held}
-use Rattle.alloc_event.specs.Kept.{AreKin, Bears, are_apart}
+use Rattle.alloc_event.specs.Shelves.{AreKin, Bears, are_apart}
 use Rattle.alloc_event.proofs.lists.SameIntervals.{or_swap, part_swap}
 use Rattle.alloc_event.proofs.changes.Altering.{none_above}
 use Rattle.alloc_event.proofs.changes.Finishing.{whole-map, whole-unmap}

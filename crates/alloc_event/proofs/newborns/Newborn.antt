@@ -8,7 +8,7 @@ use Rattle.sm_names.proofs.SamenessLaws.{or_none_left, or_none_right}
 use Rattle.node_table.specs.Table.{row_at, was_given}
 use Rattle.node_table.proofs.Keys.{same_key-equal}
 use Rattle.alloc_event.specs.Forest.{all_held}
-use Rattle.alloc_event.specs.Kept.{Bears, Gives, SameTable, born}
+use Rattle.alloc_event.specs.Shelves.{Bears, Gives, SameTable, born}
 use Rattle.alloc_event.specs.Nodes.{new_root}
 use Rattle.alloc_event.specs.Scenes.{IsSound}
 use Rattle.alloc_event.specs.Settling.{MayChange, with_birth, has_collection}
@@ -23,8 +23,8 @@ use Rattle.alloc_event.proofs.lists.Lookups.{node_of-looked, same_key-swap}
 use Rattle.alloc_event.proofs.tables.Rooted.{distinct_one, left_in, whole_rooted}
 use Rattle.alloc_event.proofs.shelves.Showing.{node_is, collection_is}
 use Rattle.alloc_event.proofs.tables.Storing.{row_there}
-use Rattle.alloc_event.proofs.calm.Together.{together_born, together_none}
-use Rattle.alloc_event.proofs.calm.United.{united_born}
+use Rattle.alloc_event.proofs.quiescence.Together.{together_born, together_none}
+use Rattle.alloc_event.proofs.quiescence.United.{united_born}
 
 -- the collection with one more node behind
 abbrev pub grown : Collection → Node → Collection

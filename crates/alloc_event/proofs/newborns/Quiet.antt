@@ -1,5 +1,5 @@
 -- A birth in a collection where nothing else changes with it.
-use Rattle.alloc_event.proofs.Common.{◌≡◌, ℕ, ◌+◌, Bool, true, false, ◌||◌, ◌&&◌, ◌==◌, not, if◌then◌else◌, List, [], ◌∷◌, ◌++◌, map, reverse, Option, Some, None, option_map, refl, sym, ap, subst, ◌∙◌, inl, inr, arith, find, list_all, list_any, option_map_or, NodeKey, forced, HeldBuffer, same_key, and_left, and_right, both_ways, either_way, same_key-refl, In-any, Table, Entry, Node, strong_count, over_but, Collection, Shelf, IsStored, put_shelf, collection_in, forest_of, shelf_of, is_of, members_of, reserved_count, Handles, collection_or_new, put, standing, are_rooted}
+use Rattle.alloc_event.proofs.Common.{◌≡◌, ℕ, ◌+◌, Bool, true, false, ◌||◌, ◌&&◌, ◌==◌, not, if◌then◌else◌, List, [], ◌∷◌, ◌++◌, map, reverse, Option, Some, None, option_map, refl, sym, ap, subst, ◌∙◌, inl, inr, arith, find, list_all, list_any, option_map_or, NodeKey, forced, HeldBuffer, same_key, and_left, and_right, both_ways, either_way, same_key-refl, In-any, Table, Entry, Node, strong_count, over_except, Collection, Shelf, IsStored, put_shelf, collection_in, forest_of, shelf_of, is_of, members_of, reserved_count, Handles, collection_or_new, put, standing, are_rooted}
 use Rattle.std.specs.Option.{unwrap_or}
 use Rattle.std.proofs.lemmas.List.{map-append}
 use Rattle.std.proofs.lemmas.List.Folds.{list_any-append}
@@ -8,10 +8,10 @@ use Rattle.sm_names.specs.Handles.{is_home}
 use Rattle.sm_names.specs.Members.{is_live, some_strong_live, Member}
 use Rattle.sm_names.proofs.ListLaws.{filter-list_all, times-append}
 use Rattle.sm_names.proofs.SamenessLaws.{or_both}
-use Rattle.alloc_event.specs.Calm.{IsCalm, IsCounted}
+use Rattle.alloc_event.specs.Calm.{IsQuiescent, IsCounted}
 use Rattle.alloc_event.proofs.leaving.Noted.{not_over_but}
 use Rattle.alloc_event.specs.Forest.{all_held, beside}
-use Rattle.alloc_event.specs.Kept.{Bears, Finishes, born, is_strong}
+use Rattle.alloc_event.specs.Shelves.{Bears, Finishes, born, is_strong}
 use Rattle.alloc_event.specs.Nodes.{member_of}
 use Rattle.alloc_event.specs.Settling.{given_back, is_home_in, with_birth}
 use Rattle.alloc_event.specs.Still.{IsStill, no_shelf, shelf_before, shelf_with}
@@ -102,7 +102,7 @@ module _ (t now : Table Node) (ss : List Shelf) (ok : IsStored t ss) (id : ℕ) 
     others = no_children c0.nodes key (before_is t ss ok id).whole.rooted fresh
 
     -- the collection is as calm as it was
-    pub calm_after : IsCalm (collection_or_new (forest_of t ss) id) → IsCalm after
+    pub calm_after : IsQuiescent (collection_or_new (forest_of t ss) id) → IsQuiescent after
     calm_after calm = births_calm c0 calm parent attached client event key fresh others
 
     -- the shelf that showed the collection
@@ -151,22 +151,22 @@ module _ (t now : Table Node) (ss : List Shelf) (ok : IsStored t ss) (id : ℕ) 
         asks_none (Some up) = refl
 
     -- an entry with the key and the counts is counted
-    pub counted_born : IsCalm (collection_or_new (forest_of t ss) id) → (e : Entry) → shelf_of e ≡ shelf_with (shelf_before id ss) key →
+    pub counted_born : IsQuiescent (collection_or_new (forest_of t ss) id) → (e : Entry) → shelf_of e ≡ shelf_with (shelf_before id ss) key →
         e.strong ≡ strong_count c0.nodes + (if option_map_or (λ (n : Node). n.weak) above false then 0 else 1) →
         e.reserved ≡ reserved_count c0.nodes →
-        (e.tidy ≡ true → list_any (over_but e.noted.items) c0.nodes ≡ false) → IsCounted now e
-    counted_born calm e is strong reserved tidy =
+        (e.garbage_known ≡ true → list_any (over_except e.garbage.items) c0.nodes ≡ false) → IsCounted now e
+    counted_born calm e is strong reserved garbage_known =
         let shown : collection_in now (shelf_of e) ≡ born_collection t now ss ok id parent attached client event above at key bears =
         ap (collection_in now) (is ∙ shelf_is) ∙ born_shown t now ss ok id parent attached client event above at key bears in
         record {
-          calm = subst IsCalm (sym (shown ∙ sym grown_is)) (calm_after calm);
+          calm = subst IsQuiescent (sym (shown ∙ sym grown_is)) (calm_after calm);
           strong = strong ∙ ap (λ (n : ℕ). strong_count c0.nodes + n) (sym (strong_more above))
               ∙ sym (times-append is_strong c0.nodes (node ∷ [])) ∙ ap (λ (c : Collection). strong_count c.nodes) (sym shown);
           reserved = reserved ∙ reserved_more ∙ ap (λ (c : Collection). reserved_count c.nodes) (sym shown);
-          tidy = λ h. ap (λ (c : Collection). list_any (over_but e.noted.items) c.nodes) shown
-              ∙ list_any-append (over_but e.noted.items) c0.nodes (node ∷ [])
-              ∙ or_both (list_any (over_but e.noted.items) c0.nodes) _ (tidy h)
-              (ap (λ (b : Bool). b || false) (not_over_but e.noted.items node (rw (born_here above attached id event client key) refl)));
+          garbage_known = λ h. ap (λ (c : Collection). list_any (over_except e.garbage.items) c.nodes) shown
+              ∙ list_any-append (over_except e.garbage.items) c0.nodes (node ∷ [])
+              ∙ or_both (list_any (over_except e.garbage.items) c0.nodes) _ (garbage_known h)
+              (ap (λ (b : Bool). b || false) (not_over_but e.garbage.items node (rw (born_here above attached id event client key) refl)));
         }
 
     module _ (behind : List Shelf) (placed : behind ≡ put_shelf (shelf_with (shelf_before id ss) key) ss) where

@@ -4,9 +4,9 @@ use Rattle.std.proofs.lemmas.List.{get_or-set_other, get_or-set_same, length-app
 use Rattle.std.specs.Option.{unwrap_or}
 use Rattle.sm_names.proofs.ListLaws.{In-append, times-append, times-le-length, times-zero}
 use Rattle.node_table.specs.Table.{table_len}
-use Rattle.alloc_event.specs.Counts.{AreUnitsBut, HasUnit, HasUnits, head_above, heads_below, no_unit, reckoned, tallied, unit_of}
+use Rattle.alloc_event.specs.Counts.{AreUnitsExcept, HasUnit, HasUnits, head_above, heads_below, no_unit, reckoned, tallied, unit_of}
 use Rattle.alloc_event.specs.Forest.{collection_at}
-use Rattle.alloc_event.specs.Kept.{Bears, born}
+use Rattle.alloc_event.specs.Shelves.{Bears, born}
 use Rattle.alloc_event.specs.Still.{shelf_before, shelf_with}
 use Rattle.alloc_event.proofs.changes.Altering.{looked-of, shelf_by}
 use Rattle.alloc_event.proofs.tables.Hanging.{all_in, in_all, looked_there}
@@ -18,7 +18,7 @@ use Rattle.alloc_event.proofs.tallies.Reckoning.{lives_gone, lives_other, tallie
 use Rattle.alloc_event.proofs.shelves.Showing.{filed-length}
 use Rattle.alloc_event.proofs.tallies.Slots.{Stays, all_at, but_put, one_slot, units_own}
 use Rattle.alloc_event.proofs.tallies.Untold.{times_same}
-use Rattle.alloc_event.proofs.calm.Steps.{all-In}
+use Rattle.alloc_event.proofs.quiescence.Steps.{all-In}
 
 -- the table has the old nodes of the collection and the one that was born, and the others have their counts
 module _ (t : Table Node) (ss : List Shelf) (kept : IsStored t ss) (id : ℕ) (s : Shelf) (on : In s ss) (own : s.id ≡ id) (old : List Node)
@@ -27,7 +27,7 @@ module _ (t : Table Node) (ss : List Shelf) (kept : IsStored t ss) (id : ℕ) (s
     (distinct : are_distinct old ≡ true) (rooted : are_rooted (reverse old) ≡ true)
     (olds : (n : Node) → In n old → n.gone ≡ false → (h : Node) × In h old × (h.key ≡ n.head)) (of : (n : Node) →
     In n (nodes_with t s.keys) → n.collection ≡ id)
-    (us : List Unit) (own_inside : node.key.slot < length us) (has : HasUnits us old) (but : AreUnitsBut us id (map (collection_in t) ss))
+    (us : List Unit) (own_inside : node.key.slot < length us) (has : HasUnits us old) (but : AreUnitsExcept us id (map (collection_in t) ss))
     (few : length (nodes_with t s.keys) ≤ 18446744073709551615) where
   abbrev nodes : List Node
   nodes = nodes_with t s.keys
@@ -328,10 +328,10 @@ module _ (t now : Table Node) (ss : List Shelf) (ok : IsStored t ss) (id : ℕ) 
       let own : c0.id ≡ id = before_it.id_is in
       let named : child.key ≡ key = key_is t now ss ok id parent attached client event above up key bears in
       let one : nodes_with now (key ∷ []) ≡ child ∷ [] = ap (λ (o : Option Node). cons_option o []) found_key in
-      let but : AreUnitsBut us id (map (collection_in now) behind) =
-      subst (AreUnitsBut us id) (sym (behind_shown t now ss ok id parent attached client event above up key bears behind
+      let but : AreUnitsExcept us id (map (collection_in now) behind) =
+      subst (AreUnitsExcept us id) (sym (behind_shown t now ss ok id parent attached client event above up key bears behind
       placed))
-      (subst (λ (i : ℕ). AreUnitsBut us i (put with_it (map (collection_in t) ss))) own (but_put us with_it (map (collection_in t) ss)
+      (subst (λ (i : ℕ). AreUnitsExcept us i (put with_it (map (collection_in t) ss))) own (but_put us with_it (map (collection_in t) ss)
       all)) in
       let made : AreUnits (reckoned now (child ∷ []) (set us child.key.slot no_unit)) (map (collection_in now) behind) =
       born_units now behind kept_now id (shelf_by with_it) shelf_on own c0.nodes child shown_nodes (born_here above attached id event client

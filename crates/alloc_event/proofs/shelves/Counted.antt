@@ -1,23 +1,23 @@
 -- Entries that are counted stay so, where one is put among them.
-use Rattle.alloc_event.proofs.Common.{◌≡◌, ◌≢◌, ℕ, zero, suc, ◌+◌, ◌<◌, ◌≤◌, ◌==◌, ◌&&◌, Bool, true, false, ◌⊎◌, inl, inr, List, [], ◌∷◌, map, length, get_or, set, if◌then◌else◌, cond, Option, Some, None, option_map, is_some, sym, ap, subst, ◌∙◌, refl, arith, AllByRecursion, cons_option, filter, list_all, list_any, eqb-true, eqb-false, NodeKey, same_key, In, In-map, and_left, and_right, both_ways, either_way, same_key-refl, same_key-true, some-injective, In-any, Table, node_at, Entry, Node, strong_count, over_but, Collection, AreRising, IsWhole, Shelf, are_filed, collection_in, is_filed, nodes_with, place_in, put_shelf, shelf_of, shelves_of, is_over, reserved_count}
+use Rattle.alloc_event.proofs.Common.{◌≡◌, ◌≢◌, ℕ, zero, suc, ◌+◌, ◌<◌, ◌≤◌, ◌==◌, ◌&&◌, Bool, true, false, ◌⊎◌, inl, inr, List, [], ◌∷◌, map, length, get_or, set, if◌then◌else◌, cond, Option, Some, None, option_map, is_some, sym, ap, subst, ◌∙◌, refl, arith, AllByRecursion, cons_option, filter, list_all, list_any, eqb-true, eqb-false, NodeKey, same_key, In, In-map, and_left, and_right, both_ways, either_way, same_key-refl, same_key-true, some-injective, In-any, Table, node_at, Entry, Node, strong_count, over_except, Collection, AreRising, IsWhole, Shelf, are_filed, collection_in, is_filed, nodes_with, place_in, put_shelf, shelf_of, shelves_of, is_over, reserved_count}
 use Rattle.std.specs.List.{remove}
 use Rattle.std.proofs.lemmas.Bool.{ltb-true}
 use Rattle.sm_names.proofs.ListLaws.{times-le-length}
 use Rattle.alloc_event.specs.declared.node.End.{End}
-use Rattle.alloc_event.specs.Calm.{AreCounted, AreCountedBut, IsCalm, IsCounted, put_in}
-use Rattle.alloc_event.specs.Forgetting.{IsNotedIn, IsNoting, IsThinned}
-use Rattle.alloc_event.specs.Forgetting.{is_found, left_at, unless_over}
-use Rattle.alloc_event.specs.Kept.{is_strong}
+use Rattle.alloc_event.specs.Calm.{AreCounted, AreCountedExcept, IsQuiescent, IsCounted, put_in}
+use Rattle.alloc_event.specs.Garbage.{IsNotedIn, IsNoting, IsThinned}
+use Rattle.alloc_event.specs.Garbage.{is_found, left_at, unless_over}
+use Rattle.alloc_event.specs.Shelves.{is_strong}
 use Rattle.alloc_event.specs.Nodes.{is_spent, with_end}
 use Rattle.alloc_event.specs.Reserved.{camped}
 use Rattle.alloc_event.proofs.changes.Altering.{looked-of}
-use Rattle.alloc_event.proofs.calm.Calming.{IsPlain, calm_filter, calm_map, strong_filter, times_map}
+use Rattle.alloc_event.proofs.quiescence.Calming.{IsPlain, calm_filter, calm_map, strong_filter, times_map}
 use Rattle.alloc_event.proofs.tables.Hanging.{in_all, looked_there}
 use Rattle.alloc_event.proofs.lists.Lookups.{looked-map}
 use Rattle.alloc_event.proofs.leaving.Noted.{fewer_over, more_noted, not_over_but, noted_not}
 use Rattle.alloc_event.proofs.shelves.Putting.{cases_place}
 use Rattle.alloc_event.proofs.shelves.Showing.{filed-length}
-use Rattle.alloc_event.proofs.calm.Steps.{all-In}
+use Rattle.alloc_event.proofs.quiescence.Steps.{all-In}
 use Rattle.alloc_event.proofs.leaving.Thinning.{none-filter}
 use Rattle.alloc_event.proofs.tallies.Reserved.{reserved_filter, reserved_map}
 
@@ -25,21 +25,21 @@ use Rattle.alloc_event.proofs.tallies.Reserved.{reserved_filter, reserved_map}
 pub moved : (t now : Table Node) (e : Entry) → collection_in now (shelf_of e) ≡ collection_in t (shelf_of e) → IsCounted t e →
     IsCounted now e
 moved t now e same counted = record {
-  calm = subst IsCalm (sym same) counted.calm;
+  calm = subst IsQuiescent (sym same) counted.calm;
   strong = counted.strong ∙ ap (λ (c : Collection). strong_count c.nodes) (sym same);
   reserved = counted.reserved ∙ ap (λ (c : Collection). reserved_count c.nodes) (sym same);
-  tidy = λ h. ap (λ (c : Collection). list_any (over_but e.noted.items) c.nodes) same ∙ counted.tidy h;
+  garbage_known = λ h. ap (λ (c : Collection). list_any (over_except e.garbage.items) c.nodes) same ∙ counted.garbage_known h;
 }
 
 -- an entry that shows the same with the same counts
 pub recounted : (t : Table Node) (e new : Entry) → collection_in t (shelf_of new) ≡ collection_in t (shelf_of e) → new.strong ≡ e.strong →
     new.reserved ≡ e.reserved →
-    (new.tidy ≡ true → list_any (over_but new.noted.items) (nodes_with t e.keys.items) ≡ false) → IsCounted t e → IsCounted t new
-recounted t e new same count sum tidy counted = record {
-  calm = subst IsCalm (sym same) counted.calm;
+    (new.garbage_known ≡ true → list_any (over_except new.garbage.items) (nodes_with t e.keys.items) ≡ false) → IsCounted t e → IsCounted t new
+recounted t e new same count sum garbage_known counted = record {
+  calm = subst IsQuiescent (sym same) counted.calm;
   strong = count ∙ counted.strong ∙ ap (λ (c : Collection). strong_count c.nodes) (sym same);
   reserved = sum ∙ counted.reserved ∙ ap (λ (c : Collection). reserved_count c.nodes) (sym same);
-  tidy = λ h. ap (λ (c : Collection). list_any (over_but new.noted.items) c.nodes) same ∙ tidy h;
+  garbage_known = λ h. ap (λ (c : Collection). list_any (over_except new.garbage.items) c.nodes) same ∙ garbage_known h;
 }
 
 -- so of all that show the same
@@ -57,31 +57,31 @@ pub moved_but : (t now : Table Node) (id : ℕ) (es : List Entry) → AllByRecur
     list_all (is_filed t e.id) e.keys.items ≡ true) es →
     ((e : Entry) → e.id ≢ id → list_all (is_filed t e.id) e.keys.items ≡ true →
     collection_in now (shelf_of e) ≡ collection_in t (shelf_of e)) →
-    AreCountedBut t id es → AreCountedBut now id es
+    AreCountedExcept t id es → AreCountedExcept now id es
 moved_but t now id [] filed same all = tt
 moved_but t now id (e ∷ es) filed same all =
     (λ differ. moved t now e (same e differ (filed.0 differ)) (all.0 differ), moved_but t now id es filed.1 same all.1)
 
 -- where all are counted, all but one are
-pub counted_but : (t : Table Node) (id : ℕ) (es : List Entry) → AreCounted t es → AreCountedBut t id es
+pub counted_but : (t : Table Node) (id : ℕ) (es : List Entry) → AreCounted t es → AreCountedExcept t id es
 counted_but t id [] all = tt
 counted_but t id (e ∷ es) all = (λ differ. all.0, counted_but t id es all.1)
 
 -- ids above another are not it
 counted_above : (t : Table Node) (id low : ℕ) (es : List Entry) → id < low →
-    AllByRecursion (λ (later : Shelf). low < later.id) (shelves_of es) → AreCountedBut t id es → AreCounted t es
+    AllByRecursion (λ (later : Shelf). low < later.id) (shelves_of es) → AreCountedExcept t id es → AreCounted t es
 counted_above t id low [] less all but = tt
 counted_above t id low (e ∷ es) less all but =
     (but.0 (λ same. omega (arith, all.0)), counted_above t id low es less all.1 but.1)
 
 -- by induction: no entry behind has the id
 counted_behind : (t : Table Node) (id : ℕ) (es : List Entry) →
-    AllByRecursion (λ (later : Shelf). id < later.id) (shelves_of es) → AreCountedBut t id es → AreCounted t es
+    AllByRecursion (λ (later : Shelf). id < later.id) (shelves_of es) → AreCountedExcept t id es → AreCounted t es
 counted_behind t id [] all but = tt
 counted_behind t id (e ∷ es) all but = (but.0 (λ same. omega (arith, all.0)), counted_behind t id es all.1 but.1)
 
 -- the entry is put among the others
-pub counted_put : (t : Table Node) (new : Entry) (es : List Entry) → AreRising (shelves_of es) → AreCountedBut t new.id es →
+pub counted_put : (t : Table Node) (new : Entry) (es : List Entry) → AreRising (shelves_of es) → AreCountedExcept t new.id es →
     IsCounted t new → AreCounted t (put_in new es)
 counted_put t new [] rising but own = (own, tt)
 counted_put t new (e ∷ es) rising but own = cases_place e.id new.id (AreCounted t (put_in new (e ∷ es)))
@@ -153,12 +153,12 @@ module _ (t now : Table Node) (named : (k : NodeKey) (n : Node) → node_at t k 
       let over : (n : Node) → In n nodes → stays n ≡ false → n.gone ≡ true =
       λ n on out. dropped_over n (in_all (λ (m : Node). node_at t m.key ≡ Some m) nodes (looked_there t named e.keys.items) n on) out in
       record {
-        calm = subst IsCalm (λ i. record (collection_in t (shelf_of e)) { nodes = sym (dropped_nodes e.keys.items) i })
+        calm = subst IsQuiescent (λ i. record (collection_in t (shelf_of e)) { nodes = sym (dropped_nodes e.keys.items) i })
             (calm_filter (collection_in t (shelf_of e)) whole stays over counted.calm);
         strong = counted.strong ∙ sym (strong_filter stays nodes over) ∙ ap strong_count (sym (dropped_nodes e.keys.items));
         reserved = counted.reserved ∙ sym (reserved_filter stays nodes over) ∙ ap reserved_count (sym (dropped_nodes e.keys.items));
-        tidy = λ h. ap (list_any (over_but e.noted.items)) (dropped_nodes e.keys.items)
-            ∙ none-filter stays (over_but e.noted.items) nodes (counted.tidy h);
+        garbage_known = λ h. ap (list_any (over_except e.garbage.items)) (dropped_nodes e.keys.items)
+            ∙ none-filter stays (over_except e.garbage.items) nodes (counted.garbage_known h);
       }
 
   -- by induction over the entries
@@ -173,20 +173,20 @@ module _ (t now : Table Node) (named : (k : NodeKey) (n : Node) → node_at t k 
 pub mapped_all : (t now : Table Node) (f : Node → Node) → ((n : Node) → IsPlain (f n) n) → ((n : Node) → is_strong (f n) ≡ is_strong n) →
     ((n : Node) → camped (f n) ≡ camped n) →
     ((key : NodeKey) → node_at now key ≡ option_map f (node_at t key)) → (es : List Entry) →
-    AllByRecursion (λ (e : Entry). e.tidy ≡ true → list_any (over_but e.noted.items) (map f (nodes_with t e.keys.items)) ≡ false) es →
+    AllByRecursion (λ (e : Entry). e.garbage_known ≡ true → list_any (over_except e.garbage.items) (map f (nodes_with t e.keys.items)) ≡ false) es →
     AreCounted t es → AreCounted now es
-mapped_all t now f plain strong camps look [] tidy all = tt
-mapped_all t now f plain strong camps look (e ∷ es) tidy all =
+mapped_all t now f plain strong camps look [] garbage_known all = tt
+mapped_all t now f plain strong camps look (e ∷ es) garbage_known all =
     let nodes : nodes_with now e.keys.items ≡ map f (nodes_with t e.keys.items) =
     looked-map f (node_at t) (node_at now) look e.keys.items in (
       record {
-        calm = subst IsCalm (λ i. record (collection_in t (shelf_of e)) { nodes = sym nodes i }) (calm_map (collection_in t (shelf_of e)) f
+        calm = subst IsQuiescent (λ i. record (collection_in t (shelf_of e)) { nodes = sym nodes i }) (calm_map (collection_in t (shelf_of e)) f
             plain all.0.calm);
         strong = all.0.strong ∙ sym (times_map is_strong is_strong f (nodes_with t e.keys.items) strong) ∙ ap strong_count (sym nodes);
         reserved = all.0.reserved ∙ sym (reserved_map f camps (nodes_with t e.keys.items)) ∙ ap reserved_count (sym nodes);
-        tidy = λ h. ap (list_any (over_but e.noted.items)) nodes ∙ tidy.0 h;
+        garbage_known = λ h. ap (list_any (over_except e.garbage.items)) nodes ∙ garbage_known.0 h;
       },
-      mapped_all t now f plain strong camps look es tidy.1 all.1,
+      mapped_all t now f plain strong camps look es garbage_known.1 all.1,
     )
 
 -- ---- entries that are left out
@@ -298,18 +298,18 @@ module _ (t : Table Node) (named : (k : NodeKey) (n : Node) → node_at t k ≡ 
 
   -- one entry, where the node is noted if it is one of its own and is over then
   end_tidy : (e : Entry) → list_all (is_filed t e.id) e.keys.items ≡ true →
-      list_any (over_but e.noted.items) (nodes_with t e.keys.items) ≡ false →
-      (is_over (record n { end = end }) ≡ true → e.id ≡ n.collection → list_any (same_key key) e.noted.items ≡ true) →
-      list_any (over_but e.noted.items) (map f (nodes_with t e.keys.items)) ≡ false
-  end_tidy e filed none apart = each_none (over_but e.noted.items) (map f (nodes_with t e.keys.items)) (λ m there.
+      list_any (over_except e.garbage.items) (nodes_with t e.keys.items) ≡ false →
+      (is_over (record n { end = end }) ≡ true → e.id ≡ n.collection → list_any (same_key key) e.garbage.items ≡ true) →
+      list_any (over_except e.garbage.items) (map f (nodes_with t e.keys.items)) ≡ false
+  end_tidy e filed none apart = each_none (over_except e.garbage.items) (map f (nodes_with t e.keys.items)) (λ m there.
       let x = In-map f (nodes_with t e.keys.items) m there in
-      ap (over_but e.noted.items) x.2 ∙ from x.0 x.1 (either_way (same_key key x.0.key)))
+      ap (over_except e.garbage.items) x.2 ∙ from x.0 x.1 (either_way (same_key key x.0.key)))
     where
       from : (m : Node) → In m (nodes_with t e.keys.items) → (same_key key m.key ≡ true) ⊎ (same_key key m.key ≡ false) →
-          over_but e.noted.items (f m) ≡ false
+          over_except e.garbage.items (f m) ≡ false
       from m on (inr other) =
           let same : f m ≡ m = λ i. record m { end = if other i then end else m.end } in
-          ap (over_but e.noted.items) same ∙ none_each (over_but e.noted.items) (nodes_with t e.keys.items) none m on
+          ap (over_except e.garbage.items) same ∙ none_each (over_except e.garbage.items) (nodes_with t e.keys.items) none m on
       from m on (inl same) =
           let found : node_at t m.key ≡ Some m =
           in_all (λ (x : Node). node_at t x.key ≡ Some x) (nodes_with t e.keys.items) (looked_there t named e.keys.items) m on in
@@ -320,32 +320,32 @@ module _ (t : Table Node) (named : (k : NodeKey) (n : Node) → node_at t k ≡ 
           let is : is_over (f m) ≡ is_over (record n { end = end }) = rw same (ap (λ (x : Node). x.gone && is_spent end) (sym one)) in
           elim (either_way (is_over (record n { end = end }))) [
             | inl over ↦
-                noted_not e.noted.items (f m) (subst (λ (j : NodeKey). list_any (same_key j) e.noted.items ≡ true)
+                noted_not e.garbage.items (f m) (subst (λ (j : NodeKey). list_any (same_key j) e.garbage.items ≡ true)
                 (same_key-true key m.key same)
                 (apart over (sym (eqb-true m.collection e.id own) ∙ ap (λ (x : Node). x.collection) (sym one))))
-            | inr not_over ↦ not_over_but e.noted.items (f m) (is ∙ not_over)
+            | inr not_over ↦ not_over_but e.garbage.items (f m) (is ∙ not_over)
           ]
 
   -- by induction: the node is over only in its own collection, which notes it or is not tidy
   pub ends_tidy : (es : List Entry) → are_filed t (shelves_of es) ≡ true → AreCounted t es →
       (is_over (record n { end = end }) ≡ true → AllByRecursion (λ (e : Entry). e.id ≡ n.collection → IsNotedIn e key) es) →
-      AllByRecursion (λ (e : Entry). e.tidy ≡ true → list_any (over_but e.noted.items) (map f (nodes_with t e.keys.items)) ≡ false) es
-  ends_tidy [] filed all noted = tt
-  ends_tidy (e ∷ es) filed all noted = (
-    λ tidy. end_tidy e (and_left (list_all (is_filed t e.id) e.keys.items) _ filed) (all.0.tidy tidy)
-        (λ over is. (noted over).0 is tidy),
-    ends_tidy es (and_right (list_all (is_filed t e.id) e.keys.items) _ filed) all.1 (λ over. (noted over).1),
+      AllByRecursion (λ (e : Entry). e.garbage_known ≡ true → list_any (over_except e.garbage.items) (map f (nodes_with t e.keys.items)) ≡ false) es
+  ends_tidy [] filed all garbage = tt
+  ends_tidy (e ∷ es) filed all garbage = (
+    λ garbage_known. end_tidy e (and_left (list_all (is_filed t e.id) e.keys.items) _ filed) (all.0.garbage_known garbage_known)
+        (λ over is. (garbage over).0 is garbage_known),
+    ends_tidy es (and_right (list_all (is_filed t e.id) e.keys.items) _ filed) all.1 (λ over. (garbage over).1),
   )
 
 -- an entry that notes more
-pub noted : (t : Table Node) (es : List Entry) (at : ℕ) (new : Entry) → (at < length es → IsNoting (get_or es at new) new) →
+pub garbage : (t : Table Node) (es : List Entry) (at : ℕ) (new : Entry) → (at < length es → IsNoting (get_or es at new) new) →
     AreCounted t es → AreCounted t (set es at new)
-noted t es at new known all = counted_set t es at new
+garbage t es at new known all = counted_set t es at new
     (λ within counted.
     let old : Entry = get_or es at new in
     let more = known within in
     recounted t old new (ap (collection_in t) more.shelf) more.strong more.reserved
-    (λ tidy. more_noted old.noted.items new.noted.items more.more (nodes_with t old.keys.items) (counted.tidy (more.tidy tidy)))
+    (λ garbage_known. more_noted old.garbage.items new.garbage.items more.more (nodes_with t old.keys.items) (counted.garbage_known (more.garbage_known garbage_known)))
     counted) all
 
 -- one of which the keys were thinned
@@ -365,7 +365,7 @@ counted_thinned t now es at new thinned look all = counted_set now es at new
       nodes = (ap (nodes_with now) is.keys ∙ found_nodes now keys) i;
       buffers = is.buffers i;
       held = (is.held i).items;
-    }) is.strong is.reserved (λ tidy. fewer_over new.noted.items (nodes_with now keys) none) counted) all
+    }) is.strong is.reserved (λ garbage_known. fewer_over new.garbage.items (nodes_with now keys) none) counted) all
 
 -- and the others of the id, which there are not
 pub noted_set : (P : Entry → Type 0) (id : ℕ) (es : List Entry) (at : ℕ) (new : Entry) → AreRising (shelves_of es) →

@@ -1,7 +1,7 @@
 -- Entries of which one loses keys, or goes.
 use Rattle.alloc_event.proofs.Common.{◌≡◌, ℕ, zero, suc, ◌+◌, ◌==◌, Bool, true, false, List, [], ◌∷◌, get_or, set, Option, Some, None, option_map, cond, refl, sym, ap, subst, ◌∙◌, arith, eq-eqb, find, some-injective, Table, Entry, Node, Shelf, AreRising, place_in, shelf_of, shelves_of}
 use Rattle.std.proofs.Common.{remove}
-use Rattle.alloc_event.specs.Forgetting.{is_bare, thin_in, thinned, without_bare}
+use Rattle.alloc_event.specs.Garbage.{is_bare, thin_in, thinned, without_bare}
 use Rattle.alloc_event.proofs.shelves.Entries.{none_in}
 use Rattle.alloc_event.proofs.shelves.Showing.{shelf_found}
 use Rattle.alloc_event.proofs.leaving.Tidying.{above_other, bare_others, none_others, thin_others}

@@ -1,7 +1,7 @@
 -- Nodes that are left once a collection was changed were left before, on the parents that the table has.
 use Rattle.alloc_event.proofs.Common.{◌≡◌, refl, ap, sym, ◌∙◌, subst, true, false, not, inl, inr, List, [], ◌∷◌, reverse, Option, Some, None, AllByRecursion, cons_option, NodeKey, In, same_key-true, Table, node_at, parent_at, Node, nodes_with, is_of, are_rooted}
 use Rattle.std.proofs.lemmas.Bool.{not-false}
-use Rattle.alloc_event.specs.Kept.{IsHung}
+use Rattle.alloc_event.specs.Shelves.{IsHung}
 use Rattle.alloc_event.specs.Ties.{IsTied}
 
 -- ---- what holds of all

@@ -1,6 +1,6 @@
 -- Nodes stay of the collections of their parents.
 use Rattle.alloc_event.proofs.Common.{◌≡◌, Some, sym, ◌∙◌, NodeKey, Table, node_at, parent_at, Node}
-use Rattle.alloc_event.specs.Kept.{AreKin}
+use Rattle.alloc_event.specs.Shelves.{AreKin}
 
 -- where each node that is there was there, of the same collection, and no key has another parent
 pub kin_kept : (t now : Table Node) → ((key : NodeKey) (n : Node) → node_at now key ≡ Some n →

@@ -1,6 +1,6 @@
 -- The parent of a node that is not gone is in the table, and not gone.
 use Rattle.alloc_event.proofs.Common.{◌≡◌, ℕ, ap, sym, ◌∙◌, subst, true, false, ◌==◌, ◌&&◌, not, List, [], Option, Some, None, refl, eqb-true, false≢true, not-true, find, option_map_or, NodeKey, In, In-find, and_left, and_right, both_ways, Table, node_at, parent_at, Change, Node, is_left_of, Collection, Shelf, IsStored, forest_of, nodes_with, is_of, collection_or_new}
-use Rattle.alloc_event.specs.Kept.{loses_left}
+use Rattle.alloc_event.specs.Shelves.{loses_left}
 use Rattle.alloc_event.specs.Settling.{MayChange, is_there}
 use Rattle.alloc_event.proofs.tables.Hanging.{in_all, looked_there}
 use Rattle.alloc_event.proofs.newborns.Newborn.{before_is, found_above}

@@ -69,10 +69,10 @@ left_in nodes n on here =
     (and_both (same_key n.key n.key) (not n.gone) (same_key-refl n.key) (not_from_false n.gone here))
 
 -- so what is left in a part is left in the whole
-pub left_within : (part whole : List Node) → ((n : Node) → In n part → In n whole) →
-    (key : NodeKey) → is_left_of part key ≡ true → is_left_of whole key ≡ true
-left_within part whole within key left =
-    let x = left_node part key left in
+pub left_within : (assert_disjoint whole : List Node) → ((n : Node) → In n assert_disjoint → In n whole) →
+    (key : NodeKey) → is_left_of assert_disjoint key ≡ true → is_left_of whole key ≡ true
+left_within assert_disjoint whole within key left =
+    let x = left_node assert_disjoint key left in
     subst (λ (k : NodeKey). is_left_of whole k ≡ true) x.is (left_in whole x.node (within x.node x.on) x.here)
 
 -- ---- lines

@@ -4,7 +4,7 @@ use Rattle.std.proofs.Common.{IsSome}
 use Rattle.node_table.specs.Table.{Row, row_at}
 use Rattle.node_table.specs.Changes.{Writes}
 use Rattle.node_table.specs.Lending.{table_with_node}
-use Rattle.alloc_event.specs.Kept.{written, stored, Stores}
+use Rattle.alloc_event.specs.Shelves.{written, stored, Stores}
 use Rattle.alloc_event.proofs.lists.Lookups.{nothing}
 use Rattle.alloc_event.proofs.tables.Writing.{look-written, parents-written}
 

@@ -10,8 +10,8 @@ use Rattle.node_table.proofs.Keys.{key_cases, same_key-equal, same_key-apart}
 use Rattle.node_table.proofs.Lists.{without, without_lacks, Contains-head}
 use Rattle.node_table.proofs.Runs.{without-short}
 use Rattle.alloc_event.specs.Forest.{SameKeys as SameForest}
-use Rattle.alloc_event.specs.Forgetting.{IsChild, Unlinks, TakesOut}
-use Rattle.alloc_event.specs.Kept.{TakesOut as Leaves}
+use Rattle.alloc_event.specs.Garbage.{IsChild, Unlinks, TakesOut}
+use Rattle.alloc_event.specs.Shelves.{TakesOut as Leaves}
 
 -- the node of a row
 abbrev node_in : Option (Row Node) → Option Node

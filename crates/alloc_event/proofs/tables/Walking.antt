@@ -4,7 +4,7 @@ use Rattle.std.proofs.lemmas.List.Folds.{list_any-append}
 use Rattle.sm_names.proofs.SamenessLaws.{or_false}
 use Rattle.node_table.specs.Changes.{SameKeys}
 use Rattle.node_table.proofs.Keys.{key_cases, same_key-equal, same_key-apart}
-use Rattle.alloc_event.specs.Forgetting.{TakesOut, left_at, thinned, unless_over}
+use Rattle.alloc_event.specs.Garbage.{TakesOut, left_at, thinned, unless_over}
 use Rattle.alloc_event.specs.Nodes.{is_spent}
 use Rattle.alloc_event.proofs.tables.TakingOut.{SameKeys-refl, SameKeys-trans}
 use Rattle.alloc_event.proofs.leaving.Thinning.{all_thinned-same, found_before, taken-kept, thinned-twice}

@@ -10,7 +10,7 @@ use Rattle.alloc_event.proofs.tables.KeptRoots.{rooted_same}
 use Rattle.alloc_event.proofs.tables.Kin.{kin_kept}
 use Rattle.alloc_event.proofs.lists.Lookups.{looked-map}
 use Rattle.alloc_event.proofs.tables.Rooted.{whole_rooted}
-use Rattle.alloc_event.proofs.calm.United.{united_mapped}
+use Rattle.alloc_event.proofs.quiescence.United.{united_mapped}
 
 -- the same keys were given
 pub given-same : (t now : Table Node) → now.first ≡ t.first → now.nexts ≡ t.nexts → (key : NodeKey) → was_given now key ≡ was_given t key

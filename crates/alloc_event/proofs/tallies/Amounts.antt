@@ -1,6 +1,6 @@
 -- What a count is once one node changed: the count before, less what it counted of that node, and what it counts of it now.
 use Rattle.alloc_event.proofs.Common.{◌≡◌, ℕ, ◌+◌, Bool, true, false, cond, inl, inr, List, [], ◌∷◌, map, refl, sym, ap, subst, ◌∙◌, arith, not-true, list_any, NodeKey, same_key, times, In, and_left, and_right, both_ways, either_way, same_key-refl, same_key-true, In-any, Node, is_of, are_distinct}
-use Rattle.alloc_event.specs.InPlace.{bit}
+use Rattle.alloc_event.specs.Unforced.{bit}
 
 -- how much of all
 abbrev pub amount_of : (Node → ℕ) → List Node → ℕ

@@ -1,7 +1,7 @@
 -- Nodes are counted no longer one after another, each for its unit and for the one right above that at once.
 use Rattle.alloc_event.proofs.Common.{◌≡◌, ℕ, zero, suc, refl, ap, ◌∙◌, Bool, true, false, List, [], ◌∷◌, set, Option, Some, None, if◌then◌else◌, cons_option, NodeKey, Table, node_at, Node, Unit, unit_at, nodes_with, is_live_node}
 use Rattle.alloc_event.specs.Counts.{head_above, is_unready}
-use Rattle.alloc_event.specs.Falling.{lowered, unhung, unreckoned, untallied, without_below, without_node}
+use Rattle.alloc_event.specs.LossMarks.{lowered, unhung, unreckoned, untallied, without_below, without_node}
 
 -- two changes of counts that commute do so at any two slots
 changed_both : (A B : Unit → Unit) → ((u : Unit) → A (B u) ≡ B (A u)) → (us : List Unit) (i j : ℕ) →

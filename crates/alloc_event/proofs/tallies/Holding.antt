@@ -10,7 +10,7 @@ use Rattle.alloc_event.specs.Ties.{hangs_on}
 use Rattle.alloc_event.specs.Units.{are_united, is_parent, shares_unit}
 use Rattle.alloc_event.proofs.tables.Chains.{one_line}
 use Rattle.alloc_event.proofs.tables.Rooted.{AreOne, distinct_one, left_in, left_node, left_parent, line_of}
-use Rattle.alloc_event.proofs.calm.Steps.{all-In, found_by_key}
+use Rattle.alloc_event.proofs.quiescence.Steps.{all-In, found_by_key}
 
 -- the node holds the unit with this head: it is a live node of it, or heads a unit right below it
 abbrev pub holds_unit : List Node → NodeKey → Node → Bool

@@ -3,9 +3,9 @@ use Rattle.alloc_event.proofs.Common.{◌≡◌, ◌≢◌, ℕ, ◌+◌, ◌<�
 use Rattle.std.proofs.lemmas.List.{get_or-set_other, get_or-set_same, length-set}
 use Rattle.sm_names.proofs.ListLaws.{list_any-map}
 use Rattle.alloc_event.specs.Counts.{hangs_in, head_above, head_of, heads_below, hung, no_unit, with_below}
-use Rattle.alloc_event.specs.Falling.{lowered, unhung, without_below}
-use Rattle.alloc_event.specs.InPlace.{bit}
-use Rattle.alloc_event.proofs.calm.Calming.{times_map}
+use Rattle.alloc_event.specs.LossMarks.{lowered, unhung, without_below}
+use Rattle.alloc_event.specs.Unforced.{bit}
+use Rattle.alloc_event.proofs.quiescence.Calming.{times_map}
 use Rattle.alloc_event.proofs.tables.Rooted.{distinct_one, left_node, left_parent}
 use Rattle.alloc_event.proofs.tables.Writing.{IsSameNode}
 use Rattle.alloc_event.proofs.tallies.Reckoning.{other_slot, times_more}

@@ -1,7 +1,7 @@
 -- What the counts of a unit are, once nodes were counted for their units.
 use Rattle.alloc_event.proofs.Common.{◌≡◌, ◌≢◌, ℕ, ◌+◌, ◌<◌, ◌≤◌, ◌==◌, nat_lt, refl, ap, sym, ◌∙◌, subst, Bool, true, false, not, ◌&&◌, ◌||◌, ◌⊎◌, inl, inr, if◌then◌else◌, List, [], ◌∷◌, length, set, is_some, arith, eqb-false, eqb-true, lt-ltb, NodeKey, same_key, times, In, either_way, same_key-refl, same_key-true, Node, Unit, is_live_node, lives_in, unit_at, waits_in}
 use Rattle.std.proofs.lemmas.List.{get_or-set_other, get_or-set_same, length-set}
-use Rattle.alloc_event.specs.InPlace.{bit}
+use Rattle.alloc_event.specs.Unforced.{bit}
 use Rattle.alloc_event.specs.Counts.{cleared, is_unready, no_unit, raised, tallied, with_node}
 
 -- a key of another slot is another key

@@ -1,7 +1,7 @@
 -- What is reserved, node by node: what each camps on is added up.
 use Rattle.alloc_event.proofs.Common.{◌≡◌, ◌≢◌, ℕ, ◌+◌, Bool, true, false, if◌then◌else◌, inl, inr, List, [], ◌∷◌, ◌++◌, map, Option, Some, None, refl, sym, ap, subst, ◌∙◌, arith, not-true, cons_option, filter, list_any, sum_by, option_map_or, NodeKey, Demand, same_key, In, and_left, and_right, both_ways, either_way, same_key-refl, same_key-true, In-any, Table, node_at, Node, nodes_with, is_of, reserved_count, are_distinct}
 use Rattle.std.specs.List.{AllPairs, fold}
-use Rattle.alloc_event.specs.Questions.{demands_of, is_served}
+use Rattle.alloc_event.specs.Questions.{demands_of, has_buffers}
 use Rattle.alloc_event.specs.Reserved.{camped}
 use Rattle.alloc_event.proofs.lists.Lookups.{same_key-swap}
 use Rattle.alloc_event.proofs.tallies.Amounts.{amount_changed, amount_of}
@@ -40,7 +40,7 @@ camped_sum test ns = camped_on test ns 0 ∙ omega arith
 
 -- a sum over the demands is a sum over the nodes
 pub reserved_is : (ns : List Node) → reserved_count ns ≡ amount_of camped ns
-reserved_is ns = camped_sum is_served ns
+reserved_is ns = camped_sum has_buffers ns
 
 -- a node that is gone camps on nothing
 pub camped_gone : (n : Node) → n.gone ≡ true → camped n ≡ 0
@@ -48,7 +48,7 @@ camped_gone n e = rw e refl
 
 -- a node without a demand camps on nothing
 pub reserved_one : (n : Node) → n.constraints ≡ None → reserved_count (n ∷ []) ≡ 0
-reserved_one n none = reserved_is (n ∷ []) ∙ rw none (from (is_served n))
+reserved_one n none = reserved_is (n ∷ []) ∙ rw none (from (has_buffers n))
   where
     from : (b : Bool) → option_map_or (λ (d : Demand). d.camping) (if b then None else None) 0 + 0 ≡ 0
     from true = refl

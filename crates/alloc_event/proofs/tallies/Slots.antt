@@ -5,19 +5,19 @@ use Rattle.std.specs.Option.{unwrap_or}
 use Rattle.sm_names.specs.Marks.{Mark, Called, Loss, Allocated, Ended}
 use Rattle.sm_names.proofs.ListLaws.{In-filter, In-filter-back}
 use Rattle.node_table.specs.Table.{Row, next_at}
-use Rattle.alloc_event.specs.Counts.{AreUnitsBut, HasUnit, HasSlots, HasUnits, HaveSlots, cleared, hangs_in, head_above, heads_below, no_unit, reckoned, tallied, unit_of}
+use Rattle.alloc_event.specs.Counts.{AreUnitsExcept, HasUnit, HasSlots, HasUnits, HaveSlots, cleared, hangs_in, head_above, heads_below, no_unit, reckoned, tallied, unit_of}
 use Rattle.alloc_event.specs.Forest.{Forest, collection_at, is_left, tidied, without_over_in}
 use Rattle.alloc_event.specs.Nodes.{is_spent}
 use Rattle.alloc_event.specs.Settling.{Forces, Rests, changed, is_birth, is_root_of, made}
 use Rattle.alloc_event.proofs.changes.Altering.{found_filed, found_id, found_whole, looked-of}
-use Rattle.alloc_event.proofs.calm.Calming.{times_map}
+use Rattle.alloc_event.proofs.quiescence.Calming.{times_map}
 use Rattle.alloc_event.proofs.changes.Finishing.{looked-keys}
 use Rattle.alloc_event.proofs.tables.Hanging.{all_in, in_all, looked_gone, looked_there}
 use Rattle.alloc_event.proofs.tallies.Holding.{head_there}
 use Rattle.alloc_event.proofs.tallies.Hung.{above_node, below_mapped, hung_hangs, hung_is, hung_long, hung_other, is_hung}
 use Rattle.alloc_event.proofs.tallies.Reckoning.{cleared_long, cleared_other, cleared_own, tallied_adds, tallied_long, tallied_other}
 use Rattle.alloc_event.proofs.shelves.Showing.{filed-length}
-use Rattle.alloc_event.proofs.calm.Steps.{all-In}
+use Rattle.alloc_event.proofs.quiescence.Steps.{all-In}
 use Rattle.alloc_event.proofs.tables.Rooted.{distinct_one, left_node, left_parent}
 use Rattle.alloc_event.proofs.tables.Writing.{IsSameNode}
 use Rattle.alloc_event.proofs.tallies.Untold.{times_same}
@@ -87,8 +87,8 @@ module _ (t : Table Node) (named : (key : NodeKey) (n : Node) → node_at t key 
       (s.0, s.1 ∙ was.1))
 
   -- by induction over the shelves
-  pub but_stays : (ss : List Shelf) → are_filed t ss ≡ true → AreUnitsBut us id (map (collection_in t) ss) →
-      AreUnitsBut new id (map (collection_in t) ss)
+  pub but_stays : (ss : List Shelf) → are_filed t ss ≡ true → AreUnitsExcept us id (map (collection_in t) ss) →
+      AreUnitsExcept new id (map (collection_in t) ss)
   but_stays [] filed all = tt
   but_stays (s ∷ ss) filed all = (
     λ differ. units_stay s.id differ s.keys (and_left (list_all (is_filed t s.id) s.keys) _ filed) (all.0 differ),
@@ -96,12 +96,12 @@ module _ (t : Table Node) (named : (key : NodeKey) (n : Node) → node_at t key 
   )
 
 -- where all have their counts, all but one have
-pub but_all : (us : List Unit) (id : ℕ) (cs : List Collection) → AreUnits us cs → AreUnitsBut us id cs
+pub but_all : (us : List Unit) (id : ℕ) (cs : List Collection) → AreUnits us cs → AreUnitsExcept us id cs
 but_all us id [] all = tt
 but_all us id (c ∷ cs) all = (λ differ. all.0, but_all us id cs all.1)
 
 -- and with that one all have
-pub but_join : (us : List Unit) (id : ℕ) (cs : List Collection) → AreUnitsBut us id cs → ((c : Collection) → In c cs → c.id ≡ id →
+pub but_join : (us : List Unit) (id : ℕ) (cs : List Collection) → AreUnitsExcept us id cs → ((c : Collection) → In c cs → c.id ≡ id →
     HasUnits us c.nodes) → AreUnits us cs
 but_join us id [] but own = tt
 but_join us id (c ∷ cs) but own = (
@@ -114,7 +114,7 @@ but_join us id (c ∷ cs) but own = (
 
 -- where the one has its counts and those of the others stay
 pub units_own : (t : Table Node) (ss : List Shelf) → IsStored t ss → (id : ℕ) (us new : List Unit) → Stays t id us new →
-    AreUnitsBut us id (map (collection_in t) ss) →
+    AreUnitsExcept us id (map (collection_in t) ss) →
     (s : Shelf) → In s ss → s.id ≡ id → HasUnits new (nodes_with t s.keys) → AreUnits new (map (collection_in t) ss)
 units_own t ss kept id us new stays but s on own has =
     but_join new id (map (collection_in t) ss) (but_stays t kept.named us new id stays ss kept.filed but) (λ c there same.
@@ -125,7 +125,7 @@ units_own t ss kept id us new stays but s on own has =
 -- where the others are the same
 pub but_moved : (t now : Table Node) (us : List Unit) (id : ℕ) (ss : List Shelf) → ((s : Shelf) → In s ss → s.id ≢ id →
     collection_in now s ≡ collection_in t s) →
-    AreUnitsBut us id (map (collection_in t) ss) → AreUnitsBut us id (map (collection_in now) ss)
+    AreUnitsExcept us id (map (collection_in t) ss) → AreUnitsExcept us id (map (collection_in now) ss)
 but_moved t now us id [] same but = tt
 but_moved t now us id (s ∷ ss) same but = (
   λ differ. subst (λ (c : Collection). HasUnits us c.nodes) (sym (same s (inl refl) differ)) (but.0 differ),
@@ -133,12 +133,12 @@ but_moved t now us id (s ∷ ss) same but = (
 )
 
 -- where the one is put among them
-pub but_put : (us : List Unit) (c : Collection) (cs : List Collection) → AreUnits us cs → AreUnitsBut us c.id (put c cs)
+pub but_put : (us : List Unit) (c : Collection) (cs : List Collection) → AreUnits us cs → AreUnitsExcept us c.id (put c cs)
 but_put us c [] all = (λ differ. absurd (differ refl), tt)
 but_put us c (d ∷ ds) all = from (d.id == c.id) (nat_lt c.id d.id) (but_put us c ds all.1)
   where
-    from : (here above : Bool) → AreUnitsBut us c.id (put c ds) →
-        AreUnitsBut us c.id (if here then c ∷ ds else (if above then c ∷ d ∷ ds else d ∷ put c ds))
+    from : (here above : Bool) → AreUnitsExcept us c.id (put c ds) →
+        AreUnitsExcept us c.id (if here then c ∷ ds else (if above then c ∷ d ∷ ds else d ∷ put c ds))
     from true above on = (λ differ. absurd (differ refl), but_all us c.id ds all.1)
     from false true on = (λ differ. absurd (differ refl), (λ differ. all.0, but_all us c.id ds all.1))
     from false false on = (λ differ. all.0, on)
@@ -427,8 +427,8 @@ pub units_over : (us : List Unit) (id : ℕ) (cs : List Collection) → AllByRec
 units_over us id [] formed all = tt
 units_over us id (c ∷ cs) formed all = from (c.id == id) (is_left (tidied c)) (units_over us id cs formed.1 all.1)
   where
-    tidy : HasUnits us (tidied c).nodes
-    tidy = units_filter us (λ n. not (is_over n)) c.nodes formed.0.sound.distinct formed.0.rooted
+    garbage_known : HasUnits us (tidied c).nodes
+    garbage_known = units_filter us (λ n. not (is_over n)) c.nodes formed.0.sound.distinct formed.0.rooted
         (λ n on out. over n.gone (is_spent n.end) out) all.0
       where
         over : (g e : Bool) → not (g && e) ≡ false → g ≡ true
@@ -438,7 +438,7 @@ units_over us id (c ∷ cs) formed all = from (c.id == id) (is_left (tidied c)) 
     from : (here bare : Bool) → AreUnits us (without_over_in id cs) →
         AreUnits us (if here then (if bare then cs else tidied c ∷ cs) else c ∷ without_over_in id cs)
     from true true on = all.1
-    from true false on = (tidy, all.1)
+    from true false on = (garbage_known, all.1)
     from false bare on = (all.0, on)
 
 -- and where collections are

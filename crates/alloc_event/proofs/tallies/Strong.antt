@@ -2,7 +2,7 @@
 use Rattle.alloc_event.proofs.Common.{◌≡◌, ℕ, ◌==◌, Bool, true, false, ◌||◌, ◌&&◌, not, List, [], ◌∷◌, map, Option, Some, option_map, refl, ap, ◌∙◌, list_any, filter, find, option_map_or, Table, Entry, Node, Collection, shelf_of, shelves_of, collection_in, nodes_with, forest_of, members_of}
 use Rattle.sm_names.specs.Members.{Member, is_live as lives, some_strong_live}
 use Rattle.alloc_event.specs.Forest.{collection_at}
-use Rattle.alloc_event.specs.Kept.{is_strong}
+use Rattle.alloc_event.specs.Shelves.{is_strong}
 use Rattle.alloc_event.specs.Nodes.{member_of}
 use Rattle.alloc_event.proofs.shelves.Showing.{shelf_found, collection_is}
 

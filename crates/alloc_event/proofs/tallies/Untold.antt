@@ -5,8 +5,8 @@ use Rattle.std.proofs.lemmas.Map.Views.{Contains-from_any}
 use Rattle.std.specs.List.{AllPairs}
 use Rattle.std.proofs.Math.Bool.{and-false}
 use Rattle.alloc_event.specs.Counts.{is_unready, no_unit}
-use Rattle.alloc_event.specs.Falling.{lowered, untallied, without_node}
-use Rattle.alloc_event.specs.InPlace.{bit}
+use Rattle.alloc_event.specs.LossMarks.{lowered, untallied, without_node}
+use Rattle.alloc_event.specs.Unforced.{bit}
 use Rattle.alloc_event.proofs.lists.Lookups.{same_key-swap}
 use Rattle.alloc_event.proofs.tallies.Reckoning.{lives_gone, lives_other, lives_own, other_slot, times_more, waits_gone, waits_other, waits_own}
 

@@ -7,8 +7,8 @@ use Rattle.sm_names.proofs.SamenessLaws.{same_key-comm}
 use Rattle.alloc_event.specs.Falls.{AreGrown, Hangs, IsPlaced, Roots}
 use Rattle.alloc_event.specs.Ties.{hangs_on}
 use Rattle.alloc_event.specs.Units.{are_united, is_parent, shares_unit}
-use Rattle.alloc_event.proofs.calm.Lines.{parted_at}
-use Rattle.alloc_event.proofs.calm.Steps.{all-In}
+use Rattle.alloc_event.proofs.quiescence.Lines.{parted_at}
+use Rattle.alloc_event.proofs.quiescence.Steps.{all-In}
 use Rattle.alloc_event.proofs.tables.Rooted.{left_node}
 
 -- where one of the first stands

@@ -3,9 +3,9 @@ use Rattle.alloc_event.proofs.Common.{◌≡◌, ℕ, zero, suc, ◌<◌, ◌==�
 use Rattle.std.specs.List.{slice_get}
 use Rattle.alloc_event.specs.Falls.{AreGrown, Hangs, IsHanging, Roots}
 use Rattle.alloc_event.specs.InTurn.{IsKeyAt}
-use Rattle.alloc_event.proofs.calm.Steps.{all-In}
+use Rattle.alloc_event.proofs.quiescence.Steps.{all-In}
 use Rattle.alloc_event.proofs.changes.Altering.{found_filed, found_whole}
-use Rattle.alloc_event.proofs.serves.Before.{node_there}
+use Rattle.alloc_event.proofs.allocation.Before.{node_there}
 use Rattle.alloc_event.proofs.turns.Grown.{grown_by}
 
 -- ---- places in lists

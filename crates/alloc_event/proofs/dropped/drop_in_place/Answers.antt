@@ -34,18 +34,18 @@ is_abandoned-requires c =
     few_at (total c.args.holds.now) c.args.table.now c.args.entries.now.items c.args.buffer.collection c.in-Some.at
     c.index-then-not-strong_live.result.now told c.index-then-not-strong_live.ensures c.requires.kept c.requires.counted
 
-pub return_home-requires-clause-pool : goal.return_home-requires-clause-pool
-return_home-requires-clause-pool c =
+pub free_if_home-requires-clause-pool : goal.free_if_home-requires-clause-pool
+free_if_home-requires-clause-pool c =
     let told : place_in c.args.buffer.collection c.args.entries.now.items ≡ Some c.in-Some.at =
     sym (rw c.deref.ensures.value at c.place_of.ensures) ∙ c.in-Some.is in (
       beside (forest_of c.args.table.now (shelves_of c.args.entries.now.items)) c.index_mut.result.now.id,
       pool_at (total c.args.holds.now) c.args.table.now c.args.entries.now.items c.args.buffer.collection c.in-Some.at
-          c.index_mut.result.now told c.index_mut.ensures.value c.requires.kept c.requires.counted c.args.pool.now.held c.part.ensures
+          c.index_mut.result.now told c.index_mut.ensures.value c.requires.kept c.requires.counted c.args.pool.now.held c.assert_disjoint.ensures
           c.requires.pool,
     )
 
-pub return_home-requires-clause-others : goal.return_home-requires-clause-others
-return_home-requires-clause-others c =
+pub free_if_home-requires-clause-others : goal.free_if_home-requires-clause-others
+free_if_home-requires-clause-others c =
     let told : place_in c.args.buffer.collection c.args.entries.now.items ≡ Some c.in-Some.at =
     sym (rw c.deref.ensures.value at c.place_of.ensures) ∙ c.in-Some.is in
     let read : c.index.result.now ≡ c.index_mut.result.now =
@@ -56,7 +56,7 @@ return_home-requires-clause-others c =
     c.index_mut.result.now told c.index_mut.ensures.value c.requires.kept c.requires.counted c.args.buffer c.requires.others
 
 -- the entry that was read is the one that is changed
-module _ (c : goal.After-part-2) where
+module _ (c : goal.After-assert_disjoint-2) where
   abbrev es : List Entry
   es = c.args.entries.now.items
 
@@ -70,7 +70,7 @@ module _ (c : goal.After-part-2) where
   old = c.index_mut.result.now
 
   abbrev new : Entry
-  new = record (c.index_mut.result.now) { held = c.return_home.new.held }
+  new = record (c.index_mut.result.now) { held = c.free_if_home.new.held }
 
   -- the place that was found
   told : place_in c.args.buffer.collection c.args.entries.now.items ≡ Some c.in-Some.at
@@ -86,7 +86,7 @@ module _ (c : goal.After-part-2) where
     id = refl;
     keys = refl;
     buffers = refl;
-    held = c.return_home.ensures.held
+    held = c.free_if_home.ensures.held
         ∙ ap (λ (e : Entry). filter (is_out (total c.args.holds.now) (nat_lt 0 e.strong)) old.held.items) read;
   }
 
@@ -118,7 +118,7 @@ module _ (c : goal.After-part-2) where
       ++ beside (forest_of c.args.table.now (shelves_of c.args.entries.now.items)) c.index_mut.result.now.id)
   held_before =
       pool_at (total c.args.holds.now) c.args.table.now es id at old told c.index_mut.ensures.value c.requires.kept c.requires.counted
-      c.args.pool.now.held c.part.ensures c.requires.pool
+      c.args.pool.now.held c.assert_disjoint.ensures c.requires.pool
 
 pub returns-clause-ok : goal.returns-clause-ok
 returns-clause-ok c h =
@@ -140,6 +140,6 @@ pub returns-clause-pool : goal.returns-clause-pool
 returns-clause-pool c =
     pool_so (total c.args.holds.now) c.args.table.now c.args.entries.now.items c.args.buffer.collection c.in-Some.at
     c.index_mut.result.now (told c) c.index_mut.ensures.value c.requires.kept c.requires.counted (new c) (returned c)
-    c.return_home.new.pool.held c.part-2.ensures
-    (c.return_home.ensures.pool (beside (forest_of c.args.table.now (shelves_of c.args.entries.now.items)) c.index_mut.result.now.id)
+    c.free_if_home.new.pool.held c.assert_disjoint-2.ensures
+    (c.free_if_home.ensures.pool (beside (forest_of c.args.table.now (shelves_of c.args.entries.now.items)) c.index_mut.result.now.id)
     (held_before c))

@@ -11,7 +11,7 @@ use Rattle.alloc_event.proofs.lists.Lookups.{looked-kept}
 use Rattle.alloc_event.proofs.shelves.Showing.{node_is}
 use Rattle.alloc_event.proofs.tallies.Slots.{units_without}
 use Rattle.alloc_event.proofs.tables.TakingOut.{SameKeys-shown, taken}
-use Rattle.alloc_event.proofs.under.GivenKept.{given_filtered}
+use Rattle.alloc_event.proofs.mid_event.GivenKept.{given_filtered}
 use Rattle.alloc_event.proofs.forest.Forest.forget.Goals as goal
 
 pub take_out-node-requires : goal.take_out-node-requires
@@ -63,7 +63,7 @@ invariant_of-self c =
       counted = counted_set c.take_out-node.new.table c.self.inside.entries.items c.in-Some.at e
           (λ there counted. let own : IsCounted c.take_out-node.new.table old =
           subst (IsCounted c.take_out-node.new.table) (sym was) counted in
-          recounted c.take_out-node.new.table old e shown refl refl own.tidy own)
+          recounted c.take_out-node.new.table old e shown refl refl own.garbage_known own)
           (dropped_all c.self.inside.table c.take_out-node.new.table c.self.invariant.kept.named drops c.self.inside.entries.items
           c.self.invariant.kept.whole c.self.invariant.counted);
       units = rw same (subst (AreUnits c.self.inside.units.items) (sym (collections-without c.self.inside.table c.take_out-node.new.table

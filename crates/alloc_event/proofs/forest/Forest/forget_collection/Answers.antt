@@ -7,7 +7,7 @@ use Rattle.alloc_event.proofs.leaving.Emptying.{remove_shelf, collections_beside
 use Rattle.alloc_event.proofs.shelves.Entries.{place_is, none_in}
 use Rattle.alloc_event.proofs.shelves.Showing.{collection_none}
 use Rattle.alloc_event.proofs.tallies.Slots.{units_some}
-use Rattle.alloc_event.proofs.under.GivenKept.{given_some}
+use Rattle.alloc_event.proofs.mid_event.GivenKept.{given_some}
 use Rattle.alloc_event.proofs.forest.Forest.forget_collection.Goals as goal
 
 pub remove-requires : goal.remove-requires

@@ -4,7 +4,7 @@ use Rattle.alloc_event.specs.Given.{AreServedByGiven}
 use Rattle.alloc_event.proofs.changes.Finishing.{whole-map}
 use Rattle.alloc_event.proofs.tallies.Slots.{units_over}
 use Rattle.alloc_event.proofs.tables.TakingOut.{SameKeys-shown}
-use Rattle.alloc_event.proofs.under.GivenKept.{given_over}
+use Rattle.alloc_event.proofs.mid_event.GivenKept.{given_over}
 use Rattle.alloc_event.proofs.forest.Forest.forget_over.Goals as goal
 
 pub invariant_of-self : goal.invariant_of-self

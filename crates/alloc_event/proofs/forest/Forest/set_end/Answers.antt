@@ -10,7 +10,7 @@ use Rattle.alloc_event.proofs.leaving.Ends.{ends-kept, ends-look, ends-shown}
 use Rattle.alloc_event.proofs.shelves.Showing.{node_is}
 use Rattle.alloc_event.proofs.tallies.Slots.{units_with}
 use Rattle.sm_names.proofs.SamenessLaws.{some_is}
-use Rattle.alloc_event.proofs.under.GivenKept.{given_mapped}
+use Rattle.alloc_event.proofs.mid_event.GivenKept.{given_mapped}
 use Rattle.alloc_event.proofs.forest.Forest.set_end.Goals as goal
 
 -- a node that the forest has is in the table
@@ -18,7 +18,7 @@ known : (t : Table Node) (ss : List Shelf) → IsStored t ss → (f : Forest) (k
     is_some (forest_node f key) ≡ true → is_some (node_at t key) ≡ true
 known t ss kept f key is some = ap is_some (sym (node_is t ss kept key)) ∙ ap (λ (g : Forest). is_some (forest_node g key)) is ∙ some
 
-module _ (c : goal.After-note_over) where
+module _ (c : goal.After-list_garbage) where
   -- the key is known, so the table has a node there
   there : (n : Node) × (node_at c.self.inside.table c.args.key ≡ Some n)
   there = some_is (node_at c.self.inside.table c.args.key) (known c.self.inside.table (shelves_of c.self.inside.entries.items)
@@ -44,11 +44,11 @@ module _ (c : goal.After-note_over) where
   becomes = c.put_end.ensures.becomes n there.1 ∙ ap (λ (k : NodeKey). table_with_node c.self.inside.table k after) (sym named)
 
   -- what the forest is then
-  shown : forest_of c.put_end.new.table (shelves_of c.note_over.new.entries.items)
+  shown : forest_of c.put_end.new.table (shelves_of c.list_garbage.new.entries.items)
       ≡ on_collections (with_nodes (map (with_end c.args.key c.args.end))) (forest_of c.self.inside.table
       (shelves_of c.self.inside.entries.items))
   shown =
-      ap (forest_of c.put_end.new.table) c.note_over.ensures.shelves
+      ap (forest_of c.put_end.new.table) c.list_garbage.ensures.shelves
       ∙ ends-shown c.args.key c.args.end c.self.inside.table c.put_end.new.table n there.1
       named writes (shelves_of c.self.inside.entries.items) becomes c.self.invariant.kept
 
@@ -64,7 +64,7 @@ pub invariant_of-self : goal.invariant_of-self
 invariant_of-self c =
     let now = there c in
     record {
-      kept = subst (IsStored c.put_end.new.table) (sym c.note_over.ensures.shelves)
+      kept = subst (IsStored c.put_end.new.table) (sym c.list_garbage.ensures.shelves)
           (ends-kept c.args.key c.args.end c.self.inside.table c.put_end.new.table now.0 now.1 (named c) (writes c)
           (shelves_of c.self.inside.entries.items) (becomes c) c.self.invariant.kept);
       counted = mapped_all c.self.inside.table c.put_end.new.table (with_end c.args.key c.args.end)
@@ -81,13 +81,13 @@ invariant_of-self c =
           (λ n. refl) (λ n. refl)
           (ends-look c.args.key c.args.end c.self.inside.table c.put_end.new.table now.0 now.1 (named c) (writes c)
           c.self.invariant.kept.named)
-          c.note_over.new.entries.items
+          c.list_garbage.new.entries.items
           (ends_tidy c.self.inside.table c.self.invariant.kept.named c.args.key c.args.end now.0 now.1
-          c.note_over.new.entries.items
-          (ap (are_filed c.self.inside.table) c.note_over.ensures.shelves ∙ c.self.invariant.kept.filed)
-          (c.note_over.ensures.counted c.self.inside.table c.self.invariant.counted)
-          (λ over. rw (id_is c) at (c.note_over.ensures.noted (over_is c ∙ over))))
-          (c.note_over.ensures.counted c.self.inside.table c.self.invariant.counted);
+          c.list_garbage.new.entries.items
+          (ap (are_filed c.self.inside.table) c.list_garbage.ensures.shelves ∙ c.self.invariant.kept.filed)
+          (c.list_garbage.ensures.counted c.self.inside.table c.self.invariant.counted)
+          (λ over. rw (id_is c) at (c.list_garbage.ensures.garbage (over_is c ∙ over))))
+          (c.list_garbage.ensures.counted c.self.inside.table c.self.invariant.counted);
       units = subst (AreUnits c.self.inside.units.items) (sym (ap (λ (f : Forest). f.collections) (shown c)))
           (units_with c.self.inside.units.items (with_end c.args.key c.args.end)
           (λ n. record { key = refl; parent = refl; attached = refl; collection = refl; head = refl }) (λ n. refl) (λ k n. refl)

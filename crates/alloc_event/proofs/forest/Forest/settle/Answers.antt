@@ -4,7 +4,7 @@ use Rattle.std.proofs.Common.{is_ok}
 use Rattle.alloc_event.specs.Forest.{Forest}
 use Rattle.alloc_event.specs.Settling.{Settled}
 use Rattle.alloc_event.proofs.changes.Tellings.{settled_birth, settled_change, no_birth}
-use Rattle.alloc_event.proofs.under.GivenKept.{forest_after}
+use Rattle.alloc_event.proofs.mid_event.GivenKept.{forest_after}
 use Rattle.alloc_event.proofs.forest.Forest.settle.Goals as goal
 
 pub returns-in-Birth-clause-ok : goal.returns-in-Birth-clause-ok

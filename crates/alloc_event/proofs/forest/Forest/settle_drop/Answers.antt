@@ -5,7 +5,7 @@ use Rattle.alloc_event.specs.Forest.{Forest}
 use Rattle.alloc_event.specs.Settling.{Settled}
 use Rattle.alloc_event.proofs.Outcomes.{on_ok}
 use Rattle.alloc_event.proofs.changes.Tellings.{settled_change}
-use Rattle.alloc_event.proofs.under.GivenKept.{forest_after}
+use Rattle.alloc_event.proofs.mid_event.GivenKept.{forest_after}
 use Rattle.alloc_event.proofs.forest.Forest.settle_drop.Goals as goal
 
 -- what holds of each forest holds then

@@ -3,7 +3,7 @@ use Rattle.alloc_event.proofs.Common.{false, sym, ◌∙◌, ap, option_map_or, 
 use Rattle.sm_names.specs.Members.{some_strong_live}
 use Rattle.alloc_event.proofs.shelves.Showing.{collection_none}
 use Rattle.alloc_event.proofs.tallies.Strong.{strong_found}
-use Rattle.alloc_event.proofs.calm.Watched.{found_counted, strong_told}
+use Rattle.alloc_event.proofs.quiescence.Watched.{found_counted, strong_told}
 use Rattle.alloc_event.proofs.forest.Forest.strong_live.Goals as goal
 
 pub returns-in-Some : goal.returns-in-Some

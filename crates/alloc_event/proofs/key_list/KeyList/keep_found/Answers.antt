@@ -2,7 +2,7 @@
 use Rattle.alloc_event.proofs.Common.{ap, ◌∙◌, filter}
 use Rattle.std.proofs.Common.{rules}
 use Rattle.std.proofs.lemmas.Fn.{filter_same}
-use Rattle.alloc_event.specs.Forgetting.{is_found}
+use Rattle.alloc_event.specs.Garbage.{is_found}
 use Rattle.alloc_event.specs.Keys.{Listed}
 use Rattle.alloc_event.proofs.key_list.KeyList.keep_found.Goals as goal
 

@@ -1,0 +1,12 @@
+use Rattle.alloc_event.proofs.Common.{◌≡◌, ◌+◌, ℕ}
+use Rattle.std.proofs.Common.{IsSome}
+use Rattle.node_table.specs.Table.{row_at}
+use Rattle.alloc_event.specs.Climbing.{climbed}
+use Rattle.alloc_event.proofs.subtree_end.highest.Given as goal
+
+-- the climb came so far, and to a unit that is there
+abbrev pub invariant-up : goal.invariant-up
+invariant-up l = record {
+  so_far : (n : ℕ) → climbed n l.table l.units l.top ≡ climbed (l.counter + n) l.table l.units l.fn.head;
+  there : IsSome (row_at l.table l.top);
+}

@@ -1,0 +1,262 @@
+//! The births of nodes, where nothing else changes with them.
+ghost use Rattle.std.specs.Prelude.{◌≡◌, ◌≤◌, ◌+◌, ◌<◌, if◌then◌else◌, IfOk, IfSome, IsSome, OnOk, OnErr, length};
+ghost use Rattle.std.specs.Option.{option_and_then};
+ghost use Rattle.node_table.specs.Changes.{Births, Writes};
+ghost use Rattle.node_table.specs.Lending.{table_with_node};
+ghost use Rattle.node_table.specs.Table.{row_at, node_at};
+ghost use Rattle.alloc_event.specs.declared.entry.Entry.{Entry as EntryValue};
+ghost use Rattle.alloc_event.specs.declared.node.Node.{Node as NodeValue};
+ghost use Rattle.alloc_event.specs.Calm.{AreCounted, put_in};
+ghost use Rattle.alloc_event.specs.Counts.{HaveUnits};
+ghost use Rattle.alloc_event.specs.Shelves.{AreRising, Bears, IsStored, born, forest_of, named, put_shelf, shelf_of, shelves_of};
+ghost use Rattle.alloc_event.specs.Settling.{MayChange, no_key};
+ghost use Rattle.alloc_event.specs.Still.{no_shelf, shelf_before, shelf_with};
+
+use crate::births::{new_child, new_root};
+use crate::change::Change;
+use crate::entry::{Entry, place_of};
+use crate::garbage::reserve_notes;
+use crate::key_list::KeyList;
+use crate::node::Node;
+use crate::store::put_entry;
+use crate::unit_counts::{Unit, bound, count_at, no_unit, put_unit};
+use node_table::NodeTable;
+use sm_names::{ClientId, CollectionId, NoMemory, NodeKey};
+use std::cell::Cell;
+
+// The key of a node that was given none yet.
+const NO_KEY: NodeKey = NodeKey {
+    slot: 0,
+    generation: 0,
+};
+
+/// A node that is to be born, without its key: a child of the parent, or a root of the collection.
+fn drafted(
+    table: &NodeTable<Node>,
+    parent: Option<NodeKey>,
+    attached: bool,
+    id: CollectionId,
+    event: u64,
+    client: ClientId,
+) -> Node
+    ensures { result ≡ born (option_and_then (node_at table.now) parent) attached id event client no_key }
+{
+    if let Some(parent) = parent {
+        if let Some(above) = table.get(parent) {
+            return new_child(attached, NO_KEY, event, client, above);
+        }
+    }
+    new_root(NO_KEY, id, event, client)
+}
+
+/// The node is given its key. It heads its unit, if it is a root or attached.
+fn name(node: &mut Node, key: NodeKey)
+    ensures { node.new ≡ named key node.old }
+{
+    node.key = key;
+    if node.parent.is_none() || node.attached {
+        node.head = key;
+    }
+}
+
+/// The node is given its key in the table.
+fn name_at(table: &mut NodeTable<Node>, key: NodeKey)
+    ensures becomes { (n : NodeValue) → node_at table.old key ≡ Some n → table.new ≡ table_with_node table.old key (named key n) }
+    ensures writes { (n : NodeValue) → node_at table.old key ≡ Some n → Writes table.old table.new key (named key n) }
+{
+    if let Some(node) = table.get_mut(key) {
+        name(node, key);
+    }
+}
+
+/// Stores the node under a key that was never given.
+fn insert<N: Drop>(
+    table: &mut NodeTable<N>,
+    parent: Option<NodeKey>,
+    node: N,
+) -> Result<NodeKey, NoMemory>
+    requires { IfSome parent (λ p. IsSome (row_at table.old p)) }
+    ensures ok { IfOk result (Births table.old table.new parent node) }
+    ensures err { OnErr result (table.new ≡ table.old) }
+{
+    match table.insert(parent, node) {
+        Ok(key) => Ok(key),
+        Err(_) => Err(NoMemory),
+    }
+}
+
+/// Stores a copy of the node so.
+fn insert_copy(
+    table: &mut NodeTable<Node>,
+    parent: Option<NodeKey>,
+    node: &Node,
+) -> Result<NodeKey, NoMemory>
+    requires { IfSome parent (λ p. IsSome (row_at table.old p)) }
+    ensures ok { IfOk result (Births table.old table.new parent node.now) }
+    ensures err { OnErr result (table.new ≡ table.old) }
+{
+    insert(table, parent, Node { ..*node })
+}
+
+/// One more node in the table, which is given its key.
+fn insert_node(table: &mut NodeTable<Node>, draft: &Node) -> Result<NodeKey, NoMemory>
+    requires first { table.old.first ≡ 0 }
+    requires parent { IfSome draft.now.parent (λ p. IsSome (row_at table.old p)) }
+    ensures ok { IfOk result (λ key. Bears table.old table.new (named key draft.now)) }
+    ensures err { OnErr result (table.new ≡ table.old) }
+{
+    let key = insert_copy(table, draft.parent, draft)?;
+    name_at(table, key);
+    Ok(key)
+}
+
+/// How many strong nodes the node adds.
+fn strong_with(draft: &Node) -> usize
+    ensures { result ≡ (if draft.now.weak then 0 else 1) }
+{
+    if draft.weak { 0 } else { 1 }
+}
+
+/// One more node of a collection that is there. `NoMemory` leaves the table as it was, and of the
+/// entry all but its room.
+fn insert_child(
+    table: &mut NodeTable<Node>,
+    entry: &mut Entry,
+    draft: &Node,
+) -> Result<NodeKey, NoMemory>
+    requires first { table.old.first ≡ 0 }
+    requires parent { IfSome draft.now.parent (λ p. IsSome (row_at table.old p)) }
+    requires few { entry.old.strong ≤ length entry.old.keys.items }
+    ensures ok { IfOk result (λ key. Bears table.old table.new (named key draft.now)) }
+    ensures err { OnErr result (table.new ≡ table.old) }
+    ensures shelf { IfOk result (λ key. shelf_of entry.new ≡ shelf_with (shelf_of entry.old) key) }
+    ensures strong { OnOk result (entry.new.strong ≡ entry.old.strong + (if draft.now.weak then 0 else 1)) }
+    ensures err_shelf { OnErr result (shelf_of entry.new ≡ shelf_of entry.old) }
+    ensures err_strong { OnErr result (entry.new.strong ≡ entry.old.strong) }
+    ensures reserved { entry.new.reserved ≡ entry.old.reserved }
+    ensures id { entry.new.id ≡ entry.old.id }
+    ensures garbage_known { entry.new.garbage_known ≡ entry.old.garbage_known }
+    ensures garbage { entry.new.garbage.items ≡ entry.old.garbage.items }
+{
+    if entry.keys.reserve_one().is_err() {
+        return Err(NoMemory);
+    }
+    if reserve_notes(&mut entry.garbage, entry.keys.len() + 1).is_err() {
+        return Err(NoMemory);
+    }
+    let key = insert_node(table, draft)?;
+    entry.keys.push(key);
+    entry.strong += strong_with(draft);
+    Ok(key)
+}
+
+/// The first node of a collection that is not there yet. `NoMemory` leaves the table and the
+/// entries as they were.
+fn insert_root(
+    table: &mut NodeTable<Node>,
+    entries: &mut Vec<Entry>,
+    id: CollectionId,
+    draft: &Node,
+) -> Result<NodeKey, NoMemory>
+    requires rising { AreRising (shelves_of entries.old.items) }
+    requires first { table.old.first ≡ 0 }
+    requires parent { IfSome draft.now.parent (λ p. IsSome (row_at table.old p)) }
+    ensures ok { IfOk result (λ key. Bears table.old table.new (named key draft.now)) }
+    ensures err { OnErr result (table.new ≡ table.old) }
+    ensures entries { IfOk result (λ key. (e : EntryValue) × (entries.new.items ≡ put_in e entries.old.items)
+        × (shelf_of e ≡ shelf_with (no_shelf id) key)
+        × (e.strong ≡ (if draft.now.weak then 0 else 1))
+        × (e.reserved ≡ 0)) }
+    ensures err_entries { OnErr result (entries.new.items ≡ entries.old.items) }
+{
+    let alloc = *entries.allocator();
+    let mut keys = KeyList::new(alloc);
+    if keys.reserve_one().is_err() || entries.reserve(1).is_err() {
+        return Err(NoMemory);
+    }
+    let strong = strong_with(draft);
+    let key = insert_node(table, draft)?;
+    keys.push(key);
+    put_entry(
+        entries,
+        Entry {
+            id,
+            keys,
+            buffers: None,
+            held: Vec::new(alloc),
+            strong,
+            reserved: 0,
+            garbage_known: true,
+            garbage: Vec::new(alloc),
+            guess: Cell::new(0),
+        },
+    );
+    Ok(key)
+}
+
+/// The birth of a node, where nothing else changes with it. `NoMemory` leaves the table as it was,
+/// and of the entries all but their room. It costs a constant and a binary search, growth spread
+/// over the births, and for a root the shift of the entries behind it.
+fn insert_uncounted(
+    table: &mut NodeTable<Node>,
+    entries: &mut Vec<Entry>,
+    id: CollectionId,
+    parent: Option<NodeKey>,
+    attached: bool,
+    client: ClientId,
+    event: u64,
+) -> Result<NodeKey, NoMemory>
+    requires kept { IsStored table.old (shelves_of entries.old.items) }
+    requires counted { AreCounted table.old entries.old.items }
+    requires change { MayChange (forest_of table.old (shelves_of entries.old.items)) id (Change.Birth parent attached client event) }
+    ensures bears { IfOk result (λ key. Bears table.old table.new
+        (born (option_and_then (node_at table.old) parent) attached id event client key)) }
+    ensures entries { IfOk result (λ key. shelves_of entries.new.items
+        ≡ put_shelf (shelf_with (shelf_before id (shelves_of entries.old.items)) key) (shelves_of entries.old.items)) }
+    ensures counted { OnOk result (AreCounted table.new entries.new.items) }
+    ensures err_counted { OnErr result (AreCounted table.old entries.new.items) }
+    ensures err_table { OnErr result (table.new ≡ table.old) }
+    ensures err_entries { OnErr result (shelves_of entries.new.items ≡ shelves_of entries.old.items) }
+{
+    let draft = drafted(table, parent, attached, id, event, client);
+    match place_of(entries, id) {
+        Some(at) => insert_child(table, &mut entries[at], &draft),
+        None => insert_root(table, entries, id, &draft),
+    }
+}
+
+/// The birth of a node, where nothing else changes with it, counted for its unit, whose slot the list
+/// of units reaches. `NoMemory` leaves the table and the units as they were, and of the entries all
+/// but their room. It costs a constant and a binary search, growth spread over the births, and for a
+/// root the shift of the entries behind it.
+pub(crate) fn insert_counted(
+    table: &mut NodeTable<Node>,
+    entries: &mut Vec<Entry>,
+    units: &mut Vec<Unit>,
+    id: CollectionId,
+    parent: Option<NodeKey>,
+    attached: bool,
+    client: ClientId,
+    event: u64,
+) -> Result<NodeKey, NoMemory>
+    requires kept { IsStored table.old (shelves_of entries.old.items) }
+    requires counted { AreCounted table.old entries.old.items }
+    requires units { HaveUnits units.old.items table.old entries.old.items }
+    requires reached { table.old.vacant < length units.old.items }
+    requires change { MayChange (forest_of table.old (shelves_of entries.old.items)) id (Change.Birth parent attached client event) }
+    ensures bears { IfOk result (λ key. Bears table.old table.new
+        (born (option_and_then (node_at table.old) parent) attached id event client key)) }
+    ensures entries { IfOk result (λ key. shelves_of entries.new.items
+        ≡ put_shelf (shelf_with (shelf_before id (shelves_of entries.old.items)) key) (shelves_of entries.old.items)) }
+    ensures counted { OnOk result (AreCounted table.new entries.new.items) }
+    ensures units { HaveUnits units.new.items table.new entries.new.items }
+    ensures err_counted { OnErr result (AreCounted table.old entries.new.items) }
+    ensures err_table { OnErr result (table.new ≡ table.old) }
+    ensures err_entries { OnErr result (shelves_of entries.new.items ≡ shelves_of entries.old.items) }
+{
+    let key = insert_uncounted(table, entries, id, parent, attached, client, event)?;
+    bound(table);
+    put_unit(units, key.slot as usize, no_unit());
+    count_at(units, table, key);
+    Ok(key)
+}

@@ -1,0 +1,112 @@
+//! Units that nothing holds any more end, also once a fault took what held them.
+ghost use Rattle.std.specs.Prelude.{◌≡◌, ◌≤◌, ◌∷◌, [], List, Some, true, IfSome, IsSome, vec_capacity};
+ghost use Rattle.sm_names.specs.declared.keys.NodeKey.{NodeKey as Key};
+ghost use Rattle.node_table.specs.Table.{node_at, row_at, table_len};
+ghost use Rattle.alloc_event.specs.declared.node.Node.{Node as NodeValue};
+ghost use Rattle.alloc_event.specs.Climbing.{climbed, unit_over};
+ghost use Rattle.alloc_event.specs.Decisions.{is_left_of};
+ghost use Rattle.alloc_event.specs.Shelves.{Shelf, nodes_with};
+ghost use Rattle.alloc_event.specs.Settling.{Handles};
+ghost use Rattle.alloc_event.specs.MidEvent.{AreOrEnd, AfterLoss, AfterSteps, MidEvent, is_head_left};
+
+use crate::entry::Entry;
+use crate::node::Node;
+use crate::removal::remove_subtree;
+use crate::unit_counts::{Unit, is_held_by, unit_in};
+use node_table::NodeTable;
+use sm_names::{Fault, NodeKey};
+
+/// The head of the unit right above the one with this head, if the counts tell that nothing holds it
+/// but one unit right below.
+fn unit_over(table: &NodeTable<Node>, units: &[Unit], head: NodeKey) -> Option<NodeKey>
+    ensures over { result ≡ unit_over table.now units.now head }
+    ensures there { IfSome result (λ over. IsSome (row_at table.now over)) }
+{
+    let above = table.get(table.parent(head)?)?;
+    let _ = table.get(above.head)?;
+    let unit = unit_in(units, above.head.slot as usize);
+    if unit.live == 0 && unit.below == 1 {
+        Some(above.head)
+    } else {
+        None
+    }
+}
+
+/// The highest of the units above one another that nothing holds but the one below, from this one
+/// on, by the counts. It costs their number.
+fn highest(table: &NodeTable<Node>, units: &[Unit], head: NodeKey) -> NodeKey
+    requires { IsSome (row_at table.now head) }
+    ensures climbed { result ≡ climbed (table_len table.now) table.now units.now head }
+    ensures there { IsSome (row_at table.now result) }
+{
+    let mut top = head;
+    'up: for _ in 0..table.len() {
+        match unit_over(table, units, top) {
+            Some(over) => top = over,
+            None => return top,
+        }
+    }
+    top
+}
+
+/// Where nothing holds the unit with this head, the highest of the units above one another from it on
+/// that nothing holds but the one below ends, and all below it. It costs the climb over those units
+/// and what ends, and takes no memory.
+pub(crate) fn end_above(
+    table: &mut NodeTable<Node>,
+    units: &mut Vec<Unit>,
+    entry: &mut Entry,
+    head: NodeKey,
+    keys: &mut Vec<NodeKey>,
+)
+    requires room { table_len table.old ≤ vec_capacity keys.old }
+    requires named { (key : Key) (n : NodeValue) → node_at table.old key ≡ Some n → n.key ≡ key }
+    requires there { IsSome (row_at table.old head) }
+    ensures led { (handles : Handles) (ss : List Shelf) (pending : List Key) →
+        MidEvent table.old units.old.items ss entry.old (head ∷ []) pending →
+        is_head_left (nodes_with table.old entry.old.keys.items) head ≡ true →
+        AfterSteps handles table.old table.new units.new.items ss entry.old entry.new [] pending }
+    ensures ended { (ss : List Shelf) (pending : List Key) →
+        MidEvent table.old units.old.items ss entry.old (head ∷ []) pending →
+        is_head_left (nodes_with table.old entry.old.keys.items) head ≡ true →
+        AreOrEnd (nodes_with table.old entry.old.keys.items) (nodes_with table.new entry.old.keys.items) }
+    ensures named { (key : Key) (n : NodeValue) → node_at table.new key ≡ Some n → n.key ≡ key }
+    ensures there { (key : Key) → IsSome (row_at table.old key) → IsSome (row_at table.new key) }
+    ensures len { table_len table.new ≡ table_len table.old }
+    ensures room { vec_capacity keys.old ≤ vec_capacity keys.new }
+{
+    if is_held_by(&unit_in(units, head.slot as usize)) {
+        return;
+    }
+    let top = highest(table, units, head);
+    remove_subtree(table, units, entry, top, None, keys);
+}
+
+/// What the fault takes goes; where nothing holds the unit above it then, that ends, or the highest
+/// above it that nothing holds. It costs what the failure climbs, and what goes, and takes no memory.
+pub(crate) fn fall_by(
+    table: &mut NodeTable<Node>,
+    units: &mut Vec<Unit>,
+    entry: &mut Entry,
+    fault: Fault,
+    keys: &mut Vec<NodeKey>,
+)
+    requires named { (key : Key) (n : NodeValue) → node_at table.old key ≡ Some n → n.key ≡ key }
+    requires room { table_len table.old ≤ vec_capacity keys.old }
+    requires there { IsSome (row_at table.old fault.origin) }
+    ensures felled { (handles : Handles) (ss : List Shelf) (pending : List Key) →
+        MidEvent table.old units.old.items ss entry.old [] pending →
+        is_left_of (nodes_with table.old entry.old.keys.items) fault.origin ≡ true →
+        AfterLoss handles table.old table.new units.new.items ss entry.old entry.new fault pending }
+    ensures named { (key : Key) (n : NodeValue) → node_at table.new key ≡ Some n → n.key ≡ key }
+    ensures len { table_len table.new ≡ table_len table.old }
+    ensures room { vec_capacity keys.old ≤ vec_capacity keys.new }
+{
+    let Some(above) = remove_subtree(table, units, entry, fault.origin, Some(fault), keys) else {
+        return;
+    };
+    // The head of the unit above is there, since that is not gone.
+    if table.get(above).is_some() {
+        end_above(table, units, entry, above, keys);
+    }
+}
