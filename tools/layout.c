@@ -47,3 +47,17 @@ AT(sysmem_held_buffer, pages, 16);
 SIZE(sysmem_fired_tracker, 16);
 AT(sysmem_fired_tracker, tracker, 0);
 AT(sysmem_fired_tracker, event, 8);
+
+SIZE(sysmem_node, 72);
+AT(sysmem_node, key, 0);
+AT(sysmem_node, parent, 8);
+AT(sysmem_node, head, 16);
+AT(sysmem_node, collection, 24);
+AT(sysmem_node, event, 32);
+AT(sysmem_node, holder, 40);
+AT(sysmem_node, flags, 48);
+AT(sysmem_node, cause, 52);
+AT(sysmem_node, origin, 56);
+AT(sysmem_node, camping, 64);
+AT(sysmem_node, at_least, 65);
+AT(sysmem_node, size, 68);

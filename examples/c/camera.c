@@ -84,6 +84,22 @@ static void show(void) {
     printf(fires ? "\n" : " nothing\n");
 }
 
+static void look(uint64_t collection, uint64_t client) {
+    sysmem_node nodes[8];
+    uint64_t count = 0, i;
+    uint32_t buffers = 0, size = 0, open = 0, parcels = 0;
+    sysmem_nodes(&core, nodes, 8, &count);
+    for (i = 0; i < count && i < 8; i++)
+        printf("node %u.%u below %u.%u: flags %x, holder %llu, camps on %u\n", nodes[i].key.slot,
+               nodes[i].key.generation, nodes[i].parent.slot, nodes[i].parent.generation,
+               nodes[i].flags, (unsigned long long)nodes[i].holder, nodes[i].camping);
+    sysmem_given(&core, collection, &buffers, &size);
+    sysmem_open_handles(&core, client, collection, 0, SYSMEM_STRONG, &open);
+    sysmem_handles_in_parcels(&core, collection, 0, SYSMEM_STRONG, &parcels);
+    printf("given %u buffers of %u bytes; handles on the first: client %llu %u, parcels %u\n",
+           buffers, size, (unsigned long long)client, open, parcels);
+}
+
 static void ask(const char *who, sysmem_key key) {
     uint32_t live = 0, cause = 0, answer;
     sysmem_key origin;
@@ -150,6 +166,7 @@ int main(void) {
     on("camera", who[0], "checks", SYSMEM_CHECK, end[0]);
     on("camera", who[0], "takes", SYSMEM_TAKE, end[0]);
     show();
+    look(call.collection, who[0]);
 
     on("display", who[2], "tracks its node", SYSMEM_TRACK_NODE, end[2]);
     on("display", who[2], "closes", SYSMEM_CLOSE, end[2]);

@@ -10,6 +10,7 @@ mod codes;
 mod keeping;
 mod laying;
 mod names;
+mod nodes;
 mod opening;
 mod place;
 mod stepping;
@@ -20,6 +21,9 @@ mod words;
 
 pub use keeping::Handle;
 pub use names::sysmem_name;
+pub use nodes::{
+    NodeWords, sysmem_given, sysmem_handles_in_parcels, sysmem_nodes, sysmem_open_handles,
+};
 pub use opening::{sysmem_close, sysmem_open, sysmem_open_seeded};
 pub use stepping::sysmem_step;
 pub use views::{

@@ -39,7 +39,7 @@ pub struct ReplyWords {
 }
 
 // The strength with this number.
-fn strength_of(number: u32) -> Option<Strength>
+pub(crate) fn strength_of(number: u32) -> Option<Strength>
     ensures { result ≡ said_strength number }
 {
     match number {

@@ -1,0 +1,280 @@
+//! What a core shows of its nodes, of what collections were given, and of open handles.
+ghost use Rattle.std.specs.Prelude.{◌≡◌, ◌≢◌, ◌≤◌, ◌↔◌, ◌⊎◌, None, IsSomeAnd, length, map, option_map, if◌then◌else◌};
+ghost use Rattle.std.specs.Option.{option_map_or};
+ghost use Rattle.sm_names.specs.declared.outcomes.Buffers.{Buffers};
+ghost use Rattle.buffer_holds.specs.Counts.{moving, of};
+ghost use Rattle.alloc_event.specs.Forest.{all_nodes};
+ghost use Rattle.lifetime_core.specs.Reads.{buffers_in};
+ghost use Rattle.sysmem.specs.Laying.{laid};
+ghost use Rattle.sysmem.specs.Nodes.{buffer_at, flags_of, holder_of, node_words};
+ghost use Rattle.sysmem.specs.Words.{said_strength};
+
+use crate::codes::{BAD_CALL, DONE, NO_MEMORY, NOT_OPEN};
+use crate::keeping::{Handle, put, take};
+use crate::laying::lay;
+use crate::telling::Telling;
+use crate::views::KeyWords;
+use crate::words::{cause_word, strength_of};
+use alloc_event::{End, Node};
+use lifetime_core::Core;
+use sm_names::BufferName;
+use std::alloc::Global;
+
+/// A node. What a flag says is not so is 0.
+#[repr(C)]
+#[derive(Clone, Copy)]
+pub struct NodeWords {
+    pub key: KeyWords,
+    pub parent: KeyWords,
+    pub head: KeyWords,
+    pub collection: u64,
+    pub event: u64,
+    pub holder: u64,
+    pub flags: u32,
+    pub cause: u32,
+    pub origin: KeyWords,
+    pub camping: u8,
+    pub at_least: u8,
+    pub size: u32,
+}
+
+// The words of no key.
+const NO_KEY: KeyWords = KeyWords {
+    slot: 0,
+    generation: 0,
+};
+
+// The weight, if the flag is set.
+fn flag(set: bool, weight: u32) -> u32
+    ensures value { result ≡ (if set then weight else 0) }
+    ensures few { result ≤ weight }
+{
+    if set { weight } else { 0 }
+}
+
+// The flags of the node, a bit each.
+fn flags_word(node: &Node) -> u32
+    ensures { result ≡ flags_of node.now }
+{
+    let low = flag(node.attached, 1)
+        + flag(node.allocated, 2)
+        + flag(node.gone, 4)
+        + flag(node.fault.is_some(), 8)
+        + flag(node.released, 16)
+        + flag(node.dispensable, 32);
+    let high = flag(node.weak, 64)
+        + flag(node.weak_ok, 128)
+        + flag(node.constraints.is_some(), 256)
+        + flag(node.bound, 512)
+        + flag(matches!(node.end, End::InTransit(_)), 1024)
+        + flag(matches!(node.end, End::Spent), 2048);
+    low + high
+}
+
+// The client that holds the node's end, or gave it away, or 0.
+fn holder_word(end: End) -> u64
+    ensures { result ≡ holder_of end }
+{
+    match end {
+        End::Held(client) | End::InTransit(client) => client,
+        End::Spent => 0,
+    }
+}
+
+impl Telling<Node> for NodeWords {
+    ghost telling = { node_words };
+
+    fn tell(node: Node) -> NodeWords {
+        let (cause, origin) = match node.fault {
+            Some(fault) => (cause_word(fault.cause), KeyWords::tell(fault.origin)),
+            None => (0, NO_KEY),
+        };
+        let (camping, at_least, size) = match node.constraints {
+            Some(demand) => (demand.camping(), demand.at_least(), demand.size()),
+            None => (0, 0, 0),
+        };
+        NodeWords {
+            key: KeyWords::tell(node.key),
+            parent: KeyWords::tell(node.parent.unwrap_or(node.key)),
+            head: KeyWords::tell(node.head),
+            collection: node.collection,
+            event: node.event,
+            holder: holder_word(node.end),
+            flags: flags_word(&node),
+            cause,
+            origin,
+            camping,
+            at_least,
+            size,
+        }
+    }
+}
+
+fn put_nodes(core: &Core, out: &mut [NodeWords], count: &mut u64) -> u32
+    ensures codes { (result ≡ 0) ⊎ (result ≡ 6) }
+    ensures done { result ≡ 0 → out.new ≡ laid (map node_words (all_nodes core.now.forest)) out.old }
+    ensures count { result ≡ 0 → count.new ≡ length (all_nodes core.now.forest) }
+    ensures failed { result ≢ 0 → (out.new ≡ out.old) × (count.new ≡ count.old) }
+{
+    let Ok(nodes) = core.nodes() else {
+        return NO_MEMORY;
+    };
+    *count = nodes.len() as u64;
+    lay(out, &nodes);
+    DONE
+}
+
+/// Writes the kept nodes, collection by collection, the earliest first, and by birth within each, as
+/// many as `out` has room for, and how many there are. A node is kept while it is not gone or its end
+/// is not spent.
+///
+/// `NOT_OPEN` where the handle has no core, and `NO_MEMORY` where memory is refused: nothing is
+/// written then. It costs a copy of the kept nodes.
+#[unsafe(no_mangle)]
+pub extern "C" fn sysmem_nodes(
+    alloc: Global,
+    handle: &mut Handle,
+    out: &mut [NodeWords],
+    count: &mut u64,
+) -> u32
+    ensures same { handle.new.place.core ≡ handle.old.place.core }
+    ensures not_open { (result ≡ 1) ↔ (handle.old.place.core ≡ None) }
+    ensures done { result ≡ 0 → IsSomeAnd handle.old.place.core
+        (λ core. (out.new ≡ laid (map node_words (all_nodes core.forest)) out.old)
+        × (count.new ≡ length (all_nodes core.forest))) }
+    ensures failed { result ≢ 0 → (out.new ≡ out.old) × (count.new ≡ count.old) }
+{
+    let Some(core) = take(alloc, handle) else {
+        return NOT_OPEN;
+    };
+    let code = put_nodes(&core, out, count);
+    put(handle, core);
+    code
+}
+
+/// Writes how many buffers the collection was given, and how many bytes each has: 0 and 0 where it
+/// was given none, or is not kept.
+///
+/// `NOT_OPEN` where the handle has no core: nothing is written then. It costs a binary search.
+#[unsafe(no_mangle)]
+pub extern "C" fn sysmem_given(
+    alloc: Global,
+    handle: &mut Handle,
+    collection: u64,
+    count: &mut u32,
+    size: &mut u32,
+) -> u32
+    ensures same { handle.new.place.core ≡ handle.old.place.core }
+    ensures not_open { (result ≡ 1) ↔ (handle.old.place.core ≡ None) }
+    ensures done { result ≡ 0 → IsSomeAnd handle.old.place.core (λ core.
+        (count.new ≡ option_map_or (λ (b : Buffers). b.count) (buffers_in core collection) 0)
+        × (size.new ≡ option_map_or (λ (b : Buffers). b.size) (buffers_in core collection) 0)) }
+    ensures failed { result ≢ 0 → (count.new ≡ count.old) × (size.new ≡ size.old) }
+{
+    let Some(core) = take(alloc, handle) else {
+        return NOT_OPEN;
+    };
+    let given = core.given(collection);
+    put(handle, core);
+    match given {
+        Some(buffers) => {
+            *count = buffers.count;
+            *size = buffers.size;
+        }
+        None => {
+            *count = 0;
+            *size = 0;
+        }
+    }
+    DONE
+}
+
+/// Writes how many handles of this buffer and strength the client has open: those in parcels are
+/// nobody's.
+///
+/// `NOT_OPEN` where the handle has no core, and `BAD_CALL` where the number is no strength: nothing
+/// is written then. It costs one look-up.
+#[unsafe(no_mangle)]
+pub extern "C" fn sysmem_open_handles(
+    alloc: Global,
+    handle: &mut Handle,
+    client: u64,
+    collection: u64,
+    index: u8,
+    strength: u32,
+    count: &mut u32,
+) -> u32
+    ensures same { handle.new.place.core ≡ handle.old.place.core }
+    ensures not_open { (result ≡ 1) ↔ (handle.old.place.core ≡ None) }
+    ensures done { result ≡ 0 → IsSomeAnd handle.old.place.core (λ core.
+        IsSomeAnd (said_strength strength)
+        (λ s. count.new ≡ of core.holds client (buffer_at collection index) s)) }
+    ensures bad { result ≡ 4 → said_strength strength ≡ None }
+    ensures failed { result ≢ 0 → count.new ≡ count.old }
+{
+    let Some(core) = take(alloc, handle) else {
+        return NOT_OPEN;
+    };
+    let found = open_handles(&core, client, BufferName { collection, index }, strength);
+    put(handle, core);
+    write_count(found, count)
+}
+
+// How many the client has open, if the number is a strength.
+fn open_handles(core: &Core, client: u64, buffer: BufferName, strength: u32) -> Option<u32>
+    ensures { result ≡ option_map (of core.now.holds client buffer) (said_strength strength) }
+{
+    Some(core.open_handles(client, buffer, strength_of(strength)?))
+}
+
+// Writes what was found, if something was.
+fn write_count(found: Option<u32>, count: &mut u32) -> u32
+    ensures done { result ≡ 0 → IsSomeAnd found (λ n. count.new ≡ n) }
+    ensures bad { result ≡ 4 → found ≡ None }
+    ensures codes { (result ≡ 0) ⊎ (result ≡ 4) }
+    ensures failed { result ≢ 0 → count.new ≡ count.old }
+{
+    match found {
+        Some(number) => {
+            *count = number;
+            DONE
+        }
+        None => BAD_CALL,
+    }
+}
+
+/// Writes how many handles of this buffer and strength are in parcels.
+///
+/// `NOT_OPEN` where the handle has no core, and `BAD_CALL` where the number is no strength: nothing
+/// is written then. It costs one look-up.
+#[unsafe(no_mangle)]
+pub extern "C" fn sysmem_handles_in_parcels(
+    alloc: Global,
+    handle: &mut Handle,
+    collection: u64,
+    index: u8,
+    strength: u32,
+    count: &mut u32,
+) -> u32
+    ensures same { handle.new.place.core ≡ handle.old.place.core }
+    ensures not_open { (result ≡ 1) ↔ (handle.old.place.core ≡ None) }
+    ensures done { result ≡ 0 → IsSomeAnd handle.old.place.core (λ core.
+        IsSomeAnd (said_strength strength)
+        (λ s. count.new ≡ moving core.holds (buffer_at collection index) s)) }
+    ensures bad { result ≡ 4 → said_strength strength ≡ None }
+    ensures failed { result ≢ 0 → count.new ≡ count.old }
+{
+    let Some(core) = take(alloc, handle) else {
+        return NOT_OPEN;
+    };
+    let found = handles_in_parcels(&core, BufferName { collection, index }, strength);
+    put(handle, core);
+    write_count(found, count)
+}
+
+// How many are in parcels, if the number is a strength.
+fn handles_in_parcels(core: &Core, buffer: BufferName, strength: u32) -> Option<u32>
+    ensures { result ≡ option_map (moving core.now.holds buffer) (said_strength strength) }
+{
+    Some(core.handles_in_parcels(buffer, strength_of(strength)?))
+}
