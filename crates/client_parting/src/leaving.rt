@@ -1,14 +1,15 @@
 //! How a client goes.
-ghost use Rattle.std.specs.Prelude.{◌≡◌, ◌+◌, ◌<◌, ◌≤◌, ◌++◌, [], map, vec_len, vec_capacity, MatchResult, IfOk, IfErr, IfSome, OnOk, is_ok, true};
+ghost use Rattle.std.specs.Prelude.{◌≡◌, ◌+◌, ◌<◌, ◌≤◌, ◌↔◌, ◌++◌, [], length, map, vec_len, vec_capacity, MatchResult, IfOk, IfErr, IfSome, OnOk, is_ok, true};
 ghost use Rattle.std.specs.List.{All};
+ghost use Rattle.sm_names.specs.declared.outcomes.StepFault.{StepFault as Fault};
 ghost use Rattle.client_parting.specs.Partings.{AreOf, Collection, Handle as Handed, IsBroken, IsGone, Token, held_in, owner_of, sorted, thing_of, waiting_in};
 ghost use Rattle.client_parting.specs.Stacks.{CollectsFor, CollectsOne, HasRoomFor, IsRoom, Parts, PartsIf, PartsWith, kept_things, top_first};
 
 use crate::things::{put, put_all, stack_collections, stack_ends, stack_handles, stack_tokens};
 use crate::wreck::Wreck;
-use client_ends::{Client, End, Held, Kept, Why};
-use service_lock::{Service, Setup};
-use sm_names::{NoMemory, Reply, StepFault};
+use client_ends::{Client, End, Held, Kept, Why, memory_fault};
+use service_lock::{Service, Setup, State};
+use sm_names::{Reply, StepFault};
 use std::alloc::Global;
 use std::sync::Wait;
 use std::sync::ledger::Ledger;
@@ -43,27 +44,30 @@ fn most<E: Setup, S: Ledger, W: Ledger>(held: &Held<E, S, W>, waiting: usize) ->
 // Makes the room, also in the lists of what the client holds.
 fn make_room<E: Setup, S: Ledger, W: Ledger>(
     alloc: Global,
+    state: &State<E, S, W>,
     held: &mut Held<E, S, W>,
     waiting: usize,
-) -> Result<Room<E, S, W>, NoMemory>
+) -> Result<Room<E, S, W>, StepFault>
     ensures same { held_in held.new ≡ held_in held.old }
     ensures room { IfOk result (λ room. IsRoom room held.new waiting) }
+    ensures full { IfErr result (λ f. (f ≡ Fault.HistoryFull)
+        ↔ (state.now.limits.events ≤ length state.now.history)) }
 {
     let Some(most) = most(held, waiting) else {
-        return Err(NoMemory);
+        return Err(memory_fault(state));
     };
     if held.tokens.reserve(waiting).is_err()
         || held.collections.reserve(waiting).is_err()
         || held.handles.reserve(waiting).is_err()
     {
-        return Err(NoMemory);
+        return Err(memory_fault(state));
     }
     let Ok(ends) = Vec::with_capacity(alloc, waiting) else {
-        return Err(NoMemory);
+        return Err(memory_fault(state));
     };
     let Ok(handles) = Vec::with_capacity(alloc, waiting) else {
         ends.destroy_empty();
-        return Err(NoMemory);
+        return Err(memory_fault(state));
     };
     match Vec::with_capacity(alloc, most) {
         Ok(stack) => Ok(Room {
@@ -74,9 +78,24 @@ fn make_room<E: Setup, S: Ledger, W: Ledger>(
         Err(_) => {
             ends.destroy_empty();
             handles.destroy_empty();
-            Err(NoMemory)
+            Err(memory_fault(state))
         }
     }
+}
+
+// The same, which takes the lock.
+fn room_for<E: Setup, S: Ledger, W: Ledger, R: Wait>(
+    rt: &R,
+    alloc: Global,
+    service: &Service<E, S, W>,
+    held: &mut Held<E, S, W>,
+    waiting: usize,
+) -> Result<Room<E, S, W>, StepFault>
+    ensures same { held_in held.new ≡ held_in held.old }
+    ensures room { IfOk result (λ room. IsRoom room held.new waiting) }
+{
+    let guard = service.lock(rt);
+    make_room(alloc, guard.state(), held, waiting)
 }
 
 // Makes one Collect, and puts what it brings behind the others.
@@ -258,7 +277,7 @@ fn stack_all<E: Setup, S: Ledger, W: Ledger>(
 /// has, in this order: a Close of each end that it collected, of each token and of each collection,
 /// then a DropHandle of each handle that it collected and of each other. What it holds is its own.
 ///
-/// On a fault the events before it stand, and the client comes back with what it still has, what it
+/// On a fault, `HistoryFull` or `NoMemory` as for one event, the events before it stand, and the client comes back with what it still has, what it
 /// collected before the rest in each list: a further call ends it, beginning with a Shut of its own.
 /// A value whose Close or DropHandle is not answered Done stays with the wreck.
 ///
@@ -281,9 +300,9 @@ pub fn vanish<E: Setup, S: Ledger, W: Ledger, R: Wait>(
         Ok(reply) => waiting_in(&reply) as usize,
         Err(fault) => return Err((client, held, fault)),
     };
-    let mut room = match make_room(alloc, &mut held, waiting) {
+    let mut room = match room_for(rt, alloc, service, &mut held, waiting) {
         Ok(room) => room,
-        Err(_) => return Err((client, held, StepFault::NoMemory)),
+        Err(fault) => return Err((client, held, fault)),
     };
     let collected = collect_all(
         rt,

@@ -6,15 +6,15 @@ use Rattle.client_parting.proofs.BackLaws.{broken_own}
 use Rattle.client_parting.proofs.PartingLaws.{goes, gone, owners, room_all, shut_only, stacked, top_none}
 use Rattle.client_parting.proofs.leaving.vanish.Goals as goal
 
-pub returns-in-Err-make_room-clause-fault : goal.returns-in-Err-make_room-clause-fault
-returns-in-Err-make_room-clause-fault g c =
-    inr (shut_only c.args.client c.shut.new.self c.in-Ok.reply (held_in c.args.held) (held_in c.make_room.new.held) c.in-Ok.ensures
-    c.make_room.ensures.same)
+pub returns-in-Err-room_for-clause-fault : goal.returns-in-Err-room_for-clause-fault
+returns-in-Err-room_for-clause-fault g c =
+    inr (shut_only c.args.client c.shut.new.self c.in-Ok.reply (held_in c.args.held) (held_in c.room_for.new.held) c.in-Ok.ensures
+    c.room_for.ensures.same)
 
-pub returns-in-Err-make_room-clause-own : goal.returns-in-Err-make_room-clause-own
-returns-in-Err-make_room-clause-own g c =
-    broken_own c.args.client c.shut.new.self (held_in c.args.held) (held_in c.make_room.new.held) c.requires
-    (returns-in-Err-make_room-clause-fault g c)
+pub returns-in-Err-room_for-clause-own : goal.returns-in-Err-room_for-clause-own
+returns-in-Err-room_for-clause-own g c =
+    broken_own c.args.client c.shut.new.self (held_in c.args.held) (held_in c.room_for.new.held) c.requires
+    (returns-in-Err-room_for-clause-fault g c)
 
 pub part_if-parted-requires-clause-owner : goal.part_if-parted-requires-clause-owner
 part_if-parted-requires-clause-owner g c =
@@ -22,7 +22,7 @@ part_if-parted-requires-clause-owner g c =
     let handles = map thing_of c.collect_all-collected.new.handles.items in
     let made = c.collect_all-collected.ensures.made in
     let id : c.shut.new.self.id ≡ c.args.client.id = c.in-Ok.ensures.id in
-    let is = c.stack_all-stack.ensures.things ∙ ap (stacked ends handles) c.make_room.ensures.same in
+    let is = c.stack_all-stack.ensures.things ∙ ap (stacked ends handles) c.room_for.ensures.same in
     let all = owners c.shut.new.self.id made.told ends handles (held_in c.args.held) (subst (λ n. AreOf n (held_in c.args.held)) (sym id)
     c.requires) made.collects.ends_are made.collects.handles_are in
     let now : c.shut.new.self.id ≡ c.collect_all-collected.new.client.id = sym made.collects.made.id in
@@ -34,9 +34,9 @@ part_if-parted-requires-clause-room g c =
     let ends = map thing_of c.collect_all-collected.new.ends.items in
     let handles = map thing_of c.collect_all-collected.new.handles.items in
     let made = c.collect_all-collected.ensures.made in
-    let room = c.in-Ok-make_room.ensures.room in
+    let room = c.in-Ok-room_for.ensures.room in
     let stack = c.stack_all-stack.ensures in
-    room_all c.make_room.new.held c.stack_all-stack.new.held c.shut.new.self.id c.waiting_in.result made.told ends handles
+    room_all c.room_for.new.held c.stack_all-stack.new.held c.shut.new.self.id c.waiting_in.result made.told ends handles
     (top_first c.stack_all-stack.result.items) made.within made.collects.ends_are made.collects.handles_are
     stack.things stack.none room.tokens room.collections room.for_handles stack.tokens stack.collections stack.handles
 
@@ -44,7 +44,7 @@ pub returns-in-Ok-parted-clause-gone : goal.returns-in-Ok-parted-clause-gone
 returns-in-Ok-parted-clause-gone g c =
     let ends = map thing_of c.collect_all-collected.new.ends.items in
     let handles = map thing_of c.collect_all-collected.new.handles.items in
-    let is = c.stack_all-stack.ensures.things ∙ ap (stacked ends handles) c.make_room.ensures.same in
+    let is = c.stack_all-stack.ensures.things ∙ ap (stacked ends handles) c.room_for.ensures.same in
     let far = c.collect_all-collected.new.client in
     let collects = subst (λ n. CollectsFor (is_ok c.collect_all-collected.result) n c.shut.new.self far ends handles) c.waiting_in.ensures
     c.collect_all-collected.ensures.made in
@@ -60,7 +60,7 @@ pub returns-in-Err-parted-clause-fault : goal.returns-in-Err-parted-clause-fault
 returns-in-Err-parted-clause-fault g c =
     let ends = map thing_of c.collect_all-collected.new.ends.items in
     let handles = map thing_of c.collect_all-collected.new.handles.items in
-    let is = c.stack_all-stack.ensures.things ∙ ap (stacked ends handles) c.make_room.ensures.same in
+    let is = c.stack_all-stack.ensures.things ∙ ap (stacked ends handles) c.room_for.ensures.same in
     let far = c.collect_all-collected.new.client in
     let collects = subst (λ n. CollectsFor (is_ok c.collect_all-collected.result) n c.shut.new.self far ends handles) c.waiting_in.ensures
     c.collect_all-collected.ensures.made in
