@@ -14,7 +14,7 @@ use Rattle.record_parts.specs.Members.{AreAmong, IsFirstAbsent, joined}
 use Rattle.record_parts.specs.Parts.{DifferAt, part}
 use Rattle.service_lock.specs.States.{View}
 use Rattle.client_ends.specs.Clients.{Grip}
-use Rattle.client_parting.specs.declared.gathering.GatherFault.{GatherFault}
+use Rattle.client_parting.specs.declared.fault.GatherFault.{GatherFault}
 use Rattle.client_parting.specs.declared.gathering.Holding.{Holding}
 use Rattle.client_parting.specs.declared.gathering.Report.{Report}
 

@@ -1,3 +1,4 @@
+pub mod Faults
 pub mod Gatherings
 pub mod Partings
 pub mod Stacks

@@ -5,6 +5,7 @@ ghost use Rattle.service_lock.specs.States.{IsAsked, View};
 ghost use Rattle.sm_names.specs.Sameness.{same_strength};
 ghost use Rattle.client_parting.specs.Gatherings.{IsFirstMismatch, IsFound, IsGathered, IsSo, Matches, all_handed, handed, id_of, ids_of, own_of};
 
+use crate::fault::GatherFault;
 use crate::wreck::Wreck;
 use client_ends::{Client, EndOf, Ended, Handle, Held, Own, end};
 use record_parts::{ClientLine, Parts};
@@ -28,19 +29,6 @@ pub struct Report {
     pub lines: Vec<ClientLine>,
     pub strong: u64,
     pub weak: u64,
-}
-
-/// Why parts are not all that there is, or not what is on record.
-#[derive(Clone, Copy, Debug, PartialEq, Eq)]
-pub enum GatherFault {
-    /// Memory was refused.
-    NoMemory,
-    /// The first client that joined and has no part here.
-    MissingClient(ClientId),
-    /// How many more handles of each strength are open than are here, those in parcels among them.
-    OpenValues { strong: u64, weak: u64 },
-    /// A client's own list is not its part of the record: the first event where they differ.
-    RecordMismatch(u64),
 }
 
 // Whether the handle is of this strength.

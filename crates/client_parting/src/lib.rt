@@ -2,12 +2,14 @@
 //! all parts gathered against the record under the lock.
 #![tactic(auto)]
 
+mod fault;
 mod gathering;
 mod leaving;
 mod things;
 mod wreck;
 
-pub use gathering::{GatherFault, Holding, Report, compare, end_service, gather};
+pub use fault::GatherFault;
+pub use gathering::{Holding, Report, compare, end_service, gather};
 pub use leaving::vanish;
 pub use record_parts::ClientLine;
 pub use wreck::Wreck;

@@ -1,5 +1,7 @@
 //! What no contract says: that calls succeed, and that what was gathered is all.
+use client_parting::GatherFault;
 use stage::{Scene, stage};
+use std::test::Fail;
 
 mod asking;
 mod crowd;
@@ -32,4 +34,25 @@ fn who_was_refused_memory_goes_and_gathers_again(rt: HostRuntime) {
 #[test]
 fn threads_that_share_trees_leave_nothing(rt: HostRuntime) {
     stage(&rt, rt.alloc(), Scene::Crowd)
+}
+
+#[test]
+fn faults_have_texts(rt: HostRuntime) -> Result<(), Fail> {
+    let texts = [
+        (GatherFault::NoMemory, "no memory"),
+        (GatherFault::MissingClient(7), "missing client 7"),
+        (
+            GatherFault::OpenValues {
+                strong: 2,
+                weak: 10,
+            },
+            "open values 2 10",
+        ),
+        (GatherFault::RecordMismatch(12), "record differs at 12"),
+    ];
+    for (fault, text) in texts {
+        let told = format!(in rt.alloc(); "{fault}")?;
+        assert_eq!(rt; told.as_str(), text);
+    }
+    Ok(())
 }

@@ -1,7 +1,7 @@
 -- Why a run of actors has no report.
 use Rattle.std.proofs.Common.{ℕ, List, Option, refl}
 use Rattle.sm_names.specs.Bounds.{Bound}
-use Rattle.client_parting.specs.declared.gathering.GatherFault.{GatherFault}
+use Rattle.client_parting.specs.declared.fault.GatherFault.{GatherFault}
 use Rattle.actor_scripts.specs.declared.cast.Cast.{Cast}
 use Rattle.actor_scripts.specs.Casts.{company_of}
 use Rattle.actor_scripts.specs.Reads.{IsRead as IsReadAs}

@@ -11,7 +11,7 @@ use Rattle.record_parts.specs.Members.{joined}
 use Rattle.service_lock.specs.States.{View}
 use Rattle.script_lines.specs.declared.label.Label.{Label}
 use Rattle.actor_reports.specs.Reports.{report_text}
-use Rattle.client_parting.specs.declared.gathering.GatherFault.{GatherFault}
+use Rattle.client_parting.specs.declared.fault.GatherFault.{GatherFault}
 use Rattle.client_parting.specs.declared.gathering.Holding.{Holding}
 use Rattle.client_parting.specs.Gatherings.{Matches, ids_of}
 use Rattle.client_parting.specs.Partings.{held_in, sorted}

@@ -8,7 +8,7 @@ use Rattle.sm_names.specs.Marks.{Entry}
 use Rattle.record_parts.specs.Lines.{lines_of}
 use Rattle.record_parts.specs.Members.{joined}
 use Rattle.record_parts.specs.Parts.{part}
-use Rattle.client_parting.specs.declared.gathering.GatherFault.{GatherFault}
+use Rattle.client_parting.specs.declared.fault.GatherFault.{GatherFault}
 use Rattle.client_parting.specs.Partings.{Remains}
 use Rattle.actor_steps.specs.declared.step.Step.{Step}
 use Rattle.actor_scripts.specs.Casts.{Company, cast_of}

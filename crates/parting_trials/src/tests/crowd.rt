@@ -253,7 +253,9 @@ fn is_clear<E: Setup, S: Ledger, W: Ledger, R: Wait + Abort>(
 ) -> bool {
     let guard = service.lock(rt);
     let core = core(guard.state());
-    core.free_pages() == PAGES && made(rt, core.live()).is_empty() && made(rt, core.held()).is_empty()
+    core.free_pages() == PAGES
+        && made(rt, core.live()).is_empty()
+        && made(rt, core.held()).is_empty()
 }
 
 /// All clients play and vanish: nothing is live and no page is held.

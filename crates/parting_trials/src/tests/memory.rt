@@ -175,10 +175,7 @@ fn collected_and_parted(own: &[Own]) -> (usize, usize) {
 }
 
 // What came back is a token and what was collected, less what was parted with.
-fn is_back<E: Setup, S: Ledger, W: Ledger>(
-    client: &Client<E, S, W>,
-    held: &Held<E, S, W>,
-) -> bool {
+fn is_back<E: Setup, S: Ledger, W: Ledger>(client: &Client<E, S, W>, held: &Held<E, S, W>) -> bool {
     let (collected, parted) = collected_and_parted(client.own());
     let ends = held.tokens.len() as u128 + held.collections.len() as u128;
     ends + held.handles.len() as u128 + parted as u128 == 1 + collected as u128
