@@ -1,0 +1,3 @@
+pub mod HeldEnds
+pub mod ExitEvents
+pub mod AllGone
