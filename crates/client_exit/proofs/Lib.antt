@@ -1,3 +1,9 @@
 pub mod HeldEnds
 pub mod ExitEvents
+pub mod ExitSteps
+pub mod StepLemmas
+pub mod PhaseLemmas
 pub mod AllGone
+pub mod StateReads
+pub mod PhaseSteps
+pub mod ExitParts

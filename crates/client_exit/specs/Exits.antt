@@ -1,13 +1,20 @@
--- What a client has, and that a client has exited: it is shut and has nothing.
-use Rattle.std.specs.Prelude.{ℕ, ◌≡◌, ◌&&◌, ◌==◌, Bool, true, false, not, List, [], ◌++◌}
+-- How a client exits, and that it has: what it has then, and by which events.
+use Rattle.std.specs.Prelude.{ℕ, ◌≡◌, ◌&&◌, ◌==◌, Bool, true, false, not, List, [], ◌∷◌, ◌++◌, length, Some}
+use Rattle.std.specs.List.{All}
 use Rattle.std.specs.Option.{option_map_or}
 use Rattle.sm_names.specs.declared.keys.BufferName.{BufferName}
 use Rattle.sm_names.specs.declared.keys.NodeKey.{NodeKey}
 use Rattle.sm_names.specs.declared.keys.Strength.{Strength}
+use Rattle.sm_names.specs.declared.messages.Call.{Call}
+use Rattle.sm_names.specs.declared.messages.Parcel.{Parcel}
+use Rattle.sm_names.specs.declared.messages.Reply.{Reply}
 use Rattle.sm_names.specs.Answers.{OpenEnd, Readings}
 use Rattle.sm_names.specs.Marks.{Entry}
 use Rattle.sm_names.specs.Reading.{readings}
 use Rattle.sm_names.specs.Timelines.{timeline}
+use Rattle.event_laws.specs.ByEvent.{collected_at, mark_of}
+
+-- ---- what a client has
 
 -- the client holds the end of the node: it is not spent, and in no parcel
 abbrev pub holds : Readings → ℕ → NodeKey → Bool
@@ -24,3 +31,29 @@ pub record HasExited (r : Readings) (client : ℕ) : Type 0 where
 abbrev pub ExitedIn : ℕ → List Entry → ℕ → Type 0
 ExitedIn pool history client =
     (before : List Entry) × (more : List Entry) × (history ≡ before ++ more) × HasExited (readings (timeline pool before)) client
+
+-- ---- the events
+
+-- a Collect by which the client gets a parcel
+abbrev pub IsCollect : ℕ → Entry → Type 0
+IsCollect client entry = (parcel : Parcel) × (collected_at client (mark_of entry) ≡ Some parcel)
+
+-- a Close of the client that took effect
+abbrev pub IsClose : ℕ → Entry → Type 0
+IsClose client entry = (key : NodeKey) × (entry ≡ (client, Call.Close key, Reply.Done))
+
+-- a DropHandle of the client that took effect
+abbrev pub IsDrop : ℕ → Entry → Type 0
+IsDrop client entry = (buffer : BufferName) × (strength : Strength) × (entry ≡ (client, Call.DropHandle buffer strength, Reply.Done))
+
+-- these events are the client's Shut, a Collect for each parcel that waits then, and Closes and DropHandles, in this order
+pub record IsExit (client : ℕ) (events : List Entry) : Type 0 where
+  pub waiting : ℕ
+  pub collects : List Entry
+  pub closes : List Entry
+  pub drops : List Entry
+  pub are : events ≡ (client, Call.Shut, Reply.Shut waiting) ∷ (collects ++ (closes ++ drops))
+  pub as_many : length collects ≡ waiting
+  pub collected : All (IsCollect client) collects
+  pub closed : All (IsClose client) closes
+  pub dropped : All (IsDrop client) drops

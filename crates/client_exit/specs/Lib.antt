@@ -1,1 +1,4 @@
+pub mod Events
 pub mod Exits
+pub mod Parting
+pub mod Phases

@@ -2,4 +2,9 @@
 //! about.
 #![tactic(auto)]
 
+mod exit;
 pub mod laws;
+#[cfg(test)]
+mod tests;
+
+pub use exit::{PartFault, Parted, part_with};

@@ -1,0 +1,44 @@
+-- What parting with a client makes of a core.
+use Rattle.std.specs.Prelude.{ℕ, ◌+◌, ◌≤◌, ◌≡◌, List, [], ◌∷◌, ◌++◌, length}
+use Rattle.sm_names.specs.declared.messages.Call.{Call}
+use Rattle.sm_names.specs.declared.messages.Reply.{Reply}
+use Rattle.sm_names.specs.declared.outcomes.Refusal.{Refusal}
+use Rattle.sm_names.specs.Marks.{Entry}
+use Rattle.sm_names.specs.Reading.{readings}
+use Rattle.sm_names.specs.Timelines.{timeline}
+use Rattle.lifetime_core.specs.Shown.{Shows}
+use Rattle.lifetime_core.specs.State.{State}
+use Rattle.lifetime_core.specs.Theorem.{GoesOn}
+use Rattle.client_exit.specs.declared.exit.PartFault.{PartFault}
+use Rattle.client_exit.specs.Exits.{HasExited, IsExit}
+
+-- what was made before the fault: the first events of an exit, or a Shut that was refused
+abbrev pub IsBegun : ℕ → PartFault → List Entry → Type 0
+IsBegun client PartFault.NoSuchClient events = events ≡ (client, Call.Shut, Reply.Refused Refusal.NoSuchClient) ∷ []
+IsBegun client _ events = (rest : List Entry) × IsExit client (events ++ rest)
+
+-- the core went on by these events: each legal history that the old state shows goes on by them to a legal one that the new state
+-- shows, and no tracker was made
+pub record Advances (old new : State) (events : List Entry) : Type 0 where
+  pub pool : new.pool ≡ old.pool
+  pub limits : new.limits ≡ old.limits
+  pub counted : new.events ≡ old.events + length events
+  pub untaken : new.trackers.untaken ≡ old.trackers.untaken
+  pub goes_on : GoesOn old new events
+
+-- the client exited by so many events
+pub record Exits (old new : State) (client count : ℕ) : Type 0 where
+  pub events : List Entry
+  pub many : count ≡ length events
+  pub advances : Advances old new events
+  pub is_exit : (history : List Entry) → Shows old history → IsExit client events
+  pub has_exited : (history : List Entry) → Shows old history →
+      HasExited (readings (timeline new.pool (history ++ events))) client
+
+-- so many events were made, and then no more for this reason
+pub record Stops (old new : State) (client count : ℕ) (fault : PartFault) : Type 0 where
+  pub events : List Entry
+  pub many : count ≡ length events
+  pub advances : Advances old new events
+  pub begun : (history : List Entry) → Shows old history → IsBegun client fault events
+  pub full : fault ≡ PartFault.HistoryFull → new.limits.events ≤ new.events
