@@ -86,16 +86,28 @@ private:
                kind == SYSMEM_TRACK_WEAK;
     }
 
+    // The label of a client that joins.
+    const std::string &join(const sysmem_reply &r) {
+        made = fresh('c', client_labels);
+        if (r.kind == SYSMEM_JOINED) {
+            client_labels.insert(made);
+            clients.emplace(r.id, made);
+        }
+        return made;
+    }
+    // The label of a node that is born, or would have been.
+    const std::string &birth(bool is_root, const sysmem_reply &r) {
+        made = fresh('n', node_labels);
+        if (r.kind == SYSMEM_NEW_TOKEN) {
+            node_labels.insert(made);
+            nodes.emplace(Key{r.slot, r.generation}, made);
+            if (is_root) roots.emplace(r.id, made);
+        }
+        return made;
+    }
     // The call. What the event makes gets its label here.
     std::string line(ClientId who, const sysmem_call &c, const sysmem_reply &r) {
-        if (c.kind == SYSMEM_JOIN) {
-            made = fresh('c', client_labels);
-            if (r.kind == SYSMEM_JOINED) {
-                client_labels.insert(made);
-                clients.emplace(r.id, made);
-            }
-            return made + " join";
-        }
+        if (c.kind == SYSMEM_JOIN) return join(r) + " join";
         std::string text = client(who) + " " + verb(c.kind);
         if (is_on_handle(c.kind)) text += " " + buffer(c.collection, c.index);
         else if (c.kind != SYSMEM_SHUT && c.kind != SYSMEM_OPEN_ROOT && c.kind != SYSMEM_COLLECT)
@@ -117,14 +129,7 @@ private:
         case SYSMEM_COLLECT: return text + " " + by_event('n');
         case SYSMEM_OPEN_ROOT:
         case SYSMEM_DUPLICATE:
-        case SYSMEM_ATTACH_TOKEN:
-            made = fresh('n', node_labels);
-            if (r.kind == SYSMEM_NEW_TOKEN) {
-                node_labels.insert(made);
-                nodes.emplace(Key{r.slot, r.generation}, made);
-                if (c.kind == SYSMEM_OPEN_ROOT) roots.emplace(r.id, made);
-            }
-            return text + " " + made;
+        case SYSMEM_ATTACH_TOKEN: return text + " " + birth(c.kind == SYSMEM_OPEN_ROOT, r);
         default: return text;
         }
     }

@@ -46,6 +46,8 @@
 #[cfg(test)]
 extern crate self as sysmem;
 
+mod account;
+mod calls;
 mod ends;
 mod ffi;
 mod handle;

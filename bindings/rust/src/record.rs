@@ -116,11 +116,7 @@ impl Recorder {
     ) -> (String, String) {
         use kind::*;
         if call.kind == JOIN {
-            let made = self.fresh('c', wanted);
-            if told.kind == reply::JOINED {
-                self.client_labels.insert(made.clone());
-                self.clients.insert(told.id, made.clone());
-            }
+            let made = self.join(told, wanted);
             return (format!("{made} join"), made);
         }
         let mut text = format!("{} {}", self.client(who), VERBS[call.kind as usize]);
@@ -145,20 +141,36 @@ impl Recorder {
             TRACK_NODE | TRACK_WEAK => self.by_event('t'),
             COLLECT => self.by_event('n'),
             OPEN_ROOT | DUPLICATE | ATTACH_TOKEN => {
-                made = self.fresh('n', wanted);
-                if told.kind == reply::NEW_TOKEN {
-                    let key = Key { slot: told.slot, generation: told.generation };
-                    self.node_labels.insert(made.clone());
-                    self.nodes.insert(key, made.clone());
-                    if call.kind == OPEN_ROOT {
-                        self.roots.insert(told.id, made.clone());
-                    }
-                }
+                made = self.birth(call.kind == OPEN_ROOT, told, wanted);
                 made.clone()
             }
             _ => return (text, made),
         };
         (text + " " + &more, made)
+    }
+
+    /// The label of a client that joins.
+    fn join(&mut self, told: &ReplyWords, wanted: &str) -> String {
+        let made = self.fresh('c', wanted);
+        if told.kind == reply::JOINED {
+            self.client_labels.insert(made.clone());
+            self.clients.insert(told.id, made.clone());
+        }
+        made
+    }
+
+    /// The label of a node that is born, or would have been.
+    fn birth(&mut self, is_root: bool, told: &ReplyWords, wanted: &str) -> String {
+        let made = self.fresh('n', wanted);
+        if told.kind == reply::NEW_TOKEN {
+            let key = Key { slot: told.slot, generation: told.generation };
+            self.node_labels.insert(made.clone());
+            self.nodes.insert(key, made.clone());
+            if is_root {
+                self.roots.insert(told.id, made.clone());
+            }
+        }
+        made
     }
 
     fn answer(&mut self, told: &ReplyWords, made: &str) -> String {

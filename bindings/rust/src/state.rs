@@ -1,4 +1,7 @@
 //! What lies behind the values: the core, its lock, and what each client has.
+use crate::account::{Account, Row, Stage, NONE};
+use crate::calls::{dead, may_change};
+pub(crate) use crate::calls::{kind, of_buffer, of_key, of_kind, reply};
 use crate::ffi::{CallWords, Core, ReplyWords};
 use crate::record::Recorder;
 use crate::words::*;
@@ -6,164 +9,6 @@ use std::collections::{BTreeMap, HashMap};
 use std::ops::{Deref, DerefMut};
 use std::sync::atomic::{AtomicU64, Ordering};
 use std::sync::{Arc, Condvar, Mutex, MutexGuard, PoisonError};
-
-pub(crate) mod kind {
-    pub const JOIN: u32 = 0;
-    pub const SHUT: u32 = 1;
-    pub const OPEN_ROOT: u32 = 2;
-    pub const DUPLICATE: u32 = 3;
-    pub const ATTACH_TOKEN: u32 = 4;
-    pub const SYNC: u32 = 5;
-    pub const GIVE: u32 = 6;
-    pub const COLLECT: u32 = 7;
-    pub const BIND: u32 = 8;
-    pub const SET_DISPENSABLE: u32 = 9;
-    pub const SET_WEAK: u32 = 10;
-    pub const SET_WEAK_OK: u32 = 11;
-    pub const SET_CONSTRAINTS: u32 = 12;
-    pub const CHECK: u32 = 13;
-    pub const TAKE: u32 = 14;
-    pub const RELEASE: u32 = 15;
-    pub const CLOSE: u32 = 16;
-    pub const DUP_HANDLE: u32 = 17;
-    pub const DROP_HANDLE: u32 = 18;
-    pub const GIVE_HANDLE: u32 = 19;
-    pub const TRACK_NODE: u32 = 20;
-    pub const TRACK_LIFETIME: u32 = 21;
-    pub const TRACK_WEAK: u32 = 22;
-}
-
-pub(crate) mod reply {
-    pub const JOINED: u32 = 1;
-    pub const IS_SHUT: u32 = 2;
-    pub const NEW_TOKEN: u32 = 3;
-    pub const COLLECTED: u32 = 4;
-    pub const COLLECTED_HANDLE: u32 = 5;
-    pub const EMPTY: u32 = 6;
-    pub const PENDING: u32 = 7;
-    pub const ALLOCATED: u32 = 8;
-    pub const TAKEN: u32 = 9;
-    pub const TRACKER: u32 = 10;
-    pub const REFUSED: u32 = 11;
-    pub const MISUSED: u32 = 12;
-    pub const PEER_CLOSED: u32 = 13;
-}
-
-pub(crate) fn of_key(kind: u32, key: Key) -> CallWords {
-    CallWords { kind, slot: key.slot, generation: key.generation, ..Default::default() }
-}
-
-pub(crate) fn of_buffer(kind: u32, buffer: Buffer, strength: Strength) -> CallWords {
-    let Buffer { collection, index } = buffer;
-    CallWords { kind, collection, index, strength: strength as u32, ..Default::default() }
-}
-
-pub(crate) fn of_kind(kind: u32) -> CallWords {
-    CallWords { kind, ..Default::default() }
-}
-
-/// Whether an allocation or a failure may come of a call that was answered so.
-fn may_change(kind: u32, told: u32) -> bool {
-    use kind::*;
-    told == reply::MISUSED
-        || matches!(kind, SET_CONSTRAINTS | SET_WEAK | RELEASE | CLOSE | DROP_HANDLE)
-}
-
-/// An end or a handle that a client has: what the call says that lets go of it.
-#[derive(Clone, Copy)]
-enum Row {
-    /// And the next free row.
-    Free(u32),
-    End {
-        key: Key,
-        collection: CollectionId,
-        is_release: bool,
-        is_late: bool,
-    },
-    Handle {
-        buffer: Buffer,
-        strength: Strength,
-        is_late: bool,
-    },
-}
-
-const NONE: u32 = u32::MAX;
-
-impl Row {
-    /// The call and its collection.
-    fn parting(&self) -> Option<(CallWords, CollectionId)> {
-        match *self {
-            Row::Free(_) => None,
-            Row::End { key, collection, is_release, .. } => {
-                let kind = if is_release { kind::RELEASE } else { kind::CLOSE };
-                Some((of_key(kind, key), collection))
-            }
-            Row::Handle { buffer, strength, .. } => {
-                Some((of_buffer(kind::DROP_HANDLE, buffer, strength), buffer.collection))
-            }
-        }
-    }
-
-    /// Whether its value is gone, and the call is to be made once memory is there.
-    fn is_late(&self) -> bool {
-        matches!(self, Row::End { is_late: true, .. } | Row::Handle { is_late: true, .. })
-    }
-
-    fn put_off(&mut self) {
-        if let Row::End { is_late, .. } | Row::Handle { is_late, .. } = self {
-            *is_late = true;
-        }
-    }
-}
-
-/// What a client has. It is there as long as its `Client`, a value of it or something to be made
-/// for it is.
-pub(crate) struct Account {
-    client: ClientId,
-    pub label: Arc<str>,
-    rows: Vec<Row>,
-    /// The first free row.
-    free: u32,
-    /// How many values there are, the `Client` among them.
-    values: usize,
-    /// How many parcels wait.
-    pub parcels: u64,
-    pub given: Arc<Condvar>,
-    stage: Stage,
-    /// Something is to be made once memory is there.
-    is_late: bool,
-}
-
-/// How far a client is with its vanishing.
-#[derive(Clone, Copy, PartialEq)]
-enum Stage {
-    Here,
-    /// It vanished, and was not shut yet.
-    Leaving,
-    /// It was shut; this many rows were its own then, and `parcels` are to be collected behind them.
-    Shut(usize),
-    /// Nothing is left of it.
-    Gone,
-}
-
-impl Account {
-    fn add(&mut self, row: Row) -> u32 {
-        if self.free == NONE {
-            self.rows.push(row);
-            return self.rows.len() as u32 - 1;
-        }
-        let at = self.free;
-        if let Row::Free(next) = std::mem::replace(&mut self.rows[at as usize], row) {
-            self.free = next;
-        }
-        at
-    }
-
-    fn erase(&mut self, row: u32) {
-        self.rows[row as usize] = Row::Free(self.free);
-        self.free = row;
-    }
-}
 
 /// Whether a tracker fired.
 #[derive(Default)]
@@ -617,15 +462,6 @@ impl State {
 
 const DONE: u32 = 0;
 const NO_MEMORY: u32 = 6;
-
-/// How a call on a value of a client that is gone is refused.
-fn dead(kind: u32) -> Error {
-    use kind::*;
-    match kind {
-        DUP_HANDLE | GIVE_HANDLE | TRACK_WEAK => Error::Refused(Refusal::NoSuchHandle),
-        _ => Error::Refused(Refusal::NoSuchEnd),
-    }
-}
 
 /// Whose a value is.
 #[derive(Clone)]

@@ -1,0 +1,74 @@
+//! The numbers of `sysmem.h`, and calls by them.
+use crate::ffi::CallWords;
+use crate::words::*;
+
+pub(crate) mod kind {
+    pub const JOIN: u32 = 0;
+    pub const SHUT: u32 = 1;
+    pub const OPEN_ROOT: u32 = 2;
+    pub const DUPLICATE: u32 = 3;
+    pub const ATTACH_TOKEN: u32 = 4;
+    pub const SYNC: u32 = 5;
+    pub const GIVE: u32 = 6;
+    pub const COLLECT: u32 = 7;
+    pub const BIND: u32 = 8;
+    pub const SET_DISPENSABLE: u32 = 9;
+    pub const SET_WEAK: u32 = 10;
+    pub const SET_WEAK_OK: u32 = 11;
+    pub const SET_CONSTRAINTS: u32 = 12;
+    pub const CHECK: u32 = 13;
+    pub const TAKE: u32 = 14;
+    pub const RELEASE: u32 = 15;
+    pub const CLOSE: u32 = 16;
+    pub const DUP_HANDLE: u32 = 17;
+    pub const DROP_HANDLE: u32 = 18;
+    pub const GIVE_HANDLE: u32 = 19;
+    pub const TRACK_NODE: u32 = 20;
+    pub const TRACK_LIFETIME: u32 = 21;
+    pub const TRACK_WEAK: u32 = 22;
+}
+
+pub(crate) mod reply {
+    pub const JOINED: u32 = 1;
+    pub const IS_SHUT: u32 = 2;
+    pub const NEW_TOKEN: u32 = 3;
+    pub const COLLECTED: u32 = 4;
+    pub const COLLECTED_HANDLE: u32 = 5;
+    pub const EMPTY: u32 = 6;
+    pub const PENDING: u32 = 7;
+    pub const ALLOCATED: u32 = 8;
+    pub const TAKEN: u32 = 9;
+    pub const TRACKER: u32 = 10;
+    pub const REFUSED: u32 = 11;
+    pub const MISUSED: u32 = 12;
+    pub const PEER_CLOSED: u32 = 13;
+}
+
+pub(crate) fn of_key(kind: u32, key: Key) -> CallWords {
+    CallWords { kind, slot: key.slot, generation: key.generation, ..Default::default() }
+}
+
+pub(crate) fn of_buffer(kind: u32, buffer: Buffer, strength: Strength) -> CallWords {
+    let Buffer { collection, index } = buffer;
+    CallWords { kind, collection, index, strength: strength as u32, ..Default::default() }
+}
+
+pub(crate) fn of_kind(kind: u32) -> CallWords {
+    CallWords { kind, ..Default::default() }
+}
+
+/// Whether an allocation or a failure may come of a call that was answered so.
+pub(crate) fn may_change(kind: u32, told: u32) -> bool {
+    use kind::*;
+    told == reply::MISUSED
+        || matches!(kind, SET_CONSTRAINTS | SET_WEAK | RELEASE | CLOSE | DROP_HANDLE)
+}
+
+/// How a call on a value of a client that is gone is refused.
+pub(crate) fn dead(kind: u32) -> Error {
+    use kind::*;
+    match kind {
+        DUP_HANDLE | GIVE_HANDLE | TRACK_WEAK => Error::Refused(Refusal::NoSuchHandle),
+        _ => Error::Refused(Refusal::NoSuchEnd),
+    }
+}
