@@ -2,7 +2,7 @@
 use std::sync::atomic::{AtomicU32, AtomicU64, Ordering};
 use std::sync::Arc;
 use std::thread;
-use std::time::Duration;
+use std::time::{Duration, Instant};
 use sysmem::*;
 
 const LONG: Duration = Duration::from_secs(5);
@@ -153,6 +153,7 @@ fn trackers_and_waits() {
     assert_eq!(node.wait_for(SHORT), None);
     mine.set_constraints(asks(1, 4096)).unwrap();
     let before = service.events();
+    let start = Instant::now();
     thread::scope(|scope| {
         scope.spawn(|| {
             let theirs = b.collect_for(LONG).unwrap().unwrap().token().unwrap().bind().unwrap();
@@ -163,6 +164,7 @@ fn trackers_and_waits() {
         let given = mine.wait_allocated(LONG);
         assert_eq!(given, Ok(Some(Allocation { count: 2, size: 8192 })));
     });
+    assert!(start.elapsed() < LONG - Duration::from_secs(1)); // told, and not by the end of its time
     assert!(service.events() <= before + 4 + 3);
     let life = mine.track_lifetime(0).unwrap();
     let handles = mine.take().unwrap();
@@ -171,9 +173,12 @@ fn trackers_and_waits() {
     assert_eq!((heard.0.load(Ordering::SeqCst), heard.1.load(Ordering::SeqCst)), (event, 12));
     assert_eq!(life.poll(), None);
     thread::scope(|scope| {
-        let waits = scope.spawn(|| life.wait());
+        let waits = scope.spawn(|| life.wait_for(4 * LONG).map(|_| life.wait()));
+        thread::sleep(Duration::from_millis(20));
+        let start = Instant::now();
         drop(handles);
-        assert_eq!(waits.join().unwrap(), life.poll().unwrap());
+        assert_eq!(waits.join().unwrap(), life.poll());
+        assert!(start.elapsed() < LONG);
     });
     let alone = a.open_root("").unwrap().bind().unwrap();
     assert_eq!(alone.wait_allocated(SHORT), Ok(None));
@@ -185,7 +190,7 @@ fn trackers_and_waits() {
 fn gift_wakes_who_waits() {
     let service = service();
     let (a, b) = (service.join().unwrap(), service.join().unwrap());
-    let start = std::time::Instant::now();
+    let start = Instant::now();
     thread::scope(|scope| {
         let waits = scope.spawn(|| {
             let token = b.collect_for(2 * LONG).unwrap().unwrap().token();
