@@ -1,15 +1,16 @@
 //! A thread for each actor.
-ghost use Rattle.std.specs.Prelude.{◌≡◌, ◌<◌, ◌≤◌, [], Some, map, length, IfOk, IfErr, IsSome, vec_len, vec_capacity};
+ghost use Rattle.std.specs.Prelude.{◌≡◌, ◌<◌, ◌≤◌, ◌↔◌, [], Some, map, length, IfOk, IfErr, OnOk, IsSome, vec_len, vec_capacity};
 ghost use Rattle.std.specs.List.{All, AllZip};
+ghost use Rattle.sm_names.specs.declared.outcomes.StepFault.{StepFault as Fault};
 ghost use Rattle.client_actors.specs.Running.{HaveRun, IsEndAt, IsEndThere, IsIdle, IsReady, id_there};
 
 use crate::gate::{ActorEnd, Gate};
 use crate::playing::play;
 use crate::start::Start;
 use actor_steps::ActorScript;
-use client_ends::{Held, join};
+use client_ends::{Held, join, memory_fault};
 use client_parting::Holding;
-use service_lock::{Service, Setup};
+use service_lock::{Service, Setup, State};
 use sm_names::{ClientId, StepFault};
 use std::alloc::Global;
 use std::sync::Wait;
@@ -83,6 +84,59 @@ fn run_all<
         count,
         &|i, on| run_there(rt, alloc, service, gate, clients, &start, scripts, i, on),
     );
+}
+
+// Makes room in empty lists for so many actors.
+fn make_room<E: Setup, S: Ledger, W: Ledger>(
+    state: &State<E, S, W>,
+    count: usize,
+    clients: &mut Vec<ClientId>,
+    actors: &mut Vec<Option<ActorEnd<E, S, W>>>,
+    ends: &mut Vec<ActorEnd<E, S, W>>,
+    parts: &mut Vec<Holding<E, S, W>>,
+) -> Result<(), StepFault>
+    requires none { (clients.old.items ≡ []) × (actors.old.items ≡ []) × (ends.old.items ≡ [])
+        × (parts.old.items ≡ []) }
+    ensures none { (clients.new.items ≡ []) × (actors.new.items ≡ []) × (ends.new.items ≡ [])
+        × (parts.new.items ≡ []) }
+    ensures clients { OnOk result (count ≤ vec_capacity clients.new) }
+    ensures actors { OnOk result (count ≤ vec_capacity actors.new) }
+    ensures ends { OnOk result (count ≤ vec_capacity ends.new) }
+    ensures parts { OnOk result (count ≤ vec_capacity parts.new) }
+    ensures full { IfErr result (λ f. (f ≡ Fault.HistoryFull)
+        ↔ (state.now.limits.events ≤ length state.now.history)) }
+{
+    if clients.reserve(count).is_err()
+        || actors.reserve(count).is_err()
+        || ends.reserve(count).is_err()
+        || parts.reserve(count).is_err()
+    {
+        return Err(memory_fault(state));
+    }
+    Ok(())
+}
+
+// The same, which takes the lock.
+fn room_for<E: Setup, S: Ledger, W: Ledger, R: Wait>(
+    rt: &R,
+    service: &Service<E, S, W>,
+    count: usize,
+    clients: &mut Vec<ClientId>,
+    actors: &mut Vec<Option<ActorEnd<E, S, W>>>,
+    ends: &mut Vec<ActorEnd<E, S, W>>,
+    parts: &mut Vec<Holding<E, S, W>>,
+) -> Result<(), StepFault>
+    requires none { (clients.old.items ≡ []) × (actors.old.items ≡ []) × (ends.old.items ≡ [])
+        × (parts.old.items ≡ []) }
+    ensures none { (clients.new.items ≡ []) × (actors.new.items ≡ []) × (ends.new.items ≡ [])
+        × (parts.new.items ≡ []) }
+    ensures clients { OnOk result (count ≤ vec_capacity clients.new) }
+    ensures actors { OnOk result (count ≤ vec_capacity actors.new) }
+    ensures ends { OnOk result (count ≤ vec_capacity ends.new) }
+    ensures parts { OnOk result (count ≤ vec_capacity parts.new) }
+{
+    let guard = service.lock(rt);
+    make_room(guard.state(), count, clients, actors, ends, parts)
 }
 
 // Joins so many clients, in order.
@@ -206,14 +260,19 @@ pub fn run_actors<
     let mut actors = Vec::new(alloc);
     let mut ends = Vec::new(alloc);
     let mut parts = Vec::new(alloc);
-    if clients.reserve(count).is_err()
-        || actors.reserve(count).is_err()
-        || ends.reserve(count).is_err()
-        || parts.reserve(count).is_err()
-    {
+    let made = room_for(
+        rt,
+        service,
+        count,
+        &mut clients,
+        &mut actors,
+        &mut ends,
+        &mut parts,
+    );
+    if let Err(fault) = made {
         actors.destroy_empty();
         ends.destroy_empty();
-        return Err((parts, StepFault::NoMemory));
+        return Err((parts, fault));
     }
     match join_all(rt, alloc, service, count, &mut clients, &mut actors) {
         Ok(()) => {
