@@ -68,6 +68,22 @@ static void look(sysmem_core &core, std::vector<sysmem_key> &keys) {
     expect(code == SYSMEM_DONE || code == SYSMEM_NOT_FAILED, "cause");
 }
 
+// Parts with each client that can have anything, unless the history is full before: nothing is left.
+static void part(sysmem_core &core) {
+    sysmem_key live[1];
+    sysmem_held_buffer held[1];
+    uint64_t made = 0, count = 1;
+    uint32_t pages = 0;
+    for (uint64_t client = 0; client <= 8; client++) {
+        uint32_t code = sysmem_vanish(&core, client, &made);
+        if (code == SYSMEM_HISTORY_FULL) return;
+        expect(code == SYSMEM_DONE ? made > 0 : code == SYSMEM_NO_CLIENT && made == 1, "vanish");
+    }
+    expect(sysmem_live(&core, live, 1, &count) == SYSMEM_DONE && count == 0, "nothing is live");
+    expect(sysmem_held(&core, held, 1, &count) == SYSMEM_DONE && count == 0, "nothing is held");
+    expect(sysmem_free_pages(&core, &pages) == SYSMEM_DONE && pages == 64, "the pool is free");
+}
+
 int main(int count, char **words) {
     long left = count > 1 ? std::atol(words[1]) : 10000;
     uint64_t told[9] = {};
@@ -86,12 +102,13 @@ int main(int count, char **words) {
             expect(code != SYSMEM_BAD_CALL || call.kind > 22 || call.strength > 1 ||
                        call.kind == SYSMEM_SET_CONSTRAINTS, "a call that is one");
             told[code]++;
-            if (code == SYSMEM_HISTORY_FULL) break;
+            if (code == SYSMEM_HISTORY_FULL || upto(1000) == 0) break;
             if (code == SYSMEM_DONE) event++;
             if (reply.kind == SYSMEM_NEW_TOKEN || reply.kind == SYSMEM_COLLECTED)
                 keys[upto(6)] = {reply.slot, reply.generation};
             look(core, keys);
         }
+        part(core);
         expect(sysmem_close(&core) == SYSMEM_DONE, "close");
         expect(sysmem_close(&core) == SYSMEM_NOT_OPEN, "close once more");
     }

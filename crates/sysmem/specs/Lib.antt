@@ -1,3 +1,4 @@
+pub mod Exits
 pub mod Keeping
 pub mod Laying
 pub mod Names

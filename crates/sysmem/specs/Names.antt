@@ -16,7 +16,8 @@ code_name number =
     (if number == 5 then codes "history full" else
     (if number == 6 then codes "no memory" else
     (if number == 7 then codes "not failed" else
-    (if number == 8 then codes "no name" else []))))))))
+    (if number == 8 then codes "no name" else
+    (if number == 9 then codes "no client" else [])))))))))
 
 -- the refusal with this number
 abbrev pub refusal_at : ℕ → Option Refusal

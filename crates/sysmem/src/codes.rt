@@ -17,3 +17,5 @@ pub(crate) const NO_MEMORY: u32 = 6;
 pub(crate) const NOT_FAILED: u32 = 7;
 
 pub(crate) const NO_NAME: u32 = 8;
+
+pub(crate) const NO_CLIENT: u32 = 9;

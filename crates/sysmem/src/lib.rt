@@ -3,10 +3,11 @@
 //!
 //! No function has a premise of its own: any number may stand in a call, and a handle may be open
 //! or not. Where a function answers another code than `DONE`, what it was given to write is as it
-//! was.
+//! was; `sysmem_vanish` alone tells then how many events it made before.
 #![tactic(auto)]
 
 mod codes;
+mod exit;
 mod keeping;
 mod laying;
 mod names;
@@ -19,6 +20,7 @@ mod unboxed;
 mod views;
 mod words;
 
+pub use exit::sysmem_vanish;
 pub use keeping::Handle;
 pub use names::sysmem_name;
 pub use nodes::{

@@ -21,6 +21,7 @@ fn code_name(number: u32) -> &'static str
         6 => "no memory",
         7 => "not failed",
         8 => "no name",
+        9 => "no client",
         _ => "",
     }
 }

@@ -1,0 +1,73 @@
+//! A client that vanishes.
+ghost use Rattle.std.specs.Prelude.{◌≡◌, ◌↔◌, ◌≢◌, None, IsSomeAnd};
+ghost use Rattle.client_exit.specs.Parting.{Exits};
+ghost use Rattle.sysmem.specs.Exits.{IsStopped, StoppedBy, fault_code};
+
+use crate::codes::{DONE, HISTORY_FULL, NO_CLIENT, NO_MEMORY, NOT_OPEN};
+use crate::keeping::{Handle, put, take};
+use client_exit::{PartFault, part_with};
+use lifetime_core::Core;
+use sm_names::ClientId;
+use std::alloc::Global;
+
+// The code of a fault.
+fn fault_code(fault: PartFault) -> u32
+    ensures value { result ≡ fault_code fault }
+    ensures failed { result ≢ 0 }
+    ensures open { result ≢ 1 }
+{
+    match fault {
+        PartFault::NoSuchClient => NO_CLIENT,
+        PartFault::HistoryFull => HISTORY_FULL,
+        PartFault::NoMemory => NO_MEMORY,
+    }
+}
+
+// Parts with the client.
+fn part(core: &mut Core, client: ClientId, events: &mut u64) -> u32
+    ensures done { result ≡ 0 → Exits core.old core.new client events.new }
+    ensures stopped { result ≢ 0 → StoppedBy core.old core.new client events.new result }
+    ensures open { result ≢ 1 }
+{
+    match part_with(core, client) {
+        Ok(parted) => {
+            *events = parted.events;
+            DONE
+        }
+        Err((parted, fault)) => {
+            *events = parted.events;
+            fault_code(fault)
+        }
+    }
+}
+
+/// Parts with all that a client has, as if it were lost: it is shut, collects each parcel that waits
+/// for it, closes each end that it holds and drops each handle that it has open. Writes how many
+/// events were made, also where it stops.
+///
+/// `NOT_OPEN` where the handle has no core: nothing is written then. `NO_CLIENT` where no such client
+/// joined: its Shut was refused, which is one event. `HISTORY_FULL` where as many events were made as
+/// may be, and `NO_MEMORY` where memory is refused: the events before stand, and a further call makes
+/// the rest. It costs what `client_exit::part_with` does.
+#[unsafe(no_mangle)]
+pub extern "C" fn sysmem_vanish(
+    alloc: Global,
+    handle: &mut Handle,
+    client: ClientId,
+    events: &mut u64,
+) -> u32
+    ensures done { result ≡ 0 → IsSomeAnd handle.old.place.core
+        (λ old. IsSomeAnd handle.new.place.core
+        (λ new. Exits old new client events.new)) }
+    ensures stopped { result ≢ 0 →
+        IsStopped handle.old.place.core handle.new.place.core client events.new result }
+    ensures not_open { (result ≡ 1) ↔ (handle.old.place.core ≡ None) }
+    ensures untold { result ≡ 1 → events.new ≡ events.old }
+{
+    let Some(mut core) = take(alloc, handle) else {
+        return NOT_OPEN;
+    };
+    let code = part(&mut core, client, events);
+    put(handle, core);
+    code
+}
