@@ -28,8 +28,6 @@
 
 #include "sysmem/state.hpp"
 
-#include <chrono>
-
 namespace sysmem {
 
 // A tracker. It fires once.
@@ -54,7 +52,7 @@ public:
     }
     template <class Rep, class Period>
     std::optional<Event> wait_for(std::chrono::duration<Rep, Period> time) const {
-        return wait_until(std::chrono::steady_clock::now() + time);
+        return wait_until(detail::after(time));
     }
     // Calls this once, with the event: in the thread whose call fires the tracker, without the
     // mutex, or here and now if it fired before. It takes the place of an earlier one, stays when
@@ -311,7 +309,7 @@ public:
     // checks again, by an event, after each event of the collection that may have brought either.
     template <class Rep, class Period>
     Result<std::optional<Allocation>> wait_allocated(std::chrono::duration<Rep, Period> time) const {
-        auto until = std::chrono::steady_clock::now() + time;
+        auto until = detail::after(time);
         detail::State &s = *account->state;
         detail::Waiter waiter(tree);
         for (bool is_first = true;; is_first = false) {
@@ -440,7 +438,8 @@ public:
     Result<std::optional<Parcel>> collect_for(std::chrono::duration<Rep, Period> time) const {
         {
             std::unique_lock<std::mutex> lock(account->state->mutex);
-            account->given.wait_for(lock, time, [this] { return account->parcels > 0; });
+            account->given.wait_until(lock, detail::after(time),
+                                      [this] { return account->parcels > 0; });
         }
         return collect();
     }

@@ -8,6 +8,7 @@
 
 #include <algorithm>
 #include <atomic>
+#include <chrono>
 #include <condition_variable>
 #include <memory>
 #include <mutex>
@@ -391,6 +392,15 @@ struct State : std::enable_shared_from_this<State> {
         if (a->values == 0 && !a->is_late) delete a;
     }
 };
+
+// So long from now, or a century where that is further off than the clock counts.
+template <class Rep, class Period>
+std::chrono::steady_clock::time_point after(std::chrono::duration<Rep, Period> time) {
+    using Clock = std::chrono::steady_clock;
+    constexpr std::chrono::hours longest(1 << 20);
+    if (time < longest) return Clock::now() + std::chrono::duration_cast<Clock::duration>(time);
+    return Clock::now() + longest;
+}
 
 // Holds the mutex. As it goes, the trackers that fired are told.
 class Guard {

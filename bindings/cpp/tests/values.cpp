@@ -324,6 +324,7 @@ static void gifts() {
     Client a = service.join().value(), b = service.join().value();
     Token root = a.open_root().value();
     auto begin = std::chrono::steady_clock::now();
+    EXPECT(detail::after(std::chrono::hours::max()) > begin + std::chrono::hours(1000));
     std::thread peer([&] {
         EXPECT(std::holds_alternative<Token>(*b.collect_for(10s).value()));
         EXPECT(std::holds_alternative<Handle>(*b.collect_for(10s).value()));
