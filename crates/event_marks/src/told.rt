@@ -1,0 +1,196 @@
+//! A call that is taken, with the marks of its event.
+ghost use Rattle.std.specs.Prelude.{◌≡◌, ◌∷◌, List, [], None, map, true, IfOk, IfSome};
+ghost use Rattle.std.specs.Option.{unwrap_or};
+ghost use Rattle.sm_names.specs.Answers.{IsAnswer, new_key};
+ghost use Rattle.sm_names.specs.declared.messages.Reply.{Reply};
+ghost use Rattle.sm_names.specs.Marks.{Called, Entry};
+ghost use Rattle.sm_names.specs.Timelines.{after, timeline};
+ghost use Rattle.buffer_holds.specs.Counts.{total};
+ghost use Rattle.alloc_event.specs.Scenes.{IsSound};
+ghost use Rattle.alloc_event.specs.Settling.{changed, collection_or_new, no_key};
+ghost use Rattle.alloc_event.specs.Snapshots.{collection_of};
+ghost use Rattle.lifetime_core.specs.Reads.{readings_of};
+ghost use Rattle.lifetime_core.specs.Shown.{Shows};
+ghost use Rattle.lifetime_core.specs.Steps.{leaves_tracker_room, work_of};
+ghost use Rattle.lifetime_core.specs.Theorem.{Stepped};
+ghost use Rattle.event_marks.specs.Marks.{AreStages, StagesOf, laid_on, own_stage};
+ghost use Rattle.event_marks.specs.Moments.{IsBefore, reply_of, stage_of};
+ghost use Rattle.event_marks.specs.Steps.{mark_told};
+
+use crate::decision::Forced;
+use crate::forced_steps::settle;
+use crate::own_change::apply;
+use alloc_event::{Change, Snapshot};
+use lifetime_core::Core;
+use sm_names::{
+    Call, ClientId, CollectionId, Fault, Interval, NoMemory, NodeKey, Reply, StepFault,
+};
+use std::alloc::{AllocError, Global};
+
+/// A mark of an event, and the collection before it.
+#[derive(Drop)]
+pub struct Moment {
+    pub mark: Forced,
+    pub before: Snapshot,
+}
+
+/// What a call came to.
+#[derive(Drop)]
+pub struct Told {
+    pub reply: Reply,
+    /// The marks that the event made behind its own, in order: the loss that the call makes itself,
+    /// and those that are forced. `None` where memory for them was refused.
+    pub moments: Option<Vec<Moment>>,
+}
+
+/// The collection that a call changes, and the pages of the others, as they stand before it.
+#[derive(Drop)]
+pub(crate) struct Before {
+    pub(crate) change: Change,
+    pub(crate) scene: Snapshot,
+    pub(crate) others: Vec<Interval>,
+}
+
+/// Takes the call, as `Core::step` does, and tells the marks of its event, each with the collection
+/// before it.
+///
+/// Where memory for the marks is refused, the call is taken all the same, and they are `None`. A call
+/// that changes no collection has none, and costs what the step costs. Any other costs besides a copy
+/// of its collection, one more for each mark, a walk over the kept collections, and for each mark
+/// what `settle` says.
+pub fn take_told(
+    core: &mut Core,
+    alloc: Global,
+    client: ClientId,
+    call: Call,
+) -> Result<Told, StepFault>
+    ensures stepped { Stepped core.old core.new client call (reply_of result) }
+    ensures stages { IfOk result (λ told. IfSome told.moments (λ ms.
+        AreStages core.old core.new client call told.reply (map stage_of ms.items))) }
+    ensures shown { IfOk result (λ told. IfSome told.moments (λ ms. (history : List Entry) →
+        Shows core.old history → let marks = timeline core.old.pool history in
+        after core.old.pool marks (client, call, told.reply)
+        ≡ laid_on (map (λ m. mark_told m.mark) ms.items) (Called client told.reply call ∷ marks))) }
+{
+    let before = copy_before(core, client, &call);
+    let reply = core.step(client, call)?;
+    let Ok(before) = before else {
+        return Ok(Told {
+            reply,
+            moments: None,
+        });
+    };
+    let Some(before) = before else {
+        return Ok(Told {
+            reply,
+            moments: Some(Vec::new(alloc)),
+        });
+    };
+    let moments = walk(core, alloc, before, &reply).ok();
+    Ok(Told { reply, moments })
+}
+
+/// The collection that the call changes, if it changes one, as it stands now.
+fn copy_before(core: &Core, client: ClientId, call: &Call) -> Result<Option<Before>, NoMemory>
+    ensures { IfOk result (λ before. (reply : Reply) →
+        IsAnswer core.now.limits (readings_of core.now) client call.now reply →
+        IsBefore core.now (work_of core.now client call.now reply) before) }
+{
+    let Some((id, change)) = core.change_of(client, call) else {
+        return Ok(None);
+    };
+    let others = core.pages_beside(id)?;
+    let scene = copy_or_empty(core, *others.allocator(), id)?;
+    Ok(Some(Before {
+        change,
+        scene,
+        others,
+    }))
+}
+
+/// A copy of the collection, or an empty one if it is not there.
+fn copy_or_empty(core: &Core, alloc: Global, id: CollectionId) -> Result<Snapshot, NoMemory>
+    ensures value { IfOk result (λ scene. collection_of scene ≡ collection_or_new core.now.forest id) }
+    ensures sound { IfOk result (λ scene. IsSound (collection_of scene)) }
+{
+    let Some(copied) = core.collection(id)? else {
+        return Ok(empty(alloc, id));
+    };
+    Ok(copied)
+}
+
+/// A collection without nodes.
+fn empty(alloc: Global, id: CollectionId) -> Snapshot
+    ensures value { collection_of result ≡ record { id = id; nodes = []; buffers = None; held = [] } }
+    ensures sound { IsSound (collection_of result) }
+{
+    Snapshot {
+        id,
+        nodes: Vec::new(alloc),
+        buffers: None,
+        held: Vec::new(alloc),
+    }
+}
+
+/// Makes the change to the copy, and then the steps that it forces, and tells the moments.
+fn walk(
+    core: &Core,
+    alloc: Global,
+    before: Before,
+    reply: &Reply,
+) -> Result<Vec<Moment>, AllocError>
+    requires room { leaves_tracker_room before.change before.scene.nodes.items ≡ true }
+    requires sound { IsSound (changed before.change (unwrap_or (new_key reply.now) no_key) (collection_of before.scene)) }
+    ensures { IfOk result (λ moments. StagesOf core.now.pool (total core.now.holds) before.others.items
+        before.change (collection_of before.scene)
+        (changed before.change (unwrap_or (new_key reply.now) no_key) (collection_of before.scene)) (map stage_of moments.items)) }
+{
+    let Before {
+        change,
+        mut scene,
+        others,
+    } = before;
+    let moments = own_moment(alloc, &change, &scene)?;
+    apply(&mut scene, &change, key_told(reply))?;
+    settle(&mut scene, core, core.pages(), &others, moments)
+}
+
+/// The moment of the loss that the change itself is, if it is one.
+fn own_moment(alloc: Global, change: &Change, scene: &Snapshot) -> Result<Vec<Moment>, AllocError>
+    ensures { IfOk result (λ moments. map stage_of moments.items ≡ own_stage change.now (collection_of scene.now)) }
+{
+    let mut moments = Vec::new(alloc);
+    if let Change::Loss(origin, cause) = *change {
+        let mark = Forced::Loss(Fault { cause, origin });
+        let before = copy_of(scene)?;
+        moments.push(Moment { mark, before })?;
+    }
+    Ok(moments)
+}
+
+/// The same collection once more.
+pub(crate) fn copy_of(scene: &Snapshot) -> Result<Snapshot, AllocError>
+    ensures { IfOk result (λ copied. collection_of copied ≡ collection_of scene.now) }
+{
+    let nodes = scene.nodes.clone()?;
+    let held = scene.held.clone()?;
+    Ok(Snapshot {
+        id: scene.id,
+        nodes,
+        buffers: scene.buffers,
+        held,
+    })
+}
+
+/// The key of the new node that the reply tells of, or any.
+fn key_told(reply: &Reply) -> NodeKey
+    ensures { result ≡ unwrap_or (new_key reply.now) no_key }
+{
+    match *reply {
+        Reply::Token { key, .. } => key,
+        _ => NodeKey {
+            slot: 0,
+            generation: 0,
+        },
+    }
+}
