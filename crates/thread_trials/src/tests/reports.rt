@@ -81,9 +81,7 @@ fn whoever_comes_first_all_is_gathered(rt: HostRuntime) {
 }
 
 #[test]
-fn a_report_is_of_the_pool_and_the_limits_that_were_asked_for(
-    rt: HostRuntime,
-) -> Result<(), Fail> {
+fn a_report_is_of_the_pool_and_the_limits_that_were_asked_for(rt: HostRuntime) -> Result<(), Fail> {
     let script = "a join; a open r; a bind r; a constrain r 2 0 4096; a take r; ";
     let none = "events 7; a events 6 strong 0 weak 0; gather ok; ";
     let both = "events 9; a events 8 strong 0 weak 0; gather ok; ";
