@@ -14,7 +14,12 @@ mod texts;
 mod views;
 mod writing;
 
+pub use act::{Act, Binds};
 pub use fault::ScriptFault;
 pub use program::run_to_exit;
 pub use run::run_script;
 pub use script_lines::MOST_BYTES;
+pub use session::Session;
+pub use stop::Stop;
+pub use tables::Tables;
+pub use texts::{push_buffer, push_cause, push_firing, push_held, push_node, strength_name};

@@ -1,14 +1,16 @@
 //! A script's core, and what its labels stand for.
-ghost use Rattle.std.specs.Prelude.{◌≡◌, ◌≢◌, ◌≤◌, List, IfOk, IfErr, IfSome, OnOk};
+ghost use Rattle.std.specs.Prelude.{◌≡◌, ◌≢◌, ◌≤◌, ◌++◌, List, IfOk, IfErr, IfSome, OnOk};
 ghost use Rattle.std.specs.Bool.{OnTrue};
 ghost use Rattle.std.specs.List.{Contains};
 ghost use Rattle.sm_names.specs.Marks.{Entry};
 ghost use Rattle.sm_names.specs.Timelines.{timeline};
 ghost use Rattle.sm_names.specs.Trackers.{fired};
 ghost use Rattle.lifetime_core.specs.Shown.{Shows};
-ghost use Rattle.sm_script.specs.Names.{act_in};
-ghost use Rattle.sm_script.specs.Scenes.{Scene, first_scene};
+ghost use Rattle.sm_script.specs.Names.{Names, act_in, names_after};
+ghost use Rattle.sm_script.specs.Scenes.{Scene, as_line, first_scene};
 ghost use Rattle.sm_script.specs.Sessions.{IsAt, Advances, Gains, IsStopped};
+ghost use Rattle.sm_script.specs.Tables.{Keeps};
+ghost use Rattle.sm_script.specs.Texts.{reply_text};
 
 use crate::act::{Act, Binds};
 use crate::stop::Stop;
@@ -22,17 +24,21 @@ use std::alloc::{AllocError, Global};
 use std::collections::HashMap;
 use trackers::Tracker;
 
-// A core, what the labels of the lines so far stand for, and the readers of all trackers.
+/// A core, what the labels of the lines so far stand for, and the readers of all trackers.
 #[derive(Drop)]
-pub(crate) struct Session {
-    pub(crate) core: Core,
-    pub(crate) tables: Tables,
+pub struct Session {
+    /// What the calls of the lines so far made.
+    pub core: Core,
+    /// What labels stand for.
+    pub tables: Tables,
     readers: HashMap<TrackerId, Tracker>,
 }
 
 impl Session {
-    // A session that has seen no line. Counts and labels hash from the seed.
-    pub(crate) fn new(
+    /// A session that has seen no line. Counts and labels hash from the seed.
+    ///
+    /// `NoMemory` where the core is refused its first tables. Takes a constant time.
+    pub fn new(
         alloc: Global,
         seed: [u8; 16],
         pages: u32,
@@ -51,8 +57,12 @@ impl Session {
         })
     }
 
-    // Answers a line, without its end, in place of what was in `reply`.
-    pub(crate) fn answer(&mut self, line: &[u8], reply: &mut Vec<u8>) -> Result<(), Stop>
+    /// Answers a line, without its end, in place of what was in `reply`.
+    ///
+    /// On an error the line was not answered, and `reply` holds nothing that is to be read. Where memory
+    /// was refused its call may have been made. Takes a time in proportion to the line and its text, a
+    /// look into a table for each label, and the time of its call.
+    pub fn answer(&mut self, line: &[u8], reply: &mut Vec<u8>) -> Result<(), Stop>
         ensures ok { OnOk result ((scene : Scene) → IsAt self.old scene →
             Advances self.old self.new line.now reply.new.items scene) }
         ensures err { IfErr result (λ stop. (scene : Scene) → IsAt self.old scene →
@@ -74,8 +84,9 @@ impl Session {
         }
     }
 
-    // What the line asks for, or `None` if it is bad.
-    fn read(&self, line: &[u8]) -> Option<Act>
+    /// What the line asks for, without its end, or `None` if it is bad. Takes a time in proportion to
+    /// its length, and a look into a table for each label.
+    pub fn read(&self, line: &[u8]) -> Option<Act>
         ensures { (scene : Scene) → IsAt self.now scene →
             result ≡ act_in scene.names line.now }
     {
@@ -104,11 +115,34 @@ impl Session {
             Err(StepFault::HistoryFull) => return Err(Stop::HistoryFull),
             Err(StepFault::NoMemory) => return Err(Stop::NoMemory),
         };
+        self.note(binds, reply, text)?;
+        Ok(())
+    }
+
+    /// Takes note of the reply that the core gave to a call: puts its text as a line behind what is
+    /// there, binds what it made, and keeps the reader of a tracker.
+    ///
+    /// `AllocError` where memory is refused: then some of this may be left out. Takes a time in
+    /// proportion to the text, and a look into a table for each label.
+    pub fn note(
+        &mut self,
+        binds: Binds,
+        reply: Reply,
+        text: &mut Vec<u8>,
+    ) -> Result<(), AllocError>
+        ensures text { OnOk result ((names : Names) → Keeps self.old.tables names →
+            text.new.items ≡ text.old.items ++ as_line (reply_text names binds reply)) }
+        ensures names { OnOk result ((names : Names) → Keeps self.old.tables names →
+            Keeps self.new.tables (names_after names binds reply)) }
+        ensures pool { self.new.core.pool ≡ self.old.core.pool }
+        ensures limits { self.new.core.limits ≡ self.old.core.limits }
+        ensures shows { (history : List Entry) →
+            Shows self.old.core history → Shows self.new.core history }
+    {
         push_reply(text, &self.tables, binds, reply)?;
         push(text, "\n")?;
         self.tables.bind(binds, reply)?;
-        keep_reader(&mut self.core, &mut self.readers, reply)?;
-        Ok(())
+        keep_reader(&mut self.core, &mut self.readers, reply)
     }
 
     // Puts what is read of the tracker as a line behind what is there.

@@ -2,11 +2,14 @@
 use sm_names::{NoMemory, StepFault};
 use std::alloc::AllocError;
 
-// Why a line was not answered.
+/// Why a line was not answered.
 #[derive(Clone, Copy, Debug, PartialEq, Eq)]
-pub(crate) enum Stop {
+pub enum Stop {
+    /// It asks for nothing that is known.
     BadLine,
+    /// It makes a call, and as many events were made as may be.
     HistoryFull,
+    /// Memory was refused.
     NoMemory,
 }
 

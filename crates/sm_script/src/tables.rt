@@ -12,10 +12,10 @@ use std::alloc::{AllocError, Global};
 use std::collections::HashMap;
 use std::hash::Hash;
 
-// What each label stands for, and the labels of nodes, of collections' roots and of trackers. A
-// script picks its labels, so tables hash them from a seed; keys and numbers come from the core.
+/// What each label stands for, and the labels of nodes, of collections' roots and of trackers. A
+/// script picks its labels, so tables hash them from a seed; keys and numbers come from the core.
 #[derive(Drop)]
-pub(crate) struct Tables {
+pub struct Tables {
     pub(crate) clients: HashMap<Label, ClientId, LabelHash>,
     // Each node with its collection.
     pub(crate) nodes: HashMap<Label, (NodeKey, CollectionId), LabelHash>,
@@ -40,15 +40,15 @@ impl Tables {
         }
     }
 
-    // The client of this label.
-    fn client(&self, label: Label) -> Option<ClientId>
+    /// The client of this label, if it stands for one. Takes a look into a table.
+    pub fn client(&self, label: Label) -> Option<ClientId>
         ensures { (names : Names) → Keeps self.now names → result ≡ client_of names label }
     {
         self.clients.get(&label).copied()
     }
 
-    // The node of this label.
-    fn node(&self, label: Label) -> Option<NodeKey>
+    /// The node of this label, if it stands for one. Takes a look into a table.
+    pub fn node(&self, label: Label) -> Option<NodeKey>
         ensures { (names : Names) → Keeps self.now names → result ≡ node_of names label }
     {
         match self.nodes.get(&label) {
@@ -70,30 +70,30 @@ impl Tables {
         }
     }
 
-    // The tracker of this label.
-    fn tracker(&self, label: Label) -> Option<TrackerId>
+    /// The tracker of this label, if it stands for one. Takes a look into a table.
+    pub fn tracker(&self, label: Label) -> Option<TrackerId>
         ensures { (names : Names) → Keeps self.now names → result ≡ tracker_of names label }
     {
         self.trackers.get(&label).copied()
     }
 
-    // The label under which the node was born.
-    pub(crate) fn birth_label(&self, node: NodeKey) -> Option<Label>
+    /// The label under which the node was born. Takes a look into a table.
+    pub fn birth_label(&self, node: NodeKey) -> Option<Label>
         ensures { (names : Names) → Keeps self.now names → result ≡ label_of_node names node }
     {
         self.births.get(&node).copied()
     }
 
-    // The label of the collection's root.
-    pub(crate) fn root_label(&self, collection: CollectionId) -> Option<Label>
+    /// The label of the collection's root. Takes a look into a table.
+    pub fn root_label(&self, collection: CollectionId) -> Option<Label>
         ensures { (names : Names) → Keeps self.now names →
             result ≡ label_of_root names collection }
     {
         self.roots.get(&collection).copied()
     }
 
-    // The label of the tracker.
-    pub(crate) fn tracker_label(&self, tracker: TrackerId) -> Option<Label>
+    /// The label of the tracker. Takes a look into a table.
+    pub fn tracker_label(&self, tracker: TrackerId) -> Option<Label>
         ensures { (names : Names) → Keeps self.now names →
             result ≡ label_of_tracker names tracker }
     {

@@ -49,8 +49,8 @@ fn kind_name(kind: Kind) -> &'static str
     }
 }
 
-// The name of the strength.
-fn strength_name(strength: Strength) -> &'static str
+/// The name of the strength: `strong` or `weak`. Takes a constant time.
+pub fn strength_name(strength: Strength) -> &'static str
     ensures { result.now ≡ name_of_strength strength }
 {
     match strength {
@@ -59,8 +59,9 @@ fn strength_name(strength: Strength) -> &'static str
     }
 }
 
-// Puts behind it why a node failed.
-fn push_cause(text: &mut Vec<u8>, cause: Cause) -> Result<(), AllocError>
+/// Puts why a node failed behind what is there; a part of it where memory is refused. Takes a time in
+/// proportion to the text.
+pub fn push_cause(text: &mut Vec<u8>, cause: Cause) -> Result<(), AllocError>
     ensures { OnOk result (text.new.items ≡ text.old.items ++ cause_text cause) }
 {
     match cause {
@@ -229,8 +230,9 @@ fn push_closed(
     push_label(text, tables.birth_label(origin))
 }
 
-// Puts a space and the node's label behind it.
-pub(crate) fn push_node(
+/// Puts a space and the node's label behind what is there; a part of it where memory is refused. Takes a
+/// time in proportion to the text, and a look into a table.
+pub fn push_node(
     text: &mut Vec<u8>,
     tables: &Tables,
     node: NodeKey,
@@ -242,8 +244,13 @@ pub(crate) fn push_node(
     push_label(text, tables.birth_label(node))
 }
 
-// Puts a space and the buffer behind it.
-fn push_buffer(text: &mut Vec<u8>, tables: &Tables, buffer: BufferName) -> Result<(), AllocError>
+/// Puts a space and the buffer behind what is there; a part of it where memory is refused. Takes a time
+/// in proportion to the text, and a look into a table.
+pub fn push_buffer(
+    text: &mut Vec<u8>,
+    tables: &Tables,
+    buffer: BufferName,
+) -> Result<(), AllocError>
     ensures { OnOk result ((names : Names) → Keeps tables.now names →
         text.new.items ≡ text.old.items ++ buffer_text names buffer) }
 {
@@ -253,8 +260,9 @@ fn push_buffer(text: &mut Vec<u8>, tables: &Tables, buffer: BufferName) -> Resul
     push_number(text, buffer.index as u64)
 }
 
-// Puts a space and the held buffer behind it.
-pub(crate) fn push_held(
+/// Puts a space, the held buffer, its first page and their number behind what is there; a part of it
+/// where memory is refused. Takes a time in proportion to the text, and a look into a table.
+pub fn push_held(
     text: &mut Vec<u8>,
     tables: &Tables,
     held: HeldBuffer,
@@ -269,8 +277,9 @@ pub(crate) fn push_held(
     push_number(text, held.pages.pages as u64)
 }
 
-// Puts a space and the firing behind it.
-pub(crate) fn push_firing(
+/// Puts a space, the tracker's label and the event of its firing behind what is there; a part of it where
+/// memory is refused. Takes a time in proportion to the text, and a look into a table.
+pub fn push_firing(
     text: &mut Vec<u8>,
     tables: &Tables,
     firing: Fired,
