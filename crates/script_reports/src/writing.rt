@@ -1,0 +1,16 @@
+//! Text goes out.
+use crate::fault::ReportFault;
+use script_runs::write_out;
+use std::io::Write;
+
+// Writes the text, and flushes the writer.
+pub(crate) fn put_out<W: Write>(writer: &mut W, text: &[u8]) -> Result<(), ReportFault> {
+    match write_out(writer, text) {
+        Ok(()) => {}
+        Err(_) => return Err(ReportFault::WriteFault),
+    }
+    match writer.flush() {
+        Ok(()) => Ok(()),
+        Err(_) => Err(ReportFault::WriteFault),
+    }
+}
