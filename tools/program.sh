@@ -49,6 +49,46 @@ try 3 'joined\n' 'bad line 2' 'a join\na ope' run
 try 3 'joined\n' 'bad line 2' 'a join\na fly\n' run
 try 3 '' 'bad line 1' 'a  join\n' run
 
+# Explanations, with the reason of a bad line.
+try 0 'a join\n  joined\n' '' 'a join\n' explain
+try 0 'a join\n  joined\n' '' 'a join\n  joined\n    a remark\n' explain
+try 0 '' '' '' explain
+try 3 'a join\n  joined\n' 'bad line 2: the last line has no end' 'a join\nshow free' explain
+try 3 'a join\n  joined\n' 'bad line 3: no such word: opne' 'a join\n  joined\na opne r\n' explain
+try 3 'a join\n  joined\n' 'bad line 2: the label cam is not bound' 'a join\ncam open r\n' explain
+try 3 'a join\n  joined\n' 'bad line 2: the label a is bound already' 'a join\na join\n' explain
+try 3 '' 'bad line 1: the line ends in CR' 'a join\r\n' explain
+try 3 '' 'bad line 1: one space stands between words, and none before or behind them' 'a  join\n' explain
+try 3 '' 'bad line 1: no label: A' 'A join\n' explain
+try 3 '' 'bad line 1: no such view: all' 'show all\n' explain
+bad='a join\na open r\na bind r\n'
+told='a join\n  joined\na open r\n  token r\na bind r\n  done\n'
+try 3 "$told" 'bad line 4: camping is 0 to 64' "${bad}a constrain r 65 0 1\\n" explain
+try 3 "$told" 'bad line 4: the size is 1 to 1073741824' "${bad}a constrain r 1 0 0\\n" explain
+try 3 "$told" 'bad line 4: a word is missing behind 0' "${bad}a constrain r 1 0\\n" explain
+try 3 "$told" 'bad line 4: a word too many: now' "${bad}a check r now\\n" explain
+try 3 "$told" 'bad line 4: strong or weak is to stand here: hard' "${bad}a duph r.0 hard\\n" explain
+try 3 "$told" 'bad line 4: no buffer: r.64' "${bad}a duph r.64 weak\\n" explain
+
+# Pictures.
+empty='pool ░░░░░░░░░░░░░░░░ 16 of 16 free\n'
+try 0 "event 0\\n\\n$empty" '' '' draw
+try 0 "event 1: a join\\n\\n$empty" '' 'a join\n' draw
+try 0 "event 1: a join\\n\\n$empty" '' 'a join\na fly\n' draw --at 1
+try 0 'event 1: a join\n\npool 65 of 65 free\n' '' 'a join\n' draw --pages 65 --format text
+try 3 "event 1: a join\\n\\n$empty" 'bad line 2: no such word: fly' 'a join\na fly\n' draw
+try 2 '' 'there is no event 0' 'a join\n' draw --at 0
+try 2 '' 'there is no event 2' 'a join\n' draw --at 2
+try 2 '' '*' 'a join\n' draw --at last
+try 2 '' '*' 'a join\n' draw --format png
+
+# Transcripts.
+try 0 'agrees: 2 lines, 1 replies\n' '' 'a join\n  joined\n    a remark\nshow free\n' check
+try 6 'line 1: a join\n  recorded  token a\n  legal     joined\n' '' 'a join\n  token a\n' check
+try 6 'line 2: # a remark\n  recorded  joined\n  legal     no reply\n' '' 'a join\n# a remark\n  joined\n' check
+try 3 '' 'bad line 1: a reply stands before the first line' '  joined\n' check
+try 3 '' 'bad line 2: no such word: fly' 'a join\na fly\n' check
+
 # Scripts of actors.
 two='a join\nb join\na open r\nb open s\na bind r\nb bind s\na constrain r 1 0 4096\nb constrain s 1 0 4096\na take r\nb take s\n'
 try 0 'events 16\na events 7 strong 0 weak 0\nb events 7 strong 0 weak 0\ngather ok\n' '' "$two" threads
@@ -65,6 +105,7 @@ try 0 'free 1\n' '' 'show free\n' run --pages 1
 try 0 'free 16\n' '' 'show free\n' run --pages 16
 try 0 'free 1048576\n' '' 'show free\n' run --pages 1048576
 try 0 'free 7\n' '' 'show free\n' run --pages=7
+try 0 'show free\n  free 7\n' '' 'show free\n' explain --pages 7
 for words in '--pages 0' '--pages 1048577' '--pages many' '--pages -1' '--pages' '--pages 1 --pages 2'; do
   # shellcheck disable=SC2086
   try 2 '' '*' 'show free\n' run $words
@@ -123,7 +164,7 @@ write_fails() {
   "$program" "$1" <"$room/script" >/dev/full 2>"$room/told"
   [ $? = 1 ] && hears 'write fault'
 }
-for command in run threads; do
+for command in run threads explain draw check; do
   count read_fails "$command"
   count write_fails "$command"
 done
@@ -150,6 +191,30 @@ is_answered() {
 }
 for script in examples/*.script; do count is_answered "$script"; done
 
+# Each example is explained as it stands beside it; what is explained is a transcript that agrees, its lines without an
+# indent are the script, and those behind two spaces the answers. A file is read in place of standard input.
+is_explained() {
+  "$program" explain "$1" 2>"$room/told" | cmp -s - "${1%.script}.explained" && hears ''
+}
+is_transcript() {
+  "$program" check "$1" >"$room/out" 2>"$room/told" && grep -q '^agrees: ' "$room/out" && hears '' &&
+    grep -v '^  ' "$1" | cmp -s - "${1%.explained}.script" &&
+    sed -n 's/^  \([^ ]\)/\1/p' "$1" | cmp -s - "${1%.explained}.out"
+}
+is_drawn() {
+  "$program" draw --at "$2" "$1" 2>"$room/told" | cmp -s - "${1%.script}.$2.txt" && hears ''
+}
+for script in examples/*.script; do
+  count is_explained "$script"
+  count is_transcript "${script%.script}.explained"
+done
+for event in 27 28; do count is_drawn examples/camera.script "$event"; done
+no_file() {
+  "$program" explain examples/none.script >"$room/out" 2>"$room/told"
+  [ $? = 1 ] && [ ! -s "$room/out" ] && hears 'read fault'
+}
+count no_file
+
 # Actors that never meet have one report. Of those that share a tree the number of events is open.
 is_reported() {
   "$program" threads <examples/apart.actors 2>"$room/told" | cmp -s - examples/apart.out && hears ''
@@ -168,5 +233,10 @@ helps() {
   [ $? = 0 ] && grep -q 'show fired' "$room/out" && grep -q 'C trackweak B T' "$room/out" && grep -q '^Status: 0' "$room/out" && hears ''
 }
 for command in run threads; do count helps "$command"; done
+explains() {
+  "$program" explain --help >"$room/out" 2>"$room/told"
+  [ $? = 0 ] && grep -q 'C trackweak B T' "$room/out" && grep -q '^up: the failure went' "$room/out" && hears ''
+}
+count explains
 echo "$passed passed, $failed failed"
 [ "$failed" = 0 ]

@@ -54,6 +54,10 @@ try_program() {
   if [ "$item" = sysmem_main ]; then
     for script in examples/*.script; do
       add_case "$(basename "$script" .script)" "$script" run "${script%.script}.out"
+      add_case "$(basename "$script" .script)_explained" "$script" explain "${script%.script}.explained"
+    done
+    for event in 27 28; do
+      add_case "camera_$event" examples/camera.script "draw --at $event" "examples/camera.$event.txt"
     done
     add_case apart examples/apart.actors threads examples/apart.out
     add_case shared examples/shared.actors threads

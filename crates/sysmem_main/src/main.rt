@@ -1,4 +1,5 @@
-//! The program: `sysmem run` answers a script, `sysmem threads` runs its clients side by side.
+//! The program: `sysmem run` answers a script, `sysmem threads` runs its clients side by side, `sysmem
+//! explain` and `sysmem draw` tell what its events came to, `sysmem check` compares a transcript.
 #![tactic(auto)]
 
 ghost use Rattle.std.specs.Prelude.{◌≡◌};
@@ -11,12 +12,15 @@ mod words;
 
 use clap::Error;
 use clap::error::ErrorKind;
+use script_reports::{check_to_exit, draw_to_exit, explain_to_exit};
+use script_runs::Pages;
 use sm_script::run_to_exit;
 use std::process::ExitCode;
 use std::random::RandomSource;
-use std::{env, io};
+use std::io::Read;
+use std::{env, fs, io};
 use thread_runs::run_threads_to_exit;
-use words::{asks_for_threads, command, pages_of};
+use words::{Task, asks_for_threads, command, file_of, pages_of, task_of};
 
 // The status of what clap says of the words.
 fn status_of(kind: ErrorKind) -> u8
@@ -103,12 +107,36 @@ fn main(rt: HostRuntime) -> ExitCode {
             pages,
         );
     }
-    run_to_exit(
-        alloc,
-        seed,
-        &mut rt.reader(),
-        &mut io::writer(&rt),
-        &mut io::writer(&rt.stderr()),
-        pages,
-    )
+    match file_of(&matches) {
+        None => play(&rt, seed, &mut rt.reader(), pages, task_of(&matches)),
+        Some(name) => match fs::open(&rt, name) {
+            Ok(mut file) => play(&rt, seed, &mut file, pages, task_of(&matches)),
+            Err(_) => {
+                let _ = rt.eprintln("read fault");
+                ExitCode::from(1)
+            }
+        },
+    }
+}
+
+// Does with the script that the reader holds what the command asks for.
+fn play<R: Read>(
+    rt: &HostRuntime,
+    seed: [u8; 16],
+    reader: &mut R,
+    pages: Pages,
+    task: Task,
+) -> ExitCode
+    ensures { exit_status result ≤ 6 }
+{
+    let alloc = rt.alloc();
+    let writer = &mut io::writer(rt);
+    let stderr = rt.stderr();
+    let faults = &mut io::writer(&stderr);
+    match task {
+        Task::Run => run_to_exit(alloc, seed, reader, writer, faults, pages),
+        Task::Explain => explain_to_exit(alloc, seed, reader, writer, faults, pages),
+        Task::Draw(view) => draw_to_exit(alloc, seed, reader, writer, faults, pages, view),
+        Task::Check => check_to_exit(alloc, seed, reader, writer, faults, pages),
+    }
 }

@@ -4,6 +4,7 @@ ghost use Rattle.clap.specs.Matches.{subcommand_name_of};
 ghost use Rattle.sysmem_main.specs.Asked.{AreAsked, pages_text};
 
 use clap::{Arg, ArgAction, ArgMatches, Command, value_parser};
+use script_reports::{Format, View};
 use script_runs::Pages;
 use std::alloc::{AllocError, Global};
 
@@ -131,8 +132,145 @@ fn pages_word<'a>(alloc: Global) -> Arg<'a> {
         .help("How many pages of 4096 bytes the pool has, from 1 to 1048576")
 }
 
-// The second command.
+// The commands behind the first.
 const THREADS: &str = "threads";
+
+const EXPLAIN: &str = "explain";
+
+const DRAW: &str = "draw";
+
+const CHECK: &str = "check";
+
+// The formats of pictures.
+const TEXT: &str = "text";
+
+const DOT: &str = "dot";
+
+const SVG: &str = "svg";
+
+const FORMATS: &[&str] = &[TEXT, DOT, SVG];
+
+const EXPLAIN_ABOUT: &str = "Tells each line with its reply, and what its event forced, and why";
+
+const EXPLAIN_HELP: &str = "\
+Tells each line of the script on standard input with its reply, and what its
+event forced, and why
+
+Lines without an indent are the script, those indented by two spaces are the
+replies of `sysmem run`, and behind them stands what the event came to:
+
+    dis close display
+      done
+        fordis fails, lost: its end was closed without a release
+          up      fordis > root
+          down    root > forcam forenc
+        kept    root.0 root.1 by cam strong 1, dis strong 1
+        fires   gone
+
+up: the failure went from a node to its parent, whose link to it is not blocked.
+down: it went on to all children. stops: why it went no further. kept: who keeps
+pages that did not go back. camps: who camps on how many buffers. waits: for
+whom an allocation waits. since: the line that took a node.
+
+Lines that begin with two spaces are passed over, and count as lines.
+
+Status: 0 all lines were answered; 1 read or write fault; 2 the command line was
+refused; 3 a bad line; 4 no memory, or history full. A fault is told in one line
+on standard error, once the lines before it are told; a bad line with its reason.";
+
+const DRAW_ABOUT: &str = "Draws the trees after the last line or an event";
+
+const DRAW_HELP: &str = "\
+Draws the trees of the script on standard input, after its last line or an event";
+
+const DRAW_STATUS: &str = "\
+Lines that begin with two spaces are passed over, and those behind the event that
+is asked for are not looked at. `sysmem explain --help` tells the language.
+
+Status: 0 the picture was written; 1 read or write fault; 2 the command line was
+refused, or there is no such event; 3 a bad line; 4 no memory, or history full.
+A fault is told in one line on standard error, a bad line with its reason.";
+
+const CHECK_ABOUT: &str = "Compares the replies of a transcript with the machine's";
+
+const CHECK_HELP: &str = "\
+Compares the replies of the transcript on standard input with the machine's
+
+A transcript is a script in which a line may be followed by its reply, indented
+by two spaces, and by lines indented by four or more, which say nothing. So what
+`sysmem explain` writes is one. Where all replies agree, the number of lines that
+were played and that of replies are told. Else the first that differs is:
+
+    line 41: enc check encoder
+      recorded  pending
+      legal     closed lost fordis
+        since   line 36: dis close display
+
+Status: 0 all replies agree; 1 read or write fault; 2 the command line was
+refused; 3 a bad line; 4 no memory, or history full; 6 a reply differs.";
+
+// The name of a file that is read in place of standard input.
+fn file_word<'a>(alloc: Global) -> Arg<'a> {
+    Arg::new(alloc, "file")
+        .action(ArgAction::Set)
+        .value_name("FILE")
+        .help("A file that is read in place of standard input")
+}
+
+// The option `--format F`.
+fn format_word<'a>(alloc: Global) -> Arg<'a> {
+    Arg::new(alloc, "format")
+        .long("format")
+        .action(ArgAction::Set)
+        .value_name("F")
+        .value_parser(FORMATS)
+        .default_value(TEXT)
+        .help("text, dot for Graphviz, or svg")
+}
+
+// The option `--at EVENT`.
+fn at_word<'a>(alloc: Global) -> Arg<'a> {
+    Arg::new(alloc, "at")
+        .long("at")
+        .action(ArgAction::Set)
+        .value_name("EVENT")
+        .value_parser(value_parser!(u64))
+        .help(
+            "The trees after this event, and what it did; events are numbered from 1, one for \
+             each line that is a call",
+        )
+}
+
+// The command that tells each line.
+fn explain<'a>(alloc: Global) -> Result<Command<'a>, AllocError> {
+    Command::new(alloc, EXPLAIN)
+        .about(EXPLAIN_ABOUT)
+        .long_about(EXPLAIN_HELP)
+        .after_help(LINES)
+        .arg(pages_word(alloc))?
+        .arg(file_word(alloc))
+}
+
+// The command that draws trees.
+fn draw<'a>(alloc: Global) -> Result<Command<'a>, AllocError> {
+    Command::new(alloc, DRAW)
+        .about(DRAW_ABOUT)
+        .long_about(DRAW_HELP)
+        .after_help(DRAW_STATUS)
+        .arg(pages_word(alloc))?
+        .arg(format_word(alloc))?
+        .arg(at_word(alloc))?
+        .arg(file_word(alloc))
+}
+
+// The command that compares replies.
+fn check<'a>(alloc: Global) -> Result<Command<'a>, AllocError> {
+    Command::new(alloc, CHECK)
+        .about(CHECK_ABOUT)
+        .long_about(CHECK_HELP)
+        .arg(pages_word(alloc))?
+        .arg(file_word(alloc))
+}
 
 /// The commands with their options and help.
 pub fn command<'a>(alloc: Global) -> Result<Command<'a>, AllocError> {
@@ -153,7 +291,10 @@ pub fn command<'a>(alloc: Global) -> Result<Command<'a>, AllocError> {
         .after_help("'sysmem run --help' tells what a script is.")
         .subcommand_required(true)
         .subcommand(run)?
-        .subcommand(threads)
+        .subcommand(threads)?
+        .subcommand(explain(alloc)?)?
+        .subcommand(draw(alloc)?)?
+        .subcommand(check(alloc)?)
 }
 
 /// The pages that the matches of a parse ask for: the number that stands behind the subcommand's
@@ -175,4 +316,44 @@ pub fn asks_for_threads(matches: &ArgMatches<'_>) -> bool
         Some(name) => name == THREADS,
         None => false,
     }
+}
+
+/// What a command makes of a script alone.
+#[derive(Clone, Copy, Debug)]
+pub enum Task {
+    Run,
+    Explain,
+    Draw(View),
+    Check,
+}
+
+/// What the matches of a parse ask for that is no run of actors. Takes a time in proportion to the words.
+pub fn task_of(matches: &ArgMatches<'_>) -> Task {
+    let Some((name, inner)) = matches.subcommand() else {
+        return Task::Run;
+    };
+    match name {
+        EXPLAIN => Task::Explain,
+        DRAW => Task::Draw(View {
+            format: format_of(inner.get_str("format")),
+            at: inner.get_one::<u64>("at"),
+        }),
+        CHECK => Task::Check,
+        _ => Task::Run,
+    }
+}
+
+// The format of this name.
+fn format_of(name: Option<&str>) -> Format {
+    match name {
+        Some(DOT) => Format::Dot,
+        Some(SVG) => Format::Svg,
+        _ => Format::Text,
+    }
+}
+
+/// The file that is to be read in place of standard input, if one is named. Takes a constant time.
+pub fn file_of<'a>(matches: &ArgMatches<'a>) -> Option<&'a str> {
+    let (_, inner) = matches.subcommand()?;
+    inner.get_str("file")
 }
