@@ -91,10 +91,7 @@ pub(crate) fn push_reply(
     match reply {
         Reply::Done => push(text, "done"),
         Reply::Joined(_) => push(text, "joined"),
-        Reply::Shut(waiting) => {
-            push(text, "shut ")?;
-            push_number(text, waiting)
-        }
+        Reply::Shut(waiting) => push_shut(text, waiting),
         Reply::Token { .. } => push_bound(text, "token", binds),
         Reply::Collected { kind, .. } => push_bound(text, kind_name(kind), binds),
         Reply::CollectedHandle { buffer, strength } => push_handle(text, tables, buffer, strength),
@@ -108,15 +105,30 @@ pub(crate) fn push_reply(
         } => push_taken(text, tables, collection, strength, set),
         Reply::Tracker(_) => push_bound(text, "tracker", binds),
         Reply::Refused(refusal) => {
-            push(text, "refused ")?;
-            push_numbered(text, refusal.number() as u64, refusal.name())
+            push_behind(text, "refused ", refusal.number() as u64, refusal.name())
         }
         Reply::Misused(misuse) => {
-            push(text, "misused ")?;
-            push_numbered(text, misuse.number() as u64, misuse.name())
+            push_behind(text, "misused ", misuse.number() as u64, misuse.name())
         }
         Reply::PeerClosed { cause, origin } => push_closed(text, tables, cause, origin),
     }
+}
+
+// Puts behind it how many parcels wait for a client that was shut.
+fn push_shut(text: &mut Vec<u8>, waiting: u64) -> Result<(), AllocError>
+    ensures { OnOk result (text.new.items ≡ text.old.items ++ (codes "shut " ++ decimal waiting)) }
+{
+    push(text, "shut ")?;
+    push_number(text, waiting)
+}
+
+// Puts a word behind it, and a number and a name behind that.
+fn push_behind(text: &mut Vec<u8>, word: &str, number: u64, name: &str) -> Result<(), AllocError>
+    ensures { OnOk result (text.new.items
+        ≡ text.old.items ++ (word.now ++ numbered number name.now)) }
+{
+    push(text, word)?;
+    push_numbered(text, number, name)
 }
 
 // Puts a name behind it, and the label that was to be bound.
