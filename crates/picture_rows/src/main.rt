@@ -6,10 +6,9 @@ use script_lines::line_end;
 use script_reports::{Format, View, draw_script};
 use sm_names::Limits;
 use std::alloc::Global;
-use std::io;
 use std::io::{Read, Write};
-use std::str;
 use std::test::Fail;
+use std::{io, str};
 
 // The picture that the title asks for: a format, and an event if one follows.
 fn view_of(title: &[u8]) -> View {
@@ -31,12 +30,7 @@ fn view_of(title: &[u8]) -> View {
 }
 
 // Appends what a script gives.
-fn push_drawn(
-    alloc: Global,
-    title: &[u8],
-    script: &[u8],
-    out: &mut Vec<u8>,
-) -> Result<(), Fail> {
+fn push_drawn(alloc: Global, title: &[u8], script: &[u8], out: &mut Vec<u8>) -> Result<(), Fail> {
     let mut reader = script;
     let view = view_of(title);
     let ended = draw_script(alloc, [0; 16], &mut reader, out, 16, Limits::full(), view);

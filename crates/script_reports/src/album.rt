@@ -2,8 +2,8 @@
 use crate::event::Event;
 use crate::losses::taken_under;
 use alloc_event::{End, Node};
-use event_marks::{Forced, Moment};
 use event_marks::questions::is_under;
+use event_marks::{Forced, Moment};
 use lifetime_core::Core;
 use sm_names::{BufferName, Call, CollectionId, NodeKey, Reply};
 use sm_script::Stop;
@@ -155,7 +155,11 @@ fn made(moment: &Moment) -> Result<Vec<Node>, AllocError> {
     let top = match moment.mark {
         Forced::Allocated(_) => return moment.before.nodes.clone(),
         Forced::Ended(top) => top,
-        Forced::Loss(fault) => match crate::losses::climb(&moment.before.nodes, fault.origin)?.last() {
+        Forced::Loss(fault) => match crate::losses::climb(
+            &moment.before.nodes,
+            fault.origin,
+        )?.last()
+        {
             Some(top) => *top,
             None => return moment.before.nodes.clone(),
         },

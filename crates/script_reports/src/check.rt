@@ -111,14 +111,15 @@ impl Comparison {
         self.number = number;
         self.line.clear();
         self.line.extend_from_slice(line)?;
-        match self.teller.answer(alloc, number, line, &mut self.reply, &mut self.facts) {
+        match self
+            .teller
+            .answer(alloc, number, line, &mut self.reply, &mut self.facts)
+        {
             Ok(()) => {
                 self.lines = self.lines.saturating_add(1);
                 Ok(())
             }
-            Err(stop) => {
-                Err(fault_of(alloc, stop, &self.teller.session.tables, number, line))
-            }
+            Err(stop) => { Err(fault_of(alloc, stop, &self.teller.session.tables, number, line)) }
         }
     }
 

@@ -34,7 +34,10 @@ pub(crate) fn push_dot(
         text,
         "  node [shape=box, fontname=\"DejaVu Sans Mono\", fontsize=11, margin=\"0.14,0.08\"];\n",
     )?;
-    push(text, "  edge [fontname=\"DejaVu Sans Mono\", fontsize=11, color=\"")?;
+    push(
+        text,
+        "  edge [fontname=\"DejaVu Sans Mono\", fontsize=11, color=\"",
+    )?;
     push(text, GREY)?;
     push(text, "\"];\n")?;
     let clients = teller.session.core.clients()?;
@@ -109,7 +112,14 @@ fn push_box(
     push(text, "\", fontcolor=\"")?;
     push(text, ink_color(class))?;
     push(text, "\", penwidth=")?;
-    push(text, if tree.left.contains(&node.key) { "3" } else { "1.5" })?;
+    push(
+        text,
+        if tree.left.contains(&node.key) {
+            "3"
+        } else {
+            "1.5"
+        },
+    )?;
     push(text, "];\n")
 }
 

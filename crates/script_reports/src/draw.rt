@@ -8,8 +8,8 @@ use crate::explain::is_indented;
 use crate::fault::{ReportFault, fault_of, unended};
 use crate::picture::picture_of;
 use crate::reading::read_script;
-use crate::teller::Teller;
 use crate::svg_picture::push_svg;
+use crate::teller::Teller;
 use crate::text_picture::push_text;
 use crate::writing::put_out;
 use script_lines::line_end;
@@ -157,8 +157,11 @@ impl Scroll {
                 },
             ) => {
                 let named = named_collection(&self.teller.session.core, &call);
-                let event = self.teller.take(alloc, client, call, binds, &mut self.reply)?;
-                self.album.update(alloc, &self.teller.session.core, named, &event)?;
+                let event = self
+                    .teller
+                    .take(alloc, client, call, binds, &mut self.reply)?;
+                self.album
+                    .update(alloc, &self.teller.session.core, named, &event)?;
                 self.events = self.events.saturating_add(1);
                 self.event = Some(event);
                 self.line.clear();
@@ -180,8 +183,29 @@ fn push_picture(
 ) -> Result<(), Stop> {
     let picture = picture_of(alloc, &scroll.teller, &scroll.album, scroll.event.as_ref())?;
     match format {
-        Format::Text => push_text(text, &scroll.teller, pages, &picture, scroll.events, &scroll.line),
-        Format::Dot => push_dot(text, &scroll.teller, pages, &picture, scroll.events, &scroll.line),
-        Format::Svg => push_svg(text, &scroll.teller, pages, &picture, scroll.events, &scroll.line),
+        Format::Text => push_text(
+            text,
+            &scroll.teller,
+            pages,
+            &picture,
+            scroll.events,
+            &scroll.line,
+        ),
+        Format::Dot => push_dot(
+            text,
+            &scroll.teller,
+            pages,
+            &picture,
+            scroll.events,
+            &scroll.line,
+        ),
+        Format::Svg => push_svg(
+            text,
+            &scroll.teller,
+            pages,
+            &picture,
+            scroll.events,
+            &scroll.line,
+        ),
     }
 }

@@ -71,7 +71,11 @@ pub(crate) fn push_words(
     push_count(body, "font-size", style.size)?;
     push_word(body, "font-weight", if style.bold { "bold" } else { "" })?;
     push_word(body, "fill", style.fill)?;
-    push_word(body, "text-anchor", if style.middle { "middle" } else { "" })?;
+    push_word(
+        body,
+        "text-anchor",
+        if style.middle { "middle" } else { "" },
+    )?;
     push(body, ">")?;
     body.extend_from_slice(words)?;
     push(body, "</text>\n")

@@ -77,11 +77,9 @@ impl Event {
     // Whether a node that was live is not any more.
     pub(crate) fn some_left(&self, core: &Core) -> bool {
         match &self.before {
-            Some(before) => before
-                .copied
-                .nodes
-                .iter()
-                .any(|node| !node.gone && !node.released && !core.is_live(node.key)),
+            Some(before) => before.copied.nodes.iter().any(|node| !node.gone
+                && !node.released
+                && !core.is_live(node.key)),
             None => false,
         }
     }

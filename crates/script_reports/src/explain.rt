@@ -100,7 +100,11 @@ pub(crate) fn is_indented(line: &[u8]) -> bool {
 
 // What stands behind the two spaces that the line begins with, if it does.
 pub(crate) fn behind_indent(line: &[u8]) -> Option<&[u8]> {
-    if is_indented(line) { line.get(2..) } else { None }
+    if is_indented(line) {
+        line.get(2..)
+    } else {
+        None
+    }
 }
 
 // Explains the line of this number behind what is there.

@@ -92,12 +92,19 @@ pub(crate) fn push_handles(
 
 // Colours that colour-blind readers tell apart, and that differ in grey.
 pub(crate) const BLUE: &str = "#0072B2";
+
 pub(crate) const RED: &str = "#D55E00";
+
 pub(crate) const DEEP: &str = "#A84300";
+
 pub(crate) const GREY: &str = "#808080";
+
 pub(crate) const INK: &str = "#222222";
+
 pub(crate) const SAND: &str = "#FAF2CC";
+
 pub(crate) const EARTH: &str = "#7A6A00";
+
 pub(crate) const WHITE: &str = "#FFFFFF";
 
 // The colour that a node is filled with.

@@ -4,7 +4,9 @@ use std::alloc::AllocError;
 
 // The height of a box, and the gaps between columns and rows.
 pub(crate) const HEIGHT: u64 = 92;
+
 pub(crate) const GAP_X: u64 = 22;
+
 pub(crate) const GAP_Y: u64 = 62;
 
 // The left upper corner of a box.
@@ -75,11 +77,7 @@ fn set(list: &mut [u64], at: usize, value: u64) {
 
 // Lays the boxes of these nodes, which stand by birth, the root first, so many units wide, from this
 // corner on: a column for each leaf, and a parent over the middle of its children.
-pub(crate) fn lay_out(
-    nodes: &Vec<Node>,
-    start: Corner,
-    width: u64,
-) -> Result<Layout, AllocError> {
+pub(crate) fn lay_out(nodes: &Vec<Node>, start: Corner, width: u64) -> Result<Layout, AllocError> {
     let alloc = *nodes.allocator();
     let widths = widths(nodes)?;
     let mut next = vec![in alloc; 0u64; nodes.len()]?;

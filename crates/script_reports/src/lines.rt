@@ -86,12 +86,7 @@ fn push_kind(text: &mut Vec<u8>, teller: &Teller, node: &Node) -> Result<(), All
 }
 
 // Puts what is asked for behind what is there.
-fn push_asked(
-    text: &mut Vec<u8>,
-    camping: u8,
-    at_least: u8,
-    size: u32,
-) -> Result<(), AllocError> {
+fn push_asked(text: &mut Vec<u8>, camping: u8, at_least: u8, size: u32) -> Result<(), AllocError> {
     push(text, "camps on ")?;
     push_number(text, camping as u64)?;
     if 0 < at_least {

@@ -56,7 +56,13 @@ fn push_why(
         Cause::Misused(misuse) => push(text, misuse_words(misuse)),
         Cause::NoStrong => push(text, "no strong node is live and no strong handle is open"),
         Cause::Failed(failure) => {
-            push_failure(text, scene, free, total_demand(&scene.nodes, fault.origin), failure)
+            push_failure(
+                text,
+                scene,
+                free,
+                total_demand(&scene.nodes, fault.origin),
+                failure,
+            )
         }
     }
 }

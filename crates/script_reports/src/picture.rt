@@ -115,10 +115,13 @@ fn tree_of(
     }
     let mut left = Vec::new(alloc);
     let mut freed = Vec::new(alloc);
-    if let Some(Event {
-        before: Some(before),
-        ..
-    }) = event {
+    if let Some(
+        Event {
+            before: Some(before),
+            ..
+        },
+    ) = event
+    {
         if before.copied.id == family.id {
             left = left_since(&family.nodes, &before.copied.nodes)?;
             freed = given_back(&before.copied.held, &held)?;

@@ -69,7 +69,15 @@ pub fn draw_to_exit<R: Read, W: Write, F: Write>(
 ) -> ExitCode
     ensures { exit_status result ≤ 4 }
 {
-    match draw_script(alloc, seed, reader, writer, pages.count, Limits::full(), view) {
+    match draw_script(
+        alloc,
+        seed,
+        reader,
+        writer,
+        pages.count,
+        Limits::full(),
+        view,
+    ) {
         Ok(()) => ExitCode::SUCCESS,
         Err(fault) => told(alloc, faults, &fault),
     }

@@ -18,11 +18,7 @@ pub(crate) fn read_script<R: Read>(alloc: Global, reader: &mut R) -> Result<Vec<
 }
 
 // Reads on, block by block, from the first byte.
-fn read_on<R: Read>(
-    alloc: Global,
-    reader: &mut R,
-    block: &mut [u8],
-) -> Result<Vec<u8>, ReportFault>
+fn read_on<R: Read>(alloc: Global, reader: &mut R, block: &mut [u8]) -> Result<Vec<u8>, ReportFault>
     requires { 0 < length block.old }
 {
     let mut script = Vec::new(alloc);

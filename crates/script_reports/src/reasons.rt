@@ -79,7 +79,10 @@ pub(crate) fn push_reason(
     }
     let (first, rest) = cut(line);
     if has_empty_word(line) {
-        return push(text, "one space stands between words, and none before or behind them");
+        return push(
+            text,
+            "one space stands between words, and none before or behind them",
+        );
     }
     if is(first, "show") {
         return push_view_reason(text, rest);
@@ -136,20 +139,27 @@ fn has_empty_word(line: &[u8]) -> bool {
 fn push_word(text: &mut Vec<u8>, words: &str, word: &[u8]) -> Result<(), AllocError> {
     push(text, words)?;
     for byte in word {
-        let shown = if b' ' < *byte && *byte < 127 { *byte } else { b'?' };
+        let shown = if b' ' < *byte && *byte < 127 {
+            *byte
+        } else {
+            b'?'
+        };
         text.push(shown)?;
     }
     Ok(())
 }
 
 // Puts behind what is there that a label is bound already, or is not bound.
-fn push_label_reason(
-    text: &mut Vec<u8>,
-    label: &[u8],
-    is_bound: bool,
-) -> Result<(), AllocError> {
+fn push_label_reason(text: &mut Vec<u8>, label: &[u8], is_bound: bool) -> Result<(), AllocError> {
     push_word(text, "the label ", label)?;
-    push(text, if is_bound { " is bound already" } else { " is not bound" })
+    push(
+        text,
+        if is_bound {
+            " is bound already"
+        } else {
+            " is not bound"
+        },
+    )
 }
 
 // Puts behind what is there what is wrong with the words behind `show`.
@@ -214,7 +224,13 @@ fn push_part_reason(
         Part::AtLeast => push_range_reason(text, word, 0, 64, "at least is 0 to 64"),
         Part::Size => push_range_reason(text, word, 1, 1 << 30, "the size is 1 to 1073741824"),
         Part::Number => {
-            push_range_reason(text, word, 0, 4_294_967_295, "the number is 0 to 4294967295")
+            push_range_reason(
+                text,
+                word,
+                0,
+                4_294_967_295,
+                "the number is 0 to 4294967295",
+            )
         }
         Part::Strength => {
             if is(word, "strong") || is(word, "weak") {
@@ -260,11 +276,7 @@ fn push_range_reason(
 }
 
 // Puts behind what is there what is wrong with the name of a buffer, if something is.
-fn push_buffer_reason(
-    text: &mut Vec<u8>,
-    tables: &Tables,
-    word: &[u8],
-) -> Result<(), AllocError> {
+fn push_buffer_reason(text: &mut Vec<u8>, tables: &Tables, word: &[u8]) -> Result<(), AllocError> {
     let Some(buffer) = BufferLabel::new(word) else {
         return push_word(text, "no buffer: ", word);
     };

@@ -97,7 +97,13 @@ fn push_told(canvas: &mut Canvas, teller: &Teller, picture: &Picture) -> Result<
             fill: if told.fails { DEEP } else { INK },
             middle: false,
         };
-        push_words(&mut canvas.body, MARGIN, minus(canvas.y, 12), style, &told.line)?;
+        push_words(
+            &mut canvas.body,
+            MARGIN,
+            minus(canvas.y, 12),
+            style,
+            &told.line,
+        )?;
         canvas.y = plus(canvas.y, 18);
     }
     let fired = teller.session.core.fired();
@@ -105,9 +111,18 @@ fn push_told(canvas: &mut Canvas, teller: &Teller, picture: &Picture) -> Result<
         for firing in &fired[picture.fired..] {
             let mut line = Vec::new(*canvas.body.allocator());
             push(&mut line, "tracker ")?;
-            push_label(&mut line, teller.session.tables.tracker_label(firing.tracker))?;
+            push_label(
+                &mut line,
+                teller.session.tables.tracker_label(firing.tracker),
+            )?;
             push(&mut line, " fires")?;
-            push_words(&mut canvas.body, MARGIN, minus(canvas.y, 12), plain(13), &line)?;
+            push_words(
+                &mut canvas.body,
+                MARGIN,
+                minus(canvas.y, 12),
+                plain(13),
+                &line,
+            )?;
             canvas.y = plus(canvas.y, 18);
         }
     }
@@ -153,7 +168,13 @@ fn push_pool(canvas: &mut Canvas, teller: &Teller, pages: u32) -> Result<(), Sto
     push(&mut line, " of ")?;
     push_number(&mut line, pages as u64)?;
     push(&mut line, " pages free")?;
-    push_words(&mut canvas.body, plus(MARGIN + 60, end), plus(y, 14), plain(12), &line)?;
+    push_words(
+        &mut canvas.body,
+        plus(MARGIN + 60, end),
+        plus(y, 14),
+        plain(12),
+        &line,
+    )?;
     canvas.right = canvas.right.max(plus(MARGIN + 60 + 170, end));
     canvas.y = plus(y, 44);
     Ok(())
@@ -222,10 +243,22 @@ fn push_legend(canvas: &mut Canvas) -> Result<(), AllocError> {
                 dashes: dashes_of(class),
             },
         )?;
-        push_words(&mut canvas.body, plus(x, 26), plus(y, 12), plain(12), word.as_bytes())?;
+        push_words(
+            &mut canvas.body,
+            plus(x, 26),
+            plus(y, 12),
+            plain(12),
+            word.as_bytes(),
+        )?;
         x = plus(x, plus(46, times(8, word.len() as u64)));
     }
-    push_words(&mut canvas.body, x, plus(y, 12), plain(12), b"thick border: now")?;
+    push_words(
+        &mut canvas.body,
+        x,
+        plus(y, 12),
+        plain(12),
+        b"thick border: now",
+    )?;
     canvas.right = canvas.right.max(plus(x, 150));
     canvas.y = plus(y, 14 + MARGIN);
     Ok(())

@@ -1,12 +1,12 @@
 //! A tree of a vector graphic: links, boxes and buffers.
-use crate::elements::{
-    Rect, Style, plain, push_part, push_rect, push_step, push_word, push_words,
-};
+use crate::elements::{Rect, Style, plain, push_part, push_rect, push_step, push_word, push_words};
 use crate::features::{
     Class, EARTH, GREY, INK, RED, SAND, WHITE, class_of, edge_color, fill_color, ink_color,
     push_handles, push_pages,
 };
-use crate::layout::{Corner, GAP_X, GAP_Y, HEIGHT, Layout, lay_out, minus, parent_place, plus, times};
+use crate::layout::{
+    Corner, GAP_X, GAP_Y, HEIGHT, Layout, lay_out, minus, parent_place, plus, times,
+};
 use crate::lines::node_lines;
 use crate::picture::Tree;
 use crate::svg_picture::{Canvas, MARGIN};
@@ -48,7 +48,14 @@ pub(crate) fn push_tree(
     for at in 0..tree.nodes.len() {
         if at < layout.corners.len() {
             let corner = layout.corners[at];
-            push_box(&mut canvas.body, teller, tree, &tree.nodes[at], corner, canvas.width)?;
+            push_box(
+                &mut canvas.body,
+                teller,
+                tree,
+                &tree.nodes[at],
+                corner,
+                canvas.width,
+            )?;
         }
     }
     canvas.y = plus(layout.bottom, HEIGHT + 30);
@@ -105,7 +112,11 @@ fn push_link(
     push(body, "\" fill=\"none\"")?;
     push_word(body, "stroke", color)?;
     push_word(body, "stroke-width", width)?;
-    push_word(body, "stroke-dasharray", if node.attached { "7 5" } else { "" })?;
+    push_word(
+        body,
+        "stroke-dasharray",
+        if node.attached { "7 5" } else { "" },
+    )?;
     match way {
         Some(Way::Up(step) | Way::Down(step)) => {
             push(body, " marker-end=\"url(#a)\"/>\n")?;
@@ -194,7 +205,11 @@ fn push_box(
             rounded: 6,
             fill: fill_color(class),
             stroke: edge_color(class),
-            stroke_width: if tree.left.contains(&node.key) { "3.5" } else { "1.8" },
+            stroke_width: if tree.left.contains(&node.key) {
+                "3.5"
+            } else {
+                "1.8"
+            },
             dashes: dashes_of(class),
         },
     )?;
@@ -283,7 +298,14 @@ fn push_held(
         before = "; handles: ";
     }
     let core = &teller.session.core;
-    push_handles(&mut line, core, &teller.labels, clients, held.buffer, before)?;
+    push_handles(
+        &mut line,
+        core,
+        &teller.labels,
+        clients,
+        held.buffer,
+        before,
+    )?;
     push_buffer(canvas, teller, held, SAND, "")?;
     push_keepers(canvas, &line, line.len() as u64)
 }
@@ -314,7 +336,13 @@ fn push_buffer(
     teller.push_buffer_name(&mut line, held.buffer)?;
     push(&mut line, "  ")?;
     push_pages(&mut line, held.pages)?;
-    push_words(&mut canvas.body, MARGIN + 10, plus(canvas.y, 15), plain(12), &line)
+    push_words(
+        &mut canvas.body,
+        MARGIN + 10,
+        plus(canvas.y, 15),
+        plain(12),
+        &line,
+    )
 }
 
 // Puts who keeps a buffer beside it, where so many letters take room.

@@ -10,7 +10,7 @@ use crate::outcomes::{given_back, push_doomed, push_fires, push_free, push_waits
 use alloc_event::Snapshot;
 use event_marks::{Forced, Moment};
 use script_lines::{push, push_label, push_number};
-use sm_names::{BufferName, Buffers, Call, ClientId, HeldBuffer, Limits, NodeKey, NoMemory, Reply};
+use sm_names::{BufferName, Buffers, Call, ClientId, HeldBuffer, Limits, NoMemory, NodeKey, Reply};
 use sm_script::{Act, Binds, Session, Stop};
 use std::alloc::{AllocError, Global};
 use std::collections::HashMap;
@@ -183,7 +183,13 @@ impl Teller {
         let Some(copied) = self.session.core.collection(node.collection)? else {
             return Ok(());
         };
-        push_waits(facts, &self.session.tables, &self.labels, &copied.nodes, key)?;
+        push_waits(
+            facts,
+            &self.session.tables,
+            &self.labels,
+            &copied.nodes,
+            key,
+        )?;
         Ok(())
     }
 

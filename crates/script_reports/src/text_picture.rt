@@ -146,7 +146,14 @@ fn push_row(
             Class::Ended => "·",
         },
     )?;
-    push(text, if tree.left.contains(&node.key) { "! " } else { "  " })?;
+    push(
+        text,
+        if tree.left.contains(&node.key) {
+            "! "
+        } else {
+            "  "
+        },
+    )?;
     push_facts(text, teller, node)?;
     push(text, "\n")
 }

@@ -54,11 +54,7 @@ pub(crate) fn push_set(
 }
 
 // Puts a number and a word behind what is there, with an s at any number but 1.
-pub(crate) fn push_plural(
-    text: &mut Vec<u8>,
-    number: u64,
-    word: &str,
-) -> Result<(), AllocError> {
+pub(crate) fn push_plural(text: &mut Vec<u8>, number: u64, word: &str) -> Result<(), AllocError> {
     push_number(text, number)?;
     push(text, " ")?;
     push(text, word)?;

@@ -124,12 +124,7 @@ impl Session {
     ///
     /// `AllocError` where memory is refused: then some of this may be left out. Takes a time in
     /// proportion to the text, and a look into a table for each label.
-    pub fn note(
-        &mut self,
-        binds: Binds,
-        reply: Reply,
-        text: &mut Vec<u8>,
-    ) -> Result<(), AllocError>
+    pub fn note(&mut self, binds: Binds, reply: Reply, text: &mut Vec<u8>) -> Result<(), AllocError>
         ensures text { OnOk result ((names : Names) → Keeps self.old.tables names →
             text.new.items ≡ text.old.items ++ as_line (reply_text names binds reply)) }
         ensures names { OnOk result ((names : Names) → Keeps self.old.tables names →

@@ -244,11 +244,7 @@ fn push_closed(
 
 /// Puts a space and the node's label behind what is there; a part of it where memory is refused. Takes a
 /// time in proportion to the text, and a look into a table.
-pub fn push_node(
-    text: &mut Vec<u8>,
-    tables: &Tables,
-    node: NodeKey,
-) -> Result<(), AllocError>
+pub fn push_node(text: &mut Vec<u8>, tables: &Tables, node: NodeKey) -> Result<(), AllocError>
     ensures { OnOk result ((names : Names) → Keeps tables.now names →
         text.new.items ≡ text.old.items ++ node_text names node) }
 {
@@ -274,11 +270,7 @@ pub fn push_buffer(
 
 /// Puts a space, the held buffer, its first page and their number behind what is there; a part of it
 /// where memory is refused. Takes a time in proportion to the text, and a look into a table.
-pub fn push_held(
-    text: &mut Vec<u8>,
-    tables: &Tables,
-    held: HeldBuffer,
-) -> Result<(), AllocError>
+pub fn push_held(text: &mut Vec<u8>, tables: &Tables, held: HeldBuffer) -> Result<(), AllocError>
     ensures { OnOk result ((names : Names) → Keeps tables.now names →
         text.new.items ≡ text.old.items ++ held_text names held) }
 {
@@ -291,11 +283,7 @@ pub fn push_held(
 
 /// Puts a space, the tracker's label and the event of its firing behind what is there; a part of it where
 /// memory is refused. Takes a time in proportion to the text, and a look into a table.
-pub fn push_firing(
-    text: &mut Vec<u8>,
-    tables: &Tables,
-    firing: Fired,
-) -> Result<(), AllocError>
+pub fn push_firing(text: &mut Vec<u8>, tables: &Tables, firing: Fired) -> Result<(), AllocError>
     ensures { OnOk result ((names : Names) → Keeps tables.now names →
         text.new.items ≡ text.old.items ++ fired_text names firing) }
 {
