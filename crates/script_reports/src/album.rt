@@ -129,14 +129,28 @@ impl Album {
     fn put(&mut self, alloc: Global, id: CollectionId, node: &Node) -> Result<(), AllocError> {
         match self.families.binary_search_by_key(&id, |family| family.id) {
             Ok(at) => add_node(&mut self.families[at].nodes, node),
-            Err(_) => {
-                let mut nodes = Vec::new(alloc);
-                nodes.push(*node)?;
-                self.families.push(Family { id, nodes })?;
-                Ok(())
-            }
+            Err(_) => add_family(&mut self.families, alloc, id, node),
         }
     }
+}
+
+// Puts a family with this one node behind all.
+fn add_family(
+    families: &mut Vec<Family>,
+    alloc: Global,
+    id: CollectionId,
+    node: &Node,
+) -> Result<(), AllocError> {
+    let family = family_of(alloc, id, node)?;
+    families.push(family)?;
+    Ok(())
+}
+
+// A family with this one node.
+fn family_of(alloc: Global, id: CollectionId, node: &Node) -> Result<Family, AllocError> {
+    let mut nodes = Vec::new(alloc);
+    add_node(&mut nodes, node)?;
+    Ok(Family { id, nodes })
 }
 
 // Puts the node in the place of the one with its key, or behind all.

@@ -3,7 +3,7 @@ ghost use Rattle.std.specs.Prelude.{◌≤◌};
 
 use crate::explain::{behind_indent, is_indented, push_indented};
 use crate::fault::{ReportFault, bad_line, fault_of, unended};
-use crate::reading::read_script;
+use crate::reading::{behind, read_script};
 use crate::teller::Teller;
 use crate::writing::put_out;
 use script_lines::{line_end, push, push_number};
@@ -84,7 +84,7 @@ fn compare(
     'lines: while let Some(at) = line_end(rest) {
         number = number.saturating_add(1);
         let line = &rest[..at];
-        rest = &rest[at + 1..];
+        rest = behind(rest, at);
         match behind_indent(line) {
             None => comparison.play(alloc, number, line)?,
             Some(recorded) => {

@@ -7,7 +7,7 @@ use crate::event::Event;
 use crate::explain::is_indented;
 use crate::fault::{ReportFault, fault_of, unended};
 use crate::picture::picture_of;
-use crate::reading::read_script;
+use crate::reading::{behind, read_script};
 use crate::svg_picture::push_svg;
 use crate::teller::Teller;
 use crate::text_picture::push_text;
@@ -127,7 +127,7 @@ fn play(
         number = number.saturating_add(1);
         let line = &rest[..at];
         match scroll.take_line(alloc, line) {
-            Ok(()) => rest = &rest[at + 1..],
+            Ok(()) => rest = behind(rest, at),
             Err(stop) => {
                 let tables = &scroll.teller.session.tables;
                 return Err(fault_of(alloc, stop, tables, number, line));

@@ -2,7 +2,7 @@
 ghost use Rattle.std.specs.Prelude.{◌≤◌};
 
 use crate::fault::{ReportFault, fault_of, unended};
-use crate::reading::read_script;
+use crate::reading::{behind, read_script};
 use crate::teller::Teller;
 use crate::writing::put_out;
 use script_lines::{line_end, push};
@@ -66,7 +66,7 @@ fn explain_lines<W: Write>(
     'lines: while let Some(at) = line_end(rest) {
         number = number.saturating_add(1);
         let line = &rest[..at];
-        rest = &rest[at + 1..];
+        rest = behind(rest, at);
         let mark = text.len();
         match explain_line(alloc, teller, number, line, &mut reply, &mut facts, text) {
             Ok(()) => {}

@@ -38,3 +38,11 @@ fn read_on<R: Read>(alloc: Global, reader: &mut R, block: &mut [u8]) -> Result<V
         }
     }
 }
+
+// The bytes behind the one at this place.
+pub(crate) fn behind(bytes: &[u8], at: usize) -> &[u8]
+    requires { at < length bytes.now }
+    ensures { length result.now < length bytes.now }
+{
+    &bytes[at + 1..]
+}
