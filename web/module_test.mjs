@@ -1,0 +1,42 @@
+// The module alone, without a browser: what it imports, and that it answers as the program does.
+//   node module_test.mjs MODULE.wasm EXAMPLES [PROGRAM SCRIPTS]
+// PROGRAM is a `sysmem` that was built; each file of the folder SCRIPTS is run by both.
+import { readFileSync, readdirSync } from 'node:fs';
+import { spawnSync } from 'node:child_process';
+import { join } from 'node:path';
+import assert from 'node:assert/strict';
+
+const [file, examples, program, scripts] = process.argv.slice(2);
+const module = new WebAssembly.Module(readFileSync(file));
+assert.deepEqual(WebAssembly.Module.imports(module), []);
+
+function ask(name, pages, script, ...more) {
+  const core = new WebAssembly.Instance(module, {}).exports, room = 1 << 24;
+  const [from, out, words] = [script.length + 1, room, 16].map((n) => core.page_alloc(BigInt(n)) >>> 0);
+  new Uint8Array(core.memory.buffer, from, script.length).set(script);
+  const status = core[name](pages, from, BigInt(script.length), ...more, out, BigInt(room), words);
+  const told = new DataView(core.memory.buffer, words, 16);
+  const bytes = Number(told.getBigUint64(0, true));
+  return { status, line: Number(told.getBigUint64(8, true)), text: Buffer.from(core.memory.buffer, out, bytes).toString() };
+}
+
+let count = 0;
+for (const name of readdirSync(examples).filter((f) => f.endsWith('.script'))) {
+  const script = readFileSync(join(examples, name));
+  const told = ask('sysmem_explain', 16, script);
+  assert.deepEqual([told.status, told.text], [0, readFileSync(join(examples, name.replace('.script', '.explained')), 'utf8')], name);
+  assert.equal(ask('sysmem_draw', 16, script, 1, 0).status, 0);
+  assert.equal(ask('sysmem_draw', 16, script, 100000, 0).status, 2);
+  assert.match(ask('sysmem_draw', 16, script, 1, 2).text, /^<svg /);
+  count += 1;
+}
+assert.equal(ask('sysmem_explain', 0, Buffer.from('')).status, 2);
+assert.deepEqual(ask('sysmem_explain', 16, Buffer.from('a join\nhum\n')), { status: 3, line: 2, text: 'a join\n  joined\n' });
+for (const name of program ? readdirSync(scripts) : []) {
+  const script = readFileSync(join(scripts, name));
+  const native = spawnSync(program, ['explain'], { input: script });
+  const told = ask('sysmem_explain', 16, script);
+  assert.deepEqual([told.status, told.text], [native.status, native.stdout.toString()], name);
+  count += 1;
+}
+console.log(`module: ${count} scripts, no import`);

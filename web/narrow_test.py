@@ -1,0 +1,29 @@
+"""narrow.py refuses a pointer in memory that it does not know, and passes those that it does."""
+import subprocess
+import sys
+from pathlib import Path
+
+narrow = Path(__file__).with_name('narrow.py')
+REFUSED = {
+    'a pointer in a global': '@x = internal global ptr null\n',
+    'a vector of pointers': '  %a = load <2 x ptr>, ptr %p, align 16\n',
+    'an array of pointers': '  %a = alloca [4 x ptr], align 8\n',
+    'a struct of three': '  %a = load { i64, ptr, i64 }, ptr %p, align 8\n',
+    'an exchange': '  %a = atomicrmw xchg ptr %p, ptr %q seq_cst, align 8\n',
+}
+PASSED = {
+    'a load': '  %a = load ptr, ptr %p, align 8\n',
+    'a store': '  store ptr %a, ptr %p, align 8\n',
+    'a stack slot': '  %a = alloca ptr, align 8\n',
+    'a pair': '  %a = load { ptr, i64 }, ptr %p, align 8\n',
+    'a compare-and-swap': '  %a = cmpxchg ptr %p, ptr %q, ptr %r seq_cst seq_cst, align 8\n',
+    'a number': '  %a = load i64, ptr %p, align 8\n',
+}
+room = Path(sys.argv[1])
+for wanted, cases in ((False, REFUSED), (True, PASSED)):
+    for name, line in cases.items():
+        file = room / 'case.ll'
+        file.write_text(line)
+        ran = subprocess.run([sys.executable, narrow, file], capture_output=True, text=True)
+        assert (ran.returncode == 0) == wanted, f'{name}: {ran.stdout}{ran.stderr}'
+print('narrow.py: 11 cases')

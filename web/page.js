@@ -1,0 +1,273 @@
+// The page: it asks the proved core, and shows what it answers.
+'use strict';
+const $ = (id) => document.getElementById(id);
+const FORMAT = { text: 0, svg: 2 };
+const MOST_NODES = 200;
+const MOST_LINK = 8192;
+// `compiled` is the module; `script` the text of the last run; `steps` its lines, as far as they were played.
+let compiled, script = '', steps = [], at = 0, pages = 16;
+
+// ---- the core
+
+async function load() {
+  const packed = $('module').textContent.trim();
+  if (packed) {
+    return WebAssembly.compile(Uint8Array.from(atob(packed), (c) => c.charCodeAt(0)));
+  }
+  return WebAssembly.compileStreaming(fetch('sysmem.wasm'));
+}
+
+// Makes one call in a new instance, so that nothing is left of the call before. Asks again where the text
+// needs more room than there was.
+function ask(name, text, ...more) {
+  for (let room = 1 << 18; ;) {
+    const core = new WebAssembly.Instance(compiled, {}).exports;
+    const bytes = new TextEncoder().encode(text);
+    const [from, out, words] = [bytes.length + 1, room, 16].map((n) => core.page_alloc(BigInt(n)) >>> 0);
+    if (!from || !out || !words) return { status: 4, line: 0, text: '' };
+    new Uint8Array(core.memory.buffer, from, bytes.length).set(bytes);
+    const status = core[name](pages, from, BigInt(bytes.length), ...more, out, BigInt(room), words);
+    const told = new DataView(core.memory.buffer, words, 16);
+    const length = Number(told.getBigUint64(0, true));
+    if (length <= room) {
+      const line = Number(told.getBigUint64(8, true));
+      return { status, line, text: new TextDecoder().decode(new Uint8Array(core.memory.buffer, out, length)) };
+    }
+    room = length;
+  }
+}
+
+const explain = (text) => ask('sysmem_explain', text);
+// The picture behind the event; behind event 0 nothing was made yet.
+const draw = (text, event, format) => ask('sysmem_draw', event === 0 ? '' : text, event, FORMAT[format]);
+
+// ---- lines, replies and facts
+
+const isRemark = (line) => line === '' || line.startsWith('#');
+const isView = (line) => line.startsWith('show ') || line.split(' ')[1] === 'poll';
+
+// The program's words for a run that stopped.
+function stopped(status, line) {
+  if (status === 3) return `bad line ${line}`;
+  if (status === 4) return 'the history is full, or memory was refused';
+  return 'the script is longer than 16777216 bytes';
+}
+
+// The lines of the script, each with its reply, its facts and its event, and the line at which the run stopped.
+function play(text) {
+  const { status, line, text: told } = explain(text);
+  const answers = told.split('\n');
+  answers.pop();
+  const lines = (text.endsWith('\n') ? text.slice(0, -1) : text).split('\n'), done = [];
+  let next = 0, event = 0;
+  for (const own of lines) {
+    if (own.startsWith('  ')) {
+      done.push({ text: own, passed: true, event });
+      continue;
+    }
+    if (next === answers.length) {
+      if (status !== 0) done.push({ text: own, bad: stopped(status, line), event });
+      return done;
+    }
+    next += 1;
+    const step = { text: own, facts: [], isEvent: false };
+    while (next < answers.length && answers[next].startsWith('  ')) {
+      const answer = answers[next++];
+      if (answer.startsWith('    ')) step.facts.push(answer.slice(4)); else step.reply = answer.slice(2);
+    }
+    if (step.reply !== undefined && !isView(own)) {
+      step.isEvent = true;
+      event += 1;
+    }
+    done.push({ ...step, event });
+  }
+  return done;
+}
+
+// ---- the picture
+
+// The facts of a text picture: its nodes, buffers, pool and firings.
+function seen(text) {
+  const found = { nodes: [], held: [], pool: '', fired: [] };
+  for (const row of text.split('\n').slice(1)) {
+    const buffer = /^(\S+\.\d+) +[✕·]?!? *(pages? [^;]*?)(?:; kept by (.*))?$/.exec(row);
+    const node = /^[│├└─╌ ]*([a-z][a-z0-9]*(?: \([a-z0-9]+\))?) +([✕·])?(!)? *(.*)$/.exec(row);
+    if (row.startsWith('pool ')) found.pool = row.slice(5);
+    else if (row.startsWith('fired ')) found.fired = pairs(row.slice(6).split(' '));
+    else if (buffer) found.held.push(buffer.slice(1));
+    else if (node) found.nodes.push({ name: node[1], mark: node[2] ?? '', now: node[3] === '!', facts: node[4], row });
+  }
+  return found;
+}
+
+const pairs = (words) => words.filter((_, i) => i % 2 === 0).map((w, i) => [w, words[2 * i + 1]]);
+
+function tell(node) {
+  const state = node.facts.split('; ').slice(0, 2).join(', ');
+  return `${node.name}: ${state}`;
+}
+
+// Draws the trees behind the event. Of more than MOST_NODES nodes only those are listed that the event changed.
+function picture(event) {
+  const rows = draw(script, event, 'text');
+  const all = seen(rows.text);
+  $('rows').textContent = rows.text;
+  const name = all.nodes.length ? `Trees behind event ${event}. ${all.nodes.map(tell).join('; ')}` : 'No nodes yet';
+  if (all.nodes.length > MOST_NODES) {
+    const changed = all.nodes.filter((n) => n.now);
+    const list = document.createElement('pre');
+    list.textContent = [...changed.map((n) => n.row), `${all.nodes.length - changed.length} more nodes, which this event did not change`].join('\n');
+    list.tabIndex = 0;
+    list.setAttribute('aria-label', `Nodes that event ${event} changed`);
+    $('tree').replaceChildren(list);
+    return all;
+  }
+  const parsed = new DOMParser().parseFromString(draw(script, event, 'svg').text, 'image/svg+xml').documentElement;
+  if (parsed.nodeName !== 'svg') {
+    $('tree').textContent = 'The picture could not be drawn.';
+    return all;
+  }
+  const svg = document.importNode(parsed, true);
+  svg.setAttribute('role', 'img');
+  svg.setAttribute('aria-label', name);
+  svg.classList.toggle('fit', Number(svg.getAttribute('width')) <= 1.5 * $('tree').clientWidth);
+  $('tree').replaceChildren(svg);
+  return all;
+}
+
+// ---- the page
+
+function row(body, cells) {
+  const r = body.insertRow();
+  cells.forEach((c) => { r.insertCell().textContent = c; });
+}
+
+function tables(all) {
+  $('pool').textContent = all.pool ? `Pool: ${all.pool}` : '';
+  $('held').replaceChildren();
+  $('fired').replaceChildren();
+  all.held.forEach(([buffer, where, who]) => row($('held'), [buffer, where, who ?? 'nobody']));
+  all.fired.forEach(([tracker, event]) => row($('fired'), [tracker, `at event ${event}`]));
+}
+
+function sentences(k) {
+  const step = steps[k];
+  if (step.bad) return [`Line ${k + 1}: ${step.text}`, `The run stops here: ${step.bad}.`];
+  const words = [`${step.isEvent ? `Event ${step.event}` : `Line ${k + 1}`}: ${step.text || '(empty)'}`];
+  if (step.passed) words.push('Passed over: the line begins with two spaces.');
+  if (step.reply !== undefined) words.push(`Reply: ${step.reply}`);
+  return [...words, ...(step.facts ?? [])];
+}
+
+function show(k) {
+  if (!steps.length) return;
+  const lines = $('lines').children;
+  lines[at]?.removeAttribute('aria-current');
+  at = Math.max(0, Math.min(k, steps.length - 1));
+  const step = steps[at];
+  $('slide').value = at;
+  $('at').textContent = at + 1;
+  $('slide').setAttribute('aria-valuetext', `line ${at + 1}: ${step.text}`);
+  lines[at].setAttribute('aria-current', 'step');
+  $('lines').scrollTop = lines[at].offsetTop - $('lines').offsetTop - 160;
+  $('said').replaceChildren(...sentences(at).map((w) => Object.assign(document.createElement('p'), { textContent: w })));
+  tables(picture(step.event));
+  link();
+}
+
+// Puts the example and the line into the address, or the script itself where it is no example and short.
+function link() {
+  const name = $('pick').value, text = $('script').value;
+  let hash = '';
+  if (examples[name] === text) hash = `example=${name}&line=${at + 1}`;
+  else if (text.length <= MOST_LINK) hash = `script=${encode(text)}&line=${at + 1}`;
+  if (pages !== 16 && hash) hash += `&pages=${pages}`;
+  try {
+    history.replaceState(null, '', hash ? `#${hash}` : location.pathname);
+  } catch {
+    // A page from disk may keep its address.
+  }
+}
+
+const encode = (text) => btoa(String.fromCharCode(...new TextEncoder().encode(text))).replace(/\+/g, '-').replace(/\//g, '_').replace(/=+$/, '');
+function decode(word) {
+  try {
+    return new TextDecoder().decode(Uint8Array.from(atob(word.replace(/-/g, '+').replace(/_/g, '/')), (c) => c.charCodeAt(0)));
+  } catch {
+    return '';
+  }
+}
+
+function listed(step, i) {
+  const li = document.createElement('li'), say = document.createElement('span');
+  li.append(Object.assign(document.createElement('span'), { textContent: i + 1 }), say);
+  say.append(step.text);
+  const answer = step.reply ?? step.bad;
+  if (answer !== undefined) say.append(Object.assign(document.createElement('b'), { textContent: answer }));
+  li.className = step.bad ? 'bad' : step.passed || isRemark(step.text) ? 'remark' : '';
+  return li;
+}
+
+// Plays the script, and shows the line, or the last one. Tells what went wrong in one line.
+function run(line) {
+  const begun = performance.now();
+  pages = Math.min(1048576, Math.max(1, Math.trunc(Number($('pages').value)) || 16));
+  $('pages').value = pages;
+  script = $('script').value;
+  if (!script.endsWith('\n')) script += '\n';
+  try {
+    steps = play(script);
+    $('lines').replaceChildren(...steps.map(listed));
+    $('slide').max = Math.max(0, steps.length - 1);
+    at = 0;
+    show(line ?? steps.length - 1);
+    $('time').textContent = `${steps.length} lines in ${(performance.now() - begun).toFixed(0)} ms`;
+  } catch (error) {
+    $('said').textContent = `The core stopped: ${error.message}. The next run begins anew.`;
+  }
+}
+
+let examples = {};
+
+function begin_controls() {
+  const pick = () => { $('script').value = examples[$('pick').value] ?? ''; };
+  $('pick').addEventListener('change', () => { pick(); run(); });
+  $('run').addEventListener('click', () => run());
+  $('script').addEventListener('keydown', (e) => { if (e.key === 'Enter' && (e.ctrlKey || e.metaKey)) { e.preventDefault(); run(); } });
+  $('slide').addEventListener('input', () => show(Number($('slide').value)));
+  $('back').addEventListener('click', () => show(at - 1));
+  $('on').addEventListener('click', () => show(at + 1));
+  $('lines').addEventListener('click', (e) => {
+    const li = e.target.closest('li');
+    if (li) show([...$('lines').children].indexOf(li));
+  });
+  $('lines').addEventListener('keydown', (e) => {
+    const to = { ArrowUp: at - 1, ArrowDown: at + 1, Home: 0, End: steps.length - 1 }[e.key];
+    if (to !== undefined) { e.preventDefault(); show(to); }
+  });
+  return pick;
+}
+
+async function begin() {
+  if (typeof WebAssembly !== 'object' || typeof BigInt !== 'function') {
+    $('said').textContent = 'This browser has no WebAssembly. `sysmem explain` and `sysmem draw` tell the same.';
+    return;
+  }
+  try {
+    compiled = await load();
+  } catch (error) {
+    $('said').textContent = `This browser can't run the core: ${error.message}. \`sysmem explain\` and \`sysmem draw\` tell the same.`;
+    return;
+  }
+  examples = JSON.parse($('examples').textContent);
+  const wanted = new URLSearchParams(location.hash.slice(1));
+  Object.keys(examples).forEach((name) => $('pick').append(new Option(name, name)));
+  const pick = begin_controls();
+  if (examples[wanted.get('example')] !== undefined) $('pick').value = wanted.get('example');
+  pick();
+  if (wanted.has('script')) $('script').value = decode(wanted.get('script'));
+  if (wanted.has('pages')) $('pages').value = wanted.get('pages');
+  run(wanted.has('line') ? Number(wanted.get('line')) - 1 : undefined);
+  document.documentElement.dataset.ready = 'yes';
+}
+begin();

@@ -1,0 +1,205 @@
+// Tries the page in Chromium, by the DevTools protocol over pipes: no package is needed.
+//   node test.mjs PAGE.html SMALL.html EXAMPLES [SCREENSHOTS]
+// SMALL.html is the page over a module that may take four MiB alone.
+import { spawn } from 'node:child_process';
+import { mkdtempSync, readFileSync, readdirSync, rmSync, writeFileSync } from 'node:fs';
+import { tmpdir } from 'node:os';
+import { join, resolve } from 'node:path';
+import assert from 'node:assert/strict';
+
+const [page, small, examples, pictures] = process.argv.slice(2);
+const profile = mkdtempSync(join(tmpdir(), 'sysmem-page-'));
+const browser = spawn(process.env.CHROMIUM ?? 'chromium', ['--headless', '--no-sandbox', '--disable-gpu', '--hide-scrollbars',
+  '--remote-debugging-pipe', `--user-data-dir=${profile}`, '--window-size=1240,900', 'about:blank'],
+{ stdio: ['ignore', 'ignore', 'ignore', 'pipe', 'pipe'] });
+const [, , , to, from] = browser.stdio;
+const waiting = new Map(), faults = [], requests = [];
+let last = 0, text = '';
+from.setEncoding('utf8');
+from.on('data', (part) => {
+  const all = (text + part).split('\0');
+  text = all.pop();
+  for (const one of all.map((m) => JSON.parse(m))) {
+    if (one.method === 'Runtime.exceptionThrown') faults.push(one.params.exceptionDetails);
+    if (one.method === 'Network.requestWillBeSent') requests.push(one.params.request.url);
+    if (one.method === 'Log.entryAdded' && one.params.entry.level === 'error') faults.push(one.params.entry.text);
+    const [yes, no] = waiting.get(one.id) ?? [];
+    waiting.delete(one.id);
+    if (one.error) no?.(new Error(JSON.stringify(one.error))); else yes?.(one.result);
+  }
+});
+const call = (method, params = {}, sessionId) => new Promise((yes, no) => {
+  waiting.set(++last, [yes, no]);
+  to.write(`${JSON.stringify({ id: last, method, params, sessionId })}\0`);
+});
+
+// One tab, and what is asked of it.
+async function tab() {
+  const { targetId } = await call('Target.createTarget', { url: 'about:blank' });
+  const { sessionId } = await call('Target.attachToTarget', { targetId, flatten: true });
+  const say = (method, params) => call(method, params, sessionId);
+  const value = async (expression) => {
+    const { result, exceptionDetails } = await say('Runtime.evaluate', { expression, returnByValue: true, awaitPromise: true });
+    assert.equal(exceptionDetails, undefined, JSON.stringify(exceptionDetails));
+    return result.value;
+  };
+  const open = async (file, hash = '') => {
+    await say('Page.navigate', { url: 'about:blank' });
+    await say('Page.navigate', { url: `file://${resolve(file)}${hash}` });
+    for (let i = 0; i < 400; i++) {
+      if (await value("document.documentElement?.dataset.ready === 'yes'")) return;
+      await new Promise((go) => setTimeout(go, 25));
+    }
+    throw new Error(`never ready: ${file}${hash}`);
+  };
+  const key = async (name, code, modifiers = 0) => {
+    for (const type of ['rawKeyDown', 'keyUp']) await say('Input.dispatchKeyEvent', { type, key: name, code: name, windowsVirtualKeyCode: code, modifiers });
+  };
+  for (const domain of ['Runtime', 'Page', 'Network', 'Log']) await say(`${domain}.enable`);
+  return { say, value, open, key };
+}
+
+const picked = (name) => `$('pick').value = '${name}'; $('pick').dispatchEvent(new Event('change'));`;
+
+// Each example's text is that of `sysmem explain`, as far as there is one, and its replies those of `run`; each line can be shown.
+async function example_texts({ value }) {
+  for (const file of readdirSync(examples).filter((f) => f.endsWith('.script'))) {
+    const name = file.replace('.script', '');
+    const got = await value(`(() => { ${picked(name)} for (let i = 0; i < steps.length; i++) show(i);
+      return [steps.filter((s) => s.reply !== undefined).map((s) => s.reply + '\\n').join(''),
+        steps.map((s) => [s.text, ...(s.reply === undefined ? [] : ['  ' + s.reply]), ...s.facts.map((f) => '    ' + f)].join('\\n') + '\\n').join('')]; })()`);
+    assert.equal(got[0], readFileSync(join(examples, `${name}.out`), 'utf8'), name);
+    assert.equal(got[1], readFileSync(join(examples, `${name}.explained`), 'utf8'), name);
+  }
+}
+
+// What the page says of the failure of the camera's display.
+async function display_failure({ value }) {
+  await value(`${picked('camera')} show(35)`);
+  assert.deepEqual((await value("[...$('said').children].map((p) => p.textContent)")).slice(0, 3),
+    ['Event 28: dis close display', 'Reply: done', 'fordis fails, lost: its end was closed without a release']);
+  assert.match(await value("$('tree').firstChild.getAttribute('aria-label')"), /root: released, lost, origin fordis; .*fordis \(display\): lost/);
+  assert.equal(await value("$('pool').textContent"), 'Pool: ████████░░░░░░░░ 8 of 16 free');
+  assert.deepEqual(await value("[...$('held').rows].map((r) => [...r.cells].map((c) => c.textContent).join('|'))[0]"), 'root.0|pages 0 to 1|cam strong 1, dis strong 1');
+  assert.deepEqual(await value("[...$('fired').rows].map((r) => r.textContent)"), ['goneat event 28']);
+}
+
+// Keys alone are enough, and a run keeps the focus.
+async function keyboard({ value, key }) {
+  await value(`${picked('camera')} show(35); $('slide').focus()`);
+  await key('ArrowRight', 39);
+  assert.equal(await value("$('at').textContent"), '37');
+  await value("$('lines').focus()");
+  await key('ArrowUp', 38);
+  await key('ArrowUp', 38);
+  assert.equal(await value("$('at').textContent"), '35');
+  await key('Home', 36);
+  assert.equal(await value("$('at').textContent"), '1');
+  await value("$('script').focus()");
+  await key('Enter', 13, 2);
+  assert.equal(await value('document.activeElement.id'), 'script');
+  await value("$('run').focus(); $('run').click()");
+  assert.equal(await value('document.activeElement.id'), 'run');
+}
+
+// What went wrong is named, and what was before it stands.
+async function faults_told({ value, open }) {
+  const ran = (script) => value(`(() => { $('script').value = ${JSON.stringify(script)}; $('run').click();
+    return [steps.length, steps.at(-1).bad ?? '', $('said').textContent]; })()`);
+  assert.deepEqual((await ran('a join\na open r\nhum\na bind r\n')).slice(0, 2), [3, 'bad line 3']);
+  assert.equal(await value("document.querySelector('#lines li.bad').innerText.split('\\n')[1]"), 'hum');
+  assert.match((await ran('# <script>alert(1)</script>\na <script>alert(1)</script>\n'))[2], /<script>alert\(1\)<\/script>/);
+  assert.equal(await value("document.querySelectorAll('#lines script, #said script, #tree script').length"), 0);
+  const long = await value(`(() => { $('script').value = '#' + 'x'.repeat(200) + '\\n'; $('script').value = $('script').value.repeat(83061) + '#' + 'y'.repeat(60000) + '\\n';
+    $('run').click(); return [script.length > 16777216, steps.at(-1)?.bad ?? $('said').textContent]; })()`);
+  assert.equal(long[0], true);
+  assert.match(long[1], /longer than 16777216 bytes/);
+  const hash = Buffer.from('a join\na open <script>\n').toString('base64url');
+  await open(page, `#script=${hash}&line=2`);
+  assert.match(await value("$('said').textContent"), /<script>.*bad line 2/);
+  await open(small);
+  assert.match(await value(`(() => { $('script').value = 'a join\\n' + Array.from({ length: 250 }, (_, i) => 'a open r' + i + '\\n').join('') .repeat(1) + '#' + ' '.repeat(200) + '\\n';
+    $('script').value += ('#' + 'z'.repeat(250) + '\\n').repeat(20000); $('run').click(); return steps.at(-1)?.bad ?? $('said').textContent; })()`), /memory was refused/);
+  await open(page);
+}
+
+// Links hold the example and the line, or the script.
+async function links({ value, open }) {
+  await open(page, '#example=weak&line=24');
+  assert.deepEqual(await value("[$('pick').value, $('at').textContent]"), ['weak', '24']);
+  await value("$('script').value = 'a join\\n'; $('run').click()");
+  assert.match(await value('location.hash'), /^#script=YSBqb2luCg&line=1$/);
+  await open(page);
+}
+
+// A tree of 1,024 nodes that falls at once, wide and deep; and many lines.
+async function sizes({ value }) {
+  const wide = ['a join', 'a open r0', ...Array.from({ length: 1023 }, (_, i) => `a dup r0 r${i + 1}`), 'a close r0'];
+  const deep = ['a join', 'a open r0', ...Array.from({ length: 1023 }, (_, i) => `a dup r${i} r${i + 1}`), 'a close r1023'];
+  for (const [name, lines] of [['wide', wide], ['deep', deep]]) {
+    const begun = performance.now();
+    const [count, told] = await value(`(() => { $('script').value = ${JSON.stringify(`${lines.join('\n')}\n`)}; $('run').click(); return [steps.length, $('tree').textContent]; })()`);
+    assert.equal(count, 1026);
+    assert.match(told, /0 more nodes/);
+    console.log(`1,024 nodes, ${name}: ${Math.round(performance.now() - begun)} ms`);
+  }
+  const many = ['a join', 'a open r', ...Array.from({ length: 100 }, (_, i) => `a dup r n${i}`), ...Array.from({ length: 4900 }, (_, i) => `a sync n${i % 100}`)];
+  const [run, step] = await value(`(() => { $('script').value = ${JSON.stringify(`${many.join('\n')}\n`)};
+    const t = performance.now(); $('run').click(); const u = performance.now(); show(2500); return [u - t, performance.now() - u]; })()`);
+  console.log(`5,002 lines: Run ${Math.round(run)} ms, a step ${Math.round(step)} ms`);
+}
+
+// Each control and the picture have a name, and texts stand out from what is behind them.
+async function names_and_contrasts({ say, value }) {
+  await value(`${picked('camera')} show(35)`);
+  const { nodes } = await say('Accessibility.getFullAXTree');
+  const roles = new Set(['button', 'slider', 'textbox', 'combobox', 'spinbutton', 'image', 'list', 'table']);
+  for (const n of nodes.filter((m) => roles.has(m.role?.value) && !m.ignored)) assert.ok(n.name?.value, `${n.role.value} has no name`);
+  const contrast = `(() => {
+    const light = (c) => { const v = c.match(/\\d+/g).slice(0, 3).map((x) => { const s = x / 255; return s <= 0.03928 ? s / 12.92 : ((s + 0.055) / 1.055) ** 2.4; }); return 0.2126 * v[0] + 0.7152 * v[1] + 0.0722 * v[2]; };
+    const behind = (e) => { for (; e; e = e.parentElement) { const c = getComputedStyle(e).backgroundColor; if (!/rgba\\(.*, 0\\)/.test(c) && c !== 'transparent') return c; } return 'rgb(255, 255, 255)'; };
+    let worst = 99;
+    for (const e of document.querySelectorAll('h1, h2, p, label, button, li, li span, td, th, caption, summary')) {
+      const [a, b] = [light(getComputedStyle(e).color), light(behind(e))].sort((x, y) => y - x);
+      worst = Math.min(worst, (a + 0.05) / (b + 0.05));
+    }
+    return worst; })()`;
+  for (const scheme of ['light', 'dark']) {
+    await say('Emulation.setEmulatedMedia', { features: [{ name: 'prefers-color-scheme', value: scheme }] });
+    const worst = await value(contrast);
+    assert.ok(worst >= 4.5, `${scheme}: contrast ${worst}`);
+  }
+  await say('Emulation.setEmulatedMedia', { features: [] });
+  await say('Emulation.setDeviceMetricsOverride', { width: 320, height: 700, deviceScaleFactor: 1, mobile: false });
+  assert.ok(await value('document.documentElement.scrollWidth <= 320'), 'the page scrolls sideways at 320 pixels');
+  await say('Emulation.clearDeviceMetricsOverride');
+}
+
+async function screenshots({ say, value }) {
+  for (const [name, line, width] of [['camera', 36, 1240], ['weak', 24, 1240], ['camera', 36, 420]]) {
+    await say('Emulation.setDeviceMetricsOverride', { width, height: 900, deviceScaleFactor: 1, mobile: false });
+    await value(`${picked(name)} show(${line - 1})`);
+    const { data } = await say('Page.captureScreenshot', { captureBeyondViewport: width < 600 });
+    writeFileSync(join(pictures, `${name}_${line}_${width}.png`), Buffer.from(data, 'base64'));
+  }
+}
+
+const begun = performance.now();
+try {
+  const one = await tab();
+  await one.open(page);
+  console.log(`ready after ${Math.round(performance.now() - begun)} ms`);
+  for (const test of [example_texts, display_failure, keyboard, links, sizes, names_and_contrasts, faults_told]) {
+    await test(one);
+    console.log(`${test.name}: passed`);
+  }
+  if (pictures) await screenshots(one);
+  assert.deepEqual(faults, []);
+  assert.deepEqual(requests.filter((url) => !url.startsWith('file:') && url !== 'about:blank'), []);
+  console.log(`page: all passed in ${Math.round(performance.now() - begun)} ms`);
+} finally {
+  call('Browser.close').catch(() => {});
+  await new Promise((go) => { browser.on('exit', go); setTimeout(go, 3000); });
+  browser.kill();
+  rmSync(profile, { recursive: true, force: true, maxRetries: 5 });
+}
