@@ -20,7 +20,7 @@ pub enum Flag {
 }
 
 // Makes that call.
-fn flag<E: Setup, S: Ledger, W: Ledger, R: Wait + Abort>(
+fn set_flag<E: Setup, S: Ledger, W: Ledger, R: Wait + Abort>(
     rt: &R,
     service: &Service<E, S, W>,
     client: &mut Client<E, S, W>,
@@ -74,10 +74,10 @@ pub fn flag_again<E: Setup, S: Ledger, W: Ledger, R: Wait + Abort>(
     requires { token.now.client ≡ client.old.id }
     ensures { client.new.id ≡ client.old.id }
 {
-    let first = flag(rt, service, client, token, what);
+    let first = set_flag(rt, service, client, token, what);
     let reply = match heard(rt, first, refused) {
         Some(reply) => reply,
-        None => told(rt, flag(rt, service, client, token, what)),
+        None => told(rt, set_flag(rt, service, client, token, what)),
     };
     assert!(rt; reply == Reply::Done);
 }
