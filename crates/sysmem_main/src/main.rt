@@ -126,9 +126,7 @@ fn play<R: Read>(
     reader: &mut R,
     pages: Pages,
     task: Task,
-) -> ExitCode
-    ensures { exit_status result ≤ 6 }
-{
+) -> ExitCode {
     let alloc = rt.alloc();
     let writer = &mut io::writer(rt);
     let stderr = rt.stderr();
