@@ -44,6 +44,48 @@ static uint32_t open_one(sysmem_core &core, uint32_t events) {
     return sysmem_open_seeded(&core, 64, events, nodes, collections, trackers, handles, seed);
 }
 
+// Reads the nodes, what their collections were given, and the handles on the buffers that hold
+// pages: they agree with the other views.
+static void look_at_nodes(sysmem_core &core) {
+    sysmem_node nodes[32];
+    sysmem_key live[32];
+    sysmem_held_buffer held[8];
+    uint64_t count = 0, living = 0, holding = 0;
+    expect(sysmem_nodes(&core, nodes, 32, &count) == SYSMEM_DONE, "nodes");
+    expect(sysmem_live(&core, live, 32, &living) == SYSMEM_DONE, "live");
+    expect(living <= count, "live nodes are nodes");
+    uint64_t found = 0;
+    for (uint64_t i = 0; i < count && i < 32; i++) {
+        const sysmem_node &node = nodes[i];
+        uint32_t is = 0, buffers = 0, size = 0;
+        expect(sysmem_is_live(&core, &node.key, &is) == SYSMEM_DONE, "is live");
+        bool over = node.flags & (SYSMEM_NODE_GONE | SYSMEM_NODE_RELEASED);
+        expect((is == 1) == !over, "a live node is neither gone nor released");
+        expect(node.cause == 0 || (node.flags & SYSMEM_NODE_FAILED), "a cause without a failure");
+        expect(node.size == 0 || (node.flags & SYSMEM_NODE_CONSTRAINED), "a size without constraints");
+        expect(sysmem_given(&core, node.collection, &buffers, &size) == SYSMEM_DONE, "given");
+        expect(!(node.flags & SYSMEM_NODE_ALLOCATED) || buffers > 0, "allocated without buffers");
+        found += is;
+    }
+    expect(count > 32 || found == living, "each live node is told");
+    expect(sysmem_held(&core, held, 8, &holding) == SYSMEM_DONE, "held");
+    for (uint64_t i = 0; i < holding && i < 8; i++) {
+        uint32_t buffers = 0, size = 0, found = 0;
+        uint64_t id = held[i].collection, client = 1 + upto(8);
+        uint8_t index = static_cast<uint8_t>(held[i].index);
+        expect(sysmem_given(&core, id, &buffers, &size) == SYSMEM_DONE, "given");
+        expect(held[i].index < buffers, "a held buffer was given");
+        expect(held[i].pages == (size + 4095) / 4096, "its pages have room for its bytes");
+        for (uint32_t strength = 0; strength < 3; strength++) {
+            uint32_t wanted = strength < 2 ? SYSMEM_DONE : SYSMEM_BAD_CALL;
+            expect(sysmem_open_handles(&core, client, id, index, strength, &found) == wanted,
+                   "open handles");
+            expect(sysmem_handles_in_parcels(&core, id, index, strength, &found) == wanted,
+                   "handles in parcels");
+        }
+    }
+}
+
 static void look(sysmem_core &core, std::vector<sysmem_key> &keys) {
     sysmem_key live[5];
     sysmem_held_buffer held[5];
@@ -66,6 +108,7 @@ static void look(sysmem_core &core, std::vector<sysmem_key> &keys) {
     expect(sysmem_events(&core, &events) == SYSMEM_DONE, "events");
     uint32_t code = sysmem_cause(&core, &keys[0], &cause, &live[0]);
     expect(code == SYSMEM_DONE || code == SYSMEM_NOT_FAILED, "cause");
+    look_at_nodes(core);
 }
 
 // Parts with each client that can have anything, unless the history is full before: nothing is left.

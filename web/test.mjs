@@ -1,63 +1,13 @@
-// Tries the page in Chromium, by the DevTools protocol over pipes: no package is needed.
-//   node test.mjs PAGE.html SMALL.html EXAMPLES [SCREENSHOTS]
-// SMALL.html is the page over a module that may take four MiB alone.
-import { spawn } from 'node:child_process';
-import { mkdtempSync, readFileSync, readdirSync, rmSync, writeFileSync } from 'node:fs';
-import { tmpdir } from 'node:os';
-import { join, resolve } from 'node:path';
+// Tries the page in a browser.
+//   node test.mjs chromium|firefox PAGE.html SMALL.html EXAMPLES [SCREENSHOTS]
+// SMALL.html is the page over a module that may take four MiB alone. In Firefox the test of names and contrasts is left out,
+// since it asks what only DevTools tell.
+import { readFileSync, readdirSync, writeFileSync } from 'node:fs';
+import { join } from 'node:path';
 import assert from 'node:assert/strict';
 
-const [page, small, examples, pictures] = process.argv.slice(2);
-const profile = mkdtempSync(join(tmpdir(), 'sysmem-page-'));
-const browser = spawn(process.env.CHROMIUM ?? 'chromium', ['--headless', '--no-sandbox', '--disable-gpu', '--hide-scrollbars',
-  '--remote-debugging-pipe', `--user-data-dir=${profile}`, '--window-size=1240,900', 'about:blank'],
-{ stdio: ['ignore', 'ignore', 'ignore', 'pipe', 'pipe'] });
-const [, , , to, from] = browser.stdio;
-const waiting = new Map(), faults = [], requests = [];
-let last = 0, text = '';
-from.setEncoding('utf8');
-from.on('data', (part) => {
-  const all = (text + part).split('\0');
-  text = all.pop();
-  for (const one of all.map((m) => JSON.parse(m))) {
-    if (one.method === 'Runtime.exceptionThrown') faults.push(one.params.exceptionDetails);
-    if (one.method === 'Network.requestWillBeSent') requests.push(one.params.request.url);
-    if (one.method === 'Log.entryAdded' && one.params.entry.level === 'error') faults.push(one.params.entry.text);
-    const [yes, no] = waiting.get(one.id) ?? [];
-    waiting.delete(one.id);
-    if (one.error) no?.(new Error(JSON.stringify(one.error))); else yes?.(one.result);
-  }
-});
-const call = (method, params = {}, sessionId) => new Promise((yes, no) => {
-  waiting.set(++last, [yes, no]);
-  to.write(`${JSON.stringify({ id: last, method, params, sessionId })}\0`);
-});
-
-// One tab, and what is asked of it.
-async function tab() {
-  const { targetId } = await call('Target.createTarget', { url: 'about:blank' });
-  const { sessionId } = await call('Target.attachToTarget', { targetId, flatten: true });
-  const say = (method, params) => call(method, params, sessionId);
-  const value = async (expression) => {
-    const { result, exceptionDetails } = await say('Runtime.evaluate', { expression, returnByValue: true, awaitPromise: true });
-    assert.equal(exceptionDetails, undefined, JSON.stringify(exceptionDetails));
-    return result.value;
-  };
-  const open = async (file, hash = '') => {
-    await say('Page.navigate', { url: 'about:blank' });
-    await say('Page.navigate', { url: `file://${resolve(file)}${hash}` });
-    for (let i = 0; i < 400; i++) {
-      if (await value("document.documentElement?.dataset.ready === 'yes'")) return;
-      await new Promise((go) => setTimeout(go, 25));
-    }
-    throw new Error(`never ready: ${file}${hash}`);
-  };
-  const key = async (name, code, modifiers = 0) => {
-    for (const type of ['rawKeyDown', 'keyUp']) await say('Input.dispatchKeyEvent', { type, key: name, code: name, windowsVirtualKeyCode: code, modifiers });
-  };
-  for (const domain of ['Runtime', 'Page', 'Network', 'Log']) await say(`${domain}.enable`);
-  return { say, value, open, key };
-}
+const [kind, page, small, examples, pictures] = process.argv.slice(2);
+const { start } = await import(`./${kind}.mjs`);
 
 const picked = (name) => `$('pick').value = '${name}'; $('pick').dispatchEvent(new Event('change'));`;
 
@@ -87,16 +37,16 @@ async function display_failure({ value }) {
 // Keys alone are enough, and a run keeps the focus.
 async function keyboard({ value, key }) {
   await value(`${picked('camera')} show(35); $('slide').focus()`);
-  await key('ArrowRight', 39);
+  await key('ArrowRight');
   assert.equal(await value("$('at').textContent"), '37');
   await value("$('lines').focus()");
-  await key('ArrowUp', 38);
-  await key('ArrowUp', 38);
+  await key('ArrowUp');
+  await key('ArrowUp');
   assert.equal(await value("$('at').textContent"), '35');
-  await key('Home', 36);
+  await key('Home');
   assert.equal(await value("$('at').textContent"), '1');
   await value("$('script').focus()");
-  await key('Enter', 13, 2);
+  await key('Enter', true);
   assert.equal(await value('document.activeElement.id'), 'script');
   await value("$('run').focus(); $('run').click()");
   assert.equal(await value('document.activeElement.id'), 'run');
@@ -184,22 +134,26 @@ async function screenshots({ say, value }) {
   }
 }
 
+const tests = { chromium: [example_texts, display_failure, keyboard, links, sizes, names_and_contrasts, faults_told],
+  firefox: [example_texts, display_failure, keyboard, links, sizes, faults_told] }[kind];
 const begun = performance.now();
+const browser = await start();
 try {
-  const one = await tab();
+  const one = await browser.tab();
   await one.open(page);
   console.log(`ready after ${Math.round(performance.now() - begun)} ms`);
-  for (const test of [example_texts, display_failure, keyboard, links, sizes, names_and_contrasts, faults_told]) {
+  for (const test of tests) {
     await test(one);
     console.log(`${test.name}: passed`);
   }
-  if (pictures) await screenshots(one);
-  assert.deepEqual(faults, []);
-  assert.deepEqual(requests.filter((url) => !url.startsWith('file:') && url !== 'about:blank'), []);
-  console.log(`page: all passed in ${Math.round(performance.now() - begun)} ms`);
+  if (pictures && kind === 'chromium') await screenshots(one);
+  if (pictures && kind === 'firefox') {
+    await one.value(`${picked('camera')} show(35)`);
+    writeFileSync(join(pictures, 'firefox.png'), Buffer.from(await one.picture(), 'base64'));
+  }
+  assert.deepEqual(browser.faults, []);
+  assert.deepEqual(browser.requests.filter((url) => !url.startsWith('file:') && url !== 'about:blank'), []);
+  console.log(`${kind}: all passed in ${Math.round(performance.now() - begun)} ms`);
 } finally {
-  call('Browser.close').catch(() => {});
-  await new Promise((go) => { browser.on('exit', go); setTimeout(go, 3000); });
-  browser.kill();
-  rmSync(profile, { recursive: true, force: true, maxRetries: 5 });
+  await browser.close();
 }
