@@ -10,6 +10,3 @@ pub use laws::{all_clients_have_lines, lines_tell_open_handles};
 pub use line::ClientLine;
 pub use own::Own;
 pub use parts::Parts;
-
-#[cfg(test)]
-mod tests;

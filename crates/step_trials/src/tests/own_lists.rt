@@ -1,5 +1,5 @@
 //! Own lists that are parts of a record, and lists that are not.
-use crate::{Own, Parts};
+use record_parts::{Own, Parts};
 use sm_names::{Call, ClientId, Reply};
 use std::process::Abort;
 use std::test::Fail;
