@@ -20,29 +20,39 @@ crate_of() { # name
     done
 }
 
-# Proves the crate and lowers it, over `below` and the crates that `below` uses.
-build() { # name, crate below, toolchain, root file, what is written, more words
-    name=$1 below=$2 toolchain=$3 root=$4 to=$5
-    shift 5
+# The crates that this one uses, by crates.txt.
+uses_of() { # name
+    sed -n "s/^$1\( [^:]*\)\{0,1\}://p" "$(git rev-parse --show-toplevel)/crates.txt"
+}
+
+# Proves the crate in the folder and lowers it, over libraries that stand in out/ or in the toolchain's folder.
+lower() { # folder, name, libraries, toolchain, root file, what is written, more words
+    folder=$1 name=$2 libraries=$3 toolchain=$4 root=$5 to=$6
+    shift 6
     crates=$(git rev-parse --show-toplevel)/crates
-    (cd "$crates/$below" && rt lib --jobs 2) > "$out/$name.log" 2>&1 || { tail -40 "$out/$name.log"; exit 1; }
-    for lower in $(sed -n "s/^$below\( [^:]*\)\{0,1\}://p" "$crates/../crates.txt") "$below"; do
-        if [ -e "$crates/$lower/out/rlib/$lower.rlib" ]; then
-            set -- --extern "$lower=$crates/$lower/out/rlib/$lower.rlib" "$@"
+    for library in $libraries std core; do
+        if [ -e "$crates/$library/out/rlib/$library.rlib" ]; then
+            set -- --extern "$library=$crates/$library/out/rlib/$library.rlib" "$@"
         else
-            set -- --extern "$lower=$kit/rlibs/$lower.rlib" "$@"
+            set -- --extern "$library=$kit/rlibs/$library.rlib" "$@"
         fi
     done
-    for lower in std core; do
-        set -- --extern "$lower=$kit/rlibs/$lower.rlib" "$@"
-    done
-    crate_of "$name"
-    (cd "$room" && "$kit/bin/rattle" build --crate-name "$name" "$root" --jobs 2 "$@" \
+    (cd "$folder" && "$kit/bin/rattle" build --crate-name "$name" "$root" --jobs 2 "$@" \
         -L dependency="$kit/rlibs" \
         --antt-project "$kit/rattle/logic/antt-project.json" --logic-built "$kit/logic_built" \
         --incremental "$out/$name.kept" --toolchain "$toolchain" -o "$to") > "$out/$name.log" 2>&1 ||
         { tail -40 "$out/$name.log"; exit 1; }
     tail -1 "$out/$name.log"
+}
+
+# Makes a crate of the folder, proves it and lowers it, over `below` and the crates that `below` uses.
+build() { # name, crate below, toolchain, root file, what is written, more words
+    made=$1 below=$2 kept=$3 first=$4 written=$5
+    shift 5
+    (cd "$(git rev-parse --show-toplevel)/crates/$below" && rt lib --jobs 2) > "$out/$made.log" 2>&1 ||
+        { tail -40 "$out/$made.log"; exit 1; }
+    crate_of "$made"
+    lower "$room" "$made" "$(uses_of "$below") $below" "$kept" "$first" "$written" "$@"
     rm -r "$room"
     room=
 }
