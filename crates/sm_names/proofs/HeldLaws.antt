@@ -35,6 +35,7 @@ use Rattle.sm_names.proofs.SettledLaws.{In-was_born, find_birth, head_itself, no
 use Rattle.sm_names.proofs.SumLaws.{one, any_one, times-filter}
 use Rattle.sm_names.specs.Words.{first_some, times, when}
 use Rattle.sm_names.specs.declared.outcomes.Buffers.{Buffers}
+use Rattle.sm_names.specs.declared.rules.TheConstants.{MAX_BUFFERS}
 use Rattle.sm_names.proofs.BirthLaws.{birth_is, Comes, comes, head_old}
 
 -- ---- a list that has some elements of another, in order
@@ -192,7 +193,7 @@ module _ (pool : ℕ) (limits : Bound) (before : Timeline) (collection : ℕ) (g
       let fits' : initial_failure pool (standing pool before b.collection) w ≡ None =
       subst (λ (k : ℕ). initial_failure pool (standing pool before k) (asked (members before k)) ≡ None) (sym c) fits in
       let room : is_none (places pool (pages_of w.size) w.count out) ≡ false =
-      room_by (not (some_strong_live (members before b.collection))) (w.count == 0) (nat_lt 64 w.count)
+      room_by (not (some_strong_live (members before b.collection))) (w.count == 0) (nat_lt MAX_BUFFERS w.count)
       (is_none (places pool (pages_of w.size) w.count out)) Failure.NoStrong Failure.NoBuffers Failure.TooManyBuffers Failure.PoolFull
       fits' in
       let there = some_if (places pool (pages_of w.size) w.count out) room in

@@ -13,6 +13,7 @@ use Rattle.sm_names.specs.declared.outcomes.Buffers.{Buffers}
 use Rattle.sm_names.specs.declared.outcomes.Fault.{Fault}
 use Rattle.sm_names.specs.declared.outcomes.Misuse.{Misuse}
 use Rattle.sm_names.specs.declared.outcomes.Refusal.{Refusal}
+use Rattle.sm_names.specs.declared.rules.TheConstants.{MAX_NODE_TRACKERS}
 use Rattle.sm_names.specs.Bounds.{Bound}
 use Rattle.sm_names.specs.Sameness.{same_kind}
 use Rattle.sm_names.specs.Timelines.{key_of}
@@ -174,7 +175,7 @@ misuse_of e (Call.SetConstraints key demand) = misused_if e.constrained Misuse.S
 misuse_of e (Call.SetWeak key) = misused_if e.constrained Misuse.LateWeak
 misuse_of e (Call.SetWeakOk key children) = misused_if e.took Misuse.LateWeakOk
 misuse_of e (Call.Take key) = misused_if (e.weak && not e.weak_ok) Misuse.WeakNotOk
-misuse_of e (Call.TrackNode key) = misused_if (nat_le 64 e.node_trackers) Misuse.TooManyNodeTrackers
+misuse_of e (Call.TrackNode key) = misused_if (nat_le MAX_NODE_TRACKERS e.node_trackers) Misuse.TooManyNodeTrackers
 misuse_of e _ = None
 
 -- the misuse of its end that the call is

@@ -9,6 +9,7 @@ use Rattle.sm_names.specs.declared.keys.Interval.{Interval}
 use Rattle.sm_names.specs.declared.outcomes.Buffers.{Buffers}
 use Rattle.sm_names.specs.declared.outcomes.Cause.{Cause}
 use Rattle.sm_names.specs.declared.outcomes.Failure.{Failure}
+use Rattle.sm_names.specs.declared.rules.TheConstants.{MAX_BUFFERS}
 use Rattle.sm_names.specs.Demands.{Demand}
 use Rattle.sm_names.specs.Marks.{Mark, Loss, Allocated, Ended}
 use Rattle.sm_names.specs.Members.{Member, is_root, root_left, some_live, subtree, some_strong_live, unit, is_ready, demands, asked, reserved}
@@ -47,7 +48,7 @@ abbrev pub initial_failure : ℕ → Standing → Buffers → Option Failure
 initial_failure pool s buffers = first_some (
     when (not (some_strong_live s.members)) Failure.NoStrong
     ∷ when (buffers.count == 0) Failure.NoBuffers
-    ∷ when (nat_lt 64 buffers.count) Failure.TooManyBuffers
+    ∷ when (nat_lt MAX_BUFFERS buffers.count) Failure.TooManyBuffers
     ∷ when (is_none (places pool (pages_of buffers.size) buffers.count s.held)) Failure.PoolFull
     ∷ [])
 

@@ -8,6 +8,7 @@ pub mod keys;
 pub mod laws;
 pub mod messages;
 pub mod outcomes;
+pub mod rules;
 pub mod sets;
 pub mod tracking;
 
@@ -18,5 +19,9 @@ pub use keys::{
 };
 pub use messages::{Call, Parcel, Reply};
 pub use outcomes::{Buffers, Cause, Failure, Fault, Misuse, NoMemory, Refusal, StepFault};
+pub use rules::{
+    MAX_AT_LEAST, MAX_BUFFERS, MAX_CAMPING, MAX_COLLECTIONS, MAX_EVENTS, MAX_HANDLES,
+    MAX_NODE_TRACKERS, MAX_NODES, MAX_PAGES, MAX_SIZE, MAX_TRACKERS, PAGE_SIZE,
+};
 pub use sets::has_buffer;
 pub use tracking::{Condition, Fired};
