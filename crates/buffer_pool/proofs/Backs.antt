@@ -5,6 +5,7 @@ use Rattle.std.proofs.Math.Nat.{suc-mul}
 use Rattle.std.proofs.lemmas.Bool.{cases_Bool, and_parts, not-true, ltb-true, lt-ltb, le-ltb, leb-true, eq-eqb, eqb-true, ne_eqb, cases_lt}
 use Rattle.std.proofs.lemmas.List.{append-nil}
 use Rattle.std.proofs.lemmas.List.Sums.{sum_by-cons}
+use Rattle.sm_names.specs.declared.rules.TheConstants.{MAX_PAGES}
 use Rattle.sm_names.specs.declared.keys.Interval.{Interval}
 use Rattle.buffer_pool.specs.Holes.{end_of, gap, holes_from, holes_of}
 use Rattle.buffer_pool.specs.Holdings.{HasRun, IsPoolSound, in_order, in_run, pages_in, without, without_run}
@@ -261,9 +262,9 @@ run_back size start pages (suc n) is h run =
 
 -- what the fields give for intervals that go back, and keep
 pub record KeepsBack (size free : ℕ) (holes held : List Interval) (capacity start pages count : ℕ) : Type 0 where
-  pub up : in_order 0 1048576 held ≡ true
+  pub up : in_order 0 MAX_PAGES held ≡ true
   pub spaced : spaced 0 holes ≡ true
-  pub few : length holes ≤ 1048576
+  pub few : length holes ≤ MAX_PAGES
   pub fits : All (λ (h : Interval). end_of h < 4294967296) holes
   pub back_fits : start + count * pages < 4294967296
   pub room : length (released (record { start = start; pages = count * pages }) holes) ≤ capacity
@@ -284,7 +285,7 @@ keeps_more size free holes held capacity start pages n k run =
     let lists = lists_of size free holes held capacity k in
     let small = k.sized.1 in
     record {
-      up = in_order-wider 0 size 0 1048576 held (omega arith) small k.in_order;
+      up = in_order-wider 0 size 0 MAX_PAGES held (omega arith) small k.in_order;
       spaced = subst (λ hs. spaced 0 hs ≡ true) (sym k.holes_are) (spaced-holes 0 size held k.in_order);
       few = lists.few;
       fits = lists.fits;

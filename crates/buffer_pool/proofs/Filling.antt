@@ -5,6 +5,7 @@ use Rattle.std.specs.List.{prefix_len}
 use Rattle.std.specs.List.Sorted.{IsNonDecreasingBy}
 use Rattle.std.proofs.lemmas.Bool.{cases_Bool, ltb-false}
 use Rattle.std.proofs.lemmas.List.{length-append}
+use Rattle.sm_names.specs.declared.rules.TheConstants.{MAX_PAGES}
 use Rattle.sm_names.specs.declared.keys.Interval.{Interval}
 use Rattle.buffer_pool.specs.Holes.{end_of}
 use Rattle.buffer_pool.specs.Holdings.{with_interval, with_buffers}
@@ -22,8 +23,8 @@ pub record IsFilling (pages_each count left : ℕ) (holes0 held0 : List Interval
   pub held_are : with_buffers pages_each (starts_in pages_each left holes) held ≡ with_buffers pages_each
       (starts_in pages_each count holes0) held0
   pub fits : All (λ (h : Interval). end_of h < 4294967296) holes
-  pub few : length holes ≤ 1048576
-  pub looks_fit : looks + left * 1048576 ≤ count * 1048576
+  pub few : length holes ≤ MAX_PAGES
+  pub looks_fit : looks + left * MAX_PAGES ≤ count * MAX_PAGES
   pub rises : IsNonDecreasingBy (λ (i : Interval). i.start) held
   pub starts_room : length starts + left ≤ starts_capacity
   pub held_room : length held + left ≤ held_capacity
@@ -81,6 +82,6 @@ filling_more pages count left next holes0 held0 looks starts holes held c0 cs ch
 -- some hole is long enough while a buffer is left, and its look fits
 pub filling_some : (pages count left : ℕ) (holes0 held0 : List Interval) (looks : ℕ) (starts : List ℕ) (holes held : List Interval)
     (c0 cs ch cd : ℕ) → 1 ≤ pages → 0 < left → IsFilling pages count left holes0 held0 looks starts holes held c0 cs ch cd →
-    (prefix_len (too_small pages) holes < length holes) × (looks + 1048576 ≤ count * 1048576)
+    (prefix_len (too_small pages) holes < length holes) × (looks + MAX_PAGES ≤ count * MAX_PAGES)
 filling_some pages count left holes0 held0 looks starts holes held c0 cs ch cd one some f =
     (rooms-some pages holes one (omega (arith, f.has_rooms)), omega (arith, f.looks_fit))

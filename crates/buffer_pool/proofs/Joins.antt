@@ -5,6 +5,7 @@ use Rattle.std.proofs.Math.Seq.{take-append-add, drop-append-add}
 use Rattle.std.proofs.lemmas.List.{append-nil, take-append-drop, drop_more, set_split, take_more, take_more_set, take-set, drop-set-lt, drop_at, take-append-le, drop-append-le, take-take, length-take-le, length-append, length-set, set-append_left, set-append_right, get_or-set_same}
 use Rattle.std.proofs.lemmas.List.Edits.{insert-append_left, insert-append_right, length-insert, length-remove, get_or-insert_below, get_or-insert_at}
 use Rattle.std.proofs.lemmas.List.Concat.{flat_map-append, get_or-flat_map}
+use Rattle.buffer_pool.specs.declared.block.TheConstants.{HALF}
 use Rattle.sm_names.specs.declared.keys.Interval.{Interval}
 use Rattle.buffer_pool.specs.Rows.{all_in}
 
@@ -113,11 +114,11 @@ two-one L b Y Z lt =
 
 -- a block is cut in two
 pub cut_in : (L : Lists) (b : ℕ) → b < length L →
-    all_in (insert (set L b (take 64 (get_or L b []))) (b + 1) (drop 64 (get_or L b []))) ≡ all_in L
+    all_in (insert (set L b (take HALF (get_or L b []))) (b + 1) (drop HALF (get_or L b []))) ≡ all_in L
 cut_in L b lt =
     let B : List Interval = get_or L b [] in
-    two-one L b (take 64 B) (drop 64 B) lt
-    ∙ ap (λ (Y : List Interval). all_in (take b L) ++ (Y ++ all_in (drop (b + 1) L))) (take-append-drop 64 B)
+    two-one L b (take HALF B) (drop HALF B) lt
+    ∙ ap (λ (Y : List Interval). all_in (take b L) ++ (Y ++ all_in (drop (b + 1) L))) (take-append-drop HALF B)
     ∙ sym (parts L b lt)
 
 -- two are made one
@@ -174,16 +175,16 @@ take-remove L b k le within =
 pub record IsCut (L : Lists) (b : ℕ) (M : Lists) : Type 0 where
   pub all : all_in M ≡ all_in L
   pub front : take b M ≡ take b L
-  pub here : get_or M b [] ≡ take 64 (get_or L b [])
-  pub next : get_or M (b + 1) [] ≡ drop 64 (get_or L b [])
+  pub here : get_or M b [] ≡ take HALF (get_or L b [])
+  pub next : get_or M (b + 1) [] ≡ drop HALF (get_or L b [])
   pub count : length M ≡ length L + 1
-  pub before : length (all_in (take (b + 1) M)) ≡ length (all_in (take b L)) + length (take 64 (get_or L b []))
+  pub before : length (all_in (take (b + 1) M)) ≡ length (all_in (take b L)) + length (take HALF (get_or L b []))
 
 pub is_cut : (L : Lists) (b : ℕ) (M : Lists) → b < length L →
-    M ≡ insert (set L b (take 64 (get_or L b []))) (b + 1) (drop 64 (get_or L b [])) → IsCut L b M
+    M ≡ insert (set L b (take HALF (get_or L b []))) (b + 1) (drop HALF (get_or L b [])) → IsCut L b M
 is_cut L b M lt is =
-    let Y : List Interval = take 64 (get_or L b []) in
-    let Z : List Interval = drop 64 (get_or L b []) in
+    let Y : List Interval = take HALF (get_or L b []) in
+    let Z : List Interval = drop HALF (get_or L b []) in
     let K : Lists = set L b Y in
     let long : length K ≡ length L = length-set L b Y in
     let size : b + 1 ≤ length K = omega arith in

@@ -2,6 +2,7 @@
 use Rattle.std.proofs.Common.{ℕ, ◌≡◌, ◌+◌, ◌-◌, ◌*◌, ◌<◌, ◌≤◌, ap, sym, subst, ◌∙◌, List, length, arith, Some, None}
 use Rattle.std.specs.Prelude.{All}
 use Rattle.std.specs.List.Sorted.{IsNonDecreasingBy}
+use Rattle.sm_names.specs.declared.rules.TheConstants.{MAX_PAGES}
 use Rattle.sm_names.specs.declared.keys.Interval.{Interval}
 use Rattle.sm_names.specs.Pages.{places}
 use Rattle.buffer_pool.specs.Holes.{end_of, holes_of}
@@ -17,7 +18,7 @@ use Rattle.buffer_pool.proofs.Placing.{Run, run_of, looks_in-bounds, places-none
 -- what is so of a pool's lists
 pub record Lists (holes held : List Interval) : Type 0 where
   pub fits : All (λ (h : Interval). end_of h < 4294967296) holes
-  pub few : length holes ≤ 1048576
+  pub few : length holes ≤ MAX_PAGES
   pub rises : IsNonDecreasingBy (λ (i : Interval). i.start) held
   pub begins : IsNonDecreasingBy (λ (h : Interval). h.start) holes
 
@@ -27,7 +28,7 @@ lists_of size free holes held capacity k =
     record {
       fits = subst (All (λ (h : Interval). end_of h < 4294967296)) (sym k.holes_are) (λ j d lt. let at =
           holes-end 0 size held k.in_order j d lt in omega (arith, at));
-      few = subst (λ hs. length hs ≤ 1048576) (sym k.holes_are) (omega (arith, (length-holes 0 size held k.in_order).0));
+      few = subst (λ hs. length hs ≤ MAX_PAGES) (sym k.holes_are) (omega (arith, (length-holes 0 size held k.in_order).0));
       rises = in_order-rises 0 size held k.in_order;
       begins = subst (IsNonDecreasingBy (λ (h : Interval). h.start)) (sym k.holes_are) (spaced-begins 0 (holes_of size held)
           (spaced-holes 0 size held k.in_order));

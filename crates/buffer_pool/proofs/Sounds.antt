@@ -1,11 +1,12 @@
 -- What every pool keeps, as callers see it.
 use Rattle.std.proofs.Common.{ℕ, ◌≡◌, ◌≤◌, List, true}
+use Rattle.sm_names.specs.declared.rules.TheConstants.{MAX_PAGES}
 use Rattle.sm_names.specs.declared.keys.Interval.{Interval}
 use Rattle.buffer_pool.specs.Holdings.{in_order, IsSound}
 use Rattle.buffer_pool.proofs.Orders.{in_order-at, in_order-apart}
 use Rattle.buffer_pool.proofs.Least.{meets-before}
 
-pub sound_from : (size : ℕ) (held : List Interval) → (1 ≤ size) × (size ≤ 1048576) → in_order 0 size held ≡ true →
+pub sound_from : (size : ℕ) (held : List Interval) → (1 ≤ size) × (size ≤ MAX_PAGES) → in_order 0 size held ≡ true →
     IsSound (record { size = size; held = held })
 sound_from size held sized order =
     record {

@@ -1,6 +1,7 @@
 -- What callers see of a pool, and what placing and giving back make of it.
 use Rattle.std.specs.Prelude.{◌≡◌, ℕ, zero, suc, ◌+◌, ◌*◌, ◌<◌, ◌≤◌, nat_lt, nat_le, Bool, false, not, ◌&&◌, ◌==◌, List, [], ◌∷◌, if◌then◌else◌, IsTrue, All, AllPairs, Contains, length}
 use Rattle.std.specs.List.{filter, sum_by}
+use Rattle.sm_names.specs.declared.rules.TheConstants.{MAX_PAGES}
 use Rattle.sm_names.specs.declared.keys.Interval.{Interval}
 use Rattle.sm_names.specs.Pages.{meets}
 use Rattle.buffer_pool.specs.Holes.{end_of, holes_of}
@@ -17,7 +18,7 @@ in_order low high (i ∷ is) = nat_le low i.start && (nat_lt 0 i.pages && in_ord
 
 -- what holds of every pool
 pub record IsSound (pool : Holdings) : Type 0 where
-  pub sized : (1 ≤ pool.size) × (pool.size ≤ 1048576)
+  pub sized : (1 ≤ pool.size) × (pool.size ≤ MAX_PAGES)
   pub in_order : IsTrue (in_order 0 pool.size pool.held)
   pub apart : AllPairs (λ a b. meets a b ≡ false) pool.held
   pub inside : All (λ i. (0 < i.pages) × (end_of i ≤ pool.size)) pool.held
@@ -55,7 +56,7 @@ without_run start pages (suc n) held = without (start + n * pages) (without_run 
 
 -- what the fields of a pool keep true
 pub record IsPoolSound (size free : ℕ) (holes held : List Interval) (capacity : ℕ) : Type 0 where
-  pub sized : (1 ≤ size) × (size ≤ 1048576)
+  pub sized : (1 ≤ size) × (size ≤ MAX_PAGES)
   pub in_order : IsTrue (in_order 0 size held)
   pub holes_are : holes ≡ holes_of size held
   pub free_are : free + pages_in held ≡ size

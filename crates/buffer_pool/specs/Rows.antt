@@ -1,6 +1,7 @@
 -- What callers see of intervals that lie in blocks.
 use Rattle.std.specs.Prelude.{◌≡◌, ℕ, ◌+◌, ◌-◌, ◌*◌, ◌<◌, ◌≤◌, Bool, true, false, List, [], All, length, take, get_or}
 use Rattle.std.specs.List.{flat_map, prefix_len}
+use Rattle.buffer_pool.specs.declared.block.TheConstants.{HALF, FULL}
 use Rattle.sm_names.specs.declared.keys.Interval.{Interval}
 use Rattle.buffer_pool.specs.declared.blocks.Spot.{Spot}
 use Rattle.buffer_pool.specs.declared.blocks.Reach.{Reach}
@@ -19,7 +20,7 @@ pub record Blocked : Type 0 where
 
 -- how many intervals there can be before there have to be more blocks: while one more is put in, a block is spare, or two can be made one
 abbrev pub capacity_of : Blocked → ℕ
-capacity_of b = (length b.lists + b.spares - 1) * 64
+capacity_of b = (length b.lists + b.spares - 1) * HALF
 
 -- all intervals, block by block
 abbrev pub all_in : List (List Interval) → List Interval
@@ -55,8 +56,8 @@ edge_of false i = i.start
 
 -- what the fields of a block keep true
 pub record IsBlock (greatest room : ℕ) (items : List Interval) : Type 0 where
-  pub has_room : 128 ≤ room
-  pub few : length items ≤ 128
+  pub has_room : FULL ≤ room
+  pub few : length items ≤ FULL
   pub bound : All (λ h. h.pages ≤ greatest) items
 
 -- what the fields of intervals in blocks keep true

@@ -49,7 +49,7 @@ impl Block {
     /// How many there are.
     pub(crate) fn len(&self) -> usize
         ensures count { result ≡ length self.now }
-        ensures few { result ≤ 128 }
+        ensures few { result ≤ FULL }
     {
         self.cells.len()
     }
@@ -81,7 +81,7 @@ impl Block {
     /// Puts an interval in before the one at this place.
     pub(crate) fn insert(&mut self, at: usize, new: Interval)
         requires within { at ≤ length self.old }
-        requires room { length self.old < 128 }
+        requires room { length self.old < FULL }
         ensures { self.new ≡ insert self.old at new }
     {
         self.greatest = self.greatest.max(new.pages);
@@ -105,10 +105,10 @@ impl Block {
 
     /// Moves the second half of a full block into one of none.
     pub(crate) fn cut_into(&mut self, other: &mut Block)
-        requires long { 64 ≤ length self.old }
+        requires long { HALF ≤ length self.old }
         requires none { other.old ≡ [] }
-        ensures front { self.new ≡ take 64 self.old }
-        ensures back { other.new ≡ drop 64 self.old }
+        ensures front { self.new ≡ take HALF self.old }
+        ensures back { other.new ≡ drop HALF self.old }
     {
         other.cells.extend_from_slice(&self.cells[HALF..]).unwrap();
         other.greatest = self.greatest;
@@ -117,7 +117,7 @@ impl Block {
 
     /// Moves all of another block behind those of this one.
     pub(crate) fn take_in(&mut self, other: &mut Block)
-        requires room { length self.old + length other.old ≤ 128 }
+        requires room { length self.old + length other.old ≤ FULL }
         ensures whole { self.new ≡ self.old ++ other.old }
         ensures none { other.new ≡ [] }
     {

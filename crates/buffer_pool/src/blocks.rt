@@ -7,7 +7,7 @@ ghost use Rattle.buffer_pool.specs.Fitting.{too_small, rooms};
 ghost use Rattle.buffer_pool.specs.Rows.{capacity_of, all_in, place_of, IsTaken, IsOpen, IsSettled, IsChanged, IsPassed, edge_of};
 
 use crate::block::{Block, FULL, HALF, edge, next_guess, place_to_look};
-use sm_names::Interval;
+use sm_names::{Interval, MAX_PAGES};
 use std::alloc::{AllocError, Global};
 use std::marker::Model;
 
@@ -226,7 +226,7 @@ impl Blocks {
     fn put(&mut self, spot: Spot, new: Interval)
         requires there { spot.block < length self.old.lists }
         requires within { spot.offset ≤ length (get_or self.old.lists spot.block []) }
-        requires room { length (get_or self.old.lists spot.block []) < 128 }
+        requires room { length (get_or self.old.lists spot.block []) < FULL }
         ensures lists { self.new.lists ≡ set self.old.lists spot.block
             (insert (get_or self.old.lists spot.block []) spot.offset new) }
         ensures spares { self.new.spares ≡ self.old.spares }
@@ -257,11 +257,11 @@ impl Blocks {
     // Moves the second half of a full block into a spare one, which comes behind it.
     fn cut(&mut self, at: usize)
         requires there { at < length self.old.lists }
-        requires full { 64 < length (get_or self.old.lists at []) }
+        requires full { HALF < length (get_or self.old.lists at []) }
         requires spare { 0 < self.old.spares }
         ensures lists { self.new.lists
-            ≡ insert (set self.old.lists at (take 64 (get_or self.old.lists at []))) (at + 1)
-            (drop 64 (get_or self.old.lists at [])) }
+            ≡ insert (set self.old.lists at (take HALF (get_or self.old.lists at []))) (at + 1)
+            (drop HALF (get_or self.old.lists at [])) }
         ensures spares { self.new.spares + 1 ≡ self.old.spares }
     {
         let mut block = self.spare.pop().unwrap();
@@ -272,7 +272,7 @@ impl Blocks {
     // Moves the intervals of a block behind those of the one before it.
     fn merge(&mut self, at: usize)
         requires there { at + 1 < length self.old.lists }
-        requires room { length (get_or self.old.lists at []) + length (get_or self.old.lists (at + 1) []) ≤ 128 }
+        requires room { length (get_or self.old.lists at []) + length (get_or self.old.lists (at + 1) []) ≤ FULL }
         ensures lists { self.new.lists
             ≡ set (remove self.old.lists (at + 1)) at (get_or self.old.lists at [] ++ get_or self.old.lists (at + 1) []) }
         ensures spares { self.new.spares ≡ self.old.spares + 1 }
@@ -326,7 +326,7 @@ impl Blocks {
     /// The spot of the first that has so many pages, from one on before which none has, or behind all.
     pub(crate) fn fit(&mut self, from: Reach, pages_each: u32) -> Reach
         requires pages { 1 ≤ pages_each }
-        requires few { length (all_in self.old.lists) ≤ 2 ^ 20 }
+        requires few { length (all_in self.old.lists) ≤ MAX_PAGES }
         requires from { IsPassed pages_each from self.old.lists }
         ensures passed { IsPassed pages_each result self.old.lists }
         ensures found { place_of self.old.lists result.spot
@@ -378,9 +378,9 @@ impl Blocks {
 fn short_pair(blocks: &[Block]) -> usize
     requires { length blocks.now < 2 ^ 63 }
     ensures within { result ≤ length blocks.now }
-    ensures none { length blocks.now ≤ result + 1 → (length blocks.now - 1) * 64 ≤ length (all_in blocks.now) }
+    ensures none { length blocks.now ≤ result + 1 → (length blocks.now - 1) * HALF ≤ length (all_in blocks.now) }
     ensures short { result + 1 < length blocks.now
-        → length (get_or blocks.now result []) + length (get_or blocks.now (result + 1) []) ≤ 128 }
+        → length (get_or blocks.now result []) + length (get_or blocks.now (result + 1) []) ≤ FULL }
 {
     let mut at = 0;
     while at + 1 < blocks.len() && blocks[at].len() + blocks[at + 1].len() > FULL {

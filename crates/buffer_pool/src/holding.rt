@@ -5,8 +5,7 @@ ghost use Rattle.buffer_pool.specs.Holdings.{in_order, with_interval, HasRun, wi
 ghost use Rattle.buffer_pool.specs.Rows.{all_in, capacity_of};
 
 use crate::blocks::Blocks;
-use crate::pages::MAX_PAGES;
-use sm_names::Interval;
+use sm_names::{Interval, MAX_PAGES};
 
 /// Puts an interval in its place.
 pub(crate) fn hold(held: &mut Blocks, new: Interval)

@@ -9,7 +9,7 @@ ghost use Rattle.buffer_pool.specs.Rows.{all_in, place_of, capacity_of, IsTaken,
 
 use crate::block::edge;
 use crate::blocks::{Blocks, Reach, Spot};
-use sm_names::Interval;
+use sm_names::{Interval, MAX_PAGES};
 use std::alloc::{AllocError, Global};
 use std::marker::Model;
 
@@ -76,7 +76,7 @@ impl Holes {
     /// Whether the holes have room for `count` buffers.
     pub(crate) fn has_rooms(&mut self, count: u32, pages_each: u32) -> bool
         requires pages { 1 ≤ pages_each }
-        requires few { length self.old.items ≤ 2 ^ 20 }
+        requires few { length self.old.items ≤ MAX_PAGES }
         ensures rooms { result ≡ nat_le count (rooms pages_each self.old.items) }
         ensures same { self.new ≡ self.old }
     {
@@ -89,7 +89,7 @@ impl Holes {
     /// Takes pages from the front of the first hole that is not too small.
     pub(crate) fn take_front(&mut self, pages_each: u32) -> Taken
         requires pages { 1 ≤ pages_each }
-        requires few { length self.old.items ≤ 2 ^ 20 }
+        requires few { length self.old.items ≤ MAX_PAGES }
         requires some { prefix_len (too_small pages_each) self.old.items < length self.old.items }
         requires fits { All (λ h. end_of h < 2 ^ 32) self.old.items }
         ensures start { result.start ≡ first_fit pages_each self.old.items }
@@ -108,7 +108,7 @@ impl Holes {
     /// Puts pages back that nobody holds, as one hole with those that they touch.
     pub(crate) fn release(&mut self, back: Interval)
         requires spaced { IsTrue (spaced 0 self.old.items) }
-        requires few { length self.old.items ≤ 2 ^ 20 }
+        requires few { length self.old.items ≤ MAX_PAGES }
         requires fits { All (λ h. end_of h < 2 ^ 32) self.old.items }
         requires back_fits { end_of back < 2 ^ 32 }
         requires room { length (released back self.old.items) ≤ self.old.capacity }
@@ -127,7 +127,7 @@ impl Holes {
 // are no more.
 fn seek(blocks: &mut Blocks, known: u32, reach: Reach, pages_each: u32) -> Reach
     requires pages { 1 ≤ pages_each }
-    requires few { length (all_in blocks.old.lists) ≤ 2 ^ 20 }
+    requires few { length (all_in blocks.old.lists) ≤ MAX_PAGES }
     requires known { IsPassed known reach blocks.old.lists }
     ensures passed { IsPassed pages_each result blocks.old.lists }
     ensures found { place_of blocks.old.lists result.spot
@@ -216,7 +216,7 @@ fn begins_at(blocks: &Blocks, spot: Spot, page: u64) -> bool
 // Makes one hole of this and the next, if they touch.
 fn join_next(blocks: &mut Blocks, spot: Spot, hole: Interval)
     requires there { IsTaken blocks.old.lists spot }
-    requires few { length (all_in blocks.old.lists) ≤ 2 ^ 20 }
+    requires few { length (all_in blocks.old.lists) ≤ MAX_PAGES }
     requires fits { All (λ h. end_of h < 2 ^ 32) (all_in blocks.old.lists) }
     ensures { IsChanged blocks.old blocks.new spot
         (take (place_of blocks.old.lists spot) (all_in blocks.old.lists)
@@ -245,7 +245,7 @@ fn put_back(blocks: &mut Blocks, spot: Spot, back: Interval)
     requires settled { IsSettled blocks.old.lists spot }
     requires found { place_of blocks.old.lists spot
         ≡ prefix_len (λ h. nat_lt (end_of h) back.start) (all_in blocks.old.lists) }
-    requires few { length (all_in blocks.old.lists) ≤ 2 ^ 20 }
+    requires few { length (all_in blocks.old.lists) ≤ MAX_PAGES }
     requires fits { All (λ h. end_of h < 2 ^ 32) (all_in blocks.old.lists) }
     requires back_fits { end_of back < 2 ^ 32 }
     requires room { length (released back (all_in blocks.old.lists)) ≤ capacity_of blocks.old }

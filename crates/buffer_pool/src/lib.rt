@@ -9,5 +9,5 @@ pub mod laws;
 pub mod pages;
 pub mod placement;
 
-pub use pages::{MAX_PAGES, Pool};
+pub use pages::Pool;
 pub use placement::{Placed, PoolFault};

@@ -12,12 +12,9 @@ use crate::blocks::Blocks;
 use crate::holding::{hold, let_go};
 use crate::holes::Holes;
 use crate::placement::{Placed, PoolFault};
-use sm_names::{Interval, NoMemory};
+use sm_names::{Interval, MAX_PAGES, NoMemory};
 use std::alloc::{AllocError, Global};
 use std::marker::Model;
-
-/// The most pages that a pool has.
-pub const MAX_PAGES: u32 = 1_048_576;
 
 /// Pages 0, 1, 2, .. in which buffers lie apart from one another.
 #[derive(Drop)]
@@ -206,7 +203,7 @@ fn fill(
     requires pages { 1 ≤ pages_each }
     requires rooms { count ≤ rooms pages_each holes.old.items }
     requires fits { All (λ h. end_of h < 2 ^ 32) holes.old.items }
-    requires few { length holes.old.items ≤ 2 ^ 20 }
+    requires few { length holes.old.items ≤ MAX_PAGES }
     requires up { IsNonDecreasingBy (λ i. i.start) (all_in held.old.lists) }
     requires held_room { length (all_in held.old.lists) + count ≤ capacity_of held.old }
     requires empty { starts.items ≡ [] }

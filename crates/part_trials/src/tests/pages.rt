@@ -2,8 +2,8 @@
 ghost use Rattle.std.specs.Prelude.{◌≡◌, ◌≤◌, true};
 ghost use Rattle.buffer_pool.specs.Holdings.{in_run, HasRun};
 
-use buffer_pool::{MAX_PAGES, Pool, PoolFault};
-use sm_names::Interval;
+use buffer_pool::{Pool, PoolFault};
+use sm_names::{Interval, MAX_PAGES};
 use std::alloc::{AllocError, Global};
 use std::process::Abort;
 use std::test::Fail;

@@ -1,6 +1,7 @@
 -- The intervals lie one after another where the search ends.
 use Rattle.std.proofs.Common.{ℕ, ◌≡◌, ◌+◌, ◌-◌, ◌≤◌, ◌∙◌, ap, arith, length, List, nat_lt}
 use Rattle.std.specs.List.{prefix_len, remove_range}
+use Rattle.sm_names.specs.declared.rules.TheConstants.{MAX_PAGES}
 use Rattle.sm_names.specs.declared.keys.Interval.{Interval}
 use Rattle.buffer_pool.specs.Rows.{all_in, place_of}
 use Rattle.buffer_pool.proofs.Orders.{in_order-rises}
@@ -14,11 +15,11 @@ found c = rw c.from.ensures at c.find-spot.ensures.place
 
 within : (c : After-find-spot) → place_of c.args.held.now.lists c.find-spot.result + c.args.count ≤ length (all_in c.args.held.now.lists)
 within c =
-    run_within c.args.first.start c.args.first.pages c.args.count 1048576 (all_in c.args.held.now.lists) c.requires.up c.requires.there
+    run_within c.args.first.start c.args.first.pages c.args.count MAX_PAGES (all_in c.args.held.now.lists) c.requires.up c.requires.there
     (place_of c.args.held.now.lists c.find-spot.result) (found c) c.requires.some
 
 pub find-spot-requires : goal.find-spot-requires
-find-spot-requires c = in_order-rises 0 1048576 (all_in c.args.held.now.lists) c.requires.up
+find-spot-requires c = in_order-rises 0 MAX_PAGES (all_in c.args.held.now.lists) c.requires.up
 
 pub remove_run-left-requires-clause-there : goal.remove_run-left-requires-clause-there
 remove_run-left-requires-clause-there c =
@@ -62,4 +63,4 @@ returns c =
     let f = (goal.at.returns c).After-find-spot in
     let whole : c.args.count - c.loop-left.left ≡ c.args.count = omega (arith, c.loop-left-test.false) in
     c.loop-left.invariant.items ∙ ap (λ n. remove_range all at (at + n)) whole
-    ∙ run_removed c.args.first.start c.args.first.pages c.args.count 1048576 all c.requires.up c.requires.there at (found f)
+    ∙ run_removed c.args.first.start c.args.first.pages c.args.count MAX_PAGES all c.requires.up c.requires.there at (found f)

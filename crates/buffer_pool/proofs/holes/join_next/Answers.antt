@@ -2,6 +2,7 @@
 use Rattle.std.proofs.Common.{◌∙◌, ◌≡◌, ◌≤◌, ◌+◌, arith, rules, ap, sym, get_or, set, take, drop, [], List, length-set, true, refl}
 use Rattle.std.specs.List.{remove}
 use Rattle.std.proofs.lemmas.List.{take-take}
+use Rattle.sm_names.specs.declared.rules.TheConstants.{MAX_PAGES}
 use Rattle.sm_names.specs.declared.keys.Interval.{Interval}
 use Rattle.buffer_pool.specs.Merging.{first_begins}
 use Rattle.buffer_pool.specs.Holes.{end_of}
@@ -13,7 +14,7 @@ use Rattle.buffer_pool.proofs.holes.join_next.Goals.{After-settle-next}
 
 pub overflow_add-behind : goal.overflow_add-behind
 overflow_add-behind c =
-    let small : c.args.spot.offset + 1 ≤ 1048576 =
+    let small : c.args.spot.offset + 1 ≤ MAX_PAGES =
     omega (arith, within-all c.args.blocks.now.lists c.args.spot.block c.requires.there.0, c.requires.there.1, c.requires.few) in
     search rules
 

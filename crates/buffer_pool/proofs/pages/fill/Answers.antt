@@ -1,5 +1,6 @@
 -- Some hole is long enough while a buffer is left.
 use Rattle.std.proofs.Common.{◌≡◌, ◌+◌, ◌-◌, ◌≤◌, arith, rules, suc}
+use Rattle.sm_names.specs.declared.rules.TheConstants.{MAX_PAGES}
 use Rattle.buffer_pool.proofs.Filling.{filling_more, filling_some}
 use Rattle.buffer_pool.proofs.pages.fill.Goals as goal
 
@@ -12,7 +13,7 @@ pub overflow_add-looks : goal.overflow_add-looks
 overflow_add-looks c =
     let some = filling_some c.args.pages_each c.args.count c.loop-left.left _ _ _ _ _ _ _ _ _ _ c.requires.pages c.loop-left-test.true
     c.loop-left.invariant in
-    let small : c.take_front-taken.result.before + 1 ≤ 1048576 =
+    let small : c.take_front-taken.result.before + 1 ≤ MAX_PAGES =
     omega (arith, c.take_front-taken.ensures.before, some.0, c.loop-left.invariant.few) in
     search rules
 
@@ -20,7 +21,7 @@ pub overflow_add-looks-in-loop-left : goal.overflow_add-looks-in-loop-left
 overflow_add-looks-in-loop-left c =
     let some = filling_some c.args.pages_each c.args.count c.loop-left.left _ _ _ _ _ _ _ _ _ _ c.requires.pages c.loop-left-test.true
     c.loop-left.invariant in
-    let small : c.take_front-taken.result.before + 1 ≤ 1048576 =
+    let small : c.take_front-taken.result.before + 1 ≤ MAX_PAGES =
     omega (arith, c.take_front-taken.ensures.before, some.0, c.loop-left.invariant.few) in
     let few = c.ranges.count in
     let all = some.1 in

@@ -3,25 +3,26 @@ use Rattle.std.proofs.Common.{◌≡◌, ◌∙◌, ◌++◌, ◌≤◌, drop, a
 use Rattle.std.specs.Prelude.{All}
 use Rattle.std.proofs.lemmas.List.{take_rest}
 use Rattle.std.proofs.lemmas.List.Elements.{All-drop}
+use Rattle.buffer_pool.specs.declared.block.TheConstants.{HALF}
 use Rattle.sm_names.specs.declared.keys.Interval.{Interval}
 use Rattle.buffer_pool.proofs.block.Block.cut_into.Goals as goal
 use Rattle.buffer_pool.proofs.block.Block.cut_into.Goals.{After-truncate}
 
-moved : (c : After-truncate) → c.extend_from_slice.new.self.items ≡ drop 64 c.self.inside.cells.items
+moved : (c : After-truncate) → c.extend_from_slice.new.self.items ≡ drop HALF c.self.inside.cells.items
 moved c =
     let e = rw c.unwrap.ensures at c.extend_from_slice.ensures.items in
     let n : c.other.inside.cells.items ≡ [] = c.other.view_is ∙ c.requires.none in
-    e ∙ (λ i. n i ++ take_rest c.deref.result.now 64 i) ∙ ap (drop 64) c.deref.ensures.value
+    e ∙ (λ i. n i ++ take_rest c.deref.result.now HALF i) ∙ ap (drop HALF) c.deref.ensures.value
 
 pub invariant_of-other : goal.invariant_of-other
 invariant_of-other c =
-    let all : All (λ (h : Interval). h.pages ≤ c.self.inside.greatest) (drop 64 c.self.inside.cells.items) =
-    All-drop (λ (h : Interval). h.pages ≤ c.self.inside.greatest) 64 c.self.inside.cells.items c.self.invariant.bound in
+    let all : All (λ (h : Interval). h.pages ≤ c.self.inside.greatest) (drop HALF c.self.inside.cells.items) =
+    All-drop (λ (h : Interval). h.pages ≤ c.self.inside.greatest) HALF c.self.inside.cells.items c.self.invariant.bound in
     record {
       has_room = omega (arith, c.other.invariant.has_room, c.extend_from_slice.ensures.capacity);
-      few = rw (moved c) (omega (arith, length-drop 64 c.self.inside.cells.items, c.self.invariant.few));
+      few = rw (moved c) (omega (arith, length-drop HALF c.self.inside.cells.items, c.self.invariant.few));
       bound = rw (moved c) all;
     }
 
 pub returns-clause-back : goal.returns-clause-back
-returns-clause-back c = moved c ∙ ap (drop 64) c.self.view_is
+returns-clause-back c = moved c ∙ ap (drop HALF) c.self.view_is

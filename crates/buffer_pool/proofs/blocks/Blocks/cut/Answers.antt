@@ -1,6 +1,7 @@
 -- A spare block is used, and both have intervals.
 use Rattle.std.proofs.Common.{◌<◌, ◌≡◌, ◌-◌, ◌+◌, arith, length, get_or, set, [], length-drop}
 use Rattle.std.proofs.lemmas.List.{get_or_read, length-take-le, length-set}
+use Rattle.buffer_pool.specs.declared.block.TheConstants.{HALF}
 use Rattle.buffer_pool.proofs.Blocking.{blocks-begun, blocks-set}
 use Rattle.buffer_pool.proofs.blocks.Blocks.cut.Goals as goal
 
@@ -11,10 +12,10 @@ invariant_of-self c =
     let spare = rw (← c.self.view_is) at c.requires.spare in
     let here : c.index_mut.result.now ≡ get_or c.self.inside.used.items c.args.at [] =
     get_or_read c.self.inside.used.items c.args.at c.index_mut.result.now there c.index_mut.ensures.value [] in
-    let long : 64 < length c.index_mut.result.now = rw here full in
+    let long : HALF < length c.index_mut.result.now = rw here full in
     let one : 0 < length c.cut_into.new.self =
-    rw c.cut_into.ensures.front (omega (arith, length-take-le 64 c.index_mut.result.now (omega arith))) in
-    let two : 0 < length c.cut_into.new.other = rw c.cut_into.ensures.back (omega (arith, length-drop 64 c.index_mut.result.now)) in
+    rw c.cut_into.ensures.front (omega (arith, length-take-le HALF c.index_mut.result.now (omega arith))) in
+    let two : 0 < length c.cut_into.new.other = rw c.cut_into.ensures.back (omega (arith, length-drop HALF c.index_mut.result.now)) in
     let same : length (set c.self.inside.used.items c.args.at c.cut_into.new.self) ≡ length c.self.inside.used.items =
     length-set c.self.inside.used.items c.args.at c.cut_into.new.self in
     blocks-begun (set c.self.inside.used.items c.args.at c.cut_into.new.self) c.self.inside.spare.items (c.args.at + 1) c.cut_into.new.other

@@ -2,6 +2,7 @@
 use Rattle.std.proofs.Common.{◌≡◌, ◌<◌, ◌≤◌, ◌∙◌, ap, arith, length, get_or, set, [], ◌+◌, rules}
 use Rattle.std.specs.List.{prefix_len}
 use Rattle.std.proofs.lemmas.List.{get_or_read, set-get_or}
+use Rattle.sm_names.specs.declared.rules.TheConstants.{MAX_PAGES}
 use Rattle.buffer_pool.specs.Fitting.{too_small}
 use Rattle.buffer_pool.specs.Rows.{all_in}
 use Rattle.buffer_pool.proofs.Joins.{within-all}
@@ -70,8 +71,8 @@ pub overflow_add-before : goal.overflow_add-before
 overflow_add-before c =
     let m = (goal.at.overflow_add-before c).After-len-count in
     let lt = there (goal.at.overflow_add-before c).After-index_mut in
-    let few : length (all_in c.loop-block.self-inside.used.items) ≤ 1048576 = rw c.loop-block.invariant.0 c.requires.few in
-    let small : c.loop-block.before + c.len-count.result ≤ 1048576 =
+    let few : length (all_in c.loop-block.self-inside.used.items) ≤ MAX_PAGES = rw c.loop-block.invariant.0 c.requires.few in
+    let small : c.loop-block.before + c.len-count.result ≤ MAX_PAGES =
     omega (arith, within-all c.loop-block.self-inside.used.items c.loop-block.block lt, count m, c.loop-block.invariant.2.before) in
     search rules
 

@@ -3,6 +3,7 @@ use Rattle.std.proofs.Common.{◌≡◌, ◌<◌, ◌+◌, ◌-◌, ◌*◌, ◌
 use Rattle.std.specs.List.{remove}
 use Rattle.std.proofs.lemmas.List.{length-set}
 use Rattle.std.proofs.lemmas.List.Edits.{length-remove}
+use Rattle.buffer_pool.specs.declared.block.TheConstants.{HALF}
 use Rattle.buffer_pool.specs.Rows.{all_in}
 use Rattle.buffer_pool.proofs.Joins.{merge_in}
 use Rattle.buffer_pool.proofs.blocks.Blocks.gather.Goals as goal
@@ -24,4 +25,4 @@ returns-then-at-len-clause-capacity c =
     let more = c.merge.ensures.spares in
     let all : length c.merge.new.self.lists + c.merge.new.self.spares ≡ length c.args.self.now.lists + c.args.self.now.spares = omega
     arith in
-    ap (λ n. (n - 1) * 64) all
+    ap (λ n. (n - 1) * HALF) all

@@ -3,6 +3,7 @@ use Rattle.std.proofs.Common.{◌≡◌, ◌<◌, ◌≤◌, ◌+◌, ◌-◌, �
 use Rattle.std.specs.List.{insert}
 use Rattle.std.proofs.lemmas.List.{get_or_read, length-set, take-set, take-set-le, length-take-le}
 use Rattle.std.proofs.lemmas.List.Edits.{length-insert}
+use Rattle.buffer_pool.specs.declared.block.TheConstants.{HALF, FULL}
 use Rattle.sm_names.specs.declared.keys.Interval.{Interval}
 use Rattle.buffer_pool.specs.Rows.{all_in}
 use Rattle.buffer_pool.proofs.Joins.{insert_in, begin_in, before-next, take-insert, IsCut, is_cut}
@@ -25,20 +26,20 @@ cut : (c : After-cut) → IsCut c.args.self.now.lists c.args.spot.block c.cut.ne
 cut c = is_cut c.args.self.now.lists c.args.spot.block c.cut.new.self.lists (there (goal.at.After-cut c).After-len-else-spot-len)
     c.cut.ensures.lists
 
-full : (c : After-cut) → length (get_or c.args.self.now.lists c.args.spot.block []) ≡ 128
+full : (c : After-cut) → length (get_or c.args.self.now.lists c.args.spot.block []) ≡ FULL
 full c =
     let m = (goal.at.After-cut c).After-len-else-spot-len in
     omega (arith, size m, c.len-else-spot-len.ensures.few, c.if-len-lt-FULL.false)
 
 -- the lengths of the halves
-first : (c : After-cut) → length (get_or c.cut.new.self.lists c.args.spot.block []) ≡ 64
-first c = ap length (cut c).here ∙ length-take-le 64 (get_or c.args.self.now.lists c.args.spot.block []) (omega (arith, full c))
+first : (c : After-cut) → length (get_or c.cut.new.self.lists c.args.spot.block []) ≡ HALF
+first c = ap length (cut c).here ∙ length-take-le HALF (get_or c.args.self.now.lists c.args.spot.block []) (omega (arith, full c))
 
-second : (c : After-cut) → length (get_or c.cut.new.self.lists (c.args.spot.block + 1) []) ≡ 64
+second : (c : After-cut) → length (get_or c.cut.new.self.lists (c.args.spot.block + 1) []) ≡ HALF
 second c =
     let long = full c in
     let is = ap length (cut c).next in
-    omega (arith, length-drop 64 (get_or c.args.self.now.lists c.args.spot.block []))
+    omega (arith, length-drop HALF (get_or c.args.self.now.lists c.args.spot.block []))
 
 pub put-requires-then-spot-le-HALF-clause-within : goal.put-requires-then-spot-le-HALF-clause-within
 put-requires-then-spot-le-HALF-clause-within c =
@@ -68,7 +69,7 @@ returns-then-len-lt-FULL c =
           ∙ insert_in c.args.self.now.lists c.args.spot.block c.args.spot.offset c.args.new lt c.requires.within.1;
       front = ap (take c.args.spot.block) c.put.ensures.lists
           ∙ take-set c.args.self.now.lists c.args.spot.block (insert B c.args.spot.offset c.args.new);
-      capacity = ap (λ n. (n - 1) * 64) all;
+      capacity = ap (λ n. (n - 1) * HALF) all;
     }
 
 pub returns-then-spot-eq-FULL : goal.returns-then-spot-eq-FULL
@@ -96,7 +97,7 @@ returns-then-spot-eq-FULL c =
           ∙ ap (λ n. insert (all_in c.args.self.now.lists) n c.args.new) place;
       front = ap (take c.args.spot.block) c.begin-then-spot-eq-FULL.ensures.lists
           ∙ take-insert c.args.self.now.lists (c.args.spot.block + 1) c.args.spot.block (c.args.new ∷ []) (omega arith) le;
-      capacity = ap (λ n. (n - 1) * 64) all;
+      capacity = ap (λ n. (n - 1) * HALF) all;
     }
 
 pub returns-then-spot-le-HALF : goal.returns-then-spot-le-HALF
@@ -116,7 +117,7 @@ returns-then-spot-le-HALF c =
           (omega (arith, first m, c.if-spot-le-HALF.true))
           ∙ (λ i. insert (k.all i) (length (all_in (k.front i)) + c.args.spot.offset) c.args.new);
       front = ap (take c.args.spot.block) c.put-then-spot-le-HALF.ensures.lists ∙ take-set M c.args.spot.block X ∙ k.front;
-      capacity = ap (λ n. (n - 1) * 64) all;
+      capacity = ap (λ n. (n - 1) * HALF) all;
     }
 
 pub returns-else-spot-le-HALF : goal.returns-else-spot-le-HALF
@@ -125,21 +126,21 @@ returns-else-spot-le-HALF c =
     let k = cut m in
     let lt = there (goal.at.returns-else-spot-le-HALF c).After-len-else-spot-len in
     let M : List (List Interval) = c.cut.new.self.lists in
-    let X : List Interval = insert (get_or M (c.args.spot.block + 1) []) (c.args.spot.offset - 64) c.args.new in
+    let X : List Interval = insert (get_or M (c.args.spot.block + 1) []) (c.args.spot.offset - HALF) c.args.new in
     let same = ap length c.put-else-spot-le-HALF.ensures.lists ∙ length-set M (c.args.spot.block + 1) X in
     let all : length c.put-else-spot-le-HALF.new.self.lists + c.put-else-spot-le-HALF.new.self.spares
     ≡ length c.args.self.now.lists + c.args.self.now.spares =
     omega (arith, c.put-else-spot-le-HALF.ensures.spares, c.cut.ensures.spares, k.count) in
-    let half = length-take-le 64 (get_or c.args.self.now.lists c.args.spot.block []) (omega (arith, full m)) in
-    let place : length (all_in (take (c.args.spot.block + 1) M)) + (c.args.spot.offset - 64)
+    let half = length-take-le HALF (get_or c.args.self.now.lists c.args.spot.block []) (omega (arith, full m)) in
+    let place : length (all_in (take (c.args.spot.block + 1) M)) + (c.args.spot.offset - HALF)
     ≡ length (all_in (take c.args.spot.block c.args.self.now.lists)) + c.args.spot.offset =
     omega (arith, k.before, half, c.if-spot-le-HALF.false) in
     record {
       items_are = ap all_in c.put-else-spot-le-HALF.ensures.lists
-          ∙ insert_in M (c.args.spot.block + 1) (c.args.spot.offset - 64) c.args.new (omega (arith, lt, k.count))
+          ∙ insert_in M (c.args.spot.block + 1) (c.args.spot.offset - HALF) c.args.new (omega (arith, lt, k.count))
           (omega (arith, second m, full m, c.requires.within.1))
           ∙ (λ i. insert (k.all i) (place i) c.args.new);
       front = ap (take c.args.spot.block) c.put-else-spot-le-HALF.ensures.lists
           ∙ take-set-le c.args.spot.block M (c.args.spot.block + 1) X (omega arith) ∙ k.front;
-      capacity = ap (λ n. (n - 1) * 64) all;
+      capacity = ap (λ n. (n - 1) * HALF) all;
     }

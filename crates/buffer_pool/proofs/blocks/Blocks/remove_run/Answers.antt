@@ -3,6 +3,7 @@ use Rattle.std.proofs.Common.{◌≡◌, ◌<◌, ◌≤◌, ◌+◌, ◌-◌, �
 use Rattle.std.specs.List.{remove_range}
 use Rattle.std.proofs.lemmas.List.{get_or_read, length-set, take-set, length_push, get_or-set_same, nil_from_length}
 use Rattle.std.proofs.lemmas.List.Edits.{length-remove}
+use Rattle.buffer_pool.specs.declared.block.TheConstants.{HALF}
 use Rattle.sm_names.specs.declared.keys.Interval.{Interval}
 use Rattle.buffer_pool.specs.Rows.{all_in}
 use Rattle.buffer_pool.proofs.Blocking.{blocks-gone, remove-set}
@@ -72,7 +73,7 @@ returns-then-len-eq0-clause-changed c =
       front = ap (take c.args.spot.block) c.remove-block.ensures.items
           ∙ take-remove L c.args.spot.block c.args.spot.block (omega arith) (omega (arith, lt))
           ∙ take-set c.self.inside.used.items c.args.spot.block X;
-      capacity = ap (λ n. (n - 1) * 64) all;
+      capacity = ap (λ n. (n - 1) * HALF) all;
     })
 
 pub returns-else-len-eq0-clause-changed : goal.returns-else-len-eq0-clause-changed
@@ -82,6 +83,6 @@ returns-else-len-eq0-clause-changed c =
     (record {
       items_are = items m;
       front = take-set c.self.inside.used.items c.args.spot.block c.remove_run.new.self;
-      capacity = ap (λ n. (n + length c.self.inside.spare.items - 1) * 64)
+      capacity = ap (λ n. (n + length c.self.inside.spare.items - 1) * HALF)
           (length-set c.self.inside.used.items c.args.spot.block c.remove_run.new.self);
     })

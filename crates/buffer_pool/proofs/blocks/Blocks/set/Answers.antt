@@ -1,6 +1,7 @@
 -- The interval lies in its block.
 use Rattle.std.proofs.Common.{◌≡◌, ◌+◌, ◌-◌, ◌*◌, ◌∙◌, ap, length, get_or, set, [], List}
 use Rattle.std.proofs.lemmas.List.{get_or_read, length-set, take-set}
+use Rattle.buffer_pool.specs.declared.block.TheConstants.{HALF}
 use Rattle.sm_names.specs.declared.keys.Interval.{Interval}
 use Rattle.buffer_pool.specs.Rows.{all_in}
 use Rattle.buffer_pool.proofs.Joins.{set_in}
@@ -17,7 +18,7 @@ returns-clause-changed c =
           ∙ ap (λ (B : List Interval). set B c.args.spot.offset c.args.new) here)
           ∙ set_in c.self.inside.used.items c.args.spot.block c.args.spot.offset c.args.new taken.0 taken.1;
       front = take-set c.self.inside.used.items c.args.spot.block c.set.new.self;
-      capacity = ap (λ n. (n + length c.self.inside.spare.items - 1) * 64)
+      capacity = ap (λ n. (n + length c.self.inside.spare.items - 1) * HALF)
           (length-set c.self.inside.used.items c.args.spot.block c.set.new.self);
     })
 

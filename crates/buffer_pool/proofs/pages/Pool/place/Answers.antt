@@ -1,6 +1,7 @@
 -- What all the buffers together make of the pool.
 use Rattle.std.proofs.Common.{◌<◌, ◌≤◌, ◌∙◌, refl, sym, ap, rules, arith, ◌+◌}
 use Rattle.std.proofs.lemmas.Bool.{leb-true, leb-false}
+use Rattle.sm_names.specs.declared.rules.TheConstants.{MAX_PAGES}
 use Rattle.buffer_pool.specs.Fitting.{rooms, starts_in}
 use Rattle.buffer_pool.specs.Holdings.{with_buffers}
 use Rattle.buffer_pool.specs.Rows.{Listed}
@@ -67,7 +68,7 @@ overflow_add-self c =
     let long = length-le 0 c.self.inside.size (with_buffers c.args.pages_each (starts_in c.args.pages_each c.args.count
     c.self.inside.holes.items)
     (all_in c.self.inside.held.lists)) run.in_order in
-    let small : c.self.inside.buffers + c.args.count ≤ 1048576 = omega (
+    let small : c.self.inside.buffers + c.args.count ≤ MAX_PAGES = omega (
       arith,
       long,
       run.length_is,
