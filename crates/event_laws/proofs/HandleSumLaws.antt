@@ -4,6 +4,7 @@ use Rattle.std.proofs.lemmas.Bool.{eq-eqb, eqb-true, eqb-false}
 use Rattle.std.proofs.lemmas.List.Sums.{length-filter, sum_by-cons}
 use Rattle.std.specs.Int.{bit_at}
 use Rattle.std.specs.List.{filter, fold, range_with_len, sum_by}
+use Rattle.sm_names.specs.declared.rules.TheConstants.{MAX_BUFFERS}
 use Rattle.sm_names.specs.declared.keys.BufferName.{BufferName}
 use Rattle.sm_names.specs.declared.keys.Strength.{Strength}
 use Rattle.sm_names.specs.declared.messages.Call.{Call}
@@ -274,7 +275,7 @@ module _ (cs is : List ℕ) (test : BufferName → Mark → Bool) (amount : Mark
 -- ---- a legal history
 
 -- the indices of a set are those that the sum goes over
-same_indices : (set : ℕ) → length (filter (λ i. bit_at set i == 1) (range_with_len 0 64)) ≡ length (indices_in set)
+same_indices : (set : ℕ) → length (filter (λ i. bit_at set i == 1) (range_with_len 0 MAX_BUFFERS)) ≡ length (indices_in set)
 unfolding indices_in
 same_indices set = refl
 
@@ -294,43 +295,43 @@ module _ (pool : ℕ) (limits : Bound) (history : List Entry) (legal : IsLegal p
   once = listed_once collections lists.once
 
   -- a buffer that is there is listed
-  listed : (b : BufferName) → IsThere pool limits (timeline pool history) b → IsListed collections (range_with_len 0 64) b
-  listed b there = (lists.all b.collection there.0, in_range 0 64 b.index (omega arith) (omega (arith, there.1)))
+  listed : (b : BufferName) → IsThere pool limits (timeline pool history) b → IsListed collections (range_with_len 0 MAX_BUFFERS) b
+  listed b there = (lists.all b.collection there.0, in_range 0 MAX_BUFFERS b.index (omega arith) (omega (arith, there.1)))
 
   module _ (who : ℕ → Bool) where
     -- what was opened
     opened_sum : over_buffers collections (λ b. times (opens who b strength) (timeline pool history)) ≡ opened who strength history
     opened_sum =
-        count_all collections (range_with_len 0 64) (λ b. opens who b strength) (opened_at who strength) (opens_quiet who strength)
-        (opens_add collections (range_with_len 0 64) once (range_once 0 64) same_indices who strength)
+        count_all collections (range_with_len 0 MAX_BUFFERS) (λ b. opens who b strength) (opened_at who strength) (opens_quiet who strength)
+        (opens_add collections (range_with_len 0 MAX_BUFFERS) once (range_once 0 MAX_BUFFERS) same_indices who strength)
         pool history (λ b h. listed b (opens_there pool limits marks grown who b strength h))
 
     -- what was dropped
     dropped_sum : over_buffers collections (λ b. times (drops who b strength) (timeline pool history)) ≡ dropped who strength history
     dropped_sum =
-        count_all collections (range_with_len 0 64) (λ b. drops who b strength) (dropped_at who strength) (drops_quiet who strength)
-        (drops_add collections (range_with_len 0 64) once (range_once 0 64) same_indices who strength)
+        count_all collections (range_with_len 0 MAX_BUFFERS) (λ b. drops who b strength) (dropped_at who strength) (drops_quiet who strength)
+        (drops_add collections (range_with_len 0 MAX_BUFFERS) once (range_once 0 MAX_BUFFERS) same_indices who strength)
         pool history (λ b h. listed b (drops_there pool limits marks grown who b strength h))
 
     -- what was put into parcels
     sent_sum : over_buffers collections (λ b. times (lifts who b strength) (timeline pool history)) ≡ sent who strength history
     sent_sum =
-        count_all collections (range_with_len 0 64) (λ b. lifts who b strength) (sent_at who strength) (lifts_quiet who strength)
-        (lifts_add collections (range_with_len 0 64) once (range_once 0 64) same_indices who strength)
+        count_all collections (range_with_len 0 MAX_BUFFERS) (λ b. lifts who b strength) (sent_at who strength) (lifts_quiet who strength)
+        (lifts_add collections (range_with_len 0 MAX_BUFFERS) once (range_once 0 MAX_BUFFERS) same_indices who strength)
         pool history (λ b h. listed b (lifts_there pool limits marks grown who b strength h))
 
     -- what was taken out
     got_sum : over_buffers collections (λ b. times (lands who b strength) (timeline pool history)) ≡ got who strength history
     got_sum =
-        count_all collections (range_with_len 0 64) (λ b. lands who b strength) (got_at who strength) (lands_quiet who strength)
-        (lands_add collections (range_with_len 0 64) once (range_once 0 64) same_indices who strength)
+        count_all collections (range_with_len 0 MAX_BUFFERS) (λ b. lands who b strength) (got_at who strength) (lands_quiet who strength)
+        (lands_add collections (range_with_len 0 MAX_BUFFERS) once (range_once 0 MAX_BUFFERS) same_indices who strength)
         pool history (λ b h. listed b (lands_there pool limits marks grown who b strength h))
 
   -- two counts of each buffer, of which one adds to the third
   two_sums : (f g h : BufferName → ℕ) → ((b : BufferName) → f b + g b ≡ h b) →
       over_buffers collections f + over_buffers collections g ≡ over_buffers collections h
   two_sums f g h adds =
-      sym (grid-add collections (range_with_len 0 64) f g) ∙ grid-same collections (range_with_len 0 64) (λ b. f b + g b) h adds
+      sym (grid-add collections (range_with_len 0 MAX_BUFFERS) f g) ∙ grid-same collections (range_with_len 0 MAX_BUFFERS) (λ b. f b + g b) h adds
 
   -- what is open in all
   pub total_adds : over_buffers collections (λ b. open_total (timeline pool history) b strength) + dropped anyone strength history ≡ opened
@@ -367,8 +368,8 @@ module _ (pool : ℕ) (limits : Bound) (history : List Entry) (legal : IsLegal p
       omega (
         arith,
         sums,
-        grid-add collections (range_with_len 0 64) d u,
-        grid-add collections (range_with_len 0 64) o l,
+        grid-add collections (range_with_len 0 MAX_BUFFERS) d u,
+        grid-add collections (range_with_len 0 MAX_BUFFERS) o l,
         opened_sum (only client),
         dropped_sum (only client),
         sent_sum (only client),

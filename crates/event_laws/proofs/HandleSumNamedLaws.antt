@@ -1,9 +1,10 @@
--- Handles that were ever moved are on the buffers that are there, of which a collection has 64 at most.
+-- Handles that were ever moved are on the buffers that are there, of which a collection has `MAX_BUFFERS` at most.
 use Rattle.std.proofs.Common.{ℕ, zero, suc, ◌≡◌, ◌≤◌, ◌<◌, ◌+◌, refl, ap, sym, ◌∙◌, subst, Bool, true, false, ◌==◌, nat_lt, not, inl, inr, List, map, [], ◌∷◌, Option, Some, None, is_some, is_none, arith}
 use Rattle.std.proofs.lemmas.Bool.{eqb-true, eq-eqb, ltb-true, ltb-false}
 use Rattle.std.proofs.lemmas.List.Sums.{sum_by-cons}
 use Rattle.std.specs.List.{list_any, range_with_len, sum_by}
 use Rattle.std.specs.Option.{option_map_or}
+use Rattle.sm_names.specs.declared.rules.TheConstants.{MAX_BUFFERS}
 use Rattle.sm_names.specs.declared.keys.BufferName.{BufferName}
 use Rattle.sm_names.specs.declared.keys.NodeKey.{NodeKey}
 use Rattle.sm_names.specs.declared.keys.Strength.{Strength}
@@ -37,7 +38,7 @@ use Rattle.event_laws.specs.HandleSums.{ListsAllocated, allocated_collections, o
 use Rattle.event_laws.proofs.HandleBufferLaws.{opened_named, some_opened, stranger_has_none}
 use Rattle.event_laws.proofs.HandleEventLaws.{open_of_mark}
 
--- ---- no collection has more than 64 buffers
+-- ---- no collection has more buffers than may be
 
 -- where nothing stands against it, there are not too many
 not_many : (a b c d : Bool) (x y z w : Failure) → first_some (when a x ∷ when b y ∷ when c z ∷ when d w ∷ []) ≡ None → c ≡ false
@@ -93,8 +94,8 @@ module _ (pool : ℕ) (limits : Bound) where
   -- an allocation gives no more
   few_after : (before : Timeline) (collection : ℕ) (head : NodeKey) → Grows pool limits [] before →
       Why pool collection before (Allocated head) →
-      ((c : ℕ) (w : Buffers) → buffers_of before c ≡ Some w → w.count ≤ 64) → (c : ℕ) (w : Buffers) →
-      buffers_of (Allocated head ∷ before) c ≡ Some w → w.count ≤ 64
+      ((c : ℕ) (w : Buffers) → buffers_of before c ≡ Some w → w.count ≤ MAX_BUFFERS) → (c : ℕ) (w : Buffers) →
+      buffers_of (Allocated head ∷ before) c ≡ Some w → w.count ≤ MAX_BUFFERS
   few_after before collection _ g (Initial b on ours root free waits found fits) old c w h =
       let ord : IsOrdered before = ordered pool limits before g in
       let is : birth_of before b.node ≡ Some b = find_birth (births before) b ord.sound on in
@@ -105,12 +106,12 @@ module _ (pool : ℕ) (limits : Bound) where
             let told : Some (asked (members before c)) ≡ Some w = rw (is, root, e) at h in
             let fits' : initial_failure pool (standing pool before c) (asked (members before c)) ≡ None =
             subst (λ (k : ℕ). initial_failure pool (standing pool before k) (asked (members before k)) ≡ None) same fits in
-            let most : nat_lt 64 v.count ≡ false =
-            not_many (not (some_strong_live (members before c))) (v.count == 0) (nat_lt 64 v.count)
+            let most : nat_lt MAX_BUFFERS v.count ≡ false =
+            not_many (not (some_strong_live (members before c))) (v.count == 0) (nat_lt MAX_BUFFERS v.count)
             (is_none (places pool (pages_of v.size) v.count (standing pool before c).held)) Failure.NoStrong Failure.NoBuffers
             Failure.TooManyBuffers Failure.PoolFull fits' in
             let is_it : asked (members before c) ≡ w = cc in
-            subst (λ (x : Buffers). x.count ≤ 64) is_it (ltb-false 64 v.count most)
+            subst (λ (x : Buffers). x.count ≤ MAX_BUFFERS) is_it (ltb-false MAX_BUFFERS v.count most)
         | inr e ↦ old c w (rw (is, root, e) at h)
       ]
   few_after before collection _ g (Logical b on ours child free waits attached) old c w h =
@@ -120,7 +121,7 @@ module _ (pool : ℕ) (limits : Bound) where
       old c w (rw (is, up) at h)
 
   -- so none has more
-  few : (marks : Timeline) → Grows pool limits [] marks → (c : ℕ) (w : Buffers) → buffers_of marks c ≡ Some w → w.count ≤ 64
+  few : (marks : Timeline) → Grows pool limits [] marks → (c : ℕ) (w : Buffers) → buffers_of marks c ≡ Some w → w.count ≤ MAX_BUFFERS
   few _ Stays c w h = cc
   few _ (Loses before origin cause g born) c w h = few before g c w h
   few _ (Ends before collection top g e) c w h = few before g c w h
@@ -128,15 +129,15 @@ module _ (pool : ℕ) (limits : Bound) where
   few _ (Allocates before collection head g e) c w h =
       few_after before collection head g (forced_why pool collection before (Allocated head) e) (few before g) c w h
 
-  -- a buffer that is there is of an allocated collection, and has an index below 64
+  -- a buffer that is there is of an allocated collection, and has an index in range
   pub named_there : (marks : Timeline) → Grows pool limits [] marks → (buffer : BufferName) →
       list_any (λ name. same_buffer name buffer) (buffer_names marks buffer.collection) ≡ true →
-      (is_some (buffers_of marks buffer.collection) ≡ true) × (buffer.index < 64)
+      (is_some (buffers_of marks buffer.collection) ≡ true) × (buffer.index < MAX_BUFFERS)
   named_there marks g buffer h = from (buffers_of marks buffer.collection) (few marks g buffer.collection) h
     where
-      from : (o : Option Buffers) → ((w : Buffers) → o ≡ Some w → w.count ≤ 64) →
+      from : (o : Option Buffers) → ((w : Buffers) → o ≡ Some w → w.count ≤ MAX_BUFFERS) →
           list_any (λ name. same_buffer name buffer) (option_map_or (λ (b : Buffers). names buffer.collection b.count) o []) ≡ true →
-          (is_some o ≡ true) × (buffer.index < 64)
+          (is_some o ≡ true) × (buffer.index < MAX_BUFFERS)
       from None most h = cc
       from (Some w) most h =
           let below : nat_lt buffer.index w.count ≡ true =
@@ -148,20 +149,20 @@ module _ (pool : ℕ) (limits : Bound) where
       list_any (λ name. same_buffer name b) (buffer_names marks b.collection) ≡ true) →
       (collections : List ℕ) → over_buffers collections count ≡ sum_by (λ c. sum_by count (buffer_names marks c)) collections
   by_name marks g count there collections =
-      sum_by-same (λ c. sum_by (λ i. count (record { collection = c; index = i })) (range_with_len 0 64)) (λ c.
+      sum_by-same (λ c. sum_by (λ i. count (record { collection = c; index = i })) (range_with_len 0 MAX_BUFFERS)) (λ c.
       sum_by count (buffer_names marks c)) collections
       (λ c. from c (buffers_of marks c) (few marks g c) (λ i some. there (record { collection = c; index = i }) some))
     where
-      from : (c : ℕ) (o : Option Buffers) → ((w : Buffers) → o ≡ Some w → w.count ≤ 64) →
+      from : (c : ℕ) (o : Option Buffers) → ((w : Buffers) → o ≡ Some w → w.count ≤ MAX_BUFFERS) →
           ((i : ℕ) → 0 < count (record { collection = c; index = i }) →
           list_any (λ name. same_buffer name (record { collection = c; index = i })) (option_map_or (λ (b : Buffers).
           names c b.count) o []) ≡ true) →
-          sum_by (λ i. count (record { collection = c; index = i })) (range_with_len 0 64) ≡ sum_by count (option_map_or (λ (b : Buffers).
+          sum_by (λ i. count (record { collection = c; index = i })) (range_with_len 0 MAX_BUFFERS) ≡ sum_by count (option_map_or (λ (b : Buffers).
           names c b.count) o [])
-      from c None most on = none_on (λ i. count (record { collection = c; index = i })) 0 64 (λ i low.
+      from c None most on = none_on (λ i. count (record { collection = c; index = i })) 0 MAX_BUFFERS (λ i low.
           zero_if (count (record { collection = c; index = i })) (λ some. let no : false ≡ true = on i some in cc))
       from c (Some w) most on =
-          longer_range (λ i. count (record { collection = c; index = i })) 0 w.count 64 (most w refl)
+          longer_range (λ i. count (record { collection = c; index = i })) 0 w.count MAX_BUFFERS (most w refl)
           (λ i high. zero_if (count (record { collection = c; index = i })) (λ some.
           let below : nat_lt i w.count ≡ true =
           and_right (c == c) _ (sym (named_below c w.count (record { collection = c; index = i })) ∙ on i some) in
@@ -261,9 +262,9 @@ module _ (pool : ℕ) (limits : Bound) where
 
   -- ---- who moved it
 
-  -- the buffer is of an allocated collection, and its index is below 64
+  -- the buffer is of an allocated collection, and its index is in range
   abbrev pub IsThere : Timeline → BufferName → Type 0
-  IsThere marks buffer = (is_some (buffers_of marks buffer.collection) ≡ true) × (buffer.index < 64)
+  IsThere marks buffer = (is_some (buffers_of marks buffer.collection) ≡ true) × (buffer.index < MAX_BUFFERS)
 
   module _ (marks : Timeline) (g : Grows pool limits [] marks) (who : ℕ → Bool) (buffer : BufferName) (strength : Strength) where
     -- what was opened is there

@@ -6,6 +6,7 @@ use Rattle.std.proofs.lemmas.Grind.{common_steps}
 use Rattle.std.proofs.lemmas.Nat.{shr-shr}
 use Rattle.std.specs.Int.{bit_at}
 use Rattle.std.specs.List.{filter, range_with_len}
+use Rattle.sm_names.specs.declared.rules.TheConstants.{MAX_BUFFERS}
 use Rattle.event_laws.specs.HandleSums.{indices_below, indices_in}
 
 -- so many numbers have no more buffers
@@ -15,9 +16,9 @@ below_most most set =
     omega (arith, length-filter p (range_with_len 0 most), count_by-le-length p (range_with_len 0 most), length-range_with_len 0 most)
 
 -- nor has the set of all
-pub indices_most : (set : ℕ) → length (indices_in set) ≤ 64
+pub indices_most : (set : ℕ) → length (indices_in set) ≤ MAX_BUFFERS
 unfolding indices_in
-indices_most set = below_most 64 set
+indices_most set = below_most MAX_BUFFERS set
 
 -- one more number
 range-push : (a n : ℕ) → range_with_len a (n + 1) ≡ range_with_len a n ++ (a + n) ∷ []

@@ -3,6 +3,7 @@ use Rattle.std.specs.Prelude.{ℕ, ◌≤◌, ◌≡◌, Bool, true, ◌==◌, �
 use Rattle.std.specs.Int.{bit_at}
 use Rattle.std.specs.List.{cons_option, filter, list_any, range_with_len, sum_by}
 use Rattle.std.specs.Option.{option_and_then}
+use Rattle.sm_names.specs.declared.rules.TheConstants.{MAX_BUFFERS}
 use Rattle.sm_names.specs.declared.keys.BufferName.{BufferName}
 use Rattle.sm_names.specs.declared.keys.Strength.{Strength}
 use Rattle.sm_names.specs.declared.messages.Call.{Call}
@@ -22,7 +23,7 @@ indices_below most set = filter (λ i. bit_at set i == 1) (range_with_len 0 most
 
 -- all buffers of a set, by their indices
 unfoldable pub indices_in : ℕ → List ℕ
-indices_in set = indices_below 64 set
+indices_in set = indices_below MAX_BUFFERS set
 
 -- so many, where the strengths are one
 abbrev pub count_if : Strength → Strength → ℕ → ℕ
@@ -93,10 +94,10 @@ abbrev pub allocated_collections : Timeline → List ℕ
 allocated_collections [] = []
 allocated_collections (mark ∷ before) = cons_option (given_buffers before mark) (allocated_collections before)
 
--- a count of each buffer, added up over these collections: no collection has more than 64, with indices from 0
+-- a count of each buffer, added up over these collections: no collection has more than may be, with indices from 0
 abbrev pub over_buffers : List ℕ → (BufferName → ℕ) → ℕ
 over_buffers collections count =
-    sum_by (λ c. sum_by (λ i. count (record { collection = c; index = i })) (range_with_len 0 64)) collections
+    sum_by (λ c. sum_by (λ i. count (record { collection = c; index = i })) (range_with_len 0 MAX_BUFFERS)) collections
 
 -- ---- over all buffers of a timeline
 

@@ -4,6 +4,9 @@ ghost use Rattle.event_laws.specs.HandleSums.{count_if, indices_in};
 
 use sm_names::{Strength, has_buffer};
 
+// How many bits the set of a Take has, one for each buffer.
+pub(crate) const SET_BITS: u8 = 64;
+
 /// One, where the strengths are the same, and else none. Takes a constant time.
 pub fn count_one(strength: Strength, other: Strength) -> u64
     ensures { result ≡ count_if strength other 1 }
@@ -21,7 +24,7 @@ fn size_of(set: u64) -> u64
 {
     let mut size = 0;
     let mut index = 0;
-    while index < 64 && set >> index != 0 {
+    while index < SET_BITS && set >> index != 0 {
         if has_buffer(set, index) {
             size += 1;
         }

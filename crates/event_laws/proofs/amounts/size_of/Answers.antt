@@ -1,4 +1,5 @@
 use Rattle.std.proofs.Common.{Bool, ℕ, ◌≡◌, ◌+◌, ◌-◌, ◌∙◌, ap, arith, cond, length, sym}
+use Rattle.event_laws.specs.declared.amounts.TheConstants.{SET_BITS}
 use Rattle.event_laws.specs.HandleSums.{indices_below, indices_in}
 use Rattle.event_laws.proofs.SetLaws.{below_most, below_push, below_rest}
 use Rattle.event_laws.proofs.amounts.size_of.Goals as goal
@@ -25,12 +26,12 @@ pub returns-else-set-index-ne0 : goal.returns-else-set-index-ne0
 unfolding indices_in
 returns-else-set-index-ne0 c =
     let most = c.loop-index.invariant.0 in
-    let all : c.loop-index.index + (64 - c.loop-index.index) ≡ 64 = omega (arith, most) in
-    c.loop-index.invariant.1 ∙ below_rest (64 - c.loop-index.index) c.loop-index.index c.args.set c.if-set-index-ne0.false
+    let all : c.loop-index.index + (SET_BITS - c.loop-index.index) ≡ SET_BITS = omega (arith, most) in
+    c.loop-index.invariant.1 ∙ below_rest (SET_BITS - c.loop-index.index) c.loop-index.index c.args.set c.if-set-index-ne0.false
     ∙ ap (λ n. length (indices_below n c.args.set)) all
 
 pub returns-after-loop-index : goal.returns-after-loop-index
 unfolding indices_in
 returns-after-loop-index c =
-    let all : c.loop-index.index ≡ 64 = omega (arith, c.loop-index-test.false, c.loop-index.invariant.0) in
+    let all : c.loop-index.index ≡ SET_BITS = omega (arith, c.loop-index-test.false, c.loop-index.invariant.0) in
     c.loop-index.invariant.1 ∙ ap (λ n. length (indices_below n c.args.set)) all

@@ -1,10 +1,11 @@
 use Rattle.std.proofs.Common.{◌-◌, ◌≡◌, ◌≤◌, length}
+use Rattle.event_laws.specs.declared.amounts.TheConstants.{SET_BITS}
 use Rattle.event_laws.specs.HandleSums.{indices_below}
 use Rattle.event_laws.proofs.amounts.size_of.Given as goal
 
 -- the indices looked at so far are counted
 abbrev pub invariant-loop-index : goal.invariant-loop-index
-invariant-loop-index l = (l.index ≤ 64) × (l.size ≡ length (indices_below l.index l.set))
+invariant-loop-index l = (l.index ≤ SET_BITS) × (l.size ≡ length (indices_below l.index l.set))
 
 abbrev pub decreases-loop-index : goal.decreases-loop-index
-decreases-loop-index l = 64 - l.index
+decreases-loop-index l = SET_BITS - l.index
