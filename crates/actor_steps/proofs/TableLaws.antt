@@ -1,6 +1,7 @@
 -- Tables, and what is known by them.
 use Rattle.std.proofs.Common.{ℕ, suc, ◌≡◌, ◌<◌, ◌+◌, ◌-◌, ◌∙◌, refl, ap, sym, Bool, true, false, if◌then◌else◌, ◌==◌, List, [], ◌∷◌, ◌++◌, append_assoc, append-nil, map, Option, Some, None, arith}
 use Rattle.std.specs.Int.{bit_at}
+use Rattle.sm_names.specs.declared.rules.TheConstants.{MAX_BUFFERS}
 use Rattle.sm_names.specs.declared.keys.BufferName.{BufferName}
 use Rattle.sm_names.specs.declared.keys.Strength.{Strength}
 use Rattle.actor_steps.specs.declared.queues.Queues.{Queues}
@@ -20,11 +21,11 @@ both_none strong weak none none' Strength.Weak = none'
 module _ (collection : ℕ) (strength : Strength) (set index : ℕ) where
   -- the handles from this index on
   abbrev pub rest_from : List Thing
-  rest_from = handles_from collection strength set index (64 - index)
+  rest_from = handles_from collection strength set index (MAX_BUFFERS - index)
 
   -- and those behind it
   abbrev pub behind : List Thing
-  behind = handles_from collection strength set (index + 1) (64 - (index + 1))
+  behind = handles_from collection strength set (index + 1) (MAX_BUFFERS - (index + 1))
 
   -- this one
   abbrev pub handle_here : Thing
@@ -48,21 +49,21 @@ module _ (collection : ℕ) (strength : Strength) (set index : ℕ) where
   from_none = refl
 
   -- behind one that the set has
-  pub step_with : index < 64 → (bit_at set index == 1) ≡ true → rest_from ≡ handle_here ∷ behind
+  pub step_with : index < MAX_BUFFERS → (bit_at set index == 1) ≡ true → rest_from ≡ handle_here ∷ behind
   step_with low is =
-      let e : 64 - index ≡ suc (64 - (index + 1)) = omega arith in
-      ap (λ n. handles_from collection strength set index n) e ∙ from_with (64 - (index + 1)) is
+      let e : MAX_BUFFERS - index ≡ suc (MAX_BUFFERS - (index + 1)) = omega arith in
+      ap (λ n. handles_from collection strength set index n) e ∙ from_with (MAX_BUFFERS - (index + 1)) is
 
   -- behind one that it has not
-  pub step_without : index < 64 → (bit_at set index == 1) ≡ false → rest_from ≡ behind
+  pub step_without : index < MAX_BUFFERS → (bit_at set index == 1) ≡ false → rest_from ≡ behind
   step_without low is =
-      let e : 64 - index ≡ suc (64 - (index + 1)) = omega arith in
-      ap (λ n. handles_from collection strength set index n) e ∙ from_without (64 - (index + 1)) is
+      let e : MAX_BUFFERS - index ≡ suc (MAX_BUFFERS - (index + 1)) = omega arith in
+      ap (λ n. handles_from collection strength set index n) e ∙ from_without (MAX_BUFFERS - (index + 1)) is
 
   -- at the end there are none
-  pub at_end : index ≡ 64 → rest_from ≡ []
+  pub at_end : index ≡ MAX_BUFFERS → rest_from ≡ []
   at_end is =
-      let e : 64 - index ≡ 0 = omega arith in
+      let e : MAX_BUFFERS - index ≡ 0 = omega arith in
       ap (λ n. handles_from collection strength set index n) e ∙ from_none
 
 -- a thing that is gone

@@ -2,6 +2,7 @@
 use Rattle.std.specs.Prelude.{ℕ, zero, suc, ◌+◌, Bool, true, false, ◌==◌, if◌then◌else◌, List, [], ◌∷◌, ◌++◌, length, drop, set, slice_get, Option, Some, None, is_some, ⊤, ◌≡◌, map}
 use Rattle.std.specs.Int.{bit_at}
 use Rattle.std.specs.Option.{option_and_then, option_map}
+use Rattle.sm_names.specs.declared.rules.TheConstants.{MAX_BUFFERS}
 use Rattle.sm_names.specs.declared.keys.BufferName.{BufferName}
 use Rattle.sm_names.specs.declared.keys.Kind.{Kind}
 use Rattle.sm_names.specs.declared.keys.NodeKey.{NodeKey}
@@ -244,7 +245,7 @@ handles_from collection strength set index (suc count) =
 
 -- handles of all of them, by rising index
 abbrev pub handles_in : ℕ → Strength → ℕ → List Thing
-handles_in collection strength set = handles_from collection strength set 0 64
+handles_in collection strength set = handles_from collection strength set 0 MAX_BUFFERS
 
 -- an end of this kind
 abbrev pub end_of : Kind → NodeKey → ℕ → Thing

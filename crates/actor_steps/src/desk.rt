@@ -14,6 +14,9 @@ use sm_names::{
 use std::alloc::{AllocError, Global};
 use std::collections::HashMap;
 
+// How many bits the set of a Take has, one for each buffer.
+pub(crate) const SET_BITS: u8 = 64;
+
 /// What an actor knows by the replies that it got: what its labels stand for, and all things that it
 /// was given, each in a slot of its own, in the order in which they came.
 ///
@@ -269,7 +272,7 @@ impl Desk {
         ensures { OnOk result (known self.new
             ≡ with_things (known self.old) (handles_in collection strength set)) }
     {
-        'pushing: for index in 0..64u8 {
+        'pushing: for index in 0..SET_BITS {
             if has_buffer(set, index) {
                 let buffer = BufferName { collection, index };
                 self.push(Thing::Handle { buffer, strength })?;

@@ -1,5 +1,6 @@
 use Rattle.std.proofs.Common.{◌≡◌, ◌<◌, ◌∙◌, true, false, ◌==◌, ap, arith, sym}
 use Rattle.std.specs.Int.{bit_at}
+use Rattle.sm_names.specs.declared.rules.TheConstants.{MAX_BUFFERS}
 use Rattle.actor_steps.specs.Desks.{Known, with_things}
 use Rattle.actor_steps.specs.Tables.{known}
 use Rattle.actor_steps.proofs.TableLaws.{at_end, behind, step_with, step_without}
@@ -9,7 +10,7 @@ use Rattle.actor_steps.proofs.desk.Desk.push_handles.Goals.{then-has_buffer+in_o
 pub pushing-preserved : goal.pushing-preserved
 pushing-preserved c =
     let i = c.pushing.index in
-    let low : i < 64 = c.pushing-test.true in
+    let low : i < MAX_BUFFERS = c.pushing-test.true in
     let so = c.pushing.invariant in
     let rest = behind c.args.collection c.args.strength c.args.set i in
     elim c.if-has_buffer.branch [
@@ -26,6 +27,6 @@ pushing-preserved c =
 
 pub returns : goal.returns
 returns c =
-    let all : c.pushing.index ≡ 64 = omega (arith, c.pushing-test.false, c.pushing.auto.index-end) in
+    let all : c.pushing.index ≡ MAX_BUFFERS = omega (arith, c.pushing-test.false, c.pushing.auto.index-end) in
     sym (ap (with_things (known c.pushing.self)) (at_end c.args.collection c.args.strength c.args.set c.pushing.index all))
     ∙ c.pushing.invariant
