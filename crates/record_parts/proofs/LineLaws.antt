@@ -1,6 +1,7 @@
 -- How much a part can bring.
 use Rattle.std.proofs.Common.{ℕ, ◌≡◌, ◌≤◌, ◌+◌, ◌*◌, refl, Bool, true, false, List, [], ◌∷◌, length, arith}
 use Rattle.std.proofs.lemmas.List.Sums.{sum_by-cons}
+use Rattle.sm_names.specs.declared.rules.TheConstants.{MAX_BUFFERS}
 use Rattle.sm_names.specs.declared.keys.Strength.{Strength}
 use Rattle.sm_names.specs.declared.messages.Call.{Call}
 use Rattle.sm_names.specs.declared.messages.Reply.{Reply}
@@ -12,22 +13,22 @@ use Rattle.record_parts.specs.Lines.{gained_by, gains, losses, lost_by}
 use Rattle.record_parts.specs.Parts.{is_own, part_from}
 use Rattle.event_laws.proofs.SetLaws.{indices_most, cond-le}
 
--- an event brings 64 handles at most
-gained_most : (strength : Strength) (call : Call) (reply : Reply) → gained_by strength call reply ≤ 64
+-- an event brings at most a handle of each buffer
+gained_most : (strength : Strength) (call : Call) (reply : Reply) → gained_by strength call reply ≤ MAX_BUFFERS
 gained_most strength (Call.Take key) (Reply.Taken collection taken set) =
-    cond-le (same_strength taken strength) (length (indices_in set)) 64 (indices_most set)
-gained_most strength (Call.DupHandle buffer dup) Reply.Done = cond-le (same_strength dup strength) 1 64 (omega arith)
-gained_most strength Call.Collect (Reply.CollectedHandle buffer got) = cond-le (same_strength got strength) 1 64 (omega arith)
+    cond-le (same_strength taken strength) (length (indices_in set)) MAX_BUFFERS (indices_most set)
+gained_most strength (Call.DupHandle buffer dup) Reply.Done = cond-le (same_strength dup strength) 1 MAX_BUFFERS (omega arith)
+gained_most strength Call.Collect (Reply.CollectedHandle buffer got) = cond-le (same_strength got strength) 1 MAX_BUFFERS (omega arith)
 gained_most strength _ _ = omega arith
 
 -- and takes one
-lost_most : (strength : Strength) (call : Call) (reply : Reply) → lost_by strength call reply ≤ 64
-lost_most strength (Call.DropHandle buffer dropped) Reply.Done = cond-le (same_strength dropped strength) 1 64 (omega arith)
-lost_most strength (Call.GiveHandle buffer given to) Reply.Done = cond-le (same_strength given strength) 1 64 (omega arith)
+lost_most : (strength : Strength) (call : Call) (reply : Reply) → lost_by strength call reply ≤ MAX_BUFFERS
+lost_most strength (Call.DropHandle buffer dropped) Reply.Done = cond-le (same_strength dropped strength) 1 MAX_BUFFERS (omega arith)
+lost_most strength (Call.GiveHandle buffer given to) Reply.Done = cond-le (same_strength given strength) 1 MAX_BUFFERS (omega arith)
 lost_most strength _ _ = omega arith
 
 -- so a list of events brings no more for each
-pub gains_most : (strength : Strength) (own : List Own) → gains strength own ≤ length own * 64
+pub gains_most : (strength : Strength) (own : List Own) → gains strength own ≤ length own * MAX_BUFFERS
 gains_most strength [] = omega arith
 gains_most strength (o ∷ os) =
     omega (
@@ -38,7 +39,7 @@ gains_most strength (o ∷ os) =
     )
 
 -- and takes no more
-pub losses_most : (strength : Strength) (own : List Own) → losses strength own ≤ length own * 64
+pub losses_most : (strength : Strength) (own : List Own) → losses strength own ≤ length own * MAX_BUFFERS
 losses_most strength [] = omega arith
 losses_most strength (o ∷ os) =
     omega (
@@ -66,7 +67,7 @@ pub record IsCounted (strength : Strength) (gained lost : ℕ) (rest whole : Lis
 -- and fits a number
 pub fits_more : (strength : Strength) (gained lost : ℕ) (rest whole later : List Own) (own : Own) →
     IsCounted strength gained lost rest whole → rest ≡ own ∷ later →
-    (gained + gained_by strength own.call own.reply ≤ length whole * 64) × (lost + lost_by strength own.call own.reply ≤ length whole * 64)
+    (gained + gained_by strength own.call own.reply ≤ length whole * MAX_BUFFERS) × (lost + lost_by strength own.call own.reply ≤ length whole * MAX_BUFFERS)
 fits_more strength gained lost rest whole later own so on =
     let one : gains strength rest ≡ gained_by strength own.call own.reply + gains strength later =
     rw on (sum_by-cons (λ (x : Own). gained_by strength x.call x.reply) own later) in

@@ -5,6 +5,7 @@ use Rattle.std.proofs.lemmas.List.{reverse-append}
 use Rattle.std.proofs.lemmas.List.Elements.{All-cons, All-map, All-nil}
 use Rattle.std.proofs.lemmas.List.Sums.{sum_by-append, sum_by-cons}
 use Rattle.std.specs.List.{All, cons_option, range_with_len, sum_by}
+use Rattle.sm_names.specs.declared.rules.TheConstants.{MAX_BUFFERS}
 use Rattle.sm_names.specs.declared.keys.BufferName.{BufferName}
 use Rattle.sm_names.specs.declared.keys.Strength.{Strength}
 use Rattle.sm_names.specs.declared.keys.Strength.TheVariants.{Strong, Weak}
@@ -158,7 +159,7 @@ stranger_all : (pool : ℕ) (limits : Bound) (history : List Entry) → IsLegal 
     all_open_of (timeline pool history) client strength ≡ 0
 unfolding all_open_of
 stranger_all pool limits history legal client stranger strength =
-    over_none (allocated_collections (timeline pool history)) (range_with_len 0 64) (λ b. open_of (timeline pool history) client b strength)
+    over_none (allocated_collections (timeline pool history)) (range_with_len 0 MAX_BUFFERS) (λ b. open_of (timeline pool history) client b strength)
     (λ b. stranger_has_none pool limits (timeline pool history) (legal_grows pool limits history legal) client b strength stranger)
 
 module _ (pool : ℕ) (limits : Bound) (history : List Entry) (legal : IsLegal pool limits history) where
