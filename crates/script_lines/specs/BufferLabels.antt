@@ -2,6 +2,7 @@
 use Rattle.std.specs.Prelude.{ℕ, ◌+◌, ◌==◌, nat_lt, if◌then◌else◌, List, take, drop, Option, Some, None}
 use Rattle.std.specs.List.{position}
 use Rattle.std.specs.Option.{option_map, option_and_then}
+use Rattle.sm_names.specs.declared.rules.TheConstants.{MAX_BUFFERS}
 use Rattle.script_lines.specs.declared.buffer_label.BufferLabel.{BufferLabel}
 use Rattle.script_lines.specs.declared.label.Label.{Label}
 use Rattle.script_lines.specs.Labels.{label_of}
@@ -9,7 +10,7 @@ use Rattle.script_lines.specs.Numbers.{number_of}
 
 -- the index, if a collection may have such a buffer
 abbrev pub index_in_range : ℕ → Option ℕ
-index_in_range index = if nat_lt index 64 then Some index else None
+index_in_range index = if nat_lt index MAX_BUFFERS then Some index else None
 
 -- the buffer with the label that one word spells, and the index that the other spells
 abbrev pub labelled_by : List ℕ → List ℕ → Option BufferLabel

@@ -2,6 +2,7 @@
 use Rattle.std.specs.Prelude.{ℕ, ◌^◌, Bool, true, false, ◌==◌, ◌&&◌, nat_le, nat_lt, if◌then◌else◌, List, [], ◌∷◌, length, codes, Option, Some, None}
 use Rattle.std.specs.Option.{option_map, option_map_or, option_and_then}
 use Rattle.std.specs.Str.{bytes_eq}
+use Rattle.sm_names.specs.declared.rules.TheConstants.{MAX_AT_LEAST, MAX_CAMPING, MAX_SIZE}
 use Rattle.sm_names.specs.declared.keys.Strength.{Strength}
 use Rattle.sm_names.specs.Demands.{Demand}
 use Rattle.script_lines.specs.declared.label.Label.{Label}
@@ -48,7 +49,7 @@ plain_verb_of word =
 -- constraints of these numbers, if they are in range
 abbrev pub demand_in_range : ℕ → ℕ → ℕ → Option Demand
 demand_in_range camping at_least size =
-    if nat_le camping 64 && nat_le at_least 64 && nat_le 1 size && nat_le size (2 ^ 30)
+    if nat_le camping MAX_CAMPING && nat_le at_least MAX_AT_LEAST && nat_le 1 size && nat_le size MAX_SIZE
     then Some (record { camping = camping; at_least = at_least; size = size })
     else None
 

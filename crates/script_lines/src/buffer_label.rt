@@ -5,6 +5,7 @@ ghost use Rattle.script_lines.specs.BufferLabels.{buffer_label_of, index_in_rang
 use crate::label::Label;
 use crate::number::number;
 use crate::words::place_of;
+use sm_names::MAX_BUFFERS;
 
 /// A name of a buffer in a script: a label of a node of its collection, a point, and its index.
 #[derive(Clone, Copy, Debug, PartialEq, Eq)]
@@ -43,5 +44,9 @@ fn labelled(label: &[u8], index: &[u8]) -> Option<BufferLabel>
 fn in_range(index: u32) -> Option<u8>
     ensures { result ≡ index_in_range index }
 {
-    if index < 64 { Some(index as u8) } else { None }
+    if index < MAX_BUFFERS {
+        Some(index as u8)
+    } else {
+        None
+    }
 }

@@ -8,7 +8,7 @@ use crate::label::Label;
 use crate::line::{BufferVerb, Line, Verb, View};
 use crate::number::number;
 use crate::words::{cut, is, next_word};
-use sm_names::{Constraints, Strength};
+use sm_names::{Constraints, MAX_AT_LEAST, MAX_CAMPING, Strength};
 
 // The most bytes of a line, without its end.
 const LONGEST: usize = 256;
@@ -277,7 +277,7 @@ fn constraints(camping: &[u8], at_least: &[u8], size: &[u8]) -> Option<Constrain
 fn in_range(camping: u32, at_least: u32, size: u32) -> Option<Constraints>
     ensures { result ≡ demand_in_range camping at_least size }
 {
-    if 64 < camping || 64 < at_least {
+    if u32::from(MAX_CAMPING) < camping || u32::from(MAX_AT_LEAST) < at_least {
         return None;
     }
     Constraints::new(camping as u8, at_least as u8, size)
