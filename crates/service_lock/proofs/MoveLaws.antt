@@ -1,6 +1,7 @@
 -- How many handles an event can open or move.
 use Rattle.std.proofs.Common.{[], ◌∷◌, ◌≡◌, ◌≤◌, ◌+◌, ◌*◌, ◌⊎◌, refl, inl, inr, List, length, arith}
 use Rattle.std.proofs.lemmas.List.Sums.{sum_by-cons}
+use Rattle.sm_names.specs.declared.rules.TheConstants.{MAX_BUFFERS}
 use Rattle.sm_names.specs.declared.keys.Strength.{Strength}
 use Rattle.sm_names.specs.declared.messages.Call.{Call}
 use Rattle.sm_names.specs.declared.messages.Reply.{Reply}
@@ -13,14 +14,14 @@ use Rattle.service_lock.specs.Counting.{moves_by}
 use Rattle.service_lock.specs.Units.{needed}
 
 -- so a mark opens no more
-opened_most : (strength : Strength) (mark : Mark) → opened_at anyone strength mark ≤ 64
+opened_most : (strength : Strength) (mark : Mark) → opened_at anyone strength mark ≤ MAX_BUFFERS
 opened_most strength (Called client (Reply.Taken collection taken set) (Call.Take key)) =
-    cond-le (same_strength taken strength) (length (indices_in set)) 64 (indices_most set)
-opened_most strength (Called client Reply.Done (Call.DupHandle name dup)) = cond-le (same_strength dup strength) 1 64 (omega arith)
+    cond-le (same_strength taken strength) (length (indices_in set)) MAX_BUFFERS (indices_most set)
+opened_most strength (Called client Reply.Done (Call.DupHandle name dup)) = cond-le (same_strength dup strength) 1 MAX_BUFFERS (omega arith)
 opened_most strength _ = omega arith
 
 -- and a record no more for each entry
-pub opened_le : (strength : Strength) (history : List Entry) → opened anyone strength history ≤ length history * 64
+pub opened_le : (strength : Strength) (history : List Entry) → opened anyone strength history ≤ length history * MAX_BUFFERS
 opened_le strength [] = omega arith
 opened_le strength (e ∷ es) =
     omega (

@@ -6,7 +6,7 @@ ghost use Rattle.service_lock.specs.Units.{AreFor};
 use crate::blanks::Blanks;
 use crate::setup::Setup;
 use crate::state::State;
-use sm_names::{Limits, NoMemory};
+use sm_names::{Limits, MAX_PAGES, NoMemory};
 use std::alloc::Global;
 use std::sync::ledger::Ledger;
 use std::sync::{Mutex, MutexGuard, Wait};
@@ -58,7 +58,7 @@ impl<E: Setup, S: Ledger, W: Ledger> Service<E, S, W> {
         pages: u32,
         limits: Limits,
     ) -> Result<Service<E, S, W>, NoMemory>
-        requires pages { (1 ≤ pages) × (pages ≤ 1048576) }
+        requires pages { (1 ≤ pages) × (pages ≤ MAX_PAGES) }
         requires blanks { AreFor E.name E.parts S.name S.parts W.name W.parts blanks }
         requires asked { IsAsked E.pages E.limits pages limits }
     {
@@ -73,7 +73,7 @@ impl<E: Setup, S: Ledger, W: Ledger> Service<E, S, W> {
         limits: Limits,
         seed: [u8; 16],
     ) -> Result<Service<E, S, W>, NoMemory>
-        requires pages { (1 ≤ pages) × (pages ≤ 1048576) }
+        requires pages { (1 ≤ pages) × (pages ≤ MAX_PAGES) }
         requires blanks { AreFor E.name E.parts S.name S.parts W.name W.parts blanks }
         requires asked { IsAsked E.pages E.limits pages limits }
     {

@@ -16,7 +16,7 @@ use crate::shares::Units;
 use crate::sums::Books;
 use crate::tally::Tally;
 use lifetime_core::Core;
-use sm_names::{Call, ClientId, Limits, NoMemory, Reply, TrackerId};
+use sm_names::{Call, ClientId, Limits, MAX_PAGES, NoMemory, Reply, TrackerId};
 use std::alloc::Global;
 use std::marker::Model;
 use std::sync::ledger::Ledger;
@@ -61,7 +61,7 @@ impl<E: Setup, S: Ledger, W: Ledger> State<E, S, W> {
         limits: Limits,
         seed: [u8; 16],
     ) -> Result<State<E, S, W>, NoMemory>
-        requires pages { (1 ≤ pages) × (pages ≤ 1048576) }
+        requires pages { (1 ≤ pages) × (pages ≤ MAX_PAGES) }
         requires blanks { AreFor E.name E.parts S.name S.parts W.name W.parts blanks }
         requires asked { IsAsked E.pages E.limits pages limits }
         ensures { IfOk result (λ s. s
