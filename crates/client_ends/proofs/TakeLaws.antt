@@ -2,6 +2,7 @@
 use Rattle.std.proofs.Common.{ℕ, suc, ◌≡◌, ◌<◌, ◌+◌, ◌-◌, ◌∙◌, refl, ap, sym, subst, true, false, ◌==◌, List, [], ◌∷◌, ◌++◌, length, append_assoc, append-nil, Option, Some, None, arith}
 use Rattle.std.specs.Int.{bit_at}
 use Rattle.std.specs.List.{filter, range_with_len}
+use Rattle.sm_names.specs.declared.rules.TheConstants.{MAX_BUFFERS}
 use Rattle.sm_names.specs.declared.keys.NodeKey.{NodeKey}
 use Rattle.sm_names.specs.declared.keys.Strength.{Strength}
 use Rattle.sm_names.specs.declared.keys.Strength.TheVariants.{Strong, Weak}
@@ -53,7 +54,7 @@ unfoldable pub indices_from : ℕ → ℕ → ℕ → List ℕ
 indices_from start count set = filter (λ i. bit_at set i == 1) (range_with_len start count)
 
 -- from the first on they are all
-pub from_first : (set : ℕ) → indices_from 0 64 set ≡ indices_in set
+pub from_first : (set : ℕ) → indices_from 0 MAX_BUFFERS set ≡ indices_in set
 unfolding indices_from indices_in
 from_first set = refl
 
@@ -77,38 +78,38 @@ from_without start count set is = rw is refl
 module _ (index set : ℕ) where
   -- the buffers from this one on
   abbrev pub rest_from : List ℕ
-  rest_from = indices_from index (64 - index) set
+  rest_from = indices_from index (MAX_BUFFERS - index) set
 
   -- and those behind it
   abbrev pub behind : List ℕ
-  behind = indices_from (index + 1) (64 - (index + 1)) set
+  behind = indices_from (index + 1) (MAX_BUFFERS - (index + 1)) set
 
   -- behind one that the set has
-  pub step_with : index < 64 → (bit_at set index == 1) ≡ true → rest_from ≡ index ∷ behind
+  pub step_with : index < MAX_BUFFERS → (bit_at set index == 1) ≡ true → rest_from ≡ index ∷ behind
   step_with low is =
-      let e : 64 - index ≡ suc (64 - (index + 1)) = omega arith in
-      ap (λ n. indices_from index n set) e ∙ from_with index (64 - (index + 1)) set is
+      let e : MAX_BUFFERS - index ≡ suc (MAX_BUFFERS - (index + 1)) = omega arith in
+      ap (λ n. indices_from index n set) e ∙ from_with index (MAX_BUFFERS - (index + 1)) set is
 
   -- behind one that it has not
-  pub step_without : index < 64 → (bit_at set index == 1) ≡ false → rest_from ≡ behind
+  pub step_without : index < MAX_BUFFERS → (bit_at set index == 1) ≡ false → rest_from ≡ behind
   step_without low is =
-      let e : 64 - index ≡ suc (64 - (index + 1)) = omega arith in
-      ap (λ n. indices_from index n set) e ∙ from_without index (64 - (index + 1)) set is
+      let e : MAX_BUFFERS - index ≡ suc (MAX_BUFFERS - (index + 1)) = omega arith in
+      ap (λ n. indices_from index n set) e ∙ from_without index (MAX_BUFFERS - (index + 1)) set is
 
   -- at the end there are none
-  pub at_end : index ≡ 64 → rest_from ≡ []
+  pub at_end : index ≡ MAX_BUFFERS → rest_from ≡ []
   at_end is =
-      let e : 64 - index ≡ 0 = omega arith in
+      let e : MAX_BUFFERS - index ≡ 0 = omega arith in
       ap (λ n. indices_from index n set) e ∙ from_none index set
 
   -- the unit of the next handle is there
-  pub unit_there : (strength : Strength) (units : Amounts) → index < 64 → (bit_at set index == 1) ≡ true →
+  pub unit_there : (strength : Strength) (units : Amounts) → index < MAX_BUFFERS → (bit_at set index == 1) ≡ true →
       SameHandles units (handful strength (length rest_from)) → HasOne strength units
   unit_there Strong units low is same = let more = step_with low is in omega (arith, ap length more, same.0)
   unit_there Weak units low is same = let more = step_with low is in omega (arith, ap length more, same.1)
 
   -- and without it there are those of the handles behind
-  pub units_behind : (strength : Strength) (old new : Amounts) → index < 64 → (bit_at set index == 1) ≡ true →
+  pub units_behind : (strength : Strength) (old new : Amounts) → index < MAX_BUFFERS → (bit_at set index == 1) ≡ true →
       SameHandles old (handful strength (length rest_from)) → old ≡ with_one strength new →
       SameHandles new (handful strength (length behind))
   units_behind Strong old new low is same passed =
@@ -123,44 +124,44 @@ module _ (index set : ℕ) where
       (omega (arith, strong, same.0), omega (arith, more, weak, same.1))
 
   -- the units stay where the set has not the buffer
-  pub units_stay : (strength : Strength) (units : Amounts) → index < 64 → (bit_at set index == 1) ≡ false →
+  pub units_stay : (strength : Strength) (units : Amounts) → index < MAX_BUFFERS → (bit_at set index == 1) ≡ false →
       SameHandles units (handful strength (length rest_from)) → SameHandles units (handful strength (length behind))
   units_stay strength units low is same =
       subst (λ (l : List ℕ). SameHandles units (handful strength (length l))) (step_without low is) same
 
   -- at the end none is left
-  pub none_left : (strength : Strength) (units : Amounts) → index ≡ 64 → SameHandles units (handful strength (length rest_from)) →
+  pub none_left : (strength : Strength) (units : Amounts) → index ≡ MAX_BUFFERS → SameHandles units (handful strength (length rest_from)) →
       SameHandles units nothing
   none_left Strong units is same = let none = ap length (at_end is) in (omega (arith, none, same.0), same.1)
   none_left Weak units is same = let none = ap length (at_end is) in (same.0, omega (arith, none, same.1))
 
   module _ (client : ℕ) (taken : Taken) (items all : List Grip) where
     -- one handle more was handed out
-    pub grips_with : index < 64 → (bit_at set index == 1) ≡ true → items ++ grips_at client taken rest_from ≡ all →
+    pub grips_with : index < MAX_BUFFERS → (bit_at set index == 1) ≡ true → items ++ grips_at client taken rest_from ≡ all →
         (items ++ grip_at client taken index ∷ []) ++ grips_at client taken behind ≡ all
     grips_with low is so =
         append_assoc items (grip_at client taken index ∷ []) (grips_at client taken behind)
         ∙ (ap (λ (l : List ℕ). items ++ grips_at client taken l) (sym (step_with low is)) ∙ so)
 
     -- or none
-    pub grips_without : index < 64 → (bit_at set index == 1) ≡ false → items ++ grips_at client taken rest_from ≡ all →
+    pub grips_without : index < MAX_BUFFERS → (bit_at set index == 1) ≡ false → items ++ grips_at client taken rest_from ≡ all →
         items ++ grips_at client taken behind ≡ all
     grips_without low is so = ap (λ (l : List ℕ). items ++ grips_at client taken l) (sym (step_without low is)) ∙ so
 
     -- in the end all were
-    pub grips_all : index ≡ 64 → items ++ grips_at client taken rest_from ≡ all → items ≡ all
+    pub grips_all : index ≡ MAX_BUFFERS → items ++ grips_at client taken rest_from ≡ all → items ≡ all
     grips_all is so =
         sym (append-nil items) ∙ (ap (λ (l : List ℕ). items ++ grips_at client taken l) (sym (at_end is)) ∙ so)
 
 -- at first all are still to come
 pub grips_first : (client : ℕ) (taken : Taken) (items : List Grip) → items ≡ [] →
-    items ++ grips_at client taken (indices_from 0 64 taken.set) ≡ grips_at client taken (indices_in taken.set)
+    items ++ grips_at client taken (indices_from 0 MAX_BUFFERS taken.set) ≡ grips_at client taken (indices_in taken.set)
 grips_first client taken items none =
-    ap (λ (l : List Grip). l ++ grips_at client taken (indices_from 0 64 taken.set)) none
+    ap (λ (l : List Grip). l ++ grips_at client taken (indices_from 0 MAX_BUFFERS taken.set)) none
     ∙ ap (λ (l : List ℕ). grips_at client taken l) (from_first taken.set)
 
 -- with their units
 pub units_first : (units : Amounts) (taken : Taken) → SameHandles units (handful taken.strength (length (indices_in taken.set))) →
-    SameHandles units (handful taken.strength (length (indices_from 0 64 taken.set)))
+    SameHandles units (handful taken.strength (length (indices_from 0 MAX_BUFFERS taken.set)))
 units_first units taken same =
     subst (λ (l : List ℕ). SameHandles units (handful taken.strength (length l))) (sym (from_first taken.set)) same

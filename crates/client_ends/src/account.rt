@@ -13,7 +13,7 @@ use crate::spare::{empty, memory_fault};
 use crate::taking::{hand_out, taken_by};
 use record_parts::Own;
 use service_lock::{Setup, State, Units, apply, books, pass, take_back};
-use sm_names::{Call, ClientId, NodeKey, Reply, StepFault, Strength};
+use sm_names::{Call, ClientId, MAX_BUFFERS, NodeKey, Reply, StepFault, Strength};
 use std::alloc::Global;
 use std::marker::Model;
 use std::sync::ledger::Ledger;
@@ -203,8 +203,8 @@ impl<E: Setup, S: Ledger, W: Ledger> Account<E, S, W> {
     ) -> Result<Reply, StepFault>
         requires none { SameHandles self.old.units nothing }
         requires empty { handles.old.items ≡ [] }
-        requires room { 64 ≤ vec_capacity handles.old }
-        requires parts { 64 ≤ state.old.parts }
+        requires room { MAX_BUFFERS ≤ vec_capacity handles.old }
+        requires parts { MAX_BUFFERS ≤ state.old.parts }
         ensures none { SameHandles self.new.units nothing }
         ensures share { IfOk result (λ r.
             self.new.units.events ≡ self.old.units.events + 1) }

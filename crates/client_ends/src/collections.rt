@@ -71,8 +71,8 @@ impl CollectionEnd {
     /// (`fuchsia.sysmem2.BufferCollection.WaitForAllBuffersAllocated`, without the wait): strong or
     /// weak, as the node is. Where the unit is not allocated, the reason is the reply Pending.
     ///
-    /// `NoMemory` also where there is no room for 64 handles, asked for before the event. Costs one
-    /// event and a look at each of 64 buffers.
+    /// `NoMemory` also where there is no room for `MAX_BUFFERS` handles, asked for before the event. Costs one
+    /// event and a look at each bit of a set.
     pub fn take<E: Setup, S: Ledger, W: Ledger, R: Wait>(
         &self,
         rt: &R,

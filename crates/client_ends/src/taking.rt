@@ -10,9 +10,14 @@ ghost use Rattle.client_ends.specs.Taking.{grip_at, grips_at, handful, told_take
 use crate::handle::Handle;
 use crate::spare::{empty, memory_fault};
 use service_lock::{Setup, State, Units, parts, pass};
-use sm_names::{BufferName, ClientId, CollectionId, Reply, StepFault, Strength, has_buffer};
+use sm_names::{
+    BufferName, ClientId, CollectionId, MAX_BUFFERS, Reply, StepFault, Strength, has_buffer,
+};
 use std::alloc::Global;
 use std::sync::ledger::Ledger;
+
+// How many bits the set of a Take has, one for each buffer.
+pub(crate) const SET_BITS: u8 = 64;
 
 /// What a Take opened: handles of this strength on the buffers of this set.
 #[derive(Drop)]
@@ -40,22 +45,22 @@ pub(crate) fn taken_by(reply: &Reply) -> Option<Taken>
     }
 }
 
-/// A list with room for the handles that a Take may bring, 64 at most, once as many units can be handed
+/// A list with room for the handles that a Take may bring, `MAX_BUFFERS` at most, once as many units can be handed
 /// out.
 pub(crate) fn make_room<E: Setup, S: Ledger, W: Ledger>(
     alloc: Global,
     state: &State<E, S, W>,
 ) -> Result<Vec<Handle<E, S, W>>, StepFault>
     ensures none { IfOk result (λ handles. handles.items ≡ []) }
-    ensures room { IfOk result (λ handles. 64 ≤ vec_capacity handles) }
-    ensures parts { OnOk result (64 ≤ state.now.parts) }
+    ensures room { IfOk result (λ handles. MAX_BUFFERS ≤ vec_capacity handles) }
+    ensures parts { OnOk result (MAX_BUFFERS ≤ state.now.parts) }
     ensures full { IfErr result (λ f. (f ≡ Fault.HistoryFull)
         ↔ (state.now.limits.events ≤ length state.now.history)) }
 {
-    if parts(state) < 64 {
+    if parts(state) < MAX_BUFFERS as u64 {
         return Err(memory_fault(state));
     }
-    match Vec::with_capacity(alloc, 64) {
+    match Vec::with_capacity(alloc, MAX_BUFFERS as usize) {
         Ok(handles) => Ok(handles),
         Err(_) => Err(memory_fault(state)),
     }
@@ -99,14 +104,14 @@ pub(crate) fn hand_out<E: Setup, S: Ledger, W: Ledger>(
     requires units { SameHandles units.old
         (handful taken.now.strength (length (indices_in taken.now.set))) }
     requires none { handles.old.items ≡ [] }
-    requires room { 64 ≤ vec_capacity handles.old }
-    requires parts { 64 ≤ state.old.parts }
+    requires room { MAX_BUFFERS ≤ vec_capacity handles.old }
+    requires parts { MAX_BUFFERS ≤ state.old.parts }
     ensures units { SameHandles units.new nothing }
     ensures events { units.new.events ≡ units.old.events }
     ensures handles { handles.new.items ≡ grips_at client taken.now (indices_in taken.now.set) }
     ensures parts { state.new.parts + vec_len handles.new ≡ state.old.parts }
 {
-    'handing: for index in 0..64u8 {
+    'handing: for index in 0..SET_BITS {
         if has_buffer(taken.set, index) {
             let handle = hand_one(state, units, client, taken, index);
             handles.push_reserved(handle);

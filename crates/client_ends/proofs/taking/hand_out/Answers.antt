@@ -1,5 +1,6 @@
 use Rattle.std.proofs.Common.{◌≡◌, ◌<◌, ◌++◌, ◌∷◌, [], ◌∙◌, true, false, ◌==◌, ap, arith, length, refl, sym}
 use Rattle.std.specs.Int.{bit_at}
+use Rattle.sm_names.specs.declared.rules.TheConstants.{MAX_BUFFERS}
 use Rattle.client_ends.specs.Clients.{Grip}
 use Rattle.client_ends.specs.Taking.{grips_at}
 use Rattle.event_laws.specs.HandleSums.{indices_in}
@@ -27,7 +28,7 @@ handing-preserved g c =
     let i = c.handing.index in
     let taken = c.args.taken.now in
     let so = c.handing.invariant in
-    let low : i < 64 = c.handing-test.true in
+    let low : i < MAX_BUFFERS = c.handing-test.true in
     let all = grips_at c.args.client taken (indices_in taken.set) in
     let items = c.handing.handles.items in
     elim c.if-has_buffer.branch [
@@ -63,12 +64,12 @@ handing-preserved g c =
 
 pub returns-clause-units : goal.returns-clause-units
 returns-clause-units g c =
-    let all : c.handing.index ≡ 64 = omega (arith, c.handing-test.false, c.handing.auto.index-end) in
+    let all : c.handing.index ≡ MAX_BUFFERS = omega (arith, c.handing-test.false, c.handing.auto.index-end) in
     none_left c.handing.index c.args.taken.now.set c.args.taken.now.strength c.handing.units all c.handing.invariant.units
 
 pub returns-clause-handles : goal.returns-clause-handles
 returns-clause-handles g c =
-    let all : c.handing.index ≡ 64 = omega (arith, c.handing-test.false, c.handing.auto.index-end) in
+    let all : c.handing.index ≡ MAX_BUFFERS = omega (arith, c.handing-test.false, c.handing.auto.index-end) in
     grips_all c.handing.index c.args.taken.now.set c.args.client c.args.taken.now c.handing.handles.items
     (grips_at c.args.client c.args.taken.now (indices_in c.args.taken.now.set)) all c.handing.invariant.handles
 
