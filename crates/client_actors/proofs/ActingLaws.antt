@@ -5,6 +5,7 @@ use Rattle.std.specs.List.{All}
 use Rattle.std.specs.Prelude.{flat_map, reverse, set, slice_get, slice_index_or, option_map, Result, Ok, Err, MatchResult}
 use Rattle.std.proofs.lemmas.List.{length-map, map-append, map-set, reverse-reverse}
 use Rattle.std.proofs.lemmas.List.Elements.{All-append, All-cons, All-head, All-nil, All-tail}
+use Rattle.sm_names.specs.declared.rules.TheConstants.{MAX_BUFFERS}
 use Rattle.sm_names.specs.declared.keys.Strength.{Strength}
 use Rattle.sm_names.specs.declared.messages.Call.{Call}
 use Rattle.sm_names.specs.declared.messages.Reply.{Reply}
@@ -143,14 +144,14 @@ handles_few collection strength held index (suc count) =
     either more true is = rw is (omega (arith, more))
     either more false is = rw is (omega (arith, more))
 
-bound_few : (on : Option Thing) → length (bound on) ≤ 64
+bound_few : (on : Option Thing) → length (bound on) ≤ MAX_BUFFERS
 bound_few (Some (Thing.Token key collection)) = omega arith
 bound_few (Some (Thing.Collection key collection)) = omega arith
 bound_few (Some (Thing.Handle buffer strength)) = omega arith
 bound_few None = omega arith
 
-few : (on : Option Thing) (call : Call) (reply : Reply) → length (given on call reply) ≤ 64
-few on (Call.Take key) (Reply.Taken collection strength held) = handles_few collection strength held 0 64
+few : (on : Option Thing) (call : Call) (reply : Reply) → length (given on call reply) ≤ MAX_BUFFERS
+few on (Call.Take key) (Reply.Taken collection strength held) = handles_few collection strength held 0 MAX_BUFFERS
 few on (Call.Take key) _ = omega arith
 few on (Call.Bind key) Reply.Done = bound_few on
 few on (Call.Bind key) _ = omega arith
@@ -169,9 +170,9 @@ few on _ reply = omega arith
 
 -- so there is room for it
 pub room_for : {E S W : Type 0} (old new : Seen) (call : Call) (slot : Option ℕ) (before after : List (Option Thing))
-    (brought : Brought E S W) → Asks old new call slot before after brought → length (slots_for brought) ≤ 64
+    (brought : Brought E S W) → Asks old new call slot before after brought → length (slots_for brought) ≤ MAX_BUFFERS
 room_for old new call slot before after brought asks =
-    subst (λ n. n ≤ 64) (sym (as_many brought ∙ ap length asks.things)) (few (on_of before slot) call asks.reply)
+    subst (λ n. n ≤ MAX_BUFFERS) (sym (as_many brought ∙ ap length asks.things)) (few (on_of before slot) call asks.reply)
 
 -- ---- lists of events
 

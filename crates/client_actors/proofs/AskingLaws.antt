@@ -3,6 +3,7 @@ use Rattle.std.proofs.Common.{ℕ, zero, suc, ◌≡◌, ◌+◌, ◌∙◌, ref
 use Rattle.std.specs.Int.{bit_at}
 use Rattle.std.specs.List.{All, filter, range_with_len}
 use Rattle.std.proofs.lemmas.List.Elements.{All-cons, All-nil}
+use Rattle.sm_names.specs.declared.rules.TheConstants.{MAX_BUFFERS}
 use Rattle.sm_names.specs.declared.keys.NodeKey.{NodeKey}
 use Rattle.sm_names.specs.declared.messages.Call.{Call}
 use Rattle.sm_names.specs.declared.messages.Reply.{Reply}
@@ -41,7 +42,7 @@ module _ (old new : Seen) (key : NodeKey) (handles : List Grip) (took : Took old
   pub seen_all : map handle_seen (grips_at old.id took.taken (indices_in took.taken.set)) ≡ handles_in took.taken.collection
       took.taken.strength took.taken.set
   unfolding indices_in
-  seen_all = seen_from 0 64
+  seen_all = seen_from 0 MAX_BUFFERS
 
   -- and they are the client's
   pub grips_owned : (indices : List ℕ) → All (λ (h : Grip). h.client ≡ old.id) (grips_at old.id took.taken indices)

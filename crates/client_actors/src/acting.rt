@@ -13,7 +13,7 @@ use crate::storing::{make_room, store};
 use actor_steps::{Asked, Desk, Step};
 use client_ends::{Client, End, Held};
 use service_lock::{Service, Setup};
-use sm_names::{ClientId, Reply, StepFault};
+use sm_names::{ClientId, MAX_BUFFERS, Reply, StepFault};
 use std::alloc::Global;
 use std::sync::Wait;
 use std::sync::ledger::Ledger;
@@ -63,13 +63,13 @@ fn ask<E: Setup, S: Ledger, W: Ledger, R: Wait>(
 ) -> Result<(), StepFault>
     requires owned { All (IsOf client.old.id) slots.old.items }
     requires fits { Fits (lies slots.old.items) asked.now.slot asked.now.call }
-    requires room { vec_len slots.old + 64 ≤ vec_capacity slots.old }
+    requires room { vec_len slots.old + MAX_BUFFERS ≤ vec_capacity slots.old }
     ensures asked { MatchResult result
         (λ _. Answers client.old client.new asked.now (lies slots.old.items)
         (lies slots.new.items))
         (λ _. (client.new ≡ client.old) × (lies slots.new.items ≡ lies slots.old.items)) }
     ensures owned { All (IsOf client.old.id) slots.new.items }
-    ensures len { vec_len slots.new ≤ vec_len slots.old + 64 }
+    ensures len { vec_len slots.new ≤ vec_len slots.old + MAX_BUFFERS }
 {
     match ask_on(rt, alloc, service, client, slots, asked) {
         Ok(brought) => {

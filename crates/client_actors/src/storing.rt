@@ -9,11 +9,11 @@ use crate::brought::Brought;
 use crate::slots::store_handles;
 use client_ends::{End, Held};
 use service_lock::Setup;
-use sm_names::StepFault;
+use sm_names::{MAX_BUFFERS, StepFault};
 use std::sync::ledger::Ledger;
 
 // How many things one call may bring.
-const MOST: usize = 64;
+const MOST: usize = MAX_BUFFERS as usize;
 
 // Makes room for what one call may bring.
 pub(crate) fn make_room<E: Setup, S: Ledger, W: Ledger>(
@@ -24,8 +24,8 @@ pub(crate) fn make_room<E: Setup, S: Ledger, W: Ledger>(
     ensures slots { (slots.new.items ≡ slots.old.items) × (vec_len slots.new ≡ vec_len slots.old) }
     ensures held { held_in held.new ≡ held_in held.old }
     ensures room { HasRoom held.new (vec_len slots.new) }
-    ensures more { OnOk result ((vec_len slots.new + 64 ≤ vec_capacity slots.new)
-        × HasRoom held.new (vec_len slots.new + 64)) }
+    ensures more { OnOk result ((vec_len slots.new + MOST ≤ vec_capacity slots.new)
+        × HasRoom held.new (vec_len slots.new + MOST)) }
 {
     if slots.reserve(MOST).is_err() {
         return Err(StepFault::NoMemory);
