@@ -3,6 +3,7 @@ use Rattle.std.specs.Prelude.{ℕ, ◌==◌, if◌then◌else◌, List, [], ◌�
 use Rattle.std.specs.Fmt.{decimal}
 use Rattle.std.specs.Int.{bit_at}
 use Rattle.std.specs.List.{flat_map}
+use Rattle.sm_names.specs.declared.rules.TheConstants.{MAX_BUFFERS}
 use Rattle.sm_names.specs.declared.keys.HeldBuffer.{HeldBuffer}
 use Rattle.sm_names.specs.declared.keys.BufferName.{BufferName}
 use Rattle.sm_names.specs.declared.keys.Kind.{Kind}
@@ -84,7 +85,7 @@ reply_text names binds Reply.Empty = codes "empty"
 reply_text names binds Reply.Pending = codes "pending"
 reply_text names binds (Reply.Allocated count size) = codes "allocated " ++ numbered count (decimal size)
 reply_text names binds (Reply.Taken collection strength set) =
-    codes "taken " ++ strength_name strength ++ flat_map (member_text names set) (names_of collection 64)
+    codes "taken " ++ strength_name strength ++ flat_map (member_text names set) (names_of collection MAX_BUFFERS)
 reply_text names binds (Reply.Tracker id) = codes "tracker" ++ 32 ∷ bound_text binds
 reply_text names binds (Reply.Refused refusal) = codes "refused " ++ numbered (refusal_number refusal) (refusal_name refusal)
 reply_text names binds (Reply.Misused misuse) = codes "misused " ++ numbered (misuse_number misuse) (misuse_name misuse)

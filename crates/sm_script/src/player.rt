@@ -9,7 +9,7 @@ use crate::session::Session;
 use crate::stop::Stop;
 use crate::writing::give_up;
 use script_runs::write_out;
-use sm_names::{Limits, NoMemory};
+use sm_names::{Limits, MAX_PAGES, NoMemory};
 use std::alloc::Global;
 use std::io::Write;
 
@@ -34,7 +34,7 @@ impl Player {
         pages: u32,
         limits: Limits,
     ) -> Result<Player, NoMemory>
-        requires { (1 ≤ pages) × (pages ≤ 1048576) }
+        requires { (1 ≤ pages) × (pages ≤ MAX_PAGES) }
         ensures so_far { IfOk result (λ player. (old : Option (List ℕ)) →
             SoFar (record { pool = pages; limits = limits }) player old old []) }
         ensures no_lines { IfOk result (λ player. player.lines ≡ 0) }

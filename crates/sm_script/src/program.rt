@@ -5,7 +5,7 @@ ghost use Rattle.sm_script.specs.Endings.{Ends};
 use crate::fault::ScriptFault;
 use crate::run::run_script;
 use script_runs::{Pages, write_line};
-use sm_names::Limits;
+use sm_names::{Limits, MAX_COLLECTIONS, MAX_EVENTS, MAX_HANDLES, MAX_NODES, MAX_TRACKERS};
 use std::alloc::Global;
 use std::io::{Read, Write};
 use std::process::ExitCode;
@@ -24,11 +24,11 @@ pub fn run_to_exit<R: Read, W: Write, F: Write>(
     ensures { Ends (record {
       pool = pages.count;
       limits = record {
-        events = 4294967295;
-        nodes = 1024;
-        collections = 256;
-        trackers = 4096;
-        handles = 4294967295;
+        events = MAX_EVENTS;
+        nodes = MAX_NODES;
+        collections = MAX_COLLECTIONS;
+        trackers = MAX_TRACKERS;
+        handles = MAX_HANDLES;
       };
     })
         (R.remaining reader.old) (R.remaining reader.new)

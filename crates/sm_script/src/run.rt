@@ -10,7 +10,7 @@ use crate::fault::ScriptFault;
 use crate::player::Player;
 use crate::reading::take_piece;
 use script_lines::MOST_BYTES;
-use sm_names::Limits;
+use sm_names::{Limits, MAX_PAGES};
 use std::alloc::Global;
 use std::io::{Read, Write};
 
@@ -46,7 +46,7 @@ pub fn run_script<R: Read, W: Write>(
     pages: u32,
     limits: Limits,
 ) -> Result<(), ScriptFault>
-    requires { (1 ≤ pages) × (pages ≤ 1048576) }
+    requires { (1 ≤ pages) × (pages ≤ MAX_PAGES) }
     ensures { Runs (record { pool = pages; limits = limits })
         (R.remaining reader.old) (R.remaining reader.new)
         (W.contents writer.old) (W.contents writer.new) result }

@@ -19,7 +19,7 @@ use crate::texts::{push_poll, push_reply};
 use crate::views::push_view;
 use lifetime_core::Core;
 use script_lines::{LabelHash, View, push, read_line};
-use sm_names::{Call, ClientId, Fired, Limits, NoMemory, Reply, StepFault, TrackerId};
+use sm_names::{Call, ClientId, Fired, Limits, MAX_PAGES, NoMemory, Reply, StepFault, TrackerId};
 use std::alloc::{AllocError, Global};
 use std::collections::HashMap;
 use trackers::Tracker;
@@ -44,7 +44,7 @@ impl Session {
         pages: u32,
         limits: Limits,
     ) -> Result<Session, NoMemory>
-        requires { (1 ≤ pages) × (pages ≤ 1048576) }
+        requires { (1 ≤ pages) × (pages ≤ MAX_PAGES) }
         ensures pool { IfOk result (λ session. session.core.pool ≡ pages) }
         ensures limits { IfOk result (λ session. session.core.limits ≡ limits) }
         ensures start { IfOk result (λ session. IsAt session first_scene) }

@@ -11,10 +11,13 @@ use crate::act::Binds;
 use crate::tables::Tables;
 use script_lines::{Label, push, push_label, push_number};
 use sm_names::{
-    BufferName, Cause, CollectionId, Failure, Fired, HeldBuffer, Kind, NodeKey, Reply, Strength,
-    has_buffer,
+    BufferName, Cause, CollectionId, Failure, Fired, HeldBuffer, Kind, MAX_BUFFERS, NodeKey, Reply,
+    Strength, has_buffer,
 };
 use std::alloc::AllocError;
+
+// How many bits the set of a Take has, one for each buffer.
+pub(crate) const SET_BITS: u8 = 64;
 
 // Puts a number, a space and a name behind it.
 fn push_numbered(text: &mut Vec<u8>, number: u64, name: &str) -> Result<(), AllocError>
@@ -173,7 +176,7 @@ fn push_taken(
 ) -> Result<(), AllocError>
     ensures { OnOk result ((names : Names) → Keeps tables.now names →
         text.new.items ≡ text.old.items ++ (codes "taken " ++ name_of_strength strength
-        ++ flat_map (member_text names set) (names_of collection 64))) }
+        ++ flat_map (member_text names set) (names_of collection MAX_BUFFERS))) }
 {
     push(text, "taken ")?;
     push(text, strength_name(strength))?;
@@ -189,9 +192,9 @@ fn push_set(
 ) -> Result<(), AllocError>
     ensures { OnOk result ((names : Names) → Keeps tables.now names →
         text.new.items ≡ text.old.items
-        ++ flat_map (member_text names set) (names_of collection 64)) }
+        ++ flat_map (member_text names set) (names_of collection MAX_BUFFERS)) }
 {
-    for index in 0..64u8 {
+    for index in 0..SET_BITS {
         push_member(text, tables, set, BufferName { collection, index })?;
     }
     Ok(())
@@ -204,7 +207,7 @@ fn push_member(
     set: u64,
     buffer: BufferName,
 ) -> Result<(), AllocError>
-    requires { buffer.index < 64 }
+    requires { buffer.index < MAX_BUFFERS }
     ensures { OnOk result ((names : Names) → Keeps tables.now names →
         text.new.items ≡ text.old.items ++ member_text names set buffer) }
 {

@@ -1,5 +1,6 @@
 use Rattle.std.proofs.Common.{◌≡◌, ◌∙◌, ap, sym, ℕ, ◌++◌, append_assoc, arith}
 use Rattle.std.specs.List.{flat_map}
+use Rattle.sm_script.specs.declared.texts.TheConstants.{SET_BITS}
 use Rattle.sm_names.specs.declared.keys.BufferName.{BufferName}
 use Rattle.sm_names.specs.Handles.{names as names_of}
 use Rattle.sm_script.specs.Texts.{member_text}
@@ -19,5 +20,5 @@ pub returns : goal.returns
 returns c = λ names kept. c.loop-index.invariant names kept
     ∙ ap (λ (count : ℕ). c.args.text.now.items ++ flat_map (member_text names c.args.set) (names_of c.args.collection count)) all
   where
-    all : c.loop-index.index ≡ 64
+    all : c.loop-index.index ≡ SET_BITS
     all = omega (arith, c.loop-index.auto.index-end, c.loop-index-test.false)
