@@ -1,5 +1,6 @@
 -- What a program that runs actors leaves.
 use Rattle.std.specs.Prelude.{◌≡◌, ℕ, List, [], ◌∷◌, ◌++◌, Option, Ok, Err, Result}
+use Rattle.sm_names.specs.declared.rules.TheConstants.{MAX_COLLECTIONS, MAX_EVENTS, MAX_HANDLES, MAX_NODES, MAX_TRACKERS}
 use Rattle.sm_names.specs.Bounds.{Bound}
 use Rattle.script_runs.specs.Written.{WritesPart}
 use Rattle.thread_runs.specs.declared.fault.ThreadsFault.{ThreadsFault}
@@ -18,7 +19,7 @@ ending_line (Err fault) = fault_text fault ++ 10 ∷ []
 
 -- the limits that a program sets: the greatest
 abbrev pub program_limits : Bound
-program_limits = record { events = 4294967295; nodes = 1024; collections = 256; trackers = 4096; handles = 4294967295 }
+program_limits = record { events = MAX_EVENTS; nodes = MAX_NODES; collections = MAX_COLLECTIONS; trackers = MAX_TRACKERS; handles = MAX_HANDLES }
 
 -- actors were run with a pool of so many pages: the outcome is that of the status, and was told as far as it could be
 pub record Ends (pages : ℕ) (left_before left old new faults_before faults : Option (List ℕ)) (status : ℕ) : Type 0 where

@@ -9,7 +9,7 @@ use crate::telling::report;
 use actor_scripts::read_actors;
 use script_lines::LabelHash;
 use script_runs::write_out;
-use sm_names::Limits;
+use sm_names::{Limits, MAX_PAGES};
 use std::alloc::Global;
 use std::io::{Read, Write};
 use std::sync::Wait;
@@ -49,7 +49,7 @@ pub fn run_threads<I: Read, O: Write, R: Threads + Wait + Clock + Sync>(
     pages: u32,
     limits: Limits,
 ) -> Result<(), ThreadsFault>
-    requires { (1 ≤ pages) × (pages ≤ 1048576) }
+    requires { (1 ≤ pages) × (pages ≤ MAX_PAGES) }
     ensures { Runs pages limits (I.remaining reader.old) (I.remaining reader.new)
         (O.contents writer.old) (O.contents writer.new) result }
 {

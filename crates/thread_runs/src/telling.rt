@@ -17,7 +17,7 @@ use client_parting::{GatherFault, Holding, Report, end_service, gather};
 use record_parts::ClientLine;
 use script_lines::Label;
 use service_lock::{Blanks, PARTS, Service, Setup};
-use sm_names::{ClientId, Limits, Reply};
+use sm_names::{ClientId, Limits, MAX_PAGES, Reply};
 use std::alloc::Global;
 use std::marker::Brand;
 use std::sync::Wait;
@@ -149,7 +149,7 @@ fn run_on<
     pages: u32,
     limits: Limits,
 ) -> Result<Vec<u8>, ThreadsFault>
-    requires pages { (1 ≤ pages) × (pages ≤ 1048576) }
+    requires pages { (1 ≤ pages) × (pages ≤ MAX_PAGES) }
     requires blanks { AreFor E.name E.parts S.name S.parts W.name W.parts blanks }
     requires asked { IsAsked E.pages E.limits pages limits }
     ensures ok { IfOk result (λ text. IsReport pages limits (company_of cast.now) text.items) }
@@ -174,7 +174,7 @@ pub(crate) fn report<R: Threads + Wait + Clock + Sync>(
     pages: u32,
     limits: Limits,
 ) -> Result<Vec<u8>, ThreadsFault>
-    requires { (1 ≤ pages) × (pages ≤ 1048576) }
+    requires { (1 ≤ pages) × (pages ≤ MAX_PAGES) }
     ensures ok { IfOk result (λ text. IsReport pages limits (company_of cast.now) text.items) }
     ensures late { IfErr result IsLate }
 {
