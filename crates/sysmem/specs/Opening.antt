@@ -1,12 +1,13 @@
 -- What a core is opened with.
 use Rattle.std.specs.Prelude.{ℕ, ◌≤◌, ◌≡◌, []}
+use Rattle.sm_names.specs.declared.rules.TheConstants.{MAX_PAGES}
 use Rattle.sm_names.specs.Bounds.{IsBound}
 use Rattle.lifetime_core.specs.Shown.{Shows}
 use Rattle.lifetime_core.specs.State.{State}
 
 -- the numbers that a core may be opened with
 pub record IsInRange (pages events nodes collections trackers handles : ℕ) : Type 0 where
-  pub pages_in_range : (1 ≤ pages) × (pages ≤ 1048576)
+  pub pages_in_range : (1 ≤ pages) × (pages ≤ MAX_PAGES)
   pub limits_in_range : IsBound events nodes collections trackers handles
 
 -- a core with this pool and these limits, which shows the empty history

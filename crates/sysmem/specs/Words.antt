@@ -1,6 +1,7 @@
 -- What the numbers of a call and of a reply say.
 use Rattle.std.specs.Prelude.{ℕ, ◌+◌, ◌^◌, ◌==◌, ◌&&◌, nat_le, not, if◌then◌else◌, Option, Some, None}
 use Rattle.std.specs.Option.{option_map}
+use Rattle.sm_names.specs.declared.rules.TheConstants.{MAX_AT_LEAST, MAX_CAMPING, MAX_SIZE}
 use Rattle.sm_names.specs.declared.keys.Kind.{Kind}
 use Rattle.sm_names.specs.declared.keys.BufferName.{BufferName}
 use Rattle.sm_names.specs.declared.keys.NodeKey.{NodeKey}
@@ -47,7 +48,7 @@ said_strength number = if number == 0 then Some Strength.Strong else (if number 
 -- the constraints that the numbers say, if they are in range
 abbrev pub said_constraints : ℕ → ℕ → ℕ → Option Demand
 said_constraints camping at_least size =
-    if nat_le camping 64 && nat_le at_least 64 && nat_le 1 size && nat_le size (2 ^ 30)
+    if nat_le camping MAX_CAMPING && nat_le at_least MAX_AT_LEAST && nat_le 1 size && nat_le size MAX_SIZE
     then Some (record { camping = camping; at_least = at_least; size = size }) else None
 
 -- the call that the words say: by its kind, of the node or the buffer that they name. A kind that is none, a strength that is

@@ -5,7 +5,7 @@ ghost use Rattle.sysmem.specs.Opening.{IsInRange, IsNew};
 use crate::codes::{ALREADY_OPEN, BAD_LIMITS, DONE, NO_MEMORY, NOT_OPEN};
 use crate::keeping::{Handle, is_open, put, take};
 use lifetime_core::Core;
-use sm_names::Limits;
+use sm_names::{Limits, MAX_PAGES};
 use std::alloc::Global;
 
 /// Opens a core with a pool of `pages` pages of 4,096 bytes each and with these limits, on a
@@ -75,7 +75,7 @@ pub extern "C" fn sysmem_open_seeded(
     if is_open(handle) {
         return ALREADY_OPEN;
     }
-    if pages < 1 || pages > 1_048_576 {
+    if pages < 1 || pages > MAX_PAGES {
         return BAD_LIMITS;
     }
     let Some(limits) = Limits::new(events, nodes, collections, trackers, handles) else {
