@@ -3,6 +3,7 @@ use Rattle.std.proofs.Common.{◌≡◌, ◌∙◌, ◌≤◌, ◌<◌, ◌^◌,
 use Rattle.std.proofs.lemmas.Int.{ints}
 use Rattle.std.specs.Prelude.{Ok, Err, Result, SomeIff, option_map}
 use Rattle.std.specs.Str.Parse.{ParsesUnsigned}
+use Rattle.sm_names.specs.declared.rules.TheConstants.{MAX_PAGES}
 use Rattle.clap.specs.Words.{Row, ReadsOne, Text, found_of, one_of, one_text, rows_of, subcommand_rows_of}
 use Rattle.clap.specs.declared.parser.matches.ArgMatches.{ArgMatches}
 use Rattle.clap.proofs.WalkLemmas.{one_text-rows}
@@ -29,22 +30,22 @@ module _ {E : Type 0} (gives : List ℕ → Result ℕ E → Type 0) (only : (t 
       let h = value t refl in
       λ count. only t (Err h.0) h.1 (count.numeral, below count.in_range.1)
     where
-      below : (number_of t ≤ 1048576) → number_of t < 2 ^ 32
+      below : (number_of t ≤ MAX_PAGES) → number_of t < 2 ^ 32
       below le = omega (arith, ints, le)
 
-  in_range : (t : List ℕ) (n : ℕ) (count : Option ℕ) → gives t (Ok n) → SomeIff count ((1 ≤ n) × (n ≤ 1048576)) n →
+  in_range : (t : List ℕ) (n : ℕ) (count : Option ℕ) → gives t (Ok n) → SomeIff count ((1 ≤ n) × (n ≤ MAX_PAGES)) n →
       SomeIff count (IsCount t) (number_of t)
   in_range t n (Some k) read some =
       let p = only t (Ok n) read in
-      (record { numeral = p.0.0; in_range = subst (λ (v : ℕ). (1 ≤ v) × (v ≤ 1048576)) p.1 some.0 }, some.1 ∙ p.1)
+      (record { numeral = p.0.0; in_range = subst (λ (v : ℕ). (1 ≤ v) × (v ≤ MAX_PAGES)) p.1 some.0 }, some.1 ∙ p.1)
   in_range t n None read none =
       let p = only t (Ok n) read in
-      λ count. none (subst (λ (v : ℕ). (1 ≤ v) × (v ≤ 1048576)) (sym p.1) count.in_range)
+      λ count. none (subst (λ (v : ℕ). (1 ≤ v) × (v ≤ MAX_PAGES)) (sym p.1) count.in_range)
 
   -- and one that reads as a number in range is that count
   pub was_read : (text : Option (List ℕ)) (read : Option ℕ) (n : ℕ) (count : Option ℕ) → (text ≡ None → read ≡ None) →
       ((t : List ℕ) → text ≡ Some t → ReadsOne gives t read) →
-      read ≡ Some n → SomeIff count ((1 ≤ n) × (n ≤ 1048576)) n → AreAsked text count
+      read ≡ Some n → SomeIff count ((1 ≤ n) × (n ≤ MAX_PAGES)) n → AreAsked text count
   was_read None read n count none value is made = let no : Some n ≡ None = sym is ∙ none refl in cc
   was_read (Some t) read n count none value is made =
       in_range t n count (subst (ReadsOne gives t) is (value t refl)) made

@@ -1,6 +1,7 @@
 -- How many pages the words of the command line ask for.
 use Rattle.std.specs.Prelude.{◌≡◌, ◌≤◌, ℕ, List, Option, Some, None, SomeIff, codes, option_and_then}
 use Rattle.std.specs.Str.Parse.{IsNumeral, digits_value, without_leading_plus}
+use Rattle.sm_names.specs.declared.rules.TheConstants.{MAX_PAGES}
 use Rattle.clap.specs.Words.{one_of, subcommand_rows_of}
 use Rattle.clap.specs.declared.parser.matches.ArgMatches.{ArgMatches}
 
@@ -15,7 +16,7 @@ number_of text = digits_value 10 (without_leading_plus text)
 -- the text is such a number, and a pool may have as many pages
 pub record IsCount (text : List ℕ) : Type 0 where
   pub numeral : IsNumeral 10 (without_leading_plus text)
-  pub in_range : (1 ≤ number_of text) × (number_of text ≤ 1048576)
+  pub in_range : (1 ≤ number_of text) × (number_of text ≤ MAX_PAGES)
 
 -- so many pages are asked for, or none where there is no such text or it is no such number
 abbrev pub AreAsked : Option (List ℕ) → Option ℕ → Type 0
