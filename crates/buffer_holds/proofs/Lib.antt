@@ -2,6 +2,7 @@ pub mod KindLemmas
 pub mod Most
 pub mod Opening
 pub mod Outcomes
+pub mod Places
 pub mod RowLemmas
 pub mod SoundLemmas
 pub mod Steps

@@ -1,5 +1,5 @@
 -- What holds at each outcome of a call.
-use Rattle.std.proofs.Common.{◌≡◌, refl, Result, Ok, Err, IsOk, IsErr, OnOk, OnErr}
+use Rattle.std.proofs.Common.{◌≡◌, refl, Result, Ok, Err, IsOk, IsErr, IfOk, OnOk, OnErr}
 
 module _ {T E : Type 0} where
   -- by the outcome
@@ -11,6 +11,11 @@ module _ {T E : Type 0} where
   pub at_ok : (P : Type 0) (result : Result T E) → IsOk result → OnOk result P → P
   at_ok P (Ok value) is holds = holds
   at_ok P (Err fault) is holds = cc
+
+  -- what holds of the value on `Ok`, at an `Ok`
+  pub ok_value : (P Q : T → Type 0) (result : Result T E) → IsOk result → IfOk result P → IfOk result Q → (value : T) × P value × Q value
+  ok_value P Q (Ok value) is first second = (value, first, second)
+  ok_value P Q (Err fault) is first second = cc
 
   -- what holds on `Err`, at an `Err`
   pub at_err : (P : Type 0) (result : Result T E) → IsErr result → OnErr result P → P

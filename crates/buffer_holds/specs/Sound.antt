@@ -51,6 +51,19 @@ pub record IsSound (limit : ℕ) (rows : List (Hold × ℕ)) (tallies : List (Ha
   pub needed : (kind : HandleKind) → IsSome (lookup (same_kind kind) tallies) →
       0 < (tally_at tallies kind).clients + (tally_at tallies kind).moving
 
+-- how many handles of the tally's kind are in parcels
+abbrev pub in_parcels : HandleKind × Tally → ℕ
+in_parcels entry = entry.1.moving
+
+-- how many handles are in parcels, of all kinds
+abbrev pub sent_in : List (HandleKind × Tally) → ℕ
+sent_in tallies = sum_by in_parcels tallies
+
+-- so many handles are in parcels, and for each of them a place is free, where a row of its receiver takes no memory
+pub record HasPlaces (sent free : ℕ) (tallies : List (HandleKind × Tally)) : Type 0 where
+  pub counted : sent ≡ sent_in tallies
+  pub enough : sent ≤ free
+
 -- no more than so many of one kind are open
 abbrev pub AreUpTo : ℕ → List (HandleKind × Tally) → Type 0
 AreUpTo most tallies = (kind : HandleKind) → (tally_at tallies kind).total ≤ most

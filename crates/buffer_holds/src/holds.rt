@@ -1,5 +1,5 @@
 //! The counts of open handles.
-ghost use Rattle.std.specs.Prelude.{[], ◌≡◌, ◌+◌, ◌-◌, ◌<◌, ◌≤◌, ◌↔◌, true, IsTrue, OnOk, OnErr, IsOk, IsErrOf, IsOkUnless};
+ghost use Rattle.std.specs.Prelude.{[], ◌≡◌, ◌+◌, ◌-◌, ◌<◌, ◌≤◌, ◌↔◌, true, IsTrue, IfOk, OnOk, OnErr, IsErrOf, IsOkUnless};
 ghost use Rattle.std.specs.Bool.{OnTrue, OnFalse};
 ghost use Rattle.std.specs.List.{IsDistinct};
 ghost use Rattle.std.specs.Map.{keys_of};
@@ -24,9 +24,10 @@ use std::marker::Model;
 /// A contract sees the counts of clients and of parcels (`of`, `moving` and their sum, `total`),
 /// and for which of them one more handle takes no memory (`has_handle_room`). A client gains room with
 /// the first handle that it opens or lands, and keeps it when the last one goes, so that `sub` is
-/// undone by `add`, and `lift` by `land`, without memory. `tidy` takes the room back: call it once
-/// a `sub` or a `lift` stands for good, else what was open keeps its memory. A room that was taken
-/// back is used again; the memory is as much as was needed at once.
+/// undone by `add` without memory. `tidy` takes the room back: call it once a `sub` or a `lift`
+/// stands for good, else what was open keeps its memory. `lift` makes room for whoever lands the
+/// handle, so that `land` takes no memory. A room that was taken back is used again; the memory is
+/// as much as was needed at once, with room for a row more for each handle in a parcel.
 ///
 /// Each call looks for one client's row, for the tally of one kind of handle, or for both, and never
 /// goes over all clients: a look-up is one at the place where the last one ended and at the one behind
@@ -40,6 +41,8 @@ pub struct Holds {
     limit: u32,
     // No more than so many of one kind were ever open.
     most: u32,
+    // How many handles are in parcels. As many places are free among the rows.
+    sent: u32,
     rows: Rows,
     tallies: Tallies,
     last: Last,
@@ -50,7 +53,8 @@ impl Model for Holds {
 
     ghost Value = { Counts };
 
-    ghost use Rattle.buffer_holds.specs.Sound.{AreUpTo, IsSound, parcels_in};
+    ghost use Rattle.buffer_holds.specs.Sound.{AreUpTo, HasPlaces, IsSound, parcels_in};
+    ghost use Rattle.indexmap.specs.IndexMap.{spare};
 
     ghost view = { λ h. record {
       limit = h.limit;
@@ -58,7 +62,9 @@ impl Model for Holds {
       parcels = parcels_in h.tallies.entries;
     } };
 
-    ghost invariant = { λ h. IsSound h.limit h.rows.entries h.tallies.entries × AreUpTo h.most h.tallies.entries };
+    ghost invariant = { λ h. IsSound h.limit h.rows.entries h.tallies.entries
+        × AreUpTo h.most h.tallies.entries
+        × HasPlaces h.sent (spare h.rows) h.tallies.entries };
 }
 
 impl Holds {
@@ -80,6 +86,7 @@ impl Holds {
         Holds {
             limit,
             most: 0,
+            sent: 0,
             rows: IndexMap::with_hasher(alloc, hash),
             tallies: IndexMap::with_hasher(alloc, hash),
             last: Last::new(),
@@ -225,6 +232,7 @@ impl Holds {
             near,
             &self.last,
             &mut self.most,
+            self.sent,
         )
     }
 
@@ -259,53 +267,64 @@ impl Holds {
     }
 
     /// Puts one of the client's handles into a parcel, where it is open and nobody's, and answers
-    /// whether it had one. Without one nothing changes. The client keeps its room, so that `land`
-    /// undoes this without memory until `tidy`. Two look-ups.
-    pub fn lift(&mut self, client: ClientId, buffer: BufferName, strength: Strength) -> bool
-        ensures had { IsTrue result ↔ (0 < of self.old client buffer strength) }
-        ensures lifted { OnTrue result (Sets self.old self.new client buffer strength
-            (of self.old client buffer strength - 1) (moving self.old buffer strength + 1) (total self.old buffer strength)) }
-        ensures unchanged { OnFalse result (self.new ≡ self.old) }
-    {
-        let kind = HandleKind { buffer, strength };
-        if !lower(&mut self.rows, Hold { client, kind }, &self.last.row) {
-            return false;
-        }
-        let place = tally_place(&self.tallies, kind, self.last.tally(strength)).unwrap();
-        let tally = self.tallies.get_index_mut(place).unwrap();
-        tally.moving += 1;
-        true
-    }
-
-    /// Takes one of these handles out of a parcel, for the client. At least one has to be in a
-    /// parcel; the limit is not looked at, since the handle is open already. `NoMemory` comes only
-    /// where the client has no room and memory was refused, and changes nothing. Two look-ups.
-    pub fn land(
+    /// whether it had one. Without one nothing changes. The client keeps its room until `tidy`.
+    ///
+    /// It makes room for the handle's receiver, whoever that is, so that `land` takes no memory: a
+    /// place for one row more for each handle in a parcel. `NoMemory` comes only where there is no
+    /// such place and memory was refused, and changes nothing. Two look-ups.
+    pub fn lift(
         &mut self,
         client: ClientId,
         buffer: BufferName,
         strength: Strength,
-    ) -> Result<(), NoMemory>
-        requires { 0 < moving self.old buffer strength }
-        ensures landed { OnOk result (Sets self.old self.new client buffer strength
-            (of self.old client buffer strength + 1) (moving self.old buffer strength - 1) (total self.old buffer strength)) }
-        ensures room { IsTrue (has_handle_room self.old client buffer strength) → IsOk result }
+    ) -> Result<bool, NoMemory>
+        ensures had { IfOk result (λ had. IsTrue had ↔ (0 < of self.old client buffer strength)) }
+        ensures lifted { IfOk result (λ had. OnTrue had (Sets self.old self.new client buffer strength
+            (of self.old client buffer strength - 1) (moving self.old buffer strength + 1) (total self.old buffer strength))) }
+        ensures unchanged { IfOk result (λ had. OnFalse had (self.new ≡ self.old)) }
         ensures err { OnErr result (self.new ≡ self.old) }
     {
         let kind = HandleKind { buffer, strength };
+        let Some(sent) = self.sent.checked_add(1) else {
+            return Err(NoMemory);
+        };
+        let Ok(()) = self.rows.reserve(sent as usize) else {
+            return Err(NoMemory);
+        };
+        if !lower(&mut self.rows, Hold { client, kind }, &self.last.row) {
+            return Ok(false);
+        }
+        let place = tally_place(&self.tallies, kind, self.last.tally(strength)).unwrap();
+        let tally = self.tallies.get_index_mut(place).unwrap();
+        tally.moving += 1;
+        self.sent = sent;
+        Ok(true)
+    }
+
+    /// Takes one of these handles out of a parcel, for the client. At least one has to be in a
+    /// parcel; the limit is not looked at, since the handle is open already. It takes no memory: the
+    /// `lift` took what it needs. Two look-ups.
+    pub fn land(&mut self, client: ClientId, buffer: BufferName, strength: Strength)
+        requires { 0 < moving self.old buffer strength }
+        ensures { Sets self.old self.new client buffer strength
+            (of self.old client buffer strength + 1) (moving self.old buffer strength - 1) (total self.old buffer strength) }
+    {
+        let kind = HandleKind { buffer, strength };
+        let sent = self.sent - 1;
         let before = self.rows.len();
         let Ok(()) = raise(
             &mut self.rows,
             Hold { client, kind },
             &mut 0,
             &self.last.row,
+            sent,
         ) else {
-            return Err(NoMemory);
+            unreachable!();
         };
         let place = tally_place(&self.tallies, kind, self.last.tally(strength)).unwrap();
         let tally = self.tallies.get_index_mut(place).unwrap();
         tally.moving -= 1;
         tally.clients += self.rows.len() - before;
-        Ok(())
+        self.sent = sent;
     }
 }

@@ -1,6 +1,7 @@
 //! The rows of counts: one for each client and kind of handle.
-ghost use Rattle.std.specs.Prelude.{◌≡◌, ◌+◌, ◌-◌, ◌^◌, ◌<◌, ◌↔◌, true, IsTrue, Some, None, IfSome, IfNone, OnOk, OnErr, IsSome, IsOk};
+ghost use Rattle.std.specs.Prelude.{◌≡◌, ◌+◌, ◌-◌, ◌^◌, ◌<◌, ◌≤◌, ◌↔◌, true, IsTrue, Some, None, IfSome, IfNone, OnOk, OnErr, IsSome, IsOk};
 ghost use Rattle.std.specs.Bool.{OnTrue, OnFalse};
+ghost use Rattle.indexmap.specs.IndexMap.{spare};
 ghost use Rattle.buffer_holds.specs.Kinds.{same_hold};
 ghost use Rattle.buffer_holds.specs.Rows.{row_at, count_at, Resets, Raises, StandsAt};
 
@@ -80,33 +81,46 @@ pub(crate) fn count_of(rows: &Rows, hold: Hold, last: &Cell<usize>) -> u32
     }
 }
 
-// A row of one handle, where there is none.
+// A row of one handle, where there is none. So many places stay free behind it.
 #[inline(never)]
-pub(crate) fn add_row(rows: &mut Rows, hold: Hold, place: &mut usize) -> Result<(), AllocError>
+pub(crate) fn add_row(
+    rows: &mut Rows,
+    hold: Hold,
+    place: &mut usize,
+    free: u32,
+) -> Result<(), AllocError>
     requires { row_at rows.old.entries hold ≡ None }
     ensures ok { OnOk result (Raises rows.old.entries rows.new.entries hold) }
+    ensures places { OnOk result (free ≤ spare rows.new) }
+    ensures room { free < spare rows.old → IsOk result }
     ensures err { OnErr result (rows.new.entries ≡ rows.old.entries) }
+    ensures kept { OnErr result (spare rows.old ≤ spare rows.new) }
 {
-    rows.insert(hold, 1)?;
+    rows.reserve(free as usize + 1)?;
+    let _ = rows.insert(hold, 1);
     *place = rows.len();
     Ok(())
 }
 
-// One handle more. Only a new row takes memory. The row is looked for at the place first, which becomes the one behind it.
+// One handle more. Only a new row takes memory, where no more places are free than are to stay so. The row is looked for at
+// the place first, which becomes the one behind it.
 #[inline(always)]
 pub(crate) fn raise(
     rows: &mut Rows,
     hold: Hold,
     place: &mut usize,
     last: &Cell<usize>,
+    free: u32,
 ) -> Result<(), AllocError>
     requires { count_at rows.old.entries hold + 1 < 2 ^ 32 }
     ensures ok { OnOk result (Raises rows.old.entries rows.new.entries hold) }
+    ensures places { free ≤ spare rows.old → free ≤ spare rows.new }
     ensures room { IsSome (row_at rows.old.entries hold) → IsOk result }
+    ensures roomy { free < spare rows.old → IsOk result }
     ensures err { OnErr result (rows.new.entries ≡ rows.old.entries) }
 {
     let Some(found) = row_place_near(rows, hold, *place, last) else {
-        return add_row(rows, hold, place);
+        return add_row(rows, hold, place, free);
     };
     let count = rows.get_index_mut(found).unwrap();
     *count += 1;
@@ -120,6 +134,7 @@ pub(crate) fn lower(rows: &mut Rows, hold: Hold, last: &Cell<usize>) -> bool
     ensures lowered { OnTrue result (Resets same_hold rows.old.entries rows.new.entries hold
         (row_at rows.old.entries hold) (Some (count_at rows.old.entries hold - 1))) }
     ensures unchanged { OnFalse result (rows.new.entries ≡ rows.old.entries) }
+    ensures places { spare rows.new ≡ spare rows.old }
 {
     let Some(place) = row_place(rows, hold, last) else {
         return false;
@@ -138,6 +153,7 @@ pub(crate) fn forget(rows: &mut Rows, hold: Hold, last: &Cell<usize>) -> bool
     ensures forgotten { OnTrue result (Resets same_hold rows.old.entries rows.new.entries hold
         (row_at rows.old.entries hold) None) }
     ensures unchanged { OnFalse result (rows.new.entries ≡ rows.old.entries) }
+    ensures places { spare rows.old ≤ spare rows.new }
 {
     let Some(place) = row_place(rows, hold, last) else {
         return false;

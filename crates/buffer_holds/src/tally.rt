@@ -1,5 +1,6 @@
 //! The running counts of one kind of handle.
 ghost use Rattle.std.specs.Prelude.{◌≡◌, ◌+◌, ◌<◌, ◌≤◌, ◌↔◌, true, length, IsSome, IfSome, IfNone, None, OnOk, OnErr, IsErrOf, IsOkUnless};
+ghost use Rattle.indexmap.specs.IndexMap.{spare};
 ghost use Rattle.buffer_holds.specs.Kinds.{same_kind};
 ghost use Rattle.buffer_holds.specs.Rows.{row_at, count_at, Resets, Raises, StandsAt};
 ghost use Rattle.buffer_holds.specs.Stored.{Opens};
@@ -188,7 +189,7 @@ pub(crate) fn leave(tallies: &mut Tallies, kind: HandleKind, hint: &Hint)
     }
 }
 
-// One handle more, the first of its kind. The step that takes room for the tally comes first, so that a refusal leaves all as it was.
+// One handle more, the first of its kind, as `open` says. The step that takes room for the tally comes first, so that a refusal leaves all as it was.
 #[inline(never)]
 fn open_first(
     rows: &mut Rows,
@@ -197,6 +198,7 @@ fn open_first(
     limit: u32,
     spot: &mut Spot,
     most: &mut u32,
+    free: u32,
 ) -> Result<(), HoldFault>
     requires first { tally_row tallies.old.entries hold.kind ≡ None }
     requires none { row_at rows.old.entries hold ≡ None }
@@ -205,6 +207,7 @@ fn open_first(
     ensures too_many { IsErrOf result HoldFault.TooMany ↔ (0 ≡ limit) }
     ensures more { most.old ≤ most.new }
     ensures most { OnOk result ((tally_at tallies.old.entries hold.kind).total + 1 ≤ most.new) }
+    ensures places { free ≤ spare rows.old → free ≤ spare rows.new }
     ensures err_rows { OnErr result (rows.new.entries ≡ rows.old.entries) }
     ensures err_tallies { OnErr result (tallies.new.entries ≡ tallies.old.entries) }
 {
@@ -215,7 +218,7 @@ fn open_first(
     let Ok(()) = tallies.reserve(1) else {
         return Err(HoldFault::NoMemory);
     };
-    let Ok(()) = add_row(rows, hold, &mut spot.row) else {
+    let Ok(()) = add_row(rows, hold, &mut spot.row, free) else {
         return Err(HoldFault::NoMemory);
     };
     let tally = Tally {
@@ -229,7 +232,7 @@ fn open_first(
     Ok(())
 }
 
-// One handle more. The most that were ever open of one kind grows with it.
+// One handle more. The most that were ever open of one kind grows with it. So many places stay free among the rows.
 pub(crate) fn open(
     rows: &mut Rows,
     tallies: &mut Tallies,
@@ -238,6 +241,7 @@ pub(crate) fn open(
     spot: &mut Spot,
     last: &Last,
     most: &mut u32,
+    free: u32,
 ) -> Result<(), HoldFault>
     requires within { (tally_at tallies.old.entries hold.kind).total ≤ limit }
     requires counted { count_at rows.old.entries hold ≤ (tally_at tallies.old.entries hold.kind).total }
@@ -250,6 +254,7 @@ pub(crate) fn open(
         → IsOkUnless result HoldFault.TooMany }
     ensures more { most.old ≤ most.new }
     ensures most { OnOk result ((tally_at tallies.old.entries hold.kind).total + 1 ≤ most.new) }
+    ensures places { free ≤ spare rows.old → free ≤ spare rows.new }
     ensures err_rows { OnErr result (rows.new.entries ≡ rows.old.entries) }
     ensures err_tallies { OnErr result (tallies.new.entries ≡ tallies.old.entries) }
 {
@@ -259,14 +264,14 @@ pub(crate) fn open(
         spot.tally,
         last.tally(hold.kind.strength),
     ) else {
-        return open_first(rows, tallies, hold, limit, spot, most);
+        return open_first(rows, tallies, hold, limit, spot, most, free);
     };
     let tally = tallies.get_index_mut(place).unwrap();
     if tally.total == limit {
         return Err(HoldFault::TooMany);
     }
     let before = rows.len();
-    let Ok(()) = raise(rows, hold, &mut spot.row, &last.row) else {
+    let Ok(()) = raise(rows, hold, &mut spot.row, &last.row, free) else {
         return Err(HoldFault::NoMemory);
     };
     tally.total += 1;

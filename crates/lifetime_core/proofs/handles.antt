@@ -5,6 +5,7 @@ pub mod Movable
 pub mod Moves
 pub mod Opening
 pub mod Parcels
+pub mod Standing
 pub mod Taken
 pub mod ToOpen
 pub mod Undoing

@@ -1,5 +1,5 @@
 -- What an event does to the rows of handles. No public clause cites this module.
-use Rattle.std.specs.Prelude.{◌≡◌, ℕ, ◌+◌, ◌<◌, ⊤, Bool, true, ◌&&◌, ◌==◌, nat_lt}
+use Rattle.std.specs.Prelude.{◌≡◌, ℕ, ◌+◌, ◌<◌, ⊤, Bool, true, false, ◌&&◌, ◌==◌, nat_lt}
 use Rattle.std.specs.Int.{bit_at}
 use Rattle.sm_names.specs.declared.keys.BufferName.{BufferName}
 use Rattle.sm_names.specs.declared.keys.Strength.{Strength}
@@ -42,6 +42,18 @@ CanUndo holds client (Call.DropHandle buffer strength) Reply.Done =
 CanUndo holds client (Call.GiveHandle buffer strength to) Reply.Done =
     (has_handle_room holds client buffer strength ≡ true) × (0 < moving holds buffer strength)
 CanUndo holds client _ _ = ⊤
+
+-- the call collects a handle: the gift made room for it, so that this takes no memory, and is never undone
+abbrev pub collects_handle : Call → Reply → Bool
+collects_handle Call.Collect (Reply.CollectedHandle buffer strength) = true
+collects_handle _ _ = false
+
+-- the event needs room for handles: it opens some, or gives one whose receiver needs it
+abbrev pub takes_handle_room : Call → Reply → Bool
+takes_handle_room (Call.Take key) (Reply.Taken collection strength set) = true
+takes_handle_room (Call.DupHandle buffer strength) Reply.Done = true
+takes_handle_room (Call.GiveHandle buffer strength to) Reply.Done = true
+takes_handle_room _ _ = false
 
 -- ---- handles that a client opens
 

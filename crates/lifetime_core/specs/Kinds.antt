@@ -20,6 +20,12 @@ abbrev pub is_collecting : Call → Bool
 is_collecting Call.Collect = true
 is_collecting _ = false
 
+-- the call takes no memory, whatever it is answered
+abbrev pub takes_no_memory : Call → Bool
+takes_no_memory Call.Shut = true
+takes_no_memory Call.Collect = true
+takes_no_memory _ = false
+
 -- the call asks whether there are buffers
 abbrev pub is_checking : Call → Bool
 is_checking (Call.Check key) = true

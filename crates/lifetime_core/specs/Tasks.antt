@@ -20,7 +20,7 @@ use Rattle.trackers.specs.Table.{Table}
 use Rattle.lifetime_core.specs.declared.event.Asked.{Asked}
 use Rattle.lifetime_core.specs.declared.task.Place.{Place}
 use Rattle.lifetime_core.specs.declared.task.Task.{Task}
-use Rattle.lifetime_core.specs.Hands.{MovesHandles}
+use Rattle.lifetime_core.specs.Hands.{MovesHandles, takes_handle_room}
 use Rattle.lifetime_core.specs.Kinds.{is_releasing, is_sync}
 use Rattle.lifetime_core.specs.Reads.{readings_of}
 use Rattle.lifetime_core.specs.State.{Client, State}
@@ -102,6 +102,11 @@ takes_room Call.Join (Reply.Joined made) = true
 takes_room (Call.Give key to) Reply.Done = true
 takes_room (Call.GiveHandle buffer strength to) Reply.Done = true
 takes_room _ _ = false
+
+-- the event may take memory: for handles, a tracker, what it changes in a collection, a client or a parcel
+abbrev pub may_take_memory : Call → Reply → Option Task → Option Waiting → Bool
+may_take_memory call reply task tracking =
+    takes_handle_room call reply || (is_some tracking || (is_some (work_in task) || takes_room call reply))
 
 -- where trackers may be due: in the collection that is changed, and where none is, in that of the new tracker, if it is due
 abbrev pub looked_in : World → Option ℕ → Option Waiting → Option ℕ

@@ -1,12 +1,12 @@
 -- What a core promises of several calls, and of whole histories.
-use Rattle.std.specs.Prelude.{◌≡◌, ℕ, ◌<◌, ◌≤◌, ◌↔◌, true, List, [], ◌∷◌, ◌++◌, Option, Some, None, Result, Err, IfOk, OnErr}
+use Rattle.std.specs.Prelude.{◌≡◌, ℕ, ◌<◌, ◌≤◌, ◌↔◌, true, List, [], ◌∷◌, ◌++◌, Option, Some, None, Result, Err, IfOk, IfErr, OnErr}
 use Rattle.std.specs.List.{cons_option, filter_map}
 use Rattle.sm_names.specs.declared.messages.Call.{Call}
 use Rattle.sm_names.specs.declared.messages.Reply.{Reply}
 use Rattle.sm_names.specs.declared.outcomes.StepFault.{StepFault}
 use Rattle.sm_names.specs.Answers.{IsAnswer}
 use Rattle.sm_names.specs.Marks.{Entry}
-use Rattle.lifetime_core.specs.Kinds.{fits_call}
+use Rattle.lifetime_core.specs.Kinds.{fits_call, takes_no_memory}
 use Rattle.lifetime_core.specs.Reads.{readings_of}
 use Rattle.lifetime_core.specs.Shown.{Shows}
 use Rattle.lifetime_core.specs.State.{IsSame, State}
@@ -59,3 +59,4 @@ pub record Stepped (old new : State) (client : ℕ) (call : Call) (result : Resu
   pub equal : result ≡ Err StepFault.HistoryFull → new ≡ old
   pub stays : OnErr result ((history : List Entry) → Shows old history → Shows new history)
   pub full : (result ≡ Err StepFault.HistoryFull) ↔ (old.limits.events ≤ old.events)
+  pub memory : IfErr result (λ fault. takes_no_memory call ≡ true → fault ≡ StepFault.HistoryFull)

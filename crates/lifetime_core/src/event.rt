@@ -4,9 +4,9 @@ ghost use Rattle.std.specs.List.{All};
 ghost use Rattle.trackers.specs.Table.{Cell};
 ghost use Rattle.alloc_event.specs.Forest.{IsPoolOf};
 ghost use Rattle.buffer_holds.specs.Counts.{total};
-ghost use Rattle.lifetime_core.specs.Hands.{MayMove};
+ghost use Rattle.lifetime_core.specs.Hands.{MayMove, collects_handle};
 ghost use Rattle.lifetime_core.specs.State.{Client as Row, counts_of};
-ghost use Rattle.lifetime_core.specs.Tasks.{AsksOnly, MayDo, TakesEffect, takes_room};
+ghost use Rattle.lifetime_core.specs.Tasks.{AsksOnly, MayDo, TakesEffect, may_take_memory, takes_room};
 ghost use Rattle.lifetime_core.specs.Tasks.{changes_nothing as is_idle, with_key};
 ghost use Rattle.lifetime_core.specs.Whole.{AreOut, Rise};
 
@@ -64,8 +64,10 @@ pub(crate) fn changes_nothing(call: &Call, reply: &Reply) -> bool
 /// fire and for what is forgotten, and answers the key of a new node, if there is one.
 ///
 /// `NoMemory` where memory is refused; then the contents are as they were, but for the order of the
-/// rows of handles. It costs what `Forest::settle` costs for one collection, and a few look-ups.
+/// rows of handles. An event that opens and gives nothing, makes no tracker, changes no collection and
+/// admits no client takes none. It costs what `Forest::settle` costs for one collection, and a few look-ups.
 #[inline(always)]
+#[tactic(auto, using(crate::proofs::handles::Standing::stands_tracked, crate::proofs::handles::Standing::stands_worked, crate::proofs::handles::Standing::stands_noted, crate::proofs::handles::Standing::may_by_handles, crate::proofs::handles::Standing::may_by_tracker, crate::proofs::handles::Standing::may_by_work, crate::proofs::handles::Standing::may_by_room))]
 pub(crate) fn take_effect(
     contents: &mut Contents,
     client: ClientId,
@@ -85,6 +87,7 @@ pub(crate) fn take_effect(
     requires room { IfSome tracking (λ t.
         length contents.old.trackers.unfired < contents.old.trackers.limit) }
     requires alone { takes_room call.now asked.now ≡ true → (task.now ≡ None) × (tracking ≡ None) }
+    requires lands { collects_handle call.now asked.now ≡ true → (task.now ≡ None) × (tracking ≡ None) }
     ensures ok { IfOk result (λ key. TakesEffect contents.old.pool.size
         (record {
           clients = contents.old.clients.items;
@@ -103,6 +106,7 @@ pub(crate) fn take_effect(
         × (contents.new.forest ≡ contents.old.forest) × (contents.new.pool ≡ contents.old.pool)
         × (counts_of contents.new.holds ≡ counts_of contents.old.holds)
         × (contents.new.trackers ≡ contents.old.trackers)) }
+    ensures why { OnErr result (may_take_memory call.now asked.now task.now tracking ≡ true) }
     ensures pool { IsPoolOf contents.new.pool contents.new.forest }
     ensures size { contents.new.pool.size ≡ contents.old.pool.size }
     ensures limit { contents.new.holds.limit ≡ contents.old.holds.limit }

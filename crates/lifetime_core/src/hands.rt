@@ -1,9 +1,9 @@
 //! The handles that an event opens, drops or moves.
-ghost use Rattle.std.specs.Prelude.{◌≡◌, ◌+◌, ◌<◌, ◌≤◌, OnOk, OnErr};
+ghost use Rattle.std.specs.Prelude.{◌≡◌, ◌+◌, ◌<◌, ◌≤◌, OnOk, OnErr, true, false};
 ghost use Rattle.std.specs.Int.{bit_at};
 ghost use Rattle.sm_names.specs.Marks.{Called};
 ghost use Rattle.buffer_holds.specs.Counts.{Counts, of, total};
-ghost use Rattle.lifetime_core.specs.Hands.{MayMove, MovesHandles, CanUndo, Opens, CanOpen, is_the, is_below};
+ghost use Rattle.lifetime_core.specs.Hands.{MayMove, MovesHandles, CanUndo, Opens, CanOpen, collects_handle, is_the, is_below, takes_handle_room};
 ghost use Rattle.lifetime_core.specs.State.{counts_of};
 
 use buffer_holds::{HoldFault, Holds, Spot};
@@ -11,8 +11,9 @@ use sm_names::{BufferName, Call, ClientId, CollectionId, NoMemory, Reply, Streng
 
 /// Opens, drops or moves the handles of the call that was answered so.
 ///
-/// `NoMemory` where there is no room for a handle more; then no count changed. It costs two look-ups
-/// for each handle at most.
+/// `NoMemory` where there is no room for a handle more, or for what the receiver of one needs; then
+/// no count changed. A handle that is dropped or collected needs no room. It costs two look-ups for
+/// each handle at most.
 #[inline(always)]
 pub(crate) fn hand_over(
     holds: &mut Holds,
@@ -24,6 +25,7 @@ pub(crate) fn hand_over(
     ensures ok { OnOk result (MovesHandles holds.old holds.new (Called client reply.now call.now)) }
     ensures room { OnOk result (CanUndo holds.new client call.now reply.now) }
     ensures err { OnErr result (counts_of holds.new ≡ counts_of holds.old) }
+    ensures why { OnErr result (takes_handle_room call.now reply.now ≡ true) }
     ensures limit { holds.new.limit ≡ holds.old.limit }
 {
     match *call {
@@ -50,12 +52,12 @@ pub(crate) fn hand_over(
         }
         Call::GiveHandle(buffer, strength, _) => {
             if let Reply::Done = *reply {
-                holds.lift(client, buffer, strength);
+                holds.lift(client, buffer, strength)?;
             }
         }
         Call::Collect => {
             if let Reply::CollectedHandle { buffer, strength } = *reply {
-                return holds.land(client, buffer, strength);
+                holds.land(client, buffer, strength);
             }
         }
         _ => {}
@@ -63,9 +65,10 @@ pub(crate) fn hand_over(
     Ok(())
 }
 
-/// Undoes what `hand_over` did. It takes no memory, and costs as much.
+/// Undoes what `hand_over` did, unless a handle was collected. It takes no memory, and costs as much.
 pub(crate) fn hand_back(holds: &mut Holds, client: ClientId, call: Call, reply: Reply)
-    requires { CanUndo holds.old client call reply }
+    requires undo { CanUndo holds.old client call reply }
+    requires stands { collects_handle call reply ≡ false }
     ensures counts { (before : Counts) →
         MovesHandles before holds.old (Called client reply call) →
         counts_of holds.new ≡ counts_of before }
@@ -94,13 +97,7 @@ pub(crate) fn hand_back(holds: &mut Holds, client: ClientId, call: Call, reply: 
         }
         Call::GiveHandle(buffer, strength, _) => {
             if let Reply::Done = reply {
-                let _ = holds.land(client, buffer, strength);
-            }
-        }
-        Call::Collect => {
-            if let Reply::CollectedHandle { buffer, strength } = reply {
-                let _ = holds.lift(client, buffer, strength);
-                holds.tidy(client, buffer, strength);
+                holds.land(client, buffer, strength);
             }
         }
         _ => {}

@@ -30,7 +30,7 @@ ghost use Rattle.alloc_event.specs.Snapshots.{collection_of};
 ghost use Rattle.alloc_event.specs.Nodes.{is_of, is_spent, members_of};
 ghost use Rattle.alloc_event.specs.Settling.{MayChange, collection_or_new};
 ghost use Rattle.buffer_holds.specs.Counts.{moving, of, total};
-ghost use Rattle.lifetime_core.specs.Kinds.{fits_call};
+ghost use Rattle.lifetime_core.specs.Kinds.{fits_call, takes_no_memory};
 ghost use Rattle.lifetime_core.specs.Reads.{buffers_in, end_in, open_end_of};
 ghost use Rattle.lifetime_core.specs.Reads.{readings_of};
 ghost use Rattle.lifetime_core.specs.Reads.{is_live_in, fault_in, views_of};
@@ -407,7 +407,8 @@ impl Core {
     ///
     /// `HistoryFull` exactly where as many events were made as may be, whatever the call is, and
     /// `NoMemory` where memory is refused. Either leaves the core as it was, but for the order of
-    /// the rows of handles, which `NoMemory` may change.
+    /// the rows of handles, which `NoMemory` may change. A Shut and a Collect take no memory: a gift
+    /// takes what its Collect needs.
     ///
     /// It costs a binary search among the clients, a few look-ups of a node, of a collection and of
     /// handles, and what `Forest::settle` costs for one collection: that of the node or the buffer that
@@ -440,6 +441,8 @@ impl Core {
             Shows self.old history → Shows self.new history) }
         ensures full { (result ≡ Err StepFault.HistoryFull)
             ↔ (self.old.limits.events ≤ self.old.events) }
+        ensures memory { IfErr result (λ fault.
+            takes_no_memory call ≡ true → fault ≡ StepFault.HistoryFull) }
     {
         take_by_kind(self, client, call)
     }

@@ -1,5 +1,5 @@
 //! Trackers: those that an event attaches, and those that it fires.
-ghost use Rattle.std.specs.Prelude.{◌≡◌, ◌<◌, OnOk, OnErr, IfSome, Some, false, length, option_copied};
+ghost use Rattle.std.specs.Prelude.{◌≡◌, ◌<◌, OnOk, OnErr, IfSome, Some, false, true, is_some, length, option_copied};
 ghost use Rattle.std.specs.List.{All};
 ghost use Rattle.trackers.specs.declared.waiting.Waiting.{Waiting};
 ghost use Rattle.trackers.specs.Table.{Cell, Table, is_due};
@@ -57,6 +57,7 @@ pub(crate) fn attach(trackers: &mut Trackers, tracking: Option<Waiting>) -> Resu
     requires room { IfSome tracking (λ t. length trackers.old.unfired < trackers.old.limit) }
     ensures ok { OnOk result (GainsTracker trackers.old tracking trackers.new) }
     ensures err { OnErr result (trackers.new ≡ trackers.old) }
+    ensures why { OnErr result (is_some tracking ≡ true) }
 {
     let Some(tracker) = tracking else {
         return Ok(());

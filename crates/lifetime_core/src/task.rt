@@ -212,6 +212,7 @@ pub(crate) fn make_change(
     ensures pool { IsPoolOf pool.new forest.new }
     ensures size { pool.new.size ≡ pool.old.size }
     ensures kept { OnErr result ((forest.new ≡ forest.old) × (pool.new ≡ pool.old)) }
+    ensures why { OnErr result (is_some (work_in task.now) ≡ true) }
 {
     let Some(task) = *task else {
         return Ok(None);

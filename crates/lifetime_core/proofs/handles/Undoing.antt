@@ -14,12 +14,10 @@ use Rattle.sm_names.specs.Sameness.{same_strength}
 use Rattle.sm_names.proofs.SamenessLaws.{or_false}
 use Rattle.event_laws.specs.ByEvent.{GoesBy, one_if, anyone, only, is_about_handles}
 use Rattle.event_laws.proofs.HandleEventLaws.{idle_gains, idle_loses, idle_opens, idle_drops, idle_lifts, idle_lands}
-use Rattle.buffer_holds.specs.Changes.{Sets, Tidies}
+use Rattle.buffer_holds.specs.Changes.{Sets}
 use Rattle.buffer_holds.specs.declared.fault.HoldFault.{HoldFault}
-use Rattle.buffer_holds.specs.Kinds.{hold_of}
-use Rattle.buffer_holds.proofs.KindLemmas.{same_hold-refl}
 use Rattle.buffer_holds.specs.Counts.{Counts, of, moving, total}
-use Rattle.lifetime_core.specs.Hands.{MovesHandles, Opens, is_the, is_below}
+use Rattle.lifetime_core.specs.Hands.{MovesHandles, Opens, collects_handle, is_the, is_below}
 use Rattle.lifetime_core.specs.State.{counts_of}
 use Rattle.lifetime_core.proofs.handles.Opening.{same_counts, up, down, still, one_hold, one_kind, of-le-total}
 
@@ -169,28 +167,6 @@ module _ (client : ℕ) (buffer : BufferName) (strength : Strength) where
     in_all = λ b s. goes_not (still (is_the buffer strength b s) (sets.totals b s) (one_kind client buffer strength (total old) b s));
   }
 
-  -- the client has it then
-  pub got_one : (old new : Counts) → MovesHandles old new (Called client (Reply.CollectedHandle buffer strength) Call.Collect) →
-      0 < of new client buffer strength
-  got_one old new moves =
-      let it : one_if (is_its client buffer strength) ≡ 1 = ap one_if (same_hold-refl (hold_of client buffer strength)) in
-      omega (arith, it, gained (is_its client buffer strength) _ refl (moves.each client buffer strength))
-
-  -- and is undone by putting it back
-  pub uncollects : (before old mid new : Counts) → 0 < of old client buffer strength →
-      MovesHandles before old (Called client (Reply.CollectedHandle buffer strength) Call.Collect) →
-      Sets old mid client buffer strength (of old client buffer strength - 1) (moving old buffer strength + 1) (total old buffer strength) →
-      Tidies mid new client buffer strength → counts_of new ≡ counts_of before
-  uncollects before old mid new some moves sets tidies = same_counts before new
-      (λ c b s. let e = down (is_its c b s) some (sets.counts c b s) (one_hold client buffer strength (of old) c b s) in
-      let g = gained (is_its c b s) _ refl (moves.each c b s) in
-      let t = tidies.counts c b s in
-      omega arith)
-      (λ b s. tidies.parcels b s ∙ (up (is_the buffer strength b s) (sets.parcels b s) (one_kind client buffer strength (moving old) b s)
-      ∙ sym (lost (is_the buffer strength b s) _ refl (moves.in_parcels b s))))
-      (λ b s. tidies.totals b s ∙ (still (is_the buffer strength b s) (sets.totals b s) (one_kind client buffer strength (total old) b s)
-      ∙ neither (moves.in_all b s)))
-
 -- ---- an event that is about no handles
 
 module _ (mark : Mark) (idle : is_about_handles mark ≡ false) where
@@ -241,26 +217,25 @@ module _ (client : ℕ) (reply : Reply) where
       by Reply.Done undone = absurd (undone refl)
       by _ undone = refl
 
-  -- any other call
+  -- any other call, but for a Collect of a handle
   pub not_handles : (call : Call) → ((key : NodeKey) → call ≡ Call.Take key → ⊥) → ((buffer : BufferName) (strength : Strength) →
       call ≡ Call.DupHandle buffer strength → ⊥) →
       ((buffer : BufferName) (strength : Strength) → call ≡ Call.DropHandle buffer strength → ⊥) →
       ((buffer : BufferName) (strength : Strength) (to : ℕ) → call ≡ Call.GiveHandle buffer strength to → ⊥) →
-      (call ≡ Call.Collect → ⊥) → is_about_handles (Called client reply call) ≡ false
-  not_handles call no_take no_dup no_drop no_give no_collect = by reply call no_take no_dup no_drop no_give no_collect
+      collects_handle call reply ≡ false → is_about_handles (Called client reply call) ≡ false
+  not_handles call no_take no_dup no_drop no_give stands = by reply call no_take no_dup no_drop no_give stands
     where
       by : (reply : Reply) (call : Call) → ((key : NodeKey) → call ≡ Call.Take key → ⊥) → ((buffer : BufferName) (strength : Strength) →
           call ≡ Call.DupHandle buffer strength → ⊥) →
           ((buffer : BufferName) (strength : Strength) → call ≡ Call.DropHandle buffer strength → ⊥) →
           ((buffer : BufferName) (strength : Strength) (to : ℕ) → call ≡ Call.GiveHandle buffer strength to → ⊥) →
-          (call ≡ Call.Collect → ⊥) → is_about_handles (Called client reply call) ≡ false
-      by (Reply.Taken collection strength set) (Call.Take key) no_take no_dup no_drop no_give no_collect = absurd (no_take key refl)
-      by Reply.Done (Call.DupHandle buffer strength) no_take no_dup no_drop no_give no_collect = absurd (no_dup buffer strength refl)
-      by Reply.Done (Call.DropHandle buffer strength) no_take no_dup no_drop no_give no_collect = absurd (no_drop buffer strength refl)
-      by Reply.Done (Call.GiveHandle buffer strength to) no_take no_dup no_drop no_give no_collect =
-          absurd (no_give buffer strength to refl)
-      by (Reply.CollectedHandle buffer strength) Call.Collect no_take no_dup no_drop no_give no_collect = absurd (no_collect refl)
-      by _ _ no_take no_dup no_drop no_give no_collect = refl
+          collects_handle call reply ≡ false → is_about_handles (Called client reply call) ≡ false
+      by (Reply.Taken collection strength set) (Call.Take key) no_take no_dup no_drop no_give stands = absurd (no_take key refl)
+      by Reply.Done (Call.DupHandle buffer strength) no_take no_dup no_drop no_give stands = absurd (no_dup buffer strength refl)
+      by Reply.Done (Call.DropHandle buffer strength) no_take no_dup no_drop no_give stands = absurd (no_drop buffer strength refl)
+      by Reply.Done (Call.GiveHandle buffer strength to) no_take no_dup no_drop no_give stands = absurd (no_give buffer strength to refl)
+      by (Reply.CollectedHandle buffer strength) Call.Collect no_take no_dup no_drop no_give stands = cc
+      by _ _ no_take no_dup no_drop no_give stands = refl
 
 -- with room for it, and below the limit, a handle is opened
 pub opened : {P : Type 0} (result : Result (Unit {0}) HoldFault) (now limit : ℕ) → IsErrOf result HoldFault.TooMany ↔ (now ≡ limit) →

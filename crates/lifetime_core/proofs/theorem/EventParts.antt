@@ -57,6 +57,12 @@ room_idle s client (Call.Give key to) Reply.Done takes = (record { work = refl; 
 room_idle s client (Call.GiveHandle buffer strength to) Reply.Done takes = (record { work = refl; spends = refl }, refl)
 room_idle s client _ _ takes = cc
 
+-- nor where a handle is collected
+landing_idle : (s : State) (client : ℕ) (call : Call) (asked : Reply) → collects_handle call asked ≡ true →
+    HasNoTask s client call asked × (tracker_by s.forest call asked ≡ None)
+landing_idle s client Call.Collect (Reply.CollectedHandle buffer strength) lands = (record { work = refl; spends = refl }, refl)
+landing_idle s client _ _ lands = cc
+
 -- nor is there a task where an end is carried
 carried_idle : (s : State) (client : ℕ) (call : Call) (asked : Reply) (place : Place) → carried_by client call asked ≡ Some place →
     HasNoTask s client call asked
@@ -161,6 +167,12 @@ module _ (s : State) (client : ℕ) (call : Call) (asked reply : Reply) (task : 
   pub alone : takes_room call asked ≡ true → (task ≡ None) × (tracking ≡ None)
   alone takes =
       let none = room_idle s client call asked takes in
+      (idle none.0, b.tracks ∙ none.1)
+
+  -- nor where a handle is collected
+  pub lands : collects_handle call asked ≡ true → (task ≡ None) × (tracking ≡ None)
+  lands is =
+      let none = landing_idle s client call asked is in
       (idle none.0, b.tracks ∙ none.1)
 
   module _ (parts : Parts) (takes : TakesEffect s.pool

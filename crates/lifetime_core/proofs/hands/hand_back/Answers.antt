@@ -1,11 +1,9 @@
 use Rattle.std.proofs.Common.{rules, refl, ◌<◌, ◌^◌}
-use Rattle.std.proofs.lemmas.Bool.{OnTrue_at}
 use Rattle.buffer_holds.specs.Counts.{total}
-use Rattle.buffer_holds.proofs.Outcomes.{at_ok}
 use Rattle.sm_names.specs.Marks.{Called}
 use Rattle.lifetime_core.specs.Hands.{is_the}
 use Rattle.lifetime_core.proofs.handles.Opening.{same_before, has_one}
-use Rattle.lifetime_core.proofs.handles.Undoing.{taken_opens, doubled_opens, undrops, ungives, uncollects, got_one, opened, moved_none, not_taken, not_doubled, not_dropped, not_handed, not_handles}
+use Rattle.lifetime_core.proofs.handles.Undoing.{taken_opens, doubled_opens, undrops, ungives, opened, moved_none, not_taken, not_doubled, not_dropped, not_handed, not_handles}
 use Rattle.lifetime_core.proofs.hands.hand_back.Goals as goal
 
 pub returns-in-Taken-clause-counts : goal.returns-in-Taken-clause-counts
@@ -41,7 +39,7 @@ returns-in_default-reply-2 c = record {
 pub returns-in-Done-reply-clause-counts : goal.returns-in-Done-reply-clause-counts
 returns-in-Done-reply-clause-counts c = λ before moves.
     let d = c.in-DropHandle in
-    let can = rw (c.in-DropHandle.is, c.in-Done-reply.is) at c.requires in
+    let can = rw (c.in-DropHandle.is, c.in-Done-reply.is) at c.requires.undo in
     undrops c.args.client d.buffer d.strength before c.args.holds.now c.add.new.self (rw (c.in-DropHandle.is, c.in-Done-reply.is) at moves)
     (opened c.add.result (total c.args.holds.now d.buffer d.strength) c.args.holds.now.limit c.add.ensures.too_many can.1
     (c.add.ensures.room can.0) c.add.ensures.opened)
@@ -57,10 +55,10 @@ returns-in_default-reply-3 c = record {
 pub returns-in-Done-reply-2-clause-counts : goal.returns-in-Done-reply-2-clause-counts
 returns-in-Done-reply-2-clause-counts c = λ before moves.
     let g = c.in-GiveHandle in
-    let can = rw (c.in-GiveHandle.is, c.in-Done-reply-2.is) at c.requires in
+    let can = rw (c.in-GiveHandle.is, c.in-Done-reply-2.is) at c.requires.undo in
     ungives c.args.client g.buffer g.strength g.field-2 before c.args.holds.now c.land.new.self can.1
     (rw (c.in-GiveHandle.is, c.in-Done-reply-2.is) at moves)
-    (at_ok _ c.land.result (c.land.ensures.room can.0) c.land.ensures.landed)
+    c.land.ensures
 
 pub returns-in_default-reply-4 : goal.returns-in_default-reply-4
 returns-in_default-reply-4 c = record {
@@ -70,18 +68,10 @@ returns-in_default-reply-4 c = record {
   limit = refl;
 }
 
-pub returns-in-CollectedHandle-clause-counts : goal.returns-in-CollectedHandle-clause-counts
-returns-in-CollectedHandle-clause-counts c = λ before moves.
-    let h = c.in-CollectedHandle in
-    let was = rw (c.in-Collect.is, c.in-CollectedHandle.is) at moves in
-    let some = got_one c.args.client h.buffer h.strength before c.args.holds.now was in
-    uncollects c.args.client h.buffer h.strength before c.args.holds.now c.lift.new.self c.tidy.new.self some was
-    (OnTrue_at (c.lift.ensures.had.1 some) c.lift.ensures.lifted) c.tidy.ensures
-
 pub returns-in_default : goal.returns-in_default
 returns-in_default c = record {
   counts = λ before moves. moved_none (Called c.args.client c.args.reply c.args.call)
       (not_handles c.args.client c.args.reply c.args.call c.in_default.not-Take c.in_default.not-DupHandle
-      c.in_default.not-DropHandle c.in_default.not-GiveHandle c.in_default.not-Collect) before c.args.holds.now moves;
+      c.in_default.not-DropHandle c.in_default.not-GiveHandle c.requires.stands) before c.args.holds.now moves;
   limit = refl;
 }

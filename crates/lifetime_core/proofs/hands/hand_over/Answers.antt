@@ -27,16 +27,16 @@ returns-in-Done-reply-clause-ok c =
     rw (c.in-DropHandle.is, c.in-Done-reply.is) (moves_dropped c.args.client d.buffer d.strength c.args.holds.now c.sub.new.self some
     (OnTrue_at (c.sub.ensures.had.1 some) c.sub.ensures.closed))
 
-pub returns-in-Done-reply-2-clause-ok : goal.returns-in-Done-reply-2-clause-ok
-returns-in-Done-reply-2-clause-ok c =
+pub returns-in_ok-lift-in-GiveHandle-clause-ok : goal.returns-in_ok-lift-in-GiveHandle-clause-ok
+returns-in_ok-lift-in-GiveHandle-clause-ok c =
     let g = c.in-GiveHandle in
     let some = rw (c.in-GiveHandle.is, c.in-Done-reply-2.is) at c.requires in
     rw (c.in-GiveHandle.is, c.in-Done-reply-2.is) (moves_given c.args.client g.buffer g.strength g.field-2 c.args.holds.now c.lift.new.self
-    some (OnTrue_at (c.lift.ensures.had.1 some) c.lift.ensures.lifted))
+    some (OnTrue_at (c.in_ok-lift.ensures.had.1 some) c.in_ok-lift.ensures.lifted))
 
 pub returns-in-CollectedHandle-clause-ok : goal.returns-in-CollectedHandle-clause-ok
 returns-in-CollectedHandle-clause-ok c =
     let h = c.in-CollectedHandle in
     let some = rw (c.in-Collect.is, c.in-CollectedHandle.is) at c.requires in
-    rw (c.in-Collect.is, c.in-CollectedHandle.is) (on_ok_weaker c.land.result (moves_collected c.args.client h.buffer h.strength
-    c.args.holds.now c.land.new.self some) c.land.ensures.landed)
+    rw (c.in-Collect.is, c.in-CollectedHandle.is) (moves_collected c.args.client h.buffer h.strength c.args.holds.now c.land.new.self some
+    c.land.ensures)

@@ -3,10 +3,12 @@ use Rattle.buffer_holds.specs.declared.fault.HoldFault.TheVariants.{TooMany}
 use Rattle.buffer_holds.specs.Counts.{total, has_handle_room}
 use Rattle.buffer_holds.specs.Kinds.{kind_of, hold_of}
 use Rattle.buffer_holds.specs.Rows.{Raises, row_at}
-use Rattle.buffer_holds.specs.Sound.{IsSound, no_tally, tally_at, tally_row}
+use Rattle.indexmap.specs.IndexMap.{spare}
+use Rattle.buffer_holds.specs.Sound.{HasPlaces, IsSound, no_tally, tally_at, tally_row}
 use Rattle.buffer_holds.specs.Stored.{Opens}
 use Rattle.buffer_holds.proofs.Most.{up_to_after}
 use Rattle.buffer_holds.proofs.Opening.{Step-opened}
+use Rattle.buffer_holds.proofs.Places.{places_after}
 use Rattle.buffer_holds.proofs.Outcomes.{by_outcome, at_ok, at_err, on_ok, ok-not-err}
 use Rattle.buffer_holds.proofs.SoundLemmas.{total_is, count_at-le-total, clients-le-length, one_row-le-clients, one_row-IsSome, no_row, kept_from_something}
 use Rattle.buffer_holds.proofs.Steps.{sound_after, sets_by}
@@ -65,6 +67,17 @@ invariant_of-self c =
           let same : c.open.new.tallies.entries ≡ inside.tallies.entries =
           at_err (c.open.new.tallies.entries ≡ inside.tallies.entries) c.open.result err c.open.ensures.err_tallies in
           omega (arith, c.self.invariant.1 kind, c.open.ensures.more, ap (λ es. (tally_at es kind).total) same)),
+      by_outcome c.open.result (λ ok.
+          places_after inside.sent inside.sent (spare inside.rows) (spare c.open.new.rows) inside.tallies.entries
+          c.open.new.tallies.entries hold.kind _ _
+          (at_ok (Opens inside.rows.entries rows' inside.tallies.entries c.open.new.tallies.entries hold.kind) c.open.result ok
+          c.open.ensures.tallied)
+          refl (c.open.ensures.places c.self.invariant.2.enough) c.self.invariant.2) (λ err.
+          subst (HasPlaces inside.sent (spare c.open.new.rows)) (sym (at_err (c.open.new.tallies.entries ≡ inside.tallies.entries) c.open.result
+          err c.open.ensures.err_tallies)) (record {
+            counted = c.self.invariant.2.counted;
+            enough = c.open.ensures.places c.self.invariant.2.enough;
+          })),
     )
 
 pub returns-clause-opened : goal.returns-clause-opened

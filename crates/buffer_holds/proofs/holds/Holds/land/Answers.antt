@@ -3,10 +3,39 @@ use Rattle.buffer_holds.specs.declared.tally.Tally.{Tally}
 use Rattle.buffer_holds.specs.Counts.{moving}
 use Rattle.buffer_holds.specs.Kinds.{kind_of, hold_of}
 use Rattle.buffer_holds.proofs.Most.{up_to_after}
+use Rattle.buffer_holds.proofs.Places.{moving-le-sent_in, places_after}
 use Rattle.buffer_holds.proofs.SoundLemmas.{moving_is, count_at-le-total, clients-le-length}
 use Rattle.buffer_holds.proofs.Steps.{Step-raised, sound_after, sets_by}
 use Rattle.buffer_holds.proofs.TallyRows.{placed_from_something, lent_there, tally_lent, row_written}
 use Rattle.buffer_holds.proofs.holds.Holds.land.Goals as goal
+
+-- one lies in a parcel
+pub overflow_sub-sent : goal.overflow_sub-sent
+overflow_sub-sent c =
+    let inside = c.self.inside in
+    omega (
+      arith,
+      c.requires,
+      ap (λ counts. moving counts c.args.buffer c.args.strength) c.self.view_is,
+      moving_is inside.limit inside.rows.entries inside.tallies.entries c.args.buffer c.args.strength,
+      moving-le-sent_in inside.tallies.entries (kind_of c.args.buffer c.args.strength),
+      c.self.invariant.2.counted,
+    )
+
+-- and so a row of its receiver has a free place
+pub unreachable-requires : goal.unreachable-requires
+unreachable-requires c =
+    let inside = c.self.inside in
+    let done = c.in_default.ensures.roomy (omega (
+      arith,
+      c.requires,
+      ap (λ counts. moving counts c.args.buffer c.args.strength) c.self.view_is,
+      moving_is inside.limit inside.rows.entries inside.tallies.entries c.args.buffer c.args.strength,
+      moving-le-sent_in inside.tallies.entries (kind_of c.args.buffer c.args.strength),
+      c.self.invariant.2.counted,
+      c.self.invariant.2.enough,
+    )) in
+    cc
 
 -- one lies in a parcel, and so there is room for it
 pub raise-requires : goal.raise-requires
@@ -68,8 +97,8 @@ overflow_add-tally c =
           c.get_index_mut.result c.get_index_mut.ensures.value c.get_index_mut.ensures.unique c.unwrap-tally.result c.unwrap-tally.ensures),
     )
 
-pub invariant_of-self-2 : goal.invariant_of-self-2
-invariant_of-self-2 c =
+pub invariant_of-self : goal.invariant_of-self
+invariant_of-self c =
     let inside = c.self.inside in
     let hold = hold_of c.args.client c.args.buffer c.args.strength in
     let tally = c.unwrap-tally.result.now in
@@ -93,10 +122,19 @@ invariant_of-self-2 c =
           (omega (arith, lies, ap (λ (t : Tally). t.total) kept, ap (λ (t : Tally). t.moving) kept))),
       up_to_after inside.most inside.most inside.tallies.entries _ hold.kind _ (Some landed) after (omega arith)
           (omega (arith, c.self.invariant.1 hold.kind, ap (λ (t : Tally). t.total) kept)) c.self.invariant.1,
+      places_after inside.sent (inside.sent - 1) _ _ inside.tallies.entries _ hold.kind _ (Some landed) after
+          (omega (
+            arith,
+            lies,
+            ap (λ (t : Tally). t.moving) kept,
+            moving-le-sent_in inside.tallies.entries hold.kind,
+            c.self.invariant.2.counted,
+          ))
+          (c.raise.ensures.places (omega (arith, c.self.invariant.2.enough))) c.self.invariant.2,
     )
 
-pub returns-clause-landed : goal.returns-clause-landed
-returns-clause-landed c =
+pub returns : goal.returns
+returns c =
     let inside = c.self.inside in
     let hold = hold_of c.args.client c.args.buffer c.args.strength in
     let tally = c.unwrap-tally.result.now in

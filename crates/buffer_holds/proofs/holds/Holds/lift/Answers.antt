@@ -1,8 +1,9 @@
-use Rattle.std.proofs.Common.{◌-◌, ◌+◌, refl, sym, ap, arith, Some}
+use Rattle.std.proofs.Common.{◌-◌, ◌+◌, ◌<◌, refl, sym, ap, subst, arith, Some}
 use Rattle.buffer_holds.specs.declared.tally.Tally.{Tally}
-use Rattle.buffer_holds.specs.Kinds.{hold_of, kind_of}
-use Rattle.buffer_holds.specs.Rows.{row_at}
+use Rattle.buffer_holds.specs.Kinds.{hold_of, kind_of, same_hold}
+use Rattle.buffer_holds.specs.Rows.{Resets, count_at, row_at}
 use Rattle.buffer_holds.proofs.Most.{up_to_after}
+use Rattle.buffer_holds.proofs.Places.{places_after}
 use Rattle.buffer_holds.proofs.SoundLemmas.{one_row-some, count_at-le-total, one_row-le-clients}
 use Rattle.buffer_holds.proofs.Steps.{Step-lowered, sound_after, sets_by}
 use Rattle.buffer_holds.proofs.TallyRows.{placed_from_something, lent_there, tally_lent, row_written}
@@ -16,7 +17,8 @@ unwrap-place-requires c =
     placed_from_something inside.tallies hold.kind c.tally_place.result c.tally_place.ensures.none
     (omega (
       arith,
-      one_row-some (row_at inside.rows.entries hold) (c.if-not-lower.ensures.had.0 refl),
+      one_row-some (row_at inside.rows.entries hold) (subst (λ es. 0 < count_at es hold) c.reserve.ensures.entries
+          (c.if-not-lower.ensures.had.0 refl)),
       one_row-le-clients inside.limit inside.rows.entries inside.tallies.entries c.self.invariant.0 hold,
     ))
 
@@ -32,7 +34,7 @@ overflow_add-tally c =
     let hold = hold_of c.args.client c.args.buffer c.args.strength in
     omega (
       arith,
-      c.if-not-lower.ensures.had.0 refl,
+      subst (λ es. 0 < count_at es hold) c.reserve.ensures.entries (c.if-not-lower.ensures.had.0 refl),
       count_at-le-total inside.limit inside.rows.entries inside.tallies.entries c.self.invariant.0 hold,
       ap (λ (t : Tally). t.moving) (tally_lent inside.tallies hold.kind c.tally_place.result c.tally_place.ensures.found c.unwrap-place.result c.unwrap-place.ensures
           c.get_index_mut.result c.get_index_mut.ensures.value c.get_index_mut.ensures.unique c.unwrap-tally.result c.unwrap-tally.ensures),
@@ -47,17 +49,23 @@ invariant_of-self-2 c =
     let left : Tally = record tally { moving = tally.moving + 1 } in
     let kept = tally_lent inside.tallies hold.kind c.tally_place.result c.tally_place.ensures.found c.unwrap-place.result c.unwrap-place.ensures
     c.get_index_mut.result c.get_index_mut.ensures.value c.get_index_mut.ensures.unique c.unwrap-tally.result c.unwrap-tally.ensures in
-    let had = c.if-not-lower.ensures.had.0 refl in
+    let had = subst (λ es. 0 < count_at es hold) c.reserve.ensures.entries (c.if-not-lower.ensures.had.0 refl) in
+    let lowered = subst (λ es.
+    Resets same_hold es c.lower.new.rows.entries hold (row_at es hold) (Some (count_at es hold - 1))) c.reserve.ensures.entries
+    c.if-not-lower.ensures.lowered in
     let among = count_at-le-total inside.limit inside.rows.entries inside.tallies.entries c.self.invariant.0 hold in
     let after = row_written inside.tallies hold.kind c.tally_place.result c.tally_place.ensures.found c.unwrap-place.result
     c.unwrap-place.ensures c.get_index_mut.result c.get_index_mut.ensures.value c.get_index_mut.ensures.unique left in (
       sound_after (Step-lowered inside.limit inside.rows.entries c.lower.new.rows.entries inside.tallies.entries _ c.self.invariant.0 hold left
           after
-          had (c.if-not-lower.ensures.lowered)
+          had lowered
           (ap (λ (t : Tally). t.clients) (sym kept)) (omega (arith, ap (λ (t : Tally). t.total) kept))
           (omega (arith, had, among, ap (λ (t : Tally). t.total) kept, ap (λ (t : Tally). t.moving) kept))),
       up_to_after inside.most inside.most inside.tallies.entries _ hold.kind _ (Some left) after (omega arith)
           (omega (arith, c.self.invariant.1 hold.kind, ap (λ (t : Tally). t.total) kept)) c.self.invariant.1,
+      places_after inside.sent _ _ _ inside.tallies.entries _ hold.kind _ (Some left) after
+          (omega (arith, ap (λ (t : Tally). t.moving) kept))
+          (omega (arith, c.in-Ok.ensures.ok, c.if-not-lower.ensures.places)) c.self.invariant.2,
     )
 
 pub returns-clause-lifted : goal.returns-clause-lifted
@@ -68,12 +76,15 @@ returns-clause-lifted c =
     let left : Tally = record tally { moving = tally.moving + 1 } in
     let kept = tally_lent inside.tallies hold.kind c.tally_place.result c.tally_place.ensures.found c.unwrap-place.result c.unwrap-place.ensures
     c.get_index_mut.result c.get_index_mut.ensures.value c.get_index_mut.ensures.unique c.unwrap-tally.result c.unwrap-tally.ensures in
-    let had = c.if-not-lower.ensures.had.0 refl in
+    let had = subst (λ es. 0 < count_at es hold) c.reserve.ensures.entries (c.if-not-lower.ensures.had.0 refl) in
+    let lowered = subst (λ es.
+    Resets same_hold es c.lower.new.rows.entries hold (row_at es hold) (Some (count_at es hold - 1))) c.reserve.ensures.entries
+    c.if-not-lower.ensures.lowered in
     let among = count_at-le-total inside.limit inside.rows.entries inside.tallies.entries c.self.invariant.0 hold in
     let step = Step-lowered inside.limit inside.rows.entries c.lower.new.rows.entries inside.tallies.entries _ c.self.invariant.0 hold left
     (row_written inside.tallies hold.kind c.tally_place.result c.tally_place.ensures.found c.unwrap-place.result c.unwrap-place.ensures
     c.get_index_mut.result c.get_index_mut.ensures.value c.get_index_mut.ensures.unique left)
-    had (c.if-not-lower.ensures.lowered)
+    had lowered
     (ap (λ (t : Tally). t.clients) (sym kept)) (omega (arith, ap (λ (t : Tally). t.total) kept))
     (omega (arith, had, among, ap (λ (t : Tally). t.total) kept, ap (λ (t : Tally). t.moving) kept)) in
     sets_by c.args.client c.args.buffer c.args.strength step c.args.self.now c.self.view_is (λ n. n - 1) (λ n. n + 1) (λ n. n)

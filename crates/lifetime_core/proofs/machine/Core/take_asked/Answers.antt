@@ -3,8 +3,9 @@ use Rattle.sm_names.specs.Answers.{key_told}
 use Rattle.lifetime_core.specs.Reads.{readings_of}
 use Rattle.lifetime_core.specs.State.{State}
 use Rattle.lifetime_core.specs.Tasks.{Parts, with_key, end_placed}
-use Rattle.lifetime_core.proofs.theorem.EventParts.{Begins, after, alone, begins, can_carry, finishes, one, step_answers, step_follows}
+use Rattle.lifetime_core.proofs.theorem.EventParts.{Begins, after, alone, begins, can_carry, finishes, lands, one, step_answers, step_follows}
 use Rattle.lifetime_core.proofs.answers.Kinds.{reply-fits}
+use Rattle.lifetime_core.proofs.handles.Standing.{takes_none}
 use Rattle.lifetime_core.proofs.theorem.GoesOn.{goes_on}
 use Rattle.lifetime_core.proofs.theorem.Idle.{Idles, further, idle_follows, idle_whole, idles, parts_of}
 use Rattle.lifetime_core.proofs.theorem.Leads.{untaken_after}
@@ -43,6 +44,8 @@ take_effect-requires c =
       room = fits s c.args.client c.args.call.now c.args.asked.now.reply c.args.asked.now.reply c.args.asked.now.task
           c.args.asked.now.tracking b;
       alone = alone s c.args.client c.args.call.now c.args.asked.now.reply c.args.asked.now.reply c.args.asked.now.task
+          c.args.asked.now.tracking b;
+      lands = lands s c.args.client c.args.call.now c.args.asked.now.reply c.args.asked.now.reply c.args.asked.now.task
           c.args.asked.now.tracking b;
     }
 
@@ -102,6 +105,7 @@ returns-then-changes_nothing c =
       equal = search rules;
       stays = search rules;
       full = search rules;
+      memory = search rules;
     })
 
 -- memory was refused, and the fields are as they were
@@ -114,6 +118,40 @@ invariant_of-self-in_default c =
     c.self.inside.contents.holds c.take_effect.new.contents.holds c.self.inside.contents.trackers c.take_effect.new.contents.trackers kept.0
     kept.1 kept.2 kept.3 kept.4
     c.take_effect.ensures.limit c.self.invariant
+
+-- and neither a Shut nor a Collect was refused it
+pub returns-in_default : goal.returns-in_default
+returns-in_default c =
+    let s : State =
+    record {
+      pool = c.self.inside.contents.pool.size;
+      limits = c.self.inside.limits;
+      events = c.self.inside.events;
+      clients = c.self.inside.contents.clients.items;
+      forest = c.self.inside.contents.forest;
+      holds = c.self.inside.contents.holds;
+      trackers = c.self.inside.contents.trackers;
+    } in
+    let b : Begins s c.args.client c.args.call.now c.args.asked.now.reply c.args.asked.now.task c.args.asked.now.tracking =
+    begins c.self.inside.contents.pool s c.args.self.now c.args.client c.args.call.now c.args.asked.now.reply c.args.asked.now.task
+    c.args.asked.now.tracking c.self.view_is c.self.invariant c.requires.reply
+    c.requires.work c.requires.spends c.requires.there c.requires.some
+    c.requires.tracking in
+    record {
+      answer = search rules;
+      kind = search rules;
+      after = search rules;
+      goes_on = search rules;
+      untaken = search rules;
+      kept = search rules;
+      equal = search rules;
+      stays = search rules;
+      full = search rules;
+      memory = λ none.
+          let quiet = takes_none s c.args.client c.args.call.now c.args.asked.now.reply none b.work b.tracks in
+          let may = c.in_default.ensures.why in
+          cc;
+    }
 
 -- trackers elsewhere are not due
 pub sweep-requires : goal.sweep-requires
@@ -266,4 +304,5 @@ returns c =
       equal = search rules;
       stays = search rules;
       full = search rules;
+      memory = search rules;
     })
