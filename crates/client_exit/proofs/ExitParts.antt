@@ -19,7 +19,7 @@ use Rattle.sm_names.specs.Timelines.{timeline}
 use Rattle.sm_names.proofs.SamenessLaws.{false_if}
 use Rattle.lifetime_core.specs.State.{State}
 use Rattle.client_exit.specs.declared.exit.PartFault.{PartFault}
-use Rattle.client_exit.specs.Events.{Collecting, Collects, GetsNothing, IsRest, IsShut, Leaves, Leaving, Lets, Whatever}
+use Rattle.client_exit.specs.Events.{Collecting, Collects, Gathered, GetsNothing, IsRest, IsShut, Leaves, Leaving, Lets, Whatever}
 use Rattle.client_exit.specs.Exits.{HasExited, IsClose, IsCollect, IsDrop, IsExit, holds}
 use Rattle.client_exit.specs.Parting.{Exits, IsBegun, Stops}
 use Rattle.client_exit.specs.Phases.{HasAmong, HasLeft, HoldsAmong, IsUnshut, Phase, part_fault}
@@ -143,11 +143,18 @@ collects_some client waiting count old new few p =
       },
     ))
 
+-- all were, and it goes on
+pub gathered_leaving : (client waiting : ℕ) (old new : State) → Phase old new (Gathered client waiting) →
+    Phase old new (Leaving client waiting)
+gathered_leaving client waiting old new p =
+    phase_less old new (Gathered client waiting) (Leaving client waiting) p (λ marks later events a joined many.
+    let x = a joined many in (x.0, x.1))
+
 -- all were, and some ends closed
 pub closes_some : (client waiting : ℕ) (old one new : State) → Phase old one (Collecting client waiting waiting) →
-    Phase one new (Lets (IsClose client) client Whatever) → Phase old new (Leaving client waiting)
+    Phase one new (Lets (IsClose client) client Whatever) → Phase old new (Gathered client waiting)
 closes_some client waiting old one new p q =
-    phase_then old one new (Collecting client waiting waiting) (Lets (IsClose client) client Whatever) (Leaving client waiting) p q
+    phase_then old one new (Collecting client waiting waiting) (Lets (IsClose client) client Whatever) (Gathered client waiting) p q
     (λ marks midway later first more a b joined many.
     let x : Collects client waiting waiting marks first midway = a joined many in
     let y = b x.joined in (
@@ -162,6 +169,7 @@ closes_some client waiting old one new p q =
         closed = y.0.are;
         dropped = All-nil (IsDrop client);
       },
+      omega (arith, length-append first more, x.many),
     ))
 
 -- all ends were closed, and some handles dropped
@@ -174,10 +182,10 @@ record DropsSome (client : ℕ) (events : List Entry) : Type 0 where
 
 pub drops_some : (client waiting : ℕ) (old one two new : State) → Phase old one (Collecting client waiting waiting) →
     Phase one two (Lets (IsClose client) client (HoldsAmong client [])) →
-    Phase two new (Lets (IsDrop client) client Whatever) → Phase old new (Leaving client waiting)
+    Phase two new (Lets (IsDrop client) client Whatever) → Phase old new (Gathered client waiting)
 drops_some client waiting old one two new p q r =
     phase_then old one new (Collecting client waiting waiting) (λ marks events later. has_joined marks client ≡ true →
-    DropsSome client events) (Leaving client waiting) p
+    DropsSome client events) (Gathered client waiting) p
     (phase_then one two new (Lets (IsClose client) client (HoldsAmong client [])) (Lets (IsDrop client) client Whatever)
     (λ marks events later. has_joined marks client ≡ true → DropsSome client events) q r (λ marks midway later first more a b joined.
     let x = a joined in
@@ -197,6 +205,7 @@ drops_some client waiting old one two new p q r =
         closed = y.closed;
         dropped = y.dropped;
       },
+      omega (arith, length-append first more, x.many),
     ))
 
 -- ---- with the Shut before them
@@ -226,20 +235,50 @@ has_left client waiting old one new p q =
     record { is_exit = rest_exit client waiting first more a.are x.0; has_exited = x.1 })
 
 -- it began to
-begun_as : (client : ℕ) (fault : StepFault) (events : List Entry) → (rest : List Entry) × IsExit client (events ++ rest) →
-    IsBegun client (part_fault fault) events
-begun_as client StepFault.HistoryFull events b = b
-begun_as client StepFault.NoMemory events b = b
+began : (client waiting : ℕ) (old one new : State) → Phase old one (λ marks events later. IsShut client waiting events later) →
+    Phase one new (Leaving client waiting) → Phase old new (λ marks events later. IsBegun client PartFault.HistoryFull events)
+began client waiting old one new p q =
+    phase_then old one new (λ marks events later. IsShut client waiting events later) (Leaving client waiting) (λ marks events later.
+    IsBegun client PartFault.HistoryFull events) p q (λ marks midway later first more a b.
+    let x = b a.joined a.waits in
+    (x.0, subst (IsExit client) (sym (append_assoc first more x.0)) (rest_exit client waiting first (more ++ x.0) a.are x.1)))
 
+-- the events behind a Shut are those of an exit, and this is at least the Shut and the Collects
+gathered_exit : (client waiting : ℕ) (first more rest : List Entry) → first ≡ (client, Call.Shut, Reply.Shut waiting) ∷ [] →
+    IsRest client waiting (more ++ rest) → waiting ≤ length more → IsBegun client PartFault.NoMemory (first ++ more)
+gathered_exit client waiting first more rest is r many = (
+  rest,
+  record {
+    waiting = waiting;
+    collects = r.collects;
+    closes = r.closes;
+    drops = r.drops;
+    are = append_assoc first more rest ∙ (ap (λ (es : List Entry). es ++ (more ++ rest)) is
+        ∙ ap (λ (es : List Entry). (client, Call.Shut, Reply.Shut waiting) ∷ es) r.are);
+    as_many = r.as_many;
+    collected = r.collected;
+    closed = r.closed;
+    dropped = r.dropped;
+  },
+  omega (arith, length-append first more, ap length is, many),
+)
+
+-- it collected all, and began to
+began_gathered : (client waiting : ℕ) (old one new : State) → Phase old one (λ marks events later. IsShut client waiting events later) →
+    Phase one new (Gathered client waiting) → Phase old new (λ marks events later. IsBegun client PartFault.NoMemory events)
+began_gathered client waiting old one new p q =
+    phase_then old one new (λ marks events later. IsShut client waiting events later) (Gathered client waiting) (λ marks events later.
+    IsBegun client PartFault.NoMemory events) p q (λ marks midway later first more a b.
+    let x = b a.joined a.waits in
+    gathered_exit client waiting first more x.0 a.are x.1 x.2)
+
+-- what was begun, by the fault
 pub has_begun : (client waiting : ℕ) (fault : StepFault) (old one new : State) → Phase old one (λ marks events later.
     IsShut client waiting events later) → Phase one new (Leaving client waiting) →
+    (fault ≡ StepFault.NoMemory → Phase one new (Gathered client waiting)) →
     Phase old new (λ marks events later. IsBegun client (part_fault fault) events)
-has_begun client waiting fault old one new p q =
-    phase_then old one new (λ marks events later. IsShut client waiting events later) (Leaving client waiting) (λ marks events later.
-    IsBegun client (part_fault fault) events) p q (λ marks midway later first more a b.
-    let x = b a.joined a.waits in
-    begun_as client fault (first ++ more)
-    (x.0, subst (IsExit client) (sym (append_assoc first more x.0)) (rest_exit client waiting first (more ++ x.0) a.are x.1)))
+has_begun client waiting StepFault.HistoryFull old one new p q gathered = began client waiting old one new p q
+has_begun client waiting StepFault.NoMemory old one new p q gathered = began_gathered client waiting old one new p (gathered refl)
 
 -- where nothing was made, an exit is still to come
 shut_alone : (client : ℕ) (events : List Entry) → events ≡ [] → (rest : List Entry) × IsExit client (events ++ rest)
@@ -264,7 +303,7 @@ unshut_begun : (client : ℕ) (fault : PartFault) (events : List Entry) (marks l
     IsBegun client fault events
 unshut_begun client PartFault.NoSuchClient events marks later h = h
 unshut_begun client PartFault.HistoryFull events marks later h = shut_alone client events h
-unshut_begun client PartFault.NoMemory events marks later h = shut_alone client events h
+unshut_begun client PartFault.NoMemory events marks later h = absurd h
 
 pub unshut : (client : ℕ) (fault : PartFault) (old new : State) → Phase old new (IsUnshut client fault) →
     Phase old new (λ marks events later. IsBegun client fault events)

@@ -2,7 +2,8 @@
 use Rattle.std.proofs.Common.{ℕ, ◌≡◌, ◌≤◌, ◌∙◌, refl, sym, subst, true, List, [], ◌∷◌, ◌++◌, length, length-append, append_assoc, Result, Ok, Err, arith}
 use Rattle.std.proofs.lemmas.List.{append-nil}
 use Rattle.std.proofs.lemmas.List.Elements.{All-append, All-nil}
-use Rattle.std.specs.Result.{IfErr, OnErr, OnOk}
+use Rattle.std.specs.Result.{IfErr, IsErrAnd, OnErr, OnOk}
+use Rattle.sm_names.specs.declared.outcomes.StepFault.{StepFault}
 use Rattle.sm_names.specs.Bounds.{Bound}
 use Rattle.sm_names.specs.Ends.{has_joined}
 use Rattle.sm_names.specs.Handles.{open_of}
@@ -45,6 +46,24 @@ advances_then old mid new first more a b = record {
 pub on_fault : {A B : Type 0} (r : Result A B) (P : Type 0) → P → OnErr r P
 on_fault (Ok a) P so = tt
 on_fault (Err b) P so = so
+
+-- what holds of each fault holds at a fault
+pub on_each : {A B : Type 0} (r : Result A B) {P : B → Type 0} → ((fault : B) → P fault) → IfErr r P
+on_each (Ok a) so = tt
+on_each (Err b) so = so b
+
+-- so does what follows from what holds there
+pub at_fault : {A B : Type 0} (r : Result A B) {Q : Type 0} {P : B → Type 0} → (Q → (fault : B) → P fault) → OnErr r Q → IfErr r P
+at_fault (Ok a) so q = tt
+at_fault (Err b) so q = so q b
+
+-- where the history is full, memory is not refused
+pub not_memory : {A : Type 0} (r : Result A StepFault) (e : StepFault) {P : Type 0} → IsErrAnd r (λ f. f ≡ e) → e ≡ StepFault.HistoryFull →
+    IfErr r (λ fault. fault ≡ StepFault.NoMemory → P)
+not_memory (Ok a) e is full = tt
+not_memory (Err f) e is full = λ memory.
+    let clash : StepFault.HistoryFull ≡ StepFault.NoMemory = sym full ∙ (sym is ∙ memory) in
+    absurd (cc)
 
 -- nothing is left of a list of no length
 pub none_left : {A : Type 0} (xs : List A) → length xs ≡ 0 → xs ≡ []

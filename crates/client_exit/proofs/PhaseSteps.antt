@@ -51,10 +51,10 @@ refused_phase old new client reply a other =
     ap (λ (r : Reply). (client, Call.Shut, r) ∷ []) (shut_refused old.pool old.limits history client reply legal other))
 
 -- or not made
-pub unmade_phase : (old new : State) (client : ℕ) (fault : StepFault) → Advances old new [] →
+pub unmade_phase : (old new : State) (client : ℕ) (fault : StepFault) → fault ≡ StepFault.HistoryFull → Advances old new [] →
     Phase old new (IsUnshut client (part_fault fault))
-unmade_phase old new client StepFault.HistoryFull a = record { events = []; advances = a; so = λ history shows. refl }
-unmade_phase old new client StepFault.NoMemory a = record { events = []; advances = a; so = λ history shows. refl }
+unmade_phase old new client StepFault.HistoryFull is a = record { events = []; advances = a; so = λ history shows. refl }
+unmade_phase old new client StepFault.NoMemory is a = absurd (cc)
 
 -- what was answered tells which
 pub told_ok : (old new : State) (client : ℕ) (reply : Reply) → Advances old new ((client, Call.Shut, reply) ∷ []) →

@@ -70,6 +70,12 @@ Leaves client waiting marks events later =
     has_joined marks client ≡ true → is_shut marks client ≡ true → length (parcels marks client) ≡ waiting →
     IsRest client waiting events × HasExited (readings later) client
 
+-- it collected all, and began to part with it
+abbrev pub Gathered : ℕ → ℕ → Timeline → List Entry → Timeline → Type 0
+Gathered client waiting marks events later =
+    has_joined marks client ≡ true → length (parcels marks client) ≡ waiting →
+    (rest : List Entry) × IsRest client waiting (events ++ rest) × (waiting ≤ length events)
+
 -- it began to part with it
 abbrev pub Leaving : ℕ → ℕ → Timeline → List Entry → Timeline → Type 0
 Leaving client waiting marks events later =

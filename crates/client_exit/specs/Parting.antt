@@ -1,5 +1,5 @@
 -- What parting with a client makes of a core.
-use Rattle.std.specs.Prelude.{ℕ, ◌+◌, ◌≤◌, ◌≡◌, List, [], ◌∷◌, ◌++◌, length}
+use Rattle.std.specs.Prelude.{ℕ, ◌+◌, ◌<◌, ◌≤◌, ◌≡◌, List, [], ◌∷◌, ◌++◌, length}
 use Rattle.sm_names.specs.declared.messages.Call.{Call}
 use Rattle.sm_names.specs.declared.messages.Reply.{Reply}
 use Rattle.sm_names.specs.declared.outcomes.Refusal.{Refusal}
@@ -12,10 +12,13 @@ use Rattle.lifetime_core.specs.Theorem.{GoesOn}
 use Rattle.client_exit.specs.declared.exit.PartFault.{PartFault}
 use Rattle.client_exit.specs.Exits.{HasExited, IsExit}
 
--- what was made before the fault: the first events of an exit, or a Shut that was refused
+-- what was made before the fault: the first events of an exit, or a Shut that was refused. Where memory is refused, the Shut and
+-- all Collects were made: they take none
 abbrev pub IsBegun : ℕ → PartFault → List Entry → Type 0
 IsBegun client PartFault.NoSuchClient events = events ≡ (client, Call.Shut, Reply.Refused Refusal.NoSuchClient) ∷ []
-IsBegun client _ events = (rest : List Entry) × IsExit client (events ++ rest)
+IsBegun client PartFault.HistoryFull events = (rest : List Entry) × IsExit client (events ++ rest)
+IsBegun client PartFault.NoMemory events =
+    (rest : List Entry) × (exit : IsExit client (events ++ rest)) × (exit.waiting < length events)
 
 -- the core went on by these events: each legal history that the old state shows goes on by them to a legal one that the new state
 -- shows, and no tracker was made

@@ -39,11 +39,12 @@ abbrev pub waiting_told : Reply → Result ℕ PartFault
 waiting_told (Reply.Shut waiting) = Ok waiting
 waiting_told _ = Err PartFault.NoSuchClient
 
--- the Shut was refused, or not made
+-- the Shut was refused, or not made: it takes no memory
 abbrev pub IsUnshut : ℕ → PartFault → Timeline → List Entry → Timeline → Type 0
 IsUnshut client PartFault.NoSuchClient marks events later =
     events ≡ (client, Call.Shut, Reply.Refused Refusal.NoSuchClient) ∷ []
-IsUnshut client _ marks events later = events ≡ []
+IsUnshut client PartFault.HistoryFull marks events later = events ≡ []
+IsUnshut client PartFault.NoMemory marks events later = ⊥
 
 -- each end that the client holds is that of one of these nodes
 abbrev pub HoldsAmong : ℕ → List Node → Timeline → Type 0

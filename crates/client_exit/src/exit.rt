@@ -1,13 +1,14 @@
 //! The events by which a client exits.
-ghost use Rattle.std.specs.Prelude.{◌≡◌, ◌≤◌, ◌∷◌, [], ℕ, IfOk, IfErr, OnOk, OnErr, Err, false};
+ghost use Rattle.std.specs.Prelude.{◌≡◌, ◌≤◌, ◌∷◌, [], ℕ, IfOk, IfErr, OnOk, OnErr, Err, false, true};
 ghost use Rattle.sm_names.specs.declared.keys.Strength.{Strength};
 ghost use Rattle.sm_names.specs.declared.outcomes.StepFault.{StepFault};
 ghost use Rattle.sm_names.specs.Answers.{makes_tracker};
 ghost use Rattle.sm_names.specs.Handles.{open_of};
 ghost use Rattle.sm_names.specs.Reading.{readings};
+ghost use Rattle.lifetime_core.specs.Kinds.{takes_no_memory};
 ghost use Rattle.lifetime_core.specs.Reads.{readings_of};
 ghost use Rattle.client_exit.specs.declared.exit.PartFault.{PartFault};
-ghost use Rattle.client_exit.specs.Events.{Collecting, IsShut, Leaves, Leaving, Lets, Whatever};
+ghost use Rattle.client_exit.specs.Events.{Collecting, Gathered, IsShut, Leaves, Leaving, Lets, Whatever};
 ghost use Rattle.client_exit.specs.Exits.{IsClose, IsDrop, holds};
 ghost use Rattle.client_exit.specs.Parting.{Advances, Exits, IsBegun, Stops};
 ghost use Rattle.client_exit.specs.Phases.{HasAmong, HasLeft, HoldsAmong, IsUnshut, Phase, part_fault, waiting_told};
@@ -51,6 +52,7 @@ fn make(core: &mut Core, client: ClientId, call: Call) -> Result<Reply, StepFaul
         Advances core.old core.new ((client, call, reply) ∷ [])) }
     ensures none { OnErr result (Advances core.old core.new []) }
     ensures full { result ≡ Err StepFault.HistoryFull → core.new.limits.events ≤ core.new.events }
+    ensures memory { IfErr result (λ fault. takes_no_memory call ≡ true → fault ≡ StepFault.HistoryFull) }
 {
     core.step(client, call)
 }
@@ -65,7 +67,7 @@ fn waiting_in(reply: &Reply) -> Result<u64, PartFault>
     }
 }
 
-// Shuts the client. So many parcels wait for it.
+// Shuts the client. So many parcels wait for it. That takes no memory.
 fn shut(core: &mut Core, client: ClientId) -> Result<u64, PartFault>
     ensures ok { IfOk result (λ waiting.
         Phase core.old core.new (λ marks events later. IsShut client waiting events later)) }
@@ -78,13 +80,14 @@ fn shut(core: &mut Core, client: ClientId) -> Result<u64, PartFault>
     }
 }
 
-// Collects so many parcels.
+// Collects so many parcels. That takes no memory.
 fn collect_all(core: &mut Core, client: ClientId, waiting: u64) -> Result<(), StepFault>
     ensures ok { OnOk result
         (Phase core.old core.new (Collecting client waiting waiting)) }
     ensures err { OnErr result ((count : ℕ) × (count ≤ waiting)
         × Phase core.old core.new (Collecting client waiting count)) }
     ensures full { result ≡ Err StepFault.HistoryFull → core.new.limits.events ≤ core.new.events }
+    ensures memory { IfErr result (λ fault. fault ≡ StepFault.HistoryFull) }
 {
     let mut left = waiting;
     while left > 0 {
@@ -192,6 +195,8 @@ fn drop_all(core: &mut Core, client: ClientId) -> Result<(), StepFault>
 fn let_go(core: &mut Core, client: ClientId, waiting: u64) -> Result<(), StepFault>
     ensures ok { OnOk result (Phase core.old core.new (Leaves client waiting)) }
     ensures err { OnErr result (Phase core.old core.new (Leaving client waiting)) }
+    ensures gathered { IfErr result (λ fault. fault ≡ StepFault.NoMemory →
+        Phase core.old core.new (Gathered client waiting)) }
     ensures full { result ≡ Err StepFault.HistoryFull → core.new.limits.events ≤ core.new.events }
 {
     collect_all(core, client, waiting)?;
@@ -227,8 +232,9 @@ fn exit(core: &mut Core, client: ClientId) -> Result<(), PartFault>
 /// `NoSuchClient` where no client with this number joined: the only event is its Shut, refused.
 /// `HistoryFull` where as many events were made as may be, and `NoMemory` where memory is refused:
 /// the events before stand, and a further call, once there is room, begins with a Shut and makes
-/// the rest. Memory is taken for a list of the kept nodes and one of the held buffers, and may be
-/// by a Collect of a handle and by what a Close or a DropHandle forces.
+/// the rest. The Shut and the Collects take no memory: where it is refused, they were made. Memory
+/// is taken for a list of the kept nodes and one of the held buffers, and may be by what a Close or
+/// a DropHandle forces.
 ///
 /// It costs the steps of these events, and O(n + h log h) for n kept nodes and h held buffers: no
 /// square of anything.

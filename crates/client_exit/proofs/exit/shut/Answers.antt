@@ -1,4 +1,4 @@
-use Rattle.std.proofs.Common.{◌∙◌, sym, subst}
+use Rattle.std.proofs.Common.{◌∙◌, refl, sym, subst}
 use Rattle.std.specs.Result.{IfErr, IfOk}
 use Rattle.client_exit.specs.Events.{IsShut}
 use Rattle.client_exit.specs.Phases.{IsUnshut, Phase}
@@ -21,4 +21,4 @@ returns-in-Ok-clause-full c h = told_full c.in-Ok.reply (sym c.waiting_in.ensure
 pub returns-in-Err-clause-err : goal.returns-in-Err-clause-err
 returns-in-Err-clause-err c =
     subst (λ f. Phase c.args.core.now c.make.new.core (IsUnshut c.args.client f)) (sym c.fault_of.ensures)
-    (unmade_phase c.args.core.now c.make.new.core c.args.client c.in-Err.fault c.in-Err.ensures.none)
+    (unmade_phase c.args.core.now c.make.new.core c.args.client c.in-Err.fault (c.in-Err.ensures.memory refl) c.in-Err.ensures.none)
