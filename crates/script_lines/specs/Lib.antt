@@ -1,5 +1,6 @@
 pub mod BufferLabels
 pub mod Labels
+pub mod LineTexts
 pub mod Lines
 pub mod Numbers
 pub mod Pieces

@@ -1,10 +1,12 @@
-//! What the lines of a script say: labels, numbers, buffers, and what is asked of them.
+//! What the lines of a script say, and how they are spelled: labels, numbers, buffers, and what is
+//! asked of them.
 #![tactic(auto)]
 
 mod buffer_label;
 mod hashing;
 mod label;
 mod line;
+mod line_text;
 mod number;
 mod parser;
 mod spelling;
@@ -14,6 +16,7 @@ pub use buffer_label::BufferLabel;
 pub use hashing::LabelHash;
 pub use label::Label;
 pub use line::{BufferVerb, Line, Verb, View};
+pub use line_text::{push_line, strength_name};
 pub use parser::line as read_line;
 pub use spelling::{push, push_label, push_number};
 pub use words::line_end;
