@@ -45,14 +45,18 @@ lower() { # folder, name, libraries, toolchain, root file, what is written, more
     tail -1 "$out/$name.log"
 }
 
-# Makes a crate of the folder, proves it and lowers it, over `below` and the crates that `below` uses.
-build() { # name, crate below, toolchain, root file, what is written, more words
+# Makes a crate of the folder, proves it and lowers it, over the crates of `below`, one or more words, and those that they use.
+build() { # name, crates below, toolchain, root file, what is written, more words
     made=$1 below=$2 kept=$3 first=$4 written=$5
     shift 5
-    (cd "$(git rev-parse --show-toplevel)/crates/$below" && rt lib --jobs 2) > "$out/$made.log" 2>&1 ||
-        { tail -40 "$out/$made.log"; exit 1; }
+    libraries=$below
+    for upper in $below; do
+        (cd "$(git rev-parse --show-toplevel)/crates/$upper" && rt lib --jobs 2) > "$out/$made.log" 2>&1 ||
+            { tail -40 "$out/$made.log"; exit 1; }
+        libraries="$libraries $(uses_of "$upper")"
+    done
     crate_of "$made"
-    lower "$room" "$made" "$(uses_of "$below") $below" "$kept" "$first" "$written" "$@"
+    lower "$room" "$made" "$(echo "$libraries" | tr ' ' '\n' | sort -u)" "$kept" "$first" "$written" "$@"
     rm -r "$room"
     room=
 }

@@ -3,8 +3,9 @@ usage='Runs every test, each program on its own input, and the examples. Nothing
 
   tools/test.sh [-j LANES] [ITEM ..]
 
-An ITEM is a crate that has tests or is a program, or `edits`: that each wrong edit still applies. With none, all
-of them run. LANES of them (one for each processor, if not said) are built and run side by side, in 1 GB each.
+An ITEM is a crate that has tests or is a program, `edits`: that each wrong edit still applies, or `transcripts`: that
+each explanation is a transcript of its script. With none, all of them run. LANES of them (one for each processor, if
+not said) are built and run side by side, in 1 GB each.
 
 A line for each item counts its tests; what failed is printed above it. The last line is `N passed, M failed`, and the
 status is 0 if nothing failed.'
@@ -25,12 +26,12 @@ done
 [[ $lanes =~ ^[1-9][0-9]*$ ]] || { echo 'test.sh: -j takes a number of lanes' >&2 && exit 2; }
 
 # All items. Those that take longest come first, so that no lane waits for them at the end.
-first=(thread_trials sysmem_main core_trials script_rows forest_rows)
+first=(thread_trials sysmem_main report_rows core_trials script_rows forest_rows)
 mapfile -t others < <({
   grep -rl --include='*.rt' '^ *#\[test\]' crates/*/src
   ls crates/*/src/main.rt
 } | cut -d / -f 2 | sort -u | grep -vxF "$(printf '%s\n' "${first[@]}")")
-all=("${first[@]}" "${others[@]}" edits)
+all=("${first[@]}" "${others[@]}" edits transcripts)
 [ ${#items[@]} -gt 0 ] || items=("${all[@]}")
 for item in "${items[@]}"; do
   printf '%s\n' "${all[@]}" | grep -qxF "$item" || { echo "test.sh: $item has no tests" >&2 && exit 2; }
@@ -74,8 +75,8 @@ is_shared() {
 # Tries an item, and prints how many of its tests passed, and what failed.
 try_item() {
   local item=$1 log="$room/$1.log" status=0 passed failed
-  if [ "$item" = edits ]; then
-    tools/edits_apply.py >"$log" 2>&1 || status=$?
+  if [ "$item" = edits ] || [ "$item" = transcripts ]; then
+    if [ "$item" = edits ]; then tools/edits_apply.py; else tools/transcripts.py; fi >"$log" 2>&1 || status=$?
     passed=$((status == 0)) failed=$((status != 0))
   elif [ -f "crates/$item/src/main.rt" ]; then
     try_program >"$log" 2>&1 || status=$?

@@ -26,7 +26,7 @@ exec "$clang" "\$@"
 END
 chmod +x "$tools/bin/clang"
 
-build page_calls script_reports "$tools" src/lib.rt "$out/page.a" --crate-type staticlib
+build page_calls "script_explain script_draw" "$tools" src/lib.rt "$out/page.a" --crate-type staticlib
 cd "$out"
 "$clang" -x ir -S -emit-llvm -O0 -Xclang -disable-llvm-passes module.bc -o module.ll
 python3 ../narrow.py module.ll > narrow.ll

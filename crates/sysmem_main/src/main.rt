@@ -12,7 +12,8 @@ mod words;
 
 use clap::Error;
 use clap::error::ErrorKind;
-use script_reports::{check_to_exit, draw_to_exit, explain_to_exit};
+use script_draw::draw_to_exit;
+use script_explain::{check_to_exit, explain_to_exit};
 use script_runs::Pages;
 use sm_script::run_to_exit;
 use std::io::Read;

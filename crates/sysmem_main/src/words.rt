@@ -4,7 +4,7 @@ ghost use Rattle.clap.specs.Matches.{subcommand_name_of};
 ghost use Rattle.sysmem_main.specs.Asked.{AreAsked, pages_text};
 
 use clap::{Arg, ArgAction, ArgMatches, Command, value_parser};
-use script_reports::{Format, View};
+use script_draw::{Format, View};
 use script_runs::Pages;
 use std::alloc::{AllocError, Global};
 
@@ -319,7 +319,7 @@ pub fn asks_for_threads(matches: &ArgMatches<'_>) -> bool
 }
 
 /// What a command makes of a script alone.
-#[derive(Clone, Copy, Debug)]
+#[derive(Clone, Copy)]
 pub enum Task {
     Run,
     Explain,

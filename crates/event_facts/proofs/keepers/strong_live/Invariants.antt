@@ -1,0 +1,9 @@
+use Rattle.std.proofs.Common.{◌≡◌, map, take}
+use Rattle.std.specs.List.{filter}
+use Rattle.alloc_event.specs.declared.node.Node.{Node}
+use Rattle.event_facts.specs.Facts.{is_keeper}
+use Rattle.event_facts.proofs.keepers.strong_live.Given as goal
+
+-- so far those among these nodes
+abbrev pub invariant-loop-node : goal.invariant-loop-node
+invariant-loop-node l = l.keys.items ≡ map (λ (n : Node). n.key) (filter is_keeper (take l.node-index l.nodes.items))

@@ -1,0 +1,8 @@
+use Rattle.std.proofs.Common.{◌≡◌, take}
+use Rattle.std.specs.List.{filter}
+use Rattle.event_facts.specs.Facts.{is_awaited}
+use Rattle.event_facts.proofs.waits.awaited.Given as goal
+
+-- so far those among these nodes
+abbrev pub invariant-loop-node : goal.invariant-loop-node
+invariant-loop-node l = l.found.items ≡ filter (is_awaited l.head) (take l.node-index l.nodes.items)

@@ -1,0 +1,50 @@
+//! How a collection stood before an event, as far as facts are told of it.
+use crate::pages::doomed_of;
+use alloc_event::Snapshot;
+use lifetime_core::Core;
+use sm_names::{Call, ClientId, CollectionId, NoMemory};
+
+/// A collection before an event.
+#[derive(Drop)]
+pub struct Before {
+    pub copied: Snapshot,
+    /// Those of its buffers that nothing strong kept, as a set.
+    pub doomed: u64,
+}
+
+// The collection of which the call would change a node, or drop a handle, if it were made now.
+fn concerned(core: &Core, client: ClientId, call: &Call) -> Option<CollectionId> {
+    if let Call::DropHandle(buffer, strength) = *call {
+        if 0 < core.open_handles(client, buffer, strength) {
+            return Some(buffer.collection);
+        }
+    }
+    changed(core, client, call)
+}
+
+// The collection of which the call would change a node.
+fn changed(core: &Core, client: ClientId, call: &Call) -> Option<CollectionId> {
+    match core.change_of(client, call) {
+        Some((id, _)) => Some(id),
+        None => None,
+    }
+}
+
+// That collection as it stands; `None` where there is none. It costs a copy.
+pub(crate) fn look(core: &Core, client: ClientId, call: &Call) -> Result<Option<Before>, NoMemory> {
+    match concerned(core, client, call) {
+        Some(id) => look_at(core, id),
+        None => Ok(None),
+    }
+}
+
+// The collection as it stands, if it is kept.
+fn look_at(core: &Core, id: CollectionId) -> Result<Option<Before>, NoMemory> {
+    match core.collection(id)? {
+        Some(copied) => {
+            let doomed = doomed_of(core, id, &copied.nodes, copied.buffers);
+            Ok(Some(Before { copied, doomed }))
+        }
+        None => Ok(None),
+    }
+}

@@ -1,0 +1,14 @@
+//! What an event came to, as facts on nodes, buffers and handles: the way of a failure, who hands it on
+//! to whom, who keeps which pages, what went back, and what fired. None of them is text.
+#![tactic(auto)]
+
+mod before;
+mod event;
+pub mod keepers;
+pub mod pages;
+pub mod takings;
+pub mod waits;
+pub mod ways;
+
+pub use before::Before;
+pub use event::{Event, fired_since, placed_by, take_event};

@@ -1,0 +1,40 @@
+//! Scripts drawn as a program does it: to an exit status.
+ghost use Rattle.std.specs.Prelude.{◌≤◌};
+ghost use Rattle.std.specs.Process.{exit_status};
+
+use crate::draw::{View, draw_script};
+use script_faults::end_with;
+use script_runs::Pages;
+use sm_names::Limits;
+use std::alloc::Global;
+use std::io::{Read, Write};
+use std::process::ExitCode;
+
+/// Draws the script that the reader holds, with these pages and the greatest limits, as `draw_script`
+/// does, and answers the status that a program is to end with: 0 where the script came to its end, and
+/// else the status of the fault, which is told in one line on `faults`, as far as that takes it. Costs
+/// what `draw_script` costs.
+pub fn draw_to_exit<R: Read, W: Write, F: Write>(
+    alloc: Global,
+    seed: [u8; 16],
+    reader: &mut R,
+    writer: &mut W,
+    faults: &mut F,
+    pages: Pages,
+    view: View,
+) -> ExitCode
+    ensures { exit_status result ≤ 4 }
+{
+    match draw_script(
+        alloc,
+        seed,
+        reader,
+        writer,
+        pages.count,
+        Limits::full(),
+        view,
+    ) {
+        Ok(()) => ExitCode::SUCCESS,
+        Err(fault) => end_with(alloc, faults, &fault),
+    }
+}

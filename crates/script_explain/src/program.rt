@@ -1,0 +1,55 @@
+//! Scripts explained and transcripts compared as a program does it: to an exit status.
+ghost use Rattle.std.specs.Prelude.{◌≤◌};
+ghost use Rattle.std.specs.Process.{exit_status};
+
+use crate::check::{Verdict, check_script};
+use crate::explain::explain_script;
+use script_faults::end_with;
+use script_runs::Pages;
+use sm_names::Limits;
+use std::alloc::Global;
+use std::io::{Read, Write};
+use std::process::ExitCode;
+
+// The status of a transcript that differs.
+const DIFFERS: u8 = 6;
+
+/// Explains the script that the reader holds, with these pages and the greatest limits, as
+/// `explain_script` does, and answers the status that a program is to end with: 0 where the script came
+/// to its end, and else the status of the fault, which is told in one line on `faults`, as far as that
+/// takes it. Costs what `explain_script` costs.
+pub fn explain_to_exit<R: Read, W: Write, F: Write>(
+    alloc: Global,
+    seed: [u8; 16],
+    reader: &mut R,
+    writer: &mut W,
+    faults: &mut F,
+    pages: Pages,
+) -> ExitCode
+    ensures { exit_status result ≤ 4 }
+{
+    match explain_script(alloc, seed, reader, writer, pages.count, Limits::full()) {
+        Ok(()) => ExitCode::SUCCESS,
+        Err(fault) => end_with(alloc, faults, &fault),
+    }
+}
+
+/// Checks the transcript that the reader holds, with these pages and the greatest limits, as
+/// `check_script` does, and answers a status as `explain_to_exit` does, and 6 where a reply differs. Costs
+/// what `check_script` costs.
+pub fn check_to_exit<R: Read, W: Write, F: Write>(
+    alloc: Global,
+    seed: [u8; 16],
+    reader: &mut R,
+    writer: &mut W,
+    faults: &mut F,
+    pages: Pages,
+) -> ExitCode
+    ensures { exit_status result ≤ 6 }
+{
+    match check_script(alloc, seed, reader, writer, pages.count, Limits::full()) {
+        Ok(Verdict::Agrees) => ExitCode::SUCCESS,
+        Ok(Verdict::Differs) => ExitCode::from(DIFFERS),
+        Err(fault) => end_with(alloc, faults, &fault),
+    }
+}

@@ -1,0 +1,126 @@
+//! Why a script was not reported on to its end.
+ghost use Rattle.std.specs.Prelude.{◌≡◌};
+ghost use Rattle.script_faults.specs.Faults.{fault_status};
+
+use crate::reasons::push_reason;
+use script_lines::push;
+use sm_names::NoMemory;
+use sm_script::{Stop, Tables};
+use std::alloc::{AllocError, Global};
+use text_parts::{Part, push_parts};
+
+/// Why a script was not reported on to its end.
+#[derive(Drop)]
+pub enum ReportFault {
+    /// The reader failed.
+    ReadFault,
+    /// The script has more than `MOST_BYTES` bytes.
+    TooLong,
+    /// The writer failed, or took nothing.
+    WriteFault,
+    /// The line of this number, from 1, is the first bad one.
+    BadLine {
+        number: u64,
+        /// What is wrong with it, in words.
+        reason: Vec<u8>,
+    },
+    /// As many events were made as may be.
+    HistoryFull,
+    /// Memory was refused.
+    NoMemory,
+    /// The script makes fewer events than this, or this is 0.
+    NoEvent(u64),
+}
+
+impl ReportFault {
+    /// The status that a program ends with on this fault: 1 where reading or writing failed, 2 where an
+    /// event is asked for that there is not, 3 for a bad line, 4 where the history is full or memory was
+    /// refused. Takes a constant time.
+    pub fn status(&self) -> u8
+        ensures { result ≡ fault_status self.now }
+    {
+        match self {
+            ReportFault::ReadFault | ReportFault::TooLong | ReportFault::WriteFault => 1,
+            ReportFault::NoEvent(_) => 2,
+            ReportFault::BadLine { .. } => 3,
+            ReportFault::HistoryFull | ReportFault::NoMemory => 4,
+        }
+    }
+
+    /// Puts the text of the fault behind what is there, without an end of a line; a part of it where
+    /// memory is refused. Takes a time in proportion to the text.
+    pub fn push_text(&self, text: &mut Vec<u8>) -> Result<(), AllocError> {
+        match self {
+            ReportFault::ReadFault => push(text, "read fault"),
+            ReportFault::TooLong => push(text, "the script is longer than 16777216 bytes"),
+            ReportFault::WriteFault => push(text, "write fault"),
+            ReportFault::BadLine { number, reason } => {
+                push_parts(
+                    text,
+                    &[
+                        Part::Word("bad line "),
+                        Part::Number(*number),
+                        Part::Word(": "),
+                        Part::Bytes(reason),
+                    ],
+                )
+            }
+            ReportFault::HistoryFull => push(text, "history full"),
+            ReportFault::NoMemory => push(text, "no memory"),
+            ReportFault::NoEvent(event) => {
+                push_parts(
+                    text,
+                    &[Part::Word("there is no event "), Part::Number(*event)],
+                )
+            }
+        }
+    }
+}
+
+/// The fault of the line of this number, which was not answered, where the labels of those before it stand
+/// so. Takes a time in proportion to the line, and a look into a table for each label.
+pub fn fault_of(
+    alloc: Global,
+    stop: Stop,
+    tables: &Tables,
+    number: u64,
+    line: &[u8],
+) -> ReportFault {
+    match stop {
+        Stop::BadLine => {
+            let mut reason = Vec::new(alloc);
+            match push_reason(&mut reason, tables, line) {
+                Ok(()) => ReportFault::BadLine { number, reason },
+                Err(_) => ReportFault::NoMemory,
+            }
+        }
+        Stop::HistoryFull => ReportFault::HistoryFull,
+        Stop::NoMemory => ReportFault::NoMemory,
+    }
+}
+
+/// The fault of the line of this number, for this reason. Takes a time in proportion to the reason.
+pub fn bad_line(alloc: Global, number: u64, words: &str) -> ReportFault {
+    let mut reason = Vec::new(alloc);
+    match push(&mut reason, words) {
+        Ok(()) => ReportFault::BadLine { number, reason },
+        Err(_) => ReportFault::NoMemory,
+    }
+}
+
+/// The fault that the last line, the one of this number, has no end. Takes a constant time.
+pub fn unended(alloc: Global, number: u64) -> ReportFault {
+    bad_line(alloc, number, "the last line has no end")
+}
+
+impl From<AllocError> for ReportFault {
+    fn from(_refused: AllocError) -> ReportFault {
+        ReportFault::NoMemory
+    }
+}
+
+impl From<NoMemory> for ReportFault {
+    fn from(_refused: NoMemory) -> ReportFault {
+        ReportFault::NoMemory
+    }
+}

@@ -1,0 +1,15 @@
+//! Why a script is not reported on to its end, how a script comes in, and how a report goes out.
+#![tactic(auto)]
+
+mod ending;
+mod fault;
+mod indents;
+mod reading;
+mod reasons;
+mod writing;
+
+pub use ending::end_with;
+pub use fault::{ReportFault, bad_line, fault_of, unended};
+pub use indents::{behind_indent, is_indented, push_indented};
+pub use reading::{behind, read_script};
+pub use writing::put_out;

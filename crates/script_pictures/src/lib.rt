@@ -1,0 +1,19 @@
+//! What a picture of a script's trees shows, whatever its format: nodes, buffers, and the ways of
+//! failures.
+#![tactic(auto)]
+
+mod album;
+mod features;
+mod layout;
+mod lines;
+mod picture;
+mod rows;
+mod travel;
+
+pub use album::{Album, named_collection};
+pub use features::{Class, class_of, kind_name, push_handles, push_pages, push_place};
+pub use layout::{Corner, GAP_X, GAP_Y, HEIGHT, Layout, lay_out, minus, parent_place, plus, times};
+pub use lines::{node_lines, push_header};
+pub use picture::{Picture, ToldMark, Tree, picture_of};
+pub use rows::{Row, children_of, rows};
+pub use travel::{Travel, Way, way_of};

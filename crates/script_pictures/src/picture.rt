@@ -1,0 +1,201 @@
+//! What a picture shows: the trees behind an event, and what that event did.
+use crate::album::{Album, Family};
+use crate::travel::{Travel, travels};
+use alloc_event::{Node, Snapshot};
+use event_facts::keepers::strong_live;
+use event_facts::pages::given_back;
+use event_facts::{Before, Event, placed_by};
+use event_marks::{Forced, Moment};
+use lifetime_core::Core;
+use script_lines::line_end;
+use script_tales::Teller;
+use sm_names::{Buffers, CollectionId, HeldBuffer, NodeKey};
+use sm_script::Stop;
+use std::alloc::{AllocError, Global};
+
+/// A tree of a collection.
+#[derive(Drop)]
+pub struct Tree {
+    pub id: CollectionId,
+    /// All nodes that were ever born in it, by birth.
+    pub nodes: Vec<Node>,
+    /// Those that left at the event.
+    pub left: Vec<NodeKey>,
+    /// Its buffers with pages.
+    pub held: Vec<HeldBuffer>,
+    /// Those that gave their pages back at the event.
+    pub freed: Vec<HeldBuffer>,
+    /// The live strong nodes.
+    pub strong: Vec<NodeKey>,
+}
+
+/// A mark in words, and whether it is a failure.
+#[derive(Drop)]
+pub struct ToldMark {
+    pub fails: bool,
+    pub line: Vec<u8>,
+}
+
+/// The trees behind an event, its marks, the links along which its failures went, and how many trackers had
+/// fired before it.
+#[derive(Drop)]
+pub struct Picture {
+    pub trees: Vec<Tree>,
+    pub told: Vec<ToldMark>,
+    pub travels: Vec<Travel>,
+    pub fired: usize,
+}
+
+/// What is to be shown behind the last event, if there was one. Costs O(n^2) for the n nodes that were ever
+/// born in each collection.
+///
+/// `NoMemory` where memory is refused.
+pub fn picture_of(
+    alloc: Global,
+    teller: &Teller,
+    album: &Album,
+    event: Option<&Event>,
+) -> Result<Picture, Stop> {
+    let trees = trees_of(alloc, &teller.session.core, album, event)?;
+    match event {
+        Some(event) => Ok(Picture {
+            trees,
+            told: told_marks(alloc, teller, event)?,
+            travels: travels(alloc, &event.moments)?,
+            fired: event.fired,
+        }),
+        None => Ok(Picture {
+            trees,
+            told: Vec::new(alloc),
+            travels: Vec::new(alloc),
+            fired: 0,
+        }),
+    }
+}
+
+// The trees of all families that are shown.
+fn trees_of(
+    alloc: Global,
+    core: &Core,
+    album: &Album,
+    event: Option<&Event>,
+) -> Result<Vec<Tree>, Stop> {
+    let mut trees = Vec::new(alloc);
+    for family in &album.families {
+        let tree = tree_of(alloc, core, family, event)?;
+        add_shown(&mut trees, tree)?;
+    }
+    Ok(trees)
+}
+
+// Puts the tree behind the others, if it is shown: its collection is kept, or the event took a node of it
+// or gave pages of it back.
+fn add_shown(trees: &mut Vec<Tree>, tree: (bool, Tree)) -> Result<(), AllocError> {
+    let (kept, tree) = tree;
+    if kept || !tree.left.is_empty() || !tree.freed.is_empty() {
+        trees.push(tree)?;
+    }
+    Ok(())
+}
+
+// The marks of the event, each in the first line of its fact.
+fn told_marks(alloc: Global, teller: &Teller, event: &Event) -> Result<Vec<ToldMark>, AllocError> {
+    let mut told = Vec::new(alloc);
+    let mut rest = event.moments.as_slice();
+    'marks: while let Some((moment, later)) = rest.split_first() {
+        told.push(told_mark(alloc, teller, moment, placed_by(later, event))?)?;
+        rest = later;
+    }
+    Ok(told)
+}
+
+// The mark in the first line of its fact.
+fn told_mark(
+    alloc: Global,
+    teller: &Teller,
+    moment: &Moment,
+    placed: Option<(Buffers, &[HeldBuffer])>,
+) -> Result<ToldMark, AllocError> {
+    let mut line = Vec::new(alloc);
+    teller.push_mark(moment, placed, &mut line)?;
+    if let Some(at) = line_end(&line) {
+        line.truncate(at);
+    }
+    let fails = match moment.mark {
+        Forced::Loss(_) => true,
+        _ => false,
+    };
+    Ok(ToldMark { fails, line })
+}
+
+// The tree of the family, and whether its collection is kept.
+fn tree_of(
+    alloc: Global,
+    core: &Core,
+    family: &Family,
+    event: Option<&Event>,
+) -> Result<(bool, Tree), Stop> {
+    let copied = core.collection(family.id)?;
+    let kept = copied.is_some();
+    let held = held_of(alloc, copied);
+    let (left, freed) = changed(alloc, family, &held, event)?;
+    let tree = Tree {
+        id: family.id,
+        nodes: family.nodes.clone()?,
+        left,
+        held,
+        freed,
+        strong: strong_live(&family.nodes)?,
+    };
+    Ok((kept, tree))
+}
+
+// The nodes of the family that left at the event, and the buffers that gave their pages back.
+fn changed(
+    alloc: Global,
+    family: &Family,
+    held: &[HeldBuffer],
+    event: Option<&Event>,
+) -> Result<(Vec<NodeKey>, Vec<HeldBuffer>), AllocError> {
+    match before_of(event, family.id) {
+        Some(before) => Ok((
+            left_since(&family.nodes, &before.copied.nodes)?,
+            given_back(&before.copied.held, held)?,
+        )),
+        None => Ok((Vec::new(alloc), Vec::new(alloc))),
+    }
+}
+
+// The collection before the event, if the event changed this one.
+fn before_of(event: Option<&Event>, id: CollectionId) -> Option<&Before> {
+    let before = event?.before.as_ref()?;
+    if before.copied.id == id {
+        Some(before)
+    } else {
+        None
+    }
+}
+
+// The buffers of the copy, if there is one.
+fn held_of(alloc: Global, copied: Option<Snapshot>) -> Vec<HeldBuffer> {
+    match copied {
+        Some(copied) => copied.held,
+        None => Vec::new(alloc),
+    }
+}
+
+// The nodes that are gone, and were not among these earlier ones.
+fn left_since(nodes: &Vec<Node>, earlier: &[Node]) -> Result<Vec<NodeKey>, AllocError> {
+    let mut left = Vec::new(*nodes.allocator());
+    for node in nodes {
+        if node.gone && was_there(earlier, node.key) {
+            left.push(node.key)?;
+        }
+    }
+    Ok(left)
+}
+
+// Whether the node with this key was not gone among these.
+fn was_there(earlier: &[Node], key: NodeKey) -> bool {
+    earlier.iter().any(|other| other.key == key && !other.gone)
+}

@@ -1,5 +1,0 @@
-use Rattle.std.proofs.Common.{length}
-use Rattle.script_reports.proofs.explain.explain_lines.Given as goal
-
-abbrev pub decreases-lines : goal.decreases-lines
-decreases-lines g l = length l.rest

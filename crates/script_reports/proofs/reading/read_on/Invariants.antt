@@ -1,4 +1,0 @@
-use Rattle.script_reports.proofs.reading.read_on.Given as goal
-
-abbrev pub decreases-turns : goal.decreases-turns
-decreases-turns g l = l.left

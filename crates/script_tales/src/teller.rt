@@ -1,0 +1,333 @@
+//! A session whose events are told.
+ghost use Rattle.std.specs.Prelude.{◌≤◌};
+
+use crate::allocations::{push_initial, push_logical};
+use crate::keepers::{push_kept, push_kept_by_nodes};
+use crate::labels::Labels;
+use crate::losses::{push_end, push_loss};
+use crate::outcomes::{push_doomed, push_fires, push_free, push_waits};
+use alloc_event::Snapshot;
+use event_facts::keepers::strong_live;
+use event_facts::pages::given_back;
+use event_facts::{Before, Event, fired_since, placed_by, take_event};
+use event_marks::{Forced, Moment};
+use script_lines::push_label;
+use sm_names::{
+    BufferName, Buffers, Call, ClientId, HeldBuffer, Limits, NoMemory, NodeKey, Reply, StepFault,
+};
+use sm_script::{Act, Binds, Session, Stop};
+use std::alloc::{AllocError, Global};
+use std::collections::HashMap;
+use text_parts::{Part, push_parts};
+
+// A line that made a node fail, and its number.
+#[derive(Drop)]
+struct LossLine {
+    number: u64,
+    line: Vec<u8>,
+}
+
+/// A session, what its clients are called, and the lines that made nodes fail.
+#[derive(Drop)]
+pub struct Teller {
+    /// The core, and what the labels of the lines so far stand for.
+    pub session: Session,
+    /// What clients and collected ends are called.
+    pub labels: Labels,
+    // By the node where a loss began.
+    losses: HashMap<NodeKey, LossLine>,
+}
+
+impl Teller {
+    /// A teller that has seen no line. Counts and labels hash from the seed.
+    ///
+    /// `NoMemory` where the core is refused its first tables. Takes a constant time.
+    pub fn new(
+        alloc: Global,
+        seed: [u8; 16],
+        pages: u32,
+        limits: Limits,
+    ) -> Result<Teller, NoMemory>
+        requires { (1 ≤ pages) × (pages ≤ 1048576) }
+    {
+        Ok(Teller {
+            session: Session::new(alloc, seed, pages, limits)?,
+            labels: Labels::new(alloc),
+            losses: HashMap::new(alloc),
+        })
+    }
+
+    /// Answers the line of this number, without its end: what it is answered goes into `reply`, and what
+    /// its event came to into `facts`, both in place of what was there.
+    ///
+    /// On an error neither is to be read. Where memory was refused its call may have been made. Costs what
+    /// the session's answer costs, and where a collection changes what `take_event` costs.
+    pub fn answer(
+        &mut self,
+        alloc: Global,
+        number: u64,
+        line: &[u8],
+        reply: &mut Vec<u8>,
+        facts: &mut Vec<u8>,
+    ) -> Result<(), Stop> {
+        facts.clear();
+        match self.session.read(line) {
+            Some(
+                Act::Ask {
+                    client,
+                    call,
+                    binds,
+                },
+            ) => {
+                let event = self.take(alloc, client, call, binds, reply)?;
+                self.note_losses(alloc, number, line, &event.moments)?;
+                self.push_facts(&event, facts)
+            }
+            _ => self.session.answer(line, reply),
+        }
+    }
+
+    /// Makes the call of a line, and puts its reply in the place of what was there; what its label stands
+    /// for is what the call made.
+    ///
+    /// `HistoryFull` and `NoMemory` as `take_event` has them. Costs what that costs.
+    pub fn take(
+        &mut self,
+        alloc: Global,
+        client: ClientId,
+        call: Call,
+        binds: Binds,
+        reply: &mut Vec<u8>,
+    ) -> Result<Event, Stop> {
+        reply.clear();
+        let event = taken(take_event(alloc, &mut self.session.core, client, call))?;
+        self.session.note(binds, event.reply, reply)?;
+        self.labels.note(binds, event.reply)?;
+        Ok(event)
+    }
+
+    // Keeps the line with each loss that it made.
+    fn note_losses(
+        &mut self,
+        alloc: Global,
+        number: u64,
+        line: &[u8],
+        moments: &[Moment],
+    ) -> Result<(), AllocError> {
+        for moment in moments {
+            if let Forced::Loss(fault) = moment.mark {
+                let told = loss_line(alloc, number, line)?;
+                self.losses.insert(fault.origin, told)?;
+            }
+        }
+        Ok(())
+    }
+
+    // Puts what the event came to behind what is there.
+    fn push_facts(&self, event: &Event, facts: &mut Vec<u8>) -> Result<(), Stop> {
+        self.push_marks(event, facts)?;
+        self.push_reasons(event, facts)?;
+        if let Some(before) = &event.before {
+            self.push_buffers(event, before, facts)?;
+        }
+        self.push_keepers(event, facts)?;
+        let core = &self.session.core;
+        push_fires(facts, &self.session.tables, fired_since(core, event.fired))?;
+        Ok(())
+    }
+
+    // Puts the marks of the event behind what is there.
+    fn push_marks(&self, event: &Event, facts: &mut Vec<u8>) -> Result<(), AllocError> {
+        let mut rest = event.moments.as_slice();
+        'marks: while let Some((moment, later)) = rest.split_first() {
+            self.push_mark(moment, placed_by(later, event), facts)?;
+            rest = later;
+        }
+        Ok(())
+    }
+
+    // Puts behind what is there which buffers are doomed since the event, and which gave their pages back.
+    fn push_buffers(
+        &self,
+        event: &Event,
+        before: &Before,
+        facts: &mut Vec<u8>,
+    ) -> Result<(), AllocError> {
+        let tables = &self.session.tables;
+        let doomed = event.newly_doomed(&self.session.core);
+        push_doomed(facts, tables, before.copied.id, doomed)?;
+        let freed = given_back(&before.copied.held, event.held_after())?;
+        push_free(facts, tables, &freed)
+    }
+
+    /// Puts a mark behind what is there, in lines: what failed, ended or was allocated, and below it the
+    /// ways of the failure, or the buffers; these are the collection's buffers after it. Costs O(n^2) for
+    /// n nodes, and the text.
+    pub fn push_mark(
+        &self,
+        moment: &Moment,
+        placed: Option<(Buffers, &[HeldBuffer])>,
+        facts: &mut Vec<u8>,
+    ) -> Result<(), AllocError> {
+        let tables = &self.session.tables;
+        let scene = &moment.before;
+        match moment.mark {
+            Forced::Loss(fault) => {
+                push_loss(facts, tables, scene, self.session.core.free_pages(), fault)
+            }
+            Forced::Ended(top) => push_end(facts, tables, scene, top),
+            Forced::Allocated(head) => self.push_allocated(scene, head, placed, facts),
+        }
+    }
+
+    // Puts behind what is there that the unit with this head was allocated.
+    fn push_allocated(
+        &self,
+        scene: &Snapshot,
+        head: NodeKey,
+        placed: Option<(Buffers, &[HeldBuffer])>,
+        facts: &mut Vec<u8>,
+    ) -> Result<(), AllocError> {
+        let tables = &self.session.tables;
+        match (scene.buffers, placed) {
+            (Some(given), _) => push_logical(facts, tables, scene, head, given),
+            (None, Some((given, held))) => push_initial(facts, tables, scene, head, given, held),
+            (None, None) => Ok(()),
+        }
+    }
+
+    // Puts behind what is there why a node is waited for or closed.
+    fn push_reasons(&self, event: &Event, facts: &mut Vec<u8>) -> Result<(), Stop> {
+        match event.reply {
+            Reply::Pending => self.push_pending(&event.call, facts),
+            Reply::PeerClosed { origin, .. } => {
+                self.push_since(origin, facts)?;
+                Ok(())
+            }
+            _ => Ok(()),
+        }
+    }
+
+    // Puts behind what is there for whom the node that is asked about waits.
+    fn push_pending(&self, call: &Call, facts: &mut Vec<u8>) -> Result<(), Stop> {
+        let (Call::Check(key) | Call::Take(key)) = *call else {
+            return Ok(());
+        };
+        let Some(node) = self.session.core.node(key) else {
+            return Ok(());
+        };
+        let Some(copied) = self.session.core.collection(node.collection)? else {
+            return Ok(());
+        };
+        push_waits(
+            facts,
+            &self.session.tables,
+            &self.labels,
+            &copied.nodes,
+            key,
+        )?;
+        Ok(())
+    }
+
+    // Puts the line behind what is there whose event made the loss that began at the node.
+    fn push_since(&self, origin: NodeKey, facts: &mut Vec<u8>) -> Result<(), AllocError> {
+        match self.losses.get(&origin) {
+            Some(told) => push_parts(
+                facts,
+                &[
+                    Part::Word("since   line "),
+                    Part::Number(told.number),
+                    Part::Word(": "),
+                    Part::Bytes(&told.line),
+                    Part::Word("\n"),
+                ],
+            ),
+            None => Ok(()),
+        }
+    }
+
+    // Puts behind what is there who keeps pages that did not go back, where a handle was dropped or a
+    // live node left.
+    fn push_keepers(&self, event: &Event, facts: &mut Vec<u8>) -> Result<(), Stop> {
+        let Some(after) = &event.after else {
+            return Ok(());
+        };
+        match (event.call, event.reply) {
+            (Call::DropHandle(buffer, _), Reply::Done) => self.push_kept_one(after, buffer, facts),
+            _ => {
+                if event.some_left(&self.session.core) && strong_live(&after.nodes)?.is_empty() {
+                    self.push_kept_all(&after.held, facts)
+                } else {
+                    Ok(())
+                }
+            }
+        }
+    }
+
+    // Puts behind what is there who keeps the pages of the buffer, if they did not go back.
+    fn push_kept_one(
+        &self,
+        after: &Snapshot,
+        buffer: BufferName,
+        facts: &mut Vec<u8>,
+    ) -> Result<(), Stop> {
+        let Some(held) = after.held.iter().find(|held| held.buffer == buffer) else {
+            return Ok(());
+        };
+        let strong = strong_live(&after.nodes)?;
+        if strong.is_empty() {
+            return self.push_kept_all(&[*held], facts);
+        }
+        push_kept_by_nodes(facts, &self.session.tables, buffer, &strong)?;
+        Ok(())
+    }
+
+    /// Puts the label under which the end of the node was collected last behind what is there, if it is
+    /// another than that of its birth. Costs a look into two tables.
+    pub fn push_other_name(&self, text: &mut Vec<u8>, node: NodeKey) -> Result<(), AllocError> {
+        let label = self.labels.collected(node);
+        if label == self.session.tables.birth_label(node) {
+            Ok(())
+        } else {
+            push_label(text, label)
+        }
+    }
+
+    /// Puts the name of the buffer behind what is there. Costs a look into a table, and the text.
+    pub fn push_buffer_name(
+        &self,
+        text: &mut Vec<u8>,
+        buffer: BufferName,
+    ) -> Result<(), AllocError> {
+        push_parts(
+            text,
+            &[
+                Part::Name(self.session.tables.root_label(buffer.collection)),
+                Part::Word("."),
+                Part::Number(buffer.index as u64),
+            ],
+        )
+    }
+
+    // Puts behind what is there who has handles on the buffers.
+    fn push_kept_all(&self, held: &[HeldBuffer], facts: &mut Vec<u8>) -> Result<(), Stop> {
+        let session = &self.session;
+        push_kept(facts, &session.core, &session.tables, &self.labels, held)
+    }
+}
+
+// The line, kept with its number.
+fn loss_line(alloc: Global, number: u64, line: &[u8]) -> Result<LossLine, AllocError> {
+    let mut kept = Vec::new(alloc);
+    kept.extend_from_slice(line)?;
+    Ok(LossLine { number, line: kept })
+}
+
+// The event, or why it stopped the script.
+fn taken(event: Result<Event, StepFault>) -> Result<Event, Stop> {
+    match event {
+        Ok(event) => Ok(event),
+        Err(StepFault::HistoryFull) => Err(Stop::HistoryFull),
+        Err(StepFault::NoMemory) => Err(Stop::NoMemory),
+    }
+}

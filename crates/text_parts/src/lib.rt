@@ -1,0 +1,65 @@
+//! Texts that are put together of parts.
+#![tactic(auto)]
+
+ghost use Rattle.std.specs.Prelude.{◌≡◌, ◌++◌, OnOk};
+ghost use Rattle.std.specs.List.{flat_map};
+ghost use Rattle.text_parts.specs.Parts.{plural_end, text_of};
+
+use script_lines::{Label, push, push_label, push_number};
+use std::alloc::AllocError;
+
+/// A part of a text.
+#[derive(Clone, Copy)]
+pub enum Part<'a> {
+    /// These characters.
+    Word(&'a str),
+    /// These bytes.
+    Bytes(&'a [u8]),
+    /// The number, in decimal.
+    Number(u64),
+    /// The number and the word, with an s at any number but 1.
+    Counted(u64, &'a str),
+    /// The label, if there is one.
+    Name(Option<Label>),
+}
+
+/// Puts the parts behind what is there, one after another; some of them where memory is refused. Costs
+/// what `push` costs for each.
+pub fn push_parts(text: &mut Vec<u8>, parts: &[Part]) -> Result<(), AllocError>
+    ensures { OnOk result (text.new.items ≡ text.old.items ++ flat_map text_of parts.now) }
+{
+    for part in parts {
+        push_part(text, *part)?;
+    }
+    Ok(())
+}
+
+// Puts the part behind what is there.
+fn push_part(text: &mut Vec<u8>, part: Part) -> Result<(), AllocError>
+    ensures { OnOk result (text.new.items ≡ text.old.items ++ text_of part.entry) }
+{
+    match part {
+        Part::Word(word) => push(text, word),
+        Part::Bytes(bytes) => text.extend_from_slice(bytes),
+        Part::Number(number) => push_number(text, number),
+        Part::Counted(number, word) => push_counted(text, number, word),
+        Part::Name(label) => push_label(text, label),
+    }
+}
+
+// Puts the number and the word behind what is there, with an s at any number but 1.
+fn push_counted(text: &mut Vec<u8>, number: u64, word: &str) -> Result<(), AllocError>
+    ensures { OnOk result (text.new.items ≡ text.old.items ++ text_of (Part.Counted number word.entry)) }
+{
+    push_number(text, number)?;
+    push(text, " ")?;
+    push(text, word)?;
+    push(text, ending(number))
+}
+
+// What follows a word that so many are counted of.
+fn ending(number: u64) -> &'static str
+    ensures { result.now ≡ plural_end number }
+{
+    if number == 1 { "" } else { "s" }
+}
