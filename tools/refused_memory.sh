@@ -3,13 +3,13 @@
 # allocations. Each test checks what a refusal leaves: it fails where that is not as it was.
 #   tools/refused_memory.sh [CRATE.. | explain]
 # With no CRATE it takes those that have such tests, and `explain`: the program explains three scripts, and each
-# refusal ends it with status 4, and leaves whole lines with all that is told of them. Of core_trials all tests count, of the others those with
+# refusal ends it with status 4, and leaves whole lines with all that is told of them. Of trial_core all tests count, of the others those with
 # `memory` in their names: the rest take success for granted. The tests are proved and built first, where that
 # was not done; then a run takes milliseconds. Of a test that makes thousands, the first 300 are refused. Needs cc.
 set -euo pipefail
 cd "$(dirname "$0")/.."
 crates=("$@")
-[ ${#crates[@]} = 0 ] && crates=(part_trials script_trials core_trials ends_trials parting_trials actor_trials thread_trials explain)
+[ ${#crates[@]} = 0 ] && crates=(trial_parts trial_scripts trial_core trial_ends trial_parting trial_actors trial_threads explain)
 most=300
 room=$(mktemp -d)
 trap 'rm -r "$room"' EXIT
@@ -76,7 +76,7 @@ for crate in "${crates[@]}"; do
   (cd "crates/$crate" && rt test >"$room/log" 2>&1) || { cat "$room/log"; exit 1; }
   program=crates/$crate/out/${crate}_tests
   counts=memory
-  [ "$crate" = core_trials ] && counts=.
+  [ "$crate" = trial_core ] && counts=.
   "$program" --list | sed -n 's/: test$//p' | grep "$counts" >"$room/tests"
   while read -r test; do follow "$program" "$test" </dev/null; done <"$room/tests"
 done

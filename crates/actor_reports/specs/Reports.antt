@@ -2,7 +2,7 @@
 use Rattle.std.specs.Prelude.{ℕ, List, [], ◌∷◌, ◌++◌, codes}
 use Rattle.std.specs.Fmt.{decimal}
 use Rattle.std.specs.List.{flat_map, zip}
-use Rattle.record_parts.specs.declared.line.ClientLine.{ClientLine}
+use Rattle.event_laws.specs.declared.line.ClientLine.{ClientLine}
 use Rattle.script_lines.specs.declared.label.Label.{Label}
 use Rattle.script_lines.specs.Labels.{text_of_label}
 

@@ -2,7 +2,7 @@
 ghost use Rattle.std.specs.Prelude.{◌≡◌, ◌++◌, OnOk};
 ghost use Rattle.actor_reports.specs.Reports.{line_text, lines_text, report_text};
 
-use record_parts::ClientLine;
+use event_laws::ClientLine;
 use script_lines::{Label, push, push_label, push_number};
 use std::alloc::AllocError;
 

@@ -1,3 +1,5 @@
 pub mod Blocks
+pub mod FitLaws
 pub mod Lines
 pub mod Playing
+pub mod TableLaws

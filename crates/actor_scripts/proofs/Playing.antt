@@ -2,8 +2,8 @@
 use Rattle.std.proofs.Common.{◌≡◌, ℕ, ◌<◌, true, List, [], ◌∷◌, ◌++◌, length, map, slice_index_or, slice_set, sym, ap, ◌∙◌, Some}
 use Rattle.std.proofs.lemmas.List.{map-set, get_or-map}
 use Rattle.std.specs.Option.{option_map, option_and_then}
-use Rattle.actor_steps.specs.declared.step.ActorScript.{ActorScript}
-use Rattle.actor_steps.specs.declared.step.Step.{Step}
+use Rattle.actor_scripts.specs.declared.step.ActorScript.{ActorScript}
+use Rattle.actor_scripts.specs.declared.step.Step.{Step}
 use Rattle.script_lines.specs.declared.label.Label.{Label}
 use Rattle.script_lines.specs.declared.line.Line.{Line}
 use Rattle.actor_scripts.specs.Casts.{Reading, steps_of, stepped, with_step}

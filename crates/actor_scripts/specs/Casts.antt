@@ -2,8 +2,8 @@
 use Rattle.std.specs.Prelude.{◌≡◌, ◌≤◌, ℕ, ◌+◌, ◌*◌, Bool, true, false, not, ◌==◌, ◌&&◌, ◌||◌, if◌then◌else◌, List, [], ◌∷◌, ◌++◌, length, map, Option, Some, None, Ok, Err, Result, ⊤}
 use Rattle.std.specs.List.{list_any, slice_index_or, slice_set}
 use Rattle.std.specs.Option.{option_map, option_map_or, option_and_then}
-use Rattle.actor_steps.specs.declared.step.ActorScript.{ActorScript}
-use Rattle.actor_steps.specs.declared.step.Step.{Step}
+use Rattle.actor_scripts.specs.declared.step.ActorScript.{ActorScript}
+use Rattle.actor_scripts.specs.declared.step.Step.{Step}
 use Rattle.script_lines.specs.declared.label.Label.{Label}
 use Rattle.script_lines.specs.declared.line.Line.{Line}
 use Rattle.script_lines.specs.Labels.{same_label}

@@ -1,3 +1,6 @@
 pub mod Casts
+pub mod Desks
+pub mod Plays
 pub mod Reads
 pub mod Steps
+pub mod Tables

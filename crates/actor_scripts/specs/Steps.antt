@@ -2,9 +2,9 @@
 use Rattle.std.specs.Prelude.{ℕ, Bool, ◌&&◌, ◌==◌, if◌then◌else◌, List, [], ◌∷◌, ◌++◌, Option, Some, None}
 use Rattle.std.specs.List.{list_any, position, position_or_len}
 use Rattle.std.specs.Option.{option_map}
-use Rattle.actor_steps.specs.declared.step.BufferVerb.{BufferVerb as AskedBuffer}
-use Rattle.actor_steps.specs.declared.step.Step.{Step}
-use Rattle.actor_steps.specs.declared.step.Verb.{Verb as Asked}
+use Rattle.actor_scripts.specs.declared.step.BufferVerb.{BufferVerb as AskedBuffer}
+use Rattle.actor_scripts.specs.declared.step.Step.{Step}
+use Rattle.actor_scripts.specs.declared.step.Verb.{Verb as Asked}
 use Rattle.script_lines.specs.declared.label.Label.{Label}
 use Rattle.script_lines.specs.declared.line.BufferVerb.{BufferVerb}
 use Rattle.script_lines.specs.declared.line.Line.{Line}

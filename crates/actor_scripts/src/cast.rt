@@ -1,5 +1,5 @@
 //! Who plays, and what.
-use actor_steps::ActorScript;
+use crate::ActorScript;
 use script_lines::Label;
 
 /// The clients of a script, and what each is to do.

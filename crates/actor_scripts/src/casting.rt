@@ -2,9 +2,9 @@
 ghost use Rattle.std.specs.Prelude.{◌≡◌, ◌+◌, ◌^◌, ◌<◌, MatchResult, OnOk, Some};
 ghost use Rattle.actor_scripts.specs.Casts.{after, is_ended, joined, led_by, seen, start, stepped, Halts, IsSound};
 
+use crate::ActorScript;
 use crate::halt::Halt;
 use crate::numbering::{add_step, place};
-use actor_steps::ActorScript;
 use indexmap::IndexSet;
 use script_lines::{Label, LabelHash, Line, read_line};
 use std::alloc::Global;

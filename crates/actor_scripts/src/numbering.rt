@@ -1,11 +1,11 @@
 //! Lines as steps, in which labels are numbers.
 ghost use Rattle.std.specs.Prelude.{◌≡◌, ◌+◌, ◌^◌, ◌<◌, ◌≤◌, [], ◌∷◌, ◌++◌, length, IfErr, IfOk, MatchResult, OnOk, Some};
-ghost use Rattle.actor_steps.specs.declared.step.Step.{Step};
+ghost use Rattle.actor_scripts.specs.declared.step.Step.{Step};
 ghost use Rattle.actor_scripts.specs.Casts.{steps_of, Halts};
 ghost use Rattle.actor_scripts.specs.Steps.{buffer_verb_of, naming, number_of, place_of, step_of, verb_of};
 
 use crate::halt::Halt;
-use actor_steps::{ActorScript, BufferVerb, Step, Verb};
+use crate::{ActorScript, BufferVerb, Step, Verb};
 use indexmap::IndexSet;
 use script_lines::{BufferVerb as BufferWord, Label, LabelHash, Line, Verb as Word};
 

@@ -10,15 +10,15 @@ use Rattle.sm_names.specs.declared.keys.Strength.{Strength}
 use Rattle.sm_names.specs.declared.messages.Call.{Call}
 use Rattle.sm_names.specs.declared.messages.Reply.{Reply}
 use Rattle.sm_names.specs.declared.outcomes.StepFault.{StepFault}
-use Rattle.record_parts.specs.declared.own.Own.{Own}
+use Rattle.event_laws.specs.declared.own.Own.{Own}
 use Rattle.client_ends.specs.declared.held.End.{End}
 use Rattle.client_ends.specs.Clients.{Grip, Made, Seen, last_reply}
 use Rattle.client_parting.specs.Partings.{AreOf as AreTheirs, Token, Collection, Handle, owner_of, sorted}
 use Rattle.client_parting.specs.Stacks.{kept_things}
 use Rattle.client_parting.proofs.BackLaws.{sorted_own}
-use Rattle.actor_steps.specs.declared.thing.Asked.{Asked}
-use Rattle.actor_steps.specs.declared.thing.Thing.{Thing}
-use Rattle.actor_steps.specs.Desks.{FitsThere, bound, emptied, given, handles_from, on_of, spends, thing_at}
+use Rattle.actor_scripts.specs.declared.thing.Asked.{Asked}
+use Rattle.actor_scripts.specs.declared.thing.Thing.{Thing}
+use Rattle.actor_scripts.specs.Desks.{FitsThere, bound, emptied, given, handles_from, on_of, spends, thing_at}
 use Rattle.client_actors.specs.declared.brought.Brought.{Brought}
 use Rattle.client_actors.specs.Asking.{AreOf, Did, IsOf, full, handle_seen, lies, slots_for, there, things_in}
 use Rattle.client_actors.specs.Acting.{Answers, Asks, left_in, left_of, pairs_of, part_of}

@@ -12,8 +12,8 @@ use Rattle.client_ends.specs.declared.held.End.{End}
 use Rattle.client_ends.specs.declared.why.Why.{Why}
 use Rattle.client_ends.specs.Clients.{Grip, MadeOr, Seen}
 use Rattle.client_ends.specs.Taking.{Took, grip_at, grips_at}
-use Rattle.actor_steps.specs.declared.thing.Thing.{Thing}
-use Rattle.actor_steps.specs.Desks.{given, handles_from, handles_in, spends}
+use Rattle.actor_scripts.specs.declared.thing.Thing.{Thing}
+use Rattle.actor_scripts.specs.Desks.{given, handles_from, handles_in, spends}
 use Rattle.client_actors.specs.declared.brought.Brought.{Brought}
 use Rattle.client_actors.specs.Asking.{Did, handle_seen, may_spend, there}
 

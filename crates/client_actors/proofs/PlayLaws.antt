@@ -6,12 +6,12 @@ use Rattle.sm_names.specs.declared.messages.Reply.{Reply}
 use Rattle.client_ends.specs.declared.held.End.{End}
 use Rattle.client_ends.specs.Clients.{Made, Seen, last_reply}
 use Rattle.client_parting.specs.Partings.{AreOf, Holds, IsBroken, IsGone, Remains, sorted}
-use Rattle.actor_steps.specs.declared.step.Step.{Step}
-use Rattle.actor_steps.specs.declared.thing.Asked.{Asked}
-use Rattle.actor_steps.specs.Desks.{Known, asked_of, desk_after, nothing_known, things_after}
-use Rattle.actor_steps.specs.Plays.{Plays}
-use Rattle.actor_steps.specs.Tables.{known}
-use Rattle.actor_steps.proofs.TableLaws.{things_noted}
+use Rattle.actor_scripts.specs.declared.step.Step.{Step}
+use Rattle.actor_scripts.specs.declared.thing.Asked.{Asked}
+use Rattle.actor_scripts.specs.Desks.{Known, asked_of, desk_after, nothing_known, things_after}
+use Rattle.actor_scripts.specs.Plays.{Plays}
+use Rattle.actor_scripts.specs.Tables.{known}
+use Rattle.actor_scripts.proofs.TableLaws.{things_noted}
 use Rattle.client_actors.specs.declared.acting.Actor.{Actor}
 use Rattle.client_actors.specs.Acting.{Answers, Falters, HasFaltered, HasMade, HasPlayed, HasPlayedSome, HasPlayedTo, HasStepped, HasStopped, IsAware, IsSound, held_by, left_of, pairs_of, part_of}
 use Rattle.client_actors.specs.Asking.{IsOf, lies}

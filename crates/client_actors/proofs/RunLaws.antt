@@ -4,7 +4,7 @@ use Rattle.std.specs.Prelude.{drop, reverse, take, IsSome}
 use Rattle.std.specs.List.{All, AllZip}
 use Rattle.std.proofs.lemmas.List.{map-append, reverse-append}
 use Rattle.std.proofs.lemmas.List.Elements.{All-cons, All-nil}
-use Rattle.actor_steps.specs.declared.step.ActorScript.{ActorScript}
+use Rattle.actor_scripts.specs.declared.step.ActorScript.{ActorScript}
 use Rattle.client_actors.specs.declared.gate.ActorEnd.{ActorEnd}
 use Rattle.client_actors.specs.Running.{HaveRun, IsEndOf, IsEndThere, end_id, id_there}
 

@@ -3,18 +3,18 @@ use Rattle.std.specs.Prelude.{ℕ, ◌≡◌, ◌≤◌, ◌+◌, ◌⊎◌, if�
 use Rattle.std.specs.List.{All}
 use Rattle.sm_names.specs.declared.messages.Call.{Call}
 use Rattle.sm_names.specs.declared.messages.Reply.{Reply}
-use Rattle.record_parts.specs.declared.own.Own.{Own}
+use Rattle.event_laws.specs.declared.own.Own.{Own}
 use Rattle.client_ends.specs.declared.held.End.{End}
 use Rattle.client_ends.specs.declared.held.Held.{Held}
 use Rattle.client_ends.specs.Clients.{Made, Seen}
 use Rattle.client_parting.specs.Partings.{AreOf as AreTheirs, Holds, IsBroken, IsGone, Remains, Thing as Part, Token, Collection, Handle, held_in, sorted}
 use Rattle.client_parting.specs.Stacks.{kept_things}
-use Rattle.actor_steps.specs.declared.step.Step.{Step}
-use Rattle.actor_steps.specs.declared.thing.Asked.{Asked}
-use Rattle.actor_steps.specs.declared.thing.Thing.{Thing}
-use Rattle.actor_steps.specs.Desks.{Known, emptied, desk_after, given, on_of, spends, things_after}
-use Rattle.actor_steps.specs.Plays.{Plays}
-use Rattle.actor_steps.specs.Tables.{known}
+use Rattle.actor_scripts.specs.declared.step.Step.{Step}
+use Rattle.actor_scripts.specs.declared.thing.Asked.{Asked}
+use Rattle.actor_scripts.specs.declared.thing.Thing.{Thing}
+use Rattle.actor_scripts.specs.Desks.{Known, emptied, desk_after, given, on_of, spends, things_after}
+use Rattle.actor_scripts.specs.Plays.{Plays}
+use Rattle.actor_scripts.specs.Tables.{known}
 use Rattle.client_actors.specs.declared.acting.Actor.{Actor}
 use Rattle.client_actors.specs.declared.gate.ActorEnd.{ActorEnd}
 use Rattle.client_actors.specs.declared.brought.Brought.{Brought}

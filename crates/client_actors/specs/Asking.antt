@@ -7,8 +7,8 @@ use Rattle.sm_names.specs.declared.messages.Reply.{Reply}
 use Rattle.client_ends.specs.declared.held.End.{End}
 use Rattle.client_ends.specs.Clients.{Grip, Made, Seen, Tag}
 use Rattle.client_ends.specs.Collecting.{holder_of}
-use Rattle.actor_steps.specs.declared.thing.Thing.{Thing}
-use Rattle.actor_steps.specs.Desks.{given, spends}
+use Rattle.actor_scripts.specs.declared.thing.Thing.{Thing}
+use Rattle.actor_scripts.specs.Desks.{given, spends}
 use Rattle.client_actors.specs.declared.brought.Brought.{Brought}
 
 -- a token, a collection and a handle, whoever holds them

@@ -4,7 +4,7 @@ use Rattle.std.specs.List.{AllZip}
 use Rattle.client_ends.specs.Clients.{Seen}
 use Rattle.client_parting.specs.declared.gathering.Holding.{Holding}
 use Rattle.client_parting.specs.Partings.{held_in, sorted}
-use Rattle.actor_steps.specs.declared.step.ActorScript.{ActorScript}
+use Rattle.actor_scripts.specs.declared.step.ActorScript.{ActorScript}
 use Rattle.client_actors.specs.declared.gate.ActorEnd.{ActorEnd}
 use Rattle.client_actors.specs.Acting.{HasPlayed, HasStopped}
 

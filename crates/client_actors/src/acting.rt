@@ -1,8 +1,8 @@
 //! An actor: what it has and knows, and how it makes a step.
 ghost use Rattle.std.specs.Prelude.{◌≡◌, ◌+◌, ◌≤◌, [], MatchResult, IfOk, OnErr, OnOk, vec_len, vec_capacity};
 ghost use Rattle.std.specs.List.{All};
-ghost use Rattle.actor_steps.specs.Desks.{Fits, nothing_known};
-ghost use Rattle.actor_steps.specs.Tables.{known};
+ghost use Rattle.actor_scripts.specs.Desks.{Fits, nothing_known};
+ghost use Rattle.actor_scripts.specs.Tables.{known};
 ghost use Rattle.client_actors.specs.Acting.{Answers, Asks, Falters, HasFaltered, HasMade, HasStepped, IsAware, IsSound};
 ghost use Rattle.client_actors.specs.Asking.{IsOf, lies};
 
@@ -10,7 +10,7 @@ use crate::asking::on_none;
 use crate::brought::Brought;
 use crate::slots::ask_there;
 use crate::storing::{make_room, store};
-use actor_steps::{Asked, Desk, Step};
+use actor_scripts::{Asked, Desk, Step};
 use client_ends::{Client, End, Held};
 use service_lock::{Service, Setup};
 use sm_names::{ClientId, MAX_BUFFERS, Reply, StepFault};

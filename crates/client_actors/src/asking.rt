@@ -1,6 +1,6 @@
 //! The calls that leave with the actor what they are made on.
 ghost use Rattle.std.specs.Prelude.{◌≡◌, false, MatchResult};
-ghost use Rattle.actor_steps.specs.Desks.{FitsCollection, FitsEnd, FitsHandle, FitsNone, FitsToken};
+ghost use Rattle.actor_scripts.specs.Desks.{FitsCollection, FitsEnd, FitsHandle, FitsNone, FitsToken};
 ghost use Rattle.client_actors.specs.Asking.{Lent, may_spend};
 
 use crate::brought::Brought;

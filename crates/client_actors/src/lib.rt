@@ -13,7 +13,7 @@ mod spending;
 mod start;
 mod storing;
 
-pub use actor_steps::{ActorScript, Step};
+pub use actor_scripts::{ActorScript, Step};
 pub use gate::{ActorEnd, Gate};
 pub use playing::play;
 pub use running::run_actors;

@@ -1,7 +1,7 @@
 //! An actor plays its script, and vanishes.
 ghost use Rattle.std.specs.Prelude.{◌≡◌, [], OnErr, OnOk};
-ghost use Rattle.actor_steps.specs.Plays.{Plays};
-ghost use Rattle.actor_steps.specs.Tables.{known};
+ghost use Rattle.actor_scripts.specs.Plays.{Plays};
+ghost use Rattle.actor_scripts.specs.Tables.{known};
 ghost use Rattle.client_parting.specs.Partings.{AreOf, held_in, sorted};
 ghost use Rattle.client_actors.specs.Acting.{EndsSo, HasPlayedSome, IsAware, IsSound, left_of, pairs_of};
 ghost use Rattle.client_actors.specs.Asking.{lies};
@@ -9,7 +9,7 @@ ghost use Rattle.client_actors.specs.Asking.{lies};
 use crate::acting::Actor;
 use crate::gate::{ActorEnd, Gate};
 use crate::storing::unload;
-use actor_steps::{ActorScript, Step};
+use actor_scripts::{ActorScript, Step};
 use client_ends::{Client, Held};
 use client_parting::vanish;
 use service_lock::{Service, Setup};

@@ -7,7 +7,7 @@ ghost use Rattle.client_actors.specs.Running.{HaveRun, IsEndAt, IsEndThere, IsId
 use crate::gate::{ActorEnd, Gate};
 use crate::playing::play;
 use crate::start::Start;
-use actor_steps::ActorScript;
+use actor_scripts::ActorScript;
 use client_ends::{Held, join, memory_fault};
 use client_parting::Holding;
 use service_lock::{Service, Setup, State};

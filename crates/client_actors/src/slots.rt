@@ -1,6 +1,6 @@
 //! The slots in which an actor's things lie.
 ghost use Rattle.std.specs.Prelude.{◌≡◌, ◌+◌, ◌≤◌, ◌++◌, Some, None, false, true, map, MatchResult, vec_len, vec_capacity};
-ghost use Rattle.actor_steps.specs.Desks.{FitsThere, FitsThing};
+ghost use Rattle.actor_scripts.specs.Desks.{FitsThere, FitsThing};
 ghost use Rattle.client_ends.specs.Collecting.{holder_of};
 ghost use Rattle.client_actors.specs.Asking.{Did, IsOf, Lent, full, may_spend, there, thing_seen};
 

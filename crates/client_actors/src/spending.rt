@@ -1,6 +1,6 @@
 //! The calls that may spend what they are made on.
 ghost use Rattle.std.specs.Prelude.{◌≡◌, Some, true, MatchResult};
-ghost use Rattle.actor_steps.specs.Desks.{FitsEnd, FitsHandle, FitsThing, FitsToken, spends};
+ghost use Rattle.actor_scripts.specs.Desks.{FitsEnd, FitsHandle, FitsThing, FitsToken, spends};
 ghost use Rattle.client_ends.specs.Clients.{MadeOr};
 ghost use Rattle.client_ends.specs.Collecting.{holder_of};
 ghost use Rattle.client_actors.specs.Asking.{Spends, Spent, may_spend, thing_seen, token_seen};

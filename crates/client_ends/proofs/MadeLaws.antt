@@ -2,7 +2,7 @@
 use Rattle.std.proofs.Common.{◌+◌, refl, ap, sym, ◌∙◌, List, [], ◌∷◌, ◌++◌, append_assoc, append-nil, length-append, arith}
 use Rattle.sm_names.specs.declared.messages.Call.{Call}
 use Rattle.sm_names.specs.declared.messages.Reply.{Reply}
-use Rattle.record_parts.specs.declared.own.Own.{Own}
+use Rattle.event_laws.specs.declared.own.Own.{Own}
 use Rattle.client_ends.specs.Clients.{Made, MadeAll, Seen, calls_of, replies_of}
 use Rattle.std.proofs.lemmas.List.{map-append}
 

@@ -8,7 +8,7 @@ use Rattle.sm_names.specs.declared.messages.Reply.{Reply}
 use Rattle.sm_names.specs.declared.outcomes.StepFault.{StepFault}
 use Rattle.lifetime_core.specs.Kinds.{fits_call}
 use Rattle.service_lock.specs.Units.{Amounts, with_one}
-use Rattle.record_parts.specs.declared.own.Own.{Own}
+use Rattle.event_laws.specs.declared.own.Own.{Own}
 use Rattle.client_ends.specs.declared.why.Why.{Why}
 
 -- the amounts of a client's shares, and its own list

@@ -11,7 +11,7 @@ ghost use Rattle.client_ends.specs.Taking.{grips_by, told_taken};
 use crate::handle::Handle;
 use crate::spare::{empty, memory_fault};
 use crate::taking::{hand_out, taken_by};
-use record_parts::Own;
+use event_laws::Own;
 use service_lock::{Setup, State, Units, apply, books, pass, take_back};
 use sm_names::{Call, ClientId, MAX_BUFFERS, NodeKey, Reply, StepFault, Strength};
 use std::alloc::Global;

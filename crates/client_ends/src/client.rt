@@ -18,7 +18,7 @@ use crate::held::End;
 use crate::spare::empty;
 use crate::taking::make_room;
 use crate::why::Why;
-use record_parts::Own;
+use event_laws::Own;
 use service_lock::{Service, Setup, State, Units, apply, take_back, take_tracker};
 use sm_names::{BufferName, Call, ClientId, Kind, NodeKey, Reply, StepFault, Strength};
 use std::alloc::Global;

@@ -3,7 +3,7 @@ use Rattle.std.proofs.Common.{refl, ℕ, ◌≡◌, ◌<◌, ◌+◌, ◌∙◌,
 use Rattle.std.proofs.lemmas.List.Elements.{All-push, All-weaker, Contains-append_left, Contains-append_right}
 use Rattle.client_parting.specs.declared.gathering.Holding.{Holding}
 use Rattle.client_parting.specs.Gatherings.{IsFirstMismatch, IsFound, Matches, id_of, own_of}
-use Rattle.record_parts.specs.Parts.{DifferAt, part}
+use Rattle.event_laws.specs.Parts.{DifferAt, part}
 use Rattle.sm_names.specs.Marks.{Entry}
 use Rattle.std.specs.List.{All, Contains}
 use Rattle.std.specs.Prelude.{Option, Some, None}

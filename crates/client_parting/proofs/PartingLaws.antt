@@ -9,7 +9,7 @@ use Rattle.client_ends.specs.declared.held.Held.{Held}
 use Rattle.std.proofs.lemmas.List.{map-append, length-map, replicate-append-replicate}
 use Rattle.sm_names.specs.declared.messages.Call.{Call}
 use Rattle.sm_names.specs.declared.messages.Reply.{Reply}
-use Rattle.record_parts.specs.declared.own.Own.{Own}
+use Rattle.event_laws.specs.declared.own.Own.{Own}
 use Rattle.client_ends.specs.Clients.{Made, MadeAll, Seen, calls_of, is_done, replies_of}
 use Rattle.client_ends.proofs.MadeLaws.{made_more, made_none, made_one, made_then}
 use Rattle.client_parting.specs.Partings.{AreOf, Collection, Goes, Handle, Holds, IsGone, Thing, Token, all_things, collection_in, end_of, end_told, handle_in, handle_told, held_in, kept_of, owner_of, parting_call, sorted, token_in, waiting_in}

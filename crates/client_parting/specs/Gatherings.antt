@@ -8,10 +8,10 @@ use Rattle.sm_names.specs.Marks.{Entry}
 use Rattle.sm_names.specs.Sameness.{same_strength}
 use Rattle.sm_names.specs.Timelines.{timeline}
 use Rattle.event_laws.specs.HandleSums.{all_open}
-use Rattle.record_parts.specs.Lines.{lines_of}
-use Rattle.record_parts.specs.declared.own.Own.{Own}
-use Rattle.record_parts.specs.Members.{AreAmong, IsFirstAbsent, joined}
-use Rattle.record_parts.specs.Parts.{DifferAt, part}
+use Rattle.event_laws.specs.Lines.{lines_of}
+use Rattle.event_laws.specs.declared.own.Own.{Own}
+use Rattle.event_laws.specs.Members.{AreAmong, IsFirstAbsent, joined}
+use Rattle.event_laws.specs.Parts.{DifferAt, part}
 use Rattle.service_lock.specs.States.{View}
 use Rattle.client_ends.specs.Clients.{Grip}
 use Rattle.client_parting.specs.declared.fault.GatherFault.{GatherFault}

@@ -8,7 +8,7 @@ ghost use Rattle.client_parting.specs.Gatherings.{IsFirstMismatch, IsFound, IsGa
 use crate::fault::GatherFault;
 use crate::wreck::Wreck;
 use client_ends::{Client, EndOf, Ended, Handle, Held, Own, end};
-use record_parts::{ClientLine, Parts};
+use event_laws::{ClientLine, Parts};
 use service_lock::{Service, Setup, State, books, entries};
 use sm_names::{ClientId, NoMemory, Strength};
 use std::alloc::Global;

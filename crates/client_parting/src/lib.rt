@@ -8,8 +8,8 @@ mod leaving;
 mod things;
 mod wreck;
 
+pub use event_laws::ClientLine;
 pub use fault::GatherFault;
 pub use gathering::{Holding, Report, compare, end_service, gather};
 pub use leaving::vanish;
-pub use record_parts::ClientLine;
 pub use wreck::Wreck;

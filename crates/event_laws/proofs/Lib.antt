@@ -1,5 +1,6 @@
 pub mod AllocatedLaws
 pub mod ConcernLaws
+pub mod DifferLaws
 pub mod EndEventLaws
 pub mod FiringLaws
 pub mod FreeEndLaws
@@ -9,10 +10,15 @@ pub mod HandleCaseLaws
 pub mod HandleEventLaws
 pub mod HandleSumLaws
 pub mod HandleSumNamedLaws
+pub mod LineLaws
+pub mod LinkLaws
+pub mod MemberLaws
 pub mod MomentLaws
 pub mod NumberLaws
+pub mod OpenLaws
 pub mod ParcelEventLaws
 pub mod RecallLaws
+pub mod SameLaws
 pub mod SetLaws
 pub mod TransitLaws
 pub mod WaitingLaws

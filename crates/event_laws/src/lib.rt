@@ -5,4 +5,13 @@
 pub mod amounts;
 pub mod ends;
 pub mod handles;
+mod laws;
+mod line;
+mod own;
+mod parts;
 pub mod trackers;
+
+pub use laws::{all_clients_have_lines, lines_tell_open_handles};
+pub use line::ClientLine;
+pub use own::Own;
+pub use parts::Parts;

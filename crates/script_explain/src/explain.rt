@@ -5,8 +5,7 @@ ghost use Rattle.script_explain.specs.Tales.{indent, line_with_reply};
 use script_faults::{
     ReportFault, behind, fault_of, is_indented, push_indented, put_out, read_script, unended,
 };
-use script_lines::line_end;
-use script_runs::write_out;
+use script_lines::{line_end, write_out};
 use script_tales::Teller;
 use sm_names::Limits;
 use sm_script::Stop;

@@ -5,7 +5,7 @@ ghost use Rattle.std.specs.Process.{exit_status};
 use crate::check::{Verdict, check_script};
 use crate::explain::explain_script;
 use script_faults::end_with;
-use script_runs::Pages;
+use script_lines::Pages;
 use sm_names::Limits;
 use std::alloc::Global;
 use std::io::{Read, Write};

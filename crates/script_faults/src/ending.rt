@@ -4,8 +4,7 @@ ghost use Rattle.std.specs.Process.{exit_status};
 ghost use Rattle.script_faults.specs.Faults.{fault_status};
 
 use crate::fault::ReportFault;
-use script_lines::push;
-use script_runs::write_out;
+use script_lines::{push, write_out};
 use std::alloc::{AllocError, Global};
 use std::io::Write;
 use std::process::ExitCode;

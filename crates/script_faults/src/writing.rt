@@ -1,6 +1,6 @@
 //! Text goes out.
 use crate::fault::ReportFault;
-use script_runs::write_out;
+use script_lines::write_out;
 use std::io::Write;
 
 /// Writes the text, and flushes the writer. Takes a time in proportion to the text.

@@ -2,3 +2,4 @@ pub mod Digits
 pub mod Ends
 pub mod Piecing
 pub mod Splits
+pub mod Telling

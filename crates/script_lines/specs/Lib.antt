@@ -5,3 +5,4 @@ pub mod Lines
 pub mod Numbers
 pub mod Pieces
 pub mod Words
+pub mod Written

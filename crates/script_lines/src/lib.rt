@@ -8,18 +8,22 @@ mod label;
 mod line;
 mod line_text;
 mod number;
+mod pages;
 mod parser;
 mod spelling;
 mod words;
+mod writing;
 
 pub use buffer_label::BufferLabel;
 pub use hashing::LabelHash;
 pub use label::Label;
 pub use line::{BufferVerb, Line, Verb, View};
 pub use line_text::{push_line, strength_name};
+pub use pages::Pages;
 pub use parser::line as read_line;
 pub use spelling::{push, push_label, push_number};
 pub use words::line_end;
+pub use writing::{WriteFault, write_line, write_out};
 
 /// The greatest size of a script, in bytes.
 pub const MOST_BYTES: usize = 16_777_216;

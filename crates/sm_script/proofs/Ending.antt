@@ -5,8 +5,8 @@ use Rattle.sm_script.specs.declared.fault.ScriptFault.{ScriptFault}
 use Rattle.sm_script.specs.Endings.{Ends, ending_status, fault_line}
 use Rattle.sm_script.specs.Faults.{fault_status}
 use Rattle.sm_script.specs.Runs.{Runs}
-use Rattle.script_runs.proofs.Telling.{tells_nothing}
-use Rattle.script_runs.specs.Written.{WritesPart}
+use Rattle.script_lines.proofs.Telling.{tells_nothing}
+use Rattle.script_lines.specs.Written.{WritesPart}
 use Rattle.sm_script.specs.Scenes.{Setting}
 
 module _ (setting : Setting) (left_before left old new : Option (List ℕ)) (outcome : Result (Unit {0}) ScriptFault)

@@ -11,7 +11,7 @@ use Rattle.sm_script.specs.declared.player.Player.{Player}
 use Rattle.sm_script.specs.declared.stop.Stop.{Stop}
 use Rattle.sm_script.specs.Players.{SoFar, Breaks, GivesUp, fault_of}
 use Rattle.sm_script.specs.Runs.{IsTold, IsCutOff, IsUnanswered, Stopped}
-use Rattle.script_runs.specs.Written.{WritesPart}
+use Rattle.script_lines.specs.Written.{WritesPart}
 use Rattle.sm_script.specs.Scenes.{Scene, Setting, Plays, Rests, Goes, Answers, LeadsTo, first_scene}
 use Rattle.sm_script.specs.Sessions.{IsAt, Advances, IsStopped}
 

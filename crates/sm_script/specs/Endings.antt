@@ -3,7 +3,7 @@ use Rattle.std.specs.Prelude.{◌≡◌, ℕ, List, [], ◌∷◌, ◌++◌, Opt
 use Rattle.sm_script.specs.declared.fault.ScriptFault.{ScriptFault}
 use Rattle.sm_script.specs.Faults.{fault_status, fault_text}
 use Rattle.sm_script.specs.Runs.{Runs}
-use Rattle.script_runs.specs.Written.{WritesPart}
+use Rattle.script_lines.specs.Written.{WritesPart}
 use Rattle.sm_script.specs.Scenes.{Setting}
 
 -- the status that the program ends with: 0 where the run came to the end of the script

@@ -5,7 +5,7 @@ use Rattle.sm_script.specs.declared.fault.ScriptFault.{ScriptFault}
 use Rattle.sm_script.specs.declared.player.Player.{Player}
 use Rattle.sm_script.specs.declared.stop.Stop.{Stop}
 use Rattle.sm_script.specs.Runs.{IsTold, Stopped}
-use Rattle.script_runs.specs.Written.{WritesPart}
+use Rattle.script_lines.specs.Written.{WritesPart}
 use Rattle.sm_script.specs.Scenes.{Scene, Setting, Plays, first_scene}
 use Rattle.sm_script.specs.Sessions.{IsAt}
 

@@ -9,7 +9,7 @@ use Rattle.sm_script.specs.declared.act.Binds.{Binds}
 use Rattle.sm_script.specs.declared.fault.ScriptFault.{ScriptFault}
 use Rattle.script_lines.specs.declared.TheConstants.{MOST_BYTES}
 use Rattle.sm_script.specs.Names.{act_in}
-use Rattle.script_runs.specs.Written.{WritesPart}
+use Rattle.script_lines.specs.Written.{WritesPart}
 use Rattle.script_lines.specs.Pieces.{whole_lines, last_part}
 use Rattle.sm_script.specs.Scenes.{Scene, Setting, LeadsTo}
 

@@ -8,7 +8,7 @@ use crate::fault::ScriptFault;
 use crate::session::Session;
 use crate::stop::Stop;
 use crate::writing::give_up;
-use script_runs::write_out;
+use script_lines::write_out;
 use sm_names::{Limits, MAX_PAGES, NoMemory};
 use std::alloc::Global;
 use std::io::Write;

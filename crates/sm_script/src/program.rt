@@ -4,7 +4,7 @@ ghost use Rattle.sm_script.specs.Endings.{Ends};
 
 use crate::fault::ScriptFault;
 use crate::run::run_script;
-use script_runs::{Pages, write_line};
+use script_lines::{Pages, write_line};
 use sm_names::{Limits, MAX_COLLECTIONS, MAX_EVENTS, MAX_HANDLES, MAX_NODES, MAX_TRACKERS};
 use std::alloc::Global;
 use std::io::{Read, Write};

@@ -3,7 +3,7 @@ ghost use Rattle.sm_script.specs.Players.{GivesUp};
 
 use crate::fault::ScriptFault;
 use crate::stop::Stop;
-use script_runs::write_out;
+use script_lines::write_out;
 use std::io::Write;
 
 // Writes the text of the lines before the one of this number, which was not answered, and gives

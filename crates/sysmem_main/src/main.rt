@@ -14,7 +14,7 @@ use clap::Error;
 use clap::error::ErrorKind;
 use script_draw::draw_to_exit;
 use script_explain::{check_to_exit, explain_to_exit};
-use script_runs::Pages;
+use script_lines::Pages;
 use sm_script::run_to_exit;
 use std::io::Read;
 use std::process::ExitCode;

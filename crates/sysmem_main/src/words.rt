@@ -5,7 +5,7 @@ ghost use Rattle.sysmem_main.specs.Asked.{AreAsked, pages_text};
 
 use clap::{Arg, ArgAction, ArgMatches, Command, value_parser};
 use script_draw::{Format, View};
-use script_runs::Pages;
+use script_lines::Pages;
 use std::alloc::{AllocError, Global};
 
 const ABOUT: &str = "\

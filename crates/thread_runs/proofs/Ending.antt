@@ -1,7 +1,7 @@
 -- What a program that runs actors leaves.
 use Rattle.std.proofs.Common.{◌≡◌, ℕ, List, sym, ap, ◌∙◌, Option}
 use Rattle.std.specs.Prelude.{Err, Result}
-use Rattle.script_runs.specs.Written.{WritesPart}
+use Rattle.script_lines.specs.Written.{WritesPart}
 use Rattle.thread_runs.specs.declared.fault.ThreadsFault.{ThreadsFault}
 use Rattle.thread_runs.specs.Endings.{Ends, ending_line, ending_status, program_limits}
 use Rattle.thread_runs.specs.Faults.{fault_status}

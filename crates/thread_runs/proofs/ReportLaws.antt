@@ -6,15 +6,15 @@ use Rattle.std.proofs.lemmas.List.Elements.{recursion_from_All}
 use Rattle.sm_names.specs.Bounds.{Bound}
 use Rattle.sm_names.specs.Legality.{IsLegal}
 use Rattle.sm_names.specs.Marks.{Entry}
-use Rattle.record_parts.specs.Lines.{line_of}
-use Rattle.record_parts.specs.Members.{joined}
-use Rattle.record_parts.specs.Parts.{part}
+use Rattle.event_laws.specs.Lines.{line_of}
+use Rattle.event_laws.specs.Members.{joined}
+use Rattle.event_laws.specs.Parts.{part}
 use Rattle.service_lock.specs.States.{IsAsked, View}
 use Rattle.client_parting.specs.declared.gathering.Holding.{Holding}
 use Rattle.client_parting.specs.declared.gathering.Report.{Report}
 use Rattle.client_parting.specs.Gatherings.{IsGathered, Matches, ids_of}
 use Rattle.client_parting.specs.Partings.{Remains}
-use Rattle.actor_steps.specs.declared.step.ActorScript.{ActorScript}
+use Rattle.actor_scripts.specs.declared.step.ActorScript.{ActorScript}
 use Rattle.actor_scripts.specs.declared.cast.Cast.{Cast}
 use Rattle.actor_scripts.specs.Casts.{company_of, steps_of}
 use Rattle.actor_reports.specs.Reports.{report_text}

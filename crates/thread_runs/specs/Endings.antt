@@ -2,7 +2,7 @@
 use Rattle.std.specs.Prelude.{◌≡◌, ℕ, List, [], ◌∷◌, ◌++◌, Option, Ok, Err, Result}
 use Rattle.sm_names.specs.declared.rules.TheConstants.{MAX_COLLECTIONS, MAX_EVENTS, MAX_HANDLES, MAX_NODES, MAX_TRACKERS}
 use Rattle.sm_names.specs.Bounds.{Bound}
-use Rattle.script_runs.specs.Written.{WritesPart}
+use Rattle.script_lines.specs.Written.{WritesPart}
 use Rattle.thread_runs.specs.declared.fault.ThreadsFault.{ThreadsFault}
 use Rattle.thread_runs.specs.Faults.{fault_status, fault_text}
 use Rattle.thread_runs.specs.Runs.{Runs}

@@ -5,9 +5,9 @@ use Rattle.std.specs.Option.{option_or}
 use Rattle.sm_names.specs.declared.outcomes.StepFault.{StepFault}
 use Rattle.sm_names.specs.Bounds.{Bound}
 use Rattle.sm_names.specs.Legality.{IsLegal}
-use Rattle.record_parts.specs.declared.line.ClientLine.{ClientLine}
-use Rattle.record_parts.specs.Lines.{lines_of}
-use Rattle.record_parts.specs.Members.{joined}
+use Rattle.event_laws.specs.declared.line.ClientLine.{ClientLine}
+use Rattle.event_laws.specs.Lines.{lines_of}
+use Rattle.event_laws.specs.Members.{joined}
 use Rattle.service_lock.specs.States.{View}
 use Rattle.script_lines.specs.declared.label.Label.{Label}
 use Rattle.actor_reports.specs.Reports.{report_text}

@@ -5,17 +5,17 @@ use Rattle.std.specs.List.{AllZip}
 use Rattle.sm_names.specs.Bounds.{Bound}
 use Rattle.sm_names.specs.Legality.{IsLegal}
 use Rattle.sm_names.specs.Marks.{Entry}
-use Rattle.record_parts.specs.Lines.{lines_of}
-use Rattle.record_parts.specs.Members.{joined}
-use Rattle.record_parts.specs.Parts.{part}
+use Rattle.event_laws.specs.Lines.{lines_of}
+use Rattle.event_laws.specs.Members.{joined}
+use Rattle.event_laws.specs.Parts.{part}
 use Rattle.client_parting.specs.declared.fault.GatherFault.{GatherFault}
 use Rattle.client_parting.specs.Partings.{Remains}
-use Rattle.actor_steps.specs.declared.step.Step.{Step}
+use Rattle.actor_scripts.specs.declared.step.Step.{Step}
 use Rattle.actor_scripts.specs.Casts.{Company, cast_of}
 use Rattle.actor_scripts.specs.Reads.{IsBad, IsCutOff, IsWhole}
 use Rattle.client_actors.specs.Acting.{HasPlayed}
 use Rattle.actor_reports.specs.Reports.{report_text}
-use Rattle.script_runs.specs.Written.{WritesPart}
+use Rattle.script_lines.specs.Written.{WritesPart}
 use Rattle.thread_runs.specs.declared.fault.ThreadsFault.{ThreadsFault}
 
 -- what the record has of the client is a play of these steps and the events of its parting

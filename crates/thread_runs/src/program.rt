@@ -3,7 +3,7 @@ ghost use Rattle.std.specs.Process.{exit_status};
 ghost use Rattle.thread_runs.specs.Endings.{Ends};
 
 use crate::run::run_threads;
-use script_runs::{Pages, write_line};
+use script_lines::{Pages, write_line};
 use sm_names::Limits;
 use std::alloc::Global;
 use std::io::{Read, Write};

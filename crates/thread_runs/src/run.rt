@@ -1,14 +1,13 @@
 //! A script of actors from its first byte to the last of its report.
 ghost use Rattle.std.specs.Prelude.{◌≡◌, ◌≤◌, IfErr, OnErr, OnOk};
 ghost use Rattle.std.specs.Io.KnownBytes.{Appends};
-ghost use Rattle.script_runs.specs.Written.{WritesPart};
+ghost use Rattle.script_lines.specs.Written.{WritesPart};
 ghost use Rattle.thread_runs.specs.Runs.{Runs};
 
 use crate::fault::ThreadsFault;
 use crate::telling::report;
 use actor_scripts::read_actors;
-use script_lines::LabelHash;
-use script_runs::write_out;
+use script_lines::{LabelHash, write_out};
 use sm_names::{Limits, MAX_PAGES};
 use std::alloc::Global;
 use std::io::{Read, Write};

@@ -14,7 +14,7 @@ use actor_reports::push_report;
 use actor_scripts::Cast;
 use client_actors::{Gate, run_actors};
 use client_parting::{GatherFault, Holding, Report, end_service, gather};
-use record_parts::ClientLine;
+use event_laws::ClientLine;
 use script_lines::Label;
 use service_lock::{Blanks, PARTS, Service, Setup};
 use sm_names::{ClientId, Limits, MAX_PAGES, Reply};

@@ -4,7 +4,7 @@ use Rattle.sm_names.specs.declared.messages.Call.{Call}
 use Rattle.sm_names.specs.declared.messages.Reply.{Reply}
 use Rattle.event_laws.specs.HandleSums.{indices_in}
 use Rattle.client_ends.specs.Clients.{Grip}
-use Rattle.actor_steps.specs.Desks.{FitsCollection}
+use Rattle.actor_scripts.specs.Desks.{FitsCollection}
 use Rattle.client_actors.specs.Asking.{handle_seen}
 use Rattle.client_actors.proofs.AskingLaws.{grips_owned, seen_all}
 use Rattle.client_actors.proofs.asking.on_collection.Goals as goal

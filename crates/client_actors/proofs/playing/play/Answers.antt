@@ -1,8 +1,8 @@
 use Rattle.std.proofs.Common.{◌≡◌, ◌∙◌, ap, subst}
 use Rattle.client_ends.specs.Clients.{Seen}
 use Rattle.client_parting.specs.Partings.{held_in}
-use Rattle.actor_steps.specs.Plays.{Plays}
-use Rattle.actor_steps.specs.Tables.{known}
+use Rattle.actor_scripts.specs.Plays.{Plays}
+use Rattle.actor_scripts.specs.Tables.{known}
 use Rattle.client_actors.specs.Acting.{HasPlayedSome, pairs_of}
 use Rattle.client_actors.specs.Asking.{lies}
 use Rattle.client_actors.proofs.PlayLaws.{broken_id, has_broken, has_played, has_stopped, plays_none}

@@ -1,7 +1,7 @@
 use Rattle.std.proofs.Common.{rules, ◌≡◌}
 use Rattle.client_ends.specs.declared.why.Why.{Why}
 use Rattle.client_ends.specs.Clients.{MadeOr}
-use Rattle.actor_steps.specs.Desks.{spends}
+use Rattle.actor_scripts.specs.Desks.{spends}
 use Rattle.client_actors.proofs.AskingLaws.{kept_back}
 use Rattle.client_actors.proofs.slots.spend_there.Goals as goal
 

@@ -1,5 +1,5 @@
 use Rattle.std.proofs.Common.{ℕ, ◌∙◌, ap, subst, sym}
-use Rattle.record_parts.specs.Parts.{DifferAt, part}
+use Rattle.event_laws.specs.Parts.{DifferAt, part}
 use Rattle.client_parting.specs.Gatherings.{IsFound, own_of}
 use Rattle.client_parting.proofs.GatherLaws.{FoundSoFar, found_first, found_other, found_same}
 use Rattle.client_parting.proofs.gathering.first_mismatch.Goals as goal

@@ -2,7 +2,7 @@ use Rattle.std.proofs.Common.{◌∙◌, subst}
 use Rattle.std.specs.Process.{exit_status}
 use Rattle.sm_names.specs.Bounds.{Bound}
 use Rattle.sm_script.specs.Endings.{Ends}
-use Rattle.script_runs.proofs.Telling.{tells}
+use Rattle.script_lines.proofs.Telling.{tells}
 use Rattle.sm_script.proofs.Ending.{ends_by, ends_well}
 use Rattle.sm_script.proofs.program.run_to_exit.Goals as goal
 

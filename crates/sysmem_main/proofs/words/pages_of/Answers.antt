@@ -2,7 +2,7 @@ use Rattle.std.proofs.Common.{ℕ, List, Option, refl, sym, subst, codes}
 use Rattle.std.specs.Prelude.{option_map}
 use Rattle.std.specs.Str.Parse.{ExplainsUnsignedError, HasUnsignedDigitsIfOk, ParsesUnsigned}
 use Rattle.clap.specs.Words.{found_of, one_text}
-use Rattle.script_runs.specs.declared.pages.Pages.{Pages}
+use Rattle.script_lines.specs.declared.pages.Pages.{Pages}
 use Rattle.sysmem_main.specs.Asked.{AreAsked}
 use Rattle.sysmem_main.proofs.Asking.{its_text, unread, was_read}
 use Rattle.sysmem_main.proofs.words.pages_of.Goals as goal

@@ -1,5 +1,5 @@
 use Rattle.std.proofs.Common.{◌∙◌}
-use Rattle.script_runs.proofs.Telling.{tells}
+use Rattle.script_lines.proofs.Telling.{tells}
 use Rattle.thread_runs.proofs.Ending.{ends_by}
 use Rattle.thread_runs.proofs.program.run_threads_to_exit.Goals as goal
 

@@ -1,5 +1,5 @@
 use Rattle.std.proofs.Common.{◌<◌, true, List, sym, ap, ◌∙◌, subst, Some}
-use Rattle.actor_steps.specs.declared.step.Step.{Step}
+use Rattle.actor_scripts.specs.declared.step.Step.{Step}
 use Rattle.actor_scripts.specs.Casts.{seen}
 use Rattle.actor_scripts.proofs.Playing.{scripts-on, stepped-on}
 use Rattle.actor_scripts.proofs.casting.Casting.play.Goals as goal

@@ -1,0 +1,57 @@
+//! What replies tell.
+ghost use Rattle.std.specs.Prelude.{◌≡◌};
+ghost use Rattle.actor_scripts.specs.Desks.{handle_of as let_go_by, new_place as place_told, new_tracker as tracker_told, spends as is_spending};
+
+use sm_names::{BufferName, Call, CollectionId, NodeKey, Reply, Strength, TrackerId};
+
+/// The node that the reply tells of, and its collection.
+pub(crate) fn new_place(reply: &Reply) -> Option<(NodeKey, CollectionId)>
+    ensures { result ≡ place_told reply.now }
+{
+    match *reply {
+        Reply::Token { key, collection } => Some((key, collection)),
+        Reply::Collected {
+            key,
+            collection,
+            ..
+        } => Some((key, collection)),
+        _ => None,
+    }
+}
+
+/// The tracker that it tells of.
+pub(crate) fn new_tracker(reply: &Reply) -> Option<TrackerId>
+    ensures { result ≡ tracker_told reply.now }
+{
+    match *reply {
+        Reply::Tracker(id) => Some(id),
+        _ => None,
+    }
+}
+
+/// Whether the thing on which the call was made is gone.
+pub(crate) fn spends(call: &Call, reply: &Reply) -> bool
+    ensures { result ≡ is_spending call.now reply.now }
+{
+    match (*call, *reply) {
+        (Call::Bind(_), Reply::Done) => true,
+        (Call::Give(_, _), Reply::Done) => true,
+        (Call::Close(_), Reply::Done) => true,
+        (Call::Release(_), Reply::Done) => true,
+        (Call::Release(_), Reply::PeerClosed { .. }) => true,
+        (Call::DropHandle(_, _), Reply::Done) => true,
+        (Call::GiveHandle(_, _, _), Reply::Done) => true,
+        _ => false,
+    }
+}
+
+/// The handle that the call lets go.
+pub(crate) fn handle_of(call: &Call) -> Option<(BufferName, Strength)>
+    ensures { result ≡ let_go_by call.now }
+{
+    match *call {
+        Call::DropHandle(buffer, strength) => Some((buffer, strength)),
+        Call::GiveHandle(buffer, strength, _) => Some((buffer, strength)),
+        _ => None,
+    }
+}

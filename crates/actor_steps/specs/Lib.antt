@@ -1,3 +1,0 @@
-pub mod Desks
-pub mod Plays
-pub mod Tables

@@ -1,6 +1,0 @@
-use Rattle.std.proofs.Common.{◌∙◌, sym}
-use Rattle.record_parts.proofs.SameLaws.{call_one}
-use Rattle.record_parts.proofs.own.same_call.Goals as goal
-
-pub returns-clause-yes : goal.returns-clause-yes
-returns-clause-yes c = λ so. call_one c.args.a.now c.args.b.now (sym c.eq.ensures ∙ so)

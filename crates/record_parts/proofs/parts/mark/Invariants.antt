@@ -1,9 +1,0 @@
-use Rattle.std.proofs.Common.{length}
-use Rattle.record_parts.proofs.MemberLaws.{IsMarked}
-use Rattle.record_parts.proofs.parts.mark.Given as goal
-
-abbrev pub invariant-loop-id : goal.invariant-loop-id
-invariant-loop-id l = IsMarked l.present l.rest l.ids
-
-abbrev pub decreases-loop-id : goal.decreases-loop-id
-decreases-loop-id l = length l.rest

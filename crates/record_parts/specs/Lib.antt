@@ -1,4 +1,0 @@
-pub mod Lines
-pub mod Links
-pub mod Members
-pub mod Parts

@@ -1,0 +1,79 @@
+//! Own lists that are parts of a record, and lists that are not.
+use event_laws::{Own, Parts};
+use sm_names::{Call, ClientId, Reply};
+use std::process::Abort;
+use std::test::Fail;
+
+// Clients 1 and 3 join; client 1 makes events 2 and 5, client 3 event 4.
+const RECORD: [(ClientId, Call, Reply); 5] = [
+    (0, Call::Join, Reply::Joined(1)),
+    (1, Call::Collect, Reply::Empty),
+    (0, Call::Join, Reply::Joined(3)),
+    (3, Call::Shut, Reply::Shut(0)),
+    (1, Call::Shut, Reply::Shut(0)),
+];
+
+const SECOND: Own = Own {
+    event: 2,
+    call: Call::Collect,
+    reply: Reply::Empty,
+};
+
+const FOURTH: Own = Own {
+    event: 4,
+    call: Call::Shut,
+    reply: Reply::Shut(0),
+};
+
+const FIFTH: Own = Own {
+    event: 5,
+    call: Call::Shut,
+    reply: Reply::Shut(0),
+};
+
+const NINTH: Own = Own {
+    event: 9,
+    call: Call::Collect,
+    reply: Reply::Empty,
+};
+
+// Whether each client's list differs from its part where it should.
+fn differs(parts: &Parts, client: ClientId, own: &[Own], wanted: Option<u64>) -> bool {
+    parts.differ(client, own) == wanted
+}
+
+fn finds(rt: &impl Abort, parts: &Parts) {
+    assert!(rt; differs(parts, 1, &[SECOND, FIFTH], None));
+    assert!(rt; differs(parts, 3, &[FOURTH], None));
+    assert!(rt; differs(parts, 9, &[], None));
+    // The event of the record, where the list has another one or is over.
+    let misheard = Own {
+        reply: Reply::Shut(1),
+        ..FIFTH
+    };
+    assert!(rt; differs(parts, 1, &[SECOND, misheard], Some(5)));
+    let miscalled = Own {
+        call: Call::Collect,
+        ..FIFTH
+    };
+    assert!(rt; differs(parts, 1, &[SECOND, miscalled], Some(5)));
+    assert!(rt; differs(parts, 1, &[FIFTH, SECOND], Some(2)));
+    assert!(rt; differs(parts, 1, &[SECOND, NINTH], Some(5)));
+    assert!(rt; differs(parts, 1, &[SECOND], Some(5)));
+    assert!(rt; differs(parts, 1, &[], Some(2)));
+    assert!(rt; differs(parts, 3, &[FIFTH], Some(4)));
+    // The event of the list, where the record has no more.
+    assert!(rt; differs(parts, 1, &[SECOND, FIFTH, NINTH], Some(9)));
+    assert!(rt; differs(parts, 9, &[NINTH], Some(9)));
+}
+
+#[test]
+fn a_list_that_differs_is_told_by_the_event(rt: HostRuntime) -> Result<(), Fail> {
+    match Parts::new(rt.alloc(), &RECORD) {
+        Ok(parts) => {
+            finds(&rt, &parts);
+            Ok(())
+        }
+        Err(_) => Err(Fail::from("no memory")),
+    }
+}
