@@ -5,6 +5,7 @@ use Rattle.buffer_pool.specs.Holdings.{Holdings}
 use Rattle.alloc_event.specs.Counts.{HaveUnits}
 use Rattle.alloc_event.specs.Forest.{IsPoolOf}
 use Rattle.alloc_event.specs.Outcomes.{IsOutcome, IsOutcomeIn, IsReady, IsUnchanged}
+use Rattle.alloc_event.specs.Stores.{IsOutcomeAt}
 use Rattle.alloc_event.proofs.intervals.Pools.{pool_stays}
 
 -- where nothing changed, the change may still be made
@@ -47,6 +48,12 @@ module _ {t now last : Table Node} {es behind final : List Entry} (same : IsUnch
       IsOutcomeIn made handles between after now last behind final id change →
       IsOutcomeIn made handles pool after t last es final id change
   later_in pool outcome = rw (same.table, same.entries, pool) at outcome
+
+  -- so of the collection at a place
+  pub later_at : {made : Bool} {handles : Handles} {pool between after : Holdings} {us : List Unit} {at : ℕ} {change : Change} →
+      between ≡ pool → IsOutcomeAt made handles between after now last behind final us at change →
+      IsOutcomeAt made handles pool after t last es final us at change
+  later_at pool outcome = rw (same.table, same.entries, pool) at outcome
 
 -- what an answer tells where it was made
 pub on_ok : {T E : Type 0} {P : Type 0} (r : Result T E) → (is_ok r ≡ true → P) → OnOk r P

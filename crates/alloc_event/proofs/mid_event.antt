@@ -21,6 +21,7 @@ pub mod Listed
 pub mod Listing
 pub mod NextThere
 pub mod Owned
+pub mod Places
 pub mod Playing
 pub mod Premises
 pub mod Ready

@@ -13,6 +13,7 @@ pub mod Garbage
 pub mod Given
 pub mod InTurn
 pub mod InitialAllocation
+pub mod Insertion
 pub mod Keys
 pub mod LogicalAllocation
 pub mod LossMarks
@@ -31,6 +32,7 @@ pub mod Shelves
 pub mod Snapshots
 pub mod Starts
 pub mod Still
+pub mod Stores
 pub mod Ties
 pub mod Unforced
 pub mod UnitAllocation

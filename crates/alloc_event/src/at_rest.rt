@@ -18,7 +18,8 @@ use sm_names::{BufferName, Strength};
 /// are not abandoned.
 fn is_given_open(entry: &Entry, buffer: BufferName, holds: &Holds) -> bool
     ensures open { result ≡ true → nat_lt 0 (total holds.now buffer Grade.Strong) ≡ true }
-    ensures held { result ≡ true → is_held_strongly (total holds.now) entry.now.id entry.now.buffers ≡ true }
+    ensures held { result ≡ true →
+        is_held_strongly (total holds.now) entry.now.id entry.now.buffers ≡ true }
 {
     let Some(given) = entry.buffers else {
         return false;

@@ -9,14 +9,14 @@ ghost use Rattle.sm_names.specs.Handles.{is_home, names};
 ghost use Rattle.buffer_holds.specs.Counts.{total};
 ghost use Rattle.alloc_event.specs.declared.change.Change.{Change as Changed};
 ghost use Rattle.alloc_event.specs.declared.unit_counts.Unit.{Unit as Counts};
-ghost use Rattle.alloc_event.specs.Calm.{AreCounted, IsForest};
+ghost use Rattle.alloc_event.specs.Calm.{AreCounted};
 ghost use Rattle.alloc_event.specs.Counts.{HaveUnits};
 ghost use Rattle.alloc_event.specs.Dropped.{are_others_out, are_rest_out, has_given_root, is_given_root};
 ghost use Rattle.alloc_event.specs.Forest.{IsPoolOf, collection_at};
-ghost use Rattle.alloc_event.specs.Shelves.{Finishes, IsStored, forest_of, shelves_of};
+ghost use Rattle.alloc_event.specs.Shelves.{IsStored, forest_of, shelves_of};
 ghost use Rattle.alloc_event.specs.Outcomes.{IsOutcomeIn};
 ghost use Rattle.alloc_event.specs.Scenes.{by_page, given_few, is_held_strongly, is_out, name_of, pages_held};
-ghost use Rattle.alloc_event.specs.Settling.{collection_or_new};
+ghost use Rattle.alloc_event.specs.Stores.{IsResting, OutcomeOf, forest_in};
 
 use crate::change::Change;
 use crate::entry::{Entry, place_of};
@@ -25,7 +25,7 @@ use crate::placement::assert_disjoint;
 use crate::returns::look_at;
 use crate::scratch::Scratch;
 use crate::settle::settle_change;
-use crate::unit_counts::Unit;
+use crate::store::Store;
 use buffer_holds::Holds;
 use buffer_pool::Pool;
 use node_table::NodeTable;
@@ -64,11 +64,14 @@ pub(crate) fn is_abandoned(table: &NodeTable<Node>, entry: &Entry, holds: &Holds
 /// The buffer with this name is not held any longer, and gives its pages back. It costs a pass over
 /// the names.
 fn free_buffer(held: &mut Vec<HeldBuffer>, pool: &mut Pool, holds: &Holds, buffer: BufferName)
-    requires home { is_home (total holds.now buffer Grade.Strong) (total holds.now buffer Grade.Weak) false ≡ true }
-    requires pool { (others : List Interval) × (pool.old.held ≡ by_page (pages_held held.old.items ++ others)) }
+    requires home { is_home (total holds.now buffer Grade.Strong)
+        (total holds.now buffer Grade.Weak) false ≡ true }
+    requires pool { (others : List Interval)
+        × (pool.old.held ≡ by_page (pages_held held.old.items ++ others)) }
     requires others { are_rest_out (total holds.now) buffer false held.old.items ≡ true }
     ensures held { held.new.items ≡ filter (is_out (total holds.now) false) held.old.items }
-    ensures pool { (others : List Interval) → pool.old.held ≡ by_page (pages_held held.old.items ++ others) →
+    ensures pool { (others : List Interval) →
+        pool.old.held ≡ by_page (pages_held held.old.items ++ others) →
         pool.new.held ≡ by_page (pages_held held.new.items ++ others) }
     ensures size { pool.new.size ≡ pool.old.size }
 {
@@ -93,10 +96,12 @@ fn free_if_home(
     buffer: BufferName,
     strong_live: bool,
 )
-    requires pool { (others : List Interval) × (pool.old.held ≡ by_page (pages_held held.old.items ++ others)) }
+    requires pool { (others : List Interval)
+        × (pool.old.held ≡ by_page (pages_held held.old.items ++ others)) }
     requires others { are_rest_out (total holds.now) buffer strong_live held.old.items ≡ true }
     ensures held { held.new.items ≡ filter (is_out (total holds.now) strong_live) held.old.items }
-    ensures pool { (others : List Interval) → pool.old.held ≡ by_page (pages_held held.old.items ++ others) →
+    ensures pool { (others : List Interval) →
+        pool.old.held ≡ by_page (pages_held held.old.items ++ others) →
         pool.new.held ≡ by_page (pages_held held.new.items ++ others) }
     ensures size { pool.new.size ≡ pool.old.size }
 {
@@ -118,18 +123,13 @@ fn drop_in_place(
     requires kept { IsStored table.now (shelves_of entries.old.items) }
     requires counted { AreCounted table.now entries.old.items }
     requires others { option_map_or (are_others_out (total holds.now) buffer)
-        (collection_at (forest_of table.now (shelves_of entries.old.items)) buffer.collection) false ≡ true }
+        (collection_at (forest_of table.now (shelves_of entries.old.items)) buffer.collection)
+        false ≡ true }
     requires pool { IsPoolOf pool.old (forest_of table.now (shelves_of entries.old.items)) }
-    ensures no_entries { result ≡ false → entries.new.items ≡ entries.old.items }
-    ensures no_pool { result ≡ false → pool.new ≡ pool.old }
-    ensures ok { result ≡ true → Finishes pool.old.size (total holds.now) table.now (shelves_of entries.old.items)
-        table.now (shelves_of entries.new.items)
-        (collection_or_new (forest_of table.now (shelves_of entries.old.items)) buffer.collection) }
-    ensures kept { IsStored table.now (shelves_of entries.new.items) }
-    ensures counted { AreCounted table.now entries.new.items }
-    ensures units { (us : List Counts) → HaveUnits us table.now entries.old.items → HaveUnits us table.now entries.new.items }
-    ensures pool { IsPoolOf pool.new (forest_of table.now (shelves_of entries.new.items)) }
-    ensures size { pool.new.size ≡ pool.old.size }
+    ensures outcome { IsOutcomeIn result (total holds.now) pool.old pool.new table.now table.now
+        entries.old.items entries.new.items buffer.collection Changed.Nothing }
+    ensures units { (us : List Counts) → HaveUnits us table.now entries.old.items →
+        HaveUnits us table.now entries.new.items }
 {
     let Some(at) = place_of(entries, buffer.collection) else {
         return false;
@@ -147,29 +147,24 @@ fn drop_in_place(
 /// What comes of a handle of the buffer that was dropped. `NoMemory` leaves the table, the entries
 /// and the pool as they were.
 pub(crate) fn settle_dropped(
-    table: &mut NodeTable<Node>,
-    entries: &mut Vec<Entry>,
-    units: &mut Vec<Unit>,
+    store: &mut Store,
     pool: &mut Pool,
     holds: &Holds,
     buffer: BufferName,
     room: &mut Scratch,
 ) -> Result<(), NoMemory>
-    requires forest { IsForest table.old entries.old.items units.old.items }
+    requires forest { IsResting store.old }
     requires others { option_map_or (are_others_out (total holds.now) buffer)
-        (collection_at (forest_of table.old (shelves_of entries.old.items)) buffer.collection) false ≡ true }
-    requires pool { IsPoolOf pool.old (forest_of table.old (shelves_of entries.old.items)) }
-    ensures outcome { IsOutcomeIn (is_ok result) (total holds.now) pool.old pool.new table.old table.new
-        entries.old.items entries.new.items buffer.collection Changed.Nothing }
-    ensures units { HaveUnits units.new.items table.new entries.new.items }
+        (collection_at (forest_in store.old) buffer.collection) false ≡ true }
+    requires pool { IsPoolOf pool.old (forest_in store.old) }
+    ensures { OutcomeOf (is_ok result) (total holds.now) pool.old pool.new store.old store.new
+        buffer.collection Changed.Nothing }
 {
-    if drop_in_place(table, entries, pool, holds, buffer) {
+    if drop_in_place(&store.nodes.table, &mut store.entries, pool, holds, buffer) {
         return Ok(());
     }
     settle_change(
-        table,
-        entries,
-        units,
+        store,
         pool,
         holds,
         buffer.collection,

@@ -14,16 +14,16 @@ ghost use Rattle.alloc_event.specs.Snapshots.{collection_of};
 
 use crate::change::Change;
 use crate::dropped::settle_dropped;
-use crate::entry::{Entry, entry_of, place_of};
+use crate::entry::{entry_of, place_of};
 use crate::garbage::{forget_over, list_garbage, take_out};
+use crate::insertion::Birth;
 use crate::lookup::{copy_out, held_by_page, ids_of, kept_nodes, live_by_birth, pages_beside};
 use crate::node::{End, Node};
 use crate::scratch::Scratch;
 use crate::settle::{settle_birth, settle_change};
 use crate::snapshot::Snapshot;
-use crate::store::put_end;
+use crate::store::{NodeStore, Store, put_end};
 use crate::summary::Summary;
-use crate::unit_counts::Unit;
 use buffer_holds::Holds;
 use buffer_pool::Pool;
 use node_table::NodeTable;
@@ -34,11 +34,7 @@ use std::marker::Model;
 /// The collections with their nodes and buffers, and the keys that were given to nodes so far.
 #[derive(Drop)]
 pub struct Forest {
-    table: NodeTable<Node>,
-    // The collections, by rising id.
-    entries: Vec<Entry>,
-    // What is counted of the unit whose head has the slot.
-    units: Vec<Unit>,
+    store: Store,
     // For what falls.
     room: Scratch,
 }
@@ -51,9 +47,9 @@ impl Model for Forest {
     ghost use Rattle.alloc_event.specs.Shelves.{forest_of, shelves_of};
     ghost use Rattle.alloc_event.specs.Calm.{IsForest};
 
-    ghost view = { λ f. forest_of f.table (shelves_of f.entries.items) };
+    ghost view = { λ f. forest_of f.store.nodes.table (shelves_of f.store.entries.items) };
 
-    ghost invariant = { λ f. IsForest f.table f.entries.items f.units.items };
+    ghost invariant = { λ f. IsForest f.store.nodes.table f.store.entries.items f.store.nodes.units.items };
 }
 
 impl Forest {
@@ -62,9 +58,13 @@ impl Forest {
         ensures { result ≡ empty_forest limit }
     {
         Forest {
-            table: NodeTable::new(alloc, limit),
-            entries: Vec::new(alloc),
-            units: Vec::new(alloc),
+            store: Store {
+                nodes: NodeStore {
+                    table: NodeTable::new(alloc, limit),
+                    units: Vec::new(alloc),
+                },
+                entries: Vec::new(alloc),
+            },
             room: Scratch::new(alloc),
         }
     }
@@ -103,8 +103,8 @@ impl Forest {
     /// cost, and the turns of the attached units that are ready below it, as above. Where it fails,
     /// all of the collection goes.
     ///
-    /// Where no strong node of the collection is live before a birth, or after another change, it
-    /// costs some looks at the handles of each buffer besides, of which there are at most 64, and
+    /// Where no strong node of the collection is live after the change, it costs some looks at the
+    /// handles of each buffer besides, of which there are at most 64, and
     /// one for each turn, what goes where the buffers are abandoned, and the return of the buffers
     /// that are home: for each a shift of those behind it where some stay held, and what the pool
     /// takes.
@@ -122,12 +122,13 @@ impl Forest {
     ) -> Result<Option<NodeKey>, NoMemory>
         requires change { MayChange self.old collection change }
         requires pool { IsPoolOf pool.old self.old }
-        ensures ok { IfOk result (λ key. Settled pool.old.size (total holds.now) self.old self.new collection change key) }
+        ensures ok { IfOk result (λ key.
+            Settled pool.old.size (total holds.now) self.old self.new collection change key) }
         ensures pool { IsPoolOf pool.new self.new }
         ensures size { pool.new.size ≡ pool.old.size }
         ensures kept { OnErr result ((self.new ≡ self.old) × (pool.new ≡ pool.old)) }
     {
-        let (table, entries, units) = (&mut self.table, &mut self.entries, &mut self.units);
+        let store = &mut self.store;
         if let Change::Birth {
             parent,
             attached,
@@ -135,18 +136,20 @@ impl Forest {
             event,
         } = change
         {
-            self.room.reserve(table.len().saturating_add(1))?;
+            self.room
+                .reserve(store.nodes.table.len().saturating_add(1))?;
             let keys = &mut self.room.removed;
-            let key = settle_birth(
-                table, entries, units, pool, holds, collection, parent, attached, client, event,
-                keys,
-            )?;
+            let birth = Birth {
+                parent,
+                attached,
+                client,
+                event,
+            };
+            let key = settle_birth(store, pool, holds, collection, birth, keys)?;
             return Ok(Some(key));
         }
         let room = &mut self.room;
-        settle_change(
-            table, entries, units, pool, holds, collection, &change, room,
-        )?;
+        settle_change(store, pool, holds, collection, &change, room)?;
         Ok(None)
     }
 
@@ -170,22 +173,23 @@ impl Forest {
         holds: &Holds,
         buffer: BufferName,
     ) -> Result<(), NoMemory>
-        requires others { option_map_or (are_others_out (total holds.now) buffer) (collection_at self.old buffer.collection) false ≡ true }
+        requires others { option_map_or (are_others_out (total holds.now) buffer)
+            (collection_at self.old buffer.collection) false ≡ true }
         requires pool { IsPoolOf pool.old self.old }
-        ensures ok { OnOk result (Settled pool.old.size (total holds.now) self.old self.new buffer.collection Changed.Nothing None) }
+        ensures ok { OnOk result (Settled pool.old.size (total holds.now) self.old self.new
+            buffer.collection Changed.Nothing None) }
         ensures pool { IsPoolOf pool.new self.new }
         ensures size { pool.new.size ≡ pool.old.size }
         ensures kept { OnErr result ((self.new ≡ self.old) × (pool.new ≡ pool.old)) }
     {
-        let (table, entries, units) = (&mut self.table, &mut self.entries, &mut self.units);
-        settle_dropped(table, entries, units, pool, holds, buffer, &mut self.room)
+        settle_dropped(&mut self.store, pool, holds, buffer, &mut self.room)
     }
 
     /// The node with this key, unless it was never born or was forgotten. It costs a constant.
     pub fn node(&self, key: NodeKey) -> Option<&Node>
         ensures { option_copied result ≡ node_at self.now key }
     {
-        self.table.get(key)
+        self.store.nodes.table.get(key)
     }
 
     /// The collection with this id at a glance, if it is there. A binary search.
@@ -193,7 +197,7 @@ impl Forest {
         ensures value { result ≡ option_map summary_of (collection_at self.now id) }
         ensures few { IfSome result (λ s. IfSome s.buffers (λ b. b.count ≤ 64)) }
     {
-        match entry_of(&self.entries, id) {
+        match entry_of(&self.store.entries, id) {
             Some(entry) => Some(Summary {
                 nodes: entry.keys.len(),
                 buffers: entry.buffers,
@@ -207,22 +211,23 @@ impl Forest {
     pub fn len(&self) -> usize
         ensures { result ≡ node_count self.now }
     {
-        self.table.len()
+        self.store.nodes.table.len()
     }
 
     /// How many collections there are. It costs a constant.
     pub fn collections(&self) -> usize
         ensures { result ≡ length self.now.collections }
     {
-        self.entries.len()
+        self.store.entries.len()
     }
 
     /// Whether a strong node of the collection is live; no, if there is no such collection. A
     /// binary search.
     pub fn strong_live(&self, id: CollectionId) -> bool
-        ensures { result ≡ option_map_or (λ (c : Collection). some_strong_live (members_of c.nodes)) (collection_at self.now id) false }
+        ensures { result ≡ option_map_or (λ (c : Collection).
+            some_strong_live (members_of c.nodes)) (collection_at self.now id) false }
     {
-        match entry_of(&self.entries, id) {
+        match entry_of(&self.store.entries, id) {
             Some(entry) => entry.strong > 0,
             None => false,
         }
@@ -233,7 +238,11 @@ impl Forest {
     pub fn live(&self) -> Result<Vec<NodeKey>, NoMemory>
         ensures { IfOk result (λ keys. keys.items ≡ live_keys self.now) }
     {
-        match live_by_birth(*self.entries.allocator(), &self.table, &self.entries) {
+        match live_by_birth(
+            *self.store.entries.allocator(),
+            &self.store.nodes.table,
+            &self.store.entries,
+        ) {
             Ok(keys) => Ok(keys),
             Err(_) => Err(NoMemory),
         }
@@ -244,7 +253,11 @@ impl Forest {
     pub fn nodes(&self) -> Result<Vec<Node>, NoMemory>
         ensures { IfOk result (λ nodes. nodes.items ≡ all_nodes self.now) }
     {
-        match kept_nodes(*self.entries.allocator(), &self.table, &self.entries) {
+        match kept_nodes(
+            *self.store.entries.allocator(),
+            &self.store.nodes.table,
+            &self.store.entries,
+        ) {
             Ok(nodes) => Ok(nodes),
             Err(_) => Err(NoMemory),
         }
@@ -253,13 +266,18 @@ impl Forest {
     /// The collection with this id, with its kept nodes and its buffers; `None` if it is not there.
     /// `NoMemory` where the lists are refused room. It costs a binary search, and a copy.
     pub fn snapshot(&self, id: CollectionId) -> Result<Option<Snapshot>, NoMemory>
-        ensures value { IfOk result (λ copied. option_map collection_of copied ≡ collection_at self.now id) }
+        ensures value { IfOk result (λ copied. option_map collection_of copied
+            ≡ collection_at self.now id) }
         ensures sound { IfOk result (λ copied. IfSome copied (λ s. IsSound (collection_of s))) }
     {
-        let Some(entry) = entry_of(&self.entries, id) else {
+        let Some(entry) = entry_of(&self.store.entries, id) else {
             return Ok(None);
         };
-        match copy_out(*self.entries.allocator(), &self.table, entry) {
+        match copy_out(
+            *self.store.entries.allocator(),
+            &self.store.nodes.table,
+            entry,
+        ) {
             Ok(copied) => Ok(Some(copied)),
             Err(_) => Err(NoMemory),
         }
@@ -268,9 +286,10 @@ impl Forest {
     /// The ids of the collections, rising. `NoMemory` where the list is refused room. It costs
     /// their number.
     pub fn ids(&self) -> Result<Vec<CollectionId>, NoMemory>
-        ensures { IfOk result (λ ids. ids.items ≡ map (λ (c : Collection). c.id) self.now.collections) }
+        ensures { IfOk result (λ ids. ids.items
+            ≡ map (λ (c : Collection). c.id) self.now.collections) }
     {
-        match ids_of(*self.entries.allocator(), &self.entries) {
+        match ids_of(*self.store.entries.allocator(), &self.store.entries) {
             Ok(ids) => Ok(ids),
             Err(_) => Err(NoMemory),
         }
@@ -282,7 +301,7 @@ impl Forest {
     pub fn pages_beside(&self, id: CollectionId) -> Result<Vec<Interval>, NoMemory>
         ensures { IfOk result (λ pages. pages.items ≡ beside self.now id) }
     {
-        match pages_beside(*self.entries.allocator(), &self.entries, id) {
+        match pages_beside(*self.store.entries.allocator(), &self.store.entries, id) {
             Ok(pages) => Ok(pages),
             Err(_) => Err(NoMemory),
         }
@@ -293,7 +312,7 @@ impl Forest {
     pub fn held(&self) -> Result<Vec<HeldBuffer>, NoMemory>
         ensures { IfOk result (λ held. held.items ≡ held_by_page self.now) }
     {
-        match held_by_page(*self.entries.allocator(), &self.entries) {
+        match held_by_page(*self.store.entries.allocator(), &self.store.entries) {
             Ok(held) => Ok(held),
             Err(_) => Err(NoMemory),
         }
@@ -305,8 +324,8 @@ impl Forest {
         requires { is_some (node_at self.old key) ≡ true }
         ensures { self.new ≡ on_collections (with_nodes (map (with_end key end))) self.old }
     {
-        if let Some((id, over)) = put_end(&mut self.table, key, end) {
-            list_garbage(&mut self.entries, id, key, over);
+        if let Some((id, over)) = put_end(&mut self.store.nodes.table, key, end) {
+            list_garbage(&mut self.store.entries, id, key, over);
         }
     }
 
@@ -319,9 +338,9 @@ impl Forest {
             ≡ map (with_nodes (filter (λ n. not (is_of key n)))) self.old.collections }
         ensures keys { SameKeys self.old self.new }
     {
-        let node = take_out(&mut self.table, key);
-        if let Some(at) = place_of(&self.entries, node.collection) {
-            self.entries[at].keys.forget(key);
+        let node = take_out(&mut self.store.nodes.table, key);
+        if let Some(at) = place_of(&self.store.entries, node.collection) {
+            self.store.entries[at].keys.forget(key);
         }
     }
 
@@ -329,11 +348,12 @@ impl Forest {
     /// binary search and a shift.
     pub fn forget_collection(&mut self, id: CollectionId)
         requires { option_map_or is_left (collection_at self.old id) false ≡ true }
-        ensures collections { self.new.collections ≡ filter (λ (c : Collection). not (c.id == id)) self.old.collections }
+        ensures collections { self.new.collections
+            ≡ filter (λ (c : Collection). not (c.id == id)) self.old.collections }
         ensures keys { SameKeys self.old self.new }
     {
-        if let Some(at) = place_of(&self.entries, id) {
-            self.entries.remove(at);
+        if let Some(at) = place_of(&self.store.entries, id) {
+            self.store.entries.remove(at);
         }
     }
 
@@ -346,6 +366,6 @@ impl Forest {
         ensures collections { self.new.collections ≡ without_over_in id self.old.collections }
         ensures keys { SameKeys self.old self.new }
     {
-        forget_over(&mut self.table, &mut self.entries, id);
+        forget_over(&mut self.store.nodes.table, &mut self.store.entries, id);
     }
 }

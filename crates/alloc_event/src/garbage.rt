@@ -14,6 +14,7 @@ ghost use Rattle.alloc_event.specs.Forest.{without_over_in};
 ghost use Rattle.alloc_event.specs.Garbage.{AreAllOver, IsChild, IsForgettable, IsNotedIn, IsNoting, IsPlace, IsThinned, Unlinks, TakesOut, is_bare, is_found, is_left_by, is_own_if_over, left_at, thinned, thin_in, without_bare};
 ghost use Rattle.alloc_event.specs.Shelves.{AreRising, IsStored, Shelf, are_apart, collection_in, nodes_with, shelf_of, shelves_of};
 ghost use Rattle.alloc_event.specs.Nodes.{is_over};
+ghost use Rattle.alloc_event.specs.Stores.{AreNamed};
 
 use crate::entry::{Entry, place_of};
 use crate::key_list::KeyList;
@@ -21,7 +22,7 @@ use crate::lookup::is_over;
 use crate::node::Node;
 use node_table::NodeTable;
 use sm_names::{CollectionId, NodeKey};
-use std::alloc::{AllocError, Global};
+use std::alloc::AllocError;
 
 /// A pass over so many nodes costs no more than to note which of them are over.
 const FEW: usize = 4;
@@ -69,7 +70,8 @@ fn is_over_at(table: &NodeTable<Node>, key: NodeKey) -> bool
 /// first. It takes no memory.
 fn collect_garbage(table: &mut NodeTable<Node>, keys: &[NodeKey])
     ensures look { (k : Key) → node_at table.new k ≡ left_at table.old keys.now k }
-    ensures kept { (ss : List Shelf) → IsStored table.old ss → IsStored table.new (map (thinned table.new) ss) }
+    ensures kept { (ss : List Shelf) → IsStored table.old ss →
+        IsStored table.new (map (thinned table.new) ss) }
     ensures keys { SameKeys table.old table.new }
 {
     let mut rest = keys;
@@ -97,7 +99,8 @@ fn is_garbage_known(entry: &Entry) -> bool
 
 /// Whether the table has a node of the key that was born before this event.
 fn is_born_before(table: &NodeTable<Node>, key: NodeKey, event: u64) -> bool
-    ensures { result ≡ option_map_or (λ (n : NodeValue). nat_lt n.event event) (node_at table.now key) false }
+    ensures { result ≡ option_map_or (λ (n : NodeValue).
+        nat_lt n.event event) (node_at table.now key) false }
 {
     match table.get(key) {
         Some(node) => node.event < event,
@@ -213,7 +216,8 @@ fn take_all_over(table: &mut NodeTable<Node>, keys: &mut KeyList, garbage: &[Nod
     requires apart { are_apart keys.old.items ≡ true }
     requires known { known ≡ true → AreAllOver table.old garbage.now keys.old.items }
     ensures look { (k : Key) → node_at table.new k ≡ left_at table.old keys.old.items k }
-    ensures kept { (ss : List Shelf) → IsStored table.old ss → IsStored table.new (map (thinned table.new) ss) }
+    ensures kept { (ss : List Shelf) → IsStored table.old ss →
+        IsStored table.new (map (thinned table.new) ss) }
     ensures same { SameKeys table.old table.new }
     ensures keys { keys.new.items ≡ filter (is_found table.new) keys.old.items }
 {
@@ -230,7 +234,8 @@ fn take_all_over(table: &mut NodeTable<Node>, keys: &mut KeyList, garbage: &[Nod
 fn forget_of(table: &mut NodeTable<Node>, entry: &mut Entry)
     requires { IsForgettable table.old entry.old }
     ensures look { (k : Key) → node_at table.new k ≡ left_at table.old entry.old.keys.items k }
-    ensures kept { (ss : List Shelf) → IsStored table.old ss → IsStored table.new (map (thinned table.new) ss) }
+    ensures kept { (ss : List Shelf) → IsStored table.old ss →
+        IsStored table.new (map (thinned table.new) ss) }
     ensures keys { SameKeys table.old table.new }
     ensures entry { IsThinned table.new entry.old entry.new }
 {
@@ -250,8 +255,10 @@ fn is_bare(entry: &Entry) -> bool
 /// Takes the collection away, if it has no node and no page. It takes no memory.
 pub(crate) fn drop_bare(entries: &mut Vec<Entry>, id: CollectionId)
     requires { AreRising (shelves_of entries.old.items) }
-    ensures shelves { shelves_of entries.new.items ≡ without_bare id (shelves_of entries.old.items) }
-    ensures counted { (t : Table NodeValue) → AreCounted t entries.old.items → AreCounted t entries.new.items }
+    ensures shelves { shelves_of entries.new.items
+        ≡ without_bare id (shelves_of entries.old.items) }
+    ensures counted { (t : Table NodeValue) → AreCounted t entries.old.items →
+        AreCounted t entries.new.items }
 {
     if let Some(at) = place_of(entries, id) {
         if is_bare(&entries[at]) {
@@ -267,14 +274,18 @@ pub(crate) fn drop_bare(entries: &mut Vec<Entry>, id: CollectionId)
 fn forget_nodes(table: &mut NodeTable<Node>, entries: &mut Vec<Entry>, id: CollectionId) -> bool
     requires kept { IsStored table.old (shelves_of entries.old.items) }
     requires counted { AreCounted table.old entries.old.items }
-    ensures shelves { shelves_of entries.new.items ≡ thin_in table.new id (shelves_of entries.old.items) }
-    ensures look { (s : Shelf) → find (λ (x : Shelf). x.id == id) (shelves_of entries.old.items) ≡ Some s →
+    ensures shelves { shelves_of entries.new.items
+        ≡ thin_in table.new id (shelves_of entries.old.items) }
+    ensures look { (s : Shelf) →
+        find (λ (x : Shelf). x.id == id) (shelves_of entries.old.items) ≡ Some s →
         (k : Key) → node_at table.new k ≡ left_at table.old s.keys k }
-    ensures none { find (λ (x : Shelf). x.id == id) (shelves_of entries.old.items) ≡ None → table.new ≡ table.old }
+    ensures none { find (λ (x : Shelf). x.id == id) (shelves_of entries.old.items) ≡ None →
+        table.new ≡ table.old }
     ensures kept { IsStored table.new (map (thinned table.new) (shelves_of entries.old.items)) }
     ensures counted { AreCounted table.new entries.new.items }
     ensures keys { SameKeys table.old table.new }
-    ensures full { result ≡ false → without_bare id (shelves_of entries.new.items) ≡ shelves_of entries.new.items }
+    ensures full { result ≡ false →
+        without_bare id (shelves_of entries.new.items) ≡ shelves_of entries.new.items }
 {
     let Some(at) = place_of(entries, id) else {
         return false;
@@ -319,8 +330,10 @@ fn note_key(entry: &mut Entry, key: NodeKey)
 pub(crate) fn list_garbage(entries: &mut Vec<Entry>, id: CollectionId, key: NodeKey, over: bool)
     requires { AreRising (shelves_of entries.old.items) }
     ensures shelves { shelves_of entries.new.items ≡ shelves_of entries.old.items }
-    ensures counted { (t : Table NodeValue) → AreCounted t entries.old.items → AreCounted t entries.new.items }
-    ensures garbage { over ≡ true → AllByRecursion (λ (e : KeptEntry). e.id ≡ id → IsNotedIn e key) entries.new.items }
+    ensures counted { (t : Table NodeValue) → AreCounted t entries.old.items →
+        AreCounted t entries.new.items }
+    ensures garbage { over ≡ true →
+        AllByRecursion (λ (e : KeptEntry). e.id ≡ id → IsNotedIn e key) entries.new.items }
 {
     if !over {
         return;
@@ -332,9 +345,10 @@ pub(crate) fn list_garbage(entries: &mut Vec<Entry>, id: CollectionId, key: Node
 
 /// Notes those of the collection's nodes with these keys that are over. It takes no memory.
 fn note_all(table: &NodeTable<Node>, entry: &mut Entry, keys: &[NodeKey])
-    requires named { (key : Key) (n : NodeValue) → node_at table.now key ≡ Some n → n.key ≡ key }
+    requires named { AreNamed table.now }
     ensures entry { IsNoting entry.old entry.new }
-    ensures over { entry.new.garbage_known ≡ true → list_any (over_except entry.new.garbage.items) (nodes_with table.now keys.now) ≡ false }
+    ensures over { entry.new.garbage_known ≡ true →
+        list_any (over_except entry.new.garbage.items) (nodes_with table.now keys.now) ≡ false }
 {
     let mut rest = keys;
     'noting: while let Some((key, later)) = rest.split_first() {
@@ -348,10 +362,11 @@ fn note_all(table: &NodeTable<Node>, entry: &mut Entry, keys: &[NodeKey])
 /// Notes which nodes of the collection are over once those with these keys went, of which one is or
 /// none. It takes no memory.
 pub(crate) fn note_gone(table: &NodeTable<Node>, entry: &mut Entry, keys: &[NodeKey], over: bool)
-    requires named { (key : Key) (n : NodeValue) → node_at table.now key ≡ Some n → n.key ≡ key }
+    requires named { AreNamed table.now }
     requires over { over ≡ list_any is_over (nodes_with table.now keys.now) }
     ensures entry { IsNoting entry.old entry.new }
-    ensures over { entry.new.garbage_known ≡ true → list_any (over_except entry.new.garbage.items) (nodes_with table.now keys.now) ≡ false }
+    ensures over { entry.new.garbage_known ≡ true →
+        list_any (over_except entry.new.garbage.items) (nodes_with table.now keys.now) ≡ false }
 {
     if over {
         note_all(table, entry, keys);

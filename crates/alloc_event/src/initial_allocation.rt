@@ -1,5 +1,5 @@
 //! The first allocation of a collection, whatever it comes to, made in its place.
-ghost use Rattle.std.specs.List.{find, sum_by};
+ghost use Rattle.std.specs.List.{sum_by};
 ghost use Rattle.std.specs.Prelude.{◌≡◌, ◌≤◌, ◌^◌, ◌+◌, ◌==◌, nat_lt, List, [], ◌∷◌, Ok, None, Some, true, false, IfOk, IfSome, IsSome, OnErr, if◌then◌else◌, vec_capacity};
 ghost use Rattle.sm_names.specs.Demands.{Demand};
 ghost use Rattle.sm_names.specs.Members.{greatest};
@@ -7,26 +7,23 @@ ghost use Rattle.sm_names.specs.declared.keys.NodeKey.{NodeKey as Key};
 ghost use Rattle.buffer_holds.specs.Counts.{total};
 ghost use Rattle.node_table.specs.Table.{node_at, row_at, table_len};
 ghost use Rattle.alloc_event.specs.declared.change.Change.{Change as Changed};
-ghost use Rattle.alloc_event.specs.declared.entry.Entry.{Entry as EntryValue};
 ghost use Rattle.alloc_event.specs.declared.node.Node.{Node as NodeValue};
 ghost use Rattle.alloc_event.specs.declared.initial_allocation.AllocationOutcome.{AllocationOutcome as Outcome};
-ghost use Rattle.alloc_event.specs.Counts.{HaveUnits};
-ghost use Rattle.alloc_event.specs.Decisions.{waiting};
 ghost use Rattle.alloc_event.specs.First.{wanted_of};
 ghost use Rattle.alloc_event.specs.Forest.{IsPoolOf};
-ghost use Rattle.alloc_event.specs.Shelves.{Shelf, forest_of, nodes_with, shelves_of};
-ghost use Rattle.alloc_event.specs.Nodes.{after_effect, after_allocation};
-ghost use Rattle.alloc_event.specs.Outcomes.{IsOutcomeIn, IsReady, was_made};
+ghost use Rattle.alloc_event.specs.Shelves.{Shelf};
+ghost use Rattle.alloc_event.specs.Nodes.{after_allocation};
+ghost use Rattle.alloc_event.specs.Outcomes.{was_made};
 ghost use Rattle.alloc_event.specs.Reserved.{reserved_count};
-ghost use Rattle.alloc_event.specs.InitialAllocation.{AreSome, IsComing, IsPlanned, IsReservedThen, IsRooted, IsAllocationOutcome, comes_first, gives_few, is_bare_root, is_held_ready, has_buffers_then, allocated_at, allocated_with, wants_of};
+ghost use Rattle.alloc_event.specs.InitialAllocation.{AreSome, IsComing, IsPlanned, IsReservedThen, IsAllocationOutcome, comes_first, gives_few, is_bare_root, is_held_ready, has_buffers_then, allocated_at, allocated_with, wants_of};
 ghost use Rattle.alloc_event.specs.Scenes.{given_few, has_tracker_room};
 ghost use Rattle.alloc_event.specs.UnitAllocation.{asked_with};
 ghost use Rattle.alloc_event.specs.Settling.{Handles};
-ghost use Rattle.alloc_event.specs.MidEvent.{MidEvent, are_held_except};
+ghost use Rattle.alloc_event.specs.Stores.{AreNamed, IsRootedIn, MidEventIn, OutcomeAt, ReadyAt, WaitsNot, forest_in, nodes_in};
 
 use crate::change::Effect;
 use crate::demand::TotalDemand;
-use crate::entry::{Entry, place_of};
+use crate::entry::Entry;
 use crate::event_end::finish_event;
 use crate::logical_allocation::list_unit;
 use crate::lookup::is_strong;
@@ -36,6 +33,7 @@ use crate::pending_units::{allocate_all_pending, list_pending};
 use crate::placement::{assert_disjoint, place_buffers};
 use crate::removal::remove_subtree;
 use crate::scratch::Scratch;
+use crate::store::{NodeStore, Store};
 use crate::unforced::affected_by;
 use crate::unit_allocation::{asked_at, mark_allocated};
 use crate::unit_counts::{Unit, decrement_if, is_held_by, unit_then};
@@ -47,6 +45,7 @@ use sm_names::{
 };
 
 /// The root's unit that comes to its allocation by an effect.
+#[derive(Drop)]
 struct Plan {
     /// Its head.
     head: NodeKey,
@@ -85,9 +84,12 @@ fn is_bare_root(table: &NodeTable<Node>, key: NodeKey) -> bool
 /// What the nodes with these keys ask for that are of the unit with this head, where this node is in the
 /// place of the one with its key.
 fn root_total(table: &NodeTable<Node>, keys: &[NodeKey], head: NodeKey, after: &Node) -> TotalDemand
-    ensures camping { result.camping ≡ sum_by (λ (d : Demand). d.camping) (asked_with table.now keys.now (head ∷ []) after.now) }
-    ensures at_least { result.at_least ≡ greatest (λ d. d.at_least) (asked_with table.now keys.now (head ∷ []) after.now) }
-    ensures size { result.size ≡ greatest (λ d. d.size) (asked_with table.now keys.now (head ∷ []) after.now) }
+    ensures camping { result.camping
+        ≡ sum_by (λ (d : Demand). d.camping) (asked_with table.now keys.now (head ∷ []) after.now) }
+    ensures at_least { result.at_least
+        ≡ greatest (λ d. d.at_least) (asked_with table.now keys.now (head ∷ []) after.now) }
+    ensures size { result.size
+        ≡ greatest (λ d. d.size) (asked_with table.now keys.now (head ∷ []) after.now) }
     ensures in_range { result.size ≤ 2 ^ 30 }
 
     // Only who asks for no size asks for no buffer.
@@ -141,7 +143,8 @@ fn allocated_at(
 /// How many buffers are reserved once the unit with this head is allocated, and this node is in the
 /// place of the one with its key.
 fn reserved_then(table: &NodeTable<Node>, keys: &[NodeKey], head: NodeKey, after: &Node) -> u128
-    ensures { result ≡ sum_by (λ (d : Demand). d.camping) (allocated_with table.now keys.now head after.now) }
+    ensures { result ≡ sum_by (λ (d : Demand).
+        d.camping) (allocated_with table.now keys.now head after.now) }
 {
     let mut camping = 0;
     for key in keys {
@@ -158,7 +161,8 @@ fn wanted(asks: &TotalDemand, strong: usize) -> Result<Buffers, Failure>
     requires in_range { asks.now.size ≤ 2 ^ 30 }
     requires some { asks.now.size ≡ 0 → asks.now.camping + asks.now.at_least ≡ 0 }
     ensures value { (ds : List Demand) → asks.now.camping ≡ sum_by (λ (d : Demand). d.camping) ds →
-        asks.now.at_least ≡ greatest (λ d. d.at_least) ds → asks.now.size ≡ greatest (λ d. d.size) ds →
+        asks.now.at_least ≡ greatest (λ d. d.at_least) ds →
+        asks.now.size ≡ greatest (λ d. d.size) ds →
         result ≡ wants_of (nat_lt 0 strong) (wanted_of ds) }
     ensures some { IfOk result AreSome }
 {
@@ -208,7 +212,8 @@ fn planned(
     effect: &Effect,
     keys: &mut Vec<NodeKey>,
 ) -> Option<Plan>
-    requires tracked { (at : Key) (n : NodeValue) → node_at table.now at ≡ Some n → has_tracker_room key effect.now n ≡ true }
+    requires tracked { (at : Key) (n : NodeValue) → node_at table.now at ≡ Some n →
+        has_tracker_room key effect.now n ≡ true }
     requires room { table_len table.now ≤ vec_capacity keys.old }
     ensures some { IfSome result (IsPlanned table.now units.now entry.now key effect.now) }
     ensures comes { IfSome result (λ plan. comes_first table.now units.now key effect.now ≡ true) }
@@ -257,21 +262,21 @@ fn place_wanted(
 
 /// The root of the collection, with this key, is lost by this failure, and all of the collection with it.
 fn lose_first(
-    table: &mut NodeTable<Node>,
-    units: &mut Vec<Unit>,
+    nodes: &mut NodeStore,
     entry: &mut Entry,
     head: NodeKey,
     why: Failure,
     keys: &mut Vec<NodeKey>,
 )
-    requires room { table_len table.old ≤ vec_capacity keys.old }
-    requires named { (key : Key) (n : NodeValue) → node_at table.old key ≡ Some n → n.key ≡ key }
-    requires there { IsSome (row_at table.old head) }
-    ensures rooted { (handles : Handles) (ss : List Shelf) → MidEvent table.old units.old.items ss entry.old [] (head ∷ []) →
-        IsComing (nodes_with table.old entry.old.keys.items) head →
-        IsRooted handles table.old table.new units.new.items ss entry.old entry.new head (Outcome.Fails why) }
-    ensures named { (key : Key) (n : NodeValue) → node_at table.new key ≡ Some n → n.key ≡ key }
-    ensures len { table_len table.new ≡ table_len table.old }
+    requires room { table_len nodes.old.table ≤ vec_capacity keys.old }
+    requires named { AreNamed nodes.old.table }
+    requires there { IsSome (row_at nodes.old.table head) }
+    ensures rooted { (handles : Handles) (ss : List Shelf) →
+        MidEventIn nodes.old ss entry.old [] (head ∷ []) →
+        IsComing (nodes_in nodes.old entry.old) head →
+        IsRootedIn handles nodes.old nodes.new ss entry.old entry.new head (Outcome.Fails why) }
+    ensures named { AreNamed nodes.new.table }
+    ensures len { table_len nodes.new.table ≡ table_len nodes.old.table }
     ensures room { vec_capacity keys.old ≤ vec_capacity keys.new }
 {
     let cause = Cause::Failed(why);
@@ -279,94 +284,90 @@ fn lose_first(
         cause,
         origin: head,
     };
-    remove_subtree(table, units, entry, head, Some(fault), keys);
+    remove_subtree(nodes, entry, head, Some(fault), keys);
 }
 
 /// The unit of the root, with this head, is allocated with these buffers, and the attached units that
 /// are ready below it have their turns.
 fn allocate_root_unit(
-    table: &mut NodeTable<Node>,
-    units: &mut Vec<Unit>,
+    nodes: &mut NodeStore,
     entry: &mut Entry,
     holds: &Holds,
-    head: NodeKey,
+    plan: &Plan,
     buffers: Buffers,
     held: Vec<HeldBuffer>,
-    reserved: u128,
     room: &mut Scratch,
 )
     requires few { given_few (Some buffers) ≡ true }
-    requires going { table_len table.old ≤ vec_capacity room.old.removed }
-    requires unit { table_len table.old ≤ vec_capacity room.old.unit }
-    requires turns { table_len table.old ≤ vec_capacity room.old.pending }
-    requires named { (key : Key) (n : NodeValue) → node_at table.old key ≡ Some n → n.key ≡ key }
-    requires there { IsSome (row_at table.old head) }
-    ensures rooted { (ss : List Shelf) → MidEvent table.old units.old.items ss entry.old [] (head ∷ []) →
-        IsComing (nodes_with table.old entry.old.keys.items) head →
-        reserved ≡ reserved_count (after_allocation head (nodes_with table.old entry.old.keys.items)) →
-        IsRooted (total holds.now) table.old table.new units.new.items ss entry.old entry.new head (Outcome.Given buffers held) }
-    ensures named { (key : Key) (n : NodeValue) → node_at table.new key ≡ Some n → n.key ≡ key }
-    ensures len { table_len table.new ≡ table_len table.old }
+    requires going { table_len nodes.old.table ≤ vec_capacity room.old.removed }
+    requires unit { table_len nodes.old.table ≤ vec_capacity room.old.unit }
+    requires turns { table_len nodes.old.table ≤ vec_capacity room.old.pending }
+    requires named { AreNamed nodes.old.table }
+    requires there { IsSome (row_at nodes.old.table plan.now.head) }
+    ensures rooted { (ss : List Shelf) → MidEventIn nodes.old ss entry.old [] (plan.now.head ∷ []) →
+        IsComing (nodes_in nodes.old entry.old) plan.now.head →
+        plan.now.reserved ≡ reserved_count (after_allocation plan.now.head
+        (nodes_in nodes.old entry.old)) →
+        IsRootedIn (total holds.now) nodes.old nodes.new ss entry.old entry.new plan.now.head
+        (Outcome.Given buffers held) }
+    ensures named { AreNamed nodes.new.table }
+    ensures len { table_len nodes.new.table ≡ table_len nodes.old.table }
     ensures room { vec_capacity room.old.removed ≤ vec_capacity room.new.removed }
 {
+    let head = plan.head;
     list_pending(
-        table,
-        units,
+        &nodes.table,
+        &nodes.units,
         entry,
         head,
         &mut room.removed,
         &mut room.pending,
     );
-    list_unit(table, head, &mut room.unit);
+    list_unit(&nodes.table, head, &mut room.unit);
     let one = [head];
-    mark_allocated(table, &room.unit, &one);
-    entry.reserved = reserved;
+    mark_allocated(&mut nodes.table, &room.unit, &one);
+    entry.reserved = plan.reserved;
     entry.buffers = Some(buffers);
     entry.held = held;
     let Some((_, rest)) = room.pending.split_first() else {
         return;
     };
-    allocate_all_pending(table, units, entry, holds, buffers, rest, &mut room.removed);
+    allocate_all_pending(nodes, entry, holds, buffers, rest, &mut room.removed);
 }
 
 /// The root's unit, with this head, is allocated or lost, and what follows in its collection is made, until
 /// nothing is left but that the buffers are abandoned.
 fn settle_first(
-    table: &mut NodeTable<Node>,
-    units: &mut Vec<Unit>,
+    nodes: &mut NodeStore,
     entry: &mut Entry,
     holds: &Holds,
-    head: NodeKey,
+    plan: &Plan,
     verdict: AllocationOutcome,
-    reserved: u128,
     room: &mut Scratch,
 )
     requires few { gives_few verdict ≡ true }
-    requires going { table_len table.old ≤ vec_capacity room.old.removed }
-    requires unit { table_len table.old ≤ vec_capacity room.old.unit }
-    requires turns { table_len table.old ≤ vec_capacity room.old.pending }
-    requires named { (key : Key) (n : NodeValue) → node_at table.old key ≡ Some n → n.key ≡ key }
-    requires there { IsSome (row_at table.old head) }
-    ensures rooted { (ss : List Shelf) → MidEvent table.old units.old.items ss entry.old [] (head ∷ []) →
-        IsComing (nodes_with table.old entry.old.keys.items) head →
-        reserved ≡ reserved_count (after_allocation head (nodes_with table.old entry.old.keys.items)) →
-        IsRooted (total holds.now) table.old table.new units.new.items ss entry.old entry.new head verdict }
-    ensures named { (key : Key) (n : NodeValue) → node_at table.new key ≡ Some n → n.key ≡ key }
-    ensures len { table_len table.new ≡ table_len table.old }
+    requires going { table_len nodes.old.table ≤ vec_capacity room.old.removed }
+    requires unit { table_len nodes.old.table ≤ vec_capacity room.old.unit }
+    requires turns { table_len nodes.old.table ≤ vec_capacity room.old.pending }
+    requires named { AreNamed nodes.old.table }
+    requires there { IsSome (row_at nodes.old.table plan.now.head) }
+    ensures rooted { (ss : List Shelf) → MidEventIn nodes.old ss entry.old [] (plan.now.head ∷ []) →
+        IsComing (nodes_in nodes.old entry.old) plan.now.head →
+        plan.now.reserved ≡ reserved_count (after_allocation plan.now.head
+        (nodes_in nodes.old entry.old)) →
+        IsRootedIn (total holds.now) nodes.old nodes.new ss entry.old entry.new plan.now.head
+        verdict }
+    ensures named { AreNamed nodes.new.table }
+    ensures len { table_len nodes.new.table ≡ table_len nodes.old.table }
     ensures room { vec_capacity room.old.removed ≤ vec_capacity room.new.removed }
 {
     match verdict {
-        AllocationOutcome::Fails(why) => lose_first(
-            table,
-            units,
-            entry,
-            head,
-            why,
-            &mut room.removed,
-        ),
-        AllocationOutcome::Given(buffers, held) => allocate_root_unit(
-            table, units, entry, holds, head, buffers, held, reserved, room,
-        ),
+        AllocationOutcome::Fails(why) => {
+            lose_first(nodes, entry, plan.head, why, &mut room.removed);
+        }
+        AllocationOutcome::Given(buffers, held) => {
+            allocate_root_unit(nodes, entry, holds, plan, buffers, held, room);
+        }
     }
 }
 
@@ -377,56 +378,50 @@ fn settle_first(
 /// it did; if not, the root's unit does not wait for its buffers after the effect, or nothing holds it
 /// then, and nothing changed.
 ///
-/// It costs a binary search and a constant. Where the unit is ready, it costs besides a few reads of each
+/// It costs a constant. Where the unit is ready, it costs besides a few reads of each
 /// node of the unit and of each attached node right below it, a write of each node of the unit, what the
 /// places of the buffers cost, and what the turns cost, or, where the root is lost, what goes; and at last
 /// what `finish_event` costs. `NoMemory` where the room is refused for what is held, or by the pool: then nothing
 /// changed.
 pub(crate) fn allocate_root(
-    table: &mut NodeTable<Node>,
-    entries: &mut Vec<Entry>,
-    units: &mut Vec<Unit>,
+    store: &mut Store,
+    at: usize,
     pool: &mut Pool,
     holds: &Holds,
-    id: CollectionId,
     key: NodeKey,
     effect: &Effect,
     room: &mut Scratch,
 ) -> Result<bool, NoMemory>
-    requires ready { IsReady table.old entries.old.items units.old.items id (Changed.Effect key effect.now) }
-    requires under { (e : EntryValue) → find (λ x. x.id == id) entries.old.items ≡ Some e →
-        MidEvent table.old units.old.items (shelves_of entries.old.items) e [] [] }
-    requires pool { IsPoolOf pool.old (forest_of table.old (shelves_of entries.old.items)) }
-    requires going { table_len table.old ≤ vec_capacity room.old.removed }
-    requires unit { table_len table.old ≤ vec_capacity room.old.unit }
-    requires turns { table_len table.old ≤ vec_capacity room.old.pending }
-    ensures outcome { IsOutcomeIn (was_made result) (total holds.now) pool.old pool.new table.old table.new
-        entries.old.items entries.new.items id (Changed.Effect key effect.now) }
-    ensures units { HaveUnits units.new.items table.new entries.new.items }
-    ensures going { result ≡ Ok false → vec_capacity room.old.removed ≤ vec_capacity room.new.removed }
-    ensures turns { result ≡ Ok false → vec_capacity room.old.pending ≤ vec_capacity room.new.pending }
-    ensures waits { result ≡ Ok false → (e : EntryValue) → find (λ x. x.id == id) entries.old.items ≡ Some e →
-        are_held_except [] (after_effect key effect.now (nodes_with table.old e.keys.items)) ≡ true →
-        waiting (after_effect key effect.now (nodes_with table.old e.keys.items)) ≡ None }
+    requires ready { ReadyAt store.old at (Changed.Effect key effect.now) }
+    requires pool { IsPoolOf pool.old (forest_in store.old) }
+    requires going { table_len store.old.nodes.table ≤ vec_capacity room.old.removed }
+    requires unit { table_len store.old.nodes.table ≤ vec_capacity room.old.unit }
+    requires turns { table_len store.old.nodes.table ≤ vec_capacity room.old.pending }
+    ensures outcome { OutcomeAt (was_made result) (total holds.now) pool.old pool.new store.old
+        store.new at
+        (Changed.Effect key effect.now) }
+    ensures room { result ≡ Ok false →
+        (vec_capacity room.old.removed ≤ vec_capacity room.new.removed)
+        × (vec_capacity room.old.pending ≤ vec_capacity room.new.pending) }
+    ensures waits { result ≡ Ok false → WaitsNot store.old at key effect.now }
 {
-    let Some(at) = place_of(entries, id) else {
+    let entry = &store.entries[at];
+    let Some(plan) = planned(
+        &store.nodes.table,
+        &store.nodes.units,
+        entry,
+        key,
+        effect,
+        &mut room.unit,
+    ) else {
         return Ok(false);
     };
-    let entry = &entries[at];
-    let Some(plan) = planned(table, units, entry, key, effect, &mut room.unit) else {
-        return Ok(false);
-    };
-    let Plan {
-        head,
-        wants,
-        reserved,
-    } = plan;
     assert_disjoint(pool);
-    let verdict = place_wanted(pool, id, wants, &entry.held)?;
+    let verdict = place_wanted(pool, entry.id, plan.wants, &entry.held)?;
     assert_disjoint(pool);
-    let entry = &mut entries[at];
-    affect_here(table, units, entry, key, effect);
-    settle_first(table, units, entry, holds, head, verdict, reserved, room);
-    finish_event(table, entries, at, units, pool, holds, &mut room.removed);
+    let entry = &mut store.entries[at];
+    affect_here(&mut store.nodes, entry, key, effect);
+    settle_first(&mut store.nodes, entry, holds, &plan, verdict, room);
+    finish_event(store, at, pool, holds, &mut room.removed);
     Ok(true)
 }

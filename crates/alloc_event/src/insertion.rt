@@ -6,23 +6,33 @@ ghost use Rattle.node_table.specs.Lending.{table_with_node};
 ghost use Rattle.node_table.specs.Table.{row_at, node_at};
 ghost use Rattle.alloc_event.specs.declared.entry.Entry.{Entry as EntryValue};
 ghost use Rattle.alloc_event.specs.declared.node.Node.{Node as NodeValue};
-ghost use Rattle.alloc_event.specs.Calm.{AreCounted, put_in};
+ghost use Rattle.alloc_event.specs.Calm.{put_in};
 ghost use Rattle.alloc_event.specs.Counts.{HaveUnits};
-ghost use Rattle.alloc_event.specs.Shelves.{AreRising, Bears, IsStored, born, forest_of, named, put_shelf, shelf_of, shelves_of};
+ghost use Rattle.alloc_event.specs.Insertion.{IsEntryWith, IsEntryWithout, KeepsNotes, birth_change};
+ghost use Rattle.alloc_event.specs.Shelves.{AreRising, Bears, born, named, shelf_of, shelves_of};
 ghost use Rattle.alloc_event.specs.Settling.{MayChange, no_key};
-ghost use Rattle.alloc_event.specs.Still.{no_shelf, shelf_before, shelf_with};
+ghost use Rattle.alloc_event.specs.Still.{no_shelf, shelf_with};
+ghost use Rattle.alloc_event.specs.Stores.{InsertedIn, IsResting, RefusedIn, forest_in};
 
 use crate::births::{new_child, new_root};
-use crate::change::Change;
 use crate::entry::{Entry, place_of};
 use crate::garbage::reserve_notes;
 use crate::key_list::KeyList;
 use crate::node::Node;
-use crate::store::put_entry;
-use crate::unit_counts::{Unit, bound, count_at, no_unit, put_unit};
+use crate::store::{Store, put_entry};
+use crate::unit_counts::{bound, count_at, no_unit, put_unit};
 use node_table::NodeTable;
 use sm_names::{ClientId, CollectionId, NoMemory, NodeKey};
 use std::cell::Cell;
+
+/// A node that is to be born, as `Change::Birth` tells of it.
+#[derive(Clone, Copy)]
+pub(crate) struct Birth {
+    pub(crate) parent: Option<NodeKey>,
+    pub(crate) attached: bool,
+    pub(crate) client: ClientId,
+    pub(crate) event: u64,
+}
 
 // The key of a node that was given none yet.
 const NO_KEY: NodeKey = NodeKey {
@@ -31,22 +41,16 @@ const NO_KEY: NodeKey = NodeKey {
 };
 
 /// A node that is to be born, without its key: a child of the parent, or a root of the collection.
-fn drafted(
-    table: &NodeTable<Node>,
-    parent: Option<NodeKey>,
-    attached: bool,
-    id: CollectionId,
-    event: u64,
-    client: ClientId,
-) -> Node
-    ensures { result ≡ born (option_and_then (node_at table.now) parent) attached id event client no_key }
+fn drafted(table: &NodeTable<Node>, id: CollectionId, birth: Birth) -> Node
+    ensures { result ≡ born (option_and_then (node_at table.now) birth.parent) birth.attached id
+        birth.event birth.client no_key }
 {
-    if let Some(parent) = parent {
+    if let Some(parent) = birth.parent {
         if let Some(above) = table.get(parent) {
-            return new_child(attached, NO_KEY, event, client, above);
+            return new_child(birth.attached, NO_KEY, birth.event, birth.client, above);
         }
     }
-    new_root(NO_KEY, id, event, client)
+    new_root(NO_KEY, id, birth.event, birth.client)
 }
 
 /// The node is given its key. It heads its unit, if it is a root or attached.
@@ -61,8 +65,10 @@ fn name(node: &mut Node, key: NodeKey)
 
 /// The node is given its key in the table.
 fn name_at(table: &mut NodeTable<Node>, key: NodeKey)
-    ensures becomes { (n : NodeValue) → node_at table.old key ≡ Some n → table.new ≡ table_with_node table.old key (named key n) }
-    ensures writes { (n : NodeValue) → node_at table.old key ≡ Some n → Writes table.old table.new key (named key n) }
+    ensures becomes { (n : NodeValue) → node_at table.old key ≡ Some n →
+        table.new ≡ table_with_node table.old key (named key n) }
+    ensures writes { (n : NodeValue) → node_at table.old key ≡ Some n →
+        Writes table.old table.new key (named key n) }
 {
     if let Some(node) = table.get_mut(key) {
         name(node, key);
@@ -127,16 +133,11 @@ fn insert_child(
     requires first { table.old.first ≡ 0 }
     requires parent { IfSome draft.now.parent (λ p. IsSome (row_at table.old p)) }
     requires few { entry.old.strong ≤ length entry.old.keys.items }
-    ensures ok { IfOk result (λ key. Bears table.old table.new (named key draft.now)) }
-    ensures err { OnErr result (table.new ≡ table.old) }
-    ensures shelf { IfOk result (λ key. shelf_of entry.new ≡ shelf_with (shelf_of entry.old) key) }
-    ensures strong { OnOk result (entry.new.strong ≡ entry.old.strong + (if draft.now.weak then 0 else 1)) }
-    ensures err_shelf { OnErr result (shelf_of entry.new ≡ shelf_of entry.old) }
-    ensures err_strong { OnErr result (entry.new.strong ≡ entry.old.strong) }
-    ensures reserved { entry.new.reserved ≡ entry.old.reserved }
-    ensures id { entry.new.id ≡ entry.old.id }
-    ensures garbage_known { entry.new.garbage_known ≡ entry.old.garbage_known }
-    ensures garbage { entry.new.garbage.items ≡ entry.old.garbage.items }
+    ensures bears { IfOk result (λ key. Bears table.old table.new (named key draft.now)) }
+    ensures entry { IfOk result (IsEntryWith entry.old entry.new draft.now) }
+    ensures notes { KeepsNotes entry.old entry.new }
+    ensures err_table { OnErr result (table.new ≡ table.old) }
+    ensures err_entry { OnErr result (IsEntryWithout entry.old entry.new) }
 {
     if entry.keys.reserve_one().is_err() {
         return Err(NoMemory);
@@ -163,7 +164,8 @@ fn insert_root(
     requires parent { IfSome draft.now.parent (λ p. IsSome (row_at table.old p)) }
     ensures ok { IfOk result (λ key. Bears table.old table.new (named key draft.now)) }
     ensures err { OnErr result (table.new ≡ table.old) }
-    ensures entries { IfOk result (λ key. (e : EntryValue) × (entries.new.items ≡ put_in e entries.old.items)
+    ensures entries { IfOk result (λ key. (e : EntryValue)
+        × (entries.new.items ≡ put_in e entries.old.items)
         × (shelf_of e ≡ shelf_with (no_shelf id) key)
         × (e.strong ≡ (if draft.now.weak then 0 else 1))
         × (e.reserved ≡ 0)) }
@@ -197,31 +199,17 @@ fn insert_root(
 /// The birth of a node, where nothing else changes with it. `NoMemory` leaves the table as it was,
 /// and of the entries all but their room. It costs a constant and a binary search, growth spread
 /// over the births, and for a root the shift of the entries behind it.
-fn insert_uncounted(
-    table: &mut NodeTable<Node>,
-    entries: &mut Vec<Entry>,
-    id: CollectionId,
-    parent: Option<NodeKey>,
-    attached: bool,
-    client: ClientId,
-    event: u64,
-) -> Result<NodeKey, NoMemory>
-    requires kept { IsStored table.old (shelves_of entries.old.items) }
-    requires counted { AreCounted table.old entries.old.items }
-    requires change { MayChange (forest_of table.old (shelves_of entries.old.items)) id (Change.Birth parent attached client event) }
-    ensures bears { IfOk result (λ key. Bears table.old table.new
-        (born (option_and_then (node_at table.old) parent) attached id event client key)) }
-    ensures entries { IfOk result (λ key. shelves_of entries.new.items
-        ≡ put_shelf (shelf_with (shelf_before id (shelves_of entries.old.items)) key) (shelves_of entries.old.items)) }
-    ensures counted { OnOk result (AreCounted table.new entries.new.items) }
-    ensures err_counted { OnErr result (AreCounted table.old entries.new.items) }
-    ensures err_table { OnErr result (table.new ≡ table.old) }
-    ensures err_entries { OnErr result (shelves_of entries.new.items ≡ shelves_of entries.old.items) }
+fn insert_uncounted(store: &mut Store, id: CollectionId, birth: Birth) -> Result<NodeKey, NoMemory>
+    requires forest { IsResting store.old }
+    requires change { MayChange (forest_in store.old) id (birth_change birth) }
+    ensures ok { IfOk result (InsertedIn store.old store.new id birth) }
+    ensures err { OnErr result (RefusedIn store.old store.new) }
+    ensures units { store.new.nodes.units.items ≡ store.old.nodes.units.items }
 {
-    let draft = drafted(table, parent, attached, id, event, client);
-    match place_of(entries, id) {
-        Some(at) => insert_child(table, &mut entries[at], &draft),
-        None => insert_root(table, entries, id, &draft),
+    let draft = drafted(&store.nodes.table, id, birth);
+    match place_of(&store.entries, id) {
+        Some(at) => insert_child(&mut store.nodes.table, &mut store.entries[at], &draft),
+        None => insert_root(&mut store.nodes.table, &mut store.entries, id, &draft),
     }
 }
 
@@ -230,33 +218,21 @@ fn insert_uncounted(
 /// but their room. It costs a constant and a binary search, growth spread over the births, and for a
 /// root the shift of the entries behind it.
 pub(crate) fn insert_counted(
-    table: &mut NodeTable<Node>,
-    entries: &mut Vec<Entry>,
-    units: &mut Vec<Unit>,
+    store: &mut Store,
     id: CollectionId,
-    parent: Option<NodeKey>,
-    attached: bool,
-    client: ClientId,
-    event: u64,
+    birth: Birth,
 ) -> Result<NodeKey, NoMemory>
-    requires kept { IsStored table.old (shelves_of entries.old.items) }
-    requires counted { AreCounted table.old entries.old.items }
-    requires units { HaveUnits units.old.items table.old entries.old.items }
-    requires reached { table.old.vacant < length units.old.items }
-    requires change { MayChange (forest_of table.old (shelves_of entries.old.items)) id (Change.Birth parent attached client event) }
-    ensures bears { IfOk result (λ key. Bears table.old table.new
-        (born (option_and_then (node_at table.old) parent) attached id event client key)) }
-    ensures entries { IfOk result (λ key. shelves_of entries.new.items
-        ≡ put_shelf (shelf_with (shelf_before id (shelves_of entries.old.items)) key) (shelves_of entries.old.items)) }
-    ensures counted { OnOk result (AreCounted table.new entries.new.items) }
-    ensures units { HaveUnits units.new.items table.new entries.new.items }
-    ensures err_counted { OnErr result (AreCounted table.old entries.new.items) }
-    ensures err_table { OnErr result (table.new ≡ table.old) }
-    ensures err_entries { OnErr result (shelves_of entries.new.items ≡ shelves_of entries.old.items) }
+    requires forest { IsResting store.old }
+    requires reached { store.old.nodes.table.vacant < length store.old.nodes.units.items }
+    requires change { MayChange (forest_in store.old) id (birth_change birth) }
+    ensures ok { IfOk result (InsertedIn store.old store.new id birth) }
+    ensures err { OnErr result (RefusedIn store.old store.new) }
+    ensures units { HaveUnits store.new.nodes.units.items store.new.nodes.table
+        store.new.entries.items }
 {
-    let key = insert_uncounted(table, entries, id, parent, attached, client, event)?;
-    bound(table);
-    put_unit(units, key.slot as usize, no_unit());
-    count_at(units, table, key);
+    let key = insert_uncounted(store, id, birth)?;
+    bound(&store.nodes.table);
+    put_unit(&mut store.nodes.units, key.slot as usize, no_unit());
+    count_at(&mut store.nodes.units, &store.nodes.table, key);
     Ok(key)
 }

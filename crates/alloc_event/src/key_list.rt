@@ -136,7 +136,8 @@ fn move_down(cells: &mut Vec<NodeKey>, front: usize)
 fn move_up(cells: &mut Vec<NodeKey>, from: usize, to: usize)
     requires order { from ≤ to }
     requires within { to < length cells.old.items }
-    ensures items { drop (from + 1) cells.new.items ≡ remove (drop from cells.old.items) (to - from) }
+    ensures items { drop (from + 1) cells.new.items
+        ≡ remove (drop from cells.old.items) (to - from) }
     ensures len { length cells.new.items ≡ length cells.old.items }
 {
     cells.copy_within(from..to, from + 1);

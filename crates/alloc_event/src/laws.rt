@@ -26,10 +26,12 @@ pub fn falls_take_what_losses_take()
 /// A change and the forced steps after it leave each node that is not gone below a parent that is not
 /// gone and was born before it.
 pub fn collections_stay_rooted()
-    ensures changed { (change : Change) (key : NodeKey) (c : Collection) → FitsChange change key c.nodes →
+    ensures changed { (change : Change) (key : NodeKey) (c : Collection) →
+        FitsChange change key c.nodes →
         are_distinct c.nodes ≡ true → are_rooted (reverse c.nodes) ≡ true →
         are_rooted (reverse (changed change key c).nodes) ≡ true }
-    ensures settled { (pool : ℕ) (handles : Handles) (others : List Interval) (c after : Collection) →
+    ensures settled { (pool : ℕ) (handles : Handles) (others : List Interval)
+        (c after : Collection) →
         are_distinct c.nodes ≡ true → are_rooted (reverse c.nodes) ≡ true →
         Settles pool handles others c after → are_rooted (reverse after.nodes) ≡ true }
 {}

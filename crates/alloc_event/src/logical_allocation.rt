@@ -3,18 +3,18 @@ ghost use Rattle.std.specs.List.{filter_map, sum_by};
 ghost use Rattle.std.specs.Prelude.{◌≡◌, ◌≤◌, ◌∷◌, [], List, ℕ, Some, true, false, IsSome, vec_capacity};
 ghost use Rattle.sm_names.specs.Demands.{Demand};
 ghost use Rattle.sm_names.specs.Members.{greatest};
-ghost use Rattle.sm_names.specs.declared.keys.NodeKey.{NodeKey as Key};
-ghost use Rattle.node_table.specs.Table.{node_at, row_at, table_len};
-ghost use Rattle.alloc_event.specs.declared.node.Node.{Node as NodeValue};
+ghost use Rattle.node_table.specs.Table.{row_at, table_len};
 ghost use Rattle.alloc_event.specs.declared.pending_units.PendingUnit.{PendingUnit as PendingValue};
-ghost use Rattle.alloc_event.specs.Shelves.{Shelf, nodes_with};
+ghost use Rattle.alloc_event.specs.Shelves.{Shelf};
 ghost use Rattle.alloc_event.specs.Settling.{Handles};
 ghost use Rattle.alloc_event.specs.LogicalAllocation.{IsUnitListed, asked_there, is_next_there};
-ghost use Rattle.alloc_event.specs.MidEvent.{AreTurns, AfterSteps, MidEvent, is_abandoned_in, turn_heads, waits_among};
+ghost use Rattle.alloc_event.specs.MidEvent.{AreTurns, is_abandoned_in, turn_heads, waits_among};
+ghost use Rattle.alloc_event.specs.Stores.{AfterStepsIn, AreNamed, MidEventIn, nodes_in};
 
 use crate::demand::{TotalDemand, refusal, unit_demand};
 use crate::entry::Entry;
 use crate::node::Node;
+use crate::store::NodeStore;
 use crate::subtree_end::fall_by;
 use crate::unit_allocation::{has_turn, mark_allocated};
 use crate::unit_counts::{Unit, unit_in};
@@ -55,9 +55,12 @@ fn demand_there(table: &NodeTable<Node>, at: NodeKey, head: NodeKey) -> Option<C
 
 /// What the nodes with these keys ask for together that are of the unit with this head and not gone.
 fn unit_total(table: &NodeTable<Node>, keys: &[NodeKey], head: NodeKey) -> TotalDemand
-    ensures camping { result.camping ≡ sum_by (λ (d : Demand). d.camping) (filter_map (asked_there table.now head) keys.now) }
-    ensures at_least { result.at_least ≡ greatest (λ (d : Demand). d.at_least) (filter_map (asked_there table.now head) keys.now) }
-    ensures size { result.size ≡ greatest (λ (d : Demand). d.size) (filter_map (asked_there table.now head) keys.now) }
+    ensures camping { result.camping
+        ≡ sum_by (λ (d : Demand). d.camping) (filter_map (asked_there table.now head) keys.now) }
+    ensures at_least { result.at_least
+        ≡ greatest (λ (d : Demand). d.at_least) (filter_map (asked_there table.now head) keys.now) }
+    ensures size { result.size
+        ≡ greatest (λ (d : Demand). d.size) (filter_map (asked_there table.now head) keys.now) }
 {
     let mut asks = TotalDemand {
         camping: 0,
@@ -87,34 +90,35 @@ pub(crate) fn is_next(table: &NodeTable<Node>, units: &[Unit], head: NodeKey) ->
 /// highest above it that nothing holds. It costs the nodes of the unit and the heads right below it, and
 /// what goes. It takes no memory.
 pub(crate) fn allocate_pending(
-    table: &mut NodeTable<Node>,
-    units: &mut Vec<Unit>,
+    nodes: &mut NodeStore,
     entry: &mut Entry,
     buffers: Buffers,
     head: NodeKey,
     keys: &mut Vec<NodeKey>,
 )
-    requires named { (key : Key) (n : NodeValue) → node_at table.old key ≡ Some n → n.key ≡ key }
-    requires room { table_len table.old ≤ vec_capacity keys.old }
+    requires named { AreNamed nodes.old.table }
+    requires room { table_len nodes.old.table ≤ vec_capacity keys.old }
     ensures taken { (handles : Handles) (ss : List Shelf) (place : ℕ) (ws : List PendingValue) →
-        MidEvent table.old units.old.items ss entry.old [] (head ∷ turn_heads ws) →
-        AreTurns table.old entry.old.keys.items (record { place = place; head = head } ∷ ws) →
-        waits_among [] (nodes_with table.old entry.old.keys.items) ≡ true →
-        entry.old.buffers ≡ Some buffers → is_abandoned_in handles table.old entry.old ≡ false →
-        AfterSteps handles table.old table.new units.new.items ss entry.old entry.new [] (turn_heads ws)
-        × (AreTurns table.new entry.old.keys.items ws × (waits_among [] (nodes_with table.new entry.old.keys.items) ≡ true)) }
-    ensures named { (key : Key) (n : NodeValue) → node_at table.new key ≡ Some n → n.key ≡ key }
-    ensures len { table_len table.new ≡ table_len table.old }
+        MidEventIn nodes.old ss entry.old [] (head ∷ turn_heads ws) →
+        AreTurns nodes.old.table entry.old.keys.items (record { place = place; head = head } ∷ ws) →
+        waits_among [] (nodes_in nodes.old entry.old) ≡ true →
+        entry.old.buffers ≡ Some buffers →
+        is_abandoned_in handles nodes.old.table entry.old ≡ false →
+        AfterStepsIn handles nodes.old nodes.new ss entry.old entry.new [] (turn_heads ws)
+        × (AreTurns nodes.new.table entry.old.keys.items ws
+        × (waits_among [] (nodes_in nodes.new entry.old) ≡ true)) }
+    ensures named { AreNamed nodes.new.table }
+    ensures len { table_len nodes.new.table ≡ table_len nodes.old.table }
     ensures room { vec_capacity keys.old ≤ vec_capacity keys.new }
 {
-    if !is_next(table, units, head) {
+    if !is_next(&nodes.table, &nodes.units, head) {
         return;
     }
-    list_unit(table, head, keys);
-    let asks = unit_total(table, keys, head);
+    list_unit(&nodes.table, head, keys);
+    let asks = unit_total(&nodes.table, keys, head);
     match refusal(buffers, entry.reserved, &asks) {
         None => {
-            mark_allocated(table, keys, &[head]);
+            mark_allocated(&mut nodes.table, keys, &[head]);
             entry.reserved += asks.camping;
         }
         Some(why) => {
@@ -122,7 +126,7 @@ pub(crate) fn allocate_pending(
                 cause: Cause::Failed(why),
                 origin: head,
             };
-            fall_by(table, units, entry, fault, keys);
+            fall_by(nodes, entry, fault, keys);
         }
     }
 }

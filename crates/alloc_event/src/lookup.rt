@@ -36,7 +36,8 @@ fn add_live(
     table: &NodeTable<Node>,
     keys: &[NodeKey],
 ) -> Result<(), AllocError>
-    ensures { IfOk result (λ _. nodes.new.items ≡ nodes.old.items ++ filter is_live_node (nodes_with table.now keys.now)) }
+    ensures { IfOk result (λ _. nodes.new.items
+        ≡ nodes.old.items ++ filter is_live_node (nodes_with table.now keys.now)) }
 {
     for key in keys {
         if let Some(node) = table.get(*key) {
@@ -54,7 +55,8 @@ fn add_kept(
     table: &NodeTable<Node>,
     keys: &[NodeKey],
 ) -> Result<(), AllocError>
-    ensures { IfOk result (λ _. nodes.new.items ≡ nodes.old.items ++ nodes_with table.now keys.now) }
+    ensures { IfOk result (λ _. nodes.new.items
+        ≡ nodes.old.items ++ nodes_with table.now keys.now) }
 {
     for key in keys {
         if let Some(node) = table.get(*key) {
@@ -70,7 +72,8 @@ pub(crate) fn kept_nodes(
     table: &NodeTable<Node>,
     entries: &[Entry],
 ) -> Result<Vec<Node>, AllocError>
-    ensures { IfOk result (λ nodes. nodes.items ≡ nodes_with table.now (all_keys (shelves_of entries.now))) }
+    ensures { IfOk result (λ nodes. nodes.items
+        ≡ nodes_with table.now (all_keys (shelves_of entries.now))) }
 {
     let mut nodes = Vec::with_capacity(alloc, table.len())?;
     for entry in entries {
@@ -86,7 +89,8 @@ pub(crate) fn live_by_birth(
     entries: &[Entry],
 ) -> Result<Vec<NodeKey>, AllocError>
     ensures { IfOk result (λ keys. keys.items
-        ≡ map (λ n. n.key) (sorted_by (λ n. n.event) (filter is_live_node (nodes_with table.now (all_keys (shelves_of entries.now)))))) }
+        ≡ map (λ n. n.key) (sorted_by (λ n.
+        n.event) (filter is_live_node (nodes_with table.now (all_keys (shelves_of entries.now)))))) }
 {
     let mut nodes = Vec::new(alloc);
     for entry in entries {
@@ -141,7 +145,8 @@ pub(crate) fn pages_beside(
     id: CollectionId,
 ) -> Result<Vec<Interval>, AllocError>
     ensures { IfOk result (λ pages. pages.items
-        ≡ flat_map (λ (e : EntryValue). pages_held e.held.items) (filter (λ (e : EntryValue). not (e.id == id)) entries.now)) }
+        ≡ flat_map (λ (e : EntryValue).
+        pages_held e.held.items) (filter (λ (e : EntryValue). not (e.id == id)) entries.now)) }
 {
     let mut pages = Vec::new(alloc);
     for entry in entries {
@@ -165,7 +170,8 @@ pub(crate) fn copy_out(
     table: &NodeTable<Node>,
     entry: &Entry,
 ) -> Result<Snapshot, AllocError>
-    ensures { IfOk result (λ copied. collection_of copied ≡ collection_in table.now (shelf_of entry.now)) }
+    ensures { IfOk result (λ copied. collection_of copied
+        ≡ collection_in table.now (shelf_of entry.now)) }
 {
     let mut nodes = Vec::new(alloc);
     add_kept(&mut nodes, table, entry.keys.as_slice())?;

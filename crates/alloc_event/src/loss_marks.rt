@@ -3,16 +3,10 @@ ghost use Rattle.std.specs.Prelude.{◌≡◌, ◌+◌, Some, true};
 ghost use Rattle.alloc_event.specs.LossMarks.{gone_by, lowered, without_below, without_node};
 ghost use Rattle.alloc_event.specs.Nodes.{lost};
 
-use crate::at_rest::is_kept_by;
-use crate::change::Effect;
-use crate::effects::affect_one;
 use crate::lookup::is_live;
 use crate::node::Node;
-use crate::ready_units::is_among;
 use crate::unit_counts::{Unit, is_unready, put_unit, unit_in};
-use buffer_holds::Holds;
-use node_table::NodeTable;
-use sm_names::{CollectionId, Fault, NodeKey};
+use sm_names::{Fault, NodeKey};
 
 /// One less, if it counted and there is one.
 fn lowered(count: usize, is: bool) -> usize

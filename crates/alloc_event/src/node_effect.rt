@@ -5,54 +5,51 @@ ghost use Rattle.node_table.specs.Table.{node_at, row_at, table_len};
 ghost use Rattle.alloc_event.specs.declared.node.Node.{Node as NodeValue};
 ghost use Rattle.alloc_event.specs.Shelves.{Shelf};
 ghost use Rattle.alloc_event.specs.Scenes.{has_tracker_room};
-ghost use Rattle.alloc_event.specs.MidEvent.{EffectMade, StoreAgrees};
+ghost use Rattle.alloc_event.specs.MidEvent.{StoreAgrees};
+ghost use Rattle.alloc_event.specs.Stores.{AreNamed, EffectMadeIn};
 
 use crate::change::Effect;
 use crate::entry::Entry;
 use crate::lookup::is_strong;
-use crate::node::Node;
 use crate::removed_nodes::recount;
 use crate::reserved::{camped, exchanged};
+use crate::store::NodeStore;
 use crate::unforced::{affect_at, affected_by};
-use crate::unit_counts::{Unit, decrement_if, put_unit, unit_then};
-use node_table::NodeTable;
+use crate::unit_counts::{decrement_if, put_unit, unit_then};
 use sm_names::NodeKey;
 
 /// Makes the effect on the node with this key, and counts it: for its unit, of which something may
 /// hold nothing more, and which may become ready by it, and for its collection. It costs a constant,
 /// but for a sum of what is reserved that no number holds, which costs a pass over the nodes. It takes no
 /// memory.
-pub(crate) fn affect_here(
-    table: &mut NodeTable<Node>,
-    units: &mut Vec<Unit>,
-    entry: &mut Entry,
-    key: NodeKey,
-    effect: &Effect,
-)
-    requires named { (at : Key) (n : NodeValue) → node_at table.old at ≡ Some n → n.key ≡ at }
-    requires room { (n : NodeValue) → node_at table.old key ≡ Some n → has_tracker_room key effect.now n ≡ true }
-    ensures affected { (ss : List Shelf) (n : NodeValue) → node_at table.old key ≡ Some n → n.gone ≡ false → n.collection ≡ entry.old.id →
-        StoreAgrees table.old units.old.items ss entry.old →
-        EffectMade table.old table.new units.new.items ss entry.old entry.new key effect.now n.head }
-    ensures named { (at : Key) (n : NodeValue) → node_at table.new at ≡ Some n → n.key ≡ at }
-    ensures there { (at : Key) → IsSome (row_at table.old at) → IsSome (row_at table.new at) }
-    ensures len { table_len table.new ≡ table_len table.old }
+pub(crate) fn affect_here(nodes: &mut NodeStore, entry: &mut Entry, key: NodeKey, effect: &Effect)
+    requires named { AreNamed nodes.old.table }
+    requires room { (n : NodeValue) → node_at nodes.old.table key ≡ Some n →
+        has_tracker_room key effect.now n ≡ true }
+    ensures affected { (ss : List Shelf) (n : NodeValue) → node_at nodes.old.table key ≡ Some n →
+        n.gone ≡ false → n.collection ≡ entry.old.id →
+        StoreAgrees nodes.old.table nodes.old.units.items ss entry.old →
+        EffectMadeIn nodes.old nodes.new ss entry.old entry.new key effect.now n.head }
+    ensures named { AreNamed nodes.new.table }
+    ensures there { (at : Key) → IsSome (row_at nodes.old.table at) →
+        IsSome (row_at nodes.new.table at) }
+    ensures len { table_len nodes.new.table ≡ table_len nodes.old.table }
 {
-    let Some(node) = table.get(key).copied() else {
+    let Some(node) = nodes.table.get(key).copied() else {
         return;
     };
     let after = affected_by(&node, key, effect);
-    let next = unit_then(units, &node, &after);
-    put_unit(units, node.head.slot as usize, next);
+    let next = unit_then(&nodes.units, &node, &after);
+    put_unit(&mut nodes.units, node.head.slot as usize, next);
     entry.strong = decrement_if(entry.strong, is_strong(&node), is_strong(&after));
     let reserved = exchanged(
         entry.reserved,
         camped(&node, node.constraints),
         camped(&after, after.constraints),
     );
-    affect_at(table, key, effect);
+    affect_at(&mut nodes.table, key, effect);
     entry.reserved = match reserved {
         Some(reserved) => reserved,
-        None => recount(table, entry.keys.as_slice()).reserved,
+        None => recount(&nodes.table, entry.keys.as_slice()).reserved,
     };
 }

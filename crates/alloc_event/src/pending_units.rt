@@ -5,14 +5,14 @@ ghost use Rattle.std.specs.Prelude.{◌≡◌, ◌<◌, ◌≤◌, ◌+◌, ◌+
 ghost use Rattle.sm_names.specs.declared.keys.NodeKey.{NodeKey as Key};
 ghost use Rattle.sm_names.specs.Sameness.{same_key};
 ghost use Rattle.buffer_holds.specs.Counts.{total};
-ghost use Rattle.node_table.specs.Table.{node_at, row_at, table_len};
-ghost use Rattle.alloc_event.specs.declared.node.Node.{Node as NodeValue};
+ghost use Rattle.node_table.specs.Table.{row_at, table_len};
 ghost use Rattle.alloc_event.specs.declared.pending_units.PendingUnit.{PendingUnit as PendingValue};
 ghost use Rattle.alloc_event.specs.Garbage.{IsPlace};
 ghost use Rattle.alloc_event.specs.Shelves.{Shelf, nodes_with};
 ghost use Rattle.alloc_event.specs.Scenes.{given_few};
 ghost use Rattle.alloc_event.specs.UnitAllocation.{is_head_at};
-ghost use Rattle.alloc_event.specs.MidEvent.{ArePlacedIfThere, AreTurns, AfterPropagation, MidEvent, is_abandoned_in, is_head_left, turn_heads, waits_among};
+ghost use Rattle.alloc_event.specs.MidEvent.{ArePlacedIfThere, AreTurns, MidEvent, is_abandoned_in, is_head_left, turn_heads, waits_among};
+ghost use Rattle.alloc_event.specs.Stores.{AfterPropagationIn, AreNamed, MidEventIn, nodes_in};
 
 use crate::dropped::{has_given_root, is_strong_open};
 use crate::entry::Entry;
@@ -20,6 +20,7 @@ use crate::garbage::place_near;
 use crate::logical_allocation::allocate_pending;
 use crate::node::Node;
 use crate::ready_units::{find_ready_below, is_head_at};
+use crate::store::NodeStore;
 use crate::unit_counts::Unit;
 use buffer_holds::Holds;
 use node_table::NodeTable;
@@ -79,8 +80,10 @@ fn list_head(
 )
     requires room { length turns.old.items < vec_capacity turns.old }
     ensures heads { turn_heads turns.new.items
-        ≡ turn_heads turns.old.items ++ filter (is_head_at table.now units.now entry.now.id head) (key ∷ []) }
-    ensures placed { ArePlacedIfThere entry.now.keys.items turns.old.items → ArePlacedIfThere entry.now.keys.items turns.new.items }
+        ≡ turn_heads turns.old.items ++ filter (is_head_at table.now units.now entry.now.id head)
+        (key ∷ []) }
+    ensures placed { ArePlacedIfThere entry.now.keys.items turns.old.items →
+        ArePlacedIfThere entry.now.keys.items turns.new.items }
     ensures few { length turns.new.items ≤ length turns.old.items + 1 }
     ensures room { vec_capacity turns.new ≡ vec_capacity turns.old }
 {
@@ -102,7 +105,8 @@ fn list_heads(
     turns: &mut Vec<PendingUnit>,
 )
     requires room { length walked.now ≤ vec_capacity turns.old }
-    ensures heads { turn_heads turns.new.items ≡ filter (is_head_at table.now units.now entry.now.id head) walked.now }
+    ensures heads { turn_heads turns.new.items
+        ≡ filter (is_head_at table.now units.now entry.now.id head) walked.now }
     ensures placed { ArePlacedIfThere entry.now.keys.items turns.new.items }
 {
     turns.clear();
@@ -135,10 +139,12 @@ pub(crate) fn list_pending(
     requires there { IsSome (row_at table.now head) }
     requires walked { table_len table.now ≤ vec_capacity walked.old }
     requires turns { table_len table.now ≤ vec_capacity turns.old }
-    ensures listed { (ss : List Shelf) (unheld pending : List Key) → MidEvent table.now units.now ss entry.now unheld pending →
+    ensures listed { (ss : List Shelf) (unheld pending : List Key) →
+        MidEvent table.now units.now ss entry.now unheld pending →
         is_head_left (nodes_with table.now entry.now.keys.items) head ≡ true →
         AreTurns table.now entry.now.keys.items turns.new.items
-        × ((place : ℕ) × (rest : List PendingValue) × (turns.new.items ≡ record { place = place; head = head } ∷ rest)) }
+        × ((place : ℕ) × (rest : List PendingValue)
+        × (turns.new.items ≡ record { place = place; head = head } ∷ rest)) }
     ensures walked { vec_capacity walked.old ≤ vec_capacity walked.new }
 {
     find_ready_below(table, units, entry.id, head, walked);
@@ -151,7 +157,8 @@ pub(crate) fn list_pending(
 /// handles of each buffer where no strong node is live.
 fn are_abandoned(table: &NodeTable<Node>, entry: &Entry, buffers: Buffers, holds: &Holds) -> bool
     requires { given_few (Some buffers) ≡ true }
-    ensures { entry.now.buffers ≡ Some buffers → result ≡ is_abandoned_in (total holds.now) table.now entry.now }
+    ensures { entry.now.buffers ≡ Some buffers →
+        result ≡ is_abandoned_in (total holds.now) table.now entry.now }
 {
     entry.strong == 0
         && has_given_root(table, entry.keys.as_slice())
@@ -161,8 +168,7 @@ fn are_abandoned(table: &NodeTable<Node>, entry: &Entry, buffers: Buffers, holds
 /// Each of these units has its turn, until the buffers are abandoned. It costs what each turn costs, and
 /// for each, where no strong node is live, a look at the handles of each buffer. It takes no memory.
 pub(crate) fn allocate_all_pending(
-    table: &mut NodeTable<Node>,
-    units: &mut Vec<Unit>,
+    nodes: &mut NodeStore,
     entry: &mut Entry,
     holds: &Holds,
     buffers: Buffers,
@@ -170,20 +176,20 @@ pub(crate) fn allocate_all_pending(
     keys: &mut Vec<NodeKey>,
 )
     requires few { given_few (Some buffers) ≡ true }
-    requires named { (key : Key) (n : NodeValue) → node_at table.old key ≡ Some n → n.key ≡ key }
-    requires room { table_len table.old ≤ vec_capacity keys.old }
-    ensures out { (ss : List Shelf) → MidEvent table.old units.old.items ss entry.old [] (turn_heads turns.now) →
-        AreTurns table.old entry.old.keys.items turns.now →
-        waits_among [] (nodes_with table.old entry.old.keys.items) ≡ true → entry.old.buffers ≡ Some buffers →
-        AfterPropagation (total holds.now) table.old table.new units.new.items ss entry.old entry.new }
-    ensures named { (key : Key) (n : NodeValue) → node_at table.new key ≡ Some n → n.key ≡ key }
-    ensures len { table_len table.new ≡ table_len table.old }
+    requires named { AreNamed nodes.old.table }
+    requires room { table_len nodes.old.table ≤ vec_capacity keys.old }
+    ensures out { (ss : List Shelf) → MidEventIn nodes.old ss entry.old [] (turn_heads turns.now) →
+        AreTurns nodes.old.table entry.old.keys.items turns.now →
+        waits_among [] (nodes_in nodes.old entry.old) ≡ true → entry.old.buffers ≡ Some buffers →
+        AfterPropagationIn (total holds.now) nodes.old nodes.new ss entry.old entry.new }
+    ensures named { AreNamed nodes.new.table }
+    ensures len { table_len nodes.new.table ≡ table_len nodes.old.table }
     ensures room { vec_capacity keys.old ≤ vec_capacity keys.new }
 {
     for turn in turns {
-        if are_abandoned(table, entry, buffers, holds) {
+        if are_abandoned(&nodes.table, entry, buffers, holds) {
             return;
         }
-        allocate_pending(table, units, entry, buffers, turn.head, keys);
+        allocate_pending(nodes, entry, buffers, turn.head, keys);
     }
 }

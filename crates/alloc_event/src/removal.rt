@@ -1,11 +1,11 @@
 //! What is lost or ends with a node goes in its place.
 ghost use Rattle.std.specs.Prelude.{◌≡◌, ◌≤◌, List, Some, IsSome, vec_capacity};
 ghost use Rattle.sm_names.specs.declared.keys.NodeKey.{NodeKey as Key};
-ghost use Rattle.node_table.specs.Table.{node_at, row_at, table_len};
-ghost use Rattle.alloc_event.specs.declared.node.Node.{Node as NodeValue};
+ghost use Rattle.node_table.specs.Table.{row_at, table_len};
 ghost use Rattle.alloc_event.specs.Removal.{IsGoneSo, head_over};
-ghost use Rattle.alloc_event.specs.Shelves.{Shelf, nodes_with};
-ghost use Rattle.alloc_event.specs.MidEvent.{MidEvent, AfterRemoval, MayGo};
+ghost use Rattle.alloc_event.specs.Shelves.{Shelf};
+ghost use Rattle.alloc_event.specs.MidEvent.{MayGo};
+ghost use Rattle.alloc_event.specs.Stores.{AfterRemovalIn, AreNamed, MidEventIn, nodes_in};
 
 use crate::entry::Entry;
 use crate::garbage::note_gone;
@@ -13,10 +13,10 @@ use crate::loss_marks::Going;
 use crate::node::Node;
 use crate::removed_nodes::{decrement_all, mark_all_gone, recount};
 use crate::reserved::without;
-use crate::unit_counts::Unit;
+use crate::store::NodeStore;
 use failure_domains::fall_into;
 use node_table::NodeTable;
-use sm_names::{Cause, Fault, NodeKey};
+use sm_names::{Fault, NodeKey};
 
 /// The head of the unit that the parent of the first of these is in, if it has a parent.
 fn head_over(table: &NodeTable<Node>, keys: &[NodeKey]) -> Option<NodeKey>
@@ -36,28 +36,28 @@ fn head_over(table: &NodeTable<Node>, keys: &[NodeKey]) -> Option<NodeKey>
 ///
 /// It costs what the failure climbs, and what goes, and takes no memory.
 fn remove_taken(
-    table: &mut NodeTable<Node>,
-    units: &mut Vec<Unit>,
+    nodes: &mut NodeStore,
     entry: &mut Entry,
     origin: NodeKey,
     going: &Going,
     keys: &mut Vec<NodeKey>,
 ) -> Option<NodeKey>
-    requires room { table_len table.old ≤ vec_capacity keys.old }
-    requires named { (key : Key) (n : NodeValue) → node_at table.old key ≡ Some n → n.key ≡ key }
-    requires there { IsSome (row_at table.old origin) }
-    ensures gone { IsGoneSo table.old table.new units.old.items units.new.items entry.old entry.new going.now origin keys.new.items }
-    ensures above { result ≡ head_over table.old keys.new.items }
+    requires room { table_len nodes.old.table ≤ vec_capacity keys.old }
+    requires named { AreNamed nodes.old.table }
+    requires there { IsSome (row_at nodes.old.table origin) }
+    ensures gone { IsGoneSo nodes.old.table nodes.new.table nodes.old.units.items
+        nodes.new.units.items entry.old entry.new going.now origin keys.new.items }
+    ensures above { result ≡ head_over nodes.old.table keys.new.items }
     ensures room { vec_capacity keys.old ≤ vec_capacity keys.new }
 {
-    fall_into(table, origin, keys).unwrap();
-    let above = head_over(table, keys);
-    let found = recount(table, keys);
-    decrement_all(table, units, keys);
-    let over = mark_all_gone(table, keys, going);
+    fall_into(&nodes.table, origin, keys).unwrap();
+    let above = head_over(&nodes.table, keys);
+    let found = recount(&nodes.table, keys);
+    decrement_all(&nodes.table, &mut nodes.units, keys);
+    let over = mark_all_gone(&mut nodes.table, keys, going);
     entry.strong = entry.strong.saturating_sub(found.strong);
     entry.reserved = without(entry.reserved, found.reserved);
-    note_gone(table, entry, keys, over);
+    note_gone(&nodes.table, entry, keys, over);
     above
 }
 
@@ -69,26 +69,28 @@ fn remove_taken(
 /// It costs what the failure climbs, and each node at and below the highest, also one that was gone
 /// before, and takes no memory.
 pub(crate) fn remove_subtree(
-    table: &mut NodeTable<Node>,
-    units: &mut Vec<Unit>,
+    nodes: &mut NodeStore,
     entry: &mut Entry,
     origin: NodeKey,
     fault: Option<Fault>,
     keys: &mut Vec<NodeKey>,
 ) -> Option<NodeKey>
-    requires room { table_len table.old ≤ vec_capacity keys.old }
-    requires named { (key : Key) (n : NodeValue) → node_at table.old key ≡ Some n → n.key ≡ key }
-    requires there { IsSome (row_at table.old origin) }
-    ensures went { (ss : List Shelf) (unheld pending : List Key) → MidEvent table.old units.old.items ss entry.old unheld pending →
-        MayGo (nodes_with table.old entry.old.keys.items) origin fault →
-        AfterRemoval table.old table.new units.new.items ss entry.old entry.new origin fault result unheld pending }
-    ensures named { (key : Key) (n : NodeValue) → node_at table.new key ≡ Some n → n.key ≡ key }
-    ensures there { (key : Key) → IsSome (row_at table.old key) → IsSome (row_at table.new key) }
-    ensures len { table_len table.new ≡ table_len table.old }
+    requires room { table_len nodes.old.table ≤ vec_capacity keys.old }
+    requires named { AreNamed nodes.old.table }
+    requires there { IsSome (row_at nodes.old.table origin) }
+    ensures went { (ss : List Shelf) (unheld pending : List Key) →
+        MidEventIn nodes.old ss entry.old unheld pending →
+        MayGo (nodes_in nodes.old entry.old) origin fault →
+        AfterRemovalIn nodes.old nodes.new ss entry.old entry.new origin fault result unheld
+        pending }
+    ensures named { AreNamed nodes.new.table }
+    ensures there { (key : Key) → IsSome (row_at nodes.old.table key) →
+        IsSome (row_at nodes.new.table key) }
+    ensures len { table_len nodes.new.table ≡ table_len nodes.old.table }
     ensures room { vec_capacity keys.old ≤ vec_capacity keys.new }
 {
     match fault {
-        Some(fault) => remove_taken(table, units, entry, origin, &Going::Fails(fault), keys),
-        None => remove_taken(table, units, entry, origin, &Going::Leaves, keys),
+        Some(fault) => remove_taken(nodes, entry, origin, &Going::Fails(fault), keys),
+        None => remove_taken(nodes, entry, origin, &Going::Leaves, keys),
     }
 }

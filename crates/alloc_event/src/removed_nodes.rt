@@ -12,6 +12,7 @@ ghost use Rattle.alloc_event.specs.LossMarks.{gone_by, unreckoned};
 ghost use Rattle.alloc_event.specs.Shelves.{Stores, nodes_with};
 ghost use Rattle.alloc_event.specs.Nodes.{is_over};
 ghost use Rattle.alloc_event.specs.Reserved.{reserved_count};
+ghost use Rattle.alloc_event.specs.Stores.{AreNamed};
 
 use crate::lookup::{is_over, is_strong};
 use crate::loss_marks::{Going, go, uncount, uncount_below};
@@ -19,7 +20,7 @@ use crate::node::Node;
 use crate::reserved::camped;
 use crate::unit_counts::{Unit, head_above};
 use node_table::NodeTable;
-use sm_names::{CollectionId, NodeKey};
+use sm_names::NodeKey;
 
 /// What is to be known of nodes before they go.
 #[derive(Clone, Copy)]
@@ -51,7 +52,8 @@ pub(crate) fn recount(table: &NodeTable<Node>, keys: &[NodeKey]) -> Recounted
 /// Counts the node with this key no longer, if it is there and not gone: for its unit, and for the one
 /// right above that, if it heads one.
 fn decrement_for(table: &NodeTable<Node>, units: &mut Vec<Unit>, key: NodeKey)
-    ensures { units.new.items ≡ unreckoned table.now (nodes_with table.now (key ∷ [])) units.old.items }
+    ensures { units.new.items
+        ≡ unreckoned table.now (nodes_with table.now (key ∷ [])) units.old.items }
 {
     if let Some(node) = table.get(key) {
         if !node.gone {
@@ -63,7 +65,8 @@ fn decrement_for(table: &NodeTable<Node>, units: &mut Vec<Unit>, key: NodeKey)
 
 /// Counts the nodes with these keys no longer, for their units and for those right above.
 pub(crate) fn decrement_all(table: &NodeTable<Node>, units: &mut Vec<Unit>, keys: &[NodeKey])
-    ensures { units.new.items ≡ unreckoned table.now (nodes_with table.now keys.now) units.old.items }
+    ensures { units.new.items
+        ≡ unreckoned table.now (nodes_with table.now keys.now) units.old.items }
 {
     for key in keys {
         decrement_for(table, units, *key);
@@ -73,9 +76,12 @@ pub(crate) fn decrement_all(table: &NodeTable<Node>, units: &mut Vec<Unit>, keys
 /// The node with this key goes, if it is there. Answers whether it is over then.
 fn mark_gone(table: &mut NodeTable<Node>, key: NodeKey, going: &Going) -> bool
     ensures none { node_at table.old key ≡ None → table.new ≡ table.old }
-    ensures becomes { (n : NodeValue) → node_at table.old key ≡ Some n → table.new ≡ table_with_node table.old key (gone_by going.now n) }
-    ensures writes { (n : NodeValue) → node_at table.old key ≡ Some n → Writes table.old table.new key (gone_by going.now n) }
-    ensures over { result ≡ option_map_or (λ n. is_over (gone_by going.now n)) (node_at table.old key) false }
+    ensures becomes { (n : NodeValue) → node_at table.old key ≡ Some n →
+        table.new ≡ table_with_node table.old key (gone_by going.now n) }
+    ensures writes { (n : NodeValue) → node_at table.old key ≡ Some n →
+        Writes table.old table.new key (gone_by going.now n) }
+    ensures over { result
+        ≡ option_map_or (λ n. is_over (gone_by going.now n)) (node_at table.old key) false }
 {
     match table.get_mut(key) {
         Some(node) => {
@@ -89,10 +95,12 @@ fn mark_gone(table: &mut NodeTable<Node>, key: NodeKey, going: &Going) -> bool
 /// The nodes with these keys go, each in its place. Answers whether one of them is over then. It
 /// costs their number.
 pub(crate) fn mark_all_gone(table: &mut NodeTable<Node>, keys: &[NodeKey], going: &Going) -> bool
-    requires named { (key : Key) (n : NodeValue) → node_at table.old key ≡ Some n → n.key ≡ key }
+    requires named { AreNamed table.old }
     requires once { AllPairs (λ (a b : Key). a ≢ b) keys.now }
-    ensures stores { Stores table.old table.new (map (gone_by going.now) (nodes_with table.old keys.now)) }
-    ensures over { result ≡ list_any is_over (map (gone_by going.now) (nodes_with table.old keys.now)) }
+    ensures stores { Stores table.old table.new (map (gone_by going.now)
+        (nodes_with table.old keys.now)) }
+    ensures over { result
+        ≡ list_any is_over (map (gone_by going.now) (nodes_with table.old keys.now)) }
 {
     let mut over = false;
     for key in keys {

@@ -11,7 +11,7 @@ ghost use Rattle.alloc_event.specs.Reserved.{asked_by, camped, effected, reserve
 use crate::change::{Change, Effect};
 use crate::node::Node;
 use node_table::NodeTable;
-use sm_names::{CollectionId, Constraints, NodeKey};
+use sm_names::{Constraints, NodeKey};
 
 /// What is reserved, where so much of it is free again.
 pub(crate) fn without(reserved: u128, freed: u128) -> u128
@@ -65,7 +65,8 @@ fn reserved_with(
     ensures { IfSome result (λ now. (us : List Counts) (ss : List Shelf) (s : Shelf) (lives : ℕ) →
         IsOpen table.now us ss s (Changed.Effect key (Effected.Constrained demand)) lives →
         reserved ≡ reserved_count (nodes_with table.now s.keys) →
-        now ≡ reserved_count (after_effect key (Effected.Constrained demand) (nodes_with table.now s.keys))) }
+        now ≡ reserved_count (after_effect key (Effected.Constrained demand)
+        (nodes_with table.now s.keys))) }
 {
     let node = table.get(key)?;
     exchanged(

@@ -21,9 +21,11 @@ pub(crate) fn free_home_buffers(
     holds: &Holds,
     strong_live: bool,
 )
-    requires { (others : List Interval) × (pool.old.held ≡ by_page (pages_held held.old.items ++ others)) }
+    requires { (others : List Interval)
+        × (pool.old.held ≡ by_page (pages_held held.old.items ++ others)) }
     ensures held { held.new.items ≡ filter (is_out (total holds.now) strong_live) held.old.items }
-    ensures pool { (others : List Interval) → pool.old.held ≡ by_page (pages_held held.old.items ++ others) →
+    ensures pool { (others : List Interval) →
+        pool.old.held ≡ by_page (pages_held held.old.items ++ others) →
         pool.new.held ≡ by_page (pages_held held.new.items ++ others) }
     ensures size { pool.new.size ≡ pool.old.size }
 {
@@ -68,7 +70,8 @@ fn return_one(
     requires run { HoldsRun run.old pool.old.held }
     requires there { Contains (rest_of run.old pool.old.held) buffer.pages }
     ensures held { rest_of run.new pool.new.held ≡ (if is_out (total holds.now) strong_live buffer
-        then rest_of run.old pool.old.held else without buffer.pages.start (rest_of run.old pool.old.held)) }
+        then rest_of run.old pool.old.held else without buffer.pages.start
+        (rest_of run.old pool.old.held)) }
     ensures run { HoldsRun run.new pool.new.held }
     ensures size { pool.new.size ≡ pool.old.size }
     ensures sound { IsSoundPool pool.new }

@@ -1,17 +1,18 @@
 //! Units that nothing holds any more end, also once a fault took what held them.
 ghost use Rattle.std.specs.Prelude.{◌≡◌, ◌≤◌, ◌∷◌, [], List, Some, true, IfSome, IsSome, vec_capacity};
 ghost use Rattle.sm_names.specs.declared.keys.NodeKey.{NodeKey as Key};
-ghost use Rattle.node_table.specs.Table.{node_at, row_at, table_len};
-ghost use Rattle.alloc_event.specs.declared.node.Node.{Node as NodeValue};
+ghost use Rattle.node_table.specs.Table.{row_at, table_len};
 ghost use Rattle.alloc_event.specs.Climbing.{climbed, unit_over};
 ghost use Rattle.alloc_event.specs.Decisions.{is_left_of};
-ghost use Rattle.alloc_event.specs.Shelves.{Shelf, nodes_with};
+ghost use Rattle.alloc_event.specs.Shelves.{Shelf};
 ghost use Rattle.alloc_event.specs.Settling.{Handles};
-ghost use Rattle.alloc_event.specs.MidEvent.{AreOrEnd, AfterLoss, AfterSteps, MidEvent, is_head_left};
+ghost use Rattle.alloc_event.specs.MidEvent.{AreOrEnd, is_head_left};
+ghost use Rattle.alloc_event.specs.Stores.{AfterLossIn, AfterStepsIn, AreNamed, MidEventIn, nodes_in};
 
 use crate::entry::Entry;
 use crate::node::Node;
 use crate::removal::remove_subtree;
+use crate::store::NodeStore;
 use crate::unit_counts::{Unit, is_held_by, unit_in};
 use node_table::NodeTable;
 use sm_names::{Fault, NodeKey};
@@ -53,60 +54,59 @@ fn highest(table: &NodeTable<Node>, units: &[Unit], head: NodeKey) -> NodeKey
 /// that nothing holds but the one below ends, and all below it. It costs the climb over those units
 /// and what ends, and takes no memory.
 pub(crate) fn end_above(
-    table: &mut NodeTable<Node>,
-    units: &mut Vec<Unit>,
+    nodes: &mut NodeStore,
     entry: &mut Entry,
     head: NodeKey,
     keys: &mut Vec<NodeKey>,
 )
-    requires room { table_len table.old ≤ vec_capacity keys.old }
-    requires named { (key : Key) (n : NodeValue) → node_at table.old key ≡ Some n → n.key ≡ key }
-    requires there { IsSome (row_at table.old head) }
+    requires room { table_len nodes.old.table ≤ vec_capacity keys.old }
+    requires named { AreNamed nodes.old.table }
+    requires there { IsSome (row_at nodes.old.table head) }
     ensures led { (handles : Handles) (ss : List Shelf) (pending : List Key) →
-        MidEvent table.old units.old.items ss entry.old (head ∷ []) pending →
-        is_head_left (nodes_with table.old entry.old.keys.items) head ≡ true →
-        AfterSteps handles table.old table.new units.new.items ss entry.old entry.new [] pending }
+        MidEventIn nodes.old ss entry.old (head ∷ []) pending →
+        is_head_left (nodes_in nodes.old entry.old) head ≡ true →
+        AfterStepsIn handles nodes.old nodes.new ss entry.old entry.new [] pending }
     ensures ended { (ss : List Shelf) (pending : List Key) →
-        MidEvent table.old units.old.items ss entry.old (head ∷ []) pending →
-        is_head_left (nodes_with table.old entry.old.keys.items) head ≡ true →
-        AreOrEnd (nodes_with table.old entry.old.keys.items) (nodes_with table.new entry.old.keys.items) }
-    ensures named { (key : Key) (n : NodeValue) → node_at table.new key ≡ Some n → n.key ≡ key }
-    ensures there { (key : Key) → IsSome (row_at table.old key) → IsSome (row_at table.new key) }
-    ensures len { table_len table.new ≡ table_len table.old }
+        MidEventIn nodes.old ss entry.old (head ∷ []) pending →
+        is_head_left (nodes_in nodes.old entry.old) head ≡ true →
+        AreOrEnd (nodes_in nodes.old entry.old) (nodes_in nodes.new entry.old) }
+    ensures named { AreNamed nodes.new.table }
+    ensures there { (key : Key) → IsSome (row_at nodes.old.table key) →
+        IsSome (row_at nodes.new.table key) }
+    ensures len { table_len nodes.new.table ≡ table_len nodes.old.table }
     ensures room { vec_capacity keys.old ≤ vec_capacity keys.new }
 {
-    if is_held_by(&unit_in(units, head.slot as usize)) {
+    if is_held_by(&unit_in(&nodes.units, head.slot as usize)) {
         return;
     }
-    let top = highest(table, units, head);
-    remove_subtree(table, units, entry, top, None, keys);
+    let top = highest(&nodes.table, &nodes.units, head);
+    remove_subtree(nodes, entry, top, None, keys);
 }
 
 /// What the fault takes goes; where nothing holds the unit above it then, that ends, or the highest
 /// above it that nothing holds. It costs what the failure climbs, and what goes, and takes no memory.
 pub(crate) fn fall_by(
-    table: &mut NodeTable<Node>,
-    units: &mut Vec<Unit>,
+    nodes: &mut NodeStore,
     entry: &mut Entry,
     fault: Fault,
     keys: &mut Vec<NodeKey>,
 )
-    requires named { (key : Key) (n : NodeValue) → node_at table.old key ≡ Some n → n.key ≡ key }
-    requires room { table_len table.old ≤ vec_capacity keys.old }
-    requires there { IsSome (row_at table.old fault.origin) }
+    requires named { AreNamed nodes.old.table }
+    requires room { table_len nodes.old.table ≤ vec_capacity keys.old }
+    requires there { IsSome (row_at nodes.old.table fault.origin) }
     ensures felled { (handles : Handles) (ss : List Shelf) (pending : List Key) →
-        MidEvent table.old units.old.items ss entry.old [] pending →
-        is_left_of (nodes_with table.old entry.old.keys.items) fault.origin ≡ true →
-        AfterLoss handles table.old table.new units.new.items ss entry.old entry.new fault pending }
-    ensures named { (key : Key) (n : NodeValue) → node_at table.new key ≡ Some n → n.key ≡ key }
-    ensures len { table_len table.new ≡ table_len table.old }
+        MidEventIn nodes.old ss entry.old [] pending →
+        is_left_of (nodes_in nodes.old entry.old) fault.origin ≡ true →
+        AfterLossIn handles nodes.old nodes.new ss entry.old entry.new fault pending }
+    ensures named { AreNamed nodes.new.table }
+    ensures len { table_len nodes.new.table ≡ table_len nodes.old.table }
     ensures room { vec_capacity keys.old ≤ vec_capacity keys.new }
 {
-    let Some(above) = remove_subtree(table, units, entry, fault.origin, Some(fault), keys) else {
+    let Some(above) = remove_subtree(nodes, entry, fault.origin, Some(fault), keys) else {
         return;
     };
     // The head of the unit above is there, since that is not gone.
-    if table.get(above).is_some() {
-        end_above(table, units, entry, above, keys);
+    if nodes.table.get(above).is_some() {
+        end_above(nodes, entry, above, keys);
     }
 }

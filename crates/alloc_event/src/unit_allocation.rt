@@ -1,21 +1,19 @@
 //! Units that are allocated in their places: whether one has its turn, what its nodes ask for, and how
 //! they are given their buffers.
 ghost use Rattle.std.specs.List.Sorted.{IsSorted};
-ghost use Rattle.std.specs.Prelude.{◌≡◌, ◌+◌, if◌then◌else◌, ◌∷◌, [], None, Some, true, false};
-ghost use Rattle.sm_names.specs.declared.keys.NodeKey.{NodeKey as Key};
+ghost use Rattle.std.specs.Prelude.{◌≡◌, if◌then◌else◌, ◌∷◌, [], None, Some, true, false};
 ghost use Rattle.node_table.specs.Changes.{Writes};
 ghost use Rattle.node_table.specs.Lending.{table_with_node};
 ghost use Rattle.node_table.specs.Table.{node_at};
 ghost use Rattle.alloc_event.specs.declared.node.Node.{Node as NodeValue};
 ghost use Rattle.alloc_event.specs.LossMarks.{key_order};
 ghost use Rattle.alloc_event.specs.UnitAllocation.{IsGivenAt, asked_at, has_turn_at, is_in_some, has_buffers_there};
+ghost use Rattle.alloc_event.specs.Stores.{AreNamed};
 
-use crate::at_rest::is_kept_by;
 use crate::node::Node;
 use crate::ready_units::{is_one_of, is_waiting_head};
-use buffer_holds::Holds;
 use node_table::NodeTable;
-use sm_names::{Buffers, CollectionId, Constraints, NodeKey};
+use sm_names::{Constraints, NodeKey};
 
 /// Whether there is a node with this key that is not gone, and its unit has its buffers.
 pub(crate) fn has_buffers_there(table: &NodeTable<Node>, key: NodeKey) -> bool
@@ -80,7 +78,7 @@ pub(crate) fn asked_at(
 /// their buffers then.
 pub(crate) fn mark_allocated(table: &mut NodeTable<Node>, keys: &[NodeKey], heads: &[NodeKey])
     requires sorted { IsSorted key_order heads.now }
-    requires named { (key : Key) (n : NodeValue) → node_at table.old key ≡ Some n → n.key ≡ key }
+    requires named { AreNamed table.old }
     ensures { IsGivenAt table.old table.new heads.now keys.now }
 {
     for key in keys {
@@ -90,8 +88,10 @@ pub(crate) fn mark_allocated(table: &mut NodeTable<Node>, keys: &[NodeKey], head
 
 /// The node with this key has its unit's buffers then.
 fn write_allocated(table: &mut NodeTable<Node>, key: NodeKey)
-    ensures becomes { (n : NodeValue) → node_at table.old key ≡ Some n → table.new ≡ table_with_node table.old key (record n { allocated = true }) }
-    ensures writes { (n : NodeValue) → node_at table.old key ≡ Some n → Writes table.old table.new key (record n { allocated = true }) }
+    ensures becomes { (n : NodeValue) → node_at table.old key ≡ Some n →
+        table.new ≡ table_with_node table.old key (record n { allocated = true }) }
+    ensures writes { (n : NodeValue) → node_at table.old key ≡ Some n →
+        Writes table.old table.new key (record n { allocated = true }) }
 {
     if let Some(node) = table.get_mut(key) {
         node.allocated = true;
@@ -101,7 +101,7 @@ fn write_allocated(table: &mut NodeTable<Node>, key: NodeKey)
 /// The node with this key has its unit's buffers then, if it is of one of these units.
 fn mark_allocated_at(table: &mut NodeTable<Node>, key: NodeKey, heads: &[NodeKey])
     requires sorted { IsSorted key_order heads.now }
-    requires named { (key : Key) (n : NodeValue) → node_at table.old key ≡ Some n → n.key ≡ key }
+    requires named { AreNamed table.old }
     ensures { IsGivenAt table.old table.new heads.now (key ∷ []) }
 {
     let Some(node) = table.get(key) else {

@@ -8,7 +8,7 @@ ghost use Rattle.alloc_event.specs.Shelves.{nodes_with};
 use crate::lookup::is_live;
 use crate::node::Node;
 use node_table::NodeTable;
-use sm_names::{CollectionId, NoMemory, NodeKey};
+use sm_names::{NoMemory, NodeKey};
 
 /// The counts of one unit.
 #[derive(Clone, Copy)]
@@ -190,7 +190,8 @@ fn hang_at(units: &mut Vec<Unit>, table: &NodeTable<Node>, key: NodeKey)
 
 /// Counts the node with this key, for its unit and for the one right above that.
 pub(crate) fn count_at(units: &mut Vec<Unit>, table: &NodeTable<Node>, key: NodeKey)
-    ensures { units.new.items ≡ reckoned table.now (nodes_with table.now (key ∷ [])) units.old.items }
+    ensures { units.new.items
+        ≡ reckoned table.now (nodes_with table.now (key ∷ [])) units.old.items }
 {
     count_own(units, table, key);
     hang_at(units, table, key);

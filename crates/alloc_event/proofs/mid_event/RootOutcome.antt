@@ -1,5 +1,5 @@
 -- The root's unit comes to its allocation by an effect, and all that follows is made: the forest then.
-use Rattle.alloc_event.proofs.Common.{◌≡◌, ℕ, ◌==◌, refl, ap, sym, ◌∙◌, subst, true, false, not, ◌&&◌, inl, inr, List, [], ◌∷◌, ◌++◌, map, get_or, set, Option, Some, None, option_map, eqb-true, not-true, find, list_any, sum_by, option_map_or, HeldBuffer, Interval, NodeKey, Demand, forced, In, and_left, and_right, Table, node_at, Change, Effect, Entry, Node, Unit, has_strong, waiting, Collection, with_nodes, IsStored, Shelf, collection_in, forest_of, nodes_with, place_in, put_shelf, shelf_of, shelves_of, affected, is_deserted_node, reserved_count, Handles, Settles, collection_or_new, put, standing}
+use Rattle.alloc_event.proofs.Common.{◌≡◌, ℕ, refl, ap, sym, ◌∙◌, subst, true, false, not, inl, inr, List, [], ◌∷◌, ◌++◌, map, get_or, set, Some, None, option_map, find, list_any, sum_by, HeldBuffer, Interval, NodeKey, Demand, forced, In, Table, Change, Effect, Entry, Node, Unit, has_strong, waiting, Collection, with_nodes, Shelf, collection_in, forest_of, nodes_with, place_in, put_shelf, shelf_of, shelves_of, affected, is_deserted_node, reserved_count, Handles, Settles, collection_or_new, put, standing}
 use Rattle.std.proofs.lemmas.List.{get_or-set_same}
 use Rattle.sm_names.specs.Marks.{Mark}
 use Rattle.sm_names.specs.Words.{sorted_by}
@@ -18,7 +18,7 @@ use Rattle.alloc_event.specs.Starts.{starts_differ}
 use Rattle.alloc_event.specs.InitialAllocation.{IsComing, IsPlanned, IsReservedThen, IsRooted, IsAllocationOutcome, comes_first, first_made, shelf_then, wants_of}
 use Rattle.alloc_event.specs.Scenes.{by_page, pages_held}
 use Rattle.alloc_event.specs.UnitAllocation.{asked_with}
-use Rattle.alloc_event.specs.Settling.{Forces, changed, is_there, made, no_key}
+use Rattle.alloc_event.specs.Settling.{Forces, changed, made, no_key}
 use Rattle.alloc_event.specs.MidEvent.{AfterEffect, IsBeside, MidEvent, Reaches, are_held_except, holds_unit}
 use Rattle.alloc_event.proofs.quiescence.Forcing.{forced_made}
 use Rattle.alloc_event.proofs.changes.Done.{opens_at}
@@ -29,11 +29,11 @@ use Rattle.alloc_event.proofs.lists.SameIntervals.{start_of}
 use Rattle.alloc_event.proofs.allocation.Between.{StandsIn, stands_in}
 use Rattle.alloc_event.proofs.shelves.Counted.{counted_but, shelves_put}
 use Rattle.alloc_event.proofs.shelves.Entries.{IsPlace, place_is, set_put}
-use Rattle.alloc_event.proofs.shelves.Showing.{node_is}
 use Rattle.alloc_event.proofs.mid_event.Joining.{but_beside, but_set, here_is, joined, place_set}
 use Rattle.alloc_event.proofs.mid_event.Ready.{no_end_under}
 use Rattle.alloc_event.proofs.mid_event.RootAsks.{reserved_alone, wanted_then}
 use Rattle.alloc_event.proofs.mid_event.RootMade.{coming_decided, reserved_then, step_made, under_held}
+use Rattle.alloc_event.proofs.mid_event.Stepping.{node_there}
 use Rattle.alloc_event.proofs.mid_event.RootReady.{comes_bare, comes_coming, comes_held, none_waits_held, strong_then}
 
 -- the shelf's id and keys stay
@@ -46,23 +46,6 @@ then_held : (head : NodeKey) (v : AllocationOutcome) (s : Shelf) (c : Collection
     (first_made head v c).held ≡ (shelf_then v s).held
 then_held head (AllocationOutcome.Fails why) s c same = same
 then_held head (AllocationOutcome.Given buffers held) s c same = refl
-
--- the node is there, and not gone
-pub node_there : (t : Table Node) (ss : List Shelf) → IsStored t ss → (id : ℕ) (key : NodeKey) → is_there (forest_of t ss) id key ≡ true →
-    (n : Node) × (node_at t key ≡ Some n) × (n.gone ≡ false) × (n.collection ≡ id)
-node_there t ss kept id key fit =
-    from (node_at t key) refl
-    (ap (λ (o : Option Node). option_map_or (λ (m : Node). m.collection == id && not m.gone) o false) (sym (node_is t ss kept key)) ∙ fit)
-  where
-    from : (o : Option Node) → node_at t key ≡ o → option_map_or (λ (m : Node). m.collection == id && not m.gone) o false ≡ true →
-        (n : Node) × (node_at t key ≡ Some n) × (n.gone ≡ false) × (n.collection ≡ id)
-    from None at h = let no : false ≡ true = h in absurd (cc)
-    from (Some n) at h = (
-      n,
-      at,
-      not-true n.gone (and_right (n.collection == id) (not n.gone) h),
-      eqb-true n.collection id (and_left (n.collection == id) (not n.gone) h),
-    )
 
 -- where it does not come to its allocation, it does not wait, if something holds each unit
 pub waits_not : (t : Table Node) (es : List Entry) (id at : ℕ) (old : Entry) → place_in id es ≡ Some at → old ≡ get_or es at old →

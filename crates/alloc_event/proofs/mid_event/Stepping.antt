@@ -1,7 +1,6 @@
 -- Steps that were made from a collection to which a change was made, joined to the whole event.
-use Rattle.alloc_event.proofs.Common.{◌≡◌, ℕ, zero, suc, ◌<◌, ◌==◌, length, arith, true, false, not, ◌&&◌, refl, ap, sym, subst, ◌∙◌, List, [], ◌∷◌, ◌++◌, map, set, get_or, is_some, Option, Some, None, option_map, eqb-true, false≢true, not-true, find, option_map_or, In-find, and_left, and_right, HeldBuffer, NodeKey, Interval, Table, node_at, Change, Entry, Node, Unit, Collection, IsStored, Shelf, collection_in, forest_of, place_in, shelf_of, shelves_of, Handles, collection_or_new}
+use Rattle.alloc_event.proofs.Common.{◌≡◌, ℕ, zero, suc, ◌<◌, ◌==◌, length, arith, true, false, not, ◌&&◌, refl, ap, sym, subst, ◌∙◌, List, [], ◌∷◌, ◌++◌, map, set, get_or, is_some, Option, Some, None, option_map, eqb-true, false≢true, not-true, option_map_or, and_left, and_right, HeldBuffer, NodeKey, Interval, Table, node_at, Change, Entry, Node, Unit, Collection, IsStored, Shelf, collection_in, forest_of, place_in, shelf_of, shelves_of, Handles}
 use Rattle.std.proofs.Common.{IsSome}
-use Rattle.std.specs.Option.{unwrap_or}
 use Rattle.sm_names.specs.Words.{sorted_by}
 use Rattle.buffer_pool.specs.Holdings.{Holdings}
 use Rattle.node_table.specs.Table.{Row, row_at}
@@ -16,12 +15,11 @@ use Rattle.alloc_event.specs.MidEvent.{IsBeside, PropagatedFrom, MidEvent, Reach
 use Rattle.alloc_event.proofs.changes.Altering.{change_kept, found_whole}
 use Rattle.alloc_event.proofs.shelves.Counted.{counted_but}
 use Rattle.alloc_event.proofs.shelves.Entries.{none_in, place_is}
-use Rattle.alloc_event.proofs.shelves.Showing.{collection_is, node_is, shelf_found}
+use Rattle.alloc_event.proofs.shelves.Showing.{node_is, shelf_found}
 use Rattle.alloc_event.proofs.mid_event.GivenKept.{given_at}
 use Rattle.alloc_event.proofs.mid_event.Joining.{here_is, may_close, outcome_on, place_set, shelves_stay}
 use Rattle.alloc_event.proofs.mid_event.Premises.{inside_of}
-use Rattle.alloc_event.proofs.mid_event.Ready.{ready_close, ready_under, under_counted}
-use Rattle.alloc_event.proofs.quiescence.Watched.{found_counted}
+use Rattle.alloc_event.proofs.mid_event.Ready.{ready_close, ready_under}
 
 -- the pages of the same shelves are the same, whatever the nodes
 held_same : (t now : Table Node) (ss : List Shelf) → all_held (forest_of t ss) ≡ all_held (forest_of now ss)
@@ -165,22 +163,3 @@ module _ (handles : Handles) (t : Table Node) (us : List Unit) (es : List Entry)
     same = closes.same;
     size = size;
   }
-
--- what is found on a shelf
-collection_found : (t : Table Node) (ss : List Shelf) (id : ℕ) (s : Shelf) → find (λ (x : Shelf). x.id == id) ss ≡ Some s →
-    collection_or_new (forest_of t ss) id ≡ collection_in t s
-collection_found t ss id s found =
-    ap (λ (o : Option Collection). unwrap_or o (record { id = id; nodes = []; buffers = None; held = [] }))
-    (collection_is t id ss ∙ ap (option_map (collection_in t)) found)
-
--- the collection that is found is under way, with nothing loose and nothing due
-pub begins_found : (t : Table Node) (us : List Unit) (es : List Entry) (id : ℕ) (change : Change) → IsReady t es us id change →
-    (e : Entry) → find (λ (x : Entry). x.id == id) es ≡ Some e → MidEvent t us (shelves_of es) e [] []
-begins_found t us es id change ready e found =
-    let own : e.id ≡ id = eqb-true e.id id (In-find (λ (x : Entry). x.id == id) es e found).1 in
-    let shelf : find (λ (x : Shelf). x.id == id) (shelves_of es) ≡ Some (shelf_of e) = shelf_found id es ∙ ap (option_map shelf_of) found in
-    under_counted t us (shelves_of es) e ready.kept
-    (subst (λ (i : ℕ). find (λ (x : Shelf). x.id == i) (shelves_of es) ≡ Some (shelf_of e)) (sym own) shelf)
-    (found_counted t id es e ready.counted found) ready.units (inside_of t us es ready.kept ready.units)
-    (subst IsServedByGiven (collection_found t (shelves_of es) id (shelf_of e) shelf)
-    (given_at t (shelves_of es) id ready.given))

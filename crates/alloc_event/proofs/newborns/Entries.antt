@@ -14,23 +14,12 @@ use Rattle.alloc_event.proofs.newborns.Quiet.{counted_born}
 use Rattle.alloc_event.proofs.shelves.Showing.{collection_is, shelf_found}
 use Rattle.alloc_event.proofs.quiescence.Watched.{found_counted}
 
--- what facts of an answer make true of it
-pub on_three : {A E : Type 0} {P Q : A → Type 0} {X Z : Type 0} (r : Result A E) → IfOk r P → IfOk r Q → OnOk r X →
-    ((a : A) → P a → Q a → X → Z) → OnOk r Z
-on_three (Ok a) p q x all = all a p q x
-on_three (Err e) p q x all = tt
+-- what two facts of a result make true of it
+pub by_both : {A E : Type 0} {P Q R : A → Type 0} (r : Result A E) → IfOk r P → IfOk r Q → ((a : A) → P a → Q a → R a) → IfOk r R
+by_both (Ok a) p q both = both a p q
+by_both (Err e) p q both = tt
 
--- by cases on the result
-pub by_two : {A E : Type 0} {P R : A → Type 0} (r : Result A E) → IfOk r P → ((a : A) → P a → R a) → IfOk r R
-by_two (Ok a) p all = all a p
-by_two (Err e) p all = tt
-
--- by cases on the result
-pub on_two : {A E : Type 0} {P Q : A → Type 0} {Z : Type 0} (r : Result A E) → IfOk r P → IfOk r Q → ((a : A) → P a → Q a → Z) → OnOk r Z
-on_two (Ok a) p q all = all a p q
-on_two (Err e) p q all = tt
-
--- by cases on the result
+-- and of a refusal
 pub refused_two : {A E : Type 0} {X Y Z : Type 0} (r : Result A E) → OnErr r X → OnErr r Y → (X → Y → Z) → OnErr r Z
 refused_two (Ok a) x y all = tt
 refused_two (Err e) x y all = all x y

@@ -1,22 +1,18 @@
 -- A birth in a collection where nothing else changes with it.
-use Rattle.alloc_event.proofs.Common.{◌≡◌, ℕ, ◌+◌, Bool, true, false, ◌||◌, ◌&&◌, ◌==◌, not, if◌then◌else◌, List, [], ◌∷◌, ◌++◌, map, reverse, Option, Some, None, option_map, refl, sym, ap, subst, ◌∙◌, inl, inr, arith, find, list_all, list_any, option_map_or, NodeKey, forced, HeldBuffer, same_key, and_left, and_right, both_ways, either_way, same_key-refl, In-any, Table, Entry, Node, strong_count, over_except, Collection, Shelf, IsStored, put_shelf, collection_in, forest_of, shelf_of, is_of, members_of, reserved_count, Handles, collection_or_new, put, standing, are_rooted}
+use Rattle.alloc_event.proofs.Common.{◌≡◌, ℕ, ◌+◌, Bool, true, false, ◌||◌, ◌==◌, not, if◌then◌else◌, List, [], ◌∷◌, ◌++◌, map, reverse, Option, Some, None, option_map, refl, sym, ap, subst, ◌∙◌, arith, find, list_any, option_map_or, NodeKey, same_key, both_ways, same_key-refl, In-any, Table, Entry, Node, strong_count, over_except, Collection, Shelf, IsStored, put_shelf, collection_in, forest_of, shelf_of, is_of, reserved_count, collection_or_new, put, are_rooted}
 use Rattle.std.specs.Option.{unwrap_or}
 use Rattle.std.proofs.lemmas.List.{map-append}
 use Rattle.std.proofs.lemmas.List.Folds.{list_any-append}
-use Rattle.sm_names.specs.declared.keys.Strength.{Strength}
-use Rattle.sm_names.specs.Handles.{is_home}
-use Rattle.sm_names.specs.Members.{is_live, some_strong_live, Member}
-use Rattle.sm_names.proofs.ListLaws.{filter-list_all, times-append}
+use Rattle.sm_names.proofs.ListLaws.{times-append}
 use Rattle.sm_names.proofs.SamenessLaws.{or_both}
 use Rattle.alloc_event.specs.Calm.{IsQuiescent, IsCounted}
 use Rattle.alloc_event.proofs.leaving.Noted.{not_over_but}
-use Rattle.alloc_event.specs.Forest.{all_held, beside}
-use Rattle.alloc_event.specs.Shelves.{Bears, Finishes, born, is_strong}
-use Rattle.alloc_event.specs.Nodes.{member_of}
-use Rattle.alloc_event.specs.Settling.{given_back, is_home_in, with_birth}
-use Rattle.alloc_event.specs.Still.{IsStill, no_shelf, shelf_before, shelf_with}
+use Rattle.alloc_event.specs.Forest.{all_held}
+use Rattle.alloc_event.specs.Shelves.{Bears, born, is_strong}
+use Rattle.alloc_event.specs.Settling.{with_birth}
+use Rattle.alloc_event.specs.Still.{no_shelf, shelf_before, shelf_with}
 use Rattle.alloc_event.proofs.changes.Altering.{shelf_by}
-use Rattle.alloc_event.proofs.newborns.NothingForced.{HaveOthers, births_force_nothing, birth_settles, members_more}
+use Rattle.alloc_event.proofs.newborns.NothingForced.{HaveOthers}
 use Rattle.alloc_event.proofs.newborns.Calmness.{births_calm}
 use Rattle.alloc_event.proofs.newborns.Forest.{still_collections}
 use Rattle.alloc_event.proofs.tallies.Reserved.{reserved_append, reserved_one}
@@ -35,43 +31,6 @@ no_children nodes key rooted fresh n on here up =
     let x = left_node nodes key (left_parent nodes rooted n key on here up) in
     both_ways (list_any (is_of key) nodes) (In-any (is_of key) nodes x.node x.on (ap (λ (k : NodeKey). same_key k key) x.is
     ∙ same_key-refl key)) fresh
-
--- ---- buffers
-
--- what is not home is not home with one more node
-out_more : (strong weak : ℕ) (was more : Bool) → not (is_home strong weak was) ≡ true → not (is_home strong weak (was || more)) ≡ true
-out_more strong weak true more out = out
-out_more strong weak false false out = out
-out_more strong weak false true out = elim (either_way (strong == 0)) [
-  | inl e ↦ rw e refl
-  | inr e ↦ rw e refl
-]
-
--- a weaker test
-all_weaker : {A : Type 0} (p q : A → Bool) (xs : List A) → ((x : A) → p x ≡ true → q x ≡ true) → list_all p xs ≡ true → list_all q xs ≡ true
-all_weaker p q [] weaker all = refl
-all_weaker p q (x ∷ xs) weaker all =
-    rw (weaker x (and_left (p x) (list_all p xs) all)) (all_weaker p q xs weaker (and_right (p x) (list_all p xs) all))
-
--- with one more node no buffer goes home
-pub still_out : (handles : Handles) (c : Collection) (b : Node) → list_any (is_of b.key) c.nodes ≡ false → b.gone ≡ false →
-    list_all (λ (h : HeldBuffer). not (is_home_in handles c h.buffer)) c.held ≡ true →
-    given_back handles (record c { nodes = c.nodes ++ b ∷ [] }) ≡ record c { nodes = c.nodes ++ b ∷ [] }
-still_out handles c b fresh here out =
-    let strong : Member → Bool = λ m. is_live m && not m.weak in
-    let live : some_strong_live (members_of (c.nodes ++ b ∷ [])) ≡ (some_strong_live (members_of c.nodes) || some_strong_live
-    (member_of (c.nodes ++ b ∷ []) b ∷ [])) =
-    ap some_strong_live (members_more c.nodes b fresh here)
-    ∙ list_any-append strong (members_of c.nodes) (member_of (c.nodes ++ b ∷ []) b ∷ []) in
-    let out' = all_weaker (λ (h : HeldBuffer). not (is_home_in handles c h.buffer)) (λ (h : HeldBuffer).
-    not (is_home_in handles (record c { nodes = c.nodes ++ b ∷ [] }) h.buffer)) c.held
-    (λ h e. ap (λ l. not (is_home (handles h.buffer Strength.Strong) (handles h.buffer Strength.Weak) l)) live
-    ∙ out_more (handles h.buffer Strength.Strong) (handles h.buffer Strength.Weak) (some_strong_live (members_of c.nodes))
-    (some_strong_live (member_of (c.nodes ++ b ∷ []) b ∷ [])) e) out in
-    λ i. record c {
-      nodes = c.nodes ++ b ∷ [];
-      held = filter-list_all (λ (h : HeldBuffer). not (is_home_in handles (record c { nodes = c.nodes ++ b ∷ [] }) h.buffer)) c.held out' i;
-    }
 
 -- ---- the birth
 
@@ -190,36 +149,3 @@ module _ (t now : Table Node) (ss : List Shelf) (ok : IsStored t ss) (id : ℕ) 
       pub quiet_held : all_held (forest_of now behind) ≡ all_held (forest_of t ss)
       quiet_held = ap (λ (b : List Shelf). all_held (forest_of now b)) behind_is
           ∙ born_held t now ss ok id parent attached client event above at key bears
-
-    -- where nothing is forced and no buffer is home
-    module _ (handles : Handles) (still : IsStill handles (collection_or_new (forest_of t ss) id)) where
-      -- no pages go back
-      stays : given_back handles after ≡ after
-      stays = ap (given_back handles) grown_is
-          ∙ still_out handles c0 node (born_fresh t now ss ok id parent attached client event above at key bears)
-          (born_here above attached id event client key) still.out
-          ∙ sym grown_is
-
-      -- nothing is forced
-      pub quiet_finishes : (pool : ℕ) → Finishes pool handles t ss now
-          (put_shelf (shelf_by (born_collection t now ss ok id parent attached client event above at key bears)) ss) after
-      quiet_finishes pool = record {
-        after = after;
-        settles = birth_settles pool handles (beside (forest_of t ss) after.id) c0 (still.rest pool (beside (forest_of t ss) after.id)) parent
-            attached client event key fresh others;
-        collections = put-map now (shelf_by (born_collection t now ss ok id parent attached client event above at key bears)) ss
-            ∙ (λ i. put (born_shown t now ss ok id parent attached client event above at key bears i) (still_collections t now node bears ss
-            ok.filed i))
-            ∙ ap (λ c. put c (map (collection_in t) ss)) (sym (stays ∙ grown_is));
-        rests =
-            let behind =
-            beside (forest_of now (put_shelf (shelf_by (born_collection t now ss ok id parent attached client event above at key bears))
-            ss)) after.id in
-            ap (λ c. forced pool (standing handles behind c)) stays
-            ∙ births_force_nothing pool handles behind c0 (still.rest pool behind) parent attached client event key fresh others;
-      }
-
-      module _ (behind : List Shelf) (placed : behind ≡ put_shelf (shelf_with (shelf_before id ss) key) ss) where
-        -- nothing more is forced
-        pub quiet_ok : (pool : ℕ) → Finishes pool handles t ss now behind after
-        quiet_ok pool = subst (λ (b : List Shelf). Finishes pool handles t ss now b after) (sym (behind_is behind placed)) (quiet_finishes pool)

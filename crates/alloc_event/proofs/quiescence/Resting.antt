@@ -1,22 +1,20 @@
 -- A collection that rests, whether one of its strong nodes is live or not: nothing is forced in it, and no buffer goes home.
-use Rattle.alloc_event.proofs.Common.{◌≡◌, ℕ, ◌==◌, ◌⊎◌, Bool, true, false, ◌&&◌, not, nat_lt, inl, inr, List, [], ◌∷◌, ◌++◌, drop, Option, Some, None, option_map, is_none, is_some, refl, sym, ap, subst, ◌∙◌, not-true, cons_option, find, list_all, option_map_or, option_and_then, HeldBuffer, Interval, NodeKey, Buffers, Cause, forced, when, and_both, and_left, and_right, both_ways, either_way, or_cases, or_left, or_right, Table, node_at, Entry, Node, strong_count, has_strong, Collection, IsStored, IsWhole, Shelf, collection_in, forest_of, is_filed, nodes_with, shelf_of, shelves_of, members_of, is_root_left, Handles, collection_or_new, standing, In}
-use Rattle.std.specs.Option.{unwrap_or}
+use Rattle.alloc_event.proofs.Common.{◌≡◌, ℕ, ◌==◌, ◌⊎◌, Bool, true, false, ◌&&◌, not, nat_lt, inl, inr, List, [], ◌∷◌, ◌++◌, drop, Option, Some, None, option_map, is_none, is_some, refl, ap, ◌∙◌, not-true, cons_option, find, list_all, option_map_or, option_and_then, HeldBuffer, Interval, NodeKey, Buffers, Cause, forced, when, and_both, and_left, and_right, both_ways, either_way, or_cases, or_left, or_right, Table, node_at, Entry, Node, strong_count, has_strong, Collection, IsStored, IsWhole, Shelf, collection_in, is_filed, nodes_with, shelf_of, shelves_of, members_of, is_root_left, Handles, standing, In}
 use Rattle.sm_names.specs.Members.{some_strong_live}
 use Rattle.sm_names.specs.Words.{first_some}
-use Rattle.alloc_event.specs.Calm.{AreCounted, IsQuiescent}
+use Rattle.alloc_event.specs.Calm.{IsQuiescent}
 use Rattle.alloc_event.specs.Decisions.{Decision, Ends, Loses, decided, first_step, mark_of}
 use Rattle.alloc_event.specs.Dropped.{has_given_root}
 use Rattle.alloc_event.specs.Forest.{pages_in}
 use Rattle.alloc_event.specs.Resting.{is_at_rest, is_kept_by}
 use Rattle.alloc_event.specs.Scenes.{given_few, is_held_strongly, is_out}
 use Rattle.alloc_event.specs.Settling.{given_back, is_home_in}
-use Rattle.alloc_event.specs.Still.{IsStill}
 use Rattle.alloc_event.proofs.quiescence.Calming.{AreNone, none_calm, none_decided}
 use Rattle.alloc_event.proofs.quiescence.Forcing.{forced_made, strong_tie}
-use Rattle.alloc_event.proofs.quiescence.Watched.{all_out, found_counted, strong_lives}
-use Rattle.alloc_event.proofs.changes.Altering.{found_filed, found_whole}
+use Rattle.alloc_event.proofs.quiescence.Watched.{all_out, strong_lives}
+use Rattle.alloc_event.proofs.changes.Altering.{found_whole}
 use Rattle.sm_names.proofs.ListLaws.{filter-list_all}
-use Rattle.alloc_event.proofs.shelves.Showing.{collection_is, shelf_found}
+use Rattle.alloc_event.proofs.shelves.Showing.{shelf_found}
 
 -- ---- what is forced
 
@@ -195,28 +193,3 @@ pub few_found : (t : Table Node) (es : List Entry) (id : ℕ) (e : Entry) → Is
     find (λ (x : Entry). x.id == id) es ≡ Some e → given_few e.buffers ≡ true
 few_found t es id e kept found =
     (found_whole t id (shelves_of es) (shelf_of e) kept.whole (shelf_found id es ∙ ap (option_map shelf_of) found)).sound.few
-
--- a collection that rests is still, and so is one that is not there yet
-pub watched_still : (t : Table Node) (es : List Entry) (id : ℕ) → IsStored t (shelves_of es) → AreCounted t es → (handles : Handles) →
-    option_map_or (λ (e : Entry). is_kept_by handles t (shelf_of e) e.strong) (find (λ (e : Entry). e.id == id) es) true ≡ true →
-    IsStill handles (collection_or_new (forest_of t (shelves_of es)) id)
-watched_still t es id kept all handles watched =
-    subst (λ (o : Option Collection). IsStill handles (unwrap_or o (record { id = id; nodes = []; buffers = None; held = [] })))
-    (sym (collection_is t id (shelves_of es) ∙ ap (option_map (collection_in t)) (shelf_found id es)))
-    (from (find (λ (e : Entry). e.id == id) es) refl watched)
-  where
-    from : (o : Option Entry) → find (λ (e : Entry). e.id == id) es ≡ o →
-        option_map_or (λ (e : Entry). is_kept_by handles t (shelf_of e) e.strong) o true ≡ true →
-        IsStill handles (unwrap_or (option_map (collection_in t) (option_map shelf_of o))
-        (record { id = id; nodes = []; buffers = None; held = [] }))
-    from None found some = record { rest = λ pool others. refl; out = refl }
-    from (Some e) found some =
-        let counted = found_counted t id es e all found in
-        let at : find (λ (x : Shelf). x.id == id) (shelves_of es) ≡ Some (shelf_of e) =
-        shelf_found id es ∙ ap (option_map shelf_of) found in
-        let filed = found_filed t id (shelves_of es) (shelf_of e) kept.filed at in
-        let whole = found_whole t id (shelves_of es) (shelf_of e) kept.whole at in
-        record {
-          rest = λ pool others. rests_kept handles t (shelf_of e) e.strong filed whole counted.calm counted.strong some pool others;
-          out = out_kept handles t (shelf_of e) e.strong filed whole counted.calm counted.strong some;
-        }

@@ -1,10 +1,13 @@
 -- The buffer of the collection goes home, and nothing is forced in it.
-use Rattle.alloc_event.proofs.Common.{◌≡◌, ◌∙◌, ◌&&◌, ◌⊎◌, ◌++◌, ℕ, List, nat_lt, not, true, false, None, Some, inl, inr, refl, sym, ap, arith, lt-ltb, filter, total, Entry, forest_of, nodes_with, place_in, shelves_of}
+use Rattle.alloc_event.proofs.Common.{◌≡◌, ◌∙◌, ◌&&◌, ◌⊎◌, ◌++◌, ℕ, List, nat_lt, not, true, false, None, Some, inl, inr, refl, set, subst, sym, ap, arith, lt-ltb, filter, total, Entry, forest_of, nodes_with, place_in, shelves_of}
+use Rattle.std.proofs.lemmas.List.{get_or_default}
+use Rattle.alloc_event.specs.Calm.{AreCounted, IsCounted}
 use Rattle.alloc_event.specs.Decisions.{decided}
 use Rattle.alloc_event.specs.Dropped.{are_rest_out, has_given_root}
 use Rattle.alloc_event.specs.Forest.{beside}
 use Rattle.alloc_event.specs.Scenes.{by_page, is_held_strongly, is_out, pages_held}
 use Rattle.alloc_event.proofs.changes.Dropped.{IsReturned, decides_none, few_at, finishes_so, one_entry, pool_at, pool_so, rest_at, stored_so, units_so}
+use Rattle.alloc_event.proofs.shelves.Counted.{counted_set}
 use Rattle.alloc_event.proofs.shelves.Entries.{place_is}
 use Rattle.alloc_event.proofs.dropped.drop_in_place.Goals.{else-not-strong_live-via-then-not-strong_live+else-is_abandoned, else-not-strong_live-via-else-not-strong_live}
 use Rattle.alloc_event.proofs.dropped.drop_in_place.Goals as goal
@@ -120,26 +123,38 @@ module _ (c : goal.After-assert_disjoint-2) where
       pool_at (total c.args.holds.now) c.args.table.now es id at old told c.index_mut.ensures.value c.requires.kept c.requires.counted
       c.args.pool.now.held c.assert_disjoint.ensures c.requires.pool
 
-pub returns-clause-ok : goal.returns-clause-ok
-returns-clause-ok c h =
-    finishes_so (total c.args.holds.now) c.args.table.now c.args.entries.now.items c.args.buffer.collection c.in-Some.at
-    c.index_mut.result.now (told c) c.index_mut.ensures.value c.requires.kept c.requires.counted (new c) (returned c) (none c)
-    c.args.pool.now.size
+  -- the held buffers are no part of what is counted
+  counted_now : AreCounted c.args.table.now (set c.args.entries.now.items c.in-Some.at new)
+  counted_now =
+      counted_set c.args.table.now es at new (λ within was.
+      let then = subst (IsCounted c.args.table.now) (get_or_default es at new old within ∙ sym c.index_mut.ensures.value) was in
+      record { calm = then.calm; strong = then.strong; reserved = then.reserved; garbage_known = then.garbage_known }) c.requires.counted
 
-pub returns-clause-kept : goal.returns-clause-kept
-returns-clause-kept c =
-    stored_so (total c.args.holds.now) c.args.table.now c.args.entries.now.items c.args.buffer.collection c.in-Some.at
-    c.index_mut.result.now (told c) c.index_mut.ensures.value c.requires.kept c.requires.counted (new c) (returned c)
+pub returns-clause-outcome : goal.returns-clause-outcome
+returns-clause-outcome c =
+    let handles = total c.args.holds.now in
+    let t = c.args.table.now in
+    let id = c.args.buffer.collection in
+    let now = c.index_mut.result.now in
+    let is = c.index_mut.ensures.value in
+    let kept = c.requires.kept in
+    let counted = c.requires.counted in
+    record {
+      settled = λ made. record {
+        finishes = finishes_so handles t (es c) id (at c) now (told c) is kept counted (new c) (returned c) (none c) c.args.pool.now.size;
+        kept = stored_so handles t (es c) id (at c) now (told c) is kept counted (new c) (returned c);
+        counted = counted_now c;
+        holds = pool_so handles t (es c) id (at c) now (told c) is kept counted (new c) (returned c) c.free_if_home.new.pool.held
+            c.assert_disjoint-2.ensures
+            (c.free_if_home.ensures.pool (beside (forest_of t (shelves_of (es c))) now.id) (held_before c));
+      };
+      unchanged = λ not. cc;
+      same_pool = λ not. cc;
+      same = record { first = refl; nexts = refl; limit = refl; len = refl };
+      size = c.free_if_home.ensures.size;
+    }
 
 pub returns-clause-units : goal.returns-clause-units
 returns-clause-units c =
     units_so (total c.args.holds.now) c.args.table.now c.args.entries.now.items c.args.buffer.collection c.in-Some.at
     c.index_mut.result.now (told c) c.index_mut.ensures.value c.requires.kept c.requires.counted (new c) (returned c)
-
-pub returns-clause-pool : goal.returns-clause-pool
-returns-clause-pool c =
-    pool_so (total c.args.holds.now) c.args.table.now c.args.entries.now.items c.args.buffer.collection c.in-Some.at
-    c.index_mut.result.now (told c) c.index_mut.ensures.value c.requires.kept c.requires.counted (new c) (returned c)
-    c.free_if_home.new.pool.held c.assert_disjoint-2.ensures
-    (c.free_if_home.ensures.pool (beside (forest_of c.args.table.now (shelves_of c.args.entries.now.items)) c.index_mut.result.now.id)
-    (held_before c))

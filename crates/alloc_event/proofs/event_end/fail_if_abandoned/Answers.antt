@@ -16,7 +16,7 @@ returns-then-is_abandoned c = record {
 
 pub returns-else-is_abandoned : goal.returns-else-is_abandoned
 returns-else-is_abandoned c =
-    let t = c.args.table.now in
+    let t = c.args.nodes.now.table in
     let e = c.args.entry.now in
     let left = has_given_root t e.keys.items && not (is_held_strongly (total c.args.holds.now) e.id e.buffers) in
     let kept = sym c.is_abandoned.ensures ∙ c.if-is_abandoned.false in
@@ -26,6 +26,6 @@ returns-else-is_abandoned c =
             | inl is ↦ is
             | inr is ↦ both_ways left (and_right (e.strong == 0) left is) kept
           ] in
-          closed_still (total c.args.holds.now) t c.args.units.now.items ss e
-          (subst (λ (ks : List NodeKey). MidEvent t c.args.units.now.items ss e [] ks) none under) (inr kept);
+          closed_still (total c.args.holds.now) t c.args.nodes.now.units.items ss e
+          (subst (λ (ks : List NodeKey). MidEvent t c.args.nodes.now.units.items ss e [] ks) none under) (inr kept);
     }

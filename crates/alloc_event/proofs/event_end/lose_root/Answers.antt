@@ -11,8 +11,8 @@ returns c =
     ∙ c.in-Some.is in
     record {
       closed = λ handles ss pending under abandoned.
-          closed_lost handles c.args.table.now c.args.units.now.items ss c.args.entry.now pending under abandoned c.in-Some.root first
-          c.remove_subtree.new.table c.remove_subtree.new.units.items c.remove_subtree.new.entry c.remove_subtree.result
-          (c.remove_subtree.ensures.went ss [] pending under (may_go handles c.args.table.now c.args.units.now.items ss c.args.entry.now pending under
+          closed_lost handles c.args.nodes.now.table c.args.nodes.now.units.items ss c.args.entry.now pending under abandoned c.in-Some.root first
+          c.remove_subtree.new.nodes.table c.remove_subtree.new.nodes.units.items c.remove_subtree.new.entry c.remove_subtree.result
+          (c.remove_subtree.ensures.went ss [] pending under (may_go handles c.args.nodes.now.table c.args.nodes.now.units.items ss c.args.entry.now pending under
           abandoned c.in-Some.root first));
     }

@@ -1,116 +1,60 @@
 -- The loss is made, and what is forced by it, and then the collection is closed.
-use Rattle.alloc_event.proofs.Common.{◌≡◌, List, Some, refl, sym, ◌∙◌, arith, total, Change, Entry, Unit, nodes_with, place_in, shelf_of, shelves_of}
+use Rattle.alloc_event.proofs.Common.{◌≡◌, List, refl, arith, total, Change, Entry, nodes_with, shelf_of, shelves_of}
 use Rattle.alloc_event.specs.Nodes.{after_loss}
 use Rattle.alloc_event.specs.MidEvent.{PropagatedFrom}
 use Rattle.alloc_event.proofs.shelves.Entries.{place_is}
 use Rattle.alloc_event.proofs.tables.LeftParents.{loss_left}
 use Rattle.alloc_event.proofs.mid_event.Joining.{shelf_here}
-use Rattle.alloc_event.proofs.mid_event.Stepping.{begins, is_there, may_play, outcome_played, placed_played, pool_played, row_there}
+use Rattle.alloc_event.proofs.mid_event.Places.{begins_at, may_finish, outcome_there, pool_there}
+use Rattle.alloc_event.proofs.mid_event.Stepping.{row_there}
+use Rattle.alloc_event.proofs.forced_steps.settle_loss.Goals.{After-apply_loss}
 use Rattle.alloc_event.proofs.forced_steps.settle_loss.Goals as goal
 
-pub unreachable-requires : goal.unreachable-requires
-unreachable-requires c =
-    is_there c.args.table.now c.args.units.now.items c.args.entries.now.items c.args.id (Change.Loss c.args.fault.origin c.args.fault.cause)
-    refl c.requires.ready (sym (rw c.deref.ensures.value at c.place_of.ensures) ∙ c.in_default.is)
-
-pub index_mut-requires : goal.index_mut-requires
-index_mut-requires c =
-    let told : place_in c.args.id c.args.entries.now.items ≡ Some c.in-Some.at =
-    sym (rw c.deref.ensures.value at c.place_of.ensures) ∙ c.in-Some.is in
-    omega (arith, (place_is c.args.id c.args.entries.now.items c.in-Some.at told).within)
+pub index_mut-entry-requires : goal.index_mut-entry-requires
+index_mut-entry-requires c =
+    omega (arith, (place_is c.requires.ready.id c.args.store.now.entries.items c.args.at c.requires.ready.place).within)
 
 pub apply_loss-requires-clause-there : goal.apply_loss-requires-clause-there
 apply_loss-requires-clause-there c =
-    row_there c.args.table.now (shelves_of c.args.entries.now.items) c.requires.ready.kept c.args.id c.args.fault.origin
-    c.requires.ready.change.named
+    row_there c.args.store.now.nodes.table (shelves_of c.args.store.now.entries.items) c.requires.ready.ready.kept c.requires.ready.id
+    c.args.fault.origin c.requires.ready.ready.change.named
+
+-- what the loss forces was made
+played : (c : After-apply_loss) → PropagatedFrom (total c.args.holds.now)
+    (after_loss c.args.fault (nodes_with c.args.store.now.nodes.table c.index_mut-entry.result.now.keys.items)) c.args.store.now.nodes.table
+    c.apply_loss.new.nodes.table c.apply_loss.new.nodes.units.items (shelves_of c.args.store.now.entries.items) c.index_mut-entry.result.now
+    c.apply_loss.new.entry
+played c =
+    let t = c.args.store.now.nodes.table in
+    let es : List Entry = c.args.store.now.entries.items in
+    let e : Entry = c.index_mut-entry.result.now in
+    let change : Change = Change.Loss c.args.fault.origin c.args.fault.cause in
+    let may = c.requires.ready in
+    c.apply_loss.ensures.out (shelves_of es)
+    (begins_at (total c.args.holds.now) t c.args.store.now.nodes.units.items es c.args.at e c.index_mut-entry.ensures.value change may refl)
+    (loss_left t (shelves_of es) may.ready.kept may.id change may.ready.change (shelf_of e)
+    (shelf_here es may.id c.args.at e may.place c.index_mut-entry.ensures.value))
 
 pub finish_event-requires-clause-may : goal.finish_event-requires-clause-may
 finish_event-requires-clause-may c =
-    let told : place_in c.args.id c.args.entries.now.items ≡ Some c.in-Some.at =
-    sym (rw c.deref.ensures.value at c.place_of.ensures) ∙ c.in-Some.is in
-    let handles = total c.args.holds.now in
-    let t = c.args.table.now in
-    let us : List Unit = c.args.units.now.items in
-    let es : List Entry = c.args.entries.now.items in
-    let e : Entry = c.index_mut.result.now in
-    let is = c.index_mut.ensures.value in
-    let change : Change = Change.Loss c.args.fault.origin c.args.fault.cause in
-    let under = begins handles t us es c.args.id c.in-Some.at e told is change c.requires.ready refl in
-    let played : PropagatedFrom handles (after_loss c.args.fault (nodes_with t e.keys.items)) t c.apply_loss.new.table
-    c.apply_loss.new.units.items (shelves_of es) e
-    c.apply_loss.new.entry =
-    c.apply_loss.ensures.out (shelves_of es) under
-    (loss_left t (shelves_of es) c.requires.ready.kept c.args.id change c.requires.ready.change (shelf_of e)
-    (shelf_here es c.args.id c.in-Some.at e told is)) in
-    may_play handles t us es c.args.id c.in-Some.at e told is change c.requires.ready refl (after_loss c.args.fault (nodes_with t
-    e.keys.items)) refl
-    c.apply_loss.new.table c.apply_loss.new.units.items c.apply_loss.new.entry played
+    may_finish (total c.args.holds.now) c.args.store.now.nodes.table c.args.store.now.nodes.units.items c.args.store.now.entries.items c.args.at
+    c.index_mut-entry.result.now c.index_mut-entry.ensures.value (Change.Loss c.args.fault.origin c.args.fault.cause) c.requires.ready refl
+    (after_loss c.args.fault (nodes_with c.args.store.now.nodes.table c.index_mut-entry.result.now.keys.items)) refl c.apply_loss.new.nodes.table
+    c.apply_loss.new.nodes.units.items c.apply_loss.new.entry (played (goal.at.finish_event-requires-clause-may c).After-apply_loss)
 
 pub finish_event-requires-clause-pool : goal.finish_event-requires-clause-pool
 finish_event-requires-clause-pool c =
-    let told : place_in c.args.id c.args.entries.now.items ≡ Some c.in-Some.at =
-    sym (rw c.deref.ensures.value at c.place_of.ensures) ∙ c.in-Some.is in
-    let handles = total c.args.holds.now in
-    let t = c.args.table.now in
-    let us : List Unit = c.args.units.now.items in
-    let es : List Entry = c.args.entries.now.items in
-    let e : Entry = c.index_mut.result.now in
-    let is = c.index_mut.ensures.value in
-    let change : Change = Change.Loss c.args.fault.origin c.args.fault.cause in
-    let under = begins handles t us es c.args.id c.in-Some.at e told is change c.requires.ready refl in
-    let played : PropagatedFrom handles (after_loss c.args.fault (nodes_with t e.keys.items)) t c.apply_loss.new.table
-    c.apply_loss.new.units.items (shelves_of es) e
-    c.apply_loss.new.entry =
-    c.apply_loss.ensures.out (shelves_of es) under
-    (loss_left t (shelves_of es) c.requires.ready.kept c.args.id change c.requires.ready.change (shelf_of e)
-    (shelf_here es c.args.id c.in-Some.at e told is)) in
-    pool_played handles t us es c.args.id c.in-Some.at e told is change c.requires.ready refl (after_loss c.args.fault (nodes_with t
-    e.keys.items)) refl
-    c.apply_loss.new.table c.apply_loss.new.units.items c.apply_loss.new.entry played c.args.pool.now c.requires.pool
+    pool_there (total c.args.holds.now) c.args.store.now.nodes.table c.args.store.now.nodes.units.items c.args.store.now.entries.items c.args.at
+    c.index_mut-entry.result.now c.index_mut-entry.ensures.value (Change.Loss c.args.fault.origin c.args.fault.cause) c.requires.ready refl
+    (after_loss c.args.fault (nodes_with c.args.store.now.nodes.table c.index_mut-entry.result.now.keys.items)) refl c.apply_loss.new.nodes.table
+    c.apply_loss.new.nodes.units.items c.apply_loss.new.entry (played (goal.at.finish_event-requires-clause-pool c).After-apply_loss)
+    c.args.pool.now c.requires.pool
 
-pub returns-clause-outcome : goal.returns-clause-outcome
-returns-clause-outcome c =
-    let told : place_in c.args.id c.args.entries.now.items ≡ Some c.in-Some.at =
-    sym (rw c.deref.ensures.value at c.place_of.ensures) ∙ c.in-Some.is in
-    let handles = total c.args.holds.now in
-    let t = c.args.table.now in
-    let us : List Unit = c.args.units.now.items in
-    let es : List Entry = c.args.entries.now.items in
-    let e : Entry = c.index_mut.result.now in
-    let is = c.index_mut.ensures.value in
-    let change : Change = Change.Loss c.args.fault.origin c.args.fault.cause in
-    let under = begins handles t us es c.args.id c.in-Some.at e told is change c.requires.ready refl in
-    let played : PropagatedFrom handles (after_loss c.args.fault (nodes_with t e.keys.items)) t c.apply_loss.new.table
-    c.apply_loss.new.units.items (shelves_of es) e
-    c.apply_loss.new.entry =
-    c.apply_loss.ensures.out (shelves_of es) under
-    (loss_left t (shelves_of es) c.requires.ready.kept c.args.id change c.requires.ready.change (shelf_of e)
-    (shelf_here es c.args.id c.in-Some.at e told is)) in
-    outcome_played handles t us es c.args.id c.in-Some.at e told is change c.requires.ready refl (after_loss c.args.fault (nodes_with t
-    e.keys.items)) refl
-    c.apply_loss.new.table c.apply_loss.new.units.items c.apply_loss.new.entry played c.args.pool.now c.finish_event.new.pool c.finish_event.new.table
-    c.finish_event.new.entries.items c.finish_event.new.units.items (c.finish_event.ensures.closes c.args.id (placed_played handles t us es c.args.id
-    c.in-Some.at e told is change c.requires.ready refl (after_loss c.args.fault (nodes_with t e.keys.items)) refl
-    c.apply_loss.new.table c.apply_loss.new.units.items c.apply_loss.new.entry played)) c.finish_event.ensures.size
-
-pub returns-clause-units : goal.returns-clause-units
-returns-clause-units c =
-    let told : place_in c.args.id c.args.entries.now.items ≡ Some c.in-Some.at =
-    sym (rw c.deref.ensures.value at c.place_of.ensures) ∙ c.in-Some.is in
-    let handles = total c.args.holds.now in
-    let t = c.args.table.now in
-    let us : List Unit = c.args.units.now.items in
-    let es : List Entry = c.args.entries.now.items in
-    let e : Entry = c.index_mut.result.now in
-    let is = c.index_mut.ensures.value in
-    let change : Change = Change.Loss c.args.fault.origin c.args.fault.cause in
-    let under = begins handles t us es c.args.id c.in-Some.at e told is change c.requires.ready refl in
-    let played : PropagatedFrom handles (after_loss c.args.fault (nodes_with t e.keys.items)) t c.apply_loss.new.table
-    c.apply_loss.new.units.items (shelves_of es) e
-    c.apply_loss.new.entry =
-    c.apply_loss.ensures.out (shelves_of es) under
-    (loss_left t (shelves_of es) c.requires.ready.kept c.args.id change c.requires.ready.change (shelf_of e)
-    (shelf_here es c.args.id c.in-Some.at e told is)) in
-    (c.finish_event.ensures.closes c.args.id (placed_played handles t us es c.args.id c.in-Some.at e told is change c.requires.ready refl
-    (after_loss c.args.fault (nodes_with t e.keys.items)) refl
-    c.apply_loss.new.table c.apply_loss.new.units.items c.apply_loss.new.entry played)).units
+pub returns : goal.returns
+returns c =
+    outcome_there (total c.args.holds.now) c.args.store.now.nodes.table c.args.store.now.nodes.units.items c.args.store.now.entries.items
+    c.args.at c.index_mut-entry.result.now c.index_mut-entry.ensures.value (Change.Loss c.args.fault.origin c.args.fault.cause) c.requires.ready refl
+    (after_loss c.args.fault (nodes_with c.args.store.now.nodes.table c.index_mut-entry.result.now.keys.items)) refl c.apply_loss.new.nodes.table
+    c.apply_loss.new.nodes.units.items c.apply_loss.new.entry (played (goal.at.returns c).After-apply_loss) c.args.pool.now
+    c.finish_event.new.pool c.finish_event.new.store.nodes.table c.finish_event.new.store.entries.items
+    c.finish_event.new.store.nodes.units.items c.finish_event.ensures.closes c.finish_event.ensures.size

@@ -19,11 +19,11 @@ told_by t k read us r b told same is = ap (λ (xs : List Unit). is_next_there t 
 pub returns-then-not-is_next-clause-taken : goal.returns-then-not-is_next-clause-taken
 returns-then-not-is_next-clause-taken c handles ss place ws u turns no_wait has stays =
     still_led _ _ ss _ _ place ws u turns handles no_wait
-    (told_by c.args.table.now c.args.head _ _ _ false c.is_next.ensures c.deref.ensures.value c.if-not-is_next.true)
+    (told_by c.args.nodes.now.table c.args.head _ _ _ false c.is_next.ensures c.deref.ensures.value c.if-not-is_next.true)
 
 pub returns-in-None-clause-taken : goal.returns-in-None-clause-taken
 returns-in-None-clause-taken c handles ss place ws u turns no_wait has stays =
-    let t = c.args.table.now in
+    let t = c.args.nodes.now.table in
     let k = c.args.head in
     let ks = c.list_unit.new.keys.items in
     let asks = c.unit_total-asks.result in
@@ -36,11 +36,11 @@ returns-in-None-clause-taken c handles ss place ws u turns no_wait has stays =
     (sym c.refusal.ensures ∙ c.in-None.is)
 
 pub returns-in-None-clause-named : goal.returns-in-None-clause-named
-returns-in-None-clause-named c = given_named c.args.table.now c.mark_allocated.new.table _ _ c.mark_allocated.ensures c.requires.named
+returns-in-None-clause-named c = given_named c.args.nodes.now.table c.mark_allocated.new.table _ _ c.mark_allocated.ensures c.requires.named
 
 pub returns-in-Some-clause-taken : goal.returns-in-Some-clause-taken
 returns-in-Some-clause-taken c handles ss place ws u turns no_wait has stays =
-    let t = c.args.table.now in
+    let t = c.args.nodes.now.table in
     let k = c.args.head in
     let ks = c.list_unit.new.keys.items in
     let asks = c.unit_total-asks.result in
@@ -48,6 +48,6 @@ returns-in-Some-clause-taken c handles ss place ws u turns no_wait has stays =
     let next = told_by t k _ _ _ true c.is_next.ensures c.deref.ensures.value c.if-not-is_next.false in
     refused_by t _ ss _ k place ws u turns next no_wait ks c.list_unit.ensures.listed asks
     (asked_by t k _ ks asks c.deref-2.ensures.value (record { camping = told.camping; at_least = told.at_least; size = told.size }))
-    handles c.args.buffers has stays c.fall_by.new.table c.fall_by.new.units.items c.fall_by.new.entry c.in-Some.why
+    handles c.args.buffers has stays c.fall_by.new.nodes.table c.fall_by.new.nodes.units.items c.fall_by.new.entry c.in-Some.why
     (c.fall_by.ensures.felled handles ss _ u (left t _ ss _ k place ws u turns next))
     (sym c.refusal.ensures ∙ c.in-Some.is)

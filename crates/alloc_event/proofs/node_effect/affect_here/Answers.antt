@@ -13,19 +13,19 @@ use Rattle.alloc_event.proofs.node_effect.affect_here.Goals.{in-Some-reserved, i
 use Rattle.alloc_event.proofs.node_effect.affect_here.Goals as goal
 
 -- the node that is there
-found : (c : goal.After-entry-2-1) → node_at c.args.table.now c.args.key ≡ Some c.in-Some.node
+found : (c : goal.After-entry-2-1) → node_at c.args.nodes.now.table c.args.key ≡ Some c.in-Some.node
 found c = sym c.get.ensures ∙ (sym c.copied.ensures ∙ c.in-Some.is)
 
 -- and how it is written
-written : (c : goal.After-entry-2-1) → Writes c.args.table.now c.affect_at.new.table c.args.key
+written : (c : goal.After-entry-2-1) → Writes c.args.nodes.now.table c.affect_at.new.table c.args.key
     (affected c.args.key c.args.effect.now c.in-Some.node)
 written c = c.affect_at.ensures.writes c.in-Some.node (found c)
 
 pub returns-clause-affected : goal.returns-clause-affected
 returns-clause-affected c ss m at here own store =
     let n : Node = c.in-Some.node in
-    let t = c.args.table.now in
-    let us = c.args.units.now.items in
+    let t = c.args.nodes.now.table in
+    let us = c.args.nodes.now.units.items in
     let e = c.args.entry.now in
     let key = c.args.key in
     let effect = c.args.effect.now in
@@ -80,11 +80,11 @@ returns-clause-affected c ss m at here own store =
 
 pub returns-clause-named : goal.returns-clause-named
 returns-clause-named c =
-    named_here c.args.table.now c.affect_at.new.table c.args.key c.args.effect.now c.in-Some.node (found c) c.requires.named (written c)
+    named_here c.args.nodes.now.table c.affect_at.new.table c.args.key c.args.effect.now c.in-Some.node (found c) c.requires.named (written c)
 
 pub returns-clause-there : goal.returns-clause-there
 returns-clause-there c =
-    there_here c.args.table.now c.affect_at.new.table c.args.key c.args.effect.now c.in-Some.node (found c) c.requires.named (written c)
+    there_here c.args.nodes.now.table c.affect_at.new.table c.args.key c.args.effect.now c.in-Some.node (found c) c.requires.named (written c)
 
 pub returns-clause-len : goal.returns-clause-len
 returns-clause-len c = (written c).len

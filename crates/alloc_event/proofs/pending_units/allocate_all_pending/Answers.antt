@@ -13,7 +13,7 @@ loop-turn-init c = record {
   named = c.requires.named;
   len = refl;
   room = omega arith;
-  had = turns_none (total c.args.holds.now) c.args.table.now c.args.units.now.items c.args.entry.now c.args.buffers c.args.turns.now;
+  had = turns_none (total c.args.holds.now) c.args.nodes.now.table c.args.nodes.now.units.items c.args.entry.now c.args.buffers c.args.turns.now;
 }
 
 pub loop-turn-preserved : goal.loop-turn-preserved
@@ -25,16 +25,16 @@ loop-turn-preserved c =
     let was = c.loop-turn.invariant in
     let within : i < length turns = c.loop-turn-test.true in
     let front : drop i turns ≡ w ∷ drop (i + 1) turns = drop_more turns i none within in
-    let had : HaveTurns h c.args.table.now c.loop-turn.table c.args.units.now.items c.loop-turn.units.items c.args.entry.now
+    let had : HaveTurns h c.args.nodes.now.table c.loop-turn.nodes.table c.args.nodes.now.units.items c.loop-turn.nodes.units.items c.args.entry.now
     c.loop-turn.entry c.args.buffers turns (w ∷ drop (i + 1) turns) =
-    subst (λ (l : List PendingUnit). HaveTurns h c.args.table.now c.loop-turn.table c.args.units.now.items c.loop-turn.units.items
+    subst (λ (l : List PendingUnit). HaveTurns h c.args.nodes.now.table c.loop-turn.nodes.table c.args.nodes.now.units.items c.loop-turn.nodes.units.items
     c.args.entry.now c.loop-turn.entry c.args.buffers turns l) front was.had in
     record {
       named = c.allocate_pending.ensures.named;
       len = c.allocate_pending.ensures.len ∙ was.len;
       room = omega (arith, c.allocate_pending.ensures.room, was.room);
-      had = turns_more h c.args.table.now c.loop-turn.table c.allocate_pending.new.table c.args.units.now.items c.loop-turn.units.items
-          c.allocate_pending.new.units.items c.args.entry.now c.loop-turn.entry c.allocate_pending.new.entry c.args.buffers turns w
+      had = turns_more h c.args.nodes.now.table c.loop-turn.nodes.table c.allocate_pending.new.nodes.table c.args.nodes.now.units.items c.loop-turn.nodes.units.items
+          c.allocate_pending.new.nodes.units.items c.args.entry.now c.loop-turn.entry c.allocate_pending.new.entry c.args.buffers turns w
           (drop (i + 1) turns) had
           (λ given. sym (c.are_abandoned.ensures given) ∙ c.if-are_abandoned.false)
           (c.allocate_pending.ensures.taken h);

@@ -14,13 +14,13 @@ told_by t k read us r b told same is = ap (λ (xs : List Unit). is_next_there t 
 
 pub list_pending-requires-clause-there : goal.list_pending-requires-clause-there
 list_pending-requires-clause-there c =
-    told_there c.args.table.now c.args.units.now.items c.args.head
-    (told_by c.args.table.now c.args.head _ _ _ true c.is_next.ensures c.deref.ensures.value c.if-is_next.true)
+    told_there c.args.nodes.now.table c.args.nodes.now.units.items c.args.head
+    (told_by c.args.nodes.now.table c.args.head _ _ _ true c.is_next.ensures c.deref.ensures.value c.if-is_next.true)
 
 pub returns-then-is_next-clause-out : goal.returns-then-is_next-clause-out
 returns-then-is_next-clause-out c ss u there no_wait given =
-    let t = c.args.table.now in
-    let us = c.args.units.now.items in
+    let t = c.args.nodes.now.table in
+    let us = c.args.nodes.now.units.items in
     let e = c.args.entry.now in
     let k = c.args.head in
     let next = told_by t k _ us _ true c.is_next.ensures c.deref.ensures.value c.if-is_next.true in
@@ -36,8 +36,8 @@ returns-then-is_next-clause-out c ss u there no_wait given =
 
 pub returns-else-is_next-clause-out : goal.returns-else-is_next-clause-out
 returns-else-is_next-clause-out c ss u there no_wait given =
-    let t = c.args.table.now in
-    let us = c.args.units.now.items in
+    let t = c.args.nodes.now.table in
+    let us = c.args.nodes.now.units.items in
     let e = c.args.entry.now in
     let k = c.args.head in
     played_none _ t us ss e (none_due t us ss e k u no_wait

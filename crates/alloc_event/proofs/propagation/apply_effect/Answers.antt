@@ -22,12 +22,12 @@ affected t now us ss old new key effect o b n is h made =
 
 pub returns-then-is_none-clause-out : goal.returns-then-is_none-clause-out
 returns-then-is_none-clause-out c ss n at here own under waits =
-    let t = c.args.table.now in
-    let mid = c.affect_here.new.table in
+    let t = c.args.nodes.now.table in
+    let mid = c.affect_here.new.nodes.table in
     let e = c.args.entry.now in
     let head = c.in-Some.node.now.head in
-    let made = affected t mid c.affect_here.new.units.items ss e c.affect_here.new.entry c.args.key c.args.effect.now c.get.result
-    c.in-Some.node n c.in-Some.is (c.get.ensures ∙ at) (affected_on t mid c.args.units.now.items c.affect_here.new.units.items ss e
+    let made = affected t mid c.affect_here.new.nodes.units.items ss e c.affect_here.new.entry c.args.key c.args.effect.now c.get.result
+    c.in-Some.node n c.in-Some.is (c.get.ensures ∙ at) (affected_on t mid c.args.nodes.now.units.items c.affect_here.new.nodes.units.items ss e
     c.affect_here.new.entry c.args.key c.args.effect.now n at own under
     (c.affect_here.ensures.affected ss n at here own under.store)) in
     let row = head_row mid c.affect_here.ensures.named e.keys.items head made.left in
@@ -35,9 +35,9 @@ returns-then-is_none-clause-out c ss n at here own under waits =
 
 pub returns-in-Some-given-clause-out : goal.returns-in-Some-given-clause-out
 returns-in-Some-given-clause-out c ss n at here own under waits =
-    let t = c.args.table.now in
-    let mid = c.affect_here.new.table in
-    let us = c.affect_here.new.units.items in
+    let t = c.args.nodes.now.table in
+    let mid = c.affect_here.new.nodes.table in
+    let us = c.affect_here.new.nodes.units.items in
     let e = c.args.entry.now in
     let e1 = c.affect_here.new.entry in
     let key = c.args.key in
@@ -45,30 +45,30 @@ returns-in-Some-given-clause-out c ss n at here own under waits =
     let head = c.in-Some.node.now.head in
     let handles = total c.args.holds.now in
     let made = affected t mid us ss e e1 key effect c.get.result c.in-Some.node n c.in-Some.is (c.get.ensures ∙ at)
-    (affected_on t mid c.args.units.now.items c.affect_here.new.units.items ss e c.affect_here.new.entry c.args.key c.args.effect.now n at own under
+    (affected_on t mid c.args.nodes.now.units.items c.affect_here.new.nodes.units.items ss e c.affect_here.new.entry c.args.key c.args.effect.now n at own under
     (c.affect_here.ensures.affected ss n at here own under.store)) in
     let left = still_left t mid us ss e e1 key effect head made in
-    played_affected t mid us ss e e1 key effect head made handles c.end_above.new.table c.end_above.new.units.items c.end_above.new.entry
+    played_affected t mid us ss e e1 key effect head made handles c.end_above.new.nodes.table c.end_above.new.nodes.units.items c.end_above.new.entry
     (c.end_above.ensures.led handles ss (head ∷ []) made.under left) (c.end_above.ensures.ended ss (head ∷ []) made.under left) waits
-    c.allocate_ready.new.table c.allocate_ready.new.units.items c.allocate_ready.new.entry
+    c.allocate_ready.new.nodes.table c.allocate_ready.new.nodes.units.items c.allocate_ready.new.entry
     (λ pending there no_wait same. c.allocate_ready.ensures.out ss pending there no_wait (same ∙ c.in-Some-given.is))
 
 pub returns-in_default-given-clause-out : goal.returns-in_default-given-clause-out
 returns-in_default-given-clause-out c ss n at here own under waits =
-    let t = c.args.table.now in
-    let mid = c.affect_here.new.table in
-    let us = c.affect_here.new.units.items in
+    let t = c.args.nodes.now.table in
+    let mid = c.affect_here.new.nodes.table in
+    let us = c.affect_here.new.nodes.units.items in
     let e = c.args.entry.now in
     let e1 = c.affect_here.new.entry in
     let key = c.args.key in
     let effect = c.args.effect.now in
     let head = c.in-Some.node.now.head in
     let handles = total c.args.holds.now in
-    let then = c.end_above.new.table in
-    let vs = c.end_above.new.units.items in
+    let then = c.end_above.new.nodes.table in
+    let vs = c.end_above.new.nodes.units.items in
     let e2 = c.end_above.new.entry in
     let made = affected t mid us ss e e1 key effect c.get.result c.in-Some.node n c.in-Some.is (c.get.ensures ∙ at)
-    (affected_on t mid c.args.units.now.items c.affect_here.new.units.items ss e c.affect_here.new.entry c.args.key c.args.effect.now n at own under
+    (affected_on t mid c.args.nodes.now.units.items c.affect_here.new.nodes.units.items ss e c.affect_here.new.entry c.args.key c.args.effect.now n at own under
     (c.affect_here.ensures.affected ss n at here own under.store)) in
     let left = still_left t mid us ss e e1 key effect head made in
     played_affected t mid us ss e e1 key effect head made handles then vs e2

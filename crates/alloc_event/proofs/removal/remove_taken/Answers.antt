@@ -14,7 +14,7 @@ note_gone-requires-clause-named c = still_named _ _ _ c.requires.named c.mark_al
 
 pub note_gone-requires-clause-over : goal.note_gone-requires-clause-over
 note_gone-requires-clause-over c =
-    let t = c.args.table.now in
+    let t = c.args.nodes.now.table in
     let now = c.mark_all_gone-over.new.table in
     let going : Going = c.args.going.now in
     let keys = c.fall_into.new.keys.items in
@@ -28,7 +28,7 @@ note_gone-requires-clause-over c =
 
 pub returns-clause-gone : goal.returns-clause-gone
 returns-clause-gone c =
-    let t = c.args.table.now in
+    let t = c.args.nodes.now.table in
     let now = c.mark_all_gone-over.new.table in
     let going : Going = c.args.going.now in
     let keys = c.fall_into.new.keys.items in
@@ -37,7 +37,7 @@ returns-clause-gone c =
       forest = search rules;
       stores = subst (λ (ks : List NodeKey). Stores t now (map (gone_by going) (nodes_with t ks))) c.deref-4.ensures.value
           c.mark_all_gone-over.ensures.stores;
-      units = c.decrement_all.ensures ∙ ap (λ (ks : List NodeKey). unreckoned t (nodes_with t ks) c.args.units.now.items) c.deref-3.ensures.value;
+      units = c.decrement_all.ensures ∙ ap (λ (ks : List NodeKey). unreckoned t (nodes_with t ks) c.args.nodes.now.units.items) c.deref-3.ensures.value;
       shelf = c.note_gone.ensures.entry.shelf;
       strong = c.note_gone.ensures.entry.strong ∙ (c.saturating_sub-entry.ensures
           ∙ ap (λ (k : ℕ). c.args.entry.now.strong - k) (c.recount-found.ensures.strong
@@ -52,4 +52,4 @@ returns-clause-gone c =
     }
 
 pub returns-clause-above : goal.returns-clause-above
-returns-clause-above c = c.head_over-above.ensures ∙ ap (head_over c.args.table.now) c.deref.ensures.value
+returns-clause-above c = c.head_over-above.ensures ∙ ap (head_over c.args.nodes.now.table) c.deref.ensures.value

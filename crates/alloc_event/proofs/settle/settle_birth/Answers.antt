@@ -1,56 +1,152 @@
--- Where a strong node is live the node is born in its place; else the collection is worked on.
-use Rattle.alloc_event.proofs.Common.{map, List, sym, ◌∙◌, ap, HeldBuffer, total, shelves_of}
-use Rattle.std.proofs.Common.{Result, Ok, Err, IfOk}
-use Rattle.sm_names.specs.Words.{sorted_by}
-use Rattle.alloc_event.proofs.lists.SameIntervals.{start_of}
-use Rattle.alloc_event.proofs.newborns.Entries.{on_two}
+-- The node is inserted, and then what is left to be done is done at the place of its collection.
+use Rattle.alloc_event.proofs.Common.{◌≡◌, ◌∙◌, List, ◌∷◌, [], map, Some, None, refl, sym, arith, AllByRecursion, total, Table, Node, Entry, Unit, AreUnits, Collection, collection_in, place_in, shelves_of}
+use Rattle.std.proofs.Common.{Result, Ok, Err, OnErr}
+use Rattle.alloc_event.specs.Calm.{IsForest}
+use Rattle.alloc_event.specs.Counts.{Extends, HasUnit}
+use Rattle.alloc_event.specs.Insertion.{IsUnborn}
 use Rattle.alloc_event.proofs.newborns.Newborn.{above_is}
-use Rattle.alloc_event.proofs.newborns.Quiet.{quiet_held, quiet_kept, quiet_ok}
-use Rattle.alloc_event.proofs.quiescence.Resting.{watched_still}
-use Rattle.alloc_event.proofs.mid_event.Births.{given_born_all}
+use Rattle.alloc_event.proofs.mid_event.Births.{calm_close, child_there, finishes_born, given_born_all, given_closed, gives_born, kept_born, pool_born}
 use Rattle.alloc_event.proofs.settle.settle_birth.Goals as goal
 
--- what two facts of an answer make true of it
-by_both : {A E : Type 0} {P Q R : A → Type 0} (r : Result A E) → IfOk r P → IfOk r Q → ((a : A) → P a → Q a → R a) → IfOk r R
-by_both (Ok a) p q both = both a p q
-by_both (Err e) p q both = tt
+-- the slots count what they did
+counts_stay : (us next : List Unit) → Extends us next → (whole xs : List Node) → AllByRecursion (HasUnit us whole) xs →
+    AllByRecursion (HasUnit next whole) xs
+counts_stay us next longer whole [] all = tt
+counts_stay us next longer whole (n ∷ ns) all =
+    ((omega (arith, longer.longer, all.0.0), longer.same n.key.slot ∙ all.0.1), counts_stay us next longer whole ns all.1)
 
--- where it rests, nothing is forced by the birth
-pub returns-then-is_watched-clause-ok : goal.returns-then-is_watched-clause-ok
-returns-then-is_watched-clause-ok c =
-    let watched = rw c.deref.ensures.value at c.is_watched.ensures in
-    let still = watched_still c.args.table.now c.args.entries.now.items c.args.id c.requires.kept c.requires.counted
-    (total c.args.holds.now) (sym watched ∙ c.if-is_watched.true) in
-    let at = above_is c.args.table.now (shelves_of c.args.entries.now.items) c.requires.kept c.args.id c.args.parent c.args.attached
-    c.args.client c.args.event c.requires.change in
-    by_both c.insert_counted.result c.insert_counted.ensures.bears c.insert_counted.ensures.entries (λ key bears placed.
-    quiet_ok c.args.table.now c.insert_counted.new.table (shelves_of c.args.entries.now.items) c.requires.kept c.args.id c.args.parent
-    c.args.attached c.args.client c.args.event _ at key bears
-    (total c.args.holds.now) still (shelves_of c.insert_counted.new.entries.items) placed c.args.pool.now.size)
+-- so of each collection
+units_stay : (us next : List Unit) → Extends us next → (cs : List Collection) → AreUnits us cs → AreUnits next cs
+units_stay us next longer [] all = tt
+units_stay us next longer (c ∷ cs) all = (counts_stay us next longer c.nodes c.nodes all.0, units_stay us next longer cs all.1)
 
-pub returns-then-is_watched-clause-kept : goal.returns-then-is_watched-clause-kept
-returns-then-is_watched-clause-kept c =
-    let at = above_is c.args.table.now (shelves_of c.args.entries.now.items) c.requires.kept c.args.id c.args.parent c.args.attached
-    c.args.client c.args.event c.requires.change in
-    on_two c.insert_counted.result c.insert_counted.ensures.bears c.insert_counted.ensures.entries (λ key bears placed.
-    quiet_kept c.args.table.now c.insert_counted.new.table (shelves_of c.args.entries.now.items) c.requires.kept c.args.id c.args.parent
-    c.args.attached c.args.client c.args.event _ at key bears
-    (shelves_of c.insert_counted.new.entries.items) placed)
+-- slots that count nothing keep what holds of a forest
+forest_longer : (t : Table Node) (es : List Entry) (us next : List Unit) → IsForest t es us → Extends us next → IsForest t es next
+forest_longer t es us next forest longer = record {
+  kept = forest.kept;
+  counted = forest.counted;
+  units = units_stay us next longer (map (collection_in t) (shelves_of es)) forest.units;
+  given = forest.given;
+}
 
-pub returns-then-is_watched-clause-pool : goal.returns-then-is_watched-clause-pool
-returns-then-is_watched-clause-pool c =
-    let at = above_is c.args.table.now (shelves_of c.args.entries.now.items) c.requires.kept c.args.id c.args.parent c.args.attached
-    c.args.client c.args.event c.requires.change in
-    on_two c.insert_counted.result c.insert_counted.ensures.bears c.insert_counted.ensures.entries (λ key bears placed.
-    c.requires.pool ∙ ap (λ (hs : List HeldBuffer). sorted_by start_of (map (λ (h : HeldBuffer). h.pages) hs))
-    (sym (quiet_held c.args.table.now c.insert_counted.new.table (shelves_of c.args.entries.now.items) c.requires.kept c.args.id c.args.parent
-    c.args.attached c.args.client c.args.event _ at key bears
-    (shelves_of c.insert_counted.new.entries.items) placed)))
+-- what holds where a fault is answered
+at_fault : {T E : Type 0} (r : Result T E) (P : Type 0) → P → OnErr r P
+at_fault (Ok x) P p = tt
+at_fault (Err e) P p = p
 
-pub returns-then-is_watched-clause-given : goal.returns-then-is_watched-clause-given
-returns-then-is_watched-clause-given c =
-    let at = above_is c.args.table.now (shelves_of c.args.entries.now.items) c.requires.kept c.args.id c.args.parent c.args.attached
-    c.args.client c.args.event c.requires.change in
-    on_two c.insert_counted.result c.insert_counted.ensures.bears c.insert_counted.ensures.entries (λ key bears placed.
-    given_born_all c.args.table.now c.insert_counted.new.table c.args.entries.now.items c.insert_counted.new.entries.items c.requires.kept
-    c.args.id c.args.parent c.args.attached c.args.client c.args.event _ at key bears placed c.requires.given)
+pub returns-in_err-reach-clause-err : goal.returns-in_err-reach-clause-err
+returns-in_err-reach-clause-err c =
+    let t = c.args.store.now.nodes.table in
+    let es : List Entry = c.args.store.now.entries.items in
+    at_fault c.from_residual.result (IsUnborn c.args.pool.now c.args.pool.now t t es es c.reach.new.units.items) (record {
+      table = refl;
+      entries = refl;
+      forest = forest_longer t es c.args.store.now.nodes.units.items c.reach.new.units.items c.requires.forest c.reach.ensures.extends;
+      same_pool = refl;
+    })
+
+pub insert_counted-requires-clause-forest : goal.insert_counted-requires-clause-forest
+insert_counted-requires-clause-forest c = forest_longer _ _ _ _ c.requires.forest c.reach.ensures.extends
+
+pub returns-in_err-key-clause-err : goal.returns-in_err-key-clause-err
+returns-in_err-key-clause-err c =
+    let err = c.in_err-key.ensures.err in
+    at_fault c.from_residual-in_err-key.result (IsUnborn c.args.pool.now c.args.pool.now c.args.store.now.nodes.table
+    c.insert_counted.new.store.nodes.table c.args.store.now.entries.items c.insert_counted.new.store.entries.items
+    c.insert_counted.new.store.nodes.units.items) (record {
+      table = err.table;
+      entries = err.entries;
+      forest = record {
+        kept = rw (err.table, err.entries) c.requires.forest.kept;
+        counted = rw err.table err.counted;
+        units = c.insert_counted.ensures.units;
+        given = rw (err.table, err.entries) c.requires.forest.given;
+      };
+      same_pool = refl;
+    })
+
+-- the ids rise still
+pub place_of-requires : goal.place_of-requires
+place_of-requires c =
+    let t = c.args.store.now.nodes.table in
+    let es : List Entry = c.args.store.now.entries.items in
+    let b = c.args.birth in
+    let kept = c.requires.forest.kept in
+    let up = above_is t (shelves_of es) kept c.args.id b.parent b.attached b.client b.event c.requires.change in
+    let ok = c.in_ok-key.ensures.ok in
+    rw c.deref.ensures.value (kept_born t c.insert_counted.new.store.nodes.table es c.insert_counted.new.store.entries.items kept c.args.id
+    b.parent b.attached b.client b.event _ up c.in_ok-key.key ok.bears ok.entries).rising
+
+pub unreachable-requires : goal.unreachable-requires
+unreachable-requires c =
+    let t = c.args.store.now.nodes.table in
+    let b = c.args.birth in
+    let may = c.requires.change in
+    let kept = c.requires.forest.kept in
+    let up = above_is t (shelves_of c.args.store.now.entries.items) kept c.args.id b.parent b.attached b.client b.event may in
+    let ok = c.in_ok-key.ensures.ok in
+    let there = child_there t c.insert_counted.new.store.nodes.table c.args.store.now.entries.items
+    c.insert_counted.new.store.entries.items kept c.args.id b.parent b.attached b.client b.event _ up c.in_ok-key.key ok.bears ok.entries in
+    let none : place_in c.args.id c.insert_counted.new.store.entries.items ≡ None =
+    sym (rw c.deref.ensures.value at c.place_of.ensures) ∙ c.in_default.is in
+    let no : Some there.0 ≡ None = sym there.1 ∙ none in
+    cc
+
+pub finish_event-requires-clause-may : goal.finish_event-requires-clause-may
+finish_event-requires-clause-may c =
+    let t = c.args.store.now.nodes.table in
+    let es : List Entry = c.args.store.now.entries.items in
+    let now = c.insert_counted.new.store.nodes.table in
+    let behind : List Entry = c.insert_counted.new.store.entries.items in
+    let b = c.args.birth in
+    let forest = c.requires.forest in
+    let up = above_is t (shelves_of es) forest.kept c.args.id b.parent b.attached b.client b.event c.requires.change in
+    let ok = c.in_ok-key.ensures.ok in
+    let told : place_in c.args.id behind ≡ Some c.in-Some.at = sym (rw c.deref.ensures.value at c.place_of.ensures) ∙ c.in-Some.is in
+    calm_close (total c.args.holds.now) now c.insert_counted.new.store.nodes.units.items behind c.args.id c.in-Some.at told
+    (kept_born t now es behind forest.kept c.args.id b.parent b.attached b.client b.event _ up c.in_ok-key.key ok.bears ok.entries)
+    ok.counted c.insert_counted.ensures.units
+    (given_born_all t now es behind forest.kept c.args.id b.parent b.attached b.client b.event _ up c.in_ok-key.key ok.bears ok.entries
+    forest.given)
+
+pub finish_event-requires-clause-pool : goal.finish_event-requires-clause-pool
+finish_event-requires-clause-pool c =
+    let t = c.args.store.now.nodes.table in
+    let es : List Entry = c.args.store.now.entries.items in
+    let b = c.args.birth in
+    let kept = c.requires.forest.kept in
+    let up = above_is t (shelves_of es) kept c.args.id b.parent b.attached b.client b.event c.requires.change in
+    let ok = c.in_ok-key.ensures.ok in
+    pool_born t c.insert_counted.new.store.nodes.table es c.insert_counted.new.store.entries.items kept c.args.id b.parent b.attached
+    b.client b.event _ up c.in_ok-key.key ok.bears ok.entries c.args.pool.now c.requires.pool
+
+pub returns-clause-ok : goal.returns-clause-ok
+returns-clause-ok c =
+    let t = c.args.store.now.nodes.table in
+    let es : List Entry = c.args.store.now.entries.items in
+    let now = c.insert_counted.new.store.nodes.table in
+    let behind : List Entry = c.insert_counted.new.store.entries.items in
+    let last = c.finish_event.new.store.nodes.table in
+    let final : List Entry = c.finish_event.new.store.entries.items in
+    let b = c.args.birth in
+    let key = c.in_ok-key.key in
+    let forest = c.requires.forest in
+    let up = above_is t (shelves_of es) forest.kept c.args.id b.parent b.attached b.client b.event c.requires.change in
+    let ok = c.in_ok-key.ensures.ok in
+    let told : place_in c.args.id behind ≡ Some c.in-Some.at = sym (rw c.deref.ensures.value at c.place_of.ensures) ∙ c.in-Some.is in
+    let closed = c.finish_event.ensures.closes c.args.id told in
+    record {
+      finishes = finishes_born t now es behind forest.kept c.args.id b.parent b.attached b.client b.event _ up key ok.bears ok.entries
+          c.args.pool.now.size (total c.args.holds.now) last (shelves_of final) closed.settled.finishes;
+      gives = gives_born t now es behind forest.kept c.args.id b.parent b.attached b.client b.event _ up key ok.bears ok.entries last
+          closed.same;
+      forest = record {
+        kept = closed.settled.kept;
+        counted = closed.settled.counted;
+        units = closed.units;
+        given = given_closed t now es behind forest.kept c.args.id b.parent b.attached b.client b.event _ up key ok.bears ok.entries
+            c.args.pool.now.size (total c.args.holds.now) last (shelves_of final) closed.settled.finishes forest.given;
+      };
+      holds = closed.settled.holds;
+      size = c.finish_event.ensures.size;
+    }

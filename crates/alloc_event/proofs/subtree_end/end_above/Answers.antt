@@ -8,22 +8,22 @@ use Rattle.alloc_event.proofs.subtree_end.end_above.Goals as goal
 
 pub returns-then-is_held_by-clause-led : goal.returns-then-is_held_by-clause-led
 returns-then-is_held_by-clause-led c handles ss pending ok left =
-    let some : is_held_by (unit_at c.args.units.now.items c.args.head.slot) ≡ true =
+    let some : is_held_by (unit_at c.args.nodes.now.units.items c.args.head.slot) ≡ true =
     ap is_held_by (sym (c.unit_in.ensures ∙ ap (λ (us : List Unit). unit_at us c.args.head.slot) c.deref.ensures.value))
     ∙ (sym c.is_held_by.ensures ∙ c.if-is_held_by.true) in
-    held_led c.args.table.now c.args.units.now.items ss c.args.entry.now c.args.head pending ok left some handles
+    held_led c.args.nodes.now.table c.args.nodes.now.units.items ss c.args.entry.now c.args.head pending ok left some handles
 
 pub returns-clause-led : goal.returns-clause-led
 returns-clause-led c handles ss pending ok left =
-    let t = c.args.table.now in
-    let us : List Unit = c.args.units.now.items in
+    let t = c.args.nodes.now.table in
+    let us : List Unit = c.args.nodes.now.units.items in
     let none : is_held_by (unit_at us c.args.head.slot) ≡ false =
     ap is_held_by (sym (c.unit_in.ensures ∙ ap (λ (l : List Unit). unit_at l c.args.head.slot) c.deref.ensures.value))
     ∙ (sym c.is_held_by.ensures ∙ c.if-is_held_by.false) in
     let is : c.highest-top.result ≡ climbed (table_len t) t us c.args.head =
     c.highest-top.ensures.climbed ∙ ap (λ (l : List Unit). climbed (table_len t) t l c.args.head) c.deref-2.ensures.value in
-    ended_led t us ss c.args.entry.now c.args.head pending ok left none handles c.highest-top.result is c.remove_subtree.new.table
-    c.remove_subtree.new.units.items c.remove_subtree.new.entry c.remove_subtree.result
+    ended_led t us ss c.args.entry.now c.args.head pending ok left none handles c.highest-top.result is c.remove_subtree.new.nodes.table
+    c.remove_subtree.new.nodes.units.items c.remove_subtree.new.entry c.remove_subtree.result
     (c.remove_subtree.ensures.went ss (c.args.head ∷ []) pending ok (may_end t us ss c.args.entry.now c.args.head pending ok left none c.highest-top.result is))
 
 pub returns-then-is_held_by-clause-ended : goal.returns-then-is_held_by-clause-ended
@@ -31,8 +31,8 @@ returns-then-is_held_by-clause-ended c ss pending ok left = inl refl
 
 pub returns-clause-ended : goal.returns-clause-ended
 returns-clause-ended c ss pending ok left =
-    let t = c.args.table.now in
-    let us : List Unit = c.args.units.now.items in
+    let t = c.args.nodes.now.table in
+    let us : List Unit = c.args.nodes.now.units.items in
     let none : is_held_by (unit_at us c.args.head.slot) ≡ false =
     ap is_held_by (sym (c.unit_in.ensures ∙ ap (λ (l : List Unit). unit_at l c.args.head.slot) c.deref.ensures.value))
     ∙ (sym c.is_held_by.ensures ∙ c.if-is_held_by.false) in

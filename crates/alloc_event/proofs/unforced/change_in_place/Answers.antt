@@ -6,7 +6,7 @@ use Rattle.alloc_event.proofs.unforced.change_in_place.Goals as goal
 
 pub returns-in-Nothing-clause-some : goal.returns-in-Nothing-clause-some
 returns-in-Nothing-clause-some c ss s opens =
-    subst (λ (change : Change). IsMade c.args.table.now c.args.table.now c.args.units.now.items ss s change c.args.entry.now.strong)
+    subst (λ (change : Change). IsMade c.args.nodes.now.table c.args.nodes.now.table c.args.nodes.now.units.items ss s change c.args.entry.now.strong)
     (sym c.in-Nothing.is)
-    (made_nothing c.args.table.now c.args.units.now.items ss s c.args.entry.now.strong
-    (subst (λ (change : Change). IsOpen c.args.table.now c.args.units.now.items ss s change c.args.entry.now.strong) c.in-Nothing.is opens))
+    (made_nothing c.args.nodes.now.table c.args.nodes.now.units.items ss s c.args.entry.now.strong
+    (subst (λ (change : Change). IsOpen c.args.nodes.now.table c.args.nodes.now.units.items ss s change c.args.entry.now.strong) c.in-Nothing.is opens))

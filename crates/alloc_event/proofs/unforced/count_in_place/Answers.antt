@@ -1,5 +1,5 @@
 -- The node is written, and the counts tell that nothing is forced.
-use Rattle.alloc_event.proofs.Common.{◌≡◌, ◌+◌, ◌<◌, ◌⊎◌, false, inl, inr, List, map, length, Some, sym, ◌∙◌, ap, subst, arith, NodeKey, times, node_at, Change, Node, Unit, strong_count, lives_in, unit_at, waits_in, nodes_with, affected, is_live_node}
+use Rattle.alloc_event.proofs.Common.{◌≡◌, ◌+◌, ◌<◌, ◌⊎◌, ◌&&◌, Bool, true, false, refl, eqb-false, inl, inr, List, map, length, Some, sym, ◌∙◌, ap, subst, arith, NodeKey, times, node_at, Change, Node, Unit, strong_count, lives_in, unit_at, waits_in, nodes_with, affected, is_live_node}
 use Rattle.std.proofs.Common.{option_copied}
 use Rattle.node_table.specs.Changes.{Writes}
 use Rattle.node_table.specs.Lending.{table_with_node}
@@ -10,29 +10,35 @@ use Rattle.alloc_event.specs.Shelves.{is_strong}
 use Rattle.alloc_event.proofs.quiescence.Keeping.{either_holds}
 use Rattle.alloc_event.proofs.changes.Altering.{same_affected}
 use Rattle.alloc_event.proofs.changes.Effecting.{counted_made, less_is, live_before, live_is, may_affect, strong_before, strong_is, unready_before, unready_is}
-use Rattle.alloc_event.proofs.unforced.count_in_place.Goals.{else-is_unready-via-then-is_unready+then-unready-eq0+else-is_due, else-is_unready-via-then-is_unready+else-unready-eq0, else-is_unready-via-else-is_unready}
 use Rattle.alloc_event.proofs.unforced.count_in_place.Goals as goal
 
 -- the node that is there
-found : (c : goal.After-put_unit) → node_at c.args.table.now c.args.key ≡ Some c.in-Some.node.now
+found : (c : goal.After-put_unit) → node_at c.args.nodes.now.table c.args.key ≡ Some c.in-Some.node.now
 found c = sym c.get.ensures ∙ ap option_copied c.in-Some.is
+
+-- one of three is not so where not all are
+one_not : (a b d : Bool) → (a && (b && d)) ≡ false → (a ≡ false) ⊎ ((b ≡ false) ⊎ (d ≡ false))
+one_not false b d h = inl refl
+one_not true false d h = inr (inl refl)
+one_not true true d h = inr (inr h)
 
 -- the unit does not get its buffers next, or waits for another, or did not wait for the node
 guard : (c : goal.After-put_unit) → (is_unready c.in-Some.node.now ≡ false) ⊎ ((0 < c.decrement_if-unready.result)
-    ⊎ (is_due_at c.args.table.now c.in-Some.node.now.head ≡ false))
-guard c = elim c.else-is_unready.branch [
-  | else-is_unready-via-then-is_unready+then-unready-eq0+else-is_due w ↦ inr (inr (sym w.is_due.ensures ∙ w.if-is_due.false))
-  | else-is_unready-via-then-is_unready+else-unready-eq0 w ↦ inr (inl (omega (arith, w.if-unready-eq0.false)))
-  | else-is_unready-via-else-is_unready w ↦ inl (sym c.is_unready-2.ensures ∙ w.if-is_unready.false)
-]
+    ⊎ (is_due_at c.args.nodes.now.table c.in-Some.node.now.head ≡ false))
+guard c =
+    elim (one_not _ _ _ (sym c.comes_due.ensures ∙ c.if-comes_due.false)) [
+      | inl ready ↦ inl ready
+      | inr (inl more) ↦ inr (inl (omega (arith, eqb-false c.decrement_if-unready.result 0 more)))
+      | inr (inr none) ↦ inr (inr none)
+    ]
 
 pub returns-clause-some : goal.returns-clause-some
 returns-clause-some c ss s opens =
     let n : Node = c.in-Some.node.now in
-    let t = c.args.table.now in
+    let t = c.args.nodes.now.table in
     let key = c.args.key in
     let effect = c.args.effect.now in
-    let us = c.args.units.now.items in
+    let us = c.args.nodes.now.units.items in
     let may = may_affect t us ss s key effect c.args.entry.now.strong opens in
     let was : node_at t c.args.key ≡ Some n = found c in
     let own : key ≡ (affected key effect n).key = sym ((same_affected key effect n).key ∙ c.requires.named key n was) in

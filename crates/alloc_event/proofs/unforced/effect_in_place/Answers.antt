@@ -11,7 +11,7 @@ use Rattle.alloc_event.proofs.unforced.effect_in_place.Goals as goal
 
 pub returns-clause-some : goal.returns-clause-some
 returns-clause-some c ss s opens =
-    let t = c.args.table.now in
+    let t = c.args.nodes.now.table in
     let key = c.args.key in
     let effect = c.args.effect.now in
     let plain = c.keeps_counts.ensures.plain c.if-not-keeps_counts.false in
@@ -21,10 +21,10 @@ returns-clause-some c ss s opens =
     let n : Node = there.0 in
     let was : node_at t key ≡ Some n = there.1 in
     let own : key ≡ (affected key effect n).key = sym ((plain_affected key effect plain n).key ∙ c.requires.named key n was) in
-    plain_made t c.affect_at.new.table c.args.units.now.items key effect n was
+    plain_made t c.affect_at.new.table c.args.nodes.now.units.items key effect n was
     (subst (λ (k : NodeKey). c.affect_at.new.table ≡ table_with_node t k (affected key effect n)) own (c.affect_at.ensures.becomes n was))
     (subst (λ (k : NodeKey). Writes t c.affect_at.new.table k (affected key effect n)) own (c.affect_at.ensures.writes n was))
-    ss s c.args.entry.now.strong (may_affect t c.args.units.now.items ss s key effect c.args.entry.now.strong opens) plain opens.calm
+    ss s c.args.entry.now.strong (may_affect t c.args.nodes.now.units.items ss s key effect c.args.entry.now.strong opens) plain opens.calm
     c.args.entry.now.strong
     (opens.strong ∙ sym (times_map is_strong is_strong (affected key effect) (nodes_with t s.keys)
     (c.keeps_counts.ensures.strong c.if-not-keeps_counts.false key)))

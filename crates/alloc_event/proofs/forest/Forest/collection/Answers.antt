@@ -7,7 +7,7 @@ use Rattle.alloc_event.proofs.forest.Forest.collection.Goals as goal
 
 pub returns-in-Some-clause-value : goal.returns-in-Some-clause-value
 returns-in-Some-clause-value c =
-    let told = collection_some c.self.inside.table c.self.inside.entries.items c.self.invariant.kept c.args.id c.in-Some.entry.now
+    let told = collection_some c.self.inside.store.nodes.table c.self.inside.store.entries.items c.self.invariant.kept c.args.id c.in-Some.entry.now
     (sym (rw c.deref.ensures.value at c.in-Some.ensures)) in
     let nodes : c.len.result ≡ length c.in-Some.entry.now.keys.items = omega arith in
     let held : c.len-in-Some.result ≡ length c.in-Some.entry.now.held.items = omega arith in
@@ -18,13 +18,13 @@ returns-in-Some-clause-value c =
 pub returns-in-Some-clause-few : goal.returns-in-Some-clause-few
 returns-in-Some-clause-few c =
     let entry = c.in-Some.entry.now in
-    let found = shelf_found c.args.id c.self.inside.entries.items
+    let found = shelf_found c.args.id c.self.inside.store.entries.items
     ∙ ap (option_map shelf_of) (sym (rw c.deref.ensures.value at c.in-Some.ensures)) in
-    few_given entry.buffers (found_whole c.self.inside.table c.args.id (shelves_of c.self.inside.entries.items) (shelf_of entry)
+    few_given entry.buffers (found_whole c.self.inside.store.nodes.table c.args.id (shelves_of c.self.inside.store.entries.items) (shelf_of entry)
     c.self.invariant.kept.whole found).sound.few
 
 pub returns-in-None-clause-value : goal.returns-in-None-clause-value
 returns-in-None-clause-value c =
     rw (← c.self.view_is)
-    (sym (ap (option_map summary_of) (collection_none c.self.inside.table c.self.inside.entries.items c.args.id
+    (sym (ap (option_map summary_of) (collection_none c.self.inside.store.nodes.table c.self.inside.store.entries.items c.args.id
     (sym (rw c.deref.ensures.value at c.in-None.ensures)))))

@@ -11,17 +11,17 @@ pub invariant_of-self : goal.invariant_of-self
 invariant_of-self c = record {
   kept = c.forget_over.ensures.kept;
   counted = c.forget_over.ensures.counted;
-  units = subst (AreUnits c.self.inside.units.items) (sym c.forget_over.ensures.collections)
-      (units_over c.self.inside.units.items c.args.id (map (collection_in c.self.inside.table) (shelves_of c.self.inside.entries.items))
-      (whole-map c.self.inside.table (shelves_of c.self.inside.entries.items) c.self.invariant.kept.whole) c.self.invariant.units);
+  units = subst (AreUnits c.self.inside.store.nodes.units.items) (sym c.forget_over.ensures.collections)
+      (units_over c.self.inside.store.nodes.units.items c.args.id (map (collection_in c.self.inside.store.nodes.table) (shelves_of c.self.inside.store.entries.items))
+      (whole-map c.self.inside.store.nodes.table (shelves_of c.self.inside.store.entries.items) c.self.invariant.kept.whole) c.self.invariant.units);
   given = subst AreServedByGiven (sym c.forget_over.ensures.collections)
-      (given_over c.args.id (map (collection_in c.self.inside.table) (shelves_of c.self.inside.entries.items)) c.self.invariant.given);
+      (given_over c.args.id (map (collection_in c.self.inside.store.nodes.table) (shelves_of c.self.inside.store.entries.items)) c.self.invariant.given);
 }
 
 pub returns-clause-keys : goal.returns-clause-keys
 returns-clause-keys c =
     rw (← c.self.view_is)
-    (SameKeys-shown c.self.inside.table c.forget_over.new.table (shelves_of c.self.inside.entries.items)
+    (SameKeys-shown c.self.inside.store.nodes.table c.forget_over.new.table (shelves_of c.self.inside.store.entries.items)
     (shelves_of c.forget_over.new.entries.items)
     c.self.invariant.kept.first c.forget_over.ensures.keys)
 

@@ -6,4 +6,4 @@ use Rattle.alloc_event.proofs.forest.Forest.held.Goals as goal
 pub returns-in-Ok : goal.returns-in-Ok
 returns-in-Ok c =
     let listed = rw c.deref.ensures.value at c.in-Ok.ensures in
-    rw (← c.self.view_is) (listed ∙ sym (held_in_order c.self.inside.table c.self.inside.entries.items))
+    rw (← c.self.view_is) (listed ∙ sym (held_in_order c.self.inside.store.nodes.table c.self.inside.store.entries.items))

@@ -7,4 +7,4 @@ pub returns : goal.returns
 returns c =
     rw (← c.self.view_is)
     (c.len.ensures ∙ sym c.self.invariant.kept.counted
-    ∙ sym (all_filed-length c.self.inside.table (shelves_of c.self.inside.entries.items) c.self.invariant.kept.filed))
+    ∙ sym (all_filed-length c.self.inside.store.nodes.table (shelves_of c.self.inside.store.entries.items) c.self.invariant.kept.filed))

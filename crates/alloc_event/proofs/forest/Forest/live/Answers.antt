@@ -6,4 +6,4 @@ use Rattle.alloc_event.proofs.forest.Forest.live.Goals as goal
 pub returns-in-Ok : goal.returns-in-Ok
 returns-in-Ok c =
     let listed = rw c.deref.ensures.value at c.in-Ok.ensures in
-    rw (← c.self.view_is) (listed ∙ sym (live_in_order c.self.inside.table (shelves_of c.self.inside.entries.items)))
+    rw (← c.self.view_is) (listed ∙ sym (live_in_order c.self.inside.store.nodes.table (shelves_of c.self.inside.store.entries.items)))

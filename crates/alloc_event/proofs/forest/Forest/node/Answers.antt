@@ -6,4 +6,4 @@ use Rattle.alloc_event.proofs.forest.Forest.node.Goals as goal
 pub returns : goal.returns
 returns c =
     rw (← c.self.view_is)
-    (c.get.ensures ∙ sym (node_is c.self.inside.table (shelves_of c.self.inside.entries.items) c.self.invariant.kept c.args.key))
+    (c.get.ensures ∙ sym (node_is c.self.inside.store.nodes.table (shelves_of c.self.inside.store.entries.items) c.self.invariant.kept c.args.key))

@@ -6,4 +6,4 @@ use Rattle.alloc_event.proofs.forest.Forest.pages_beside.Goals as goal
 pub returns-in-Ok : goal.returns-in-Ok
 returns-in-Ok c =
     let listed = rw c.deref.ensures.value at c.in-Ok.ensures in
-    rw (← c.self.view_is) (listed ∙ sym (pages_of_others c.self.inside.table c.args.id c.self.inside.entries.items))
+    rw (← c.self.view_is) (listed ∙ sym (pages_of_others c.self.inside.store.nodes.table c.args.id c.self.inside.store.entries.items))

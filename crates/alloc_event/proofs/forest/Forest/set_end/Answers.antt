@@ -20,8 +20,8 @@ known t ss kept f key is some = ap is_some (sym (node_is t ss kept key)) ∙ ap 
 
 module _ (c : goal.After-list_garbage) where
   -- the key is known, so the table has a node there
-  there : (n : Node) × (node_at c.self.inside.table c.args.key ≡ Some n)
-  there = some_is (node_at c.self.inside.table c.args.key) (known c.self.inside.table (shelves_of c.self.inside.entries.items)
+  there : (n : Node) × (node_at c.self.inside.store.nodes.table c.args.key ≡ Some n)
+  there = some_is (node_at c.self.inside.store.nodes.table c.args.key) (known c.self.inside.store.nodes.table (shelves_of c.self.inside.store.entries.items)
       c.self.invariant.kept c.args.self.now c.args.key c.self.view_is c.requires)
 
   abbrev n : Node
@@ -35,22 +35,22 @@ module _ (c : goal.After-list_garbage) where
   after = record n { end = c.args.end }
 
   -- the write under its own key
-  writes : Writes c.self.inside.table c.put_end.new.table n.key after
-  writes = subst (λ (k : NodeKey). Writes c.self.inside.table c.put_end.new.table k after) (sym named)
+  writes : Writes c.self.inside.store.nodes.table c.put_end.new.table n.key after
+  writes = subst (λ (k : NodeKey). Writes c.self.inside.store.nodes.table c.put_end.new.table k after) (sym named)
       (c.put_end.ensures.writes n there.1)
 
   -- the table with the node under its own key
-  becomes : c.put_end.new.table ≡ table_with_node c.self.inside.table n.key after
-  becomes = c.put_end.ensures.becomes n there.1 ∙ ap (λ (k : NodeKey). table_with_node c.self.inside.table k after) (sym named)
+  becomes : c.put_end.new.table ≡ table_with_node c.self.inside.store.nodes.table n.key after
+  becomes = c.put_end.ensures.becomes n there.1 ∙ ap (λ (k : NodeKey). table_with_node c.self.inside.store.nodes.table k after) (sym named)
 
   -- what the forest is then
   shown : forest_of c.put_end.new.table (shelves_of c.list_garbage.new.entries.items)
-      ≡ on_collections (with_nodes (map (with_end c.args.key c.args.end))) (forest_of c.self.inside.table
-      (shelves_of c.self.inside.entries.items))
+      ≡ on_collections (with_nodes (map (with_end c.args.key c.args.end))) (forest_of c.self.inside.store.nodes.table
+      (shelves_of c.self.inside.store.entries.items))
   shown =
       ap (forest_of c.put_end.new.table) c.list_garbage.ensures.shelves
-      ∙ ends-shown c.args.key c.args.end c.self.inside.table c.put_end.new.table n there.1
-      named writes (shelves_of c.self.inside.entries.items) becomes c.self.invariant.kept
+      ∙ ends-shown c.args.key c.args.end c.self.inside.store.nodes.table c.put_end.new.table n there.1
+      named writes (shelves_of c.self.inside.store.entries.items) becomes c.self.invariant.kept
 
   -- what was told of the node
   over_is : c.in-Some.over ≡ is_over (record n { end = c.args.end })
@@ -65,9 +65,9 @@ invariant_of-self c =
     let now = there c in
     record {
       kept = subst (IsStored c.put_end.new.table) (sym c.list_garbage.ensures.shelves)
-          (ends-kept c.args.key c.args.end c.self.inside.table c.put_end.new.table now.0 now.1 (named c) (writes c)
-          (shelves_of c.self.inside.entries.items) (becomes c) c.self.invariant.kept);
-      counted = mapped_all c.self.inside.table c.put_end.new.table (with_end c.args.key c.args.end)
+          (ends-kept c.args.key c.args.end c.self.inside.store.nodes.table c.put_end.new.table now.0 now.1 (named c) (writes c)
+          (shelves_of c.self.inside.store.entries.items) (becomes c) c.self.invariant.kept);
+      counted = mapped_all c.self.inside.store.nodes.table c.put_end.new.table (with_end c.args.key c.args.end)
           (λ n. record {
             key = refl;
             parent = refl;
@@ -79,23 +79,23 @@ invariant_of-self c =
             asks = refl;
           })
           (λ n. refl) (λ n. refl)
-          (ends-look c.args.key c.args.end c.self.inside.table c.put_end.new.table now.0 now.1 (named c) (writes c)
+          (ends-look c.args.key c.args.end c.self.inside.store.nodes.table c.put_end.new.table now.0 now.1 (named c) (writes c)
           c.self.invariant.kept.named)
           c.list_garbage.new.entries.items
-          (ends_tidy c.self.inside.table c.self.invariant.kept.named c.args.key c.args.end now.0 now.1
+          (ends_tidy c.self.inside.store.nodes.table c.self.invariant.kept.named c.args.key c.args.end now.0 now.1
           c.list_garbage.new.entries.items
-          (ap (are_filed c.self.inside.table) c.list_garbage.ensures.shelves ∙ c.self.invariant.kept.filed)
-          (c.list_garbage.ensures.counted c.self.inside.table c.self.invariant.counted)
+          (ap (are_filed c.self.inside.store.nodes.table) c.list_garbage.ensures.shelves ∙ c.self.invariant.kept.filed)
+          (c.list_garbage.ensures.counted c.self.inside.store.nodes.table c.self.invariant.counted)
           (λ over. rw (id_is c) at (c.list_garbage.ensures.garbage (over_is c ∙ over))))
-          (c.list_garbage.ensures.counted c.self.inside.table c.self.invariant.counted);
-      units = subst (AreUnits c.self.inside.units.items) (sym (ap (λ (f : Forest). f.collections) (shown c)))
-          (units_with c.self.inside.units.items (with_end c.args.key c.args.end)
+          (c.list_garbage.ensures.counted c.self.inside.store.nodes.table c.self.invariant.counted);
+      units = subst (AreUnits c.self.inside.store.nodes.units.items) (sym (ap (λ (f : Forest). f.collections) (shown c)))
+          (units_with c.self.inside.store.nodes.units.items (with_end c.args.key c.args.end)
           (λ n. record { key = refl; parent = refl; attached = refl; collection = refl; head = refl }) (λ n. refl) (λ k n. refl)
           (λ k n. refl)
-          (map (collection_in c.self.inside.table) (shelves_of c.self.inside.entries.items)) c.self.invariant.units);
+          (map (collection_in c.self.inside.store.nodes.table) (shelves_of c.self.inside.store.entries.items)) c.self.invariant.units);
       given = subst AreServedByGiven (sym (ap (λ (f : Forest). f.collections) (shown c)))
           (given_mapped (with_end c.args.key c.args.end) (λ n h. h)
-          (map (collection_in c.self.inside.table) (shelves_of c.self.inside.entries.items)) c.self.invariant.given);
+          (map (collection_in c.self.inside.store.nodes.table) (shelves_of c.self.inside.store.entries.items)) c.self.invariant.given);
     }
 
 pub returns-in-Some : goal.returns-in-Some
@@ -104,12 +104,12 @@ returns-in-Some c = rw (← c.self.view_is) (shown c)
 -- the node is there
 pub invariant_of-self-in_default : goal.invariant_of-self-in_default
 invariant_of-self-in_default c =
-    let told = known c.self.inside.table (shelves_of c.self.inside.entries.items) c.self.invariant.kept c.args.self.now c.args.key
+    let told = known c.self.inside.store.nodes.table (shelves_of c.self.inside.store.entries.items) c.self.invariant.kept c.args.self.now c.args.key
     c.self.view_is c.requires in
     absurd (false≢true (sym (ap is_some (c.in_default.ensures.none refl)) ∙ told))
 
 pub returns-in_default : goal.returns-in_default
 returns-in_default c =
-    let told = known c.self.inside.table (shelves_of c.self.inside.entries.items) c.self.invariant.kept c.args.self.now c.args.key
+    let told = known c.self.inside.store.nodes.table (shelves_of c.self.inside.store.entries.items) c.self.invariant.kept c.args.self.now c.args.key
     c.self.view_is c.requires in
     absurd (false≢true (sym (ap is_some (c.in_default.ensures.none refl)) ∙ told))

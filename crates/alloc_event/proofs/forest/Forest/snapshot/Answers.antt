@@ -8,23 +8,23 @@ use Rattle.alloc_event.proofs.forest.Forest.snapshot.Goals as goal
 pub returns-in_default-clause-value : goal.returns-in_default-clause-value
 returns-in_default-clause-value c =
     rw (← c.self.view_is)
-    (sym (collection_none c.self.inside.table c.self.inside.entries.items c.args.id
+    (sym (collection_none c.self.inside.store.nodes.table c.self.inside.store.entries.items c.args.id
     (sym (rw c.deref.ensures.value at c.in_default.ensures))))
 
 pub returns-in-Ok-clause-value : goal.returns-in-Ok-clause-value
 returns-in-Ok-clause-value c =
-    let found = shelf_found c.args.id c.self.inside.entries.items
+    let found = shelf_found c.args.id c.self.inside.store.entries.items
     ∙ ap (option_map shelf_of) (sym (rw c.deref.ensures.value at c.in-Some.ensures)) in
     rw (← c.self.view_is)
     (ap Some c.in-Ok.ensures
-    ∙ sym (collection_is c.self.inside.table c.args.id (shelves_of c.self.inside.entries.items)
-    ∙ ap (option_map (collection_in c.self.inside.table)) found))
+    ∙ sym (collection_is c.self.inside.store.nodes.table c.args.id (shelves_of c.self.inside.store.entries.items)
+    ∙ ap (option_map (collection_in c.self.inside.store.nodes.table)) found))
 
 -- as each of the forest is
 pub returns-in-Ok-clause-sound : goal.returns-in-Ok-clause-sound
 returns-in-Ok-clause-sound c =
-    let found = shelf_found c.args.id c.self.inside.entries.items
+    let found = shelf_found c.args.id c.self.inside.store.entries.items
     ∙ ap (option_map shelf_of) (sym (rw c.deref.ensures.value at c.in-Some.ensures)) in
     subst (λ (x : Collection). IsSound x) (sym c.in-Ok.ensures)
-    (found_whole c.self.inside.table c.args.id (shelves_of c.self.inside.entries.items) (shelf_of c.in-Some.entry.now)
+    (found_whole c.self.inside.store.nodes.table c.args.id (shelves_of c.self.inside.store.entries.items) (shelf_of c.in-Some.entry.now)
     c.self.invariant.kept.whole found).sound

@@ -8,15 +8,15 @@ use Rattle.alloc_event.proofs.forest.Forest.strong_live.Goals as goal
 
 pub returns-in-Some : goal.returns-in-Some
 returns-in-Some c =
-    let told = strong_found c.self.inside.table c.self.inside.entries.items c.args.id c.in-Some.entry.now
+    let told = strong_found c.self.inside.store.nodes.table c.self.inside.store.entries.items c.args.id c.in-Some.entry.now
     (sym (rw c.deref.ensures.value at c.in-Some.ensures)) in
-    let counted = found_counted c.self.inside.table c.args.id c.self.inside.entries.items c.in-Some.entry.now c.self.invariant.counted
+    let counted = found_counted c.self.inside.store.nodes.table c.args.id c.self.inside.store.entries.items c.in-Some.entry.now c.self.invariant.counted
     (sym (rw c.deref.ensures.value at c.in-Some.ensures)) in
     rw (← c.self.view_is)
-    (strong_told (nodes_with c.self.inside.table c.in-Some.entry.now.keys.items) c.in-Some.entry.now.strong counted.strong ∙ sym told)
+    (strong_told (nodes_with c.self.inside.store.nodes.table c.in-Some.entry.now.keys.items) c.in-Some.entry.now.strong counted.strong ∙ sym told)
 
 pub returns-in-None : goal.returns-in-None
 returns-in-None c =
     rw (← c.self.view_is)
-    (sym (ap (λ o. option_map_or (λ (d : Collection). some_strong_live (members_of d.nodes)) o false) (collection_none c.self.inside.table
-    c.self.inside.entries.items c.args.id (sym (rw c.deref.ensures.value at c.in-None.ensures)))))
+    (sym (ap (λ o. option_map_or (λ (d : Collection). some_strong_live (members_of d.nodes)) o false) (collection_none c.self.inside.store.nodes.table
+    c.self.inside.store.entries.items c.args.id (sym (rw c.deref.ensures.value at c.in-None.ensures)))))
