@@ -80,17 +80,18 @@ collect_is_quiet s client (Reply.Taken collection strength set) = record { hands
 collect_is_quiet s client (Reply.Tracker id) = record { hands = refl; tracks = refl; work = refl; room = refl }
 collect_is_quiet s client _ = record { hands = refl; tracks = refl; work = refl; room = refl }
 
-quiet_takes_none : (s : State) (client : ℕ) (call : Call) (asked : Reply) {task : Option Task} {tracking : Option Waiting} →
+quiet_takes_none : (s : State) (client : ℕ) (call : Call) (asked : Reply) (task : Option Task) (tracking : Option Waiting) →
     IsQuiet s client call asked → work_in task ≡ work_of s client call asked → tracking ≡ tracker_by s.forest call asked →
     may_take_memory call asked task tracking ≡ false
-quiet_takes_none s client call asked quiet work tracks =
+quiet_takes_none s client call asked task tracking quiet work tracks =
     rw (quiet.hands, tracks ∙ quiet.tracks, work ∙ quiet.work, quiet.room) refl
 
 -- they take no memory
-pub takes_none : (s : State) (client : ℕ) (call : Call) (asked : Reply) {task : Option Task} {tracking : Option Waiting} →
+pub takes_none : (s : State) (client : ℕ) (call : Call) (asked : Reply) (task : Option Task) (tracking : Option Waiting) →
     takes_no_memory call ≡ true → work_in task ≡ work_of s client call asked → tracking ≡ tracker_by s.forest call asked →
     may_take_memory call asked task tracking ≡ false
-takes_none s client Call.Shut asked none work tracks = quiet_takes_none s client Call.Shut asked (shut_is_quiet s client asked) work tracks
-takes_none s client Call.Collect asked none work tracks =
-    quiet_takes_none s client Call.Collect asked (collect_is_quiet s client asked) work tracks
-takes_none s client _ asked none work tracks = cc
+takes_none s client Call.Shut asked task tracking none work tracks =
+    quiet_takes_none s client Call.Shut asked task tracking (shut_is_quiet s client asked) work tracks
+takes_none s client Call.Collect asked task tracking none work tracks =
+    quiet_takes_none s client Call.Collect asked task tracking (collect_is_quiet s client asked) work tracks
+takes_none s client _ asked task tracking none work tracks = cc

@@ -21,6 +21,7 @@ use Rattle.alloc_event.specs.Nodes.{is_spent}
 use Rattle.alloc_event.specs.Settling.{no_key}
 use Rattle.lifetime_core.specs.declared.task.Place.{Place}
 use Rattle.lifetime_core.specs.declared.task.Task.{Task}
+use Rattle.lifetime_core.specs.Hands.{collects_handle}
 use Rattle.lifetime_core.specs.Reads.{open_end_of, readings_of, world_in}
 use Rattle.lifetime_core.specs.State.{State, counts_of}
 use Rattle.lifetime_core.specs.Steps.{Follows, GainsTracker, end_by, swept, tracker_by, with_place, without_over, work_of}

@@ -32,7 +32,7 @@ returns-in_ok-lift-in-GiveHandle-clause-ok c =
     let g = c.in-GiveHandle in
     let some = rw (c.in-GiveHandle.is, c.in-Done-reply-2.is) at c.requires in
     rw (c.in-GiveHandle.is, c.in-Done-reply-2.is) (moves_given c.args.client g.buffer g.strength g.field-2 c.args.holds.now c.lift.new.self
-    some (OnTrue_at (c.in_ok-lift.ensures.had.1 some) c.in_ok-lift.ensures.lifted))
+    some (OnTrue_at (c.in_ok-lift-in-GiveHandle.ensures.had.1 some) c.in_ok-lift-in-GiveHandle.ensures.lifted))
 
 pub returns-in-CollectedHandle-clause-ok : goal.returns-in-CollectedHandle-clause-ok
 returns-in-CollectedHandle-clause-ok c =

@@ -148,7 +148,8 @@ returns-in_default c =
       stays = search rules;
       full = search rules;
       memory = λ none.
-          let quiet = takes_none s c.args.client c.args.call.now c.args.asked.now.reply none b.work b.tracks in
+          let quiet = takes_none s c.args.client c.args.call.now c.args.asked.now.reply c.args.asked.now.task c.args.asked.now.tracking none
+          b.work b.tracks in
           let may = c.in_default.ensures.why in
           cc;
     }
