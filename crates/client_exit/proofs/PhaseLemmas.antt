@@ -58,10 +58,10 @@ at_fault (Ok a) so q = tt
 at_fault (Err b) so q = so q b
 
 -- where the history is full, memory is not refused
-pub not_memory : {A : Type 0} (r : Result A StepFault) (e : StepFault) {P : Type 0} → IsErrAnd r (λ f. f ≡ e) → e ≡ StepFault.HistoryFull →
+pub not_memory : {A : Type 0} (r : Result A StepFault) (e : StepFault) (P : Type 0) → IsErrAnd r (λ f. f ≡ e) → e ≡ StepFault.HistoryFull →
     IfErr r (λ fault. fault ≡ StepFault.NoMemory → P)
-not_memory (Ok a) e is full = tt
-not_memory (Err f) e is full = λ memory.
+not_memory (Ok a) e P is full = tt
+not_memory (Err f) e P is full = λ memory.
     let clash : StepFault.HistoryFull ≡ StepFault.NoMemory = sym full ∙ (sym is ∙ memory) in
     absurd (cc)
 

@@ -1,5 +1,5 @@
 use Rattle.std.proofs.lemmas.Result.{on_err_weaker, on_ok_weaker}
-use Rattle.client_exit.specs.Events.{Leaving}
+use Rattle.client_exit.specs.Events.{Gathered, Leaving}
 use Rattle.client_exit.specs.Phases.{Phase}
 use Rattle.client_exit.proofs.ExitParts.{closes_some, collects_some, drops_some, gathered_leaving, leaves}
 use Rattle.client_exit.proofs.PhaseLemmas.{at_fault, not_memory, on_each, on_fault}
@@ -42,4 +42,5 @@ returns-in_err-collect_all-clause-err c =
 
 pub returns-in_err-collect_all-clause-gathered : goal.returns-in_err-collect_all-clause-gathered
 returns-in_err-collect_all-clause-gathered c =
-    not_memory c.from_residual.result _ c.from_residual.ensures.1 c.in_err-collect_all.ensures.memory
+    not_memory c.from_residual.result _ (Phase c.args.core.now c.collect_all.new.core (Gathered c.args.client c.args.waiting))
+    c.from_residual.ensures.1 c.in_err-collect_all.ensures.memory
