@@ -2,7 +2,7 @@
 use alloc_event::Node;
 use script_lines::push;
 use script_pictures::{
-    Class, Picture, Row, Tree, class_of, kind_name, push_handles, push_pages, push_place, rows,
+    Class, Picture, Row, Tree, class_of, kind_name, push_handles, push_pages, push_place, rows_of,
 };
 use script_tales::Teller;
 use script_tales::words::push_nodes;
@@ -97,7 +97,7 @@ fn push_tree(
     tree: &Tree,
     clients: &Vec<ClientId>,
 ) -> Result<(), AllocError> {
-    let rows = rows(&tree.nodes)?;
+    let rows = rows_of(&tree.nodes)?;
     let width = width_of(teller, tree, &rows)?;
     for row in &rows {
         if row.at < tree.nodes.len() {

@@ -15,5 +15,5 @@ pub use features::{Class, class_of, kind_name, push_handles, push_pages, push_pl
 pub use layout::{Corner, GAP_X, GAP_Y, HEIGHT, Layout, lay_out, minus, parent_place, plus, times};
 pub use lines::{node_lines, push_header};
 pub use picture::{Picture, ToldMark, Tree, picture_of};
-pub use rows::{Row, children_of, rows};
+pub use rows::{Row, children_of, rows_of};
 pub use travel::{Travel, Way, way_of};

@@ -35,7 +35,7 @@ struct Pending {
 
 /// A row for each node, the root first, and the rows of its children behind that of each. Costs O(n^2) and
 /// the lines.
-pub fn rows(nodes: &Vec<Node>) -> Result<Vec<Row>, AllocError> {
+pub fn rows_of(nodes: &Vec<Node>) -> Result<Vec<Row>, AllocError> {
     let alloc = *nodes.allocator();
     let mut rows = Vec::new(alloc);
     let mut pending = Vec::new(alloc);
