@@ -100,10 +100,10 @@ fn push_way(text: &mut Vec<u8>, way: Option<Way>) -> Result<(), AllocError> {
 }
 
 // Puts behind what is there how an arrow looks that a failure went along, at this step.
-fn push_arrow(
+fn push_arrow<'a>(
     text: &mut Vec<u8>,
-    direction: &str,
-    width: &str,
+    direction: &'a str,
+    width: &'a str,
     step: u64,
 ) -> Result<(), AllocError> {
     push_parts(

@@ -53,7 +53,11 @@ pub(crate) struct Rect {
 }
 
 // Puts an attribute with a word behind what is there; nothing where the word is empty.
-pub(crate) fn push_word(body: &mut Vec<u8>, name: &str, value: &str) -> Result<(), AllocError> {
+pub(crate) fn push_word<'a>(
+    body: &mut Vec<u8>,
+    name: &'a str,
+    value: &'a str,
+) -> Result<(), AllocError> {
     if value.is_empty() {
         return Ok(());
     }

@@ -150,7 +150,11 @@ impl Comparison {
     }
 
     // Puts the last line behind what is there, with the reply that is recorded, and that of the machine.
-    fn push_difference(&self, text: &mut Vec<u8>, recorded: &[u8]) -> Result<(), AllocError> {
+    fn push_difference<'a>(
+        &'a self,
+        text: &mut Vec<u8>,
+        recorded: &'a [u8],
+    ) -> Result<(), AllocError> {
         let legal = if self.reply.is_empty() {
             b"no reply\n".as_slice()
         } else {

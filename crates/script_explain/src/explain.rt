@@ -118,7 +118,7 @@ fn explain_line(
 }
 
 // Puts the line behind what is there, and below it its reply, which is a line of its own, if it has one.
-fn push_line(text: &mut Vec<u8>, line: &[u8], reply: &[u8]) -> Result<(), AllocError>
+fn push_line<'a>(text: &mut Vec<u8>, line: &'a [u8], reply: &'a [u8]) -> Result<(), AllocError>
     ensures { OnOk result (text.new.items ≡ text.old.items ++ line_with_reply line.now reply.now) }
 {
     push_parts(
