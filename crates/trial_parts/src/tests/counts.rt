@@ -82,10 +82,11 @@ fn what_is_undone_takes_no_memory(rt: HostRuntime) {
             let _ = println!(rt; "memory was refused");
             continue;
         }
+        let other = client.wrapping_add(40);
         if holds.moving(FIRST, Strength::Weak) > 0 {
-            holds.land(client + 40, FIRST, Strength::Weak);
+            holds.land(other, FIRST, Strength::Weak);
         }
-        assert!(rt; holds.sub(client + 40, FIRST, Strength::Weak));
+        assert!(rt; holds.sub(other, FIRST, Strength::Weak));
     }
 }
 
