@@ -139,7 +139,7 @@ fn all_played(alloc: Global, input: &[u8]) -> Result<Vec<u8>, Fail> {
     };
     let mut rest = input;
     'lines: while let Some(at) = line_end(rest) {
-        let line = &rest[..at + 1];
+        let line = rest.get(..at.saturating_add(1)).unwrap_or(rest);
         rest = behind(rest, at);
         match line.strip_prefix(b"= ") {
             Some(title) => {
