@@ -215,6 +215,41 @@ no_file() {
 }
 count no_file
 
+# Large scripts are explained, drawn and checked.
+is_transcript_of() {
+  "$program" explain <"$room/script" >"$room/explained" 2>"$room/told" && hears '' &&
+    grep -v '^  ' "$room/explained" | cmp -s - "$room/script" &&
+    "$program" check <"$room/explained" >"$room/out" 2>"$room/told" && grep -q '^agrees: ' "$room/out" && hears ''
+}
+# A root with 1,023 children fails.
+large_tree_fails() {
+  { printf 'a join\na open r\n' && seq -f 'a dup r n%g' 1023 && printf 'a close r\nshow live\n'; } >"$room/script"
+  is_transcript_of && grep -qx "      down    r >$(seq -s '' -f ' n%g' 1023)" "$room/explained" &&
+    "$program" draw <"$room/script" >"$room/out" 2>"$room/told" && [ "$(grep -c ', origin r; ' "$room/out")" = 1023 ] && hears ''
+}
+# Below a root hang 300 attached nodes, each below the one before. All but the last are released, and then it too.
+chain_ends() {
+  {
+    printf 'a join\na open n0\na bind n0\n'
+    for ((node = 1; node <= 300; node++)); do printf 'a attach n%d n%d\na bind n%d\n' $((node - 1)) "$node" "$node"; done
+    for ((node = 0; node < 300; node++)); do printf 'a release n%d\n' "$node"; done
+    printf 'show live\na release n300\nshow live\nshow free\n'
+  } >"$room/script"
+  is_transcript_of && grep -qx '    n0 ends: no node at or below it is live' "$room/explained" &&
+    [ "$(grep -c '^      down    ' "$room/explained")" = 300 ] && grep -qx '  live n300' "$room/explained"
+}
+# As many empty lines as a script may have.
+empty_lines() {
+  yes '' | head -c 16777216 >"$room/script"
+  is_transcript_of && [ "$(cat "$room/out")" = 'agrees: 16777216 lines, 0 replies' ]
+}
+# Labels of 16 letters.
+long_labels() {
+  printf 'abcdefghijklmnop join\nabcdefghijklmnop open ponmlkjihgfedcba\nabcdefghijklmnop close ponmlkjihgfedcba\n' >"$room/script"
+  is_transcript_of && grep -qx '    ponmlkjihgfedcba fails, lost: its end was closed without a release' "$room/explained"
+}
+for case in large_tree_fails chain_ends empty_lines long_labels; do count "$case"; done
+
 # Actors that never meet have one report. Of those that share a tree the number of events is open.
 is_reported() {
   "$program" threads <examples/apart.actors 2>"$room/told" | cmp -s - examples/apart.out && hears ''
