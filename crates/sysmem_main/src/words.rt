@@ -25,30 +25,31 @@ Each line of a script says what a client asks. C and D are clients, N and M
 nodes, T is a tracker, B a buffer such as r.0, S is strong or weak.
 
     C join                  makes the client C
-    C shut                  C is given nothing more
+    C shut                  nobody can give C anything more
     C open N                makes a collection, whose root token is N
     C dup N M               makes a child token M of the token N
     C attach N M            makes a token M attached to the collection N
     C bind N                turns the token N into a collection
-    C sync N                asks whether N is well
-    C dispensable N         N's failure stops at N, once there are buffers
+    C sync N                asks whether N has failed
+    C dispensable N         no failure climbs from N, once its unit has buffers
     C weak N                N and its later children keep no buffers alive
-    C weakok N              N copes with weak handles
-    C weakok N children     so do N, its later children and all below these
+    C weakok N              N may take weak handles
+    C weakok N children     so may N, its later children and all below these
     C constrain N CAMPING AT_LEAST SIZE
-                            on how many buffers N camps, how many there are to
-                            be at least, and of how many bytes
+                            how many buffers N camps on, how many there must be
+                            at least, and of how many bytes
     C check N               asks whether the buffers are there
     C take N                opens a handle on each buffer
-    C release N             leaves in good order, and spends the end
-    C close N               closes the end; without a release, N fails
+    C release N             spends the end without a failure
+    C close N               spends the end, and N fails
     C give N D              puts the end of N into a parcel for D
-    C collect M             takes what waits first for C
+    C collect M             takes the first parcel that waits for C
     C duph B S              opens one more handle
     C droph B S             drops a handle
     C giveh B S D           puts a handle into a parcel for D
     C tracknode N T         makes a tracker that fires once N is gone
-    C tracklife N NUMBER T  one that fires once at most so many buffers are left
+    C tracklife N NUMBER T  one that fires once at most so many buffers hold
+                            pages, or once N is gone before it had buffers
     C trackweak B T         one that fires once nothing strong keeps B
     C poll T                asks whether T fired
     show live               the live nodes
@@ -56,12 +57,12 @@ nodes, T is a tracker, B a buffer such as r.0, S is strong or weak.
     show fired              the trackers that fired
     show free               how many pages are free
 
-Empty lines and lines that begin with # are skipped. A line is bad that is
-longer than 256 bytes, or is the last one and has no end; with two spaces
-between words, or one before the first or after the last; with a byte 13 before
-its end; with a remark behind a call; of no form that there is; with a label of
-more than 16 letters and digits, a number out of its range or an index of 64.
-docs/SCRIPT.md has the whole language, examples/ has scripts.";
+Empty lines and lines that begin with # are skipped. A line is bad if it is
+longer than 256 bytes, or is the last one and has no end; if it has two spaces
+between words, or one before the first or after the last; if it has a byte 13
+before its end, or a remark behind a call; if it has none of the forms above; or
+if a label has more than 16 letters and digits, a number is out of its range, or
+an index is over 63. docs/SCRIPT.md has the whole language, examples/ scripts.";
 
 const RUN_HELP: &str = "\
 Each line is answered by one line. So
@@ -86,13 +87,13 @@ whether the buffers are there. A line that uses an unbound label, or binds a
 bound one, is bad.
 
 Status: 0 all lines were answered; 1 read or write fault; 2 the command line was
-refused; 3 a bad line; 4 no memory, or history full. A fault is told in one line
-on standard error, once the lines before it are answered.";
+refused; 3 a bad line; 4 no memory, or history full. A fault is one line on
+standard error, after the answers to the lines before it.";
 
 const THREADS_HELP: &str = "\
 Each client is an actor in a thread of its own, and the lines that it begins are
-its steps, in their order; how the steps of different actors fall between each
-other is open. So
+its steps, in their order; how the steps of different actors interleave is not
+determined. So
 
     a join
     b join
@@ -150,14 +151,14 @@ const SVG: &str = "svg";
 
 const FORMATS: &[&str] = &[TEXT, DOT, SVG];
 
-const EXPLAIN_ABOUT: &str = "Tells each line with its reply, and what its event forced, and why";
+const EXPLAIN_ABOUT: &str = "Repeats each line with its reply, what its event forced, and why";
 
 const EXPLAIN_HELP: &str = "\
-Tells each line of the script on standard input with its reply, and what its
-event forced, and why
+Repeats each line of the script on standard input with its reply, what its event
+forced, and why
 
 Lines without an indent are the script, those indented by two spaces are the
-replies of `sysmem run`, and behind them stands what the event came to:
+replies of `sysmem run`, and below them stands what the event did:
 
     dis close display
       done
@@ -170,13 +171,13 @@ replies of `sysmem run`, and behind them stands what the event came to:
 up: the failure went from a node to its parent, whose link to it is not blocked.
 down: it went on to all children. stops: why it went no further. kept: who keeps
 pages that did not go back. camps: who camps on how many buffers. waits: for
-whom an allocation waits. since: the line that took a node.
+whom an allocation waits. since: the line whose event made that loss.
 
-Lines that begin with two spaces are passed over, and count as lines.
+Lines that begin with two spaces are skipped, and count as lines.
 
 Status: 0 all lines were answered; 1 read or write fault; 2 the command line was
-refused; 3 a bad line; 4 no memory, or history full. A fault is told in one line
-on standard error, once the lines before it are told; a bad line with its reason.";
+refused; 3 a bad line; 4 no memory, or history full. A fault is one line on
+standard error, after the lines before it; a bad line has its reason.";
 
 const DRAW_ABOUT: &str = "Draws the trees after the last line or an event";
 
@@ -184,12 +185,16 @@ const DRAW_HELP: &str = "\
 Draws the trees of the script on standard input, after its last line or an event";
 
 const DRAW_STATUS: &str = "\
-Lines that begin with two spaces are passed over, and those behind the event that
-is asked for are not looked at. `sysmem explain --help` tells the language.
+Lines that begin with two spaces are skipped, and those after the event that is
+asked for are not looked at. `sysmem run --help` lists the lines. So
+
+    sysmem draw --format dot camera.script | dot -Tsvg > camera.svg
+
+draws the trees after the last line of camera.script by Graphviz.
 
 Status: 0 the picture was written; 1 read or write fault; 2 the command line was
 refused, or there is no such event; 3 a bad line; 4 no memory, or history full.
-A fault is told in one line on standard error, a bad line with its reason.";
+A fault is one line on standard error; a bad line has its reason.";
 
 const CHECK_ABOUT: &str = "Compares the replies of a transcript with the machine's";
 
@@ -197,9 +202,9 @@ const CHECK_HELP: &str = "\
 Compares the replies of the transcript on standard input with the machine's
 
 A transcript is a script in which a line may be followed by its reply, indented
-by two spaces, and by lines indented by four or more, which say nothing. So what
-`sysmem explain` writes is one. Where all replies agree, the number of lines that
-were played and that of replies are told. Else the first that differs is:
+by two spaces, and by lines indented by four or more, which are ignored. What
+`sysmem explain` writes is one. If all replies agree, the numbers of lines that
+were played and of replies are written; else the first reply that differs:
 
     line 41: enc check encoder
       recorded  pending
@@ -288,7 +293,7 @@ pub fn command<'a>(alloc: Global) -> Result<Command<'a>, AllocError> {
         .bin_name("sysmem")?
         .version(VERSION)
         .about(ABOUT)
-        .after_help("'sysmem run --help' tells what a script is.")
+        .after_help("'sysmem run --help' lists the lines of a script: sysmem run < FILE")
         .subcommand_required(true)
         .subcommand(run)?
         .subcommand(threads)?
