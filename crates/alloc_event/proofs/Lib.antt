@@ -2,14 +2,6 @@ pub mod Common
 pub mod Outcomes
 pub mod allocation
 pub mod changes
-pub mod failures
-pub mod intervals
 pub mod leaving
-pub mod lists
 pub mod mid_event
-pub mod newborns
-pub mod quiescence
 pub mod shelves
-pub mod tables
-pub mod tallies
-pub mod turns

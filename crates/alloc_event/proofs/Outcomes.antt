@@ -2,11 +2,11 @@
 use Rattle.alloc_event.proofs.Common.{◌≡◌, ℕ, Bool, true, List, refl, Table, Change, Entry, Node, Unit, forest_of, shelves_of, Handles}
 use Rattle.std.proofs.Common.{Result, Ok, Err, OnOk, is_ok}
 use Rattle.buffer_pool.specs.Holdings.{Holdings}
-use Rattle.alloc_event.specs.Counts.{HaveUnits}
-use Rattle.alloc_event.specs.Forest.{IsPoolOf}
-use Rattle.alloc_event.specs.Outcomes.{IsOutcome, IsOutcomeIn, IsReady, IsUnchanged}
-use Rattle.alloc_event.specs.Stores.{IsOutcomeAt}
-use Rattle.alloc_event.proofs.intervals.Pools.{pool_stays}
+use Rattle.forest_store.specs.Counts.{HaveUnits}
+use Rattle.forest_store.specs.Forest.{IsPoolOf}
+use Rattle.forest_store.specs.Outcomes.{IsOutcome, IsOutcomeIn, IsReady, IsUnchanged}
+use Rattle.forest_steps.specs.StoreSteps.{IsOutcomeAt}
+use Rattle.forest_steps.proofs.intervals.Pools.{pool_stays}
 
 -- where nothing changed, the change may still be made
 pub still_ready : {t now : Table Node} {es behind : List Entry} {us next : List Unit} {id : ℕ} {change : Change} →

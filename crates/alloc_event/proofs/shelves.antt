@@ -1,7 +1,2 @@
 -- The entries of collections, and what is read of them.
-pub mod Counted
-pub mod Dropping
-pub mod Entries
 pub mod Ordered
-pub mod Putting
-pub mod Showing

@@ -2,19 +2,20 @@
 ghost use Rattle.std.specs.Prelude.{◌≡◌, ◌≤◌, is_ok, true, false, vec_capacity};
 ghost use Rattle.buffer_holds.specs.Counts.{total};
 ghost use Rattle.node_table.specs.Table.{table_len};
-ghost use Rattle.alloc_event.specs.declared.change.Change.{Change as Changed};
-ghost use Rattle.alloc_event.specs.Forest.{IsPoolOf};
-ghost use Rattle.alloc_event.specs.Settling.{is_birth};
-ghost use Rattle.alloc_event.specs.Stores.{OutcomeAt, ReadyAt, WaitsNot, forest_in};
+ghost use Rattle.forest_store.specs.declared.change.Change.{Change as Changed};
+ghost use Rattle.forest_store.specs.Forest.{IsPoolOf};
+ghost use Rattle.forest_store.specs.Settling.{is_birth};
+ghost use Rattle.forest_store.specs.Stores.{forest_in};
+ghost use Rattle.forest_steps.specs.StoreSteps.{OutcomeAt, ReadyAt, WaitsNot};
 
-use crate::change::{Change, Effect};
-use crate::event_end::finish_event;
-use crate::initial_allocation::allocate_root;
-use crate::propagation::{apply_effect, apply_loss};
-use crate::scratch::Scratch;
-use crate::store::Store;
 use buffer_holds::Holds;
 use buffer_pool::Pool;
+use forest_steps::event_end::finish_event;
+use forest_steps::initial_allocation::allocate_root;
+use forest_steps::propagation::{apply_effect, apply_loss};
+use forest_steps::scratch::Scratch;
+use forest_store::change::{Change, Effect};
+use forest_store::store::Store;
 use sm_names::{Fault, NoMemory, NodeKey};
 
 /// Makes a loss in its place, with all that it forces. It takes no memory.

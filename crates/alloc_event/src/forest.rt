@@ -4,30 +4,31 @@ ghost use Rattle.std.specs.List.{filter};
 ghost use Rattle.buffer_holds.specs.Counts.{total};
 ghost use Rattle.std.specs.Option.{option_map, option_map_or};
 ghost use Rattle.sm_names.specs.Members.{some_strong_live};
-ghost use Rattle.alloc_event.specs.declared.change.Change.{Change as Changed};
-ghost use Rattle.alloc_event.specs.Dropped.{are_others_out};
-ghost use Rattle.alloc_event.specs.Forest.{Collection, IsPoolOf, SameKeys, all_nodes, beside, collection_at, node_at, node_count, empty_forest, summary_of, live_keys, held_by_page, on_collections, with_nodes, is_left, without_over_in};
-ghost use Rattle.alloc_event.specs.Nodes.{members_of, with_end, is_of, is_over};
-ghost use Rattle.alloc_event.specs.Scenes.{IsSound};
-ghost use Rattle.alloc_event.specs.Settling.{MayChange, Settled};
-ghost use Rattle.alloc_event.specs.Snapshots.{collection_of};
+ghost use Rattle.forest_store.specs.declared.change.Change.{Change as Changed};
+ghost use Rattle.forest_store.specs.Dropped.{are_others_out};
+ghost use Rattle.forest_store.specs.Forest.{Collection, IsPoolOf, SameKeys, all_nodes, beside, collection_at, node_at, node_count, empty_forest, summary_of, live_keys, held_by_page, on_collections, with_nodes, is_left, without_over_in};
+ghost use Rattle.forest_store.specs.Nodes.{members_of, with_end, is_of, is_over};
+ghost use Rattle.forest_store.specs.Scenes.{IsSound};
+ghost use Rattle.forest_store.specs.Settling.{MayChange, Settled};
+ghost use Rattle.forest_store.specs.Snapshots.{collection_of};
 
-use crate::change::Change;
-use crate::dropped::settle_dropped;
-use crate::entry::{entry_of, place_of};
-use crate::garbage::{forget_over, list_garbage, take_out};
-use crate::insertion::Birth;
-use crate::lookup::{copy_out, held_by_page, ids_of, kept_nodes, live_by_birth, pages_beside};
-use crate::node::{End, Node};
-use crate::scratch::Scratch;
-use crate::settle::{settle_birth, settle_change};
-use crate::snapshot::Snapshot;
-use crate::store::{NodeStore, Store, put_end};
-use crate::summary::Summary;
+use crate::settle::{settle_birth, settle_change, settle_dropped};
 use buffer_holds::Holds;
 use buffer_pool::Pool;
+use forest_steps::scratch::Scratch;
+use forest_store::change::Change;
+use forest_store::entry::{entry_of, place_of};
+use forest_store::garbage::{forget_over, list_garbage, take_out};
+use forest_store::insertion::Birth;
+use forest_store::lookup::{
+    copy_out, held_by_page, ids_of, kept_nodes, live_by_birth, pages_beside,
+};
+use forest_store::node::{End, Node};
+use forest_store::snapshot::Snapshot;
+use forest_store::store::{NodeStore, Store, put_end};
+use forest_store::summary::Summary;
 use node_table::NodeTable;
-use sm_names::{BufferName, CollectionId, HeldBuffer, Interval, NoMemory, NodeKey};
+use sm_names::{BufferName, CollectionId, HeldBuffer, Interval, MAX_BUFFERS, NoMemory, NodeKey};
 use std::alloc::Global;
 use std::marker::Model;
 
@@ -40,12 +41,12 @@ pub struct Forest {
 }
 
 impl Model for Forest {
-    ghost use Rattle.alloc_event.specs.Forest.{Forest};
+    ghost use Rattle.forest_store.specs.Forest.{Forest};
 
     ghost Value = { Forest };
 
-    ghost use Rattle.alloc_event.specs.Shelves.{forest_of, shelves_of};
-    ghost use Rattle.alloc_event.specs.Calm.{IsForest};
+    ghost use Rattle.forest_store.specs.Shelves.{forest_of, shelves_of};
+    ghost use Rattle.forest_store.specs.Calm.{IsForest};
 
     ghost view = { λ f. forest_of f.store.nodes.table (shelves_of f.store.entries.items) };
 
@@ -104,7 +105,7 @@ impl Forest {
     /// all of the collection goes.
     ///
     /// Where no strong node of the collection is live after the change, it costs some looks at the
-    /// handles of each buffer besides, of which there are at most 64, and
+    /// handles of each buffer besides, of which there are at most `MAX_BUFFERS`, and
     /// one for each turn, what goes where the buffers are abandoned, and the return of the buffers
     /// that are home: for each a shift of those behind it where some stay held, and what the pool
     /// takes.
@@ -195,7 +196,7 @@ impl Forest {
     /// The collection with this id at a glance, if it is there. A binary search.
     pub fn collection(&self, id: CollectionId) -> Option<Summary>
         ensures value { result ≡ option_map summary_of (collection_at self.now id) }
-        ensures few { IfSome result (λ s. IfSome s.buffers (λ b. b.count ≤ 64)) }
+        ensures few { IfSome result (λ s. IfSome s.buffers (λ b. b.count ≤ MAX_BUFFERS)) }
     {
         match entry_of(&self.store.entries, id) {
             Some(entry) => Some(Summary {

@@ -6,14 +6,14 @@ ghost use Rattle.sm_names.specs.declared.keys.NodeKey.{NodeKey};
 ghost use Rattle.sm_names.specs.declared.outcomes.Fault.{Fault};
 ghost use Rattle.sm_names.specs.Sameness.{same_key};
 ghost use Rattle.node_table.specs.Table.{Table};
-ghost use Rattle.alloc_event.specs.declared.change.Change.{Change};
-ghost use Rattle.alloc_event.specs.declared.node.Node.{Node};
-ghost use Rattle.alloc_event.specs.Decisions.{is_left_of};
-ghost use Rattle.alloc_event.specs.Forest.{Collection};
-ghost use Rattle.alloc_event.specs.Nodes.{after_loss, lost};
-ghost use Rattle.alloc_event.specs.Scenes.{are_distinct};
-ghost use Rattle.alloc_event.specs.Settling.{Handles, Settles, changed};
-ghost use Rattle.alloc_event.specs.Ties.{IsFall, FitsChange, IsTied, are_rooted};
+ghost use Rattle.forest_store.specs.declared.change.Change.{Change};
+ghost use Rattle.forest_store.specs.declared.node.Node.{Node};
+ghost use Rattle.forest_store.specs.Decisions.{is_left_of};
+ghost use Rattle.forest_store.specs.Forest.{Collection};
+ghost use Rattle.forest_store.specs.Nodes.{after_loss, lost};
+ghost use Rattle.forest_store.specs.Scenes.{are_distinct};
+ghost use Rattle.forest_store.specs.Settling.{Handles, Settles, changed};
+ghost use Rattle.forest_store.specs.Ties.{IsFall, FitsChange, IsTied, are_rooted};
 
 /// What a failure takes of a node table, as `failure_domains::fall` finds it, is what a loss takes of
 /// the collection whose nodes the table has.

@@ -1,24 +1,29 @@
-//! Changes to a collection that is there, and the births of nodes.
-ghost use Rattle.std.specs.Prelude.{◌≡◌, ◌≤◌, ◌+◌, false, is_ok, min, vec_capacity, IfOk, OnErr};
+//! Changes to a collection that is there, the births of nodes, and handles that are dropped.
+ghost use Rattle.std.specs.Prelude.{◌≡◌, ◌≤◌, ◌+◌, false, true, is_ok, min, vec_capacity, IfOk, OnErr};
+ghost use Rattle.std.specs.Option.{option_map_or};
 ghost use Rattle.buffer_holds.specs.Counts.{total};
 ghost use Rattle.node_table.specs.Table.{table_len};
-ghost use Rattle.alloc_event.specs.Forest.{IsPoolOf};
-ghost use Rattle.alloc_event.specs.Insertion.{birth_change};
-ghost use Rattle.alloc_event.specs.Settling.{MayChange, is_birth};
-ghost use Rattle.alloc_event.specs.Stores.{BornIn, IsResting, OutcomeOf, ReadyAt, ReadyFor, UnbornIn, UnforcedAt, forest_in};
+ghost use Rattle.forest_store.specs.declared.change.Change.{Change as Changed};
+ghost use Rattle.forest_store.specs.Dropped.{are_others_out};
+ghost use Rattle.forest_store.specs.Forest.{IsPoolOf, collection_at};
+ghost use Rattle.forest_store.specs.Insertion.{birth_change};
+ghost use Rattle.forest_store.specs.Settling.{MayChange, is_birth};
+ghost use Rattle.forest_store.specs.Stores.{IsResting, forest_in};
+ghost use Rattle.forest_steps.specs.StoreSteps.{BornIn, OutcomeOf, ReadyAt, ReadyFor, UnbornIn, UnforcedAt};
 
-use crate::change::Change;
-use crate::entry::place_of;
-use crate::event_end::finish_event;
 use crate::forced_steps::settle_steps;
-use crate::insertion::{Birth, insert_counted};
-use crate::scratch::Scratch;
-use crate::store::Store;
-use crate::unforced::apply_unforced;
-use crate::unit_counts::{bound, reach};
 use buffer_holds::Holds;
 use buffer_pool::Pool;
-use sm_names::{CollectionId, NoMemory, NodeKey};
+use forest_steps::dropped::drop_in_place;
+use forest_steps::event_end::finish_event;
+use forest_steps::scratch::Scratch;
+use forest_steps::unforced::apply_unforced;
+use forest_store::change::Change;
+use forest_store::entry::place_of;
+use forest_store::insertion::{Birth, insert_counted};
+use forest_store::store::Store;
+use forest_store::unit_counts::{bound, reach};
+use sm_names::{BufferName, CollectionId, NoMemory, NodeKey};
 
 /// Makes a change in its place, if it is no loss, and nothing is forced by it, as `apply_unforced` does.
 #[inline(always)]
@@ -89,4 +94,33 @@ pub(crate) fn settle_birth(
     };
     finish_event(store, at, pool, holds, keys);
     Ok(key)
+}
+
+/// What comes of a handle of the buffer that was dropped. `NoMemory` leaves the table, the entries
+/// and the pool as they were.
+pub(crate) fn settle_dropped(
+    store: &mut Store,
+    pool: &mut Pool,
+    holds: &Holds,
+    buffer: BufferName,
+    room: &mut Scratch,
+) -> Result<(), NoMemory>
+    requires forest { IsResting store.old }
+    requires others { option_map_or (are_others_out (total holds.now) buffer)
+        (collection_at (forest_in store.old) buffer.collection) false ≡ true }
+    requires pool { IsPoolOf pool.old (forest_in store.old) }
+    ensures { OutcomeOf (is_ok result) (total holds.now) pool.old pool.new store.old store.new
+        buffer.collection Changed.Nothing }
+{
+    if drop_in_place(&store.nodes.table, &mut store.entries, pool, holds, buffer) {
+        return Ok(());
+    }
+    settle_change(
+        store,
+        pool,
+        holds,
+        buffer.collection,
+        &Change::Nothing,
+        room,
+    )
 }

@@ -24,9 +24,9 @@ use Rattle.sm_names.proofs.ListLaws.{In-list_any, is_some-find}
 use Rattle.sm_names.proofs.SamenessLaws.{and_both, and_left, and_right, either_way, false_if}
 use Rattle.sm_names.proofs.StandingLaws.{In-any}
 use Rattle.event_laws.proofs.HandleBufferLaws.{has_named, stranger_has_none}
-use Rattle.alloc_event.specs.declared.node.Node.{Node}
-use Rattle.alloc_event.specs.Forest.{all_nodes, node_at}
-use Rattle.alloc_event.specs.Nodes.{is_of}
+use Rattle.forest_store.specs.declared.node.Node.{Node}
+use Rattle.forest_store.specs.Forest.{all_nodes, node_at}
+use Rattle.forest_store.specs.Nodes.{is_of}
 use Rattle.lifetime_core.specs.Reads.{open_end_in, readings_of}
 use Rattle.lifetime_core.specs.Shown.{Shows}
 use Rattle.lifetime_core.specs.State.{State}

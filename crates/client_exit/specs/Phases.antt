@@ -14,7 +14,7 @@ use Rattle.sm_names.specs.Marks.{Entry, Timeline}
 use Rattle.sm_names.specs.Reading.{readings}
 use Rattle.sm_names.specs.Sameness.{same_buffer, same_key}
 use Rattle.sm_names.specs.Timelines.{timeline}
-use Rattle.alloc_event.specs.declared.node.Node.{Node}
+use Rattle.forest_store.specs.declared.node.Node.{Node}
 use Rattle.lifetime_core.specs.Shown.{Shows}
 use Rattle.lifetime_core.specs.State.{State}
 use Rattle.client_exit.specs.declared.exit.PartFault.{PartFault}

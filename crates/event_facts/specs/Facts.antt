@@ -8,9 +8,9 @@ use Rattle.sm_names.specs.declared.keys.NodeKey.{NodeKey}
 use Rattle.sm_names.specs.declared.keys.Strength.{Strength}
 use Rattle.sm_names.specs.Sameness.{same_buffer, same_key}
 use Rattle.buffer_holds.specs.Counts.{Counts, moving, of}
-use Rattle.alloc_event.specs.declared.node.Node.{Node}
-use Rattle.alloc_event.specs.Nodes.{node_of}
-use Rattle.alloc_event.specs.Questions.{is_below, is_live_node}
+use Rattle.forest_store.specs.declared.node.Node.{Node}
+use Rattle.forest_store.specs.Nodes.{node_of}
+use Rattle.forest_store.specs.Questions.{is_below, is_live_node}
 use Rattle.event_facts.specs.declared.keepers.Holder.{Holder}
 use Rattle.event_facts.specs.declared.ways.Stop.{Stop}
 

@@ -1,7 +1,7 @@
 //! Who keeps the pages of a buffer.
 ghost use Rattle.std.specs.Prelude.{◌≡◌, ◌++◌, IfOk, OnOk, map};
 ghost use Rattle.std.specs.List.{filter};
-ghost use Rattle.alloc_event.specs.declared.node.Node.{Node as Kept};
+ghost use Rattle.forest_store.specs.declared.node.Node.{Node as Kept};
 ghost use Rattle.event_facts.specs.Facts.{client_holds, held_by, holders_in, is_keeper};
 
 use alloc_event::Node;

@@ -2,7 +2,7 @@
 ghost use Rattle.std.specs.Prelude.{◌≡◌, ◌&&◌, not, IfOk, map};
 ghost use Rattle.std.specs.List.{filter, list_any};
 ghost use Rattle.sm_names.specs.Sameness.{same_key};
-ghost use Rattle.alloc_event.specs.declared.node.Node.{Node as Kept};
+ghost use Rattle.forest_store.specs.declared.node.Node.{Node as Kept};
 ghost use Rattle.event_facts.specs.Facts.{is_handed, is_taken};
 
 use alloc_event::Node;

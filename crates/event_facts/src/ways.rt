@@ -1,8 +1,8 @@
 //! The way of a failure up, and where it stops.
 ghost use Rattle.std.specs.Prelude.{◌≡◌, ◌++◌, ◌∷◌, [], IfOk, reverse};
 ghost use Rattle.std.specs.List.{list_any};
-ghost use Rattle.alloc_event.specs.Nodes.{above_among, node_of};
-ghost use Rattle.alloc_event.specs.Questions.{blocks_here};
+ghost use Rattle.forest_store.specs.Nodes.{above_among, node_of};
+ghost use Rattle.forest_store.specs.Questions.{blocks_here};
 ghost use Rattle.event_marks.specs.Explanations.{climb};
 ghost use Rattle.event_facts.specs.Facts.{stop_of};
 

@@ -14,14 +14,14 @@ use Rattle.sm_names.specs.Timelines.{key_of}
 use Rattle.sm_names.proofs.SamenessLaws.{both_ways, some-injective}
 use Rattle.sm_names.proofs.SettledLaws.{and_then-Some, map-Some}
 use Rattle.buffer_holds.specs.Counts.{total}
-use Rattle.alloc_event.specs.declared.change.Change.{Change}
-use Rattle.alloc_event.specs.declared.change.Effect.{Effect}
-use Rattle.alloc_event.specs.declared.node.Node.{Node}
-use Rattle.alloc_event.specs.Forest.{Collection, beside, collection_at, given, node_at}
-use Rattle.alloc_event.specs.Nodes.{is_of}
-use Rattle.alloc_event.specs.Scenes.{IsSound}
-use Rattle.alloc_event.specs.Settling.{Handles, changed, collection_or_new, is_birth, no_key}
-use Rattle.alloc_event.specs.Snapshots.{collection_of}
+use Rattle.forest_store.specs.declared.change.Change.{Change}
+use Rattle.forest_store.specs.declared.change.Effect.{Effect}
+use Rattle.forest_store.specs.declared.node.Node.{Node}
+use Rattle.forest_store.specs.Forest.{Collection, beside, collection_at, given, node_at}
+use Rattle.forest_store.specs.Nodes.{is_of}
+use Rattle.forest_store.specs.Scenes.{IsSound}
+use Rattle.forest_store.specs.Settling.{Handles, changed, collection_or_new, is_birth, no_key}
+use Rattle.forest_store.specs.Snapshots.{collection_of}
 use Rattle.lifetime_core.specs.Reads.{readings_of}
 use Rattle.lifetime_core.specs.State.{State}
 use Rattle.lifetime_core.specs.Steps.{Work, at_collection, at_node, leaves_tracker_room, work_of}

@@ -15,10 +15,10 @@ use Rattle.sm_names.specs.Words.{when}
 use Rattle.sm_names.proofs.GrowthLaws.{Grows}
 use Rattle.sm_names.proofs.SamenessLaws.{some-injective}
 use Rattle.sm_names.proofs.SettledLaws.{and_then-Some, map-Some}
-use Rattle.alloc_event.specs.declared.change.Change.{Change}
-use Rattle.alloc_event.specs.declared.change.Effect.{Effect}
-use Rattle.alloc_event.specs.declared.node.Node.{Node}
-use Rattle.alloc_event.specs.Forest.{Collection, collection_at, node_at}
+use Rattle.forest_store.specs.declared.change.Change.{Change}
+use Rattle.forest_store.specs.declared.change.Effect.{Effect}
+use Rattle.forest_store.specs.declared.node.Node.{Node}
+use Rattle.forest_store.specs.Forest.{Collection, collection_at, node_at}
 use Rattle.lifetime_core.specs.Shown.{IsAfter}
 use Rattle.lifetime_core.specs.State.{State}
 use Rattle.lifetime_core.specs.Steps.{Work, at_collection, at_node, work_of}

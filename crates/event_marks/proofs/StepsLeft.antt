@@ -16,12 +16,12 @@ use Rattle.sm_names.specs.Words.{when}
 use Rattle.sm_names.proofs.ListLaws.{In-list_any}
 use Rattle.sm_names.proofs.ReachLaws.{top_on}
 use Rattle.sm_names.proofs.SamenessLaws.{and_left, and_right, or_left, or_right, same_key-refl, same_key-true}
-use Rattle.alloc_event.specs.declared.node.Node.{Node}
-use Rattle.alloc_event.specs.Decisions.{Decision, Ends, Loses, Places, Allocates, IsStep, has_waiting, is_left_of, mark_of}
-use Rattle.alloc_event.specs.Forest.{Collection}
-use Rattle.alloc_event.specs.Nodes.{above_among, after_allocation, after_end, after_loss, ended, given_buffers, is_of, is_taken, lost}
-use Rattle.alloc_event.specs.Questions.{blocks_here, is_below}
-use Rattle.alloc_event.specs.Settling.{made}
+use Rattle.forest_store.specs.declared.node.Node.{Node}
+use Rattle.forest_store.specs.Decisions.{Decision, Ends, Loses, Places, Allocates, IsStep, has_waiting, is_left_of, mark_of}
+use Rattle.forest_store.specs.Forest.{Collection}
+use Rattle.forest_store.specs.Nodes.{above_among, after_allocation, after_end, after_loss, ended, given_buffers, is_of, is_taken, lost}
+use Rattle.forest_store.specs.Questions.{blocks_here, is_below}
+use Rattle.forest_store.specs.Settling.{made}
 use Rattle.event_marks.proofs.Takings.{found_in, highest_of, taken_found}
 
 -- one, where it is still to come

@@ -5,12 +5,12 @@ use Rattle.std.specs.Result.{result_map_both}
 use Rattle.sm_names.specs.declared.keys.NodeKey.{NodeKey}
 use Rattle.sm_names.specs.declared.messages.Reply.{Reply}
 use Rattle.sm_names.specs.declared.outcomes.StepFault.{StepFault}
-use Rattle.alloc_event.specs.Forest.{beside}
-use Rattle.alloc_event.specs.Nodes.{is_of}
-use Rattle.alloc_event.specs.Scenes.{IsSound}
-use Rattle.alloc_event.specs.Settling.{MayChange, collection_or_new}
-use Rattle.alloc_event.specs.Forest.{given}
-use Rattle.alloc_event.specs.Snapshots.{collection_of}
+use Rattle.forest_store.specs.Forest.{beside}
+use Rattle.forest_store.specs.Nodes.{is_of}
+use Rattle.forest_store.specs.Scenes.{IsSound}
+use Rattle.forest_store.specs.Settling.{MayChange, collection_or_new}
+use Rattle.forest_store.specs.Forest.{given}
+use Rattle.forest_store.specs.Snapshots.{collection_of}
 use Rattle.lifetime_core.specs.State.{State}
 use Rattle.lifetime_core.specs.Steps.{Work, leaves_tracker_room}
 use Rattle.event_marks.specs.declared.told.Before.{Before}

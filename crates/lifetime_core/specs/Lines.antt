@@ -9,7 +9,7 @@ use Rattle.sm_names.specs.declared.outcomes.Refusal.{Refusal}
 use Rattle.sm_names.specs.Answers.{Readings, kind_for, refused_if}
 use Rattle.sm_names.specs.Bounds.{Bound}
 use Rattle.sm_names.specs.Sameness.{same_kind}
-use Rattle.alloc_event.specs.declared.node.End.{End}
+use Rattle.forest_store.specs.declared.node.End.{End}
 use Rattle.lifetime_core.specs.declared.traits.Traits.{Traits}
 use Rattle.lifetime_core.specs.Reads.{holder_of, is_moving}
 use Rattle.lifetime_core.specs.Traits.{is_collection, is_node, is_tracker, too_many}

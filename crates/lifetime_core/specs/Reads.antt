@@ -17,11 +17,11 @@ use Rattle.sm_names.specs.Timelines.{key_of}
 use Rattle.sm_names.specs.Trackers.{World}
 use Rattle.sm_names.specs.Views.{Views}
 use Rattle.buffer_holds.specs.Counts.{of, total}
-use Rattle.alloc_event.specs.declared.node.End.{End}
-use Rattle.alloc_event.specs.declared.node.Node.{Node}
-use Rattle.alloc_event.specs.Forest.{Collection, Forest, collection_at, node_at, node_count, given, live_keys, held_by_page, all_held}
-use Rattle.alloc_event.specs.Nodes.{members_of, is_spent}
-use Rattle.alloc_event.specs.Settling.{Handles, buffer_names}
+use Rattle.forest_store.specs.declared.node.End.{End}
+use Rattle.forest_store.specs.declared.node.Node.{Node}
+use Rattle.forest_store.specs.Forest.{Collection, Forest, collection_at, node_at, node_count, given, live_keys, held_by_page, all_held}
+use Rattle.forest_store.specs.Nodes.{members_of, is_spent}
+use Rattle.forest_store.specs.Settling.{Handles, buffer_names}
 use Rattle.lifetime_core.specs.State.{Client, State}
 
 -- who holds the end, or held it last

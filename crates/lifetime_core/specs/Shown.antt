@@ -21,10 +21,10 @@ use Rattle.sm_names.specs.Words.{times}
 use Rattle.event_laws.specs.Waiting.{waiting}
 use Rattle.trackers.specs.declared.waiting.Waiting.{Waiting}
 use Rattle.trackers.specs.Table.{Table, is_untaken}
-use Rattle.alloc_event.specs.declared.node.End.{End}
-use Rattle.alloc_event.specs.declared.node.Node.{Node}
-use Rattle.alloc_event.specs.Forest.{Collection, given}
-use Rattle.alloc_event.specs.Nodes.{is_over}
+use Rattle.forest_store.specs.declared.node.End.{End}
+use Rattle.forest_store.specs.declared.node.Node.{Node}
+use Rattle.forest_store.specs.Forest.{Collection, given}
+use Rattle.forest_store.specs.Nodes.{is_over}
 use Rattle.lifetime_core.specs.State.{Client, HandleCounts, State, counts_of}
 
 -- where the end of the node is

@@ -6,7 +6,7 @@ use Rattle.sm_names.specs.declared.messages.Parcel.{Parcel}
 use Rattle.sm_names.specs.Bounds.{Bound}
 use Rattle.buffer_holds.specs.Counts.{Counts, of, moving, total}
 use Rattle.trackers.specs.Table.{Table}
-use Rattle.alloc_event.specs.Forest.{Forest}
+use Rattle.forest_store.specs.Forest.{Forest}
 
 -- a client that joined: its number, whether it was shut, and the parcels that wait for it, the first one first
 pub record Client : Type 0 where

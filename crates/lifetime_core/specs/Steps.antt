@@ -20,15 +20,15 @@ use Rattle.event_laws.specs.ByEvent.{one_if, anyone, only, gains, loses}
 use Rattle.buffer_holds.specs.Counts.{total}
 use Rattle.trackers.specs.declared.waiting.Waiting.{Waiting}
 use Rattle.trackers.specs.Table.{Table, Attaches, firings, still_waiting}
-use Rattle.alloc_event.specs.declared.change.Change.{Change}
-use Rattle.alloc_event.specs.declared.change.Effect.{Effect}
-use Rattle.alloc_event.specs.declared.node.End.{End}
-use Rattle.alloc_event.specs.declared.node.Node.{Node}
-use Rattle.alloc_event.specs.Effects.{effect_of}
-use Rattle.alloc_event.specs.Forest.{Collection, Forest, SameKeys, collection_at, node_at, with_nodes, on_collections, is_left}
-use Rattle.alloc_event.specs.Nodes.{with_end, is_over}
-use Rattle.alloc_event.specs.Scenes.{has_tracker_room}
-use Rattle.alloc_event.specs.Settling.{Handles, Settled}
+use Rattle.forest_store.specs.declared.change.Change.{Change}
+use Rattle.forest_store.specs.declared.change.Effect.{Effect}
+use Rattle.forest_store.specs.declared.node.End.{End}
+use Rattle.forest_store.specs.declared.node.Node.{Node}
+use Rattle.forest_store.specs.Effects.{effect_of}
+use Rattle.forest_store.specs.Forest.{Collection, Forest, SameKeys, collection_at, node_at, with_nodes, on_collections, is_left}
+use Rattle.forest_store.specs.Nodes.{with_end, is_over}
+use Rattle.forest_store.specs.Scenes.{has_tracker_room}
+use Rattle.forest_store.specs.Settling.{Handles, Settled}
 use Rattle.lifetime_core.specs.declared.task.Place.{Place}
 use Rattle.lifetime_core.specs.Reads.{world_in}
 use Rattle.lifetime_core.specs.State.{Client, HandleCounts, State, counts_of}

@@ -4,16 +4,16 @@ use Rattle.std.specs.Option.{option_map, option_map_or, option_and_then, option_
 use Rattle.sm_names.specs.declared.keys.NodeKey.{NodeKey}
 use Rattle.sm_names.specs.declared.messages.Call.{Call}
 use Rattle.sm_names.specs.declared.messages.Reply.{Reply}
-use Rattle.alloc_event.specs.declared.change.Change.{Change}
-use Rattle.alloc_event.specs.declared.change.Effect.{Effect}
-use Rattle.alloc_event.specs.declared.node.End.{End}
-use Rattle.alloc_event.specs.declared.node.Node.{Node}
+use Rattle.forest_store.specs.declared.change.Change.{Change}
+use Rattle.forest_store.specs.declared.change.Effect.{Effect}
+use Rattle.forest_store.specs.declared.node.End.{End}
+use Rattle.forest_store.specs.declared.node.Node.{Node}
 use Rattle.sm_names.specs.Answers.{answer}
 use Rattle.sm_names.specs.Marks.{Called}
 use Rattle.sm_names.specs.Trackers.{World, holds}
-use Rattle.alloc_event.specs.Dropped.{are_others_out}
-use Rattle.alloc_event.specs.Forest.{Forest, collection_at, node_at}
-use Rattle.alloc_event.specs.Settling.{Handles, MayChange, Settled, no_key}
+use Rattle.forest_store.specs.Dropped.{are_others_out}
+use Rattle.forest_store.specs.Forest.{Forest, collection_at, node_at}
+use Rattle.forest_store.specs.Settling.{Handles, MayChange, Settled, no_key}
 use Rattle.buffer_holds.specs.Counts.{Counts, total}
 use Rattle.trackers.specs.declared.waiting.Waiting.{Waiting}
 use Rattle.trackers.specs.Table.{Table}

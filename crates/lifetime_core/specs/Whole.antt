@@ -12,10 +12,10 @@ use Rattle.sm_names.specs.declared.keys.HeldBuffer.{HeldBuffer}
 use Rattle.sm_names.specs.Elements.{In}
 use Rattle.buffer_holds.specs.Counts.{Counts, total}
 use Rattle.buffer_pool.specs.Holdings.{Holdings}
-use Rattle.alloc_event.specs.declared.node.Node.{Node}
-use Rattle.alloc_event.specs.Forest.{Collection, Forest, IsPoolOf, given, node_at, is_left, tidied}
-use Rattle.alloc_event.specs.Nodes.{is_spent}
-use Rattle.alloc_event.specs.Settling.{Handles, is_home_in}
+use Rattle.forest_store.specs.declared.node.Node.{Node}
+use Rattle.forest_store.specs.Forest.{Collection, Forest, IsPoolOf, given, node_at, is_left, tidied}
+use Rattle.forest_store.specs.Nodes.{is_spent}
+use Rattle.forest_store.specs.Settling.{Handles, is_home_in}
 use Rattle.trackers.specs.declared.waiting.Waiting.{Waiting}
 use Rattle.trackers.specs.Table.{Cell, Table, is_due}
 use Rattle.lifetime_core.specs.declared.task.Place.{Place}

@@ -2,7 +2,7 @@
 ghost use Rattle.std.specs.Prelude.{◌≡◌, ◌<◌, IfOk, IfSome, OnErr, None, length, map, true};
 ghost use Rattle.std.specs.List.{All};
 ghost use Rattle.trackers.specs.Table.{Cell};
-ghost use Rattle.alloc_event.specs.Forest.{IsPoolOf};
+ghost use Rattle.forest_store.specs.Forest.{IsPoolOf};
 ghost use Rattle.buffer_holds.specs.Counts.{total};
 ghost use Rattle.lifetime_core.specs.Hands.{MayMove, collects_handle};
 ghost use Rattle.lifetime_core.specs.State.{Client as Row, counts_of};

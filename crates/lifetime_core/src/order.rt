@@ -10,7 +10,7 @@ ghost use Rattle.sm_names.specs.Answers.{end_in_transit, peer_closed, wrong_kind
 ghost use Rattle.sm_names.specs.Answers.{misuse as misuse_in, no_handle};
 ghost use Rattle.sm_names.specs.Sameness.{same_kind};
 ghost use Rattle.sm_names.specs.Words.{first_some};
-ghost use Rattle.alloc_event.specs.Nodes.{is_spent};
+ghost use Rattle.forest_store.specs.Nodes.{is_spent};
 ghost use Rattle.lifetime_core.specs.Lines.{another_of, transit_of, peer_of, kind_line};
 ghost use Rattle.lifetime_core.specs.Lines.{limits_of};
 ghost use Rattle.lifetime_core.specs.Reads.{end_in, open_end_of, readings_of};

@@ -2,8 +2,8 @@
 ghost use Rattle.std.specs.Prelude.{◌≡◌, ◌&&◌, not, option_map, IfSome, false, None, option_copied};
 ghost use Rattle.std.specs.Option.{option_and_then, option_map_or};
 ghost use Rattle.sm_names.specs.declared.outcomes.Fault.{Fault};
-ghost use Rattle.alloc_event.specs.declared.node.Node.{Node as Kept};
-ghost use Rattle.alloc_event.specs.Nodes.{is_spent};
+ghost use Rattle.forest_store.specs.declared.node.Node.{Node as Kept};
+ghost use Rattle.forest_store.specs.Nodes.{is_spent};
 ghost use Rattle.lifetime_core.specs.Reads.{open_end_in, open_end_of};
 ghost use Rattle.lifetime_core.specs.State.{State};
 

@@ -3,7 +3,7 @@ ghost use Rattle.std.specs.Prelude.{◌≡◌, IfSome, false, option_copied};
 ghost use Rattle.std.specs.Option.{option_map};
 ghost use Rattle.sm_names.specs.Answers.{answer as answer_of, effect as effect_of, of_end};
 ghost use Rattle.sm_names.specs.Answers.{collected, end_named};
-ghost use Rattle.alloc_event.specs.Nodes.{is_spent};
+ghost use Rattle.forest_store.specs.Nodes.{is_spent};
 ghost use Rattle.lifetime_core.specs.Reads.{end_in, open_end_of, readings_of};
 ghost use Rattle.lifetime_core.specs.Tasks.{with_key as keyed_by};
 ghost use Rattle.lifetime_core.specs.Traits.{Describes};

@@ -5,8 +5,8 @@ use Rattle.sm_names.specs.declared.keys.BufferName.{BufferName}
 use Rattle.sm_names.specs.declared.keys.NodeKey.{NodeKey}
 use Rattle.sm_names.specs.declared.outcomes.Fault.{Fault}
 use Rattle.sm_names.specs.Demands.{Demand}
-use Rattle.alloc_event.specs.declared.node.End.{End}
-use Rattle.alloc_event.specs.declared.node.Node.{Node}
+use Rattle.forest_store.specs.declared.node.End.{End}
+use Rattle.forest_store.specs.declared.node.Node.{Node}
 use Rattle.sysmem.specs.declared.nodes.NodeWords.{NodeWords}
 use Rattle.sysmem.specs.Seeing.{key_words}
 use Rattle.sysmem.specs.Words.{cause_number}

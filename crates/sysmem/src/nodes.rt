@@ -3,7 +3,7 @@ ghost use Rattle.std.specs.Prelude.{◌≡◌, ◌≢◌, ◌≤◌, ◌↔◌, 
 ghost use Rattle.std.specs.Option.{option_map_or};
 ghost use Rattle.sm_names.specs.declared.outcomes.Buffers.{Buffers};
 ghost use Rattle.buffer_holds.specs.Counts.{moving, of};
-ghost use Rattle.alloc_event.specs.Forest.{all_nodes};
+ghost use Rattle.forest_store.specs.Forest.{all_nodes};
 ghost use Rattle.lifetime_core.specs.Reads.{buffers_in};
 ghost use Rattle.sysmem.specs.Laying.{laid};
 ghost use Rattle.sysmem.specs.Nodes.{buffer_at, flags_of, holder_of, node_words};

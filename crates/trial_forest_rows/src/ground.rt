@@ -1,8 +1,8 @@
 //! A forest and a pool of 16 pages, changed only as they may be.
 ghost use Rattle.std.specs.Prelude.{◌≡◌, true};
-ghost use Rattle.alloc_event.specs.declared.change.Effect.{Effect as Effected};
-ghost use Rattle.alloc_event.specs.Forest.{IsPoolOf};
-ghost use Rattle.alloc_event.specs.Settling.{MayChange, has_collection, is_there};
+ghost use Rattle.forest_store.specs.declared.change.Effect.{Effect as Effected};
+ghost use Rattle.forest_store.specs.Forest.{IsPoolOf};
+ghost use Rattle.forest_store.specs.Settling.{MayChange, has_collection, is_there};
 ghost use Rattle.trial_forest_rows.specs.declared.ground.TheConstants.{LIMIT};
 
 use alloc_event::change::{Change, Effect};

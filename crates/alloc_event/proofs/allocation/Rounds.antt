@@ -1,9 +1,9 @@
 -- Attached units that wait for one event and are allocated one after another, in the order of the forced steps.
 use Rattle.alloc_event.proofs.Common.{◌≡◌, refl, ap, true, false, List, [], ◌∷◌, Some, None, list_any, NodeKey, Buffers, same_key, Node, Collection, with_nodes, is_next_node}
-use Rattle.alloc_event.specs.Calm.{IsQuiescent}
-use Rattle.alloc_event.specs.Decisions.{late_failure}
-use Rattle.alloc_event.specs.Scenes.{IsSound}
-use Rattle.alloc_event.proofs.allocation.Allocated.{AreChildren, after_all}
+use Rattle.forest_store.specs.Calm.{IsQuiescent}
+use Rattle.forest_store.specs.Decisions.{late_failure}
+use Rattle.forest_store.specs.Scenes.{IsSound}
+use Rattle.forest_store.proofs.allocation.Allocated.{AreChildren, after_all}
 
 -- each of the first is one of the others
 abbrev pub AreAmong : List NodeKey → List NodeKey → Type 0

@@ -3,11 +3,11 @@ use Rattle.alloc_event.proofs.Common.{◌≡◌, ℕ, Bool, true, false, ◌||�
 use Rattle.std.proofs.Common.{nat_le, slice_index_or}
 use Rattle.std.proofs.lemmas.Bool.{le-leb}
 use Rattle.node_table.specs.Table.{was_given}
-use Rattle.alloc_event.specs.Forest.{given, beside}
-use Rattle.alloc_event.specs.Shelves.{Finishes, Gives, SameTable}
-use Rattle.alloc_event.specs.Nodes.{new_child}
-use Rattle.alloc_event.specs.Settling.{Settled, changed, given_back, is_birth, no_key, with_birth}
-use Rattle.alloc_event.proofs.newborns.Newborn.{before_is}
+use Rattle.forest_store.specs.Forest.{given, beside}
+use Rattle.forest_store.specs.Shelves.{Finishes, Gives, SameTable}
+use Rattle.forest_store.specs.Nodes.{new_child}
+use Rattle.forest_store.specs.Settling.{Settled, changed, given_back, is_birth, no_key, with_birth}
+use Rattle.forest_store.proofs.newborns.Newborn.{before_is}
 
 -- a key was given by the forest where the table gave it
 pub given_is : (t : Table Node) (ss : List Shelf) (key : NodeKey) → t.first ≡ 0 → given (forest_of t ss) key ≡ was_given t key

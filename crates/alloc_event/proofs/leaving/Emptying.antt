@@ -2,8 +2,8 @@
 use Rattle.alloc_event.proofs.Common.{◌≡◌, ℕ, zero, suc, ◌+◌, ◌<◌, ◌==◌, Bool, true, false, not, List, [], ◌∷◌, ◌++◌, map, length, Option, Some, None, option_map, cond, refl, sym, ap, subst, ◌∙◌, arith, list_all, filter, find, AllByRecursion, option_map_or, eqb-true, NodeKey, and_left, and_right, some-injective, Table, Entry, Node, Collection, Shelf, shelf_of, shelves_of, place_in, AreRising, IsStored, IsWhole, collection_in, nodes_with, forest_of, all_keys, are_filed, is_filed}
 use Rattle.std.specs.List.{remove}
 use Rattle.std.proofs.lemmas.Bool.{ne_eqb}
-use Rattle.alloc_event.specs.Forest.{collection_at, is_left}
-use Rattle.alloc_event.proofs.shelves.Showing.{filed-length, filed_found, collection_is}
+use Rattle.forest_store.specs.Forest.{collection_at, is_left}
+use Rattle.forest_store.proofs.shelves.Showing.{filed-length, filed_found, collection_is}
 
 -- of another collection
 abbrev pub is_beside : ℕ → Shelf → Bool

@@ -3,11 +3,11 @@ use Rattle.alloc_event.proofs.Common.{◌≡◌, ◌≢◌, map, Some, option_ma
 use Rattle.node_table.specs.Changes.{Writes}
 use Rattle.node_table.specs.Lending.{table_with_node}
 use Rattle.node_table.proofs.Keys.{same_key-equal, same_key-apart}
-use Rattle.alloc_event.specs.declared.node.End.{End}
-use Rattle.alloc_event.specs.Forest.{on_collections}
-use Rattle.alloc_event.specs.Nodes.{with_end}
-use Rattle.alloc_event.proofs.quiescence.Together.{together_same}
-use Rattle.alloc_event.proofs.tables.Writing.{IsSameNode, look-changed, kept-map, collections-map, parents-written}
+use Rattle.forest_store.specs.declared.node.End.{End}
+use Rattle.forest_store.specs.Forest.{on_collections}
+use Rattle.forest_store.specs.Nodes.{with_end}
+use Rattle.forest_store.proofs.quiescence.Together.{together_same}
+use Rattle.forest_store.proofs.tables.Writing.{IsSameNode, look-changed, kept-map, collections-map, parents-written}
 
 module _ (key : NodeKey) (end : End) where
   -- nothing of a node but its end changes

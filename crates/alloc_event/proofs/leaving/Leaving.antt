@@ -2,15 +2,15 @@
 use Rattle.alloc_event.proofs.Common.{◌≡◌, ◌≢◌, ℕ, zero, suc, ◌+◌, ◌<◌, ◌==◌, Bool, true, false, ◌||◌, not, List, [], ◌∷◌, ◌++◌, map, length, set, get_or, Option, Some, None, option_map, is_some, cond, refl, sym, ap, subst, ◌∙◌, inl, inr, arith, list_any, list_all, filter, AllByRecursion, option_map_or, eqb-true, eqb-false, false≢true, NodeKey, same_key, and_left, and_right, either_way, same_key-true, some-injective, Table, node_at, parent_at, Entry, Node, with_nodes, Shelf, shelf_of, shelves_of, place_in, AreRising, IsStored, IsWhole, collection_in, all_keys, are_filed, is_filed, is_of}
 use Rattle.std.proofs.lemmas.List.Elements.{filter-append}
 use Rattle.node_table.proofs.Keys.{same_key-equal}
-use Rattle.alloc_event.specs.Shelves.{TakesOut}
-use Rattle.alloc_event.proofs.changes.Altering.{filed_at, kept_of}
-use Rattle.alloc_event.proofs.shelves.Entries.{none_in}
-use Rattle.alloc_event.proofs.tables.Hanging.{looked_gone}
-use Rattle.alloc_event.proofs.tables.Kin.{kin_kept}
-use Rattle.alloc_event.proofs.tables.LeftParents.{childless}
-use Rattle.alloc_event.proofs.lists.Lookups.{looked-without, looked-kept}
-use Rattle.alloc_event.proofs.shelves.Showing.{shelf_found}
-use Rattle.alloc_event.proofs.leaving.Thinning.{IsWhole-filter, apart-filter, lacks-filter, one_less}
+use Rattle.forest_store.specs.Shelves.{TakesOut}
+use Rattle.forest_store.proofs.changes.Altering.{filed_at, kept_of}
+use Rattle.forest_store.proofs.shelves.Entries.{none_in}
+use Rattle.forest_store.proofs.tables.Hanging.{looked_gone}
+use Rattle.forest_store.proofs.tables.Kin.{kin_kept}
+use Rattle.forest_store.proofs.tables.LeftParents.{childless}
+use Rattle.forest_store.proofs.lists.Lookups.{looked-without, looked-kept}
+use Rattle.forest_store.proofs.shelves.Showing.{shelf_found}
+use Rattle.forest_store.proofs.leaving.Thinning.{IsWhole-filter, apart-filter, lacks-filter, one_less}
 
 -- another key
 abbrev pub is_other : NodeKey → NodeKey → Bool

@@ -4,26 +4,26 @@ use Rattle.std.proofs.lemmas.List.{get_or_default}
 use Rattle.std.specs.Option.{unwrap_or}
 use Rattle.sm_names.specs.Words.{sorted_by}
 use Rattle.buffer_pool.specs.Holdings.{Holdings}
-use Rattle.alloc_event.specs.Calm.{AreCounted}
-use Rattle.alloc_event.specs.EventEnd.{MayClose}
-use Rattle.alloc_event.specs.Counts.{HaveUnits}
-use Rattle.alloc_event.specs.Forest.{IsPoolOf}
-use Rattle.alloc_event.specs.Given.{AreServedByGiven, HaveGiven, IsServedByGiven}
-use Rattle.alloc_event.specs.Shelves.{Bears, Finishes, Gives, SameTable, born}
-use Rattle.alloc_event.specs.Settling.{with_birth}
-use Rattle.alloc_event.specs.Still.{shelf_before, shelf_with}
-use Rattle.alloc_event.proofs.changes.Altering.{shelf_by}
-use Rattle.alloc_event.proofs.lists.SameIntervals.{start_of}
-use Rattle.alloc_event.proofs.newborns.Newborn.{Above, Root, Child, Gives-same, before_is, born_collection, found_above, key_is}
-use Rattle.alloc_event.proofs.newborns.Forest.{keys_before}
-use Rattle.alloc_event.proofs.newborns.Quiet.{behind_is, behind_shown, grown_is, quiet_held, quiet_kept}
-use Rattle.alloc_event.proofs.shelves.Entries.{none_in, place_is}
-use Rattle.alloc_event.proofs.shelves.Putting.{cases_place}
-use Rattle.alloc_event.proofs.shelves.Showing.{shelf_found}
-use Rattle.alloc_event.proofs.mid_event.Premises.{inside_of}
-use Rattle.alloc_event.proofs.mid_event.GivenKept.{given_at, given_born, given_change, given_put}
-use Rattle.alloc_event.proofs.mid_event.Joining.{here_is, joined}
-use Rattle.alloc_event.proofs.mid_event.Ready.{ready_close, ready_under}
+use Rattle.forest_store.specs.Calm.{AreCounted}
+use Rattle.forest_steps.specs.EventEnd.{MayClose}
+use Rattle.forest_store.specs.Counts.{HaveUnits}
+use Rattle.forest_store.specs.Forest.{IsPoolOf}
+use Rattle.forest_store.specs.Given.{AreServedByGiven, HaveGiven, IsServedByGiven}
+use Rattle.forest_store.specs.Shelves.{Bears, Finishes, Gives, SameTable, born}
+use Rattle.forest_store.specs.Settling.{with_birth}
+use Rattle.forest_store.specs.Still.{shelf_before, shelf_with}
+use Rattle.forest_store.proofs.changes.Altering.{shelf_by}
+use Rattle.forest_store.proofs.lists.SameIntervals.{start_of}
+use Rattle.forest_store.proofs.newborns.Newborn.{Above, Root, Child, Gives-same, before_is, born_collection, found_above, key_is}
+use Rattle.forest_store.proofs.newborns.Forest.{keys_before}
+use Rattle.forest_store.proofs.newborns.Quiet.{behind_is, behind_shown, grown_is, quiet_held, quiet_kept}
+use Rattle.forest_store.proofs.shelves.Entries.{none_in, place_is}
+use Rattle.forest_store.proofs.shelves.Putting.{cases_place}
+use Rattle.forest_store.proofs.shelves.Showing.{shelf_found}
+use Rattle.forest_steps.proofs.mid_event.Premises.{inside_of}
+use Rattle.forest_steps.proofs.mid_event.GivenKept.{given_at, given_born, given_change, given_put}
+use Rattle.forest_steps.proofs.mid_event.Joining.{here_is, joined}
+use Rattle.forest_steps.proofs.mid_event.Ready.{ready_close, ready_under}
 
 -- ---- what is put among others is found
 

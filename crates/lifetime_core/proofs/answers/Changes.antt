@@ -28,12 +28,12 @@ use Rattle.sm_names.proofs.RejectLaws.{is_refusal, not_refused_end}
 use Rattle.sm_names.proofs.SamenessLaws.{either_way, none_or_some, or_right}
 use Rattle.sm_names.proofs.SettledLaws.{and_then-Some, map-Some}
 use Rattle.buffer_holds.specs.Counts.{total}
-use Rattle.alloc_event.specs.declared.change.Change.{Change}
-use Rattle.alloc_event.specs.declared.change.Effect.{Effect}
-use Rattle.alloc_event.specs.declared.node.Node.{Node}
-use Rattle.alloc_event.specs.Forest.{Collection, collection_at, node_at}
-use Rattle.alloc_event.specs.Nodes.{affected}
-use Rattle.alloc_event.specs.Settling.{no_key}
+use Rattle.forest_store.specs.declared.change.Change.{Change}
+use Rattle.forest_store.specs.declared.change.Effect.{Effect}
+use Rattle.forest_store.specs.declared.node.Node.{Node}
+use Rattle.forest_store.specs.Forest.{Collection, collection_at, node_at}
+use Rattle.forest_store.specs.Nodes.{affected}
+use Rattle.forest_store.specs.Settling.{no_key}
 use Rattle.lifetime_core.specs.Shown.{IsAfter, node_after}
 use Rattle.lifetime_core.specs.State.{HandleCounts, State}
 use Rattle.lifetime_core.specs.Steps.{Work, at_collection, at_node, done_to, drop_at, loss_at, work_of}

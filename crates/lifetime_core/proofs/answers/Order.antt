@@ -8,8 +8,8 @@ use Rattle.sm_names.specs.Answers.{Readings, answers_first, end_named, unknown_c
 use Rattle.sm_names.specs.Bounds.{Bound}
 use Rattle.sm_names.specs.Timelines.{key_of}
 use Rattle.sm_names.specs.Words.{first_some}
-use Rattle.alloc_event.specs.declared.node.Node.{Node}
-use Rattle.alloc_event.specs.Forest.{node_at}
+use Rattle.forest_store.specs.declared.node.Node.{Node}
+use Rattle.forest_store.specs.Forest.{node_at}
 use Rattle.lifetime_core.specs.declared.traits.Named.{Named}
 use Rattle.lifetime_core.specs.declared.traits.Traits.{Traits}
 use Rattle.lifetime_core.specs.Lines.{limits_of}

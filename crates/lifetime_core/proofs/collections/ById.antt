@@ -4,8 +4,8 @@ use Rattle.std.proofs.lemmas.Bool.{eqb-true, eqb-false, eq-eqb, ltb-true, ltb-fa
 use Rattle.std.specs.List.{find, AllByRecursion}
 use Rattle.sm_names.proofs.ListLaws.{In}
 use Rattle.sm_names.proofs.SamenessLaws.{either_way, false_if}
-use Rattle.alloc_event.specs.Forest.{Collection, is_left, tidied, without_over_in}
-use Rattle.alloc_event.specs.Settling.{put}
+use Rattle.forest_store.specs.Forest.{Collection, is_left, tidied, without_over_in}
+use Rattle.forest_store.specs.Settling.{put}
 use Rattle.lifetime_core.specs.Steps.{without_over}
 use Rattle.lifetime_core.specs.Whole.{Rise, IsTidy}
 

@@ -30,8 +30,8 @@ use Rattle.sm_names.proofs.RejectLaws.{not_refused_end}
 use Rattle.sm_names.proofs.SamenessLaws.{both_ways, false_if, none_or_some, same_key-true}
 use Rattle.sm_names.proofs.SettledLaws.{In-was_born, find_birth}
 use Rattle.sm_names.proofs.WholeLaws.{IsWhole}
-use Rattle.alloc_event.specs.declared.node.End.{End}
-use Rattle.alloc_event.specs.Nodes.{is_over}
+use Rattle.forest_store.specs.declared.node.End.{End}
+use Rattle.forest_store.specs.Nodes.{is_over}
 use Rattle.lifetime_core.specs.declared.task.Place.{Place}
 use Rattle.lifetime_core.specs.Shown.{node_after, nodes_after, held_after, collection_after}
 use Rattle.lifetime_core.specs.Steps.{end_by}

@@ -4,9 +4,9 @@ use Rattle.std.proofs.lemmas.Bool.{eq-eqb, lt-ltb, ltb-true}
 use Rattle.std.specs.List.{filter}
 use Rattle.sm_names.proofs.ListLaws.{In, In-append}
 use Rattle.sm_names.proofs.SamenessLaws.{either_way, false_if}
-use Rattle.alloc_event.specs.Forest.{Collection}
-use Rattle.alloc_event.specs.Settling.{put}
-use Rattle.alloc_event.proofs.lists.StableSort.{other_number, other_greater}
+use Rattle.forest_store.specs.Forest.{Collection}
+use Rattle.forest_store.specs.Settling.{put}
+use Rattle.forest_store.proofs.lists.StableSort.{other_number, other_greater}
 
 -- ---- numbers in order
 

@@ -15,9 +15,9 @@ use Rattle.sm_names.proofs.GoneLaws.{gone_stays}
 use Rattle.sm_names.proofs.GrowthLaws.{Grows, Stays, Answers, Loses, Allocates, Ends}
 use Rattle.sm_names.proofs.ListLaws.{In, In-map, filter-In, map-map}
 use Rattle.sm_names.proofs.SamenessLaws.{and_left, and_right, either_way, or_right}
-use Rattle.alloc_event.specs.declared.node.Node.{Node}
-use Rattle.alloc_event.specs.Forest.{Collection, Forest, with_nodes, is_left}
-use Rattle.alloc_event.specs.Nodes.{is_over}
+use Rattle.forest_store.specs.declared.node.Node.{Node}
+use Rattle.forest_store.specs.Forest.{Collection, Forest, with_nodes, is_left}
+use Rattle.forest_store.specs.Nodes.{is_over}
 use Rattle.lifetime_core.specs.declared.task.Place.{Place}
 use Rattle.lifetime_core.specs.Shown.{node_after, nodes_after, held_after, collection_after, kept_ids}
 use Rattle.lifetime_core.specs.Steps.{place_of, with_place, without_over}

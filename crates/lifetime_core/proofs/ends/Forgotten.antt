@@ -23,9 +23,9 @@ use Rattle.sm_names.proofs.ListLaws.{In-list_any, In-map, In-map-back}
 use Rattle.sm_names.proofs.SamenessLaws.{and_left, and_right, and_both, false_if}
 use Rattle.sm_names.proofs.StandingLaws.{both_tests, In-any}
 use Rattle.event_laws.proofs.HandleBufferLaws.{open_named}
-use Rattle.alloc_event.specs.declared.node.Node.{Node}
-use Rattle.alloc_event.specs.Forest.{is_left}
-use Rattle.alloc_event.specs.Nodes.{is_over}
+use Rattle.forest_store.specs.declared.node.Node.{Node}
+use Rattle.forest_store.specs.Forest.{is_left}
+use Rattle.forest_store.specs.Nodes.{is_over}
 use Rattle.lifetime_core.proofs.handles.HeldNames.{held_left}
 use Rattle.lifetime_core.proofs.nodes.Members.{in_order}
 use Rattle.lifetime_core.proofs.views.Nodes.{not_over}

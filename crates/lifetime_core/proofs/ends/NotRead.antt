@@ -15,11 +15,11 @@ use Rattle.sm_names.specs.Sameness.{same_key}
 use Rattle.sm_names.specs.declared.keys.HeldBuffer.{HeldBuffer}
 use Rattle.sm_names.specs.Timelines.{layout}
 use Rattle.sm_names.proofs.ListLaws.{map-map}
-use Rattle.alloc_event.specs.declared.node.End.{End}
-use Rattle.alloc_event.specs.declared.node.Node.{Node}
-use Rattle.alloc_event.specs.Forest.{Collection, pages_in, with_nodes}
-use Rattle.alloc_event.specs.Nodes.{above_among, member_of, members_of, node_of, is_of, is_taken, lost, after_loss, given_buffers, after_allocation, ended, after_end}
-use Rattle.alloc_event.specs.Settling.{Handles, Settles, Rests, Forces, made, standing, is_root_of, given_back}
+use Rattle.forest_store.specs.declared.node.End.{End}
+use Rattle.forest_store.specs.declared.node.Node.{Node}
+use Rattle.forest_store.specs.Forest.{Collection, pages_in, with_nodes}
+use Rattle.forest_store.specs.Nodes.{above_among, member_of, members_of, node_of, is_of, is_taken, lost, after_loss, given_buffers, after_allocation, ended, after_end}
+use Rattle.forest_store.specs.Settling.{Handles, Settles, Rests, Forces, made, standing, is_root_of, given_back}
 use Rattle.lifetime_core.proofs.lists.Maps.{filter-map, find-map, map-reverse}
 
 module _ (place : NodeKey → End → End) where

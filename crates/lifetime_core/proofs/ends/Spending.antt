@@ -7,10 +7,10 @@ use Rattle.sm_names.specs.Sameness.{same_key}
 use Rattle.sm_names.specs.declared.keys.HeldBuffer.{HeldBuffer}
 use Rattle.sm_names.proofs.ListLaws.{In, In-filter, In-map}
 use Rattle.sm_names.proofs.SamenessLaws.{and_right, false_if, same_key-true}
-use Rattle.alloc_event.specs.declared.node.End.{End}
-use Rattle.alloc_event.specs.declared.node.Node.{Node}
-use Rattle.alloc_event.specs.Forest.{Collection, Forest, SameKeys, all_held, given, is_left, tidied, with_nodes, without_over_in}
-use Rattle.alloc_event.specs.Nodes.{is_over, is_spent, with_end}
+use Rattle.forest_store.specs.declared.node.End.{End}
+use Rattle.forest_store.specs.declared.node.Node.{Node}
+use Rattle.forest_store.specs.Forest.{Collection, Forest, SameKeys, all_held, given, is_left, tidied, with_nodes, without_over_in}
+use Rattle.forest_store.specs.Nodes.{is_over, is_spent, with_end}
 use Rattle.lifetime_core.specs.Steps.{with_place, without_over}
 use Rattle.lifetime_core.specs.Tasks.{spent_place}
 use Rattle.lifetime_core.specs.Whole.{AreFit, AreOnce, IsAmid, IsNodeFit, IsSound, IsTidy, Rise}

@@ -8,10 +8,10 @@ use Rattle.sm_names.specs.Sameness.{same_key}
 use Rattle.sm_names.specs.declared.keys.HeldBuffer.{HeldBuffer}
 use Rattle.sm_names.proofs.ListLaws.{In, In-filter, In-map, filter-all}
 use Rattle.sm_names.proofs.SamenessLaws.{both_ways, same_key-true}
-use Rattle.alloc_event.specs.declared.node.End.{End}
-use Rattle.alloc_event.specs.declared.node.Node.{Node}
-use Rattle.alloc_event.specs.Forest.{Collection, Forest, SameKeys, all_held, collection_at, given, node_at, with_nodes}
-use Rattle.alloc_event.specs.Nodes.{is_over, is_spent, with_end}
+use Rattle.forest_store.specs.declared.node.End.{End}
+use Rattle.forest_store.specs.declared.node.Node.{Node}
+use Rattle.forest_store.specs.Forest.{Collection, Forest, SameKeys, all_held, collection_at, given, node_at, with_nodes}
+use Rattle.forest_store.specs.Nodes.{is_over, is_spent, with_end}
 use Rattle.lifetime_core.specs.declared.task.Place.{Place}
 use Rattle.lifetime_core.specs.Steps.{with_place, without_over}
 use Rattle.lifetime_core.specs.Whole.{AreOnce, AreUpTo, CanCarry, IsNodeFit, IsSound, IsTidy}

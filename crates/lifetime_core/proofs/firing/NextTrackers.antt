@@ -28,7 +28,7 @@ use Rattle.event_laws.proofs.WaitingLaws.{fired_next, waiting_next}
 use Rattle.buffer_holds.specs.Counts.{total}
 use Rattle.trackers.specs.declared.waiting.Waiting.{Waiting}
 use Rattle.trackers.specs.Table.{Table, firing as firing_in, is_due as is_due_in, is_untaken}
-use Rattle.alloc_event.specs.Forest.{node_at}
+use Rattle.forest_store.specs.Forest.{node_at}
 use Rattle.lifetime_core.specs.Reads.{world_in}
 use Rattle.lifetime_core.specs.Shown.{AreTrackers, IsAfter, node_after, tracked_as}
 use Rattle.lifetime_core.specs.State.{State}

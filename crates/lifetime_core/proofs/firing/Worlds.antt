@@ -16,10 +16,10 @@ use Rattle.sm_names.proofs.SamenessLaws.{and_left, and_right, both_ways, either_
 use Rattle.sm_names.proofs.StandingLaws.{filter-less}
 use Rattle.trackers.specs.declared.waiting.Waiting.{Waiting}
 use Rattle.trackers.specs.Table.{is_due}
-use Rattle.alloc_event.specs.declared.node.Node.{Node}
-use Rattle.alloc_event.specs.Forest.{Collection, Forest, SameKeys, all_nodes, collection_at, given, is_left, node_at, with_nodes}
-use Rattle.alloc_event.specs.Nodes.{is_of, is_over, member_of, members_of}
-use Rattle.alloc_event.specs.Settling.{Handles}
+use Rattle.forest_store.specs.declared.node.Node.{Node}
+use Rattle.forest_store.specs.Forest.{Collection, Forest, SameKeys, all_nodes, collection_at, given, is_left, node_at, with_nodes}
+use Rattle.forest_store.specs.Nodes.{is_of, is_over, member_of, members_of}
+use Rattle.forest_store.specs.Settling.{Handles}
 use Rattle.lifetime_core.specs.declared.task.Place.{Place}
 use Rattle.lifetime_core.specs.declared.task.Task.{Task}
 use Rattle.lifetime_core.specs.Reads.{world_in}

@@ -14,11 +14,11 @@ use Rattle.sm_names.proofs.ListLaws.{In, In-find}
 use Rattle.sm_names.proofs.SamenessLaws.{both_ways, false_if}
 use Rattle.trackers.specs.declared.waiting.Waiting.{Waiting}
 use Rattle.trackers.specs.Table.{is_due}
-use Rattle.alloc_event.specs.declared.change.Change.{Change}
-use Rattle.alloc_event.specs.declared.node.Node.{Node}
-use Rattle.alloc_event.specs.Forest.{Collection, Forest, collection_at, given, node_at}
-use Rattle.alloc_event.specs.Nodes.{members_of}
-use Rattle.alloc_event.specs.Settling.{Handles, Settled, given_back}
+use Rattle.forest_store.specs.declared.change.Change.{Change}
+use Rattle.forest_store.specs.declared.node.Node.{Node}
+use Rattle.forest_store.specs.Forest.{Collection, Forest, collection_at, given, node_at}
+use Rattle.forest_store.specs.Nodes.{members_of}
+use Rattle.forest_store.specs.Settling.{Handles, Settled, given_back}
 use Rattle.lifetime_core.specs.declared.task.Task.{Task}
 use Rattle.lifetime_core.specs.Reads.{world_in}
 use Rattle.lifetime_core.specs.Steps.{Work}

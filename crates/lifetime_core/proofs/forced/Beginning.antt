@@ -21,12 +21,12 @@ use Rattle.sm_names.proofs.LifeLaws.{In_old, whole}
 use Rattle.sm_names.proofs.ListLaws.{In, map-map}
 use Rattle.sm_names.proofs.SamenessLaws.{or_right}
 use Rattle.sm_names.proofs.SettledLaws.{map-Some}
-use Rattle.alloc_event.specs.declared.change.Change.{Change}
-use Rattle.alloc_event.specs.declared.change.Effect.{Effect}
-use Rattle.alloc_event.specs.declared.node.Node.{Node}
-use Rattle.alloc_event.specs.Forest.{Collection, beside, node_at, with_nodes}
-use Rattle.alloc_event.specs.Nodes.{affected, after_effect, after_loss, node_of, new_root, new_child}
-use Rattle.alloc_event.specs.Settling.{changed, collection_or_new, no_key}
+use Rattle.forest_store.specs.declared.change.Change.{Change}
+use Rattle.forest_store.specs.declared.change.Effect.{Effect}
+use Rattle.forest_store.specs.declared.node.Node.{Node}
+use Rattle.forest_store.specs.Forest.{Collection, beside, node_at, with_nodes}
+use Rattle.forest_store.specs.Nodes.{affected, after_effect, after_loss, node_of, new_root, new_child}
+use Rattle.forest_store.specs.Settling.{changed, collection_or_new, no_key}
 use Rattle.lifetime_core.specs.declared.task.Place.{Place}
 use Rattle.lifetime_core.specs.Shown.{IsAfter, node_after, collection_after}
 use Rattle.lifetime_core.specs.State.{State}

@@ -22,9 +22,9 @@ use Rattle.sm_names.specs.Timelines.{collection_of, held, own_loss, placed}
 use Rattle.sm_names.proofs.GrowthLaws.{Grows, Stays, Answers}
 use Rattle.sm_names.proofs.ListLaws.{In-filter, filter-In, filter-swap, map-In}
 use Rattle.sm_names.proofs.SamenessLaws.{either_way, both_ways, or_left}
-use Rattle.alloc_event.specs.declared.node.End.{End}
-use Rattle.alloc_event.specs.declared.node.Node.{Node}
-use Rattle.alloc_event.specs.Forest.{Collection, beside}
+use Rattle.forest_store.specs.declared.node.End.{End}
+use Rattle.forest_store.specs.declared.node.Node.{Node}
+use Rattle.forest_store.specs.Forest.{Collection, beside}
 use Rattle.lifetime_core.specs.Shown.{IsAfter, node_after, nodes_after, held_after, collection_after}
 use Rattle.lifetime_core.specs.State.{State}
 use Rattle.lifetime_core.specs.Steps.{end_by, place_of}

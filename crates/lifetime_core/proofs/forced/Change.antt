@@ -4,10 +4,10 @@ use Rattle.std.specs.Option.{option_map}
 use Rattle.sm_names.specs.declared.keys.NodeKey.{NodeKey}
 use Rattle.sm_names.proofs.ListLaws.{In}
 use Rattle.sm_names.proofs.SettledLaws.{map-Some}
-use Rattle.alloc_event.specs.declared.change.Change.{Change}
-use Rattle.alloc_event.specs.declared.node.Node.{Node}
-use Rattle.alloc_event.specs.Forest.{Forest, node_at}
-use Rattle.alloc_event.specs.Settling.{Handles, Settled}
+use Rattle.forest_store.specs.declared.change.Change.{Change}
+use Rattle.forest_store.specs.declared.node.Node.{Node}
+use Rattle.forest_store.specs.Forest.{Forest, node_at}
+use Rattle.forest_store.specs.Settling.{Handles, Settled}
 use Rattle.lifetime_core.specs.declared.task.Task.{Task}
 use Rattle.lifetime_core.specs.Tasks.{MayDo, Reworked, released_by, work_in}
 use Rattle.lifetime_core.specs.Whole.{AreUpTo, CanFinish, IsAmid, IsSound}

@@ -5,7 +5,7 @@ use Rattle.sm_names.specs.declared.keys.BufferName.{BufferName}
 use Rattle.sm_names.specs.declared.keys.Strength.{Strength}
 use Rattle.sm_names.proofs.SamenessLaws.{either_way}
 use Rattle.buffer_holds.specs.Counts.{total}
-use Rattle.alloc_event.specs.declared.change.Change.{Change}
+use Rattle.forest_store.specs.declared.change.Change.{Change}
 use Rattle.lifetime_core.specs.State.{State}
 use Rattle.lifetime_core.specs.Steps.{Work, at_collection, drop_at}
 use Rattle.lifetime_core.proofs.forced.Losing.{no_work}

@@ -15,13 +15,13 @@ use Rattle.sm_names.proofs.ListLaws.{In-find, In-list_any}
 use Rattle.sm_names.proofs.SamenessLaws.{and_left, both_ways, either_way, none_or_some, same_key-true}
 use Rattle.sm_names.proofs.SizeLaws.{all_on}
 use Rattle.buffer_pool.specs.Holdings.{Holdings}
-use Rattle.alloc_event.specs.declared.change.Change.{Change}
-use Rattle.alloc_event.specs.declared.change.Effect.{Effect}
-use Rattle.alloc_event.specs.declared.node.Node.{Node}
-use Rattle.alloc_event.specs.Forest.{Collection, Forest, collection_at, given, node_at}
-use Rattle.alloc_event.specs.Nodes.{is_of}
-use Rattle.alloc_event.specs.Scenes.{has_tracker_room}
-use Rattle.alloc_event.specs.Settling.{MayChange, collection_or_new, no_key}
+use Rattle.forest_store.specs.declared.change.Change.{Change}
+use Rattle.forest_store.specs.declared.change.Effect.{Effect}
+use Rattle.forest_store.specs.declared.node.Node.{Node}
+use Rattle.forest_store.specs.Forest.{Collection, Forest, collection_at, given, node_at}
+use Rattle.forest_store.specs.Nodes.{is_of}
+use Rattle.forest_store.specs.Scenes.{has_tracker_room}
+use Rattle.forest_store.specs.Settling.{MayChange, collection_or_new, no_key}
 use Rattle.lifetime_core.specs.Reads.{readings_of}
 use Rattle.lifetime_core.specs.State.{State}
 use Rattle.lifetime_core.specs.Steps.{Work, leaves_tracker_room, work_of}

@@ -16,13 +16,13 @@ use Rattle.sm_names.specs.Timelines.{layout}
 use Rattle.sm_names.proofs.ListLaws.{In, In-append, In-filter-back, In-find, In-first_some, In-front, In-map, In-map-back, none-In, when-Some}
 use Rattle.sm_names.proofs.SamenessLaws.{and_right, or_right}
 use Rattle.sm_names.proofs.SettledLaws.{and_then-Some, map-Some}
-use Rattle.alloc_event.specs.declared.change.Change.{Change}
-use Rattle.alloc_event.specs.declared.change.Effect.{Effect}
-use Rattle.alloc_event.specs.declared.node.Node.{Node}
-use Rattle.alloc_event.specs.Forest.{Collection, pages_in, with_nodes}
-use Rattle.alloc_event.specs.Nodes.{affected, after_allocation, after_loss, ended, given_buffers, is_of, is_taken, lost, member_of, members_of, new_child, new_root, node_of, is_spent}
-use Rattle.alloc_event.specs.Settling.{Handles, Settles, Rests, Forces, changed, is_birth, is_root_of, made, standing, with_birth}
-use Rattle.alloc_event.proofs.changes.Altering.{same_affected}
+use Rattle.forest_store.specs.declared.change.Change.{Change}
+use Rattle.forest_store.specs.declared.change.Effect.{Effect}
+use Rattle.forest_store.specs.declared.node.Node.{Node}
+use Rattle.forest_store.specs.Forest.{Collection, pages_in, with_nodes}
+use Rattle.forest_store.specs.Nodes.{affected, after_allocation, after_loss, ended, given_buffers, is_of, is_taken, lost, member_of, members_of, new_child, new_root, node_of, is_spent}
+use Rattle.forest_store.specs.Settling.{Handles, Settles, Rests, Forces, changed, is_birth, is_root_of, made, standing, with_birth}
+use Rattle.forest_store.proofs.changes.Altering.{same_affected}
 use Rattle.lifetime_core.specs.Tasks.{released_by}
 use Rattle.lifetime_core.specs.Whole.{AreFit, AreOnce, IsNodeFit, is_leaving}
 

@@ -30,10 +30,10 @@ use Rattle.sm_names.proofs.SettledLaws.{In-was_born, find_birth, Why, No_live, F
 use Rattle.sm_names.proofs.WholeLaws.{IsWhole}
 use Rattle.sm_names.proofs.ForgetLaws.{asked-left}
 use Rattle.sm_names.proofs.StandingLaws.{filter-less}
-use Rattle.alloc_event.specs.declared.node.Node.{Node}
-use Rattle.alloc_event.specs.Forest.{Collection, pages_in, with_nodes}
-use Rattle.alloc_event.specs.Nodes.{node_of, members_of, after_loss, after_allocation, after_end}
-use Rattle.alloc_event.specs.Settling.{is_root_of, made}
+use Rattle.forest_store.specs.declared.node.Node.{Node}
+use Rattle.forest_store.specs.Forest.{Collection, pages_in, with_nodes}
+use Rattle.forest_store.specs.Nodes.{node_of, members_of, after_loss, after_allocation, after_end}
+use Rattle.forest_store.specs.Settling.{is_root_of, made}
 use Rattle.lifetime_core.specs.Shown.{held_after}
 use Rattle.lifetime_core.proofs.collections.MarksApart.{IsIn, is_beside, beside_apart, laid_in}
 use Rattle.lifetime_core.proofs.theorem.Follows.{Matches, members_match, pages_match}

@@ -8,12 +8,12 @@ use Rattle.sm_names.specs.Sameness.{same_key}
 use Rattle.sm_names.proofs.ListLaws.{In, In-append, In-behind, In-find, In-front, is_some-find}
 use Rattle.sm_names.proofs.SamenessLaws.{or_left, or_right, both_ways, same_key-refl, same_key-true}
 use Rattle.sm_names.proofs.StandingLaws.{In-any}
-use Rattle.alloc_event.specs.declared.change.Change.{Change}
-use Rattle.alloc_event.specs.declared.node.Node.{Node}
-use Rattle.alloc_event.specs.Forest.{Collection, Forest, all_nodes, collection_at, beside, given, node_at}
-use Rattle.alloc_event.specs.Nodes.{is_of, is_spent}
-use Rattle.alloc_event.specs.Settling.{Handles, Settled, collection_or_new, given_back, is_birth, no_key}
-use Rattle.alloc_event.proofs.tallies.Slots.{or_new_id}
+use Rattle.forest_store.specs.declared.change.Change.{Change}
+use Rattle.forest_store.specs.declared.node.Node.{Node}
+use Rattle.forest_store.specs.Forest.{Collection, Forest, all_nodes, collection_at, beside, given, node_at}
+use Rattle.forest_store.specs.Nodes.{is_of, is_spent}
+use Rattle.forest_store.specs.Settling.{Handles, Settled, collection_or_new, given_back, is_birth, no_key}
+use Rattle.forest_store.proofs.tallies.Slots.{or_new_id}
 use Rattle.lifetime_core.specs.Tasks.{released_by}
 use Rattle.lifetime_core.specs.Whole.{AreFit, AreOnce, IsAmid, IsNodeFit, IsSound, IsTidy, Rise, is_leaving}
 use Rattle.lifetime_core.proofs.forced.Fitting.{Keeps, event_keeps}

@@ -5,9 +5,9 @@ use Rattle.sm_names.specs.declared.keys.NodeKey.{NodeKey}
 use Rattle.sm_names.specs.declared.outcomes.Cause.{Cause}
 use Rattle.sm_names.proofs.SamenessLaws.{either_way}
 use Rattle.sm_names.proofs.SettledLaws.{and_then-Some}
-use Rattle.alloc_event.specs.declared.change.Change.{Change}
-use Rattle.alloc_event.specs.declared.node.Node.{Node}
-use Rattle.alloc_event.specs.Forest.{Forest, node_at}
+use Rattle.forest_store.specs.declared.change.Change.{Change}
+use Rattle.forest_store.specs.declared.node.Node.{Node}
+use Rattle.forest_store.specs.Forest.{Forest, node_at}
 use Rattle.lifetime_core.specs.Steps.{Work, at_node, loss_at}
 
 -- what is lost is there, and not gone

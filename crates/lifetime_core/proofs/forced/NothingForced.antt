@@ -21,8 +21,8 @@ use Rattle.sm_names.specs.Timelines.{after, collection_of, next_forced, settled}
 use Rattle.sm_names.proofs.GrowthLaws.{Grows, Stays, Answers}
 use Rattle.sm_names.proofs.LifeLaws.{whole}
 use Rattle.sm_names.proofs.SamenessLaws.{either_way}
-use Rattle.alloc_event.specs.Forest.{Collection, beside, is_left}
-use Rattle.alloc_event.specs.Settling.{Handles, buffer_names, standing}
+use Rattle.forest_store.specs.Forest.{Collection, beside, is_left}
+use Rattle.forest_store.specs.Settling.{Handles, buffer_names, standing}
 use Rattle.lifetime_core.specs.declared.task.Place.{Place}
 use Rattle.lifetime_core.specs.Shown.{IsAfter, held_after, collection_after, kept_ids}
 use Rattle.lifetime_core.specs.State.{State}

@@ -18,10 +18,10 @@ use Rattle.sm_names.proofs.ListLaws.{In, In-filter, filter-In}
 use Rattle.sm_names.proofs.SettledLaws.{Settles-one, settled_rests, forced_no_event}
 use Rattle.sm_names.proofs.WholeLaws.{IsWhole}
 use Rattle.sm_names.proofs.StandingLaws.{filter-less}
-use Rattle.alloc_event.specs.Forest.{Collection}
-use Rattle.alloc_event.specs.Nodes.{members_of}
-use Rattle.alloc_event.specs.Settling.{Handles, made, is_home_in, given_back, Settles as SettlesIn, Rests as RestsIn, Forces as ForcesIn}
-use Rattle.alloc_event.proofs.tallies.Slots.{made_id}
+use Rattle.forest_store.specs.Forest.{Collection}
+use Rattle.forest_store.specs.Nodes.{members_of}
+use Rattle.forest_store.specs.Settling.{Handles, made, is_home_in, given_back, Settles as SettlesIn, Rests as RestsIn, Forces as ForcesIn}
+use Rattle.forest_store.proofs.tallies.Slots.{made_id}
 use Rattle.lifetime_core.specs.Shown.{held_after}
 use Rattle.lifetime_core.proofs.theorem.Follows.{Counts, Matches, members_match, forced_matches}
 use Rattle.lifetime_core.proofs.forced.ForcedStep.{step_matches}

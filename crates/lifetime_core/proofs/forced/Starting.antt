@@ -24,10 +24,10 @@ use Rattle.sm_names.proofs.LifeLaws.{ordered}
 use Rattle.sm_names.proofs.ListLaws.{In, In-filter, In-list_any, In-map, filter-In, filter-none, filter-all}
 use Rattle.sm_names.proofs.SamenessLaws.{either_way, false_if, both_ways, or_left}
 use Rattle.sm_names.proofs.StandingLaws.{both_tests, In-any}
-use Rattle.alloc_event.specs.declared.node.Node.{Node}
-use Rattle.alloc_event.specs.Forest.{Collection, all_held, beside, pages_in}
-use Rattle.alloc_event.specs.Nodes.{is_over}
-use Rattle.alloc_event.specs.Settling.{collection_or_new}
+use Rattle.forest_store.specs.declared.node.Node.{Node}
+use Rattle.forest_store.specs.Forest.{Collection, all_held, beside, pages_in}
+use Rattle.forest_store.specs.Nodes.{is_over}
+use Rattle.forest_store.specs.Settling.{collection_or_new}
 use Rattle.lifetime_core.specs.Shown.{IsAfter, node_after, nodes_after, held_after, collection_after, kept_ids}
 use Rattle.lifetime_core.specs.State.{State}
 use Rattle.lifetime_core.proofs.collections.MarksApart.{is_beside, pages_beside}

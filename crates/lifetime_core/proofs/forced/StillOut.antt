@@ -23,12 +23,12 @@ use Rattle.sm_names.proofs.SamenessLaws.{and_both, both_ways, either_way, false_
 use Rattle.event_laws.specs.ByEvent.{anyone, one_if}
 use Rattle.buffer_holds.specs.Counts.{Counts, total}
 use Rattle.trackers.specs.declared.waiting.Waiting.{Waiting}
-use Rattle.alloc_event.specs.declared.change.Change.{Change}
-use Rattle.alloc_event.specs.declared.node.Node.{Node}
-use Rattle.alloc_event.specs.Dropped.{are_others_out}
-use Rattle.alloc_event.specs.Forest.{Collection, Forest, collection_at}
-use Rattle.alloc_event.specs.Nodes.{members_of, node_of}
-use Rattle.alloc_event.specs.Settling.{Handles, MayChange, Settled, Settles, Rests, Forces, changed, collection_or_new, fits, given_back, is_home_in, is_root_of, made}
+use Rattle.forest_store.specs.declared.change.Change.{Change}
+use Rattle.forest_store.specs.declared.node.Node.{Node}
+use Rattle.forest_store.specs.Dropped.{are_others_out}
+use Rattle.forest_store.specs.Forest.{Collection, Forest, collection_at}
+use Rattle.forest_store.specs.Nodes.{members_of, node_of}
+use Rattle.forest_store.specs.Settling.{Handles, MayChange, Settled, Settles, Rests, Forces, changed, collection_or_new, fits, given_back, is_home_in, is_root_of, made}
 use Rattle.lifetime_core.specs.declared.task.Place.{Place}
 use Rattle.lifetime_core.specs.declared.task.Task.{Task}
 use Rattle.lifetime_core.specs.Hands.{MovesHandles}

@@ -23,12 +23,12 @@ use Rattle.sm_names.proofs.RejectLaws.{is_refusal}
 use Rattle.sm_names.proofs.SamenessLaws.{none_or_some}
 use Rattle.sm_names.proofs.SettledLaws.{and_then-Some, map-Some}
 use Rattle.buffer_pool.specs.Holdings.{Holdings}
-use Rattle.alloc_event.specs.declared.change.Change.{Change}
-use Rattle.alloc_event.specs.declared.change.Effect.{Effect}
-use Rattle.alloc_event.specs.declared.node.Node.{Node}
-use Rattle.alloc_event.specs.Forest.{Collection, Forest, collection_at, node_count, node_at}
-use Rattle.alloc_event.specs.Nodes.{is_spent}
-use Rattle.alloc_event.specs.Settling.{MayChange, is_birth, is_there, no_key}
+use Rattle.forest_store.specs.declared.change.Change.{Change}
+use Rattle.forest_store.specs.declared.change.Effect.{Effect}
+use Rattle.forest_store.specs.declared.node.Node.{Node}
+use Rattle.forest_store.specs.Forest.{Collection, Forest, collection_at, node_count, node_at}
+use Rattle.forest_store.specs.Nodes.{is_spent}
+use Rattle.forest_store.specs.Settling.{MayChange, is_birth, is_there, no_key}
 use Rattle.lifetime_core.specs.Reads.{end_in, open_end_of, readings_of}
 use Rattle.lifetime_core.specs.State.{State}
 use Rattle.lifetime_core.specs.Steps.{Work, at_node, done_to, drop_at, loss_at, work_of}

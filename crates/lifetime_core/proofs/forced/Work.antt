@@ -22,10 +22,10 @@ use Rattle.sm_names.proofs.LegalLaws.{births-after, own_loss_no_event}
 use Rattle.sm_names.proofs.LifeLaws.{whole}
 use Rattle.sm_names.proofs.ListLaws.{In, In-filter, In-map, filter-all}
 use Rattle.sm_names.proofs.SamenessLaws.{either_way, both_ways, false_if, same_key-true}
-use Rattle.alloc_event.specs.declared.node.Node.{Node}
-use Rattle.alloc_event.specs.Forest.{Collection, Forest, beside, is_left}
-use Rattle.alloc_event.specs.Nodes.{is_over}
-use Rattle.alloc_event.specs.Settling.{Handles, Settled, Settles, changed, collection_or_new, given_back, no_key, put}
+use Rattle.forest_store.specs.declared.node.Node.{Node}
+use Rattle.forest_store.specs.Forest.{Collection, Forest, beside, is_left}
+use Rattle.forest_store.specs.Nodes.{is_over}
+use Rattle.forest_store.specs.Settling.{Handles, Settled, Settles, changed, collection_or_new, given_back, no_key, put}
 use Rattle.lifetime_core.specs.declared.task.Place.{Place}
 use Rattle.lifetime_core.specs.Shown.{IsAfter, node_after, nodes_after, held_after, collection_after, kept_ids}
 use Rattle.lifetime_core.specs.State.{State}

@@ -30,10 +30,10 @@ use Rattle.sm_names.proofs.SamenessLaws.{and_left, and_right, either_way}
 use Rattle.sm_names.proofs.SettledLaws.{and_then-Some}
 use Rattle.sm_names.proofs.SumLaws.{In-le-sum_by, one}
 use Rattle.buffer_holds.specs.Counts.{moving, total}
-use Rattle.alloc_event.specs.declared.node.Node.{Node}
-use Rattle.alloc_event.specs.Forest.{Collection, collection_at, node_at}
-use Rattle.alloc_event.specs.Nodes.{is_spent, members_of}
-use Rattle.alloc_event.specs.Settling.{buffer_names, no_key}
+use Rattle.forest_store.specs.declared.node.Node.{Node}
+use Rattle.forest_store.specs.Forest.{Collection, collection_at, node_at}
+use Rattle.forest_store.specs.Nodes.{is_spent, members_of}
+use Rattle.forest_store.specs.Settling.{buffer_names, no_key}
 use Rattle.lifetime_core.specs.Hands.{CanOpen, MayMove}
 use Rattle.lifetime_core.specs.Reads.{buffers_in, client_in, end_in, open_end_of, readings_of, to_open_in}
 use Rattle.lifetime_core.specs.State.{Client, State, counts_of}

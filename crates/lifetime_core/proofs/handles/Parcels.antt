@@ -23,7 +23,7 @@ use Rattle.sm_names.proofs.SamenessLaws.{either_way, false_if, or_none_right, or
 use Rattle.sm_names.proofs.SumLaws.{AreOnce, one, one_of, sum_by-zero, sum_once}
 use Rattle.event_laws.specs.ByEvent.{anyone, one_if}
 use Rattle.event_laws.proofs.FreeEndLaws.{passed}
-use Rattle.alloc_event.specs.Settling.{no_key}
+use Rattle.forest_store.specs.Settling.{no_key}
 use Rattle.lifetime_core.specs.Reads.{readings_of}
 use Rattle.lifetime_core.specs.State.{Client, State, counts_of}
 use Rattle.lifetime_core.specs.Steps.{client_by, clients_by, handles_by, new_client}

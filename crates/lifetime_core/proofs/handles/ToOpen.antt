@@ -14,9 +14,9 @@ use Rattle.sm_names.specs.Handles.{is_doomed}
 use Rattle.sm_names.specs.Members.{some_strong_live}
 use Rattle.sm_names.proofs.ListLaws.{In-find}
 use Rattle.buffer_holds.specs.Counts.{total}
-use Rattle.alloc_event.specs.Forest.{Collection, collection_at}
-use Rattle.alloc_event.specs.Nodes.{members_of}
-use Rattle.alloc_event.specs.Settling.{buffer_names}
+use Rattle.forest_store.specs.Forest.{Collection, collection_at}
+use Rattle.forest_store.specs.Nodes.{members_of}
+use Rattle.forest_store.specs.Settling.{buffer_names}
 use Rattle.lifetime_core.specs.Reads.{buffers_in, to_open_in}
 use Rattle.lifetime_core.specs.State.{State}
 

@@ -6,7 +6,7 @@ use Rattle.std.specs.List.{filter, find, list_any, flat_map}
 use Rattle.std.specs.Option.{option_map}
 use Rattle.sm_names.proofs.ListLaws.{In}
 use Rattle.sm_names.proofs.SamenessLaws.{either_way, both_ways}
-use Rattle.alloc_event.proofs.tables.KeptRoots.{filter-reverse_aux, map-reverse_aux}
+use Rattle.forest_store.proofs.tables.KeptRoots.{filter-reverse_aux, map-reverse_aux}
 
 -- ---- filters
 

@@ -15,8 +15,8 @@ use Rattle.sm_names.proofs.ReachLaws.{IsChain, parent_in, ancestors_chain}
 use Rattle.sm_names.proofs.SamenessLaws.{either_way, same_key-true, both_ways, false_if, or_left, or_right}
 use Rattle.sm_names.proofs.SettledLaws.{find_birth}
 use Rattle.sm_names.proofs.WholeLaws.{IsWhole, line_collection}
-use Rattle.alloc_event.specs.declared.node.Node.{Node}
-use Rattle.alloc_event.specs.Nodes.{above_among}
+use Rattle.forest_store.specs.declared.node.Node.{Node}
+use Rattle.forest_store.specs.Nodes.{above_among}
 use Rattle.lifetime_core.specs.Shown.{node_after, nodes_after}
 use Rattle.lifetime_core.proofs.lists.Maps.{filter-map, filter-filter, filter-reverse, map-reverse}
 

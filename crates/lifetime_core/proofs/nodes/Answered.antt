@@ -12,9 +12,9 @@ use Rattle.sm_names.specs.Reading.{readings}
 use Rattle.sm_names.specs.Sameness.{same_key}
 use Rattle.sm_names.specs.Timelines.{key_of}
 use Rattle.sm_names.proofs.GrowthLaws.{Grows}
-use Rattle.alloc_event.specs.declared.change.Effect.{Effect}
-use Rattle.alloc_event.specs.declared.node.Node.{Node}
-use Rattle.alloc_event.proofs.changes.Effecting.{alone_affected}
+use Rattle.forest_store.specs.declared.change.Effect.{Effect}
+use Rattle.forest_store.specs.declared.node.Node.{Node}
+use Rattle.forest_store.proofs.changes.Effecting.{alone_affected}
 use Rattle.lifetime_core.specs.declared.task.Place.{Place}
 use Rattle.lifetime_core.specs.Shown.{node_after, nodes_after}
 use Rattle.lifetime_core.specs.Steps.{end_by, place_of}

@@ -21,11 +21,11 @@ use Rattle.sm_names.proofs.GrowthLaws.{Grows}
 use Rattle.event_laws.specs.ByEvent.{sends, delivers}
 use Rattle.event_laws.proofs.FreeEndLaws.{FreeEnd, sends_free}
 use Rattle.event_laws.proofs.TransitLaws.{EndAt, end_at, transit_mark, delivers_waited}
-use Rattle.alloc_event.specs.declared.change.Effect.{Effect}
-use Rattle.alloc_event.specs.declared.node.End.{End}
-use Rattle.alloc_event.specs.declared.node.Node.{Node}
-use Rattle.alloc_event.specs.Effects.{effect_of}
-use Rattle.alloc_event.specs.Nodes.{affected}
+use Rattle.forest_store.specs.declared.change.Effect.{Effect}
+use Rattle.forest_store.specs.declared.node.End.{End}
+use Rattle.forest_store.specs.declared.node.Node.{Node}
+use Rattle.forest_store.specs.Effects.{effect_of}
+use Rattle.forest_store.specs.Nodes.{affected}
 use Rattle.lifetime_core.specs.declared.task.Place.{Place}
 use Rattle.lifetime_core.specs.Shown.{node_after, end_after}
 use Rattle.lifetime_core.specs.Steps.{end_by, place_of}

@@ -12,8 +12,8 @@ use Rattle.sm_names.proofs.GoneLaws.{gone_stays}
 use Rattle.sm_names.proofs.ListLaws.{In, In-filter}
 use Rattle.sm_names.proofs.SamenessLaws.{false_if, both_ways}
 use Rattle.sm_names.proofs.WholeLaws.{IsWhole}
-use Rattle.alloc_event.specs.declared.node.Node.{Node}
-use Rattle.alloc_event.specs.Nodes.{member_of, lost, is_taken, after_loss, given_buffers, after_allocation, ended, after_end}
+use Rattle.forest_store.specs.declared.node.Node.{Node}
+use Rattle.forest_store.specs.Nodes.{member_of, lost, is_taken, after_loss, given_buffers, after_allocation, ended, after_end}
 use Rattle.lifetime_core.specs.Shown.{node_after}
 use Rattle.lifetime_core.proofs.nodes.Ancestors.{Keeps, kept_in, nodes_kept, kept_births}
 use Rattle.lifetime_core.proofs.lists.Maps.{map-map_In}

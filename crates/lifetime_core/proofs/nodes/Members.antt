@@ -16,8 +16,8 @@ use Rattle.sm_names.proofs.SamenessLaws.{either_way, same_key-true, same_key-ref
 use Rattle.sm_names.proofs.SettledLaws.{find_birth, member_birth}
 use Rattle.sm_names.proofs.StandingLaws.{highest-members, top-same, filter-less}
 use Rattle.sm_names.proofs.WholeLaws.{IsWhole}
-use Rattle.alloc_event.specs.declared.node.Node.{Node}
-use Rattle.alloc_event.specs.Nodes.{is_of, node_of, member_of, members_of, is_taken}
+use Rattle.forest_store.specs.declared.node.Node.{Node}
+use Rattle.forest_store.specs.Nodes.{is_of, node_of, member_of, members_of, is_taken}
 use Rattle.lifetime_core.specs.Shown.{node_after}
 use Rattle.lifetime_core.proofs.nodes.Ancestors.{Keeps, kept_in, nodes_kept, kept_births, above_kept, line_left}
 use Rattle.lifetime_core.proofs.lists.Maps.{filter-map, map-map_In, find_only}

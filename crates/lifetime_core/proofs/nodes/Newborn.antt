@@ -21,9 +21,9 @@ use Rattle.sm_names.proofs.ReachLaws.{other_key}
 use Rattle.sm_names.proofs.SamenessLaws.{or_false, same_key-refl}
 use Rattle.sm_names.proofs.SettledLaws.{In-was_born}
 use Rattle.event_laws.proofs.TransitLaws.{end_at}
-use Rattle.alloc_event.specs.declared.node.End.{End}
-use Rattle.alloc_event.specs.declared.node.Node.{Node}
-use Rattle.alloc_event.specs.Nodes.{new_root, new_child}
+use Rattle.forest_store.specs.declared.node.End.{End}
+use Rattle.forest_store.specs.declared.node.Node.{Node}
+use Rattle.forest_store.specs.Nodes.{new_root, new_child}
 use Rattle.lifetime_core.specs.Shown.{node_after, nodes_after, end_after}
 use Rattle.lifetime_core.proofs.nodes.Unborn.{IsUnsaid, unsaid}
 

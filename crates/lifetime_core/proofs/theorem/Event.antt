@@ -10,9 +10,9 @@ use Rattle.sm_names.specs.Bounds.{Bound}
 use Rattle.sm_names.specs.Marks.{Called}
 use Rattle.sm_names.proofs.AnswerLaws.{TookEffect, took_effect_all}
 use Rattle.sm_names.proofs.SamenessLaws.{both_ways}
-use Rattle.alloc_event.specs.declared.change.Change.{Change}
-use Rattle.alloc_event.specs.Forest.{Forest, given}
-use Rattle.alloc_event.specs.Settling.{Handles, MayChange, no_key}
+use Rattle.forest_store.specs.declared.change.Change.{Change}
+use Rattle.forest_store.specs.Forest.{Forest, given}
+use Rattle.forest_store.specs.Settling.{Handles, MayChange, no_key}
 use Rattle.lifetime_core.specs.declared.task.Task.{Task}
 use Rattle.lifetime_core.specs.Reads.{readings_of}
 use Rattle.lifetime_core.specs.State.{Client, HandleCounts, State}

@@ -13,12 +13,12 @@ use Rattle.trackers.specs.declared.waiting.Waiting.{Waiting}
 use Rattle.trackers.specs.Table.{Table}
 use Rattle.buffer_holds.specs.Counts.{total}
 use Rattle.buffer_pool.specs.Holdings.{Holdings}
-use Rattle.alloc_event.specs.declared.change.Change.{Change}
-use Rattle.alloc_event.specs.declared.node.End.{End}
-use Rattle.alloc_event.specs.declared.node.Node.{Node}
-use Rattle.alloc_event.specs.Forest.{Forest, SameKeys, node_at}
-use Rattle.alloc_event.specs.Nodes.{is_spent}
-use Rattle.alloc_event.specs.Settling.{no_key}
+use Rattle.forest_store.specs.declared.change.Change.{Change}
+use Rattle.forest_store.specs.declared.node.End.{End}
+use Rattle.forest_store.specs.declared.node.Node.{Node}
+use Rattle.forest_store.specs.Forest.{Forest, SameKeys, node_at}
+use Rattle.forest_store.specs.Nodes.{is_spent}
+use Rattle.forest_store.specs.Settling.{no_key}
 use Rattle.lifetime_core.specs.declared.task.Place.{Place}
 use Rattle.lifetime_core.specs.declared.task.Task.{Task}
 use Rattle.lifetime_core.specs.Hands.{collects_handle}

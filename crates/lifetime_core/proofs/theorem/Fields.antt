@@ -15,8 +15,8 @@ use Rattle.buffer_holds.specs.Counts.{Counts, total}
 use Rattle.buffer_pool.specs.Holdings.{Holdings}
 use Rattle.trackers.specs.declared.waiting.Waiting.{Waiting}
 use Rattle.trackers.specs.Table.{Cell, Table, is_due}
-use Rattle.alloc_event.specs.Forest.{Forest, IsPoolOf, SameKeys, all_held}
-use Rattle.alloc_event.specs.Settling.{Handles, no_key}
+use Rattle.forest_store.specs.Forest.{Forest, IsPoolOf, SameKeys, all_held}
+use Rattle.forest_store.specs.Settling.{Handles, no_key}
 use Rattle.lifetime_core.specs.declared.task.Place.{Place}
 use Rattle.lifetime_core.specs.declared.task.Task.{Task}
 use Rattle.lifetime_core.specs.Hands.{MayMove}

@@ -30,9 +30,9 @@ use Rattle.sm_names.proofs.PlaceLaws.{places_same}
 use Rattle.sm_names.proofs.SamenessLaws.{either_way, and_left, both_ways}
 use Rattle.sm_names.proofs.SettledLaws.{member_birth, none_if}
 use Rattle.sm_names.proofs.WholeLaws.{IsWhole}
-use Rattle.alloc_event.specs.Forest.{Collection, pages_in}
-use Rattle.alloc_event.specs.Nodes.{members_of}
-use Rattle.alloc_event.specs.Settling.{Handles, standing as standing_in}
+use Rattle.forest_store.specs.Forest.{Collection, pages_in}
+use Rattle.forest_store.specs.Nodes.{members_of}
+use Rattle.forest_store.specs.Settling.{Handles, standing as standing_in}
 use Rattle.lifetime_core.specs.Shown.{held_after}
 use Rattle.lifetime_core.proofs.collections.MarksApart.{is_beside, pages_beside}
 use Rattle.lifetime_core.proofs.nodes.Ancestors.{Keeps, nodes_kept}

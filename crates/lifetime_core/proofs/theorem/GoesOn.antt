@@ -22,8 +22,8 @@ use Rattle.sm_names.proofs.SamenessLaws.{or_cases, or_left, or_right}
 use Rattle.sm_names.proofs.StandingLaws.{In-any}
 use Rattle.buffer_holds.specs.Counts.{total}
 use Rattle.trackers.specs.Table.{empty, without}
-use Rattle.alloc_event.specs.Forest.{Forest, given, empty_forest}
-use Rattle.alloc_event.specs.Settling.{Handles}
+use Rattle.forest_store.specs.Forest.{Forest, given, empty_forest}
+use Rattle.forest_store.specs.Settling.{Handles}
 use Rattle.event_laws.proofs.MomentLaws.{events_after}
 use Rattle.lifetime_core.specs.Reads.{readings_of}
 use Rattle.lifetime_core.specs.Shown.{IsAfter, Shows, collection_after, handles_after, kept_ids}

@@ -11,8 +11,8 @@ use Rattle.sm_names.specs.Marks.{Called, Mark}
 use Rattle.event_laws.specs.ByEvent.{GoesBy, anyone, gains, loses, only}
 use Rattle.buffer_holds.specs.Counts.{Counts, moving, of, total}
 use Rattle.buffer_pool.specs.Holdings.{Holdings}
-use Rattle.alloc_event.specs.Forest.{Forest}
-use Rattle.alloc_event.specs.Settling.{no_key}
+use Rattle.forest_store.specs.Forest.{Forest}
+use Rattle.forest_store.specs.Settling.{no_key}
 use Rattle.lifetime_core.specs.Hands.{MovesHandles}
 use Rattle.lifetime_core.specs.Reads.{readings_of, world_in}
 use Rattle.lifetime_core.specs.State.{Client, State}

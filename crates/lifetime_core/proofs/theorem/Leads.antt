@@ -12,7 +12,7 @@ use Rattle.sm_names.specs.Bounds.{Bound}
 use Rattle.sm_names.specs.Marks.{Entry}
 use Rattle.trackers.specs.declared.waiting.Waiting.{Waiting}
 use Rattle.trackers.specs.Table.{Table}
-use Rattle.alloc_event.specs.Settling.{no_key}
+use Rattle.forest_store.specs.Settling.{no_key}
 use Rattle.lifetime_core.specs.Kinds.{fits_call}
 use Rattle.lifetime_core.specs.Reads.{readings_of}
 use Rattle.lifetime_core.specs.State.{IsSame, State}

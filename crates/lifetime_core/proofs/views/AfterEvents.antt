@@ -20,10 +20,10 @@ use Rattle.sm_names.proofs.KeptLaws.{kept-after}
 use Rattle.sm_names.proofs.LifeLaws.{In_old, whole}
 use Rattle.sm_names.proofs.ListLaws.{In, In-filter, In-filter-back, In-map, In-map-back}
 use Rattle.sm_names.proofs.SamenessLaws.{both_ways, or_none_left, or_none_right, or_cases}
-use Rattle.alloc_event.specs.declared.node.Node.{Node}
-use Rattle.alloc_event.specs.Forest.{Collection, Forest, beside}
-use Rattle.alloc_event.specs.Nodes.{is_over, members_of}
-use Rattle.alloc_event.specs.Settling.{Handles, Settled, given_back}
+use Rattle.forest_store.specs.declared.node.Node.{Node}
+use Rattle.forest_store.specs.Forest.{Collection, Forest, beside}
+use Rattle.forest_store.specs.Nodes.{is_over, members_of}
+use Rattle.forest_store.specs.Settling.{Handles, Settled, given_back}
 use Rattle.lifetime_core.specs.declared.task.Place.{Place}
 use Rattle.lifetime_core.specs.Shown.{IsAfter, collection_after, held_after, node_after, nodes_after}
 use Rattle.lifetime_core.specs.State.{State}

@@ -22,7 +22,7 @@ use Rattle.sm_names.proofs.ListLaws.{is_some-find}
 use Rattle.sm_names.proofs.SamenessLaws.{either_way, both_ways}
 use Rattle.event_laws.proofs.ParcelEventLaws.{stranger_waits_for_none}
 use Rattle.event_laws.proofs.WaitingLaws.{counted}
-use Rattle.alloc_event.specs.Forest.{node_count}
+use Rattle.forest_store.specs.Forest.{node_count}
 use Rattle.lifetime_core.specs.Reads.{client_in, readings_of}
 use Rattle.lifetime_core.specs.Shown.{IsAfter, node_after, collection_after, kept_ids, client_after, tracked_as}
 use Rattle.lifetime_core.specs.State.{Client, State}

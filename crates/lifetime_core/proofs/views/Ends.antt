@@ -24,10 +24,10 @@ use Rattle.sm_names.proofs.GrowthLaws.{Grows}
 use Rattle.sm_names.proofs.ListLaws.{In, In-map, filter-In}
 use Rattle.sm_names.proofs.ForgetLaws.{any-left}
 use Rattle.buffer_holds.specs.Counts.{total}
-use Rattle.alloc_event.specs.declared.node.End.{End}
-use Rattle.alloc_event.specs.declared.node.Node.{Node}
-use Rattle.alloc_event.specs.Forest.{node_at}
-use Rattle.alloc_event.specs.Nodes.{is_over, is_spent, member_of, members_of}
+use Rattle.forest_store.specs.declared.node.End.{End}
+use Rattle.forest_store.specs.declared.node.Node.{Node}
+use Rattle.forest_store.specs.Forest.{node_at}
+use Rattle.forest_store.specs.Nodes.{is_over, is_spent, member_of, members_of}
 use Rattle.lifetime_core.specs.Reads.{holder_of, is_moving, buffers_in, to_open_in, open_end_of, end_in}
 use Rattle.lifetime_core.specs.Shown.{IsAfter, end_after, node_after, nodes_after, collection_after}
 use Rattle.lifetime_core.specs.State.{HandleCounts, State}

@@ -21,10 +21,10 @@ use Rattle.sm_names.proofs.KeptLaws.{kept-after}
 use Rattle.sm_names.proofs.SamenessLaws.{either_way, and_left, and_both, or_none_right, or_left, both_ways, false_if}
 use Rattle.sm_names.specs.Trackers.{World}
 use Rattle.event_laws.specs.Waiting.{IsRecalled}
-use Rattle.alloc_event.specs.declared.node.Node.{Node}
-use Rattle.alloc_event.specs.Forest.{Collection, Forest, collection_at, node_at}
-use Rattle.alloc_event.specs.Nodes.{members_of}
-use Rattle.alloc_event.specs.Settling.{Handles}
+use Rattle.forest_store.specs.declared.node.Node.{Node}
+use Rattle.forest_store.specs.Forest.{Collection, Forest, collection_at, node_at}
+use Rattle.forest_store.specs.Nodes.{members_of}
+use Rattle.forest_store.specs.Settling.{Handles}
 use Rattle.lifetime_core.specs.Reads.{world_in}
 use Rattle.lifetime_core.proofs.ends.Forgotten.{open_kept}
 use Rattle.lifetime_core.proofs.theorem.Follows.{Counts}

@@ -11,10 +11,10 @@ use Rattle.sm_names.specs.Sameness.{same_key}
 use Rattle.sm_names.proofs.ListLaws.{In, In-filter, In-filter-back, In-find, In-map, In-map-back, is_some-find, In-list_any}
 use Rattle.sm_names.proofs.SamenessLaws.{either_way, both_ways, same_key-true, same_key-refl}
 use Rattle.sm_names.proofs.StandingLaws.{In-any}
-use Rattle.alloc_event.specs.declared.node.Node.{Node}
-use Rattle.alloc_event.specs.Forest.{Collection, Forest, all_nodes, collection_at, node_at}
-use Rattle.alloc_event.specs.Nodes.{is_of}
-use Rattle.alloc_event.specs.Settling.{Handles}
+use Rattle.forest_store.specs.declared.node.Node.{Node}
+use Rattle.forest_store.specs.Forest.{Collection, Forest, all_nodes, collection_at, node_at}
+use Rattle.forest_store.specs.Nodes.{is_of}
+use Rattle.forest_store.specs.Settling.{Handles}
 use Rattle.lifetime_core.proofs.collections.Roots.{collection_of_kept}
 use Rattle.lifetime_core.proofs.theorem.Follows.{Counts}
 use Rattle.lifetime_core.proofs.forced.Forest.{node_in, in_all_nodes}

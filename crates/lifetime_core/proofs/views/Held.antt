@@ -26,7 +26,7 @@ use Rattle.sm_names.proofs.SumLaws.{one, In-le-sum_by}
 use Rattle.sm_names.proofs.StandingLaws.{In-any}
 use Rattle.buffer_pool.specs.Holdings.{Holdings, IsSound, in_order}
 use Rattle.buffer_pool.specs.Holes.{end_of}
-use Rattle.alloc_event.specs.Forest.{Collection, Forest, IsPoolOf, all_held, held_by_page as held_in}
+use Rattle.forest_store.specs.Forest.{Collection, Forest, IsPoolOf, all_held, held_by_page as held_in}
 use Rattle.lifetime_core.specs.Shown.{IsAfter, collection_after, held_after, kept_ids}
 use Rattle.lifetime_core.specs.State.{State}
 use Rattle.lifetime_core.proofs.lists.Parts.{mixed_parts}

@@ -11,7 +11,7 @@ use Rattle.sm_names.specs.Timelines.{held}
 use Rattle.sm_names.proofs.SamenessLaws.{and_left, and_right}
 use Rattle.buffer_pool.specs.Holdings.{Holdings, IsSound, in_order}
 use Rattle.buffer_pool.specs.Holes.{end_of}
-use Rattle.alloc_event.specs.Forest.{Forest, IsPoolOf, all_held, held_by_page}
+use Rattle.forest_store.specs.Forest.{Forest, IsPoolOf, all_held, held_by_page}
 use Rattle.alloc_event.proofs.shelves.Ordered.{sorted_by-map}
 
 -- the first ends before the second begins

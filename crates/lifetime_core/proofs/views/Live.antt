@@ -21,8 +21,8 @@ use Rattle.sm_names.proofs.LifeLaws.{ordered, In_new}
 use Rattle.sm_names.proofs.ListLaws.{In, In-reverse, filter-In, is_some-find, map-map}
 use Rattle.sm_names.proofs.SamenessLaws.{both_ways, none_or_some}
 use Rattle.sm_names.proofs.SettledLaws.{In-was_born}
-use Rattle.alloc_event.specs.declared.node.Node.{Node}
-use Rattle.alloc_event.specs.Forest.{node_at, live_keys}
+use Rattle.forest_store.specs.declared.node.Node.{Node}
+use Rattle.forest_store.specs.Forest.{node_at, live_keys}
 use Rattle.alloc_event.proofs.shelves.Ordered.{sorted_by-map}
 use Rattle.lifetime_core.specs.Reads.{is_live_in, fault_in}
 use Rattle.lifetime_core.specs.Shown.{IsAfter, node_after}

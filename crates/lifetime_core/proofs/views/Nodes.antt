@@ -19,10 +19,10 @@ use Rattle.sm_names.proofs.ListLaws.{In, In-filter, In-filter-back, filter-swap}
 use Rattle.sm_names.proofs.SamenessLaws.{either_way, both_ways, same_key-true, same_key-refl}
 use Rattle.sm_names.proofs.SettledLaws.{find_birth}
 use Rattle.sm_names.proofs.SumLaws.{any_one}
-use Rattle.alloc_event.specs.declared.node.End.{End}
-use Rattle.alloc_event.specs.declared.node.Node.{Node}
-use Rattle.alloc_event.specs.Forest.{Collection, collection_at, node_at, all_nodes}
-use Rattle.alloc_event.specs.Nodes.{is_of, is_over, is_spent}
+use Rattle.forest_store.specs.declared.node.End.{End}
+use Rattle.forest_store.specs.declared.node.Node.{Node}
+use Rattle.forest_store.specs.Forest.{Collection, collection_at, node_at, all_nodes}
+use Rattle.forest_store.specs.Nodes.{is_of, is_over, is_spent}
 use Rattle.lifetime_core.specs.Shown.{IsAfter, end_after, node_after, collection_after, kept_ids}
 use Rattle.lifetime_core.specs.State.{State}
 use Rattle.lifetime_core.proofs.lists.Parts.{mixed_turned}

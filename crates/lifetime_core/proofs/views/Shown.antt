@@ -19,7 +19,7 @@ use Rattle.sm_names.specs.Views.{live_nodes, held_by_page, free_pages}
 use Rattle.sm_names.proofs.GrowthLaws.{Grows, legal_grows}
 use Rattle.buffer_holds.specs.Counts.{of, moving, total}
 use Rattle.sm_names.specs.Births.{birth_of}
-use Rattle.alloc_event.specs.Forest.{Collection, all_nodes, beside, collection_at, node_at, live_keys, held_by_page as held_in, pages_in}
+use Rattle.forest_store.specs.Forest.{Collection, all_nodes, beside, collection_at, node_at, live_keys, held_by_page as held_in, pages_in}
 use Rattle.lifetime_core.specs.Reads.{buffers_in, is_live_in, fault_in, views_of}
 use Rattle.lifetime_core.specs.Shown.{Shows, client_after, collection_after, kept_ids, kept_nodes, node_after, pages_beside_after}
 use Rattle.lifetime_core.specs.State.{Client, HandleCounts, State}

@@ -1,11 +1,11 @@
 -- The effect is made, and what is forced by it, and then the collection is closed.
 use Rattle.alloc_event.proofs.Common.{◌≡◌, List, refl, sym, ◌∙◌, ap, arith, total, Change, Entry, nodes_with, shelves_of}
-use Rattle.alloc_event.specs.Nodes.{after_effect}
-use Rattle.alloc_event.specs.MidEvent.{PropagatedFrom}
-use Rattle.alloc_event.proofs.changes.Altering.{tracker_room}
-use Rattle.alloc_event.proofs.shelves.Entries.{place_is}
-use Rattle.alloc_event.proofs.mid_event.Places.{begins_at, may_finish, outcome_there, pool_there}
-use Rattle.alloc_event.proofs.mid_event.Stepping.{few_there, node_there, own_id}
+use Rattle.forest_store.specs.Nodes.{after_effect}
+use Rattle.forest_steps.specs.MidEvent.{PropagatedFrom}
+use Rattle.forest_store.proofs.changes.Altering.{tracker_room}
+use Rattle.forest_store.proofs.shelves.Entries.{place_is}
+use Rattle.forest_steps.proofs.mid_event.Places.{begins_at, may_finish, outcome_there, pool_there}
+use Rattle.forest_steps.proofs.mid_event.Stepping.{few_there, node_there, own_id}
 use Rattle.alloc_event.proofs.forced_steps.settle_applied.Goals.{After-apply_effect}
 use Rattle.alloc_event.proofs.forced_steps.settle_applied.Goals as goal
 

@@ -2,9 +2,9 @@
 use Rattle.alloc_event.proofs.Common.{◌≡◌, true, [], ap, subst, ◌∙◌, List, get_or, arith, Table, Entry, Node, waiting, nodes_with}
 use Rattle.std.proofs.Common.{Ok}
 use Rattle.node_table.specs.Table.{table_len}
-use Rattle.alloc_event.specs.Nodes.{after_effect}
-use Rattle.alloc_event.specs.Outcomes.{was_made}
-use Rattle.alloc_event.specs.MidEvent.{are_held_except}
+use Rattle.forest_store.specs.Nodes.{after_effect}
+use Rattle.forest_store.specs.Outcomes.{was_made}
+use Rattle.forest_steps.specs.MidEvent.{are_held_except}
 use Rattle.alloc_event.proofs.Outcomes.{later_at, still_ready}
 use Rattle.alloc_event.proofs.forced_steps.settle_effect.Goals as goal
 

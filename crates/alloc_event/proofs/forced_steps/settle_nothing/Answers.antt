@@ -1,8 +1,8 @@
 -- The collection is closed.
 use Rattle.alloc_event.proofs.Common.{List, refl, total, Change, Entry}
-use Rattle.alloc_event.proofs.shelves.Entries.{place_is}
-use Rattle.alloc_event.proofs.mid_event.Places.{ready_at}
-use Rattle.alloc_event.proofs.mid_event.Stepping.{closes_now, entry_there, outcome_closed}
+use Rattle.forest_store.proofs.shelves.Entries.{place_is}
+use Rattle.forest_steps.proofs.mid_event.Places.{ready_at}
+use Rattle.forest_steps.proofs.mid_event.Stepping.{closes_now, entry_there, outcome_closed}
 use Rattle.alloc_event.proofs.forced_steps.settle_nothing.Goals as goal
 
 pub finish_event-requires-clause-may : goal.finish_event-requires-clause-may

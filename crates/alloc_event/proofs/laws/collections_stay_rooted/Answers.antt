@@ -1,5 +1,5 @@
-use Rattle.alloc_event.proofs.tables.KeptRoots.{rooted_changed, rooted_settled}
-use Rattle.alloc_event.proofs.tables.Rooted.{distinct_one}
+use Rattle.forest_store.proofs.tables.KeptRoots.{rooted_changed, rooted_settled}
+use Rattle.forest_store.proofs.tables.Rooted.{distinct_one}
 use Rattle.alloc_event.proofs.laws.collections_stay_rooted.Goals as goal
 
 pub returns-clause-changed : goal.returns-clause-changed

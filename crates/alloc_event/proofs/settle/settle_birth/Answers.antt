@@ -1,10 +1,10 @@
 -- The node is inserted, and then what is left to be done is done at the place of its collection.
 use Rattle.alloc_event.proofs.Common.{◌≡◌, ◌∙◌, List, ◌∷◌, [], map, Some, None, refl, sym, arith, AllByRecursion, total, Table, Node, Entry, Unit, AreUnits, Collection, collection_in, place_in, shelves_of}
 use Rattle.std.proofs.Common.{Result, Ok, Err, OnErr}
-use Rattle.alloc_event.specs.Calm.{IsForest}
-use Rattle.alloc_event.specs.Counts.{Extends, HasUnit}
-use Rattle.alloc_event.specs.Insertion.{IsUnborn}
-use Rattle.alloc_event.proofs.newborns.Newborn.{above_is}
+use Rattle.forest_store.specs.Calm.{IsForest}
+use Rattle.forest_store.specs.Counts.{Extends, HasUnit}
+use Rattle.forest_store.specs.Insertion.{IsUnborn}
+use Rattle.forest_store.proofs.newborns.Newborn.{above_is}
 use Rattle.alloc_event.proofs.mid_event.Births.{calm_close, child_there, finishes_born, given_born_all, given_closed, gives_born, kept_born, pool_born}
 use Rattle.alloc_event.proofs.settle.settle_birth.Goals as goal
 

@@ -1,7 +1,7 @@
 -- Where nothing was done at once, the steps begin as it did.
 use Rattle.alloc_event.proofs.Common.{◌≡◌, ◌∙◌, Some, refl, sym, place_in}
 use Rattle.alloc_event.proofs.Outcomes.{made_in_pool, later_in, still_ready}
-use Rattle.alloc_event.proofs.mid_event.Stepping.{is_there}
+use Rattle.forest_steps.proofs.mid_event.Stepping.{is_there}
 use Rattle.alloc_event.proofs.settle.settle_change.Goals as goal
 
 pub unreachable-requires : goal.unreachable-requires

@@ -1,6 +1,6 @@
 use Rattle.std.proofs.Common.{◌≡◌, map, take}
 use Rattle.std.specs.List.{filter}
-use Rattle.alloc_event.specs.declared.node.Node.{Node}
+use Rattle.forest_store.specs.declared.node.Node.{Node}
 use Rattle.event_facts.specs.Facts.{is_keeper}
 use Rattle.event_facts.proofs.keepers.strong_live.Given as goal
 

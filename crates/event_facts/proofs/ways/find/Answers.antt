@@ -1,7 +1,7 @@
 use Rattle.std.proofs.Common.{◌∙◌, rules, tests}
 use Rattle.std.proofs.lemmas.Iterator.{YieldsList-from_slice}
 use Rattle.std.proofs.lemmas.Iterator.Search.{find_from_yields_List}
-use Rattle.alloc_event.specs.Nodes.{is_of}
+use Rattle.forest_store.specs.Nodes.{is_of}
 use Rattle.event_facts.proofs.ways.find.Goals as goal
 
 -- the call finds the first that has the key

@@ -1,7 +1,7 @@
 use Rattle.std.proofs.Common.{◌≡◌, ◌++◌, length, reverse}
 use Rattle.std.specs.List.{list_any}
-use Rattle.alloc_event.specs.Nodes.{above_among}
-use Rattle.alloc_event.specs.Questions.{blocks_here}
+use Rattle.forest_store.specs.Nodes.{above_among}
+use Rattle.forest_store.specs.Questions.{blocks_here}
 use Rattle.event_marks.specs.Explanations.{climb}
 use Rattle.event_facts.proofs.ways.way_up.Given as goal
 

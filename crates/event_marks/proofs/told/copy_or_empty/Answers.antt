@@ -1,8 +1,8 @@
 use Rattle.std.proofs.Common.{◌≡◌, ◌∙◌, ap, sym, subst, option_map, [], Option, None}
 use Rattle.std.specs.Option.{IfSome, unwrap_or}
-use Rattle.alloc_event.specs.Forest.{Collection}
-use Rattle.alloc_event.specs.Scenes.{IsSound}
-use Rattle.alloc_event.specs.Snapshots.{collection_of}
+use Rattle.forest_store.specs.Forest.{Collection}
+use Rattle.forest_store.specs.Scenes.{IsSound}
+use Rattle.forest_store.specs.Snapshots.{collection_of}
 use Rattle.event_marks.proofs.told.copy_or_empty.Goals as goal
 
 pub returns-in_default-clause-value : goal.returns-in_default-clause-value

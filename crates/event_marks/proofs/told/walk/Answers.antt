@@ -2,10 +2,10 @@ use Rattle.std.proofs.Common.{◌≡◌, ◌∙◌, ap, sym, subst, map}
 use Rattle.std.proofs.lemmas.Result.{IfOk-weaker}
 use Rattle.sm_names.specs.declared.keys.NodeKey.{NodeKey}
 use Rattle.buffer_holds.specs.Counts.{total}
-use Rattle.alloc_event.specs.Forest.{Collection}
-use Rattle.alloc_event.specs.Scenes.{IsSound}
-use Rattle.alloc_event.specs.Settling.{changed}
-use Rattle.alloc_event.specs.Snapshots.{collection_of}
+use Rattle.forest_store.specs.Forest.{Collection}
+use Rattle.forest_store.specs.Scenes.{IsSound}
+use Rattle.forest_store.specs.Settling.{changed}
+use Rattle.forest_store.specs.Snapshots.{collection_of}
 use Rattle.event_marks.specs.Moments.{stage_of}
 use Rattle.event_marks.proofs.Copied.{stages_walked}
 use Rattle.event_marks.proofs.told.walk.Goals as goal

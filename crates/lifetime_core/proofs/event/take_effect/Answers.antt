@@ -1,6 +1,6 @@
 use Rattle.std.proofs.Common.{ap, ◌≡◌, refl, sym, subst}
 use Rattle.sm_names.specs.Marks.{Called}
-use Rattle.alloc_event.specs.Settling.{Handles}
+use Rattle.forest_store.specs.Settling.{Handles}
 use Rattle.lifetime_core.specs.State.{HandleCounts, counts_of}
 use Rattle.lifetime_core.specs.Tasks.{Reworked, work_in}
 use Rattle.lifetime_core.proofs.forced.StillOut.{others_stay}

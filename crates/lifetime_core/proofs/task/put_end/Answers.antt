@@ -1,6 +1,6 @@
 use Rattle.std.proofs.Common.{◌≡◌, refl, ap, subst, Option, Some, None, is_some}
 use Rattle.std.specs.Option.{option_or}
-use Rattle.alloc_event.specs.Forest.{Forest, SameKeys, without_over_in}
+use Rattle.forest_store.specs.Forest.{Forest, SameKeys, without_over_in}
 use Rattle.lifetime_core.specs.declared.task.Place.{Place}
 use Rattle.lifetime_core.specs.declared.task.Task.{Task}
 use Rattle.lifetime_core.specs.Steps.{with_place}

@@ -1,8 +1,8 @@
 -- The entry with the id is the collection.
 use Rattle.alloc_event.proofs.Common.{◌≡◌, Some, length, sym, ◌∙◌, ap, option_map, arith, shelf_of, shelves_of}
-use Rattle.alloc_event.specs.Forest.{summary_of}
-use Rattle.alloc_event.proofs.changes.Altering.{found_whole}
-use Rattle.alloc_event.proofs.shelves.Showing.{collection_some, collection_none, few_given, shelf_found}
+use Rattle.forest_store.specs.Forest.{summary_of}
+use Rattle.forest_store.proofs.changes.Altering.{found_whole}
+use Rattle.forest_store.proofs.shelves.Showing.{collection_some, collection_none, few_given, shelf_found}
 use Rattle.alloc_event.proofs.forest.Forest.collection.Goals as goal
 
 pub returns-in-Some-clause-value : goal.returns-in-Some-clause-value

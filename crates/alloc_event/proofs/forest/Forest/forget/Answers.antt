@@ -1,17 +1,17 @@
 -- The node leaves the table, and its key the entry of its collection.
 use Rattle.alloc_event.proofs.Common.{◌≡◌, not, map, true, false, Some, None, is_some, get_or, refl, sym, ◌∙◌, ap, subst, arith, option_map_or, and_left, same_key-refl, node_at, Entry, Node, AreUnits, collection_in, nodes_with, place_in, shelf_of, shelves_of, is_of, is_over}
 use Rattle.std.proofs.lemmas.List.{get_or_default}
-use Rattle.alloc_event.specs.Forest.{Forest, node_at as forest_node}
-use Rattle.alloc_event.specs.Calm.{IsCounted}
-use Rattle.alloc_event.specs.Given.{AreServedByGiven}
-use Rattle.alloc_event.proofs.shelves.Counted.{counted_set, dropped_all, drops_one, recounted}
-use Rattle.alloc_event.proofs.shelves.Entries.{place_is}
+use Rattle.forest_store.specs.Forest.{Forest, node_at as forest_node}
+use Rattle.forest_store.specs.Calm.{IsCounted}
+use Rattle.forest_store.specs.Given.{AreServedByGiven}
+use Rattle.forest_store.proofs.shelves.Counted.{counted_set, dropped_all, drops_one, recounted}
+use Rattle.forest_store.proofs.shelves.Entries.{place_is}
 use Rattle.alloc_event.proofs.leaving.Leaving.{goes, kept-without, collections-without, set_without, shelf_without, never_none}
-use Rattle.alloc_event.proofs.lists.Lookups.{looked-kept}
-use Rattle.alloc_event.proofs.shelves.Showing.{node_is}
-use Rattle.alloc_event.proofs.tallies.Slots.{units_without}
-use Rattle.alloc_event.proofs.tables.TakingOut.{SameKeys-shown, taken}
-use Rattle.alloc_event.proofs.mid_event.GivenKept.{given_filtered}
+use Rattle.forest_store.proofs.lists.Lookups.{looked-kept}
+use Rattle.forest_store.proofs.shelves.Showing.{node_is}
+use Rattle.forest_store.proofs.tallies.Slots.{units_without}
+use Rattle.forest_store.proofs.tables.TakingOut.{SameKeys-shown, taken}
+use Rattle.forest_steps.proofs.mid_event.GivenKept.{given_filtered}
 use Rattle.alloc_event.proofs.forest.Forest.forget.Goals as goal
 
 pub take_out-node-requires : goal.take_out-node-requires

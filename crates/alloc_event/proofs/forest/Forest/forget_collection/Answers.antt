@@ -1,13 +1,13 @@
 -- The entry has no node, and is removed.
 use Rattle.alloc_event.proofs.Common.{◌≡◌, ◌==◌, not, map, Some, false, sym, ◌∙◌, ap, subst, arith, option_map_or, false≢true, AreUnits, Collection, collection_in, place_in, shelves_of}
-use Rattle.alloc_event.specs.Forest.{Forest, collection_at, is_left}
-use Rattle.alloc_event.specs.Given.{AreServedByGiven}
-use Rattle.alloc_event.proofs.shelves.Counted.{counted_removed}
+use Rattle.forest_store.specs.Forest.{Forest, collection_at, is_left}
+use Rattle.forest_store.specs.Given.{AreServedByGiven}
+use Rattle.forest_store.proofs.shelves.Counted.{counted_removed}
 use Rattle.alloc_event.proofs.leaving.Emptying.{remove_shelf, collections_beside, kept-beside, left_none}
-use Rattle.alloc_event.proofs.shelves.Entries.{place_is, none_in}
-use Rattle.alloc_event.proofs.shelves.Showing.{collection_none}
-use Rattle.alloc_event.proofs.tallies.Slots.{units_some}
-use Rattle.alloc_event.proofs.mid_event.GivenKept.{given_some}
+use Rattle.forest_store.proofs.shelves.Entries.{place_is, none_in}
+use Rattle.forest_store.proofs.shelves.Showing.{collection_none}
+use Rattle.forest_store.proofs.tallies.Slots.{units_some}
+use Rattle.forest_steps.proofs.mid_event.GivenKept.{given_some}
 use Rattle.alloc_event.proofs.forest.Forest.forget_collection.Goals as goal
 
 pub remove-requires : goal.remove-requires

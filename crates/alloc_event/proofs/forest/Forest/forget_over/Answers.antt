@@ -1,10 +1,10 @@
 -- The forest is what the table and the entries are then.
 use Rattle.alloc_event.proofs.Common.{map, subst, sym, AreUnits, collection_in, shelves_of}
-use Rattle.alloc_event.specs.Given.{AreServedByGiven}
-use Rattle.alloc_event.proofs.changes.Finishing.{whole-map}
-use Rattle.alloc_event.proofs.tallies.Slots.{units_over}
-use Rattle.alloc_event.proofs.tables.TakingOut.{SameKeys-shown}
-use Rattle.alloc_event.proofs.mid_event.GivenKept.{given_over}
+use Rattle.forest_store.specs.Given.{AreServedByGiven}
+use Rattle.forest_store.proofs.changes.Finishing.{whole-map}
+use Rattle.forest_store.proofs.tallies.Slots.{units_over}
+use Rattle.forest_store.proofs.tables.TakingOut.{SameKeys-shown}
+use Rattle.forest_steps.proofs.mid_event.GivenKept.{given_over}
 use Rattle.alloc_event.proofs.forest.Forest.forget_over.Goals as goal
 
 pub invariant_of-self : goal.invariant_of-self

@@ -1,6 +1,6 @@
 -- The entries have the ids of the collections.
 use Rattle.alloc_event.proofs.Common.{sym, ◌∙◌}
-use Rattle.alloc_event.proofs.shelves.Showing.{ids_of_all}
+use Rattle.forest_store.proofs.shelves.Showing.{ids_of_all}
 use Rattle.alloc_event.proofs.forest.Forest.ids.Goals as goal
 
 pub returns-in-Ok : goal.returns-in-Ok

@@ -1,6 +1,6 @@
 -- The table has as many nodes as there are keys.
 use Rattle.alloc_event.proofs.Common.{sym, ◌∙◌, shelves_of}
-use Rattle.alloc_event.proofs.shelves.Showing.{all_filed-length}
+use Rattle.forest_store.proofs.shelves.Showing.{all_filed-length}
 use Rattle.alloc_event.proofs.forest.Forest.len.Goals as goal
 
 pub returns : goal.returns

@@ -1,6 +1,6 @@
 -- The table has each node of the forest.
 use Rattle.alloc_event.proofs.Common.{sym, ◌∙◌, shelves_of}
-use Rattle.alloc_event.proofs.shelves.Showing.{node_is}
+use Rattle.forest_store.proofs.shelves.Showing.{node_is}
 use Rattle.alloc_event.proofs.forest.Forest.node.Goals as goal
 
 pub returns : goal.returns

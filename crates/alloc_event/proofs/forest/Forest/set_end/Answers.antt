@@ -2,15 +2,15 @@
 use Rattle.alloc_event.proofs.Common.{refl, sym, ◌∙◌, ◌≡◌, ℕ, Bool, true, false, List, Option, Some, is_some, map, ap, subst, false≢true, NodeKey, option_map_or, Table, node_at, Node, AreUnits, with_nodes, IsStored, Shelf, are_filed, collection_in, forest_of, shelves_of, is_over}
 use Rattle.node_table.specs.Changes.{Writes}
 use Rattle.node_table.specs.Lending.{table_with_node}
-use Rattle.alloc_event.specs.Forest.{Forest, node_at as forest_node, on_collections}
-use Rattle.alloc_event.specs.Given.{AreServedByGiven}
-use Rattle.alloc_event.specs.Nodes.{with_end}
-use Rattle.alloc_event.proofs.shelves.Counted.{ends_tidy, mapped_all}
+use Rattle.forest_store.specs.Forest.{Forest, node_at as forest_node, on_collections}
+use Rattle.forest_store.specs.Given.{AreServedByGiven}
+use Rattle.forest_store.specs.Nodes.{with_end}
+use Rattle.forest_store.proofs.shelves.Counted.{ends_tidy, mapped_all}
 use Rattle.alloc_event.proofs.leaving.Ends.{ends-kept, ends-look, ends-shown}
-use Rattle.alloc_event.proofs.shelves.Showing.{node_is}
-use Rattle.alloc_event.proofs.tallies.Slots.{units_with}
+use Rattle.forest_store.proofs.shelves.Showing.{node_is}
+use Rattle.forest_store.proofs.tallies.Slots.{units_with}
 use Rattle.sm_names.proofs.SamenessLaws.{some_is}
-use Rattle.alloc_event.proofs.mid_event.GivenKept.{given_mapped}
+use Rattle.forest_steps.proofs.mid_event.GivenKept.{given_mapped}
 use Rattle.alloc_event.proofs.forest.Forest.set_end.Goals as goal
 
 -- a node that the forest has is in the table

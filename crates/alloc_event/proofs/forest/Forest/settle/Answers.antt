@@ -1,10 +1,10 @@
 -- What was finished is told of the forest.
 use Rattle.alloc_event.proofs.Common.{Some, None, refl, sym, subst, total, Change, forest_of, shelves_of}
 use Rattle.std.proofs.Common.{is_ok}
-use Rattle.alloc_event.specs.Forest.{Forest}
-use Rattle.alloc_event.specs.Settling.{Settled}
+use Rattle.forest_store.specs.Forest.{Forest}
+use Rattle.forest_store.specs.Settling.{Settled}
 use Rattle.alloc_event.proofs.changes.Tellings.{settled_birth, settled_change, no_birth}
-use Rattle.alloc_event.proofs.mid_event.GivenKept.{forest_after}
+use Rattle.forest_steps.proofs.mid_event.GivenKept.{forest_after}
 use Rattle.alloc_event.proofs.forest.Forest.settle.Goals as goal
 
 pub returns-in-Birth-clause-ok : goal.returns-in-Birth-clause-ok

@@ -1,11 +1,11 @@
 -- What was finished is told of the forest.
 use Rattle.alloc_event.proofs.Common.{None, refl, subst, total, Change, forest_of, shelves_of}
 use Rattle.std.proofs.Common.{is_ok}
-use Rattle.alloc_event.specs.Forest.{Forest}
-use Rattle.alloc_event.specs.Settling.{Settled}
+use Rattle.forest_store.specs.Forest.{Forest}
+use Rattle.forest_store.specs.Settling.{Settled}
 use Rattle.alloc_event.proofs.Outcomes.{on_ok}
 use Rattle.alloc_event.proofs.changes.Tellings.{settled_change}
-use Rattle.alloc_event.proofs.mid_event.GivenKept.{forest_after}
+use Rattle.forest_steps.proofs.mid_event.GivenKept.{forest_after}
 use Rattle.alloc_event.proofs.forest.Forest.settle_drop.Goals as goal
 
 -- what holds of each forest holds then

@@ -1,8 +1,8 @@
 -- The entry with the id is the collection.
 use Rattle.alloc_event.proofs.Common.{Some, sym, ◌∙◌, ap, option_map, subst, Collection, collection_in, shelf_of, shelves_of}
-use Rattle.alloc_event.specs.Scenes.{IsSound}
-use Rattle.alloc_event.proofs.changes.Altering.{found_whole}
-use Rattle.alloc_event.proofs.shelves.Showing.{collection_is, collection_none, shelf_found}
+use Rattle.forest_store.specs.Scenes.{IsSound}
+use Rattle.forest_store.proofs.changes.Altering.{found_whole}
+use Rattle.forest_store.proofs.shelves.Showing.{collection_is, collection_none, shelf_found}
 use Rattle.alloc_event.proofs.forest.Forest.snapshot.Goals as goal
 
 pub returns-in_default-clause-value : goal.returns-in_default-clause-value

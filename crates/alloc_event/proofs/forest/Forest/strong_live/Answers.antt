@@ -1,9 +1,9 @@
 -- The count of the entry tells it.
 use Rattle.alloc_event.proofs.Common.{false, sym, ◌∙◌, ap, option_map_or, Collection, nodes_with, members_of}
 use Rattle.sm_names.specs.Members.{some_strong_live}
-use Rattle.alloc_event.proofs.shelves.Showing.{collection_none}
-use Rattle.alloc_event.proofs.tallies.Strong.{strong_found}
-use Rattle.alloc_event.proofs.quiescence.Watched.{found_counted, strong_told}
+use Rattle.forest_store.proofs.shelves.Showing.{collection_none}
+use Rattle.forest_steps.proofs.tallies.Strong.{strong_found}
+use Rattle.forest_store.proofs.quiescence.Watched.{found_counted, strong_told}
 use Rattle.alloc_event.proofs.forest.Forest.strong_live.Goals as goal
 
 pub returns-in-Some : goal.returns-in-Some

@@ -3,8 +3,8 @@ use Rattle.std.specs.Option.{option_and_then}
 use Rattle.sm_names.specs.declared.keys.NodeKey.{NodeKey}
 use Rattle.sm_names.specs.declared.messages.Call.{Call}
 use Rattle.sm_names.specs.Timelines.{key_of}
-use Rattle.alloc_event.specs.declared.node.Node.{Node}
-use Rattle.alloc_event.specs.Forest.{node_at}
+use Rattle.forest_store.specs.declared.node.Node.{Node}
+use Rattle.forest_store.specs.Forest.{node_at}
 use Rattle.lifetime_core.specs.Reads.{node_named}
 use Rattle.lifetime_core.specs.State.{State}
 use Rattle.lifetime_core.proofs.answers.Order.{end_of_named}

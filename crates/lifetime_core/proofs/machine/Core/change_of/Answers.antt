@@ -2,10 +2,10 @@
 use Rattle.std.proofs.Common.{ℕ, ◌≡◌, ◌∙◌, ap, sym, subst, refl, true, false, Option, Some, None, IfSome, option_map}
 use Rattle.std.specs.List.{list_any}
 use Rattle.sm_names.specs.declared.keys.NodeKey.{NodeKey}
-use Rattle.alloc_event.specs.declared.change.Change.{Change}
-use Rattle.alloc_event.specs.Forest.{given}
-use Rattle.alloc_event.specs.Nodes.{is_of}
-use Rattle.alloc_event.specs.Settling.{MayChange, collection_or_new}
+use Rattle.forest_store.specs.declared.change.Change.{Change}
+use Rattle.forest_store.specs.Forest.{given}
+use Rattle.forest_store.specs.Nodes.{is_of}
+use Rattle.forest_store.specs.Settling.{MayChange, collection_or_new}
 use Rattle.lifetime_core.specs.Steps.{Work, leaves_tracker_room}
 use Rattle.lifetime_core.specs.Tasks.{work_in}
 use Rattle.lifetime_core.proofs.forced.Fits.{IsFitting, is_fitting, work_answered}

@@ -1,6 +1,6 @@
 use Rattle.std.proofs.Common.{ap, ◌∙◌}
 use Rattle.std.proofs.lemmas.Result.{IfOk-weaker}
-use Rattle.alloc_event.specs.Forest.{collection_at}
+use Rattle.forest_store.specs.Forest.{collection_at}
 use Rattle.lifetime_core.specs.State.{State}
 use Rattle.lifetime_core.proofs.views.Shown.{collection_shown}
 use Rattle.lifetime_core.proofs.machine.Core.collection.Goals as goal

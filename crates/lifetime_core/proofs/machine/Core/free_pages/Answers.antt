@@ -2,7 +2,7 @@ use Rattle.std.proofs.Common.{◌≡◌, ap, ◌∙◌, map, arith}
 use Rattle.std.specs.List.{sum_by}
 use Rattle.sm_names.specs.declared.keys.Interval.{Interval}
 use Rattle.sm_names.specs.declared.keys.HeldBuffer.{HeldBuffer}
-use Rattle.alloc_event.specs.Forest.{all_held}
+use Rattle.forest_store.specs.Forest.{all_held}
 use Rattle.lifetime_core.specs.Reads.{views_of}
 use Rattle.lifetime_core.proofs.views.Shown.{free_shown}
 use Rattle.lifetime_core.proofs.collections.Pages.{sum-sorted, sum-map}

@@ -1,6 +1,6 @@
 use Rattle.std.proofs.Common.{AllPairs, ap, sym, ◌∙◌, subst}
 use Rattle.std.proofs.lemmas.Result.{IfOk-weaker}
-use Rattle.alloc_event.specs.Forest.{held_by_page}
+use Rattle.forest_store.specs.Forest.{held_by_page}
 use Rattle.lifetime_core.specs.State.{State}
 use Rattle.lifetime_core.proofs.views.Shown.{held_shown}
 use Rattle.lifetime_core.proofs.views.HeldApart.{EndsBefore, held_in_order}

@@ -1,6 +1,6 @@
 use Rattle.std.proofs.Common.{ap, map, ◌∙◌}
 use Rattle.std.proofs.lemmas.Result.{IfOk-weaker}
-use Rattle.alloc_event.specs.Forest.{Collection}
+use Rattle.forest_store.specs.Forest.{Collection}
 use Rattle.lifetime_core.specs.State.{State}
 use Rattle.lifetime_core.proofs.views.Shown.{kept_ids_shown}
 use Rattle.lifetime_core.proofs.machine.Core.kept_collections.Goals as goal

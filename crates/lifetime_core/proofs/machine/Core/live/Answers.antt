@@ -1,6 +1,6 @@
 use Rattle.std.proofs.Common.{ap, ◌∙◌}
 use Rattle.std.proofs.lemmas.Result.{IfOk-weaker}
-use Rattle.alloc_event.specs.Forest.{live_keys}
+use Rattle.forest_store.specs.Forest.{live_keys}
 use Rattle.lifetime_core.specs.State.{State}
 use Rattle.lifetime_core.proofs.views.Shown.{live_keys_shown}
 use Rattle.lifetime_core.proofs.machine.Core.live.Goals as goal

@@ -1,5 +1,5 @@
 use Rattle.std.proofs.Common.{ap, ◌∙◌}
-use Rattle.alloc_event.specs.Forest.{node_at}
+use Rattle.forest_store.specs.Forest.{node_at}
 use Rattle.lifetime_core.specs.State.{State}
 use Rattle.lifetime_core.proofs.views.Shown.{node_shown}
 use Rattle.lifetime_core.proofs.machine.Core.node.Goals as goal

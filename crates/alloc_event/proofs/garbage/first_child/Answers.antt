@@ -1,6 +1,0 @@
--- The first of the children is one of them.
-use Rattle.alloc_event.proofs.tables.TakingOut.{first_child_is}
-use Rattle.alloc_event.proofs.garbage.first_child.Goals as goal
-
-pub returns : goal.returns
-returns c = first_child_is c.args.table.now c.args.key c.first_child.ensures.forest c.first_child.result c.first_child.ensures.value

@@ -1,9 +1,0 @@
--- The cells lie one further.
-use Rattle.alloc_event.proofs.Common.{◌+◌, ◌∙◌, ap, drop}
-use Rattle.alloc_event.proofs.leaving.KeyMoves.{moved_over}
-use Rattle.alloc_event.proofs.key_list.move_up.Goals as goal
-
-pub returns-clause-items : goal.returns-clause-items
-returns-clause-items c =
-    ap (drop (c.args.from + 1)) c.copy_within.ensures.items
-    ∙ moved_over c.args.cells.now.items c.args.from c.args.to c.requires.order c.requires.within

@@ -1,8 +1,0 @@
-use Rattle.alloc_event.proofs.Common.{◌≡◌, take}
-use Rattle.std.specs.List.{flat_map}
-use Rattle.alloc_event.specs.declared.entry.Entry.{Entry as NodeValue}
-use Rattle.alloc_event.proofs.lookup.held_by_page.Given as goal
-
--- so far the buffers of these entries
-abbrev pub invariant-loop-entry : goal.invariant-loop-entry
-invariant-loop-entry l = l.held.items ≡ flat_map (λ (e : NodeValue). e.held.items) (take l.entry-index l.entries)

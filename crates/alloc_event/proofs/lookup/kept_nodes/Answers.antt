@@ -1,9 +1,0 @@
--- The nodes of one entry more come last.
-use Rattle.alloc_event.proofs.Common.{arith}
-use Rattle.std.proofs.lemmas.Grind.{common_steps, flat_map-append}
-use Rattle.std.proofs.lemmas.List.{map-append}
-use Rattle.std.proofs.lemmas.List.Elements.{filter_map-append}
-use Rattle.alloc_event.proofs.lookup.kept_nodes.Goals as goal
-
-pub loop-entry-preserved : goal.loop-entry-preserved
-loop-entry-preserved c = grind (arith, common_steps, map-append, flat_map-append, filter_map-append)

@@ -1,6 +1,0 @@
-use Rattle.alloc_event.proofs.Common.{◌≡◌, false, take, list_any, same_key}
-use Rattle.alloc_event.proofs.pending_units.place_by_pass.Given as goal
-
--- none so far is the key
-abbrev pub invariant-loop-at : goal.invariant-loop-at
-invariant-loop-at l = list_any (same_key l.key) (take l.at l.keys) ≡ false

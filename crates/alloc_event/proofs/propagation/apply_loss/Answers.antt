@@ -1,6 +1,0 @@
--- What the fault takes goes, and what nothing holds then ends: nothing more is due.
-use Rattle.alloc_event.proofs.mid_event.Playing.{played_lost}
-use Rattle.alloc_event.proofs.propagation.apply_loss.Goals as goal
-
-pub returns-clause-out : goal.returns-clause-out
-returns-clause-out c ss u left = played_lost _ _ _ _ ss _ _ _ (c.fall_by.ensures.felled _ ss _ u left)

@@ -1,7 +1,0 @@
--- What is copied out of a forest.
-use Rattle.alloc_event.specs.declared.snapshot.Snapshot.{Snapshot}
-use Rattle.alloc_event.specs.Forest.{Collection}
-
--- the collection that was copied
-abbrev pub collection_of : Snapshot → Collection
-collection_of s = record { id = s.id; nodes = s.nodes.items; buffers = s.buffers; held = s.held.items }

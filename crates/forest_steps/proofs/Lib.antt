@@ -1,0 +1,11 @@
+pub mod Common
+pub mod allocation
+pub mod changes
+pub mod failures
+pub mod intervals
+pub mod lists
+pub mod mid_event
+pub mod quiescence
+pub mod tables
+pub mod tallies
+pub mod turns

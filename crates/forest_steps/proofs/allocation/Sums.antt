@@ -1,0 +1,102 @@
+-- What units ask for that are to be allocated, and what is reserved besides.
+use Rattle.forest_steps.proofs.Common.{◌≡◌, ℕ, refl, ap, sym, ◌∙◌, subst, Bool, true, false, not, ◌&&◌, if◌then◌else◌, ◌⊎◌, inl, inr, List, [], ◌∷◌, map, Option, Some, None, nat_lt, cons_option, list_any, option_and_then, NodeKey, Demand, In, In-list_any, both_ways, either_way, false_if, In-any, Table, node_at, Node, nodes_with}
+use Rattle.std.specs.List.{filter_map}
+use Rattle.sm_names.specs.Members.{greatest}
+use Rattle.forest_store.specs.Shelves.{written}
+use Rattle.forest_store.specs.Questions.{demands_of, has_buffers}
+use Rattle.forest_store.specs.UnitAllocation.{asked_with, is_in_some}
+use Rattle.forest_store.proofs.lists.Filters.{above_greatest}
+
+-- ---- what is found by keys, one after another
+
+-- what is made of what the keys find
+pub joined : {A : Type 0} (look : NodeKey → Option Node) (f : Node → Option A) (keys : List NodeKey) →
+    filter_map (λ key. option_and_then f (look key)) keys ≡ filter_map f (filter_map look keys)
+joined look f [] = refl
+joined {A = A} look f (k ∷ ks) = ap (cons_option (option_and_then f (look k))) (joined look f ks) ∙ by (look k)
+  where
+    by : (o : Option Node) → cons_option (option_and_then f o) (filter_map f (filter_map look ks))
+        ≡ filter_map f (cons_option o (filter_map look ks))
+    by None = refl
+    by (Some n) = refl
+
+-- and of that what else is made
+pub mapped : {A : Type 0} (g : Node → Node) (f : Node → Option A) (ns : List Node) →
+    filter_map (λ n. f (g n)) ns ≡ filter_map f (map g ns)
+mapped g f [] = refl
+mapped g f (n ∷ ns) = ap (cons_option (f (g n))) (mapped g f ns)
+
+-- the same of each
+alike : {A : Type 0} (f g : Node → Option A) (ns : List Node) → ((n : Node) → In n ns → f n ≡ g n) → filter_map f ns ≡ filter_map g ns
+alike f g [] same = refl
+alike {A = A} f g (n ∷ ns) same = λ i. cons_option (same n (inl refl) i) (alike f g ns (λ m on. same m (inr on)) i)
+
+-- by induction: each key has its node, written last
+pub asked_is : (t : Table Node) (keys heads : List NodeKey) (after : Node) →
+    asked_with t keys heads after ≡ demands_of (is_in_some heads) (map (written after) (nodes_with t keys))
+asked_is t keys heads after =
+    joined (node_at t) (λ (n : Node). if is_in_some heads (written after n) then (written after n).constraints else None) keys
+    ∙ mapped (written after) (λ (n : Node). if is_in_some heads n then n.constraints else None) (nodes_with t keys)
+
+-- a demand is made by a node that passes
+pub asked_of : (test : Node → Bool) (ns : List Node) (d : Demand) → In d (demands_of test ns) →
+    (n : Node) × In n ns × ((if test n then n.constraints else None) ≡ Some d)
+asked_of test [] d on = absurd on
+asked_of test (n ∷ ns) d on = by (λ there. asked_of test ns d there) (if test n then n.constraints else None) refl on
+  where
+    by : (In d (demands_of test ns) → (m : Node) × In m ns × ((if test m then m.constraints else None) ≡ Some d)) →
+        (o : Option Demand) → (if test n then n.constraints else None) ≡ o → In d (cons_option o (demands_of test ns)) →
+        (m : Node) × In m (n ∷ ns) × ((if test m then m.constraints else None) ≡ Some d)
+    by rest None is there = let r = rest there in (r.0, inr r.1, r.2)
+    by rest (Some e) is (inl same) = (n, inl refl, is ∙ ap Some (sym same))
+    by rest (Some e) is (inr there) = let r = rest there in (r.0, inr r.1, r.2)
+
+-- by induction: the demand is in the list of the node that asks it
+pub asked_back : (test : Node → Bool) (ns : List Node) (n : Node) (d : Demand) → In n ns →
+    (if test n then n.constraints else None) ≡ Some d → In d (demands_of test ns)
+asked_back test [] n d on is = absurd on
+asked_back test (m ∷ ns) n d (inl same) is =
+    subst (λ (o : Option Demand). In d (cons_option o (demands_of test ns)))
+    (sym ((λ i. if test (sym same i) then (sym same i).constraints else None) ∙ is)) (inl refl)
+asked_back test (m ∷ ns) n d (inr on) is = by (if test m then m.constraints else None) (asked_back test ns n d on is)
+  where
+    by : (o : Option Demand) → In d (demands_of test ns) → In d (cons_option o (demands_of test ns))
+    by None there = there
+    by (Some e) there = inr there
+
+-- a node that asks passes
+pub asks_passes : (b : Bool) (o : Option Demand) (d : Demand) → (if b then o else None) ≡ Some d → b ≡ true
+asks_passes true o d h = refl
+asks_passes false o d h = cc
+
+-- where each that is asked for by the first is by the others, no greater number is asked for
+pub greatest_fewer : (f : Demand → ℕ) (b : ℕ) (xs ys : List Demand) → ((d : Demand) → In d xs → In d ys) →
+    nat_lt b (greatest f ys) ≡ false → nat_lt b (greatest f xs) ≡ false
+greatest_fewer f b xs ys fewer h = false_if (nat_lt b (greatest f xs)) (λ e.
+    let x = In-list_any (λ d. nat_lt b (f d)) xs (above_greatest f b xs ∙ e) in
+    both_ways (list_any (λ d. nat_lt b (f d)) ys) (In-any (λ d. nat_lt b (f d)) ys x.0 (fewer x.0 x.1) x.2) (above_greatest f b ys ∙ h))
+
+-- ---- what is reserved
+
+-- a node that is not served, and changes alone, changes nothing of what is reserved
+pub reserved_same : (f : Node → Node) (nodes : List Node) → ((n : Node) → In n nodes → (f n).gone ≡ n.gone) →
+    ((n : Node) → In n nodes → (f n).allocated ≡ n.allocated) →
+    ((n : Node) → In n nodes → n.allocated ≡ true → (f n).constraints ≡ n.constraints) →
+    demands_of has_buffers (map f nodes) ≡ demands_of has_buffers nodes
+reserved_same f nodes gone given asks =
+    sym (mapped f (λ (n : Node). if has_buffers n then n.constraints else None) nodes)
+    ∙ alike (λ (n : Node). if has_buffers (f n) then (f n).constraints else None) (λ (n : Node). if has_buffers n then n.constraints else None)
+    nodes (λ n on.
+    (λ i. if not (gone n on i) && given n on i then (f n).constraints else None)
+    ∙ by n (either_way n.allocated) (asks n on))
+  where
+    none : (b : Bool) (x y : Option Demand) → (if b && false then x else None) ≡ (if b && false then y else None)
+    none true x y = refl
+    none false x y = refl
+
+    by : (n : Node) → (n.allocated ≡ true) ⊎ (n.allocated ≡ false) → (n.allocated ≡ true → (f n).constraints ≡ n.constraints) →
+        (if not n.gone && n.allocated then (f n).constraints else None) ≡ (if not n.gone && n.allocated then n.constraints else None)
+    by n (inl e) same = λ i. if not n.gone && n.allocated then same e i else None
+    by n (inr e) same =
+        (λ i. if not n.gone && e i then (f n).constraints else None)
+        ∙ (none (not n.gone) (f n).constraints n.constraints ∙ (λ i. if not n.gone && sym e i then n.constraints else None))

@@ -1,0 +1,3 @@
+-- A change to a collection, and how it is put back.
+pub mod Dropped
+pub mod FirstAllocated

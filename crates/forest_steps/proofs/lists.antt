@@ -1,0 +1,4 @@
+-- Lists and tests, whatever they are of.
+pub mod ByKey
+pub mod Ranges
+pub mod Removed

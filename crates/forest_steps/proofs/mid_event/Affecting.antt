@@ -1,0 +1,248 @@
+-- An effect on one node: the store agrees again, and only the node's unit may be held by nothing then, or come to its turn.
+use Rattle.forest_steps.proofs.Common.{◌≡◌, ℕ, ◌+◌, ◌<◌, ◌==◌, is_none, refl, ap, sym, ◌∙◌, subst, true, false, not, ◌&&◌, ◌||◌, inl, inr, List, [], ◌∷◌, map, length, set, Option, Some, None, eq-eqb, find, list_all, list_any, option_map_or, NodeKey, same_key, times, In, In-map-back, and_both, false_if, same_key-refl, same_key-true, In-any, Table, node_at, Effect, Entry, Node, Unit, over_except, strong_count, lives_in, unit_at, waits_in, IsWhole, Shelf, collection_in, is_filed, nodes_with, shelf_of, affected, is_of, reserved_count, is_head}
+use Rattle.std.proofs.Common.{IsSome}
+use Rattle.std.proofs.lemmas.List.{length-set}
+use Rattle.std.specs.Option.{option_map}
+use Rattle.node_table.specs.Changes.{Writes, with_node}
+use Rattle.node_table.specs.Lending.{table_with_node}
+use Rattle.node_table.proofs.Keys.{key_cases}
+use Rattle.node_table.specs.Table.{Row, row_at}
+use Rattle.forest_store.specs.Unforced.{MayAffect}
+use Rattle.forest_store.specs.Questions.{has_buffers}
+use Rattle.forest_store.specs.Reserved.{camped}
+use Rattle.forest_steps.specs.MidEvent.{EffectMade, AfterEffect, MidEvent, are_held_except, is_head_left, is_next_except, waits_among}
+use Rattle.forest_store.specs.Stores.{StoreAgrees}
+use Rattle.forest_store.proofs.quiescence.Calming.{any_map}
+use Rattle.forest_store.proofs.quiescence.Steps.{all-In}
+use Rattle.forest_store.proofs.changes.Altering.{found_whole, same_affected}
+use Rattle.forest_store.proofs.changes.Effecting.{alone, alone_affected, at_key, beside_same, has_one, head, kept_now, look, nodes_now, on, remains_affected, same, stays_one, units_join}
+use Rattle.forest_store.proofs.shelves.Showing.{node_is}
+use Rattle.forest_store.proofs.tables.LeftParents.{in_shelf}
+use Rattle.forest_store.proofs.tables.Rooted.{distinct_one}
+use Rattle.forest_store.proofs.tables.Writing.{IsSameNode, look-changed}
+use Rattle.forest_store.proofs.tallies.Reserved.{reserved_changed}
+use Rattle.forest_steps.proofs.mid_event.Changing.{held_but, next_but, waits_but}
+
+-- ---- what the table has then
+
+module _ (t now : Table Node) (key : NodeKey) (effect : Effect) (n : Node) (was : node_at t key ≡ Some n)
+    (named : (k : NodeKey) (m : Node) → node_at t k ≡ Some m → m.key ≡ k) (writes : Writes t now key (affected key effect n)) where
+  -- the effect changes the node with its key, and no other one
+  look_here : (k : NodeKey) → node_at now k ≡ option_map (affected key effect) (node_at t k)
+  look_here = look-changed t now (affected key effect) key n (affected key effect n) writes was refl named
+      (λ m differ. alone_affected key effect m (false_if (same_key key m.key) (λ h. absurd (differ (sym (same_key-true key m.key h))))))
+
+  -- the effect keeps the key
+  pub named_here : (k : NodeKey) (m : Node) → node_at now k ≡ Some m → m.key ≡ k
+  named_here k m at = by (node_at t k) refl (sym (look_here k) ∙ at)
+    where
+      by : (o : Option Node) → node_at t k ≡ o → option_map (affected key effect) o ≡ Some m → m.key ≡ k
+      by None is h = cc
+      by (Some x) is h =
+          let made : m ≡ affected key effect x = cc in
+          ap (λ (y : Node). y.key) made ∙ ((same_affected key effect x).key ∙ named k x is)
+
+  -- the row of the key is written, and the others stay
+  pub there_here : (k : NodeKey) → IsSome (row_at t k) → IsSome (row_at now k)
+  there_here k some = elim (key_cases key k) [
+    | inl is ↦ subst (λ (j : NodeKey). IsSome (row_at now j)) is
+        (subst (λ (o : Option (Row Node)). IsSome o) (sym writes.written)
+        (map_some (row_at t key) (subst (λ (j : NodeKey). IsSome (row_at t j)) (sym is) some)))
+    | inr differ ↦ subst (λ (o : Option (Row Node)). IsSome o) (sym (writes.others k (λ h. differ (sym h)))) some
+  ]
+    where
+      map_some : (o : Option (Row Node)) → IsSome o → IsSome (option_map (with_node (affected key effect n)) o)
+      map_some None h = h
+      map_some (Some r) h = h
+
+-- ---- the store then
+
+module _ (t : Table Node) (us : List Unit) (ss : List Shelf) (e : Entry) (store : StoreAgrees t us ss e) (key : NodeKey) (effect : Effect)
+    (n : Node) (was : node_at t key ≡ Some n) (here : n.gone ≡ false) (own : n.collection ≡ e.id) where
+  abbrev members : List Node
+  members = nodes_with t e.keys.items
+
+  abbrev s : Shelf
+  s = shelf_of e
+
+  -- each collection is whole
+  whole_e : IsWhole (collection_in t (shelf_of e))
+  whole_e = found_whole t e.id ss (shelf_of e) store.kept.whole store.found
+
+  -- the effect may be made, since the node is of the collection and not gone
+  pub may_here : MayAffect t us ss (shelf_of e) key e.strong
+  may_here = record {
+    kept = store.kept;
+    found = store.found;
+    named = ap (λ (o : Option Node). option_map_or (λ (m : Node). m.collection == e.id && not m.gone) o false)
+        (node_is t ss store.kept key ∙ was)
+        ∙ and_both (n.collection == e.id) (not n.gone) (eq-eqb n.collection e.id own) (ap not here);
+    strong = store.strong;
+    units = store.units;
+  }
+
+  module _ (now : Table Node) (becomes : now ≡ table_with_node t (affected key effect n).key (affected key effect n))
+      (writes : Writes t now (affected key effect n).key (affected key effect n)) where
+    abbrev made : Node → Node
+    made = affected key effect
+
+    -- an effect keeps the node's place
+    stays : (m : Node) → IsSameNode (made m) m
+    stays = same t now us key effect n was becomes writes ss s e.strong may_here
+
+    -- each key is looked up in the new table, where the effect was made
+    looks : (k : NodeKey) → node_at now k ≡ option_map made (node_at t k)
+    looks = look t now us key effect n was becomes writes ss s e.strong may_here
+
+    -- the node is of the collection and not gone
+    there : In n members
+    there = on t now us key effect n was becomes writes ss s e.strong may_here
+
+    -- what is found now was found before
+    found_before : (k : NodeKey) (m : Node) → node_at now k ≡ Some m → (x : Node) × (node_at t k ≡ Some x) × (m ≡ made x)
+    found_before k m at = by (node_at t k) refl (sym (looks k) ∙ at)
+      where
+        by : (o : Option Node) → node_at t k ≡ o → option_map made o ≡ Some m → (x : Node) × (node_at t k ≡ Some x) × (m ≡ made x)
+        by None is h = cc
+        by (Some x) is h = (x, is, cc)
+
+    inside_now : (next : Unit) (k : NodeKey) (m : Node) → node_at now k ≡ Some m → k.slot < length (set us n.head.slot next)
+    inside_now next k m at =
+        let x = found_before k m at in
+        subst (λ (l : ℕ). k.slot < l) (sym (length-set us n.head.slot next)) (store.inside k x.0 x.1)
+
+    -- the head of the node's unit was left, and is still
+    left_now : is_head_left (map made members) n.head ≡ true
+    left_now =
+        let h = head t now us key effect n was becomes writes ss s e.strong may_here in
+        In-any (λ (m : Node). is_of n.head m && (not m.gone && is_head m)) (map made members) (made h.0)
+        (In-map-back made members h.0 h.1)
+        (and_both (is_of n.head (made h.0)) _
+        (ap (λ (k : NodeKey). same_key k n.head) ((stays h.0).key ∙ h.2) ∙ same_key-refl n.head)
+        (and_both (not (made h.0).gone) _ (ap not ((remains_affected key effect h.0).gone ∙ h.3))
+        ((λ i. is_none ((stays h.0).parent i) || (stays h.0).attached i) ∙ h.4)))
+
+    -- what is reserved then
+    pub reserved_here : reserved_count (map made members) + camped n ≡ reserved_count members + camped (made n)
+    reserved_here = reserved_changed made members n whole_e.sound.distinct there
+        (λ m m_on other. alone t now us key effect n was becomes writes ss s e.strong may_here m other)
+
+    -- the keys are looked up one by one
+    pub nodes_here : nodes_with now e.keys.items ≡ map made members
+    nodes_here = nodes_now t now us key effect n was becomes writes ss s e.strong may_here
+
+    -- the slot of each node's key is in the list, and so is the head's
+    pub within_here : n.head.slot < length us
+    within_here =
+        let h = head t now us key effect n was becomes writes ss s e.strong may_here in
+        subst (λ (k : NodeKey). k.slot < length us) h.2
+        (store.inside h.0.key h.0 (at_key t now us key effect n was becomes writes ss s e.strong may_here h.0 h.1))
+
+    module _ (next : Unit) (live_next : next.live ≡ times (lives_in n.head) (map made members))
+        (unready_next : next.unready ≡ times (waits_in n.head) (map made members))
+        (below_next : next.below ≡ (unit_at us n.head.slot).below) (new : Entry) (shelf : shelf_of new ≡ shelf_of e)
+        (garbage : new.garbage.items ≡ e.garbage.items) (garbage_known : new.garbage_known ≡ e.garbage_known) (strong : new.strong ≡ strong_count (map made members))
+        (reserved : new.reserved ≡ reserved_count (map made members)) where
+      -- the shelf is the same
+      keys_same : new.keys.items ≡ e.keys.items
+      keys_same = ap (λ (x : Shelf). x.keys) shelf
+
+      -- the same nodes, by the same keys
+      members_now : nodes_with now new.keys.items ≡ map made members
+      members_now = ap (nodes_with now) keys_same ∙ nodes_here
+
+      -- being over is kept, and so is the key
+      over_same : (m : Node) → over_except new.garbage.items (made m) ≡ over_except e.garbage.items m
+      over_same m = λ i. (remains_affected key effect m).over i && not (list_any (same_key ((stays m).key i)) (garbage i))
+
+      -- the node and the counts of its unit are written, and all else is as it was
+      pub affected_here : EffectMade t now (set us n.head.slot next) ss e new key effect n.head
+      affected_here = record {
+        store = record {
+          kept = kept_now t now us key effect n was becomes writes ss s e.strong may_here;
+          found = subst (λ (x : Shelf). find (λ (y : Shelf). y.id == x.id) ss ≡ Some x) (sym shelf) store.found;
+          units = units_join t now us key effect n was becomes writes ss s e.strong may_here (set us n.head.slot next)
+              (stays_one t now us key effect n was becomes writes ss s e.strong may_here within_here next live_next unready_next below_next)
+              (has_one t now us key effect n was becomes writes ss s e.strong may_here within_here next live_next unready_next below_next);
+          inside = inside_now next;
+          strong = strong ∙ ap strong_count (sym members_now);
+          reserved = reserved ∙ ap reserved_count (sym members_now);
+          garbage_known = λ h. ap (list_any (over_except new.garbage.items)) members_now
+              ∙ (any_map (over_except new.garbage.items) (over_except e.garbage.items) made members over_same ∙ store.garbage_known (sym garbage_known ∙ h));
+        };
+        shelf = shelf;
+        nodes = nodes_here;
+        left = ap (λ (ns : List Node). is_head_left ns n.head) nodes_here ∙ left_now;
+        beside = record {
+          same = record {
+            first = ap (λ (x : Table Node). x.first) becomes;
+            nexts = ap (λ (x : Table Node). x.nexts) becomes;
+            limit = ap (λ (x : Table Node). x.limit) becomes;
+            len = writes.len;
+          };
+          others = λ x listed differ. beside_same t now us key effect n was becomes writes ss s e.strong may_here x differ
+              (all-In (λ (y : Shelf). list_all (is_filed t y.id) y.keys) ss x listed store.kept.filed);
+        };
+      }
+
+-- ---- what may be forced then
+
+module _ (t now : Table Node) (us after : List Unit) (ss : List Shelf) (e new : Entry) (key : NodeKey) (effect : Effect) (n : Node)
+    (was : node_at t key ≡ Some n) (own : n.collection ≡ e.id) (under : MidEvent t us ss e [] [])
+    (made : EffectMade t now after ss e new key effect n.head) where
+  abbrev nodes : List Node
+  nodes = nodes_with t e.keys.items
+
+  abbrev f : Node → Node
+  f = affected key effect
+
+  -- the node has the key that it is stored under
+  own_key : n.key ≡ key
+  own_key = under.store.kept.named key n was
+
+  -- the table has it, and it is of the collection
+  on_nodes : In n nodes
+  on_nodes = in_shelf t ss under.store.kept e.id (shelf_of e) under.store.found n.key n (ap (node_at t) own_key ∙ was) own
+
+  -- no other node changes
+  alone_on : (m : Node) → In m nodes → same_key n.key m.key ≡ false → f m ≡ m
+  alone_on m on other = alone_affected key effect m (subst (λ (k : NodeKey). same_key k m.key ≡ false) own_key other)
+
+  -- no two nodes have one key
+  one_on : (m : Node) → In m nodes → same_key n.key m.key ≡ true → m ≡ n
+  one_on m on h =
+      distinct_one nodes (found_whole t e.id ss (shelf_of e) under.store.kept.whole under.store.found).sound.distinct m n on on_nodes
+      (sym (same_key-true n.key m.key h))
+
+  -- no effect ends a node
+  gone_same : (m : Node) → (f m).gone ≡ m.gone
+  gone_same m = (remains_affected key effect m).gone
+
+  -- no effect allocates a unit
+  alloc_same : (m : Node) → (f m).allocated ≡ m.allocated
+  alloc_same m = (remains_affected key effect m).allocated
+
+  -- the same nodes, by the same keys
+  nodes_are : nodes_with now new.keys.items ≡ map f nodes
+  nodes_are = ap (λ (x : Shelf). nodes_with now x.keys) made.shelf ∙ made.nodes
+
+  -- only the unit of the node may be held by nothing then, or come to its turn: of the others no node changed
+  pub affected_on : AfterEffect t now after ss e new key effect n.head
+  affected_on = record {
+    under = record {
+      store = made.store;
+      bare = λ none. ap (list_any has_buffers) nodes_are
+          ∙ (any_map has_buffers has_buffers f nodes (λ m. λ i. not (gone_same m i) && alloc_same m i)
+          ∙ under.bare (sym (ap (λ (x : Shelf). x.buffers) made.shelf) ∙ none));
+      held = ap (are_held_except (n.head ∷ [])) nodes_are
+          ∙ held_but nodes f (same_affected key effect) gone_same alloc_same n alone_on one_on under.held;
+      next = ap (λ (ns : List Node). list_any (is_next_except (n.head ∷ []) ns) ns) nodes_are
+          ∙ next_but nodes f (same_affected key effect) gone_same alloc_same n alone_on one_on under.next;
+      root = ap (waits_among (n.head ∷ [])) nodes_are
+          ∙ waits_but nodes f (same_affected key effect) gone_same alloc_same n alone_on one_on under.root;
+    };
+    shelf = made.shelf;
+    nodes = made.nodes;
+    left = made.left;
+    beside = made.beside;
+  }

@@ -1,0 +1,497 @@
+-- Units one above another that nothing holds but the one below: their heads alone are deserted, and the highest is the first. Once it
+-- ended with all below it, something holds each unit.
+use Rattle.forest_steps.proofs.Common.{◌≡◌, ℕ, zero, suc, ◌+◌, ◌<◌, ◌≤◌, refl, ap, sym, ◌∙◌, subst, Bool, true, false, not, ◌&&◌, ◌||◌, ◌⊎◌, is_none, inl, inr, List, [], ◌∷◌, length, reverse, Option, Some, None, arith, not-true, find, list_any, list_all, option_map_or, NodeKey, same_key, times, In, In-list_any, In-map, In-map-back, and_both, and_left, and_right, both_ways, either_way, false_if, or_cases, or_left, or_right, same_key-refl, same_key-true, all_on, In-any, Node, lives_in, is_left_of, is_of, is_deserted_node, is_live_node, are_distinct, heads_itself, are_rooted, is_head}
+use Rattle.std.proofs.lemmas.List.{length-reverse}
+use Rattle.sm_names.proofs.ListLaws.{list_any-map, times-zero}
+use Rattle.forest_store.specs.Counts.{hangs_in, heads_below}
+use Rattle.forest_store.specs.Nodes.{after_end, ended}
+use Rattle.forest_store.specs.Questions.{is_below, lives_below}
+use Rattle.forest_steps.specs.MidEvent.{are_held_except, holds_unit, is_held}
+use Rattle.forest_store.specs.Units.{are_united}
+use Rattle.forest_store.proofs.quiescence.Calming.{count_none}
+use Rattle.forest_store.proofs.quiescence.Steps.{all-In}
+use Rattle.forest_steps.proofs.quiescence.Topmost.{find_top}
+use Rattle.forest_store.proofs.tables.Rooted.{AreOne, distinct_one, left_in, left_parent}
+use Rattle.forest_store.proofs.tallies.Holding.{above_short, below_parent, below_self, below_through, chain, dead_deserted, in_unit_below, line, no_longer, step, still_here, up}
+
+-- ---- counts
+
+-- where one passes, two that pass are one
+one_counts : (p : Node → Bool) (ns : List Node) (a b : Node) → times p ns ≡ 1 → In a ns → In b ns → p a ≡ true → p b ≡ true → a ≡ b
+one_counts p [] a b one on too ha hb = absurd on
+one_counts p (n ∷ ns) a b one on too ha hb = elim (either_way (p n)) [
+  | inl e ↦
+      let all : times p ns + 1 ≡ 1 = rw e at one in
+      let none : list_any p ns ≡ false = count_none p ns (omega arith) in
+      first none a on ha ∙ sym (first none b too hb)
+  | inr e ↦
+      let rest : times p ns ≡ 1 = rw e at one in
+      one_counts p ns a b rest (later e a on ha) (later e b too hb) ha hb
+]
+  where
+    first : list_any p ns ≡ false → (m : Node) → In m (n ∷ ns) → p m ≡ true → m ≡ n
+    first none m (inl is) h = is
+    first none m (inr there) h = both_ways (list_any p ns) (In-any p ns m there h) none
+
+    later : p n ≡ false → (m : Node) → In m (n ∷ ns) → p m ≡ true → In m ns
+    later e m (inl is) h = both_ways (p n) (sym (ap p is) ∙ h) e
+    later e m (inr there) h = there
+
+-- where one alone passes, the count is 1
+alone_counts : (p : Node → Bool) (ns : List Node) → are_distinct ns ≡ true → (a : Node) → In a ns → p a ≡ true →
+    ((b : Node) → In b ns → p b ≡ true → b.key ≡ a.key) → times p ns ≡ 1
+alone_counts p [] distinct a on h alone = absurd on
+alone_counts p (n ∷ ns) distinct a on h alone =
+    from on (λ there. alone_counts p ns (and_right (not (list_any (is_of n.key) ns)) (are_distinct ns) distinct) a there h (λ b t.
+    alone b (inr t)))
+  where
+    apart : (m : Node) → In m ns → m.key ≡ n.key → ⊥
+    apart m there is =
+        both_ways (list_any (is_of n.key) ns) (In-any (is_of n.key) ns m there (ap (λ (k : NodeKey). same_key k n.key) is
+        ∙ same_key-refl n.key)) (not-true (list_any (is_of n.key) ns) (and_left (not (list_any (is_of n.key) ns)) (are_distinct ns) distinct))
+
+    from : In a (n ∷ ns) → (In a ns → times p ns ≡ 1) → times p (n ∷ ns) ≡ 1
+    from (inl is) later =
+        let here : p n ≡ true = sym (ap p is) ∙ h in
+        let none : times p ns ≡ 0 = times-zero p ns (λ b there. false_if (p b) (λ passes.
+        absurd (apart b there (alone b (inr there) passes ∙ ap (λ (m : Node). m.key) is)))) in
+        rw (here, none) refl
+    from (inr there) later =
+        let here : p n ≡ false = false_if (p n) (λ passes. absurd (apart a there (sym (alone n (inl refl) passes)))) in
+        let rest : times p ns ≡ 1 = later there in
+        rw (here, rest) refl
+
+-- so there is another where it is not
+other_counts : (p : Node → Bool) (ns : List Node) → are_distinct ns ≡ true → (a : Node) → In a ns → p a ≡ true →
+    (times p ns ≡ 1 → ⊥) → (b : Node) × In b ns × (p b ≡ true) × (same_key b.key a.key ≡ false)
+other_counts p ns distinct a on h more =
+    elim (either_way (list_any (λ (b : Node). p b && not (same_key b.key a.key)) ns)) [
+      | inl e ↦
+          let x = In-list_any (λ (b : Node). p b && not (same_key b.key a.key)) ns e in
+          (x.0, x.1, and_left (p x.0) _ x.2, not-true (same_key x.0.key a.key) (and_right (p x.0) _ x.2))
+      | inr e ↦ absurd (more (alone_counts p ns distinct a on h (λ b there passes. elim (either_way (same_key b.key a.key)) [
+        | inl same ↦ same_key-true b.key a.key same
+        | inr other ↦
+            both_ways (list_any (λ (b : Node). p b && not (same_key b.key a.key)) ns)
+            (In-any (λ (b : Node). p b && not (same_key b.key a.key)) ns b there (and_both (p b) _ passes (ap not other))) e
+      ])))
+    ]
+
+-- ---- units that nothing holds
+
+-- the key is one of these
+abbrev pub is_one : List NodeKey → NodeKey → Bool
+is_one keys key = list_any (same_key key) keys
+
+-- the units with these heads lie one above another, no node of them is live, and the highest alone may hold another unit
+pub record AreLoose (nodes : List Node) (top : Node) (keys : List NodeKey) : Type 0 where
+  pub on : In top nodes
+  pub here : top.gone ≡ false
+  pub head : is_head top ≡ true
+  pub own : is_one keys top.key ≡ true
+  pub low : (k : NodeKey) → is_one keys k ≡ true → (is_left_of nodes k ≡ true) × (is_below nodes top.key k ≡ true)
+  pub still : (x : Node) → In x nodes → x.gone ≡ false → is_one keys x.head ≡ true → x.released ≡ true
+  pub under : (x : Node) → In x nodes → x.gone ≡ false → x.attached ≡ true → (p : NodeKey) → x.parent ≡ Some p →
+      (q : Node) → In q nodes → q.key ≡ p → is_one keys q.head ≡ true → is_one keys x.key ≡ true
+  pub over : (x : Node) → In x nodes → is_one keys x.key ≡ true → same_key x.key top.key ≡ false → (p : NodeKey) → x.parent ≡ Some p →
+      (q : Node) → In q nodes → q.key ≡ p → is_one keys q.head ≡ true
+
+-- the node holds the unit with this head, and is none of these heads
+pub record IsHolder (nodes : List Node) (keys : List NodeKey) (head : NodeKey) : Type 0 where
+  pub node : Node
+  pub on : In node nodes
+  pub here : node.gone ≡ false
+  pub holds : ((node.head ≡ head) × (node.released ≡ false))
+      ⊎ ((node.attached ≡ true) × (is_one keys node.key ≡ false) × (hangs_in nodes head node ≡ true))
+
+-- the one key of a list
+alone_is : (a b : NodeKey) → is_one (b ∷ []) a ≡ true → a ≡ b
+alone_is a b h = elim (or_cases (same_key a b) false h) [
+  | inl e ↦ same_key-true a b e
+  | inr e ↦ cc
+]
+
+-- the constructor is injective
+some_key : (a b : NodeKey) → Some a ≡ Some b → a ≡ b
+some_key a b is = cc
+
+-- none passes, so none is counted
+none_counts : (p : Node → Bool) (ns : List Node) → list_any p ns ≡ false → times p ns ≡ 0
+none_counts p ns none = times-zero p ns (λ x there. false_if (p x) (λ e. both_ways (list_any p ns) (In-any p ns x there e) none))
+
+module _ (nodes : List Node) (distinct : are_distinct nodes ≡ true) (heads : list_all heads_itself nodes ≡ true)
+    (rooted : are_rooted (reverse nodes) ≡ true) (united : are_united (reverse nodes) ≡ true) where
+  -- no two nodes of the list have one key
+  one : AreOne nodes
+  one = distinct_one nodes distinct
+
+  -- ---- what hangs in a unit
+
+  -- the parent is found, and is of the unit
+  hangs : (k : NodeKey) (x q : Node) (p : NodeKey) → x.parent ≡ Some p → In q nodes → q.key ≡ p → q.head ≡ k → hangs_in nodes k x ≡ true
+  hangs k x q p above on is unit =
+      ap (λ (o : Option NodeKey). option_map_or (λ j. list_any (λ (y : Node). is_of j y && same_key y.head k) nodes) o false) above
+      ∙ In-any (λ (y : Node). is_of p y && same_key y.head k) nodes q on
+      (and_both (is_of p q) (same_key q.head k) (ap (λ (j : NodeKey). same_key j p) is ∙ same_key-refl p)
+      (ap (λ (j : NodeKey). same_key j k) unit ∙ same_key-refl k))
+
+  -- it is attached, not gone, and its parent is of the unit
+  counts : (k : NodeKey) (x q : Node) (p : NodeKey) → x.gone ≡ false → x.attached ≡ true → x.parent ≡ Some p → In q nodes → q.key ≡ p →
+      q.head ≡ k → heads_below nodes k x ≡ true
+  counts k x q p here attached above on is unit =
+      and_both (not x.gone) _ (ap not here) (and_both x.attached _ attached (hangs k x q p above on is unit))
+
+  -- by cases on the parent: one is found
+  hung : (k : NodeKey) (x : Node) → hangs_in nodes k x ≡ true →
+      (p : NodeKey) × (x.parent ≡ Some p) × (q : Node) × In q nodes × (q.key ≡ p) × (q.head ≡ k)
+  hung k x h = from x.parent refl h
+    where
+      from : (o : Option NodeKey) → x.parent ≡ o →
+          option_map_or (λ p. list_any (λ (q : Node). is_of p q && same_key q.head k) nodes) o false ≡ true →
+          (p : NodeKey) × (x.parent ≡ Some p) × (q : Node) × In q nodes × (q.key ≡ p) × (q.head ≡ k)
+      from None is h = cc
+      from (Some p) is h =
+          let y = In-list_any (λ (q : Node). is_of p q && same_key q.head k) nodes h in (
+            p,
+            is,
+            y.0,
+            y.1,
+            same_key-true y.0.key p (and_left (is_of p y.0) _ y.2),
+            same_key-true y.0.head k (and_right (is_of p y.0) _ y.2),
+          )
+
+  -- no node of a unit without a live one is live
+  released : (k : NodeKey) → times (lives_in k) nodes ≡ 0 → (x : Node) → In x nodes → x.gone ≡ false → x.head ≡ k → x.released ≡ true
+  released k none x there here is = elim (either_way x.released) [
+    | inl r ↦ r
+    | inr r ↦
+        both_ways (list_any (lives_in k) nodes)
+        (In-any (lives_in k) nodes x there
+        (and_both (is_live_node x) (same_key x.head k) (and_both (not x.gone) (not x.released) (ap not here) (ap not r))
+        (ap (λ (j : NodeKey). same_key j k) is ∙ same_key-refl k)))
+        (count_none (lives_in k) nodes none)
+  ]
+
+  -- ---- the climb
+
+  -- it begins with a unit that nothing holds
+  pub begins : (h : Node) → In h nodes → h.gone ≡ false → is_head h ≡ true → times (lives_in h.key) nodes ≡ 0 →
+      times (heads_below nodes h.key) nodes ≡ 0 → AreLoose nodes h (h.key ∷ [])
+  begins h on here head live below = record {
+    on = on;
+    here = here;
+    head = head;
+    own = or_left (same_key h.key h.key) false (same_key-refl h.key);
+    low = λ k there.
+        let is : k ≡ h.key = alone_is k h.key there in (
+          subst (λ (j : NodeKey). is_left_of nodes j ≡ true) (sym is) (left_in nodes h on here),
+          subst (λ (j : NodeKey). is_below nodes h.key j ≡ true) (sym is) (below_self nodes distinct heads rooted united h.key),
+        );
+    still = λ x there left dead. released h.key live x there left (alone_is x.head h.key dead);
+    under = λ x there left attached p above q q_on q_is dead.
+        both_ways (list_any (heads_below nodes h.key) nodes)
+        (In-any (heads_below nodes h.key) nodes x there
+        (counts h.key x q p left attached above q_on q_is (alone_is q.head h.key dead)))
+        (count_none (heads_below nodes h.key) nodes below);
+    over = λ x there dead other p above q q_on q_is.
+        both_ways (same_key x.key h.key) (ap (λ (k : NodeKey). same_key k h.key) (alone_is x.key h.key dead) ∙ same_key-refl h.key) other;
+  }
+
+  -- and goes on to the unit above, where no node of that is live, and one unit alone hangs right below it
+  pub climbs : (h : Node) (keys : List NodeKey) → AreLoose nodes h keys → (q : Node) → In q nodes → h.parent ≡ Some q.key →
+      (o : Node) → In o nodes → o.gone ≡ false → is_head o ≡ true → o.key ≡ q.head → times (lives_in o.key) nodes ≡ 0 →
+      times (heads_below nodes o.key) nodes ≡ 1 → AreLoose nodes o (o.key ∷ keys)
+  climbs h keys unheld q q_on h_up o on here head is live below = record {
+    on = on;
+    here = here;
+    head = head;
+    own = or_left (same_key o.key o.key) (is_one keys o.key) (same_key-refl o.key);
+    low = λ k there. elim (or_cases (same_key k o.key) (is_one keys k) there) [
+      | inl e ↦
+          let same : k ≡ o.key = same_key-true k o.key e in (
+            subst (λ (j : NodeKey). is_left_of nodes j ≡ true) (sym same) (left_in nodes o on here),
+            subst (λ (j : NodeKey). is_below nodes o.key j ≡ true) (sym same) (below_self nodes distinct heads rooted united o.key),
+          )
+      | inr e ↦ (
+        (unheld.low k e).0,
+        below_through nodes distinct heads rooted united o.key h.key k (unheld.low k e).0 (left_in nodes h unheld.on unheld.here)
+            (unheld.low k e).1 high,
+      )
+    ];
+    still = λ x there left dead. elim (or_cases (same_key x.head o.key) (is_one keys x.head) dead) [
+      | inl e ↦ released o.key live x there left (same_key-true x.head o.key e)
+      | inr e ↦ unheld.still x there left e
+    ];
+    under = λ x there left attached p above r r_on r_is dead. elim (or_cases (same_key r.head o.key) (is_one keys r.head) dead) [
+      | inl e ↦
+          let same : x ≡ h =
+          one_counts (heads_below nodes o.key) nodes x h below there unheld.on
+          (counts o.key x r p left attached above r_on r_is (same_key-true r.head o.key e))
+          (counts o.key h q q.key unheld.here h_attached h_up q_on refl (sym is)) in
+          or_right (same_key x.key o.key) (is_one keys x.key) (subst (λ (m : Node). is_one keys m.key ≡ true) (sym same) unheld.own)
+      | inr e ↦ or_right (same_key x.key o.key) (is_one keys x.key) (unheld.under x there left attached p above r r_on r_is e)
+    ];
+    over = λ x there dead other p above r r_on r_is. elim (or_cases (same_key x.key o.key) (is_one keys x.key) dead) [
+      | inl e ↦ both_ways (same_key x.key o.key) e other
+      | inr e ↦ elim (either_way (same_key x.key h.key)) [
+        | inl same ↦
+            let is_h : x ≡ h = one x h there unheld.on (same_key-true x.key h.key same) in
+            let key : p ≡ q.key = some_key p q.key (sym above ∙ (ap (λ (m : Node). m.parent) is_h ∙ h_up)) in
+            let is_q : r ≡ q = one r q r_on q_on (r_is ∙ key) in
+            let unit : r.head ≡ o.key = ap (λ (m : Node). m.head) is_q ∙ sym is in
+            or_left (same_key r.head o.key) (is_one keys r.head) (ap (λ (k : NodeKey). same_key k o.key) unit ∙ same_key-refl o.key)
+        | inr not_h ↦ or_right (same_key r.head o.key) (is_one keys r.head) (unheld.over x there e not_h p above r r_on r_is)
+      ]
+    ];
+  }
+    where
+      h_attached : h.attached ≡ true
+      h_attached = rw h_up at unheld.head
+
+      q_here : q.gone ≡ false
+      q_here = still_here nodes distinct heads rooted united q q_on (left_parent nodes rooted h q.key unheld.on unheld.here h_up)
+
+      high : is_below nodes o.key h.key ≡ true
+      high =
+          below_parent nodes distinct heads rooted united o.key h unheld.on unheld.here q.key h_up
+          (subst (λ (k : NodeKey). is_below nodes k q.key ≡ true) (sym is) (in_unit_below nodes distinct heads rooted united q q_on q_here))
+
+  -- ---- its end
+
+  module _ (top : Node) (keys : List NodeKey) (unheld : AreLoose nodes top keys) (first : NodeKey) (first_in : is_one keys first ≡ true)
+      (held : are_held_except (first ∷ []) nodes ≡ true)
+      (out : (y q : Node) → In y nodes → In q nodes → top.parent ≡ Some q.key → q.head ≡ y.key → times (lives_in y.key) nodes ≡ 0 →
+      times (heads_below nodes y.key) nodes ≡ 1 → ⊥) where
+    -- below the highest, what hangs in a unit hangs in one of these
+    inner : (k : NodeKey) → is_one keys k ≡ false → (x : Node) → In x nodes → is_one keys x.key ≡ true → same_key x.key top.key ≡ false →
+        hangs_in nodes k x ≡ true → ⊥
+    inner k alive x there dead lower h =
+        let u = hung k x h in
+        both_ways (is_one keys k)
+        (subst (λ (j : NodeKey). is_one keys j ≡ true) u.5 (unheld.over x there dead lower u.0 u.1 u.2 u.3 u.4)) alive
+
+    -- so something else holds each unit but these
+    at_top : (y : Node) → In y nodes → is_one keys y.key ≡ false → top.attached ≡ true → hangs_in nodes y.key top ≡ true →
+        IsHolder nodes keys y.key
+    at_top y on alive attached h = elim (either_way (list_any (lives_in y.key) nodes)) [
+      | inl e ↦
+          let x = In-list_any (lives_in y.key) nodes e in
+          let live : is_live_node x.0 ≡ true = and_left (is_live_node x.0) _ x.2 in
+          record {
+            node = x.0;
+            on = x.1;
+            here = not-true x.0.gone (and_left (not x.0.gone) _ live);
+            holds = inl (
+              same_key-true x.0.head y.key (and_right (is_live_node x.0) _ x.2),
+              not-true x.0.released (and_right (not x.0.gone) _ live),
+            );
+          }
+      | inr e ↦
+          let u = hung y.key top h in
+          let x =
+          other_counts (heads_below nodes y.key) nodes distinct top unheld.on
+          (counts y.key top u.2 u.0 unheld.here attached u.1 u.3 u.4 u.5)
+          (λ is. out y u.2 on u.3 (u.1 ∙ ap Some (sym u.4)) u.5 (none_counts (lives_in y.key) nodes e) is) in
+          let rest : (x.0.attached && hangs_in nodes y.key x.0) ≡ true = and_right (not x.0.gone) _ x.2 in
+          elim (either_way (is_one keys x.0.key)) [
+            | inl dead ↦ absurd (inner y.key alive x.0 x.1 dead x.3 (and_right x.0.attached _ rest))
+            | inr free ↦ record {
+              node = x.0;
+              on = x.1;
+              here = not-true x.0.gone (and_left (not x.0.gone) _ x.2);
+              holds = inr (and_left x.0.attached _ rest, free, and_right x.0.attached _ rest);
+            }
+          ]
+    ]
+
+    -- something holds the unit, and none of the loose units does
+    holder : (y : Node) → In y nodes → y.gone ≡ false → is_head y ≡ true → is_one keys y.key ≡ false → IsHolder nodes keys y.key
+    holder y on here head alive =
+        let x = In-list_any (holds_unit nodes y.key) nodes some in
+        let left : x.0.gone ≡ false = not-true x.0.gone (and_left (not x.0.gone) _ x.2) in
+        elim (or_cases (same_key x.0.head y.key && not x.0.released) (x.0.attached && hangs_in nodes y.key x.0)
+        (and_right (not x.0.gone) _ x.2)) [
+          | inl l ↦ record {
+            node = x.0;
+            on = x.1;
+            here = left;
+            holds = inl (
+              same_key-true x.0.head y.key (and_left (same_key x.0.head y.key) _ l),
+              not-true x.0.released (and_right (same_key x.0.head y.key) _ l),
+            );
+          }
+          | inr b ↦ elim (either_way (is_one keys x.0.key)) [
+            | inr free ↦ record {
+              node = x.0;
+              on = x.1;
+              here = left;
+              holds = inr (and_left x.0.attached _ b, free, and_right x.0.attached _ b);
+            }
+            | inl dead ↦ elim (either_way (same_key x.0.key top.key)) [
+              | inr lower ↦ absurd (inner y.key alive x.0 x.1 dead lower (and_right x.0.attached _ b))
+              | inl same ↦
+                  let is : x.0 ≡ top = one x.0 top x.1 unheld.on (same_key-true x.0.key top.key same) in
+                  at_top y on alive (sym (ap (λ (m : Node). m.attached) is) ∙ and_left x.0.attached _ b)
+                  (sym (ap (hangs_in nodes y.key) is) ∙ and_right x.0.attached _ b)
+            ]
+          ]
+        ]
+      where
+        from : (o g h s : Bool) → (o || (g || (not h || s))) ≡ true → o ≡ false → g ≡ false → h ≡ true → s ≡ true
+        from true g h s all free e head_is = cc
+        from false true h s all free e head_is = cc
+        from false false false s all free e head_is = cc
+        from false false true s all free e head_is = all
+
+        some : list_any (holds_unit nodes y.key) nodes ≡ true
+        some =
+            from (is_one (first ∷ []) y.key) y.gone (is_head y) (list_any (holds_unit nodes y.key) nodes)
+            (all-In (λ (n : Node). is_one (first ∷ []) n.key || is_held nodes n) nodes y on held)
+            (false_if (is_one (first ∷ []) y.key) (λ e. both_ways (is_one keys y.key)
+            (subst (λ (k : NodeKey). is_one keys k ≡ true) (sym (alone_is y.key first e)) first_in) alive)) here head
+
+    -- and a live node lies at or below each head but these
+    lives : (fuel : ℕ) (y : Node) → In y nodes → y.gone ≡ false → is_head y ≡ true → is_one keys y.key ≡ false →
+        length nodes < fuel + length (line nodes distinct heads rooted united y.key) → list_any (lives_below nodes y.key) nodes ≡ true
+    lives zero y on here head alive long =
+        let short = above_short (reverse nodes) y.key in
+        let same : length (reverse nodes) ≡ length nodes = length-reverse nodes in
+        absurd (omega arith)
+    lives (suc fuel) y on here head alive long =
+        let x = holder y on here head alive in
+        elim x.holds [
+          | inl l ↦
+              In-any (lives_below nodes y.key) nodes x.node x.on
+              (and_both (is_live_node x.node) (is_below nodes y.key x.node.key)
+              (and_both (not x.node.gone) (not x.node.released) (ap not x.here) (ap not l.1))
+              (subst (λ (k : NodeKey). is_below nodes k x.node.key ≡ true) l.0 (in_unit_below nodes distinct heads rooted united x.node
+              x.on x.here)))
+          | inr b ↦
+              let u = hung y.key x.node b.2 in
+              let p : NodeKey = u.0 in
+              let q : Node = u.2 in
+              let left : is_left_of nodes p ≡ true = left_parent nodes rooted x.node p x.on x.here u.1 in
+              let q_here : q.gone ≡ false =
+              still_here nodes distinct heads rooted united q u.3 (subst (λ (k : NodeKey). is_left_of nodes k ≡ true) (sym u.4) left) in
+              let at : is_below nodes y.key p ≡ true =
+              subst (λ (k : NodeKey). is_below nodes y.key k ≡ true) u.4
+              (subst (λ (k : NodeKey). is_below nodes k q.key ≡ true) u.5 (in_unit_below nodes distinct heads rooted united q u.3 q_here)) in
+              let under : is_below nodes y.key x.node.key ≡ true =
+              below_parent nodes distinct heads rooted united y.key x.node x.on x.here p u.1 at in
+              let longer : length (line nodes distinct heads rooted united x.node.key) ≡ length (p ∷ line nodes distinct heads rooted united p)
+              = ap length (step nodes distinct heads rooted united x.node x.on x.here p u.1) in
+              let more : length (line nodes distinct heads rooted united y.key) ≤ length (line nodes distinct heads rooted united p) =
+              no_longer (up nodes distinct heads rooted united) y.key p (line nodes distinct heads rooted united p)
+              (line nodes distinct heads rooted united y.key) (chain nodes distinct heads rooted united p left)
+              (chain nodes distinct heads rooted united y.key (left_in nodes y on here)) at in
+              let z = In-list_any (lives_below nodes x.node.key) nodes
+              (lives fuel x.node x.on x.here (or_right (is_none x.node.parent) x.node.attached b.0) b.1 (omega arith)) in
+              let live : is_live_node z.0 ≡ true = and_left (is_live_node z.0) _ z.2 in
+              let z_here : z.0.gone ≡ false = not-true z.0.gone (and_left (not z.0.gone) _ live) in
+              In-any (lives_below nodes y.key) nodes z.0 z.1
+              (and_both (is_live_node z.0) (is_below nodes y.key z.0.key) live
+              (below_through nodes distinct heads rooted united y.key x.node.key z.0.key (left_in nodes z.0 z.1 z_here)
+              (left_in nodes x.node x.on x.here) (and_right (is_live_node z.0) _ z.2) under))
+        ]
+
+    -- by induction: what holds the unit lives, or heads a unit that is held
+    lives_at : (y : Node) → In y nodes → y.gone ≡ false → is_head y ≡ true → is_one keys y.key ≡ false →
+        list_any (lives_below nodes y.key) nodes ≡ true
+    lives_at y on here head alive = lives (suc (length nodes)) y on here head alive (omega arith)
+
+    -- the highest is the first that is deserted
+    deserted : is_deserted_node nodes top ≡ true
+    deserted =
+        dead_deserted nodes distinct heads rooted united (is_one keys) unheld.still unheld.under top unheld.on unheld.here unheld.head unheld.own
+
+    -- the top is deserted
+    none_live : list_any (lives_below nodes top.key) nodes ≡ false
+    none_live = not-true _ (and_right (not top.gone) _ (and_right (is_head top) _ deserted))
+
+    -- a deserted head is loose, since each other unit has a live node below
+    low : (y : Node) → In y nodes → is_deserted_node nodes y ≡ true → (y.gone ≡ false) × (is_below nodes top.key y.key ≡ true)
+    low y on d =
+        let rest = and_right (is_head y) _ d in
+        let here : y.gone ≡ false = not-true y.gone (and_left (not y.gone) _ rest) in
+        elim (either_way (is_one keys y.key)) [
+          | inl dead ↦ (here, (unheld.low y.key dead).1)
+          | inr alive ↦
+              both_ways (list_any (lives_below nodes y.key) nodes)
+              (lives_at y on here (and_left (is_head y) _ d) alive) (not-true _ (and_right (not y.gone) _ rest))
+        ]
+
+    -- all other deserted heads lie below the top
+    pub first_deserted : find (is_deserted_node nodes) nodes ≡ Some top
+    first_deserted = find_top nodes distinct rooted (is_deserted_node nodes) top unheld.on deserted low
+
+    -- ---- once it ended
+
+    abbrev now : List Node
+    now = after_end top.key nodes
+
+    -- keys and heads are kept
+    hangs_still : (k : NodeKey) (x : Node) → hangs_in now k (ended nodes top.key x) ≡ hangs_in nodes k x
+    hangs_still k x = from x.parent
+      where
+        from : (o : Option NodeKey) → option_map_or (λ p. list_any (λ (q : Node). is_of p q && same_key q.head k) now) o false
+            ≡ option_map_or (λ p. list_any (λ (q : Node). is_of p q && same_key q.head k) nodes) o false
+        from None = refl
+        from (Some p) =
+            list_any-map (λ (q : Node). is_of p q && same_key q.head k) (λ (q : Node). is_of p q && same_key q.head k) (ended nodes top.key)
+            nodes (λ q there. refl)
+
+    -- what holds a unit that stays does not lie below
+    outside : (y : Node) (x : IsHolder nodes keys y.key) → is_below nodes top.key x.node.key ≡ false
+    outside y x = false_if (is_below nodes top.key x.node.key) (λ e. elim x.holds [
+      | inl l ↦
+          both_ways (list_any (lives_below nodes top.key) nodes)
+          (In-any (lives_below nodes top.key) nodes x.node x.on
+          (and_both (is_live_node x.node) (is_below nodes top.key x.node.key)
+          (and_both (not x.node.gone) (not x.node.released) (ap not x.here) (ap not l.1)) e)) none_live
+      | inr b ↦
+          let z = In-list_any (lives_below nodes x.node.key) nodes
+          (lives_at x.node x.on x.here (or_right (is_none x.node.parent) x.node.attached b.0) b.1) in
+          let live : is_live_node z.0 ≡ true = and_left (is_live_node z.0) _ z.2 in
+          let z_here : z.0.gone ≡ false = not-true z.0.gone (and_left (not z.0.gone) _ live) in
+          both_ways (list_any (lives_below nodes top.key) nodes)
+          (In-any (lives_below nodes top.key) nodes z.0 z.1
+          (and_both (is_live_node z.0) (is_below nodes top.key z.0.key) live
+          (below_through nodes distinct heads rooted united top.key x.node.key z.0.key (left_in nodes z.0 z.1 z_here)
+          (left_in nodes x.node x.on x.here) (and_right (is_live_node z.0) _ z.2) e))) none_live
+    ])
+
+    -- what holds the unit is not below the top, so it stays
+    holds_still : (k : NodeKey) (x : Node) → is_below nodes top.key x.key ≡ false → x.gone ≡ false →
+        ((x.head ≡ k) × (x.released ≡ false)) ⊎ ((x.attached ≡ true) × (is_one keys x.key ≡ false) × (hangs_in nodes k x ≡ true)) →
+        holds_unit now k (ended nodes top.key x) ≡ true
+    holds_still k x out_of here holds =
+        and_both (not (is_below nodes top.key x.key || x.gone)) _ (rw (out_of, here) refl)
+        (elim holds [
+          | inl l ↦
+              or_left (same_key x.head k && not x.released) _
+              (and_both (same_key x.head k) (not x.released) (ap (λ (j : NodeKey). same_key j k) l.0 ∙ same_key-refl k) (ap not l.1))
+          | inr b ↦
+              or_right (same_key x.head k && not x.released) (x.attached && hangs_in now k (ended nodes top.key x))
+              (and_both x.attached _ b.0 (hangs_still k x ∙ b.2))
+        ])
+
+    -- by cases: the unit ended, or what held it is left
+    held_one : (y : Node) → In y nodes → is_held now (ended nodes top.key y) ≡ true
+    held_one y on = from (is_below nodes top.key y.key) y.gone (is_head y) (list_any (holds_unit now y.key) now) (λ above here head.
+        let alive : is_one keys y.key ≡ false =
+        false_if (is_one keys y.key) (λ e. both_ways (is_below nodes top.key y.key) (unheld.low y.key e).1 above) in
+        let x = holder y on here head alive in
+        In-any (holds_unit now y.key) now (ended nodes top.key x.node) (In-map-back (ended nodes top.key) nodes x.node x.on)
+        (holds_still y.key x.node (outside y x) x.here x.holds))
+      where
+        from : (b g h s : Bool) → (b ≡ false → g ≡ false → h ≡ true → s ≡ true) → ((b || g) || (not h || s)) ≡ true
+        from true g h s is = refl
+        from false true h s is = refl
+        from false false false s is = refl
+        from false false true s is = is refl refl refl
+
+    -- so it is of each
+    pub held_now : are_held_except [] now ≡ true
+    held_now = all_on (λ (n : Node). list_any (same_key n.key) [] || is_held now n) now (λ m there.
+        let x = In-map (ended nodes top.key) nodes m there in
+        subst (λ (n : Node). is_held now n ≡ true) (sym x.2) (held_one x.0 x.1))

@@ -1,0 +1,166 @@
+-- What a walk within units finds that come to their turn together: each of their nodes, and the heads right below them.
+use Rattle.forest_steps.proofs.Common.{◌≡◌, ℕ, zero, suc, ◌<◌, ◌==◌, refl, ap, sym, ◌∙◌, subst, Bool, true, false, not, ◌&&◌, ◌||◌, ◌⊎◌, inl, inr, length, List, [], ◌∷◌, Option, Some, arith, not-true, find, list_any, option_map_or, NodeKey, same_key, In, In-list_any, and_left, and_right, either_way, or_cases, or_left, same_key-refl, same_key-true, In-any, Table, node_at, parent_at, Node, Unit, unit_at, is_left_of, IsStored, IsWhole, Shelf, collection_in, nodes_with, is_head}
+use Rattle.std.proofs.Common.{filter}
+use Rattle.std.proofs.lemmas.Map.Views.{Contains-from_any, list_any-from_Contains}
+use Rattle.sm_names.proofs.ListLaws.{In-filter, In-filter-back}
+use Rattle.failure_domains.specs.Falls.{Below, Top, Within, stopped_at}
+use Rattle.forest_store.specs.Counts.{HasUnits}
+use Rattle.forest_store.specs.UnitAllocation.{AreHeads, IsGathered, hangs_below, is_head_at, is_of_some, is_outside, is_ready_head, is_waiting_head}
+use Rattle.forest_steps.proofs.failures.Ties.{key_equivalence}
+use Rattle.forest_store.proofs.allocation.Before.{at_key, node_there, some_there, whole_before}
+use Rattle.forest_store.proofs.allocation.Next.{head_own}
+use Rattle.forest_store.proofs.tables.Rooted.{left_node, left_parent}
+use Rattle.forest_store.proofs.tallies.Holding.{has_parent, line, own_head, shared, step, still_here}
+
+module _ (t : Table Node) (ss : List Shelf) (kept : IsStored t ss) (s : Shelf) (found : find (λ (x : Shelf). x.id == s.id) ss ≡ Some s)
+    (us : List Unit) (counts : HasUnits us (nodes_with t s.keys)) (k : NodeKey)
+    (hs : List NodeKey) (ks : List NodeKey) (gathered : IsGathered t us s.id k hs ks) where
+  abbrev nodes : List Node
+  nodes = nodes_with t s.keys
+
+  -- each collection is whole
+  pub whole : IsWhole (collection_in t s)
+  whole = whole_before t ss kept s found k
+
+  -- each node stands in the table under its key
+  pub at : (m : Node) → In m nodes → node_at t m.key ≡ Some m
+  at m on = at_key t ss kept s found k m on
+
+  abbrev pub stopped : NodeKey → Bool
+  stopped = stopped_at (is_outside us s.id) t k
+
+  abbrev pub Inside : NodeKey → Type 0
+  Inside key = Within (parent_at t) stopped k key
+
+  abbrev above : NodeKey → List NodeKey
+  above = line nodes whole.sound.distinct whole.sound.heads whole.rooted whole.united
+
+  -- ---- keys
+
+  -- the walk lists what it reaches
+  pub inside_key : (key : NodeKey) → Inside key → list_any (same_key key) ks ≡ true
+  inside_key key reach = list_any-from_Contains key_equivalence key ks ((gathered.walked.within key).1 reach)
+
+  -- the walk reaches what it lists
+  pub key_inside : (key : NodeKey) → list_any (same_key key) ks ≡ true → Inside key
+  key_inside key there = (gathered.walked.within key).0 (Contains-from_any same_key-true key ks there)
+
+  -- ---- heads
+
+  -- all are listed
+  abbrev pub All : Type 0
+  All = AreHeads t us s.id k ks hs
+
+  -- a listed key of a head stands in the list of heads
+  pub head_back : All → (j : NodeKey) → list_any (same_key j) ks ≡ true → is_head_at t us s.id k j ≡ true → list_any (same_key j) hs ≡ true
+  head_back all j there head =
+      let x = In-list_any (same_key j) ks there in
+      let is : j ≡ x.0 = same_key-true j x.0 x.2 in
+      all j
+      ∙ In-any (same_key j) (filter (is_head_at t us s.id k) ks) x.0
+      (In-filter-back (is_head_at t us s.id k) ks x.0 x.1 (ap (is_head_at t us s.id k) (sym is) ∙ head)) x.2
+
+  -- the first alone is
+  only_one : hs ≡ k ∷ [] → (j : NodeKey) → list_any (same_key j) hs ≡ true → j ≡ k
+  only_one alone j there = elim (or_cases (same_key j k) false (sym (ap (list_any (same_key j)) alone) ∙ there)) [
+    | inl e ↦ same_key-true j k e
+    | inr e ↦ cc
+  ]
+
+  -- the list of heads has keys of the walk alone
+  pub head_from : (j : NodeKey) → list_any (same_key j) hs ≡ true →
+      (list_any (same_key j) ks ≡ true) × (is_head_at t us s.id k j ≡ true)
+  head_from j there = elim gathered.are [
+    | inl alone ↦
+        let is : k ≡ j = sym (only_one alone j there) in (
+          inside_key j (subst Inside is Top),
+          or_left (same_key j k) _ (ap (λ (i : NodeKey). same_key i k) (sym is) ∙ same_key-refl k),
+        )
+    | inr all ↦
+        let x = In-list_any (same_key j) (filter (is_head_at t us s.id k) ks) (sym (all j) ∙ there) in
+        let y = In-filter (is_head_at t us s.id k) ks x.0 x.1 in
+        (In-any (same_key j) ks x.0 y.0 x.2, ap (is_head_at t us s.id k) (same_key-true j x.0 x.2) ∙ y.1)
+  ]
+
+  -- the first head is listed
+  pub first_in : list_any (same_key k) hs ≡ true
+  first_in = elim gathered.are [
+    | inl alone ↦ ap (list_any (same_key k)) alone ∙ or_left (same_key k k) false (same_key-refl k)
+    | inr all ↦ head_back all k (inside_key k Top) (or_left (same_key k k) _ (same_key-refl k))
+  ]
+
+  -- ---- the units' nodes
+
+  -- the constructor is injective
+  one_node : (a b : Node) → Some a ≡ Some b → a ≡ b
+  one_node a b e = cc
+
+  -- a node of one of the units doesn't stop the walk
+  goes_on : (n : Node) → In n nodes → list_any (same_key n.head) hs ≡ true → stopped n.key ≡ false
+  goes_on n on own =
+      ap (λ (o : Option Node). not (same_key n.key k) && option_map_or (is_outside us s.id) o false) (at n on)
+      ∙ from (either_way n.attached)
+    where
+      out : (same attached ready : Bool) → (same || ready) ≡ true → (not same && (attached && not ready)) ≡ false
+      out true attached ready h = refl
+      out false true ready h = rw h refl
+      out false false ready h = refl
+
+      none : (same attached ready : Bool) → attached ≡ false → (not same && (attached && not ready)) ≡ false
+      none true attached ready h = refl
+      none false attached ready h = rw h refl
+
+      from : (n.attached ≡ true) ⊎ (n.attached ≡ false) →
+          (not (same_key n.key k) && (n.attached && not (is_ready_head us s.id n))) ≡ false
+      from (inl e) =
+          let head : list_any (same_key n.key) hs ≡ true =
+          ap (λ (j : NodeKey). list_any (same_key j) hs) (sym (head_own (collection_in t s) whole.sound n on e)) ∙ own in
+          out (same_key n.key k) n.attached (is_ready_head us s.id n)
+          (ap (λ (o : Option Node). same_key n.key k || option_map_or (is_ready_head us s.id) o false) (sym (at n on))
+          ∙ (head_from n.key head).1)
+      from (inr e) = none (same_key n.key k) n.attached (is_ready_head us s.id n) e
+
+  -- a child of one of them is listed
+  child_in : (n x : Node) → In n nodes → n.gone ≡ false → In x nodes → list_any (same_key x.head) hs ≡ true → n.parent ≡ Some x.key →
+      list_any (same_key x.key) ks ≡ true → list_any (same_key n.key) ks ≡ true
+  child_in n x on here there own is listed =
+      inside_key n.key (Below x.key n.key (key_inside x.key listed) (goes_on x there own) (kept.linked n.key n (at n on) here ∙ is))
+
+  -- so each of them is
+  unit_from : (fuel : ℕ) (n : Node) → In n nodes → n.gone ≡ false → list_any (same_key n.head) hs ≡ true → length (above n.key) < fuel →
+      list_any (same_key n.key) ks ≡ true
+  unit_from zero n on here own few = absurd (omega arith)
+  unit_from (suc fuel) n on here own few = elim (either_way (is_head n)) [
+    | inl e ↦
+        (head_from n.key (ap (λ (j : NodeKey). list_any (same_key j) hs)
+        (sym (own_head nodes whole.sound.distinct whole.sound.heads whole.rooted whole.united n on e)) ∙ own)).0
+    | inr e ↦
+        let up' = has_parent nodes whole.sound.distinct whole.sound.heads whole.rooted whole.united n e in
+        let x = shared nodes whole.sound.distinct whole.sound.heads whole.rooted whole.united n on here e up'.0 up'.1 in
+        let left : is_left_of nodes x.0.key ≡ true =
+        subst (λ (j : NodeKey). is_left_of nodes j ≡ true) (sym x.2) (left_parent nodes whole.rooted n up'.0 on here up'.1) in
+        let long : length (above n.key) ≡ length (up'.0 ∷ above up'.0) =
+        ap length (step nodes whole.sound.distinct whole.sound.heads whole.rooted whole.united n on here up'.0 up'.1) in
+        let same : length (above x.0.key) ≡ length (above up'.0) = ap (λ (j : NodeKey). length (above j)) x.2 in
+        let too : list_any (same_key x.0.head) hs ≡ true = ap (λ (j : NodeKey). list_any (same_key j) hs) x.3 ∙ own in
+        child_in n x.0 on here x.1 too (up'.1 ∙ ap Some (sym x.2))
+        (unit_from fuel x.0 x.1
+        (still_here nodes whole.sound.distinct whole.sound.heads whole.rooted whole.united x.0 x.1 left) too (omega arith))
+  ]
+
+  -- by induction on the line above the node
+  pub of_unit : (n : Node) → In n nodes → n.gone ≡ false → list_any (same_key n.head) hs ≡ true → list_any (same_key n.key) ks ≡ true
+  of_unit n on here own = unit_from (suc (length (above n.key))) n on here own (omega arith)
+
+  -- and a head right below one of the units
+  pub hangs_inside : (m : Node) → In m nodes → hangs_below t us hs m ≡ true → list_any (same_key m.key) ks ≡ true
+  hangs_inside m on h =
+      let waits : is_waiting_head m ≡ true = and_left (is_waiting_head m) _ h in
+      let here : m.gone ≡ false = not-true m.gone (and_left (not m.gone) _ (and_right m.attached _ waits)) in
+      let p = some_there (is_of_some t hs) m.parent
+      (and_right ((unit_at us m.key.slot).unready == 0) _ (and_right (is_waiting_head m) _ h)) in
+      let q = node_there (λ (x : Node). list_any (same_key x.head) hs) (node_at t p.0) p.2 in
+      let x = left_node nodes p.0 (left_parent nodes whole.rooted m p.0 on here p.1) in
+      let same : q.0 ≡ x.node = one_node q.0 x.node (sym q.1 ∙ (ap (node_at t) (sym x.is) ∙ at x.node x.on)) in
+      let own : list_any (same_key x.node.head) hs ≡ true = ap (λ (y : Node). list_any (same_key y.head) hs) (sym same) ∙ q.2 in
+      child_in m x.node on here x.on own (p.1 ∙ ap Some (sym x.is)) (of_unit x.node x.on x.here own)

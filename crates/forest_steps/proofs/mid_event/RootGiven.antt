@@ -1,0 +1,473 @@
+-- The root's unit is allocated with its buffers, and the attached units that follow have their turns.
+use Rattle.forest_steps.proofs.Common.{◌≡◌, ◌≢◌, ℕ, ◌==◌, nat_lt, refl, ap, sym, ◌∙◌, subst, Bool, true, false, not, ◌&&◌, ◌||◌, is_none, inl, inr, List, [], ◌∷◌, map, Option, Some, None, eqb-false, eqb-true, not-true, AllByRecursion, find, list_all, list_any, option_map_or, HeldBuffer, NodeKey, Buffers, same_key, In, In-find, In-list_any, In-map, and_both, and_left, and_right, both_ways, either_way, false_if, or_cases, or_left, same_key-refl, same_key-true, In-any, Table, node_at, Entry, Node, Unit, over_except, strong_count, AreUnits, lives_in, waits_in, waiting, Collection, IsStored, IsWhole, Shelf, collection_in, is_filed, nodes_with, put_shelf, shelf_of, is_of, is_next_node, reserved_count, heads_itself, Handles, Settles, is_head}
+use Rattle.sm_names.proofs.ListLaws.{map-In}
+use Rattle.sm_names.proofs.SamenessLaws.{or_none_right}
+use Rattle.forest_steps.specs.declared.initial_allocation.AllocationOutcome.{AllocationOutcome}
+use Rattle.forest_steps.specs.declared.pending_units.PendingUnit.{PendingUnit}
+use Rattle.forest_store.specs.Falls.{given_all}
+use Rattle.forest_store.specs.Shelves.{is_strong}
+use Rattle.forest_store.specs.Nodes.{after_allocation}
+use Rattle.forest_store.specs.Questions.{is_allocated_node}
+use Rattle.forest_steps.specs.InitialAllocation.{IsComing, IsRooted, first_made, shelf_then}
+use Rattle.forest_store.specs.Scenes.{given_few}
+use Rattle.forest_store.specs.UnitAllocation.{IsGivenAt, given_at}
+use Rattle.forest_steps.specs.LogicalAllocation.{IsUnitListed}
+use Rattle.forest_steps.specs.MidEvent.{AreClosed, AreTurns, AfterPropagation, MidEvent, are_held_except, hangs_in_some, is_coming, is_head_left, is_next_except, turn_heads, waits_among}
+use Rattle.forest_store.proofs.quiescence.Calming.{any_map, times_map}
+use Rattle.forest_store.proofs.quiescence.Steps.{all-In}
+use Rattle.forest_store.proofs.changes.Altering.{found_filed, found_put, looked-of}
+use Rattle.forest_steps.proofs.changes.Dropped.{nothing_stored}
+use Rattle.forest_store.proofs.changes.Finishing.{kept-put}
+use Rattle.forest_steps.proofs.changes.FirstAllocated.{all_there, found_there, units_there}
+use Rattle.forest_store.proofs.lists.Lookups.{looked-map}
+use Rattle.forest_store.proofs.allocation.Before.{IsBareHead}
+use Rattle.forest_steps.proofs.allocation.Giving.{given_in, given_other, given_out, kept_given, same_given}
+use Rattle.forest_steps.proofs.allocation.RootUnit.{waits_none}
+use Rattle.forest_store.proofs.tables.Hanging.{all_in, in_all, looked_there}
+use Rattle.forest_store.proofs.tables.Writing.{IsSameNode, IsWhole-map, collections-map, kept-with}
+use Rattle.forest_store.proofs.tallies.Slots.{all_at, one_shelf, units_with}
+use Rattle.forest_steps.proofs.turns.Gifts.{ready_same}
+use Rattle.forest_steps.proofs.mid_event.Given.{given_is, hangs_some_same, held_then, served, still_map, together_then, was_there}
+use Rattle.forest_steps.proofs.mid_event.Listed.{key_within, of_unit}
+use Rattle.forest_steps.proofs.mid_event.Listing.{units_found}
+use Rattle.forest_steps.proofs.mid_event.NextThere.{next_fewer, wait_among, with_due}
+use Rattle.forest_steps.proofs.mid_event.Ready.{whole_under}
+use Rattle.forest_steps.proofs.mid_event.RootLost.{IsReadyRoot, ready_root}
+use Rattle.forest_steps.proofs.mid_event.Turns.{closed_behind, hangs_more, turns_behind}
+
+-- another shelf stays where one is put
+in_put : (new : Shelf) (ss : List Shelf) (x : Shelf) → In x ss → x.id ≢ new.id → In x (put_shelf new ss)
+in_put new [] x on differ = absurd on
+in_put new (s ∷ ss) x on differ = elim (either_way (s.id == new.id)) [
+  | inl e ↦ rw e (by on (eqb-true s.id new.id e))
+  | inr e ↦ rw e (elim (either_way (nat_lt new.id s.id)) [
+    | inl less ↦ rw less (inr on)
+    | inr more ↦ rw more (rest (λ there. in_put new ss x there differ) on)
+  ])
+]
+  where
+    by : In x (s ∷ ss) → s.id ≡ new.id → In x (new ∷ ss)
+    by (inl is) same = absurd (differ (ap (λ (y : Shelf). y.id) is ∙ same))
+    by (inr there) same = inr there
+
+    rest : (In x ss → In x (put_shelf new ss)) → In x (s ∷ ss) → In x (s ∷ put_shelf new ss)
+    rest more (inl is) = inl is
+    rest more (inr there) = inr (more there)
+
+-- more units may be due
+pub under_due : (t : Table Node) (us : List Unit) (ss : List Shelf) (e : Entry) (unheld few more : List NodeKey) →
+    ((k : NodeKey) → list_any (same_key k) few ≡ true → list_any (same_key k) more ≡ true) →
+    MidEvent t us ss e unheld few → MidEvent t us ss e unheld more
+under_due t us ss e unheld few more all under =
+    with_due t us ss e unheld few more under
+    (next_fewer (nodes_with t e.keys.items) few more under.next (λ n on is h. all n.key h))
+    (from (waiting (nodes_with t e.keys.items)) under.root)
+  where
+    from : (o : Option Node) → option_map_or (λ (n : Node). list_any (same_key n.key) few) o true ≡ true →
+        option_map_or (λ (n : Node). list_any (same_key n.key) more) o true ≡ true
+    from None h = refl
+    from (Some n) h = all n.key h
+
+-- the root that waits heads its unit, and is not gone
+pub root_left : (nodes : List Node) (k : NodeKey) → IsComing nodes k → is_head_left nodes k ≡ true
+root_left nodes k coming =
+    let r = coming.root in
+    let root = ready_root nodes r coming.waits in
+    In-any (λ (n : Node). is_of k n && (not n.gone && is_head n)) nodes r root.on
+    (and_both (is_of k r) _ (ap (same_key r.key) (sym coming.own) ∙ same_key-refl r.key)
+    (and_both (not r.gone) _ (ap not root.here) (or_left (is_none r.parent) r.attached (ap is_none root.top))))
+
+module _ (t now : Table Node) (us : List Unit) (ss : List Shelf) (e : Entry) (k : NodeKey)
+    (u : MidEvent t us ss e [] (k ∷ [])) (coming : IsComing (nodes_with t e.keys.items) k)
+    (ks : List NodeKey) (listed : IsUnitListed t k ks) (given : IsGivenAt t now (k ∷ []) ks)
+    (buffers : Buffers) (few : given_few (Some buffers) ≡ true) (held : List HeldBuffer) where
+  abbrev s : Shelf
+  s = shelf_of e
+
+  -- with the buffers
+  abbrev s' : Shelf
+  s' = record { id = e.id; keys = e.keys.items; buffers = Some buffers; held = held }
+
+  abbrev ss' : List Shelf
+  ss' = put_shelf s' ss
+
+  abbrev keys : List NodeKey
+  keys = e.keys.items
+
+  abbrev nodes : List Node
+  nodes = nodes_with t e.keys.items
+
+  abbrev c0 : Collection
+  c0 = collection_in t (shelf_of e)
+
+  abbrev hs : List NodeKey
+  hs = k ∷ []
+
+  abbrev f : Node → Node
+  f = given_all (k ∷ [])
+
+  abbrev g : Node → Node
+  g = given_at (k ∷ []) ks
+
+  abbrev r : Node
+  r = coming.root
+
+  -- the node keeps its place
+  same_g : (m : Node) → IsSameNode (g m) m
+  same_g m = same_given hs ks m
+
+  -- each collection is whole
+  formed : IsWhole (collection_in t (shelf_of e))
+  formed = whole_under t us ss e [] (k ∷ []) u
+
+  -- the root that waits is left, and has no buffers
+  root : IsReadyRoot (nodes_with t e.keys.items) coming.root
+  root = ready_root nodes r coming.waits
+
+  -- the root heads its own unit
+  own_head : coming.root.head ≡ k
+  own_head =
+      let mine : heads_itself r ≡ true = all-In heads_itself nodes r root.on formed.sound.heads in
+      same_key-true r.head r.key (by r.parent root.top (same_key r.head r.key) mine) ∙ coming.own
+    where
+      by : (o : Option NodeKey) → o ≡ None → (b : Bool) → (not (is_none o || r.attached) || b) ≡ true → b ≡ true
+      by None e b h = h
+      by (Some p) e b h = cc
+
+  -- ---- the table
+
+  -- the head has no buffers yet
+  top : IsBareHead (nodes_with t e.keys.items) k
+  top = record { head = r; on = root.on; key = coming.own; own = own_head; here = root.here; waits = root.bare }
+
+  -- the nodes of the unit go together with the root
+  unit_bare : (m : Node) → In m nodes → m.head ≡ k → m.gone ≡ false
+  unit_bare m on own = formed.together.spared m r on root.on (own ∙ sym coming.own) (own_head ∙ sym coming.own) root.here root.bare
+
+  -- by cases
+  one_is : (b : Bool) → (b || false) ≡ true → b ≡ true
+  one_is true h = refl
+  one_is false h = cc
+
+  -- each node of the unit was listed, so it is given
+  each_given : (m : Node) → In m nodes → g m ≡ f m
+  each_given m on = elim (either_way (list_any (same_key m.key) ks)) [
+    | inl h ↦ given_in hs ks m h
+    | inr out ↦ given_out hs ks m out ∙ given_other hs m (false_if (list_any (same_key m.head) hs) (λ h.
+        let own : m.head ≡ k = same_key-true m.head k (one_is (same_key m.head k) h) in
+        both_ways (list_any (same_key m.key) ks)
+        (of_unit t ss u.store.kept s u.store.found u.store.kept.kin k top ks listed m on (unit_bare m on own) own) out))
+  ]
+
+  -- the keys are looked up one by one
+  nodes_then : nodes_with now e.keys.items ≡ served k (nodes_with t e.keys.items)
+  nodes_then = looked-map g (node_at t) (node_at now) given.look keys ∙ map-In g f nodes each_given
+
+  -- the first allocation made them
+  pub made_then : collection_in now s' ≡ record {
+    id = e.id;
+    nodes = after_allocation k (nodes_with t e.keys.items);
+    buffers = Some buffers;
+    held = held;
+  }
+  made_then = λ i. record { id = e.id; nodes = (nodes_then ∙ given_is k nodes) i; buffers = Some buffers; held = held }
+
+  -- the keys of each shelf are filed
+  filed_of : (x : Shelf) → In x ss → list_all (is_filed t x.id) x.keys ≡ true
+  filed_of x there = all-In (λ (y : Shelf). list_all (is_filed t y.id) y.keys) ss x there u.store.kept.filed
+
+  -- the nodes of other collections are of other units
+  others_stay : (x : Shelf) → x.id ≢ e.id → list_all (is_filed t x.id) x.keys ≡ true → collection_in now x ≡ collection_in t x
+  others_stay x differ filed = λ i. record (collection_in t x) { nodes = stay i }
+    where
+      apart : (m : Node) → In m (nodes_with t x.keys) → g m ≡ m
+      apart m there = given_out hs ks m (false_if (list_any (same_key m.key) ks) (λ h.
+          let at : node_at t m.key ≡ Some m =
+          in_all (λ (y : Node). node_at t y.key ≡ Some y) (nodes_with t x.keys) (looked_there t u.store.kept.named x.keys) m there in
+          let own : In m nodes = key_within t ss u.store.kept s u.store.found u.store.kept.kin k top ks listed m at h in
+          let mine : (m.collection == e.id) ≡ true =
+          all-In (λ (y : Node). y.collection == e.id) nodes m own
+          (looked-of t e.id keys (found_filed t e.id ss s u.store.kept.filed u.store.found)) in
+          let its : (m.collection == x.id) ≡ true =
+          all-In (λ (y : Node). y.collection == x.id) (nodes_with t x.keys) m there (looked-of t x.id x.keys filed) in
+          differ (sym (eqb-true m.collection x.id its) ∙ eqb-true m.collection e.id mine)))
+
+      stay : nodes_with now x.keys ≡ nodes_with t x.keys
+      stay = looked-map g (node_at t) (node_at now) given.look x.keys ∙ still_map g (nodes_with t x.keys) apart
+
+  -- ---- the shelves
+
+  -- only the buffers change, of which being whole says that they are few
+  whole' : IsWhole (collection_in t s')
+  whole' = record {
+    sound = record {
+      distinct = formed.sound.distinct;
+      heads = formed.sound.heads;
+      one_root = formed.sound.one_root;
+      few = few;
+    };
+    rooted = formed.rooted;
+    united = formed.united;
+    together = formed.together;
+  }
+
+  -- the shelf is put in its place, with the same keys
+  kept' : IsStored t ss'
+  kept' =
+      let put_same : put_shelf (shelf_of e) ss ≡ ss = found_put s ss u.store.kept.rising u.store.found in
+      kept-put t t e.id [] (nothing_stored t) u.store.kept.named refl refl s' s ss refl refl u.store.kept.rising (rw put_same u.store.kept) tt tt
+      (all_there s s' refl (λ (x : Shelf). IsWhole (collection_in t x)) ss u.store.kept.rising u.store.found whole' u.store.kept.whole)
+
+  -- the shelf is found where it was put
+  found' : find (λ (x : Shelf). x.id == e.id) ss' ≡ Some s'
+  found' = found_there s s' refl ss u.store.kept.rising u.store.found
+
+  -- this collection is whole, and the others stay
+  whole_then : AllByRecursion (λ (x : Shelf). IsWhole (collection_in now x)) ss'
+  whole_then = all_in (λ (x : Shelf). IsWhole (collection_in now x)) ss' (λ x there. elim (either_way (x.id == e.id)) [
+    | inl h ↦
+        subst (λ (y : Shelf). IsWhole (collection_in now y))
+        (sym (one_shelf ss' kept'.rising x s' there (In-find (λ (y : Shelf). y.id == e.id) ss' s' found').0 (eqb-true x.id e.id h)))
+        (subst IsWhole (λ i. record { id = e.id; nodes = sym nodes_then i; buffers = Some buffers; held = held })
+        (IsWhole-map (given_all hs) (λ m. record { key = refl; parent = refl; attached = refl; collection = refl; head = refl })
+        (λ m. refl) (collection_in t s') (together_then k nodes) whole'))
+    | inr h ↦
+        subst IsWhole (sym (others_stay x (eqb-false x.id e.id h)
+        (all-In (λ (y : Shelf). list_all (is_filed t y.id) y.keys) ss' x there kept'.filed)))
+        (all_at (λ (y : Shelf). IsWhole (collection_in t y)) ss' kept'.whole x there)
+  ])
+
+  -- allocation keeps each node's place
+  kept_then : IsStored now ss'
+  kept_then = kept-with g same_g (λ m h. sym (kept_given (λ (x : Node). x.gone) hs (λ x. refl) ks m) ∙ h) t now
+      given.same.first given.same.nexts given.same.len given.look given.parents ss' whole_then kept'
+
+  -- the shelf has the same keys
+  units' : AreUnits us (map (collection_in t) ss')
+  units' = units_there s s' refl us t ss u.store.kept.rising u.store.found (units_found t us e.id ss s u.store.units u.store.found) u.store.units
+
+  -- allocation changes none of the counts of units
+  units_then : AreUnits us (map (collection_in now) ss')
+  units_then = subst (AreUnits us) (sym (collections-map g same_g t now given.look ss'))
+      (units_with us g same_g (λ m. kept_given (λ x. x.gone) hs (λ x. refl) ks m)
+      (λ j m. kept_given (lives_in j) hs (λ x. refl) ks m)
+      (λ j m. kept_given (waits_in j) hs (λ x. refl) ks m) (map (collection_in t) ss') units')
+
+  -- ---- the root
+
+  -- the root is of its own unit
+  own_unit : list_any (same_key r.head) hs ≡ true
+  own_unit = or_left (same_key r.head k) false (ap (λ (j : NodeKey). same_key j k) own_head ∙ same_key-refl k)
+
+  -- the root has its buffers, so it waits no more
+  waits_then : waiting (served k (nodes_with t e.keys.items)) ≡ None
+  waits_then = waits_none c0 formed.sound hs r root.on (and_both (is_none r.parent) (not r.gone) (ap is_none root.top) (ap not root.here))
+      own_unit
+
+  -- the same, in the table
+  pub waits_no_more : waits_among [] (nodes_with now e.keys.items) ≡ true
+  waits_no_more = wait_among (nodes_with now e.keys.items) [] (subst (λ (ns : List Node). waiting ns ≡ None) (sym nodes_then) waits_then)
+
+  -- a node that hangs below another is not the root
+  no_root : (n : Node) → In n nodes → (p : NodeKey) → n.parent ≡ Some p → same_key n.key k ≡ false
+  no_root n on p up = false_if (same_key n.key k) (λ h.
+      let at : (m : Node) → In m nodes → node_at t m.key ≡ Some m =
+      in_all (λ (m : Node). node_at t m.key ≡ Some m) nodes (looked_there t u.store.kept.named keys) in
+      let both : Some n ≡ Some r =
+      sym (at n on) ∙ (ap (node_at t) (same_key-true n.key k h ∙ sym coming.own) ∙ at r root.on) in
+      let one : n ≡ r = cc in
+      let no : Some p ≡ None = sym up ∙ (ap (λ (m : Node). m.parent) one ∙ root.top) in
+      cc)
+
+  -- ---- the turns
+
+  module _ (ws : List PendingUnit) (place : ℕ) (turns : AreTurns t e.keys.items (record { place = place; head = k } ∷ ws)) where
+    -- with the units that follow among those that are due
+    u_due : MidEvent t us ss e [] (k ∷ turn_heads ws)
+    u_due = under_due t us ss e [] (k ∷ []) (k ∷ turn_heads ws)
+        (λ j h. or_left (same_key j k) (list_any (same_key j) (turn_heads ws)) (or_false (same_key j k) h)) u
+      where
+        or_false : (b : Bool) → (b || false) ≡ true → b ≡ true
+        or_false true h = refl
+        or_false false h = cc
+
+    -- one that may come to its turn might before
+    coming_was : (n : Node) → is_coming (served k nodes) (f n) ≡ true → is_coming nodes n ≡ true
+    coming_was n h =
+        let attached = and_left n.attached _ h in
+        let a = and_right n.attached _ h in
+        let b = and_right (not n.gone) _ a in
+        let waits : (list_any (same_key n.head) hs || n.allocated) ≡ false =
+        not-true (list_any (same_key n.head) hs || n.allocated) (and_left (not (list_any (same_key n.head) hs || n.allocated)) _ b) in
+        let all = and_right (not (list_any (same_key n.head) hs || n.allocated)) _ b in
+        and_both n.attached _ attached (and_both (not n.gone) _ (and_left (not n.gone) _ a)
+        (and_both (not n.allocated) _ (ap not (or_none_right (list_any (same_key n.head) hs) n.allocated waits))
+        (sym (ready_same n.key hs nodes) ∙ all)))
+
+    -- a unit that is coming after was coming before, so it was listed
+    closed_then : AreClosed (served k nodes) (turn_heads ws)
+    closed_then m there is hangs =
+        let x = In-map f nodes m there in
+        ap (λ (n : Node). list_any (same_key n.key) (turn_heads ws)) x.2
+        ∙ closed_behind t us ss e k place ws u_due turns x.0 x.1
+        (coming_was x.0 (ap (is_coming (served k nodes)) (sym x.2) ∙ is))
+        (sym (hangs_some_same k nodes (turn_heads ws) x.0) ∙ (ap (hangs_in_some (served k nodes) (turn_heads ws)) (sym x.2) ∙ hangs))
+
+    -- the units behind the first one
+    pub turns_then : AreTurns now e.keys.items ws
+    turns_then =
+        let behind = turns_behind t us ss e k place ws u_due turns in
+        record {
+          placed = behind.placed;
+          in_turn = behind.in_turn;
+          closed = subst (λ (ns : List Node). AreClosed ns (turn_heads ws)) (sym nodes_then) closed_then;
+        }
+
+    -- only these are next
+    next_among : (n : Node) → In n nodes → is_next_node (served k nodes) (f n) ≡ true → list_any (same_key n.key) (turn_heads ws) ≡ true
+    next_among n on h =
+        let attached = and_left n.attached _ h in
+        let a = and_right n.attached _ h in
+        let b = and_right (not n.gone) _ a in
+        let d = and_right (not (list_any (same_key n.head) hs || n.allocated)) _ b in
+        let turn = and_left (option_map_or (λ p. list_any (is_allocated_node p) (served k nodes)) n.parent false) _ d in
+        let all = and_right (option_map_or (λ p. list_any (is_allocated_node p) (served k nodes)) n.parent false) _ d in
+        let is = coming_was n (and_both n.attached _ attached (and_both (not n.gone) _ (and_left (not n.gone) _ a)
+        (and_both (not (list_any (same_key n.head) hs || n.allocated)) _
+        (and_left (not (list_any (same_key n.head) hs || n.allocated)) _ b) all))) in
+        from n.parent refl is turn
+      where
+        among : (p : NodeKey) → n.parent ≡ Some p → is_coming nodes n ≡ true → hangs_in_some nodes hs n ≡ true →
+            list_any (same_key n.key) (turn_heads ws) ≡ true
+        among p up is hangs =
+            elim (or_cases (same_key n.key k) (list_any (same_key n.key) (turn_heads ws)) (turns.closed n on is
+            (hangs_more nodes hs (k ∷ turn_heads ws) (λ j i. or_left (same_key j k) (list_any (same_key j) (turn_heads ws))
+            (or_false (same_key j k) i)) n hangs))) [
+              | inl own ↦ both_ways (same_key n.key k) own (no_root n on p up)
+              | inr i ↦ i
+            ]
+          where
+            or_false : (b : Bool) → (b || false) ≡ true → b ≡ true
+            or_false true h = refl
+            or_false false h = cc
+
+        was_next : (p : NodeKey) → n.parent ≡ Some p → is_coming nodes n ≡ true → list_any (is_allocated_node p) nodes ≡ true →
+            list_any (same_key n.key) (turn_heads ws) ≡ true
+        was_next p up is above =
+            let one = and_right n.attached _ is in
+            let two = and_right (not n.gone) _ one in
+            let next_was : is_next_node nodes n ≡ true =
+            and_both n.attached _ (and_left n.attached _ is) (and_both (not n.gone) _ (and_left (not n.gone) _ one)
+            (and_both (not n.allocated) _ (and_left (not n.allocated) _ two)
+            (and_both (option_map_or (λ p. list_any (is_allocated_node p) nodes) n.parent false) _
+            (ap (λ (o : Option NodeKey). option_map_or (λ p. list_any (is_allocated_node p) nodes) o false) up ∙ above)
+            (and_right (not n.allocated) _ two)))) in
+            both_ways (list_any (is_next_except (k ∷ []) nodes) nodes)
+            (In-any (is_next_except (k ∷ []) nodes) nodes n on (and_both (is_next_node nodes n) _ next_was
+            (ap not (ap (λ (b : Bool). b || false) (no_root n on p up)))))
+            u.next
+
+        from : (o : Option NodeKey) → n.parent ≡ o → is_coming nodes n ≡ true →
+            option_map_or (λ p. list_any (is_allocated_node p) (served k nodes)) o false ≡ true →
+            list_any (same_key n.key) (turn_heads ws) ≡ true
+        from None up is above = let no : false ≡ true = above in absurd (cc)
+        from (Some p) up is above =
+            let x = In-list_any (is_allocated_node p) (served k nodes) above in
+            let y = In-map f nodes x.0 x.1 in
+            let m : Node = y.0 in
+            let was : is_allocated_node p (f m) ≡ true = ap (is_allocated_node p) (sym y.2) ∙ x.2 in
+            let here : not m.gone ≡ true = and_left (not m.gone) _ was in
+            let both : ((list_any (same_key m.head) hs || m.allocated) && same_key m.key p) ≡ true = and_right (not m.gone) _ was in
+            let key : same_key m.key p ≡ true = and_right (list_any (same_key m.head) hs || m.allocated) _ both in
+            elim (or_cases (list_any (same_key m.head) hs) m.allocated (and_left (list_any (same_key m.head) hs || m.allocated) _ both)) [
+              | inl h ↦ among p up is
+                  (ap (λ (o : Option NodeKey). option_map_or
+                  (λ q. list_any (λ (x : Node). is_of q x && list_any (same_key x.head) hs) nodes)
+                  o false) up
+                  ∙ In-any (λ (x : Node). is_of p x && list_any (same_key x.head) hs) nodes m y.1
+                  (and_both (is_of p m) (list_any (same_key m.head) hs) key h))
+              | inr h ↦ was_next p up is
+                  (In-any (is_allocated_node p) nodes m y.1 (and_both (not m.gone) _ here (and_both m.allocated _ h key)))
+            ]
+
+    -- what is next after hangs on the root's unit, and was listed
+    next_then : list_any (is_next_except (turn_heads ws) (served k nodes)) (served k nodes) ≡ false
+    next_then = false_if (list_any (is_next_except (turn_heads ws) (served k nodes)) (served k nodes)) (λ h.
+        let x = In-list_any (is_next_except (turn_heads ws) (served k nodes)) (served k nodes) h in
+        let y = In-map f nodes x.0 x.1 in
+        let is = and_left (is_next_node (served k nodes) x.0) _ x.2 in
+        let out : list_any (same_key x.0.key) (turn_heads ws) ≡ false = not-true _ (and_right (is_next_node (served k nodes) x.0) _ x.2) in
+        both_ways (list_any (same_key x.0.key) (turn_heads ws))
+        (ap (λ (n : Node). list_any (same_key n.key) (turn_heads ws)) y.2
+        ∙ next_among y.0 y.1 (ap (is_next_node (served k nodes)) (sym y.2) ∙ is)) out)
+
+    -- ---- under way
+
+    module _ (new : Entry) (shelf : shelf_of new ≡ s') (strong : new.strong ≡ e.strong) (garbage_known : new.garbage_known ≡ e.garbage_known)
+        (garbage : new.garbage.items ≡ e.garbage.items)
+        (reserved : new.reserved ≡ reserved_count (after_allocation k (nodes_with t e.keys.items))) where
+      -- the same nodes, by the same keys
+      keys_new : nodes_with now new.keys.items ≡ served k nodes
+      keys_new = ap (λ (x : Shelf). nodes_with now x.keys) shelf ∙ nodes_then
+
+      -- the store agrees with the new shelf, and the units behind are those that are due
+      pub under_then : MidEvent now us (put_shelf s' ss) new [] (turn_heads ws)
+      under_then = record {
+        store = record {
+          kept = kept_then;
+          found = subst (λ (x : Shelf). find (λ (y : Shelf). y.id == x.id) ss' ≡ Some x) (sym shelf) found';
+          units = units_then;
+          inside = λ key n at. let x = was_there g t now given.look key n at in u.store.inside key x.0 x.1;
+          strong = strong ∙ (u.store.strong ∙ sym (ap strong_count keys_new ∙ times_map is_strong is_strong f nodes (λ m. refl)));
+          reserved = reserved ∙ ap reserved_count (sym (given_is k nodes) ∙ sym keys_new);
+          garbage_known = λ h.
+              ap (list_any (over_except new.garbage.items)) keys_new
+              ∙ (any_map (over_except new.garbage.items) (over_except new.garbage.items) f nodes (λ m. refl)
+              ∙ (ap (λ (ks : List NodeKey). list_any (over_except ks) nodes) garbage ∙ u.store.garbage_known (sym garbage_known ∙ h)));
+        };
+        bare = λ none.
+            let no : Some buffers ≡ None = sym (ap (λ (x : Shelf). x.buffers) shelf) ∙ none in
+            absurd (cc);
+        held = subst (λ (ns : List Node). are_held_except [] ns ≡ true) (sym keys_new) (held_then k nodes u.held);
+        next = subst (λ (ns : List Node). list_any (is_next_except (turn_heads ws) ns) ns ≡ false) (sym keys_new) next_then;
+        root = wait_among (nodes_with now new.keys.items) (turn_heads ws)
+            (subst (λ (ns : List Node). waiting ns ≡ None) (sym keys_new) waits_then);
+      }
+
+      -- ---- and what follows was made
+
+      -- the allocation is the step, and what follows was played out
+      pub rooted_given : (handles : Handles) (end : Table Node) (after : List Unit) (last : Entry) →
+          AfterPropagation handles now end after (put_shelf s' ss) new last → (v : AllocationOutcome) →
+          ((c : Collection) → first_made k v c ≡ record {
+            id = c.id;
+            nodes = after_allocation k c.nodes;
+            buffers = Some buffers;
+            held = held;
+          }) → shelf_then v (shelf_of e) ≡ s' →
+          IsRooted handles t end after ss e last k v
+      rooted_given handles end after last played v first_is shelf_is = record {
+        pending = played.pending;
+        under = subst (λ (x : Shelf). MidEvent end after (put_shelf x ss) last [] played.pending) (sym shelf_last) played.led.under;
+        shelf = shelf_last ∙ sym shelf_is;
+        leads = λ pool others final settles.
+            subst (λ (c : Collection). Settles pool handles others c final)
+            (ap (collection_in now) shelf ∙ (made_then ∙ sym (first_is (collection_in t (shelf_of e)))))
+            (played.led.leads pool others final
+            (subst (λ (x : Shelf). Settles pool handles others (collection_in end x) final) played.led.shelf settles));
+        beside = record {
+          same = record {
+            first = played.led.beside.same.first ∙ given.same.first;
+            nexts = played.led.beside.same.nexts ∙ given.same.nexts;
+            limit = played.led.beside.same.limit ∙ given.same.limit;
+            len = played.led.beside.same.len ∙ given.same.len;
+          };
+          others = λ x on differ.
+              played.led.beside.others x (in_put s' ss x on differ)
+              (λ same. differ (same ∙ ap (λ (y : Shelf). y.id) shelf)) ∙ others_stay x differ (filed_of x on);
+        };
+        out = played.out;
+      }
+        where
+          shelf_last : shelf_of last ≡ s'
+          shelf_last = played.led.shelf ∙ shelf

@@ -1,0 +1,332 @@
+-- The root's unit comes to its allocation by an effect, and all that follows is made: the forest then.
+use Rattle.forest_steps.proofs.Common.{◌≡◌, ℕ, refl, ap, sym, ◌∙◌, subst, true, false, not, inl, inr, List, [], ◌∷◌, ◌++◌, map, get_or, set, Some, None, option_map, find, list_any, sum_by, HeldBuffer, Interval, NodeKey, Demand, forced, In, Table, Change, Effect, Entry, Node, Unit, has_strong, waiting, Collection, with_nodes, Shelf, collection_in, forest_of, nodes_with, place_in, put_shelf, shelf_of, shelves_of, affected, is_deserted_node, reserved_count, Handles, Settles, collection_or_new, put, standing}
+use Rattle.std.proofs.lemmas.List.{get_or-set_same}
+use Rattle.sm_names.specs.Marks.{Mark}
+use Rattle.sm_names.specs.Words.{sorted_by}
+use Rattle.buffer_pool.specs.Holdings.{Holdings}
+use Rattle.forest_steps.specs.declared.initial_allocation.Plan.{Plan}
+use Rattle.forest_steps.specs.declared.initial_allocation.AllocationOutcome.{AllocationOutcome}
+use Rattle.forest_store.specs.Calm.{AreCountedExcept, put_in}
+use Rattle.forest_steps.specs.EventEnd.{Closes, MayClose}
+use Rattle.forest_store.specs.Decisions.{first_step, mark_of, wanted_by}
+use Rattle.forest_store.specs.Forest.{IsPoolOf, all_held, beside, pages_in}
+use Rattle.forest_store.specs.Unforced.{IsOpen}
+use Rattle.forest_store.specs.Shelves.{Finishes}
+use Rattle.forest_store.specs.Nodes.{after_allocation}
+use Rattle.forest_store.specs.Outcomes.{IsOutcomeIn, IsReady, IsSettledIn, changed_in}
+use Rattle.forest_store.specs.Starts.{starts_differ}
+use Rattle.forest_steps.specs.InitialAllocation.{IsComing, IsPlanned, IsReservedThen, IsRooted, IsAllocationOutcome, comes_first, first_made, shelf_then, wants_of}
+use Rattle.forest_store.specs.Scenes.{by_page, pages_held}
+use Rattle.forest_store.specs.UnitAllocation.{asked_with}
+use Rattle.forest_store.specs.Settling.{Forces, changed, made, no_key}
+use Rattle.forest_steps.specs.MidEvent.{AfterEffect, IsBeside, MidEvent, Reaches, are_held_except, holds_unit}
+use Rattle.forest_store.proofs.quiescence.Forcing.{forced_made}
+use Rattle.forest_store.proofs.changes.Done.{opens_at}
+use Rattle.forest_steps.proofs.changes.Dropped.{pool_at}
+use Rattle.forest_steps.proofs.changes.FirstAllocated.{put_there}
+use Rattle.forest_steps.proofs.intervals.Pools.{pool_back}
+use Rattle.forest_store.proofs.lists.SameIntervals.{start_of}
+use Rattle.forest_steps.proofs.allocation.Between.{StandsIn, stands_in}
+use Rattle.forest_store.proofs.shelves.Counted.{counted_but, shelves_put}
+use Rattle.forest_store.proofs.shelves.Entries.{IsPlace, place_is, set_put}
+use Rattle.forest_steps.proofs.mid_event.Joining.{but_beside, but_set, here_is, joined, place_set}
+use Rattle.forest_steps.proofs.mid_event.Ready.{no_end_under}
+use Rattle.forest_steps.proofs.mid_event.RootAsks.{reserved_alone, wanted_then}
+use Rattle.forest_steps.proofs.mid_event.RootMade.{coming_decided, reserved_then, step_made, under_held}
+use Rattle.forest_steps.proofs.mid_event.Stepping.{node_there}
+use Rattle.forest_steps.proofs.mid_event.RootReady.{comes_bare, comes_coming, comes_held, none_waits_held, strong_then}
+
+-- the shelf's id and keys stay
+then_id : (v : AllocationOutcome) (s : Shelf) → (shelf_then v s).id ≡ s.id
+then_id (AllocationOutcome.Fails why) s = refl
+then_id (AllocationOutcome.Given buffers held) s = refl
+
+-- its buffers are those of the collection
+then_held : (head : NodeKey) (v : AllocationOutcome) (s : Shelf) (c : Collection) → c.held ≡ s.held →
+    (first_made head v c).held ≡ (shelf_then v s).held
+then_held head (AllocationOutcome.Fails why) s c same = same
+then_held head (AllocationOutcome.Given buffers held) s c same = refl
+
+-- where it does not come to its allocation, it does not wait, if something holds each unit
+pub waits_not : (t : Table Node) (es : List Entry) (id at : ℕ) (old : Entry) → place_in id es ≡ Some at → old ≡ get_or es at old →
+    (us : List Unit) (key : NodeKey) (effect : Effect) → IsReady t es us id (Change.Effect key effect) →
+    comes_first t us key effect ≡ false →
+    are_held_except [] (map (affected key effect) (nodes_with t old.keys.items)) ≡ true →
+    waiting (map (affected key effect) (nodes_with t old.keys.items)) ≡ None
+waits_not t es id at old told is us key effect ready none held =
+    let x = node_there t (shelves_of es) ready.kept id key ready.change.named in
+    none_waits_held t us key effect x.0 x.1 (shelves_of es) (shelf_of old) old.strong
+    (opens_at t es id at old (place_is id es at told) is ready.kept ready.counted us ready.units (Change.Effect key effect) ready.change)
+    none held
+
+module _ (handles : Handles) (t : Table Node) (es : List Entry) (id at : ℕ) (old : Entry) (told : place_in id es ≡ Some at)
+    (is : old ≡ get_or es at old) (us : List Unit) (key : NodeKey) (effect : Effect) (ready : IsReady t es us id (Change.Effect key effect))
+    (under : MidEvent t us (shelves_of es) old [] []) (plan : Plan) (planned : IsPlanned t us old key effect plan)
+    (comes : comes_first t us key effect ≡ true) (now : Table Node) (after : List Unit) (mid : Entry)
+    (affects : AfterEffect t now after (shelves_of es) old mid key effect planned.node.head) where
+  abbrev ss : List Shelf
+  ss = shelves_of es
+
+  abbrev n : Node
+  n = planned.node
+
+  abbrev nodes1 : List Node
+  nodes1 = map (affected key effect) (nodes_with t old.keys.items)
+
+  -- with the effect
+  abbrev c1 : Collection
+  c1 = with_nodes (map (affected key effect)) (collection_in t (shelf_of old))
+
+  -- the place is that of the first entry with the id
+  place : IsPlace id es at
+  place = place_is id es at told
+
+  -- the entry at the place has the id that was looked for
+  pub own_id : old.id ≡ id
+  own_id = ap (λ (e : Entry). e.id) is ∙ place.id_is old
+
+  -- the change may be made, and the entry is counted
+  opens : IsOpen t us (shelves_of es) (shelf_of old) (Change.Effect key effect) old.strong
+  opens = opens_at t es id at old place is ready.kept ready.counted us ready.units (Change.Effect key effect) ready.change
+
+  -- the node and its head stand in the collection
+  stands : StandsIn t us (shelf_of old) key effect planned.node
+  stands = stands_in t us key effect n planned.was ss (shelf_of old) old.strong opens
+
+  -- the same nodes, by the same keys
+  nodes_mid : nodes_with now mid.keys.items ≡ map (affected key effect) (nodes_with t old.keys.items)
+  nodes_mid = ap (λ (s : Shelf). nodes_with now s.keys) affects.shelf ∙ affects.nodes
+
+  -- only the nodes change
+  is_mid : collection_in now (shelf_of mid) ≡ with_nodes (map (affected key effect)) (collection_in t (shelf_of old))
+  is_mid = ap (collection_in now) affects.shelf ∙ (λ i. record (collection_in t (shelf_of old)) { nodes = affects.nodes i })
+
+  -- the plan comes only where something holds the unit
+  held1 : list_any (holds_unit nodes1 n.head) nodes1 ≡ true
+  held1 = comes_held t us key effect n planned.was ss (shelf_of old) old.strong opens comes
+
+  -- the plan comes only where the head has no buffers
+  bare1 : (h : Node) → In h (nodes_with t old.keys.items) → h.key ≡ planned.node.head → h.allocated ≡ false
+  bare1 = comes_bare t us key effect n planned.was ss (shelf_of old) old.strong opens comes
+
+  -- the plan comes only where the unit waits for no node
+  coming1 : IsComing (map (affected key effect) (nodes_with t old.keys.items)) planned.node.head
+  coming1 = comes_coming t us key effect n planned.was ss (shelf_of old) old.strong opens comes
+
+  -- something holds the root's unit, which waits
+  under1 : MidEvent now after (shelves_of es) mid [] (planned.node.head ∷ [])
+  under1 = under_held now after ss mid n.head [] (n.head ∷ [])
+      (subst (λ (ns : List Node). list_any (holds_unit ns n.head) ns ≡ true) (sym nodes_mid) held1) affects.under
+
+  -- the plan is of the node's unit
+  pub under_mid : MidEvent now after (shelves_of es) mid [] (plan.head ∷ [])
+  under_mid = subst (λ (k : NodeKey). MidEvent now after (shelves_of es) mid [] (k ∷ [])) (sym planned.head_is) under1
+
+  -- the plan is of the node's unit, in the new table
+  pub coming_mid : IsComing (nodes_with now mid.keys.items) plan.head
+  coming_mid = subst (λ (k : NodeKey). IsComing (nodes_with now mid.keys.items) k) (sym planned.head_is)
+      (subst (λ (ns : List Node). IsComing ns n.head) (sym nodes_mid) coming1)
+
+  -- none was reserved before, or all was counted
+  reserved1 : plan.reserved ≡ reserved_count (after_allocation planned.node.head nodes1)
+  reserved1 = from planned.reserved_is
+    where
+      from : IsReservedThen t old n.head (affected key effect n)
+          (sum_by (λ (d : Demand). d.camping) (asked_with t planned.keys (n.head ∷ []) (affected key effect n))) plan.reserved →
+          plan.reserved ≡ reserved_count (after_allocation planned.node.head nodes1)
+      from (inl alone) =
+          alone.1
+          ∙ reserved_alone t us key effect n planned.was ss (shelf_of old) old.strong opens under.store.kept.kin bare1 planned.keys planned.listed
+          (sym under.store.reserved ∙ alone.0)
+      from (inr all) = all ∙ reserved_then t us key effect n planned.was ss (shelf_of old) old.strong opens
+
+  -- the same, in the new table
+  pub reserved_mid : plan.reserved ≡ reserved_count (after_allocation plan.head (nodes_with now mid.keys.items))
+  reserved_mid = reserved1 ∙ (λ i. reserved_count (after_allocation (sym planned.head_is i) (sym nodes_mid i)))
+
+  -- no unit is loose then
+  no_end1 : find (is_deserted_node nodes1) nodes1 ≡ None
+  no_end1 = subst (λ (ns : List Node). find (is_deserted_node ns) ns ≡ None) nodes_mid (no_end_under now after ss mid (n.head ∷ []) under1)
+
+  -- the plan counts the strong nodes and the demands with the effect
+  wants_are : plan.wants ≡ wants_of (has_strong nodes1) (wanted_by n.head nodes1)
+  wants_are =
+      planned.wants_is
+      ∙ ((λ i. wants_of (strong_then t us key effect n planned.was ss (shelf_of old) old.strong opens i)
+      (wanted_then t us key effect n planned.was ss (shelf_of old) old.strong opens under.store.kept.kin bare1 planned.keys planned.listed i)))
+
+  module _ (before between : Holdings) (verdict : AllocationOutcome) (found : IsAllocationOutcome before between id old.held.items plan.wants verdict) where
+    module _ (parted : starts_differ before.held ≡ true)
+        (of : before.held ≡ sorted_by start_of (map (λ (h : HeldBuffer). h.pages) (all_held (forest_of t (shelves_of es)))))
+        (then : Table Node) (units : List Unit) (new : Entry)
+        (rooted : IsRooted handles now then units (shelves_of es) mid new plan.head verdict) where
+      abbrev others : List Interval
+      others = beside (forest_of t (shelves_of es)) old.id
+
+      abbrev es2 : List Entry
+      es2 = set es at new
+
+      abbrev mark : Mark
+      mark = mark_of before.size (pages_in c1 ++ others) (first_step nodes1 n.head)
+
+      -- the pool holds the buffers of all collections
+      beside_is : before.held ≡ by_page (pages_in c1 ++ others)
+      beside_is = pool_at handles t es id at old told is ready.kept ready.counted before.held parted of
+
+      -- the verdict is what the step makes
+      step : (made before.size others mark c1 ≡ first_made n.head verdict c1)
+          × (between.held ≡ by_page (pages_in (first_made n.head verdict c1) ++ others))
+      step = step_made c1 stands.sound n.head coming1 no_end1 before between others beside_is plan.wants wants_are verdict
+          (subst (λ (i : ℕ). IsAllocationOutcome before between i old.held.items plan.wants verdict) (sym own_id) found)
+
+      -- what is decided is what is forced
+      forces : forced before.size (standing handles others c1) ≡ Some mark
+      forces =
+          forced_made handles before.size others c1
+          ∙ ap (option_map (mark_of before.size (pages_in c1 ++ others)))
+          (coming_decided nodes1 old.buffers (standing handles others c1).strong_open n.head coming1 no_end1)
+
+      -- wherever what follows leads, the effect leads
+      leads : Reaches before.size handles (beside (forest_of t (shelves_of es)) old.id) c1 (collection_in then (shelf_of new))
+      leads last settles =
+          Forces c1 last mark forces
+          (subst (λ (c : Collection). Settles before.size handles others c last)
+          ((λ i. first_made (planned.head_is i) verdict (is_mid i)) ∙ sym step.0)
+          (rooted.leads before.size others last settles))
+
+      -- ---- the shelves
+
+      -- the effect keeps the shelf, and the allocation changes its buffers
+      shelf_new : shelf_of new ≡ shelf_then verdict (shelf_of old)
+      shelf_new = rooted.shelf ∙ ap (shelf_then verdict) affects.shelf
+
+      -- no verdict changes the id
+      id_new : new.id ≡ old.id
+      id_new = ap (λ (s : Shelf). s.id) shelf_new ∙ then_id verdict (shelf_of old)
+
+      -- the entry is set at the place of its id
+      put_at : set es at new ≡ put_in new es
+      put_at = set_put new es at ready.kept.rising (subst (λ (i : ℕ). place_in i es ≡ Some at) (sym (id_new ∙ own_id)) told)
+
+      -- so its shelf is put among the others
+      shelves_are : shelves_of (set es at new) ≡ put_shelf (shelf_of new) (shelves_of es)
+      shelves_are = ap shelves_of put_at ∙ shelves_put new es
+
+      -- one after the other
+      by : IsBeside t then (shelves_of es) old.id
+      by = record {
+        same = record {
+          first = rooted.beside.same.first ∙ affects.beside.same.first;
+          nexts = rooted.beside.same.nexts ∙ affects.beside.same.nexts;
+          limit = rooted.beside.same.limit ∙ affects.beside.same.limit;
+          len = rooted.beside.same.len ∙ affects.beside.same.len;
+        };
+        others = λ x on differ.
+            rooted.beside.others x on (λ same. differ (same ∙ ap (λ (s : Shelf). s.id) affects.shelf)) ∙ affects.beside.others x on differ;
+      }
+
+      -- the others stay
+      put_is : map (collection_in then) (put_shelf (shelf_of new) (shelves_of es))
+          ≡ put (collection_in then (shelf_of new)) (map (collection_in t) (shelves_of es))
+      put_is = put_there (shelf_of old) (shelf_of new) id_new t then ss ready.kept.rising opens.found by.others
+
+      -- so its collection is put among the others
+      collections_are : map (collection_in then) (shelves_of (set es at new))
+          ≡ put (collection_in then (shelf_of new)) (map (collection_in t) (shelves_of es))
+      collections_are = ap (map (collection_in then)) shelves_are ∙ put_is
+
+      -- it stands where it was set
+      is_new : get_or (set es at new) at new ≡ new
+      is_new = get_or-set_same es at new new place.within
+
+      -- it has the id, so it is found at the same place
+      pub told_new : place_in id (set es at new) ≡ Some at
+      told_new = place_set id at es new (id_new ∙ own_id) told
+
+      -- the same with its own id
+      told_own : place_in new.id (set es at new) ≡ Some at
+      told_own = subst (λ (i : ℕ). place_in i (set es at new) ≡ Some at) (sym (id_new ∙ own_id)) told_new
+
+      -- the list of shelves is the one with the new shelf
+      under_then : MidEvent then units (shelves_of (set es at new)) new [] rooted.pending
+      under_then = subst (λ (xs : List Shelf). MidEvent then units xs new [] rooted.pending) (sym shelves_are) rooted.under
+
+      -- ---- what comes last may be made
+
+      -- what is due is what is abandoned, or nothing
+      pub may_close : MayClose handles then units (set es at new) at
+      may_close = record {
+        entry = new;
+        pending = rooted.pending;
+        is = is_new;
+        place = told_own;
+        under = under_then;
+        out = rooted.out;
+        others = but_set then new.id at es new refl
+            (subst (λ (i : ℕ). AreCountedExcept then i es) (sym id_new)
+            (but_beside t then old.id es by (counted_but t old.id es ready.counted)));
+      }
+
+      -- the pool holds what the step left it
+      held_new : between.held ≡ by_page (pages_in (collection_in then (shelf_of new)) ++ beside (forest_of t (shelves_of es)) new.id)
+      held_new =
+          step.1
+          ∙ (ap (λ (hs : List HeldBuffer). by_page (pages_held hs ++ others))
+          (then_held n.head verdict (shelf_of old) c1 refl ∙ ap (λ (s : Shelf). s.held) (sym shelf_new))
+          ∙ ap (λ (i : ℕ). by_page (pages_held new.held.items ++ beside (forest_of t (shelves_of es)) i)) (sym id_new))
+
+      -- so it holds the buffers of all collections
+      pub pool_then : starts_differ between.held ≡ true → IsPoolOf between (forest_of then (shelves_of (set es at new)))
+      pool_then parted' =
+          pool_back between.held t then (collection_in then (shelf_of new)) (shelf_of new) ss ready.kept.rising put_is parted' held_new
+          ∙ ap (λ (xs : List Shelf). sorted_by start_of (map (λ (h : HeldBuffer). h.pages) (all_held (forest_of then xs))))
+          (sym shelves_are)
+
+      -- ---- and all was made
+
+      module _ (last : Table Node) (behind : List Entry) (left : List Unit) (pool : Holdings)
+          (closes : Closes handles between pool then last (set es at new) behind left id) (size1 : between.size ≡ before.size)
+          (size2 : pool.size ≡ between.size) where
+        -- the collection is there, so the change maps its nodes
+        change_is : changed_in t es id (Change.Effect key effect) ≡ c1
+        change_is =
+            ap (changed (Change.Effect key effect) no_key)
+            (here_is t es id at old told is)
+
+        -- the collection is found at its place
+        then_is : collection_or_new (forest_of then (shelves_of (set es at new))) id ≡ collection_in then (shelf_of new)
+        then_is =
+            here_is then es2 id at new told_new (sym is_new)
+
+        -- the closing finishes from there
+        rest : Finishes before.size handles then (shelves_of (set es at new)) last (shelves_of behind) (collection_in then (shelf_of new))
+        rest =
+            subst (λ (c : Collection). Finishes before.size handles then (shelves_of es2) last (shelves_of behind) c) then_is
+            (subst (λ (size : ℕ). Finishes size handles then (shelves_of es2) last (shelves_of behind)
+            (changed_in then es2 id Change.Nothing)) size1 closes.settled.finishes)
+
+        -- the step and the closing are all that is forced
+        settled : IsSettledIn handles before pool t last es behind id (Change.Effect key effect)
+        settled = record {
+          finishes = subst (λ (c : Collection). Finishes before.size handles t ss last (shelves_of behind) c) (sym change_is)
+              (joined before.size handles t then last ss (shelves_of es2) (shelves_of behind) c1 (collection_in then (shelf_of new)) id_new
+              collections_are leads rest);
+          kept = closes.settled.kept;
+          counted = closes.settled.counted;
+          holds = closes.settled.holds;
+        }
+
+        -- the facts above
+        pub outcome_root : IsOutcomeIn true handles before pool t last es behind id (Change.Effect key effect)
+        outcome_root = record {
+          settled = λ h. settled;
+          unchanged = λ h. cc;
+          same_pool = λ h. cc;
+          same = record {
+            first = closes.same.first ∙ by.same.first;
+            nexts = closes.same.nexts ∙ by.same.nexts;
+            limit = closes.same.limit ∙ by.same.limit;
+            len = closes.same.len ∙ by.same.len;
+          };
+          size = size2 ∙ size1;
+        }

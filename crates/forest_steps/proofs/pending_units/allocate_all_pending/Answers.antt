@@ -1,0 +1,41 @@
+-- One unit after another.
+use Rattle.forest_steps.proofs.Common.{◌≡◌, ◌+◌, ◌<◌, List, ◌∷◌, drop, get_or, length, refl, sym, ◌∙◌, subst, arith, total}
+use Rattle.std.proofs.lemmas.List.{drop_more}
+use Rattle.forest_steps.specs.declared.pending_units.PendingUnit.{PendingUnit}
+use Rattle.forest_steps.proofs.mid_event.Leading.{HaveTurns, turns_more, turns_none}
+use Rattle.forest_steps.proofs.pending_units.allocate_all_pending.Goals as goal
+
+abbrev none : PendingUnit
+none = record { place = 0; head = record { slot = 0; generation = 0 } }
+
+pub loop-turn-init : goal.loop-turn-init
+loop-turn-init c = record {
+  named = c.requires.named;
+  len = refl;
+  room = omega arith;
+  had = turns_none (total c.args.holds.now) c.args.nodes.now.table c.args.nodes.now.units.items c.args.entry.now c.args.buffers c.args.turns.now;
+}
+
+pub loop-turn-preserved : goal.loop-turn-preserved
+loop-turn-preserved c =
+    let turns = c.args.turns.now in
+    let i = c.loop-turn.turn-index in
+    let h = total c.args.holds.now in
+    let w : PendingUnit = get_or turns i none in
+    let was = c.loop-turn.invariant in
+    let within : i < length turns = c.loop-turn-test.true in
+    let front : drop i turns ≡ w ∷ drop (i + 1) turns = drop_more turns i none within in
+    let had : HaveTurns h c.args.nodes.now.table c.loop-turn.nodes.table c.args.nodes.now.units.items c.loop-turn.nodes.units.items c.args.entry.now
+    c.loop-turn.entry c.args.buffers turns (w ∷ drop (i + 1) turns) =
+    subst (λ (l : List PendingUnit). HaveTurns h c.args.nodes.now.table c.loop-turn.nodes.table c.args.nodes.now.units.items c.loop-turn.nodes.units.items
+    c.args.entry.now c.loop-turn.entry c.args.buffers turns l) front was.had in
+    record {
+      named = c.allocate_pending.ensures.named;
+      len = c.allocate_pending.ensures.len ∙ was.len;
+      room = omega (arith, c.allocate_pending.ensures.room, was.room);
+      had = turns_more h c.args.nodes.now.table c.loop-turn.nodes.table c.allocate_pending.new.nodes.table c.args.nodes.now.units.items c.loop-turn.nodes.units.items
+          c.allocate_pending.new.nodes.units.items c.args.entry.now c.loop-turn.entry c.allocate_pending.new.entry c.args.buffers turns w
+          (drop (i + 1) turns) had
+          (λ given. sym (c.are_abandoned.ensures given) ∙ c.if-are_abandoned.false)
+          (c.allocate_pending.ensures.taken h);
+    }

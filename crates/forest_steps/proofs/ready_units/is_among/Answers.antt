@@ -1,0 +1,8 @@
+-- A key that is not found by the search is not there.
+use Rattle.forest_steps.proofs.Common.{sym, ◌∙◌}
+use Rattle.forest_steps.proofs.lists.ByKey.{found}
+use Rattle.forest_steps.proofs.ready_units.is_among.Goals as goal
+
+pub returns : goal.returns
+returns c = c.is_ok.ensures.value ∙ sym (found c.args.keys.now c.args.key c.binary_search.result c.requires c.binary_search.ensures.bound
+    c.binary_search.ensures.position)

@@ -1,0 +1,2 @@
+-- The counts of units, and what they tell.
+pub mod Strong

@@ -1,0 +1,11 @@
+pub mod Climbing
+pub mod EventEnd
+pub mod First
+pub mod InTurn
+pub mod InitialAllocation
+pub mod LogicalAllocation
+pub mod MidEvent
+pub mod Refusing
+pub mod Removal
+pub mod Runs
+pub mod StoreSteps

@@ -1,0 +1,94 @@
+//! What comes last of an event: buffers that are abandoned, and pages that go back.
+ghost use Rattle.std.specs.Prelude.{◌≡◌, ◌≤◌, ◌⊎◌, [], List, ℕ, Some, true, vec_capacity};
+ghost use Rattle.sm_names.specs.declared.keys.NodeKey.{NodeKey as Key};
+ghost use Rattle.buffer_holds.specs.Counts.{total};
+ghost use Rattle.node_table.specs.Table.{table_len};
+ghost use Rattle.forest_store.specs.Dropped.{has_given_root};
+ghost use Rattle.forest_store.specs.Forest.{IsPoolOf};
+ghost use Rattle.forest_store.specs.Shelves.{Shelf, place_in};
+ghost use Rattle.forest_store.specs.Scenes.{given_few};
+ghost use Rattle.forest_store.specs.Settling.{Handles};
+ghost use Rattle.forest_steps.specs.MidEvent.{is_abandoned_in};
+ghost use Rattle.forest_store.specs.Stores.{AreNamed, forest_in};
+ghost use Rattle.forest_steps.specs.StoreSteps.{FinishedOf, IsClosedIn, MayFinish, MidEventIn};
+
+use crate::dropped::is_abandoned;
+use crate::placement::assert_disjoint;
+use crate::removal::remove_subtree;
+use crate::returns::free_home_buffers;
+use buffer_holds::Holds;
+use buffer_pool::Pool;
+use forest_store::entry::Entry;
+use forest_store::store::{NodeStore, Store};
+use sm_names::{Cause, Fault, NodeKey};
+
+/// Where no strong node is live and the buffers of the collection at this place are abandoned, its root
+/// is lost, and all that is left of it; then the pages of the buffers that are home go back. Nothing is
+/// forced any more then. It costs a look at the handles of each buffer where no strong node is live,
+/// what goes, and what the return of the pages costs, and takes no memory.
+pub fn finish_event(
+    store: &mut Store,
+    at: usize,
+    pool: &mut Pool,
+    holds: &Holds,
+    keys: &mut Vec<NodeKey>,
+)
+    requires may { MayFinish (total holds.now) store.old at }
+    requires pool { IsPoolOf pool.old (forest_in store.old) }
+    requires room { table_len store.old.nodes.table ≤ vec_capacity keys.old }
+    ensures closes { (id : ℕ) → place_in id store.old.entries.items ≡ Some at →
+        FinishedOf (total holds.now) pool.old pool.new store.old store.new id }
+    ensures size { pool.new.size ≡ pool.old.size }
+{
+    let entry = &mut store.entries[at];
+    if entry.strong > 0 {
+        assert_disjoint(pool);
+        return;
+    }
+    fail_if_abandoned(&mut store.nodes, entry, holds, keys);
+    assert_disjoint(pool);
+    free_home_buffers(&mut entry.held, pool, holds, false);
+    assert_disjoint(pool);
+}
+
+/// Where the buffers of the collection are abandoned, of which no strong node is live, its root is lost,
+/// and all that is left of it. It costs a look at the strong handles of its buffers, and what goes.
+fn fail_if_abandoned(
+    nodes: &mut NodeStore,
+    entry: &mut Entry,
+    holds: &Holds,
+    keys: &mut Vec<NodeKey>,
+)
+    requires few { given_few entry.old.buffers ≡ true }
+    requires named { AreNamed nodes.old.table }
+    requires room { table_len nodes.old.table ≤ vec_capacity keys.old }
+    ensures closed { (ss : List Shelf) (pending : List Key) →
+        MidEventIn nodes.old ss entry.old [] pending →
+        (pending ≡ []) ⊎ (is_abandoned_in (total holds.now) nodes.old.table entry.old ≡ true) →
+        entry.old.strong ≡ 0 →
+        IsClosedIn (total holds.now) nodes.old nodes.new ss entry.old entry.new }
+{
+    if is_abandoned(&nodes.table, entry, holds) {
+        lose_root(nodes, entry, keys);
+    }
+}
+
+/// The root of the collection is lost for want of a strong node, and all that is left of it.
+fn lose_root(nodes: &mut NodeStore, entry: &mut Entry, keys: &mut Vec<NodeKey>)
+    requires given { has_given_root nodes.old.table entry.old.keys.items ≡ true }
+    requires named { AreNamed nodes.old.table }
+    requires room { table_len nodes.old.table ≤ vec_capacity keys.old }
+    ensures closed { (handles : Handles) (ss : List Shelf) (pending : List Key) →
+        MidEventIn nodes.old ss entry.old [] pending →
+        is_abandoned_in handles nodes.old.table entry.old ≡ true →
+        IsClosedIn handles nodes.old nodes.new ss entry.old entry.new }
+{
+    let Some(root) = entry.keys.as_slice().first().copied() else {
+        unreachable!();
+    };
+    let fault = Fault {
+        cause: Cause::NoStrong,
+        origin: root,
+    };
+    remove_subtree(nodes, entry, root, Some(fault), keys);
+}

@@ -1,0 +1,133 @@
+//! Losses and effects that are made in their places with all that they force, but for the first allocation.
+ghost use Rattle.std.specs.Prelude.{◌≡◌, ◌≤◌, [], ◌∷◌, List, Some, true, false, IsSome, vec_capacity};
+ghost use Rattle.std.specs.List.{list_any};
+ghost use Rattle.buffer_holds.specs.Counts.{total};
+ghost use Rattle.node_table.specs.Table.{node_at, row_at, table_len};
+ghost use Rattle.forest_store.specs.declared.node.Node.{Node as NodeValue};
+ghost use Rattle.forest_store.specs.Decisions.{is_left_of};
+ghost use Rattle.forest_store.specs.Shelves.{Shelf};
+ghost use Rattle.forest_store.specs.Nodes.{after_effect, after_loss, is_of};
+ghost use Rattle.forest_store.specs.Scenes.{given_few, has_tracker_room};
+ghost use Rattle.forest_steps.specs.MidEvent.{waits_among};
+ghost use Rattle.forest_store.specs.Stores.{AreNamed, nodes_in};
+ghost use Rattle.forest_steps.specs.StoreSteps.{AfterPropagationIn, IsRootAsleep, MidEventIn, PropagatedIn};
+
+use crate::logical_allocation::is_next;
+use crate::node_effect::affect_here;
+use crate::pending_units::{allocate_all_pending, list_pending};
+use crate::scratch::Scratch;
+use crate::subtree_end::{end_above, fall_by};
+use buffer_holds::Holds;
+use forest_store::change::Effect;
+use forest_store::entry::Entry;
+use forest_store::store::NodeStore;
+use sm_names::{Buffers, Fault, NodeKey};
+
+/// Makes a loss in its place, and the end of the units above that nothing holds any more by it. It
+/// costs what the failure climbs, and what goes, and takes no memory.
+pub fn apply_loss(
+    nodes: &mut NodeStore,
+    entry: &mut Entry,
+    holds: &Holds,
+    fault: Fault,
+    room: &mut Scratch,
+)
+    requires named { AreNamed nodes.old.table }
+    requires room { table_len nodes.old.table ≤ vec_capacity room.old.removed }
+    requires there { IsSome (row_at nodes.old.table fault.origin) }
+    ensures out { (ss : List Shelf) → MidEventIn nodes.old ss entry.old [] [] →
+        is_left_of (nodes_in nodes.old entry.old) fault.origin ≡ true →
+        PropagatedIn (total holds.now) (after_loss fault (nodes_in nodes.old entry.old))
+        nodes.old nodes.new ss entry.old entry.new }
+    ensures named { AreNamed nodes.new.table }
+    ensures room { vec_capacity room.old.removed ≤ vec_capacity room.new.removed }
+    ensures len { table_len nodes.new.table ≡ table_len nodes.old.table }
+{
+    fall_by(nodes, entry, fault, &mut room.removed);
+}
+
+/// The turns of the unit with this head, if it is next, and of those that follow, until the buffers are
+/// abandoned. It costs what the turns cost, and takes no memory.
+fn allocate_ready(
+    nodes: &mut NodeStore,
+    entry: &mut Entry,
+    holds: &Holds,
+    buffers: Buffers,
+    head: NodeKey,
+    room: &mut Scratch,
+)
+    requires few { given_few (Some buffers) ≡ true }
+    requires named { AreNamed nodes.old.table }
+    requires going { table_len nodes.old.table ≤ vec_capacity room.old.removed }
+    requires turns { table_len nodes.old.table ≤ vec_capacity room.old.pending }
+    ensures out { (ss : List Shelf) → MidEventIn nodes.old ss entry.old [] (head ∷ []) →
+        list_any (is_of head) (nodes_in nodes.old entry.old) ≡ true →
+        waits_among [] (nodes_in nodes.old entry.old) ≡ true → entry.old.buffers ≡ Some buffers →
+        AfterPropagationIn (total holds.now) nodes.old nodes.new ss entry.old entry.new }
+    ensures named { AreNamed nodes.new.table }
+    ensures room { vec_capacity room.old.removed ≤ vec_capacity room.new.removed }
+    ensures len { table_len nodes.new.table ≡ table_len nodes.old.table }
+{
+    if is_next(&nodes.table, &nodes.units, head) {
+        list_pending(
+            &nodes.table,
+            &nodes.units,
+            entry,
+            head,
+            &mut room.removed,
+            &mut room.pending,
+        );
+        allocate_all_pending(
+            nodes,
+            entry,
+            holds,
+            buffers,
+            &room.pending,
+            &mut room.removed,
+        );
+    }
+}
+
+/// Makes an effect in its place, and what it forces: the end of the unit of its node and of those above
+/// it, where nothing holds them any more, and the turns of that unit and of those that follow, where it
+/// is ready and attached. The unit of the root does not wait for its first buffers then. It costs a
+/// constant, and what ends, or what the turns cost, and takes no memory.
+pub fn apply_effect(
+    nodes: &mut NodeStore,
+    entry: &mut Entry,
+    holds: &Holds,
+    key: NodeKey,
+    effect: &Effect,
+    room: &mut Scratch,
+)
+    requires few { given_few entry.old.buffers ≡ true }
+    requires named { AreNamed nodes.old.table }
+    requires tracked { (n : NodeValue) → node_at nodes.old.table key ≡ Some n →
+        has_tracker_room key effect.now n ≡ true }
+    requires going { table_len nodes.old.table ≤ vec_capacity room.old.removed }
+    requires turns { table_len nodes.old.table ≤ vec_capacity room.old.pending }
+    ensures out { (ss : List Shelf) (n : NodeValue) → node_at nodes.old.table key ≡ Some n →
+        n.gone ≡ false → n.collection ≡ entry.old.id →
+        MidEventIn nodes.old ss entry.old [] [] →
+        IsRootAsleep nodes.old entry.old key effect.now →
+        PropagatedIn (total holds.now) (after_effect key effect.now (nodes_in nodes.old entry.old))
+        nodes.old nodes.new ss entry.old entry.new }
+    ensures named { AreNamed nodes.new.table }
+    ensures room { vec_capacity room.old.removed ≤ vec_capacity room.new.removed }
+    ensures len { table_len nodes.new.table ≡ table_len nodes.old.table }
+{
+    let Some(node) = nodes.table.get(key) else {
+        return;
+    };
+    let head = node.head;
+    let given = entry.buffers;
+    affect_here(nodes, entry, key, effect);
+    // The head of the unit is there, since the node is not gone.
+    if nodes.table.get(head).is_none() {
+        return;
+    }
+    end_above(nodes, entry, head, &mut room.removed);
+    if let Some(buffers) = given {
+        allocate_ready(nodes, entry, holds, buffers, head, room);
+    }
+}

@@ -1,0 +1,97 @@
+//! What is lost or ends with a node goes in its place.
+ghost use Rattle.std.specs.Prelude.{◌≡◌, ◌≤◌, List, Some, IsSome, vec_capacity};
+ghost use Rattle.sm_names.specs.declared.keys.NodeKey.{NodeKey as Key};
+ghost use Rattle.node_table.specs.Table.{row_at, table_len};
+ghost use Rattle.forest_steps.specs.Removal.{IsGoneSo, head_over};
+ghost use Rattle.forest_store.specs.Shelves.{Shelf};
+ghost use Rattle.forest_steps.specs.MidEvent.{MayGo};
+ghost use Rattle.forest_store.specs.Stores.{AreNamed, nodes_in};
+ghost use Rattle.forest_steps.specs.StoreSteps.{AfterRemovalIn, MidEventIn};
+
+use failure_domains::fall_into;
+use forest_store::entry::Entry;
+use forest_store::garbage::note_gone;
+use forest_store::loss_marks::Going;
+use forest_store::node::Node;
+use forest_store::removed_nodes::{decrement_all, mark_all_gone, recount};
+use forest_store::reserved::without;
+use forest_store::store::NodeStore;
+use node_table::NodeTable;
+use sm_names::{Fault, NodeKey};
+
+/// The head of the unit that the parent of the first of these is in, if it has a parent.
+fn head_over(table: &NodeTable<Node>, keys: &[NodeKey]) -> Option<NodeKey>
+    ensures { result ≡ head_over table.now keys.now }
+{
+    let Some((key, _)) = keys.split_first() else {
+        return None;
+    };
+    let parent = table.parent(*key)?;
+    let above = table.get(parent)?;
+    Some(above.head)
+}
+
+/// What a failure of this node takes goes so, each in its place. Its units and its collection count it no
+/// longer, and what is over then is noted. Answers the head of the unit right above what went, if there
+/// is one.
+///
+/// It costs what the failure climbs, and what goes, and takes no memory.
+fn remove_taken(
+    nodes: &mut NodeStore,
+    entry: &mut Entry,
+    origin: NodeKey,
+    going: &Going,
+    keys: &mut Vec<NodeKey>,
+) -> Option<NodeKey>
+    requires room { table_len nodes.old.table ≤ vec_capacity keys.old }
+    requires named { AreNamed nodes.old.table }
+    requires there { IsSome (row_at nodes.old.table origin) }
+    ensures gone { IsGoneSo nodes.old.table nodes.new.table nodes.old.units.items
+        nodes.new.units.items entry.old entry.new going.now origin keys.new.items }
+    ensures above { result ≡ head_over nodes.old.table keys.new.items }
+    ensures room { vec_capacity keys.old ≤ vec_capacity keys.new }
+{
+    fall_into(&nodes.table, origin, keys).unwrap();
+    let above = head_over(&nodes.table, keys);
+    let found = recount(&nodes.table, keys);
+    decrement_all(&nodes.table, &mut nodes.units, keys);
+    let over = mark_all_gone(&mut nodes.table, keys, going);
+    entry.strong = entry.strong.saturating_sub(found.strong);
+    entry.reserved = without(entry.reserved, found.reserved);
+    note_gone(&nodes.table, entry, keys, over);
+    above
+}
+
+/// What a failure of this node takes goes by the fault, or what lies at and below it leaves where there
+/// is none: each in its place. Its units and its collection count it no longer, and what is over then is
+/// noted. Answers the head of the unit right above what went, which may be held by nothing more, if
+/// there is one.
+///
+/// It costs what the failure climbs, and each node at and below the highest, also one that was gone
+/// before, and takes no memory.
+pub(crate) fn remove_subtree(
+    nodes: &mut NodeStore,
+    entry: &mut Entry,
+    origin: NodeKey,
+    fault: Option<Fault>,
+    keys: &mut Vec<NodeKey>,
+) -> Option<NodeKey>
+    requires room { table_len nodes.old.table ≤ vec_capacity keys.old }
+    requires named { AreNamed nodes.old.table }
+    requires there { IsSome (row_at nodes.old.table origin) }
+    ensures went { (ss : List Shelf) (unheld pending : List Key) →
+        MidEventIn nodes.old ss entry.old unheld pending →
+        MayGo (nodes_in nodes.old entry.old) origin fault →
+        AfterRemovalIn nodes.old nodes.new ss entry.old entry.new origin fault result unheld
+        pending }
+    ensures named { AreNamed nodes.new.table }
+    ensures there { (key : Key) → IsSome (row_at nodes.old.table key) →
+        IsSome (row_at nodes.new.table key) }
+    ensures len { table_len nodes.new.table ≡ table_len nodes.old.table }
+    ensures room { vec_capacity keys.old ≤ vec_capacity keys.new }
+{
+    match fault {
+        Some(fault) => remove_taken(nodes, entry, origin, &Going::Fails(fault), keys),
+        None => remove_taken(nodes, entry, origin, &Going::Leaves, keys),
+    }
+}

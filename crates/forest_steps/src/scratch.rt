@@ -1,0 +1,52 @@
+//! Room for what goes, and for the units that have their turns.
+ghost use Rattle.std.specs.Prelude.{◌≡◌, ◌≤◌, OnOk, true, vec_capacity};
+
+use crate::pending_units::PendingUnit;
+use sm_names::{NoMemory, NodeKey};
+use std::alloc::Global;
+
+/// Lists with room for as many as there are nodes: births make it, so that what goes or has its turn takes
+/// no memory.
+#[derive(Drop)]
+pub struct Scratch {
+    /// What goes, or the nodes of the units that have their turns.
+    pub removed: Vec<NodeKey>,
+    /// The nodes of the root's unit.
+    pub unit: Vec<NodeKey>,
+    /// Units that may come to their turn.
+    pub pending: Vec<PendingUnit>,
+}
+
+impl Scratch {
+    /// Room for nothing. It takes no memory.
+    pub fn new(alloc: Global) -> Scratch {
+        Scratch {
+            removed: Vec::new(alloc),
+            unit: Vec::new(alloc),
+            pending: Vec::new(alloc),
+        }
+    }
+
+    /// Makes room for so many nodes in each list. It costs a constant, growth spread over the calls.
+    pub fn reserve(&mut self, nodes: usize) -> Result<(), NoMemory>
+        ensures removed { OnOk result (nodes ≤ vec_capacity self.new.removed) }
+        ensures unit { OnOk result (nodes ≤ vec_capacity self.new.unit) }
+        ensures pending { OnOk result (nodes ≤ vec_capacity self.new.pending) }
+    {
+        if make_in(&mut self.removed, nodes)
+            && make_in(&mut self.unit, nodes)
+            && make_in(&mut self.pending, nodes)
+        {
+            Ok(())
+        } else {
+            Err(NoMemory)
+        }
+    }
+}
+
+// Makes room for so many in this list, and answers whether there is.
+fn make_in<T>(list: &mut Vec<T>, most: usize) -> bool
+    ensures { result ≡ true → most ≤ vec_capacity list.new }
+{
+    most <= list.capacity() || list.reserve(most.saturating_sub(list.len())).is_ok()
+}

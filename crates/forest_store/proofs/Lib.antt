@@ -1,0 +1,11 @@
+pub mod Common
+pub mod allocation
+pub mod changes
+pub mod failures
+pub mod leaving
+pub mod lists
+pub mod newborns
+pub mod quiescence
+pub mod shelves
+pub mod tables
+pub mod tallies

@@ -1,0 +1,4 @@
+-- Attached units that become ready and are allocated in their places.
+pub mod Allocated
+pub mod Next
+pub mod Before

@@ -1,0 +1,82 @@
+-- Attached units that are allocated in their places: what is forced besides stays as it was.
+use Rattle.forest_store.proofs.Common.{◌≡◌, refl, ap, ◌∙◌, Bool, true, false, not, ◌&&◌, ◌||◌, is_none, List, [], ◌∷◌, map, Option, Some, None, list_all, list_any, find, option_map_or, option_and_then, NodeKey, Cause, same_key, when, In-find, and_left, both_ways, false_if, same_key-true, Node, has_strong, waiting, Collection, is_deserted_node, is_ready_node, is_root_left, heads_itself}
+use Rattle.std.specs.Option.{option_map}
+use Rattle.forest_store.specs.Decisions.{Decision, Loses}
+use Rattle.forest_store.specs.Falls.{given_all}
+use Rattle.forest_store.specs.Scenes.{IsSound}
+use Rattle.forest_store.specs.Settling.{is_root_of}
+use Rattle.forest_store.proofs.quiescence.Calming.{find_map}
+use Rattle.forest_store.proofs.quiescence.Steps.{all-In, found_by_key}
+
+-- the root is lost, for want of a strong node
+abbrev pub losing : List Node → Bool → Option Node → Option Decision
+losing nodes strong_open o =
+    option_and_then (λ (root : Node). when (root.allocated && (not (has_strong nodes) && not strong_open)) (Loses root.key
+    Cause.NoStrong)) o
+
+-- none of those steps applies that come before the allocation of an attached unit
+pub record AreQuiescent (nodes : List Node) (strong_open : Bool) : Type 0 where
+  pub no_end : find (is_deserted_node nodes) nodes ≡ None
+  pub no_loss : losing nodes strong_open (find is_root_left nodes) ≡ None
+  pub no_root : waiting nodes ≡ None
+
+-- by induction: each element passes as it did before the map
+all_same : (p q : Node → Bool) (f : Node → Node) (ns : List Node) → ((n : Node) → p (f n) ≡ q n) → list_all p (map f ns) ≡ list_all q ns
+all_same p q f [] same = refl
+all_same p q f (n ∷ ns) same = λ i. same n i && all_same p q f ns same i
+
+-- ---- the allocation of attached units leaves them so
+
+-- these keys are of no root
+abbrev pub AreChildren : Collection → List NodeKey → Type 0
+AreChildren c hs = (j : NodeKey) → list_any (same_key j) hs ≡ true → is_root_of c j ≡ false
+
+-- the nodes once the units with these heads are allocated
+abbrev pub after_all : List NodeKey → List Node → List Node
+after_all hs nodes = map (given_all hs) nodes
+
+module _ (c : Collection) (sound : IsSound c) (hs : List NodeKey) (children : AreChildren c hs) where
+  abbrev f : Node → Node
+  f = given_all hs
+
+  abbrev after : List Node
+  after = after_all hs c.nodes
+
+  -- allocation does not change whether a node is ready
+  pub ready_on : (head : NodeKey) → list_all (is_ready_node head) after ≡ list_all (is_ready_node head) c.nodes
+  ready_on head = all_same (is_ready_node head) (is_ready_node head) f c.nodes (λ n. refl)
+
+  -- allocation changes neither parents nor what is gone
+  pub root_on : find is_root_left after ≡ option_map f (find is_root_left c.nodes)
+  root_on = find_map is_root_left is_root_left f c.nodes (λ n. refl)
+
+  -- the root is of another unit
+  pub root_same : (r : Node) → find is_root_left c.nodes ≡ Some r → (list_any (same_key r.head) hs || r.allocated) ≡ r.allocated
+  root_same r e =
+      let on = In-find is_root_left c.nodes r e in
+      let root : is_none r.parent ≡ true = and_left (is_none r.parent) (not r.gone) on.1 in
+      let own : heads_itself r ≡ true = all-In heads_itself c.nodes r on.0 sound.heads in
+      let head : same_key r.head r.key ≡ true = rw root at own in
+      let found : is_root_of c r.key ≡ is_none r.parent =
+      ap (λ (o : Option Node). option_map_or (λ (m : Node). is_none m.parent) o false) (found_by_key c.nodes r sound.distinct on.0) in
+      ap (λ (b : Bool). b || r.allocated) (false_if (list_any (same_key r.head) hs) (λ s.
+      both_ways (is_root_of c r.head) (ap (is_root_of c) (same_key-true r.head r.key head) ∙ found ∙ root) (children r.head s)))
+
+  -- the root unit waits or has its buffers, as before
+  pub wait_on : waiting c.nodes ≡ None → waiting after ≡ None
+  wait_on h =
+      ap (option_and_then (λ (root : Node). when (not root.allocated && list_all (is_ready_node root.key) after) root)) root_on
+      ∙ from (find is_root_left c.nodes) refl h
+    where
+      from : (o : Option Node) → find is_root_left c.nodes ≡ o →
+          option_and_then (λ (root : Node). when (not root.allocated && list_all (is_ready_node root.key) c.nodes) root) o ≡ None →
+          option_and_then (λ (root : Node). when (not root.allocated && list_all (is_ready_node root.key) after) root) (option_map f o)
+          ≡ None
+      from None e h = refl
+      from (Some r) e h =
+          (λ i. when (not (root_same r e i) && ready_on r.key i) (f r))
+          ∙ still (not r.allocated && list_all (is_ready_node r.key) c.nodes) h
+        where
+          still : (b : Bool) → when b r ≡ None → when b (f r) ≡ None
+          still true h = cc
+          still false h = refl

@@ -1,0 +1,24 @@
+-- Attached units that become ready are what is allocated next, and nothing after them.
+use Rattle.forest_store.proofs.Common.{◌≡◌, Bool, true, false, not, ◌&&◌, ◌||◌, is_none, List, list_any, option_map_or, NodeKey, same_key, In, same_key-true, Node, Collection, is_of, heads_itself}
+use Rattle.forest_store.specs.Scenes.{IsSound}
+use Rattle.forest_store.proofs.quiescence.Steps.{all-In}
+use Rattle.forest_store.proofs.allocation.Allocated.{AreChildren}
+
+-- the node's parent is in a unit with one of these heads
+abbrev pub hangs_in_some : List Node → List NodeKey → Node → Bool
+hangs_in_some nodes hs n = option_map_or (λ p. list_any (λ (q : Node). is_of p q && list_any (same_key q.head) hs) nodes) n.parent false
+
+-- an attached node heads its unit
+pub head_own : (c : Collection) → IsSound c → (n : Node) → In n c.nodes → n.attached ≡ true → n.head ≡ n.key
+head_own c sound n on attached =
+    same_key-true n.head n.key (by (is_none n.parent) n.attached (same_key n.head n.key) attached
+    (all-In heads_itself c.nodes n on sound.heads))
+  where
+    by : (none attached own : Bool) → attached ≡ true → (not (none || attached) || own) ≡ true → own ≡ true
+    by true attached own e h = h
+    by false true own e h = h
+    by false false own e h = cc
+
+module _ (c : Collection) (sound : IsSound c) (hs : List NodeKey) (children : AreChildren c hs) where
+  abbrev nodes : List Node
+  nodes = c.nodes

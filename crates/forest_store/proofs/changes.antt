@@ -1,0 +1,6 @@
+-- A change to a collection, and how it is put back.
+pub mod Altering
+pub mod Done
+pub mod Effecting
+pub mod Finishing
+pub mod Reserving

@@ -1,0 +1,219 @@
+-- A change to a collection that is there: what it keeps of the nodes, and where they lie.
+use Rattle.forest_store.proofs.Common.{◌≡◌, ℕ, ◌<◌, ◌==◌, nat_lt, Bool, true, false, ◌||◌, ◌&&◌, not, List, [], ◌∷◌, map, Option, Some, None, option_map, is_some, cond, refl, sym, ap, subst, ◌∙◌, inl, inr, arith, list_any, list_all, find, cons_option, AllByRecursion, option_map_or, eqb-true, eq-eqb, lt-ltb, false≢true, NodeKey, same_key, and_left, and_right, or_cases, same_key-true, Table, node_at, Change, Effect, Node, Collection, with_nodes, Shelf, AreRising, IsStored, IsWhole, put_shelf, collection_in, nodes_with, forest_of, all_keys, are_filed, is_filed, affected}
+use Rattle.std.proofs.lemmas.Bool.{ne_eqb, ltb-true}
+use Rattle.std.proofs.lemmas.List.Folds.{list_any-append}
+use Rattle.sm_names.specs.declared.rules.TheConstants.{MAX_NODE_TRACKERS}
+use Rattle.forest_store.specs.Forest.{node_at as forest_node}
+use Rattle.forest_store.specs.Shelves.{all_of}
+use Rattle.forest_store.specs.Nodes.{lost, is_taken}
+use Rattle.forest_store.specs.Scenes.{has_tracker_room}
+use Rattle.forest_store.specs.Settling.{changed, is_birth, no_key, fits, is_there, has_collection}
+use Rattle.forest_store.proofs.changes.Finishing.{keys_in}
+use Rattle.forest_store.proofs.shelves.Putting.{cases_place, above-weaker}
+use Rattle.forest_store.proofs.shelves.Showing.{node_is, collection_is, filed_found}
+use Rattle.forest_store.proofs.tables.Writing.{IsSameNode}
+
+-- ---- what a change keeps
+
+-- an effect keeps the key, the links, the collection and the unit
+pub same_affected : (key : NodeKey) (effect : Effect) (n : Node) → IsSameNode (affected key effect n) n
+same_affected key Effect.Bound n = record { key = refl; parent = refl; attached = refl; collection = refl; head = refl }
+same_affected key Effect.Dispensable n = record { key = refl; parent = refl; attached = refl; collection = refl; head = refl }
+same_affected key Effect.Weak n = record { key = refl; parent = refl; attached = refl; collection = refl; head = refl }
+same_affected key (Effect.WeakOk children) n = record { key = refl; parent = refl; attached = refl; collection = refl; head = refl }
+same_affected key (Effect.Constrained demand) n = record { key = refl; parent = refl; attached = refl; collection = refl; head = refl }
+same_affected key Effect.Taken n = record { key = refl; parent = refl; attached = refl; collection = refl; head = refl }
+same_affected key Effect.Released n = record { key = refl; parent = refl; attached = refl; collection = refl; head = refl }
+same_affected key Effect.Tracked n = record { key = refl; parent = refl; attached = refl; collection = refl; head = refl }
+
+-- each node as itself
+unchanged : (ns : List Node) → map (λ (n : Node). n) ns ≡ ns
+unchanged [] = refl
+unchanged (n ∷ ns) = ap (λ l. n ∷ l) (unchanged ns)
+
+-- a change that is no birth makes each node another, with the same key, links, collection and unit
+pub record MakesNodes (c now : Collection) : Type 0 where
+  pub of : Node → Node
+  pub same : (n : Node) → IsSameNode (of n) n
+  pub is : now ≡ with_nodes (map of) c
+
+-- each change but a birth maps the nodes of the collection and keeps their places
+pub change_makes : (change : Change) (key : NodeKey) (c : Collection) → is_birth change ≡ false → MakesNodes c (changed change key c)
+change_makes (Change.Birth parent attached client event) key c h = absurd (false≢true (sym h))
+change_makes (Change.Effect on effect) key c h = record { of = affected on effect; same = same_affected on effect; is = refl }
+change_makes (Change.Loss origin cause) key c h = record {
+  of = lost (is_taken c.nodes origin) (record { cause = cause; origin = origin });
+  same = λ n. record { key = refl; parent = refl; attached = refl; collection = refl; head = refl };
+  is = refl;
+}
+change_makes Change.Nothing key c h = record {
+  of = λ n. n;
+  same = λ n. record { key = refl; parent = refl; attached = refl; collection = refl; head = refl };
+  is = λ i. record c { nodes = sym (unchanged c.nodes) i };
+}
+
+-- ---- the shelf of a collection
+
+-- by whether it is the first
+found_id-by : (id : ℕ) (x : Shelf) (xs : List Shelf) (s : Shelf) (here : Bool) → (x.id == id) ≡ here →
+    cond here (Some x) (find (λ (y : Shelf). y.id == id) xs) ≡ Some s → (find (λ (y : Shelf). y.id == id) xs ≡ Some s → s.id ≡ id) →
+    s.id ≡ id
+found_id-by id x xs s true here found on =
+    let same : x ≡ s = cc in
+    ap (λ (y : Shelf). y.id) (sym same) ∙ eqb-true x.id id here
+found_id-by id x xs s false here found on = on found
+
+-- one shelf is the other
+pub Some-shelf : (x s : Shelf) → Some x ≡ Some s → x ≡ s
+Some-shelf x s e = cc
+
+-- no shelf of a greater id is found
+pub none_above : (id : ℕ) (ss : List Shelf) → AllByRecursion (λ (later : Shelf). id < later.id) ss →
+    find (λ (s : Shelf). s.id == id) ss ≡ None
+none_above id [] all = refl
+none_above id (s ∷ ss) all =
+    let other : (s.id == id) ≡ false = ne_eqb _ _ (λ same. omega (arith, all.0)) in
+    rw other (none_above id ss all.1)
+
+-- a shelf that is found has the id
+pub found_id : (id : ℕ) (ss : List Shelf) (s : Shelf) → find (λ (x : Shelf). x.id == id) ss ≡ Some s → s.id ≡ id
+found_id id [] s found = absurd (cc)
+found_id id (x ∷ xs) s found = found_id-by id x xs s (x.id == id) refl found (found_id id xs s)
+
+-- a shelf that is found stands in its place
+pub found_put : (s : Shelf) (ss : List Shelf) → AreRising ss → find (λ (x : Shelf). x.id == s.id) ss ≡ Some s → put_shelf s ss ≡ ss
+found_put s [] rising found = absurd (cc)
+found_put s (x ∷ xs) rising found = cases_place x.id s.id (put_shelf s (x ∷ xs) ≡ x ∷ xs)
+    (λ same. let one : x ≡ s = Some-shelf x s (rw same at found) in rw same (ap (λ y. y ∷ xs) (sym one)))
+    (λ other above.
+    let less : s.id < x.id = ltb-true _ _ above in
+    let none = none_above s.id xs (above-weaker s.id x.id xs less rising.0) in
+    let some = rw (other, none) at found in absurd (cc))
+    (λ other below. rw (other, below) (ap (λ l. x ∷ l) (found_put s xs rising.1 (rw other at found))))
+
+-- by what the first key finds
+looked-of-by : (id : ℕ) (o : Option Node) (ns : List Node) → option_map_or (λ (n : Node). n.collection == id) o false ≡ true →
+    all_of id ns ≡ true → all_of id (cons_option o ns) ≡ true
+looked-of-by id None ns filed on = on
+looked-of-by id (Some n) ns filed on = rw (filed, on) refl
+
+-- the nodes of filed keys are of the collection
+pub looked-of : (t : Table Node) (id : ℕ) (keys : List NodeKey) → list_all (is_filed t id) keys ≡ true →
+    all_of id (nodes_with t keys) ≡ true
+looked-of t id [] filed = refl
+looked-of t id (k ∷ ks) filed =
+    looked-of-by id (node_at t k) (nodes_with t ks) (and_left _ _ filed) (looked-of t id ks (and_right _ _ filed))
+
+-- a key that is filed has a node of the collection
+pub filed_at : (t : Table Node) (id : ℕ) (keys : List NodeKey) (key : NodeKey) (n : Node) → list_all (is_filed t id) keys ≡ true →
+    node_at t key ≡ Some n → list_any (same_key key) keys ≡ true → (n.collection == id) ≡ true
+filed_at t id [] key n filed is there = absurd (false≢true there)
+filed_at t id (k ∷ ks) key n filed is there = elim (or_cases (same_key key k) (list_any (same_key key) ks) there) [
+  | inl here ↦
+      let found : node_at t k ≡ Some n = ap (node_at t) (sym (same_key-true key k here)) ∙ is in
+      let own : is_filed t id k ≡ true = and_left _ _ filed in
+      rw found at own
+  | inr behind ↦ filed_at t id ks key n (and_right _ _ filed) is behind
+]
+
+-- a shelf that is found behind another is found
+found_behind : (s : Shelf) (ss : List Shelf) (id : ℕ) → is_some (find (λ (x : Shelf). x.id == id) ss) ≡ true →
+    is_some (find (λ (x : Shelf). x.id == id) (s ∷ ss)) ≡ true
+found_behind s ss id found =
+    elim (s.id == id) as (λ b. is_some (cond b (Some s) (find (λ (x : Shelf). x.id == id) ss)) ≡ true) [ true ↦ refl | false ↦ found ]
+
+-- a node that is there is of a collection that is there
+pub kept_of : (t : Table Node) (ss : List Shelf) (key : NodeKey) (n : Node) → are_filed t ss ≡ true → node_at t key ≡ Some n →
+    list_any (same_key key) (all_keys ss) ≡ true → is_some (find (λ (s : Shelf). s.id == n.collection) ss) ≡ true
+kept_of t [] key n filed is there = absurd (false≢true there)
+kept_of t (s ∷ ss) key n filed is there = elim (or_cases _ _ (sym (list_any-append (same_key key) s.keys (all_keys ss)) ∙ there)) [
+  | inl here ↦
+      let own : (n.collection == s.id) ≡ true = filed_at t s.id s.keys key n (and_left _ _ filed) is here in
+      rw (eq-eqb s.id n.collection (sym (eqb-true _ _ own))) refl
+  | inr behind ↦ found_behind s ss n.collection (kept_of t ss key n (and_right _ _ filed) is behind)
+]
+
+-- by the node
+there_kept-by : (t : Table Node) (ss : List Shelf) → IsStored t ss → (id : ℕ) (key : NodeKey) (o : Option Node) → node_at t key ≡ o →
+    option_map_or (λ (n : Node). n.collection == id && not n.gone) o false ≡ true → is_some (find (λ (s : Shelf). s.id == id) ss) ≡ true
+there_kept-by t ss ok id key None is there = absurd (false≢true there)
+there_kept-by t ss ok id key (Some n) is there =
+    let own : n.collection ≡ id = eqb-true _ _ (and_left _ _ there) in
+    subst (λ (i : ℕ). is_some (find (λ (s : Shelf). s.id == i) ss) ≡ true) own (kept_of t ss key n ok.filed is (ok.there key n is))
+
+-- a key that is in the collection, and its collection
+there_kept : (t : Table Node) (ss : List Shelf) → IsStored t ss → (id : ℕ) (key : NodeKey) → is_there (forest_of t ss) id key ≡ true →
+    is_some (find (λ (s : Shelf). s.id == id) ss) ≡ true
+there_kept t ss ok id key there =
+    there_kept-by t ss ok id key (node_at t key) refl (ap (λ o. option_map_or (λ (n : Node). n.collection == id && not n.gone) o false)
+    (sym (node_is t ss ok key)) ∙ there)
+
+-- what is kept of a shelf is kept of a collection
+mapped_some : (t : Table Node) (o : Option Shelf) → is_some (option_map (collection_in t) o) ≡ is_some o
+mapped_some t None = refl
+mapped_some t (Some s) = refl
+
+-- a collection that is kept has a shelf
+collection_kept : (t : Table Node) (ss : List Shelf) (id : ℕ) → has_collection (forest_of t ss) id ≡ true →
+    is_some (find (λ (s : Shelf). s.id == id) ss) ≡ true
+collection_kept t ss id fit = sym (mapped_some t (find (λ (s : Shelf). s.id == id) ss)) ∙ ap is_some (sym (collection_is t id ss)) ∙ fit
+
+-- a collection that is changed is there
+pub change_kept : (t : Table Node) (ss : List Shelf) → IsStored t ss → (id : ℕ) (change : Change) → is_birth change ≡ false →
+    fits (forest_of t ss) id change ≡ true → is_some (find (λ (s : Shelf). s.id == id) ss) ≡ true
+change_kept t ss ok id (Change.Birth parent attached client event) h fit = absurd (false≢true (sym h))
+change_kept t ss ok id (Change.Effect key effect) h fit = there_kept t ss ok id key fit
+change_kept t ss ok id (Change.Loss origin cause) h fit = there_kept t ss ok id origin fit
+change_kept t ss ok id Change.Nothing h fit = collection_kept t ss id fit
+
+-- by whether it is that node
+tracker_room-by : (key : NodeKey) (n : Node) (same : Bool) → same_key key n.key ≡ same → (key ≡ n.key → n.trackers < MAX_NODE_TRACKERS) →
+    (not same || nat_lt n.trackers MAX_NODE_TRACKERS) ≡ true
+tracker_room-by key n true same few = lt-ltb n.trackers MAX_NODE_TRACKERS (few (same_key-true key n.key same))
+tracker_room-by key n false same few = refl
+
+-- the node of a tracker has room for it
+pub tracker_room : (t : Table Node) (ss : List Shelf) → IsStored t ss → (asked : NodeKey) (effect : Effect) →
+    ((n : Node) → effect ≡ Effect.Tracked → forest_node (forest_of t ss) asked ≡ Some n → n.trackers < MAX_NODE_TRACKERS) → (key : NodeKey) (n : Node) →
+    node_at t key ≡ Some n → has_tracker_room asked effect n ≡ true
+tracker_room t ss ok asked Effect.Tracked few key n is = tracker_room-by asked n (same_key asked n.key) refl (λ same.
+    few n refl (node_is t ss ok asked ∙ ap (node_at t) (same ∙ ok.named key n is) ∙ is))
+tracker_room t ss ok asked Effect.Bound few key n is = refl
+tracker_room t ss ok asked Effect.Dispensable few key n is = refl
+tracker_room t ss ok asked Effect.Weak few key n is = refl
+tracker_room t ss ok asked (Effect.WeakOk children) few key n is = refl
+tracker_room t ss ok asked (Effect.Constrained demand) few key n is = refl
+tracker_room t ss ok asked Effect.Taken few key n is = refl
+tracker_room t ss ok asked Effect.Released few key n is = refl
+
+-- ---- a collection that is changed
+
+-- the shelf that would show the collection
+abbrev pub shelf_by : Collection → Shelf
+shelf_by c = record { id = c.id; keys = keys_in c.nodes; buffers = c.buffers; held = c.held }
+
+-- the shelf of the id
+pub found_filed : (t : Table Node) (id : ℕ) (ss : List Shelf) (s : Shelf) → are_filed t ss ≡ true →
+    find (λ (x : Shelf). x.id == id) ss ≡ Some s → list_all (is_filed t s.id) s.keys ≡ true
+found_filed t id ss s filed found = filed_found t id ss filed s found
+
+-- by whether the first is found
+found_whole-by : (t : Table Node) (id : ℕ) (x : Shelf) (xs : List Shelf) (s : Shelf) (here : Bool) →
+    AllByRecursion (λ (y : Shelf). IsWhole (collection_in t y)) (x ∷ xs) →
+    cond here (Some x) (find (λ (y : Shelf). y.id == id) xs) ≡ Some s → (find (λ (y : Shelf). y.id == id) xs ≡ Some s →
+    IsWhole (collection_in t s)) → IsWhole (collection_in t s)
+found_whole-by t id x xs s true all found on = subst (λ (y : Shelf). IsWhole (collection_in t y)) (Some-shelf x s found) all.0
+found_whole-by t id x xs s false all found on = on found
+
+-- its collection is whole
+pub found_whole : (t : Table Node) (id : ℕ) (ss : List Shelf) (s : Shelf) → AllByRecursion (λ (x : Shelf). IsWhole (collection_in t x)) ss →
+    find (λ (x : Shelf). x.id == id) ss ≡ Some s → IsWhole (collection_in t s)
+found_whole t id [] s all found = absurd (cc)
+found_whole t id (x ∷ xs) s all found = found_whole-by t id x xs s (x.id == id) all found (found_whole t id xs s all.1)
+
+module _ (t : Table Node) (ss : List Shelf) (ok : IsStored t ss) (id : ℕ) (s : Shelf)
+    (found : find (λ (x : Shelf). x.id == id) ss ≡ Some s) (change : Change) (birth : is_birth change ≡ false)
+    (c now : Collection) (loaded : c ≡ collection_in t s) (became : now ≡ changed change no_key c) where
+  -- its keys are filed
+  own : list_all (is_filed t s.id) s.keys ≡ true
+  own = found_filed t id ss s ok.filed found

@@ -1,0 +1,233 @@
+-- What stays true where a collection that was worked on is put back.
+use Rattle.forest_store.proofs.Common.{◌≡◌, ◌≢◌, ℕ, ◌<◌, ◌==◌, Bool, true, false, List, [], ◌∷◌, map, Option, Some, None, option_map, is_some, cond, refl, sym, ap, subst, ◌∙◌, inl, inr, arith, list_all, AllByRecursion, cons_option, option_map_or, eqb-true, eqb-false, false≢true, NodeKey, same_key, In, and_left, and_right, same_key-true, Table, node_at, parent_at, Node, Collection, Shelf, AreRising, IsStored, IsWhole, put_shelf, collection_in, nodes_with, all_keys, are_filed, is_filed, put}
+use Rattle.std.proofs.lemmas.Bool.{cases_eq, ltb-true}
+use Rattle.node_table.specs.Table.{was_given}
+use Rattle.forest_store.specs.Shelves.{AreHeadsGiven, Stores, all_of, stored, written}
+use Rattle.forest_store.proofs.tables.Kin.{kin_kept}
+use Rattle.forest_store.proofs.tables.Writing.{given-same}
+use Rattle.forest_store.proofs.tables.Hanging.{in_all}
+use Rattle.forest_store.proofs.shelves.Putting.{cases_place, rising-put, keys-put, filed-same, filed-put, above-weaker}
+use Rattle.forest_store.proofs.tables.Storing.{stored-key, stored_one}
+
+-- the keys of nodes
+abbrev pub keys_in : List Node → List NodeKey
+keys_in ns = map (λ (n : Node). n.key) ns
+
+-- ---- what is written over what
+
+-- the first of them
+looked-key : (id : ℕ) (key : NodeKey) (o : Option Node) (ns : List Node) (keys : List NodeKey) → ((n : Node) → o ≡ Some n → n.key ≡ key) →
+    option_map_or (λ (n : Node). n.collection == id) o false ≡ true → keys_in ns ≡ keys → keys_in (cons_option o ns) ≡ key ∷ keys
+looked-key id key None ns keys named filed on = absurd (false≢true filed)
+looked-key id key (Some n) ns keys named filed on = λ i. named n refl i ∷ on i
+
+-- what is filed is there
+pub place-filed : (id : ℕ) (o : Option Node) → option_map_or (λ (n : Node). n.collection == id) o false ≡ true → is_some o ≡ true
+place-filed id None filed = absurd (false≢true filed)
+place-filed id (Some n) filed = refl
+
+-- the nodes that filed keys find have those keys
+pub looked-keys : (t : Table Node) (id : ℕ) → ((key : NodeKey) (n : Node) → node_at t key ≡ Some n → n.key ≡ key) → (keys : List NodeKey) →
+    list_all (is_filed t id) keys ≡ true → keys_in (nodes_with t keys) ≡ keys
+looked-keys t id named [] filed = refl
+looked-keys t id named (k ∷ ks) filed =
+    looked-key id k (node_at t k) (nodes_with t ks) ks (named k) (and_left _ _ filed) (looked-keys t id named ks (and_right _ _ filed))
+
+-- ---- collections
+
+-- by whether it is written over
+written-of : (id : ℕ) (m n : Node) (same : Bool) → m.collection ≡ id → n.collection ≡ id → (cond same m n).collection ≡ id
+written-of id m n true mine own = mine
+written-of id m n false mine own = own
+
+-- a node of the collection stays of it
+stored-of : (id : ℕ) (ns : List Node) (n : Node) → all_of id ns ≡ true → n.collection ≡ id → (stored ns n).collection ≡ id
+stored-of id [] n all own = own
+stored-of id (m ∷ ms) n all own =
+    stored-of id ms (written m n) (and_right _ _ all) (written-of id m n (same_key m.key n.key) (eqb-true _ _ (and_left _ _ all)) own)
+
+-- a node of another collection has none of these keys
+unwritten : (t : Table Node) (id : ℕ) (m n : Node) (same : Bool) → same_key m.key n.key ≡ same → is_filed t id m.key ≡ true →
+    node_at t n.key ≡ Some n → n.collection ≢ id → cond same m n ≡ n
+unwritten t id m n true same filed found other =
+    let there : node_at t m.key ≡ Some n = ap (node_at t) (same_key-true m.key n.key same) ∙ found in
+    let own : (n.collection == id) ≡ true = rw there at filed in
+    absurd (other (eqb-true _ _ own))
+unwritten t id m n false same filed found other = refl
+
+-- a node of another collection is not written over
+stored-beside : (t : Table Node) (id : ℕ) (ns : List Node) (n : Node) → list_all (is_filed t id) (keys_in ns) ≡ true →
+    node_at t n.key ≡ Some n → n.collection ≢ id → stored ns n ≡ n
+stored-beside t id [] n filed found other = refl
+stored-beside t id (m ∷ ms) n filed found other =
+    rw (unwritten t id m n (same_key m.key n.key) refl (and_left _ _ filed) found other) (stored-beside t id ms n (and_right _ _ filed)
+    found other)
+
+-- a node of another collection stays
+node-beside : (t : Table Node) (id : ℕ) (ns : List Node) → list_all (is_filed t id) (keys_in ns) ≡ true → (other : ℕ) → other ≢ id →
+    (key : NodeKey) (o : Option Node) → node_at t key ≡ o → ((n : Node) → node_at t key ≡ Some n → n.key ≡ key) →
+    option_map_or (λ (n : Node). n.collection == other) o false ≡ true → option_map (stored ns) o ≡ o
+node-beside t id ns own other differ key None is named filed = refl
+node-beside t id ns own other differ key (Some n) is named filed =
+    let found : node_at t n.key ≡ Some n = ap (node_at t) (named n is) ∙ is in
+    ap Some (stored-beside t id ns n own found (λ same. differ (sym (eqb-true _ _ filed) ∙ same)))
+
+-- the nodes of another collection stay
+nodes-beside : (t now : Table Node) (id : ℕ) (ns : List Node) →
+    ((key : NodeKey) → node_at now key ≡ option_map (stored ns) (node_at t key)) → ((key : NodeKey) (n : Node) → node_at t key ≡ Some n →
+    n.key ≡ key) → list_all (is_filed t id) (keys_in ns) ≡ true → (other : ℕ) → other ≢ id → (keys : List NodeKey) →
+    list_all (is_filed t other) keys ≡ true → nodes_with now keys ≡ nodes_with t keys
+nodes-beside t now id ns look named own other differ [] filed = refl
+nodes-beside t now id ns look named own other differ (k ∷ ks) filed =
+    let rest : nodes_with now ks ≡ nodes_with t ks = nodes-beside t now id ns look named own other differ ks (and_right _ _ filed) in
+    rw (look k, rest)
+    (ap (λ o. cons_option o (nodes_with t ks)) (node-beside t id ns own other differ k (node_at t k) refl (named k) (and_left _ _ filed)))
+
+-- what holds while a collection is put back: its nodes are in the table, in the places of those with their keys
+module _ (t now : Table Node) (id : ℕ) (ns : List Node) (stores : Stores t now ns) (named : (key : NodeKey) (n : Node) →
+    node_at t key ≡ Some n → n.key ≡ key) (own : list_all (is_filed t id) (keys_in ns) ≡ true) where
+  -- a node that is written over is of its collection still
+  stored-own : all_of id ns ≡ true → (key : NodeKey) (n : Node) → node_at t key ≡ Some n → (stored ns n).collection ≡ n.collection
+  stored-own all key n is = elim (cases_eq n.collection id) [
+    | inl equal ↦ stored-of id ns n all equal ∙ sym equal
+    | inr differ ↦ ap (λ (m : Node). m.collection) (stored-beside t id ns n own (ap (node_at t) (named key n is) ∙ is) differ)
+  ]
+
+  -- by the node that was there
+  filed-still-by : all_of id ns ≡ true → (other : ℕ) (key : NodeKey) (o : Option Node) → node_at t key ≡ o →
+      option_map_or (λ (n : Node). n.collection == other) (option_map (stored ns) o) false ≡ option_map_or (λ (n : Node).
+      n.collection == other) o false
+  filed-still-by all other key None is = refl
+  filed-still-by all other key (Some n) is = ap (λ (c : ℕ). c == other) (stored-own all key n is)
+
+  -- each key is filed where it was
+  filed-still : all_of id ns ≡ true → (other : ℕ) (key : NodeKey) → is_filed now other key ≡ is_filed t other key
+  filed-still all other key = ap (λ o. option_map_or (λ (n : Node). n.collection == other) o false) (stores.look key)
+      ∙ filed-still-by all other key (node_at t key) refl
+
+  -- another collection stays
+  pub collection-beside : (s : Shelf) → s.id ≢ id → list_all (is_filed t s.id) s.keys ≡ true → collection_in now s ≡ collection_in t s
+  collection-beside s differ filed = λ i. record {
+    id = s.id;
+    nodes = nodes-beside t now id ns stores.look named own s.id differ s.keys filed i;
+    buffers = s.buffers;
+    held = s.held;
+  }
+
+  -- so all of greater ids
+  collections-above : (ss : List Shelf) → AllByRecursion (λ (later : Shelf). id < later.id) ss → are_filed t ss ≡ true →
+      map (collection_in now) ss ≡ map (collection_in t) ss
+  collections-above [] all filed = refl
+  collections-above (s ∷ ss) all filed =
+      let first : collection_in now s ≡ collection_in t s = collection-beside s (λ same. omega (arith, all.0)) (and_left _ _ filed) in
+      let rest : map (collection_in now) ss ≡ map (collection_in t) ss = collections-above ss all.1 (and_right _ _ filed) in
+      λ i. first i ∷ rest i
+
+  -- all collections, with that one put back
+  pub collections-put : (new old : Shelf) (ss : List Shelf) → new.id ≡ id → old.id ≡ new.id → AreRising ss →
+      are_filed t (put_shelf old ss) ≡ true →
+      map (collection_in now) (put_shelf new ss) ≡ put (collection_in now new) (map (collection_in t) ss)
+  collections-put new old [] is was rising filed = refl
+  collections-put new old (s ∷ ss) is was rising filed =
+      cases_place s.id new.id (map (collection_in now) (put_shelf new (s ∷ ss)) ≡ put (collection_in now new)
+      (map (collection_in t) (s ∷ ss)))
+      (λ same. rw same (ap (λ cs. collection_in now new ∷ cs)
+      (collections-above ss (subst (λ (low : ℕ). AllByRecursion (λ (later : Shelf). low < later.id) ss) (eqb-true s.id new.id same
+      ∙ is) rising.0) (and_right _ _ (rw (was, same) at filed)))))
+      (λ other above.
+      let less : id < s.id = omega (arith, is, ltb-true _ _ above) in
+      rw (other, above) (ap (λ cs. collection_in now new ∷ cs)
+      (collections-above (s ∷ ss) (less, above-weaker id s.id ss less rising.0) (and_right _ _ (rw (was, other, above) at filed)))))
+      (λ other below.
+      let differ : s.id ≢ id = λ same. eqb-false s.id new.id other (same ∙ sym is) in
+      let parts = rw (was, other, below) at filed in
+      let first : collection_in now s ≡ collection_in t s = collection-beside s differ (and_left _ _ parts) in
+      let rest = collections-put new old ss is was rising.1 (and_right _ _ parts) in
+      rw (other, below) (λ i. first i ∷ rest i))
+
+  -- a node that is found was found under the same key
+  found-before : (key : NodeKey) (o : Option Node) (n : Node) → option_map (stored ns) o ≡ Some n → (m : Node) × (o ≡ Some m) ×
+      (n.key ≡ m.key) × (stored ns m ≡ n)
+  found-before key None n is = absurd (cc)
+  found-before key (Some m) n is =
+      let same : stored ns m ≡ n = cc in
+      (m, refl, ap (λ (x : Node). x.key) (sym same) ∙ stored-key ns m, same)
+
+  -- a node that is not gone has its parent in the table, as all that were stored have
+  linked-put : AllByRecursion (λ (n : Node). n.gone ≡ false → parent_at t n.key ≡ n.parent) ns → ((key : NodeKey) (n : Node) →
+      node_at t key ≡ Some n → n.gone ≡ false → parent_at t key ≡ n.parent) →
+      (key : NodeKey) (n : Node) → node_at now key ≡ Some n → n.gone ≡ false → parent_at now key ≡ n.parent
+  linked-put all linked key n is here =
+      let was = found-before key (node_at t key) n (sym (stores.look key) ∙ is) in
+      stores.parents key ∙ (elim (stored_one ns was.0) [
+        | inl same ↦
+            let one : was.0 ≡ n = sym same ∙ was.3 in
+            linked key was.0 was.1 (ap (λ (x : Node). x.gone) one ∙ here) ∙ ap (λ (x : Node). x.parent) one
+        | inr on ↦
+            ap (parent_at t) (sym (was.2 ∙ named key was.0 was.1))
+            ∙ in_all (λ (m : Node). m.gone ≡ false → parent_at t m.key ≡ m.parent) ns all n (subst (λ (m : Node). In m ns) was.3 on) here
+      ])
+
+  -- the heads were given, as those of all that were stored were
+  heads-put : AreHeadsGiven t ns → now.first ≡ t.first → now.nexts ≡ t.nexts → ((key : NodeKey) (n : Node) → node_at t key ≡ Some n →
+      was_given t n.head ≡ true) → (key : NodeKey) (n : Node) → node_at now key ≡ Some n → was_given now n.head ≡ true
+  heads-put all first nexts heads key n is =
+      let was = found-before key (node_at t key) n (sym (stores.look key) ∙ is) in
+      given-same t now first nexts n.head ∙ (elim (stored_one ns was.0) [
+        | inl same ↦
+            let one : was.0 ≡ n = sym same ∙ was.3 in
+            ap (λ (x : Node). was_given t x.head) (sym one) ∙ heads key was.0 was.1
+        | inr on ↦ in_all (λ (m : Node). was_given t m.head ≡ true) ns all n (subst (λ (m : Node). In m ns) was.3 on)
+      ])
+
+  -- all stays so
+  pub kept-put : all_of id ns ≡ true → (new old : Shelf) (ss : List Shelf) → old.id ≡ new.id → old.keys ≡ new.keys → AreRising ss →
+      IsStored t (put_shelf old ss) → AllByRecursion (λ (n : Node). n.gone ≡ false → parent_at t n.key ≡ n.parent) ns →
+      AreHeadsGiven t ns →
+      AllByRecursion (λ (s : Shelf). IsWhole (collection_in now s)) (put_shelf new ss) → IsStored now (put_shelf new ss)
+  kept-put all new old ss ids keys rising ok linked heads whole =
+      let same_keys : all_keys (put_shelf new ss) ≡ all_keys (put_shelf old ss) = sym (keys-put old new ss ids keys) in
+      record {
+        first = stores.same.first ∙ ok.first;
+        rising = rising-put new ss rising;
+        apart = rw same_keys ok.apart;
+        named = λ key n is.
+            let was = found-before key (node_at t key) n (sym (stores.look key) ∙ is) in
+            was.2 ∙ named key was.0 was.1;
+        filed = filed-same t now (filed-still all) (put_shelf new ss) ∙ sym (filed-put t old new ss ids keys) ∙ ok.filed;
+        there = λ key n is.
+            let was = found-before key (node_at t key) n (sym (stores.look key) ∙ is) in
+            rw same_keys (ok.there key was.0 was.1);
+        counted = rw same_keys ok.counted ∙ sym stores.same.len;
+        linked = linked-put linked ok.linked;
+        heads = heads-put heads stores.same.first stores.same.nexts ok.heads;
+        whole = whole;
+        parents = λ key p up. given-same t now stores.same.first stores.same.nexts p ∙ ok.parents key p (sym (stores.parents key) ∙ up);
+        kin = kin_kept t now
+            (λ key n is. let was = found-before key (node_at t key) n (sym (stores.look key) ∙ is) in
+            (was.0, was.1, ap (λ (x : Node). x.collection) (sym was.3) ∙ stored-own all key was.0 was.1))
+            (λ key p up. sym (stores.parents key) ∙ up) ok.kin;
+      }
+
+-- ---- wholeness
+
+-- of shelves and of their collections
+pub whole-map : (t : Table Node) (ss : List Shelf) → AllByRecursion (λ (s : Shelf). IsWhole (collection_in t s)) ss →
+    AllByRecursion IsWhole (map (collection_in t) ss)
+whole-map t [] all = tt
+whole-map t (s ∷ ss) all = (all.0, whole-map t ss all.1)
+
+-- and back
+pub whole-unmap : (t : Table Node) (ss : List Shelf) → AllByRecursion IsWhole (map (collection_in t) ss) →
+    AllByRecursion (λ (s : Shelf). IsWhole (collection_in t s)) ss
+whole-unmap t [] all = tt
+whole-unmap t (s ∷ ss) all = (all.0, whole-unmap t ss all.1)
+
+-- with a whole collection in the place of another
+pub whole-put : (new old : Collection) (cs : List Collection) → old.id ≡ new.id → IsWhole new → AllByRecursion IsWhole (put old cs) →
+    AllByRecursion IsWhole (put new cs)
+whole-put new old [] ids ok all = (ok, tt)
+whole-put new old (c ∷ cs) ids ok all = cases_place c.id new.id (AllByRecursion IsWhole (put new (c ∷ cs)))
+    (λ same. let parts = rw (ids, same) at all in rw same (ok, parts.1))
+    (λ other above. let parts = rw (ids, other, above) at all in rw (other, above) (ok, parts.1))
+    (λ other below. let parts = rw (ids, other, below) at all in rw (other, below) (parts.0, whole-put new old cs ids ok parts.1))

@@ -1,0 +1,3 @@
+-- What a loss takes.
+pub mod GoneNodes
+pub mod Written

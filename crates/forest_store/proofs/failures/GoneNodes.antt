@@ -1,0 +1,175 @@
+-- A node that goes: what it keeps, what it counts for no more, and how it is written.
+use Rattle.forest_store.proofs.Common.{◌≡◌, ℕ, ◌==◌, refl, ap, sym, ◌∙◌, subst, Bool, true, false, not, ◌&&◌, ◌||◌, ◌⊎◌, inl, inr, if◌then◌else◌, List, [], ◌∷◌, map, Option, Some, None, cons_option, list_all, list_any, option_map_or, NodeKey, same_key, In, and_both, and_left, and_right, either_way, or_cases, same_key-refl, same_key-true, Table, node_at, Node, lives_in, waits_in, is_filed, nodes_with}
+use Rattle.std.proofs.Math.Bool.{and-false, and-true}
+use Rattle.forest_store.specs.declared.loss_marks.Going.{Going}
+use Rattle.forest_store.specs.LossMarks.{gone_by}
+use Rattle.forest_store.specs.Shelves.{all_of, is_strong, stored, written}
+use Rattle.forest_store.specs.Reserved.{camped}
+use Rattle.forest_store.proofs.changes.Finishing.{keys_in}
+use Rattle.forest_store.proofs.lists.Lookups.{same_key-swap}
+use Rattle.forest_store.proofs.tallies.Reckoning.{lives_gone, waits_gone}
+use Rattle.forest_store.proofs.tallies.Reserved.{camped_but, camped_gone}
+use Rattle.forest_store.proofs.tallies.Untold.{but}
+use Rattle.forest_store.proofs.tables.Writing.{IsSameNode}
+
+-- ---- one node that goes
+
+-- going changes only the mark and the fault
+pub gone_same : (going : Going) (n : Node) → IsSameNode (gone_by going n) n
+gone_same (Going.Fails fault) n = record { key = refl; parent = refl; attached = refl; collection = refl; head = refl }
+gone_same Going.Leaves n = record { key = refl; parent = refl; attached = refl; collection = refl; head = refl }
+
+-- it sets the mark
+pub gone_is : (going : Going) (n : Node) → (gone_by going n).gone ≡ true
+gone_is (Going.Fails fault) n = refl
+gone_is Going.Leaves n = refl
+
+-- it does not touch the allocation
+gone_given : (going : Going) (n : Node) → (gone_by going n).allocated ≡ n.allocated
+gone_given (Going.Fails fault) n = refl
+gone_given Going.Leaves n = refl
+
+-- the nodes with these keys go
+abbrev pub goes_of : Going → List NodeKey → Node → Node
+goes_of going keys n = if list_any (same_key n.key) keys then gone_by going n else n
+
+-- its key is among those that go
+pub goes_in : (going : Going) (keys : List NodeKey) (n : Node) → list_any (same_key n.key) keys ≡ true →
+    goes_of going keys n ≡ gone_by going n
+goes_in going keys n e = λ i. if e i then gone_by going n else n
+
+-- its key is not
+pub goes_not : (going : Going) (keys : List NodeKey) (n : Node) → list_any (same_key n.key) keys ≡ false → goes_of going keys n ≡ n
+goes_not going keys n e = λ i. if e i then gone_by going n else n
+
+-- either it goes, which keeps the place, or it stays
+pub same_of : (going : Going) (keys : List NodeKey) (n : Node) → IsSameNode (goes_of going keys n) n
+same_of going keys n = elim (either_way (list_any (same_key n.key) keys)) [
+  | inl e ↦ subst (λ (m : Node). IsSameNode m n) (sym (goes_in going keys n e)) (gone_same going n)
+  | inr e ↦ subst (λ (m : Node). IsSameNode m n) (sym (goes_not going keys n e))
+      (record { key = refl; parent = refl; attached = refl; collection = refl; head = refl })
+]
+
+-- either it goes, which keeps the allocation, or it stays
+pub given_of : (going : Going) (keys : List NodeKey) (n : Node) → (goes_of going keys n).allocated ≡ n.allocated
+given_of going keys n = elim (either_way (list_any (same_key n.key) keys)) [
+  | inl e ↦ ap (λ (m : Node). m.allocated) (goes_in going keys n e) ∙ gone_given going n
+  | inr e ↦ ap (λ (m : Node). m.allocated) (goes_not going keys n e)
+]
+
+-- either it goes now, or it is as before
+pub gone_of : (going : Going) (keys : List NodeKey) (n : Node) → (goes_of going keys n).gone ≡ (list_any (same_key n.key) keys || n.gone)
+gone_of going keys n = elim (either_way (list_any (same_key n.key) keys)) [
+  | inl e ↦ ap (λ (m : Node). m.gone) (goes_in going keys n e) ∙ gone_is going n ∙ (λ i. sym e i || n.gone)
+  | inr e ↦ ap (λ (m : Node). m.gone) (goes_not going keys n e) ∙ (λ i. sym e i || n.gone)
+]
+
+-- ---- what is counted of nodes that go
+
+-- a test that no node that is gone passes
+but_is : (test : Node → Bool) → ((m : Node) → m.gone ≡ true → test m ≡ false) → (going : Going) (keys : List NodeKey) (n : Node) →
+    test (goes_of going keys n) ≡ but test keys n
+but_is test none going keys n = elim (either_way (list_any (same_key n.key) keys)) [
+  | inl e ↦ ap test (goes_in going keys n e) ∙ none (gone_by going n) (gone_is going n) ∙ sym (ap (λ (b : Bool). test n && not b) e
+      ∙ and-false (test n))
+  | inr e ↦ ap test (goes_not going keys n e) ∙ sym (ap (λ (b : Bool). test n && not b) e ∙ and-true (test n))
+]
+
+-- a strong node is not gone
+pub strong_gone : (m : Node) → m.gone ≡ true → is_strong m ≡ false
+strong_gone m e = rw e refl
+
+-- a node that goes is counted no longer, and one that stays as before
+pub strong_but : (keys : List NodeKey) (going : Going) (n : Node) → is_strong (goes_of going keys n) ≡ but is_strong keys n
+strong_but keys going n = but_is is_strong strong_gone going keys n
+
+-- the same for the live nodes of a unit
+pub lives_but : (k : NodeKey) (keys : List NodeKey) (going : Going) (n : Node) → lives_in k (goes_of going keys n) ≡ but (lives_in k) keys n
+lives_but k keys going n = but_is (lives_in k) (lives_gone k) going keys n
+
+-- the same for the nodes that a unit waits for
+pub waits_but : (k : NodeKey) (keys : List NodeKey) (going : Going) (n : Node) → waits_in k (goes_of going keys n) ≡ but (waits_in k) keys n
+waits_but k keys going n = but_is (waits_in k) (waits_gone k) going keys n
+
+-- a gone node camps on nothing
+pub camped_of : (keys : List NodeKey) (going : Going) (n : Node) → camped (goes_of going keys n) ≡ camped_but keys n
+camped_of keys going n = elim (either_way (list_any (same_key n.key) keys)) [
+  | inl e ↦ ap camped (goes_in going keys n e) ∙ camped_gone (gone_by going n) (gone_is going n)
+      ∙ sym (ap (λ (b : Bool). if b then 0 else camped n) e)
+  | inr e ↦ ap camped (goes_not going keys n e) ∙ sym (ap (λ (b : Bool). if b then 0 else camped n) e)
+]
+
+-- ---- nodes that are written as they go
+
+module _ (t : Table Node) (named : (key : NodeKey) (n : Node) → node_at t key ≡ Some n → n.key ≡ key) (going : Going) where
+  -- a node whose key is among these is found by them
+  pub in_looked : (ks : List NodeKey) (n : Node) → node_at t n.key ≡ Some n → list_any (same_key n.key) ks ≡ true → In n (nodes_with t ks)
+  in_looked [] n is h = cc
+  in_looked (k ∷ ks) n is h =
+      by (λ rest. in_looked ks n is rest) (node_at t k) refl (or_cases (same_key n.key k) (list_any (same_key n.key) ks) h)
+    where
+      by : (list_any (same_key n.key) ks ≡ true → In n (nodes_with t ks)) → (o : Option Node) → node_at t k ≡ o →
+          (same_key n.key k ≡ true) ⊎ (list_any (same_key n.key) ks ≡ true) → In n (cons_option o (nodes_with t ks))
+      by on None at (inl e) = let both : Some n ≡ None = sym is ∙ (ap (node_at t) (same_key-true n.key k e) ∙ at) in cc
+      by on None at (inr e) = on e
+      by on (Some m) at (inl e) = let both : Some n ≡ Some m = sym is ∙ (ap (node_at t) (same_key-true n.key k e) ∙ at) in inl cc
+      by on (Some m) at (inr e) = inr (on e)
+
+  -- what is found by keys is filed
+  pub filed_fallen : (id : ℕ) (ks : List NodeKey) → all_of id (nodes_with t ks) ≡ true →
+      list_all (is_filed t id) (keys_in (map (gone_by going) (nodes_with t ks))) ≡ true
+  filed_fallen id [] own = refl
+  filed_fallen id (k ∷ ks) own = by (λ rest. filed_fallen id ks rest) (node_at t k) refl own
+    where
+      by : (all_of id (nodes_with t ks) ≡ true → list_all (is_filed t id) (keys_in (map (gone_by going) (nodes_with t ks))) ≡ true) →
+          (o : Option Node) → node_at t k ≡ o → all_of id (cons_option o (nodes_with t ks)) ≡ true →
+          list_all (is_filed t id) (keys_in (map (gone_by going) (cons_option o (nodes_with t ks)))) ≡ true
+      by on None at own = on own
+      by on (Some m) at own =
+          and_both (is_filed t id (gone_by going m).key) _
+          (ap (λ (o : Option Node). option_map_or (λ (n : Node). n.collection == id) o false) (ap (node_at t) ((gone_same going m).key
+          ∙ named k m at) ∙ at) ∙ and_left (m.collection == id) _ own)
+          (on (and_right (m.collection == id) _ own))
+
+  -- a node is written as it goes where its key is among these
+  pub stored_goes : (ks : List NodeKey) (n : Node) → node_at t n.key ≡ Some n → (x : Node) → (x ≡ n) ⊎ (x ≡ gone_by going n) →
+      stored (map (gone_by going) (nodes_with t ks)) x ≡ (if list_any (same_key n.key) ks then gone_by going n else x)
+  stored_goes [] n is x one = refl
+  stored_goes (k ∷ ks) n is x one = by (λ y two. stored_goes ks n is y two) (node_at t k) refl (either_way (same_key n.key k))
+    where
+      x_key : x.key ≡ n.key
+      x_key = elim one [
+        | inl e ↦ ap (λ (y : Node). y.key) e
+        | inr e ↦ ap (λ (y : Node). y.key) e ∙ (gone_same going n).key
+      ]
+
+      -- once gone, it stays
+      both_go : (b : Bool) → (if b then gone_by going n else gone_by going n) ≡ gone_by going n
+      both_go true = refl
+      both_go false = refl
+
+      by : ((y : Node) → (y ≡ n) ⊎ (y ≡ gone_by going n) →
+          stored (map (gone_by going) (nodes_with t ks)) y ≡ (if list_any (same_key n.key) ks then gone_by going n else y)) →
+          (o : Option Node) → node_at t k ≡ o → (same_key n.key k ≡ true) ⊎ (same_key n.key k ≡ false) →
+          stored (map (gone_by going) (cons_option o (nodes_with t ks))) x ≡ (if same_key n.key k || list_any (same_key n.key)
+          ks then gone_by going n else x)
+      by on None at (inl e) = let both : Some n ≡ None = sym is ∙ (ap (node_at t) (same_key-true n.key k e) ∙ at) in cc
+      by on None at (inr e) = on x one ∙ (λ i. if sym e i || list_any (same_key n.key) ks then gone_by going n else x)
+      by on (Some m) at (inl e) =
+          let both : Some n ≡ Some m = sym is ∙ (ap (node_at t) (same_key-true n.key k e) ∙ at) in
+          let node : m ≡ n = cc in
+          let own : same_key (gone_by going m).key x.key ≡ true = ap (λ (k : NodeKey). same_key k x.key) (gone_same going m).key
+          ∙ ap (λ (y : Node). same_key y.key x.key) node ∙ (ap (same_key n.key) x_key ∙ same_key-refl n.key) in
+          let here : written (gone_by going m) x ≡ gone_by going n =
+          (λ i. if own i then gone_by going m else x) ∙ ap (gone_by going) node in
+          ap (stored (map (gone_by going) (nodes_with t ks))) here
+          ∙ (on (gone_by going n) (inr refl)
+          ∙ (both_go (list_any (same_key n.key) ks)
+          ∙ (λ i. if sym e i || list_any (same_key n.key) ks then gone_by going n else x)))
+      by on (Some m) at (inr e) =
+          let other : same_key (gone_by going m).key x.key ≡ false = ap (λ (j : NodeKey). same_key j x.key) ((gone_same going m).key
+          ∙ named k m at) ∙ (ap (same_key k) x_key ∙ (same_key-swap k n.key ∙ e)) in
+          let here : written (gone_by going m) x ≡ x = λ i. if other i then gone_by going m else x in
+          ap (stored (map (gone_by going) (nodes_with t ks))) here
+          ∙ (on x one
+          ∙ (λ i. if sym e i || list_any (same_key n.key) ks then gone_by going n else x))

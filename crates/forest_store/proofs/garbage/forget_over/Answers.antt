@@ -1,0 +1,44 @@
+-- The nodes that are over are forgotten, and then the collection, if it is bare.
+use Rattle.forest_store.proofs.Common.{map, sym, ◌∙◌, ap, subst, AreRising, IsStored, collection_in, shelves_of}
+use Rattle.forest_store.specs.Garbage.{without_bare}
+use Rattle.forest_store.proofs.leaving.Forgotten.{forgotten_collections, forgotten_kept, forgotten_rising}
+use Rattle.forest_store.proofs.garbage.forget_over.Goals as goal
+
+pub drop_bare-requires : goal.drop_bare-requires
+drop_bare-requires c =
+    subst AreRising (sym c.forget_nodes.ensures.shelves)
+    (forgotten_rising c.args.table.now c.forget_nodes.new.table c.args.id (shelves_of c.args.entries.now.items) c.requires.kept
+    c.forget_nodes.ensures.look c.forget_nodes.ensures.none c.forget_nodes.ensures.kept)
+
+pub returns-then-forget_nodes-clause-collections : goal.returns-then-forget_nodes-clause-collections
+returns-then-forget_nodes-clause-collections c =
+    ap (map (collection_in c.forget_nodes.new.table)) (c.drop_bare.ensures.shelves
+    ∙ ap (without_bare c.args.id) c.forget_nodes.ensures.shelves)
+    ∙ forgotten_collections c.args.table.now c.forget_nodes.new.table c.args.id (shelves_of c.args.entries.now.items) c.requires.kept
+    c.forget_nodes.ensures.look c.forget_nodes.ensures.none
+
+pub returns-then-forget_nodes-clause-kept : goal.returns-then-forget_nodes-clause-kept
+returns-then-forget_nodes-clause-kept c =
+    subst (IsStored c.forget_nodes.new.table) (sym (c.drop_bare.ensures.shelves ∙ ap
+    (without_bare c.args.id) c.forget_nodes.ensures.shelves))
+    (forgotten_kept c.args.table.now c.forget_nodes.new.table c.args.id (shelves_of c.args.entries.now.items) c.requires.kept
+    c.forget_nodes.ensures.look c.forget_nodes.ensures.none c.forget_nodes.ensures.kept)
+
+pub returns-then-forget_nodes-clause-counted : goal.returns-then-forget_nodes-clause-counted
+returns-then-forget_nodes-clause-counted c = c.drop_bare.ensures.counted c.forget_nodes.new.table c.forget_nodes.ensures.counted
+
+-- ---- where something is left, none of it goes
+
+pub returns-else-forget_nodes-clause-collections : goal.returns-else-forget_nodes-clause-collections
+returns-else-forget_nodes-clause-collections c =
+    ap (map (collection_in c.forget_nodes.new.table)) (sym (c.forget_nodes.ensures.full c.if-forget_nodes.false)
+    ∙ ap (without_bare c.args.id) c.forget_nodes.ensures.shelves)
+    ∙ forgotten_collections c.args.table.now c.forget_nodes.new.table c.args.id (shelves_of c.args.entries.now.items) c.requires.kept
+    c.forget_nodes.ensures.look c.forget_nodes.ensures.none
+
+pub returns-else-forget_nodes-clause-kept : goal.returns-else-forget_nodes-clause-kept
+returns-else-forget_nodes-clause-kept c =
+    subst (IsStored c.forget_nodes.new.table) (sym (sym (c.forget_nodes.ensures.full c.if-forget_nodes.false)
+    ∙ ap (without_bare c.args.id) c.forget_nodes.ensures.shelves))
+    (forgotten_kept c.args.table.now c.forget_nodes.new.table c.args.id (shelves_of c.args.entries.now.items) c.requires.kept
+    c.forget_nodes.ensures.look c.forget_nodes.ensures.none c.forget_nodes.ensures.kept)

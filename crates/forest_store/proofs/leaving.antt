@@ -1,0 +1,8 @@
+-- What is forgotten.
+pub mod Forgotten
+pub mod KeyMoves
+pub mod Noted
+pub mod OnlyNoted
+pub mod Places
+pub mod Thinning
+pub mod Tidying

@@ -1,0 +1,127 @@
+-- A collection of which no other nodes are over than are noted: to look at those is to look at all.
+use Rattle.forest_store.proofs.Common.{◌≡◌, refl, ap, sym, ◌∙◌, subst, Bool, true, false, not, ◌&&◌, ◌||◌, ◌⊎◌, inl, inr, List, [], ◌∷◌, cond, Option, Some, None, is_some, ◌==◌, eqb-true, filter, list_all, list_any, option_map_or, NodeKey, same_key, In, In-list_any, both_ways, either_way, same_key-true, Table, node_at, Entry, Node, over_except, is_filed, nodes_with, is_over}
+use Rattle.std.proofs.Math.Bool.{and-false}
+use Rattle.sm_names.proofs.ListLaws.{filter-In}
+use Rattle.forest_store.specs.Garbage.{IsForgettable, is_found, is_left_by, is_own_if_over, left_at, unless_over}
+use Rattle.forest_store.proofs.quiescence.Steps.{all-In}
+use Rattle.forest_store.proofs.leaving.Forgotten.{in_nodes}
+use Rattle.forest_store.proofs.leaving.Noted.{none_but}
+use Rattle.forest_store.proofs.lists.Lookups.{same_key-swap}
+use Rattle.forest_store.proofs.shelves.Counted.{none_each, own_key}
+
+module _ (t : Table Node) (e : Entry) (can : IsForgettable t e) (garbage_known : e.garbage_known ≡ true)
+    (own : list_all (is_own_if_over t e.id) e.garbage.items ≡ true) where
+  abbrev keys : List NodeKey
+  keys = e.keys.items
+
+  abbrev garbage : List NodeKey
+  garbage = e.garbage.items
+
+  -- a node of the collection that is not noted is not over
+  unnoted : (k : NodeKey) (n : Node) → node_at t k ≡ Some n → list_any (same_key k) keys ≡ true → list_any (same_key k) garbage ≡ false →
+      is_over n ≡ false
+  unnoted k n is there other =
+      none_but garbage n (none_each (over_except garbage) (nodes_with t keys) (can.garbage_known garbage_known) n (in_nodes t keys k n is there))
+      (ap (λ (j : NodeKey). list_any (same_key j) garbage) (can.named k n is) ∙ other)
+
+  -- a noted node that is over is one of the collection
+  listed : (k : NodeKey) (n : Node) → node_at t k ≡ Some n → list_any (same_key k) garbage ≡ true → is_over n ≡ true →
+      list_any (same_key k) keys ≡ true
+  listed k n is on over =
+      let x = In-list_any (same_key k) garbage on in
+      let test : is_own_if_over t e.id k ≡ true =
+      subst (λ (j : NodeKey). is_own_if_over t e.id j ≡ true) (sym (same_key-true k x.0 x.2))
+      (all-In (is_own_if_over t e.id) garbage x.0 x.1 own) in
+      let id : (n.collection == e.id) ≡ true =
+      (λ i. not (sym over i) || n.collection == e.id)
+      ∙ ap (λ (o : Option Node). option_map_or (λ (m : Node). not (is_over m) || m.collection == e.id) o true) (sym is) ∙ test in
+      can.all k n is (eqb-true n.collection e.id id)
+
+  -- each key finds what is left, whether all are looked at or those that are noted
+  pub noted_left : (k : NodeKey) → left_at t garbage k ≡ left_at t keys k
+  noted_left k = by (list_any (same_key k) garbage) refl (list_any (same_key k) keys) refl (node_at t k) refl
+    where
+      by : (a : Bool) → list_any (same_key k) garbage ≡ a → (b : Bool) → list_any (same_key k) keys ≡ b →
+          (o : Option Node) → node_at t k ≡ o → cond a (unless_over o) o ≡ cond b (unless_over o) o
+      by true on true there o is = refl
+      by false on false there o is = refl
+      by true on false there None is = refl
+      by false on true there None is = refl
+      by true on false there (Some n) is = elim (either_way (is_over n)) [
+        | inl over ↦ both_ways (list_any (same_key k) keys) (listed k n is on over) there
+        | inr e ↦ rw e refl
+      ]
+      by false on true there (Some n) is = let e : is_over n ≡ false = unnoted k n is there on in rw e refl
+
+  -- so it is for the keys of the collection
+  pub noted_found : (now : Table Node) → ((k : NodeKey) → node_at now k ≡ left_at t keys k) →
+      filter (is_left_by t garbage) keys ≡ filter (is_found now) keys
+  noted_found now look =
+      filter-In (is_left_by t garbage) (is_found now) keys
+      (λ k on. from k on (node_at t k) refl (all-In (is_filed t e.id) keys k on can.filed))
+    where
+      from : (k : NodeKey) → In k keys → (o : Option Node) → node_at t k ≡ o → is_filed t e.id k ≡ true →
+          is_left_by t garbage k ≡ is_found now k
+      from k on None is filed =
+          let no : false ≡ true = ap (λ (o : Option Node). option_map_or (λ (n : Node). n.collection == e.id) o false) (sym is) ∙ filed in
+          absurd (cc)
+      from k on (Some n) is filed =
+          let there : list_any (same_key k) keys ≡ true = own_key keys k on in
+          let now_is : node_at now k ≡ unless_over (Some n) = look k ∙ rw there (ap unless_over is) in
+          let left : is_left_by t garbage k ≡ not (list_any (same_key k) garbage && is_over n) =
+          ap (λ (o : Option Node). not (list_any (same_key k) garbage && option_map_or is_over o false)) is in
+          left ∙ (by (either_way (is_over n)) ∙ ap is_some (sym now_is))
+        where
+          by : (is_over n ≡ true) ⊎ (is_over n ≡ false) → not (list_any (same_key k) garbage && is_over n) ≡ is_some (unless_over (Some n))
+          by (inl over) = elim (either_way (list_any (same_key k) garbage)) [
+            | inl h ↦ rw (over, h) refl
+            | inr h ↦ both_ways (is_over n) over (unnoted k n is (own_key keys k on) h)
+          ]
+          by (inr e) = rw e (ap not (and-false (list_any (same_key k) garbage)))
+
+-- ---- keys that are dropped one after another
+
+-- a key that is left where the first node is not over is left by the others
+pub left_on : (t : Table Node) (key : NodeKey) (later : List NodeKey) → option_map_or is_over (node_at t key) false ≡ false →
+    (k : NodeKey) → is_left_by t (key ∷ later) k ≡ is_left_by t later k
+left_on t key later e k = elim (either_way (same_key k key)) [
+  | inl same ↦
+      let none : option_map_or is_over (node_at t k) false ≡ false =
+      ap (λ (j : NodeKey). option_map_or is_over (node_at t j) false) (same_key-true k key same) ∙ e in
+      (λ i. not (list_any (same_key k) (key ∷ later) && none i))
+      ∙ (ap not (and-false (list_any (same_key k) (key ∷ later)) ∙ sym (and-false (list_any (same_key k) later)))
+      ∙ (λ i. not (list_any (same_key k) later && sym none i)))
+  | inr other ↦ λ i. not ((other i || list_any (same_key k) later) && option_map_or is_over (node_at t k) false)
+]
+
+-- and where it is over, by the others once its key was dropped
+pub left_dropped : (t : Table Node) (key : NodeKey) (later : List NodeKey) → option_map_or is_over (node_at t key) false ≡ true →
+    (ks : List NodeKey) →
+    filter (is_left_by t later) (filter (λ other. not (same_key key other)) ks) ≡ filter (is_left_by t (key ∷ later)) ks
+left_dropped t key later e [] = refl
+left_dropped t key later e (k ∷ ks) = by (either_way (same_key key k)) (left_dropped t key later e ks)
+  where
+    by : (same_key key k ≡ true) ⊎ (same_key key k ≡ false) →
+        filter (is_left_by t later) (filter (λ other. not (same_key key other)) ks) ≡ filter (is_left_by t (key ∷ later)) ks →
+        filter (is_left_by t later) (filter (λ other. not (same_key key other)) (k ∷ ks)) ≡ filter (is_left_by t (key ∷ later)) (k ∷ ks)
+    by (inl same) rest =
+        let over : option_map_or is_over (node_at t k) false ≡ true =
+        ap (λ (j : NodeKey). option_map_or is_over (node_at t j) false) (sym (same_key-true key k same)) ∙ e in
+        let out : is_left_by t (key ∷ later) k ≡ false =
+        (λ i. not (((same_key-swap k key ∙ same) i || list_any (same_key k) later) && over i)) in
+        rw (same, out) rest
+    by (inr other) rest =
+        let kept : is_left_by t (key ∷ later) k ≡ is_left_by t later k =
+        (λ i. not (((same_key-swap k key ∙ other) i || list_any (same_key k) later) && option_map_or is_over (node_at t k) false)) in
+        rw (other, kept) (elim (is_left_by t later k) as (λ b.
+        cond b (k ∷ filter (is_left_by t later) (filter (λ other. not (same_key key other)) ks))
+        (filter (is_left_by t later) (filter (λ other. not (same_key key other)) ks))
+        ≡ cond b (k ∷ filter (is_left_by t (key ∷ later)) ks) (filter (is_left_by t (key ∷ later)) ks)) [
+          | true ↦ ap (λ l. k ∷ l) rest
+          | false ↦ rest
+        ])
+
+-- no key is left out by none
+pub left_none : (t : Table Node) (ks : List NodeKey) → filter (is_left_by t []) ks ≡ ks
+left_none t [] = refl
+left_none t (k ∷ ks) = ap (λ l. k ∷ l) (left_none t ks)

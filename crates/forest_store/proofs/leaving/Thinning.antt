@@ -1,0 +1,302 @@
+-- What stays true of a forest where a node was taken out, and its key is dropped.
+use Rattle.forest_store.proofs.Common.{◌≡◌, ℕ, suc, ◌+◌, ◌==◌, ◌<◌, Bool, true, false, ◌||◌, not, List, [], ◌∷◌, ◌++◌, map, length, drop, Option, Some, None, is_some, cond, refl, sym, ap, subst, ◌∙◌, inl, inr, arith, list_any, list_all, filter, cons_option, AllByRecursion, option_map_or, false≢true, not-true, NodeKey, same_key, In, and_both, and_left, and_right, either_way, or_cases, or_left, or_right, same_key-true, Table, node_at, parent_at, Node, Collection, with_nodes, Shelf, AreRising, IsStored, IsWhole, all_keys, are_filed, collection_in, is_filed, nodes_with, is_of, are_distinct, heads_itself}
+use Rattle.std.proofs.lemmas.List.Elements.{filter-append}
+use Rattle.sm_names.proofs.ListLaws.{filter-list_all, list_all-filter}
+use Rattle.sm_names.proofs.SamenessLaws.{or_both, or_none_left, or_none_right}
+use Rattle.node_table.specs.Table.{table_len}
+use Rattle.node_table.proofs.Keys.{same_key-equal}
+use Rattle.forest_store.specs.Garbage.{TakesOut, is_found, thinned}
+use Rattle.forest_store.specs.Shelves.{are_apart}
+use Rattle.forest_store.specs.Scenes.{IsSound}
+use Rattle.forest_store.proofs.tables.Hanging.{looked_gone}
+use Rattle.forest_store.proofs.tables.KeptRoots.{rooted_filter}
+use Rattle.forest_store.proofs.tables.Kin.{kin_kept}
+use Rattle.forest_store.proofs.tables.LeftParents.{childless}
+use Rattle.forest_store.proofs.lists.Lookups.{looked-without}
+use Rattle.forest_store.proofs.tables.Rooted.{whole_rooted}
+use Rattle.forest_store.proofs.tables.TakingOut.{same_first}
+use Rattle.forest_store.proofs.quiescence.Together.{together_filter}
+use Rattle.forest_store.proofs.quiescence.United.{united_filter}
+use Rattle.forest_store.proofs.changes.Finishing.{place-filed}
+
+-- ---- lists of which some elements are kept
+
+module _ {A : Type 0} (p : A → Bool) where
+  -- no element that is kept passes a test that none passes
+  pub none-filter : (test : A → Bool) (xs : List A) → list_any test xs ≡ false → list_any test (filter p xs) ≡ false
+  none-filter test [] none = refl
+  none-filter test (x ∷ xs) none = elim (p x) as (λ b. list_any test (cond b (x ∷ filter p xs) (filter p xs)) ≡ false) [
+    | true ↦ or_both _ _ (or_none_left _ _ none) (none-filter test xs (or_none_right _ _ none))
+    | false ↦ none-filter test xs (or_none_right _ _ none)
+  ]
+
+  -- what all behind the first pass, all that are left behind the first pass
+  pub behind-filter : (test : A → Bool) (xs : List A) → list_all test (drop 1 xs) ≡ true → list_all test (drop 1 (filter p xs)) ≡ true
+  behind-filter test [] all = refl
+  behind-filter test (x ∷ xs) all = elim (p x) as (λ b. list_all test (drop 1 (cond b (x ∷ filter p xs) (filter p xs))) ≡ true) [
+    | true ↦ list_all-filter test p xs all
+    | false ↦ behind_first (filter p xs) (list_all-filter test p xs all)
+  ]
+    where
+      behind_first : (ys : List A) → list_all test ys ≡ true → list_all test (drop 1 ys) ≡ true
+      behind_first [] all = refl
+      behind_first (y ∷ ys) all = and_right _ _ all
+
+  -- what is kept twice
+  pub filter-twice : (q : A → Bool) → ((x : A) → p x ≡ true → q x ≡ true) → (xs : List A) → filter p (filter q xs) ≡ filter p xs
+  filter-twice q weaker [] = refl
+  filter-twice q weaker (x ∷ xs) = elim (either_way (p x)) [
+    | inl kept ↦ rw (weaker x kept, kept) (ap (λ l. x ∷ l) (filter-twice q weaker xs))
+    | inr left ↦ elim (either_way (q x)) [
+      | inl more ↦ rw (more, left) (filter-twice q weaker xs)
+      | inr less ↦ rw (less, left) (filter-twice q weaker xs)
+    ]
+  ]
+
+-- ---- keys
+
+-- keys stay apart
+pub apart-filter : (p : NodeKey → Bool) (ks : List NodeKey) → are_apart ks ≡ true → are_apart (filter p ks) ≡ true
+apart-filter p [] apart = refl
+apart-filter p (k ∷ ks) apart = elim (p k) as (λ b. are_apart (cond b (k ∷ filter p ks) (filter p ks)) ≡ true) [
+  | true ↦
+      let lone : list_any (same_key k) (filter p ks) ≡ false = none-filter p (same_key k) ks (not-true _ (and_left _ _ apart)) in
+      and_both _ _ (ap not lone) (apart-filter p ks (and_right _ _ apart))
+  | false ↦ apart-filter p ks (and_right _ _ apart)
+]
+
+-- a key that passes is still there
+pub there-filter : (p : NodeKey → Bool) (key : NodeKey) (ks : List NodeKey) → p key ≡ true → list_any (same_key key) ks ≡ true →
+    list_any (same_key key) (filter p ks) ≡ true
+there-filter p key [] passes there = there
+there-filter p key (k ∷ ks) passes there = elim (or_cases (same_key key k) (list_any (same_key key) ks) there) [
+  | inl here ↦
+      let own : p k ≡ true = ap p (sym (same_key-true key k here)) ∙ passes in
+      rw own (or_left _ _ here)
+  | inr behind ↦ elim (p k) as (λ b. list_any (same_key key) (cond b (k ∷ filter p ks) (filter p ks)) ≡ true) [
+    | true ↦ or_right _ _ (there-filter p key ks passes behind)
+    | false ↦ there-filter p key ks passes behind
+  ]
+]
+
+-- a key that none of them is can't be left out
+pub lacks-filter : (key : NodeKey) (ks : List NodeKey) → list_any (same_key key) ks ≡ false → filter (λ k. not (same_key key k)) ks ≡ ks
+lacks-filter key [] none = refl
+lacks-filter key (k ∷ ks) none =
+    rw (or_none_left (same_key key k) (list_any (same_key key) ks) none) (ap (λ l. k ∷ l) (lacks-filter key ks (or_none_right _ _ none)))
+
+-- by whether the first is the key
+one_less-by : (key k : NodeKey) (ks : List NodeKey) (same : Bool) → same_key key k ≡ same → list_any (same_key k) ks ≡ false →
+    (same || list_any (same_key key) ks) ≡ true → (list_any (same_key key) ks ≡ true →
+    length (filter (λ x. not (same_key key x)) ks) + 1 ≡ length ks) →
+    length (cond (not same) (k ∷ filter (λ x. not (same_key key x)) ks) (filter (λ x. not (same_key key x)) ks)) + 1 ≡ suc
+    (length ks)
+one_less-by key k ks true is lone there on =
+    let none : list_any (same_key key) ks ≡ false =
+    subst (λ (x : NodeKey). list_any (same_key x) ks ≡ false) (sym (same_key-true key k is)) lone in
+    let left = ap length (lacks-filter key ks none) in
+    omega (arith, left)
+one_less-by key k ks false is lone there on = let less = on there in omega (arith, less)
+
+-- keys that stand once are one fewer without one of them
+pub one_less : (key : NodeKey) (ks : List NodeKey) → are_apart ks ≡ true → list_any (same_key key) ks ≡ true →
+    length (filter (λ k. not (same_key key k)) ks) + 1 ≡ length ks
+one_less key [] apart there = absurd (false≢true there)
+one_less key (k ∷ ks) apart there =
+    one_less-by key k ks (same_key key k) refl (not-true _ (and_left _ _ apart)) there (one_less key ks (and_right _ _ apart))
+
+-- ---- collections
+
+-- nodes stay distinct
+distinct-filter : (p : Node → Bool) (ns : List Node) → are_distinct ns ≡ true → are_distinct (filter p ns) ≡ true
+distinct-filter p [] h = refl
+distinct-filter p (n ∷ ns) h = elim (p n) as (λ b. are_distinct (cond b (n ∷ filter p ns) (filter p ns)) ≡ true) [
+  | true ↦
+      let lone : list_any (is_of n.key) (filter p ns) ≡ false = none-filter p (is_of n.key) ns (not-true _ (and_left _ _ h)) in
+      and_both _ _ (ap not lone) (distinct-filter p ns (and_right _ _ h))
+  | false ↦ distinct-filter p ns (and_right _ _ h)
+]
+
+-- a collection stays sound with some of its nodes
+IsSound-filter : (p : Node → Bool) (c : Collection) → IsSound c → IsSound (with_nodes (filter p) c)
+IsSound-filter p c ok = record {
+  distinct = distinct-filter p c.nodes ok.distinct;
+  heads = list_all-filter heads_itself p c.nodes ok.heads;
+  one_root = behind-filter p (λ (n : Node). is_some n.parent) c.nodes ok.one_root;
+  few = ok.few;
+}
+
+-- and whole, where those that are left out are gone
+pub IsWhole-filter : (p : Node → Bool) (c : Collection) → ((n : Node) → In n c.nodes → p n ≡ false → n.gone ≡ true) → IsWhole c →
+    IsWhole (with_nodes (filter p) c)
+IsWhole-filter p c over ok = record {
+  sound = IsSound-filter p c ok.sound;
+  rooted = (rooted_filter c.nodes (whole_rooted c ok) p over).rooted;
+  united = united_filter p c.nodes ok.united;
+  together = together_filter p c.nodes ok.together;
+}
+
+-- ---- shelves with the keys that a table has
+
+-- greater ids stay greater
+thinned-above : (t : Table Node) (low : ℕ) (ss : List Shelf) → AllByRecursion (λ (later : Shelf). low < later.id) ss →
+    AllByRecursion (λ (later : Shelf). low < later.id) (map (thinned t) ss)
+thinned-above t low [] all = tt
+thinned-above t low (s ∷ ss) all = (all.0, thinned-above t low ss all.1)
+
+-- the ids still rise
+thinned-rising : (t : Table Node) (ss : List Shelf) → AreRising ss → AreRising (map (thinned t) ss)
+thinned-rising t [] rising = tt
+thinned-rising t (s ∷ ss) rising = (thinned-above t s.id ss rising.0, thinned-rising t ss rising.1)
+
+-- the keys are those that the table has
+pub thinned-keys : (t : Table Node) (ss : List Shelf) → all_keys (map (thinned t) ss) ≡ filter (is_found t) (all_keys ss)
+thinned-keys t [] = refl
+thinned-keys t (s ∷ ss) =
+    ap (λ ks. filter (is_found t) s.keys ++ ks) (thinned-keys t ss) ∙ sym (filter-append (is_found t) s.keys (all_keys ss))
+
+-- so have all
+pub filed_all : (t : Table Node) (id : ℕ) (ks : List NodeKey) → list_all (is_filed t id) ks ≡ true → list_all (is_found t) ks ≡ true
+filed_all t id [] h = refl
+filed_all t id (k ∷ ks) h = and_both _ _ (place-filed id (node_at t k) (and_left _ _ h)) (filed_all t id ks (and_right _ _ h))
+
+-- a shelf whose keys are filed has only keys that the table has
+pub thinned-same : (t : Table Node) (s : Shelf) → list_all (is_filed t s.id) s.keys ≡ true → thinned t s ≡ s
+thinned-same t s filed = λ i. record s { keys = filter-list_all (is_found t) s.keys (filed_all t s.id s.keys filed) i }
+
+-- so have all shelves
+pub all_thinned-same : (t : Table Node) (ss : List Shelf) → are_filed t ss ≡ true → map (thinned t) ss ≡ ss
+all_thinned-same t [] filed = refl
+all_thinned-same t (s ∷ ss) filed = λ i. thinned-same t s (and_left _ _ filed) i ∷ all_thinned-same t ss (and_right _ _ filed) i
+
+-- what is kept by a table, and by one that has fewer nodes
+pub thinned-twice : (t now : Table Node) → ((k : NodeKey) → is_found now k ≡ true → is_found t k ≡ true) → (ss : List Shelf) →
+    map (thinned now) (map (thinned t) ss) ≡ map (thinned now) ss
+thinned-twice t now fewer [] = refl
+thinned-twice t now fewer (s ∷ ss) =
+    λ i. record s { keys = filter-twice (is_found now) (is_found t) fewer s.keys i } ∷ thinned-twice t now fewer ss i
+
+-- ---- one node less
+
+module _ (t now : Table Node) (key : NodeKey) (out : TakesOut t now key) where
+  -- a node that is there was there, under another key
+  still : (k : NodeKey) (n : Node) → node_at now k ≡ Some n → (same_key key k ≡ false) × (node_at t k ≡ Some n)
+  still k n is = by (same_key key k) refl (sym (out.look k) ∙ is)
+    where
+      by : (b : Bool) → same_key key k ≡ b → cond b None (node_at t k) ≡ Some n → (same_key key k ≡ false) × (node_at t k ≡ Some n)
+      by true e found = absurd (cc)
+      by false e found = (e, found)
+
+  -- a key that is found was found
+  found-by : (k : NodeKey) (b : Bool) → is_some (cond b None (node_at t k)) ≡ true → is_found t k ≡ true
+  found-by k true found = absurd (false≢true found)
+  found-by k false found = found
+
+  -- what is found in the smaller table was found before
+  pub found_before : (k : NodeKey) → is_found now k ≡ true → is_found t k ≡ true
+  found_before k found = found-by k (same_key key k) (sym (ap is_some (out.look k)) ∙ found)
+
+  -- a key is filed still, if it is found
+  filed-kept : (id : ℕ) (ks : List NodeKey) → list_all (is_filed t id) ks ≡ true →
+      list_all (is_filed now id) (filter (is_found now) ks) ≡ true
+  filed-kept id [] filed = refl
+  filed-kept id (k ∷ ks) filed = elim (either_way (same_key key k)) [
+    | inl same ↦
+        let none : node_at now k ≡ None = out.look k ∙ (rw same refl) in
+        rw none (filed-kept id ks (and_right _ _ filed))
+    | inr other ↦
+        let there : node_at now k ≡ node_at t k = out.look k ∙ (rw other refl) in
+        let found : is_found now k ≡ true = ap is_some there ∙ place-filed id (node_at t k) (and_left _ _ filed) in
+        let own : is_filed now id k ≡ true =
+        ap (λ o. option_map_or (λ (n : Node). n.collection == id) o false) there ∙ and_left _ _ filed in
+        rw found (and_both _ _ own (filed-kept id ks (and_right _ _ filed)))
+  ]
+
+  -- by induction over the shelves
+  all_filed-kept : (ss : List Shelf) → are_filed t ss ≡ true → are_filed now (map (thinned now) ss) ≡ true
+  all_filed-kept [] filed = refl
+  all_filed-kept (s ∷ ss) filed = and_both _ _ (filed-kept s.id s.keys (and_left _ _ filed)) (all_filed-kept ss (and_right _ _ filed))
+
+  -- of keys that were found all are found but this one
+  found-others : (ks : List NodeKey) → list_all (is_found t) ks ≡ true → filter (is_found now) ks ≡ filter (λ k. not (same_key key k)) ks
+  found-others [] all = refl
+  found-others (k ∷ ks) all = elim (either_way (same_key key k)) [
+    | inl same ↦
+        let none : is_found now k ≡ false = ap is_some (out.look k) ∙ (rw same refl) in
+        rw (none, same) (found-others ks (and_right _ _ all))
+    | inr other ↦
+        let there : is_found now k ≡ true = ap is_some (out.look k) ∙ (rw other (and_left _ _ all)) in
+        rw (there, other) (ap (λ l. k ∷ l) (found-others ks (and_right _ _ all)))
+  ]
+
+  -- all keys have nodes
+  all_found : (ss : List Shelf) → are_filed t ss ≡ true → list_all (is_found t) (all_keys ss) ≡ true
+  all_found [] filed = refl
+  all_found (s ∷ ss) filed =
+      all-append (is_found t) s.keys (all_keys ss) (filed_all t s.id s.keys (and_left _ _ filed)) (all_found ss (and_right _ _ filed))
+    where
+      all-append : (test : NodeKey → Bool) (xs ys : List NodeKey) → list_all test xs ≡ true → list_all test ys ≡ true →
+          list_all test (xs ++ ys) ≡ true
+      all-append test [] ys one two = two
+      all-append test (x ∷ xs) ys one two = and_both _ _ (and_left _ _ one) (all-append test xs ys (and_right _ _ one) two)
+
+  -- the nodes are the others
+  pub nodes_left : ((k : NodeKey) (n : Node) → node_at t k ≡ Some n → n.key ≡ k) → (ks : List NodeKey) →
+      nodes_with now (filter (is_found now) ks) ≡ filter (λ n. not (is_of key n)) (nodes_with t ks)
+  nodes_left named ks = only_found ks ∙ looked-without key (node_at t) (node_at now) named out.look ks
+    where
+      by : (k : NodeKey) (o : Option Node) (ks : List NodeKey) (ns : List Node) → node_at now k ≡ o → nodes_with now ks ≡ ns →
+          nodes_with now (cond (is_some o) (k ∷ ks) ks) ≡ cons_option o ns
+      by k None ks ns is on = on
+      by k (Some n) ks ns is on = rw (is, on) refl
+
+      only_found : (ks : List NodeKey) → nodes_with now (filter (is_found now) ks) ≡ nodes_with now ks
+      only_found [] = refl
+      only_found (k ∷ ks) = by k (node_at now k) (filter (is_found now) ks) (nodes_with now ks) refl (only_found ks)
+
+  -- the collections stay whole, where the node is gone
+  whole-kept : ((m : Node) → node_at t key ≡ Some m → m.gone ≡ true) → ((k : NodeKey) (n : Node) → node_at t k ≡ Some n → n.key ≡ k) →
+      (ss : List Shelf) → AllByRecursion (λ (s : Shelf). IsWhole (collection_in t s)) ss →
+      AllByRecursion (λ (s : Shelf). IsWhole (collection_in now s)) (map (thinned now) ss)
+  whole-kept goes named [] all = tt
+  whole-kept goes named (s ∷ ss) all = (
+    rw (nodes_left named s.keys) (IsWhole-filter (λ n. not (is_of key n)) (collection_in t s) (looked_gone t named key goes s.keys)
+        all.0),
+    whole-kept goes named ss all.1,
+  )
+
+  -- a node that is not gone keeps its parent, where the other is gone
+  linked-kept : ((m : Node) → node_at t key ≡ Some m → m.gone ≡ true) → (ss : List Shelf) → IsStored t ss → (k : NodeKey) (n : Node) →
+      node_at now k ≡ Some n → n.gone ≡ false → parent_at now k ≡ n.parent
+  linked-kept goes ss ok k n is here =
+      let was = still k n is in
+      out.parents k (λ same. false≢true (sym was.0 ∙ same_key-equal key k (sym same))) (childless t ss ok key goes k n was.1 here)
+      ∙ ok.linked k n was.1 here
+
+  -- by the node that is gone
+  counted-by : (ss : List Shelf) → IsStored t ss → (o : Option Node) → node_at t key ≡ o → is_some o ≡ true →
+      length (all_keys (map (thinned now) ss)) ≡ table_len now
+  counted-by ss ok None is was = absurd (false≢true was)
+  counted-by ss ok (Some n) is was =
+      let fewer = one_less key (all_keys ss) ok.apart (ok.there key n is) in
+      let left = ap length (thinned-keys now ss ∙ found-others (all_keys ss) (all_found ss ok.filed)) in
+      omega (arith, fewer, left, ok.counted, out.shorter)
+
+  -- all that holds of forests holds of the shelves without the key
+  pub taken-kept : ((m : Node) → node_at t key ≡ Some m → m.gone ≡ true) → (ss : List Shelf) → IsStored t ss →
+      IsStored now (map (thinned now) ss)
+  taken-kept goes ss ok = record {
+    first = same_first t now out.keys ∙ ok.first;
+    rising = thinned-rising now ss ok.rising;
+    apart = ap are_apart (thinned-keys now ss) ∙ apart-filter (is_found now) (all_keys ss) ok.apart;
+    named = λ k n is. ok.named k n (still k n is).1;
+    filed = all_filed-kept ss ok.filed;
+    there = λ k n is. ap (list_any (same_key k)) (thinned-keys now ss)
+        ∙ there-filter (is_found now) k (all_keys ss) (ap is_some is) (ok.there k n (still k n is).1);
+    counted = counted-by ss ok (node_at t key) refl out.was;
+    linked = linked-kept goes ss ok;
+    heads = λ k n is. out.keys.given n.head ∙ ok.heads k n (still k n is).1;
+    whole = whole-kept goes ok.named ss ok.whole;
+    parents = λ k p up. out.keys.given p ∙ ok.parents k p (out.fewer k p up);
+    kin = kin_kept t now (λ k n is. (n, (still k n is).1, refl)) out.fewer ok.kin;
+  }

@@ -1,0 +1,281 @@
+-- A collection without the nodes that are over, and collections without those of which nothing is left.
+use Rattle.forest_store.proofs.Common.{◌≡◌, ℕ, suc, ◌==◌, ◌<◌, Bool, true, false, ◌&&◌, not, List, [], ◌∷◌, ◌++◌, map, length, Option, Some, None, is_some, cond, refl, sym, ap, ◌∙◌, inl, inr, arith, find, list_any, list_all, filter, cons_option, AllByRecursion, option_map_or, false≢true, eqb-true, eqb-false, eq-eqb, NodeKey, same_key, and_both, and_left, and_right, or_cases, or_left, or_right, same_key-true, Table, node_at, Node, Shelf, AreRising, IsStored, IsWhole, all_keys, are_filed, collection_in, is_filed, nodes_with, is_over}
+use Rattle.std.proofs.lemmas.Bool.{ne_eqb, false_from_ne_true}
+use Rattle.sm_names.proofs.ListLaws.{filter-list_all, list_all-filter}
+use Rattle.node_table.proofs.Keys.{same_key-equal}
+use Rattle.forest_store.specs.Forest.{is_left, tidied, without_over_in}
+use Rattle.forest_store.specs.Garbage.{is_bare, is_found, left_at, thin_in, thinned, unless_over, without_bare}
+use Rattle.forest_store.specs.Shelves.{are_apart}
+use Rattle.forest_store.proofs.leaving.Thinning.{filed_all}
+
+-- a key of a collection has a node of it
+filed_there : (t : Table Node) (id : ℕ) (ks : List NodeKey) (key : NodeKey) → list_all (is_filed t id) ks ≡ true →
+    list_any (same_key key) ks ≡ true → is_filed t id key ≡ true
+filed_there t id [] key filed there = absurd (false≢true there)
+filed_there t id (k ∷ ks) key filed there = elim (or_cases (same_key key k) (list_any (same_key key) ks) there) [
+  | inl same ↦ ap (is_filed t id) (same_key-true key k same) ∙ and_left _ _ filed
+  | inr behind ↦ filed_there t id ks key (and_right _ _ filed) behind
+]
+
+-- a node is of one collection
+one_collection-by : (one two : ℕ) (o : Option Node) → option_map_or (λ (n : Node). n.collection == one) o false ≡ true →
+    option_map_or (λ (n : Node). n.collection == two) o false ≡ true → one ≡ two
+one_collection-by one two None a b = absurd (false≢true a)
+one_collection-by one two (Some n) a b = sym (eqb-true _ _ a) ∙ eqb-true _ _ b
+
+-- the first that is left
+unless_first : (o : Option Node) (ns : List Node) → cons_option (unless_over o) (filter (λ n. not (is_over n)) ns) ≡ filter (λ n.
+    not (is_over n)) (cons_option o ns)
+unless_first None ns = refl
+unless_first (Some n) ns = elim (is_over n) as (λ b. cons_option (cond b None (Some n)) (filter (λ m. not (is_over m)) ns) ≡ cond (not b)
+    (n ∷ filter (λ m. not (is_over m)) ns) (filter (λ m. not (is_over m)) ns)) [ true ↦ refl | false ↦ refl ]
+
+module _ (t now : Table Node) (s : Shelf) (filed : list_all (is_filed t s.id) s.keys ≡ true) (look : (k : NodeKey) →
+    node_at now k ≡ left_at t s.keys k) where
+  -- a key of another collection finds what it found
+  other_look : (id : ℕ) (key : NodeKey) → (id == s.id) ≡ false → is_filed t id key ≡ true → node_at now key ≡ node_at t key
+  other_look id key other own =
+      let off : list_any (same_key key) s.keys ≡ false =
+      false_from_ne_true _ (λ there. eqb-false id s.id other
+      (one_collection-by id s.id (node_at t key) own (filed_there t s.id s.keys key filed
+      there))) in
+      look key ∙ (rw off refl)
+
+  -- so do all of its keys
+  other_nodes : (id : ℕ) (ks : List NodeKey) → (id == s.id) ≡ false → list_all (is_filed t id) ks ≡ true →
+      nodes_with now ks ≡ nodes_with t ks
+  other_nodes id [] other own = refl
+  other_nodes id (k ∷ ks) other own =
+      let here : node_at now k ≡ node_at t k = other_look id k other (and_left _ _ own) in
+      ap (λ o. cons_option o (nodes_with now ks)) here ∙ ap (cons_option (node_at t k)) (other_nodes id ks other (and_right _ _ own))
+
+  -- another collection stays
+  pub other_same : (x : Shelf) → (x.id == s.id) ≡ false → list_all (is_filed t x.id) x.keys ≡ true → collection_in now x ≡ collection_in t x
+  other_same x other own = λ i. record { id = x.id; nodes = other_nodes x.id x.keys other own i; buffers = x.buffers; held = x.held }
+
+  -- the table has its keys still
+  other_found : (id : ℕ) (ks : List NodeKey) → (id == s.id) ≡ false → list_all (is_filed t id) ks ≡ true → list_all (is_found now) ks ≡ true
+  other_found id [] other own = refl
+  other_found id (k ∷ ks) other own =
+      let here : node_at now k ≡ node_at t k = other_look id k other (and_left _ _ own) in
+      and_both _ _ (ap is_some here ∙ and_left (is_found t k) (list_all (is_found t) ks) (filed_all t id (k ∷ ks) own))
+      (other_found id ks other (and_right _ _ own))
+
+  -- so its shelf stays
+  pub other_thinned : (x : Shelf) → (x.id == s.id) ≡ false → list_all (is_filed t x.id) x.keys ≡ true → thinned now x ≡ x
+  other_thinned x other own = λ i. record x { keys = filter-list_all (is_found now) x.keys (other_found x.id x.keys other own) i }
+
+  -- the nodes of some of its keys are those that are not over
+  own_nodes : (ks : List NodeKey) → ((k : NodeKey) → list_any (same_key k) ks ≡ true → list_any (same_key k) s.keys ≡ true) →
+      nodes_with now (filter (is_found now) ks) ≡ filter (λ n. not (is_over n)) (nodes_with t ks)
+  own_nodes [] within = refl
+  own_nodes (k ∷ ks) within =
+      let here : node_at now k ≡ unless_over (node_at t k) =
+      look k ∙ (rw (within k (or_left _ _ (same_key-equal k k refl))) refl) in
+      by (node_at now k) refl ∙ (rw here (ap (cons_option (unless_over (node_at t k))) (own_nodes ks (λ x there.
+      within x (or_right _ _ there)))))
+      ∙ unless_first (node_at t k) (nodes_with t ks)
+    where
+      by : (o : Option Node) → node_at now k ≡ o →
+          nodes_with now (cond (is_some o) (k ∷ filter (is_found now) ks) (filter (is_found now) ks)) ≡ cons_option o
+          (nodes_with now (filter (is_found now) ks))
+      by None is = refl
+      by (Some n) is = rw is refl
+
+  -- the collection is as it is without those
+  pub own_tidied : collection_in now (thinned now s) ≡ tidied (collection_in t s)
+  own_tidied = λ i. record { id = s.id; nodes = own_nodes s.keys (λ k there. there) i; buffers = s.buffers; held = s.held }
+
+-- as many nodes as keys that are found
+found-length : (t : Table Node) (ks : List NodeKey) → length (nodes_with t (filter (is_found t) ks)) ≡ length (filter (is_found t) ks)
+found-length t [] = refl
+found-length t (k ∷ ks) = by (found-length t ks) (node_at t k) refl
+  where
+    by : length (nodes_with t (filter (is_found t) ks)) ≡ length (filter (is_found t) ks) → (o : Option Node) → node_at t k ≡ o →
+        length (nodes_with t (cond (is_some o) (k ∷ filter (is_found t) ks) (filter (is_found t) ks))) ≡ length
+        (cond (is_some o) (k ∷ filter (is_found t) ks) (filter (is_found t) ks))
+    by on None is = on
+    by on (Some n) is = rw is (ap (λ n. suc n) on)
+
+-- a shelf is bare where nothing is left of its collection
+pub bare_left : (t : Table Node) (s : Shelf) → is_bare (thinned t s) ≡ is_left (collection_in t (thinned t s))
+bare_left t s = ap (λ n. (n == 0) && (length s.held == 0)) (sym (found-length t s.keys))
+
+-- ---- all collections
+
+-- ids above another are others
+pub above_other : (id low : ℕ) (ss : List Shelf) → AllByRecursion (λ (later : Shelf). low < later.id) ss → (low == id) ≡ true →
+    AllByRecursion (λ (x : Shelf). (x.id == id) ≡ false) ss
+above_other id low [] all same = tt
+above_other id low (s ∷ ss) all same =
+    (ne_eqb s.id id (λ equal. let own = eqb-true low id same in omega (arith, all.0, own, equal)), above_other id low ss all.1 same)
+
+-- shelves of other ids stay
+pub bare_others : (id : ℕ) (ss : List Shelf) → AllByRecursion (λ (x : Shelf). (x.id == id) ≡ false) ss → without_bare id ss ≡ ss
+bare_others id [] others = refl
+bare_others id (s ∷ ss) others = rw others.0 (ap (λ l. s ∷ l) (bare_others id ss others.1))
+
+-- by induction: no other shelf has the id
+pub thin_others : (t : Table Node) (id : ℕ) (ss : List Shelf) → AllByRecursion (λ (x : Shelf). (x.id == id) ≡ false) ss →
+    thin_in t id ss ≡ ss
+thin_others t id [] others = refl
+thin_others t id (s ∷ ss) others = rw others.0 (ap (λ l. s ∷ l) (thin_others t id ss others.1))
+
+-- by induction: no other collection has the id
+over_others : (t : Table Node) (id : ℕ) (ss : List Shelf) → AllByRecursion (λ (x : Shelf). (x.id == id) ≡ false) ss →
+    without_over_in id (map (collection_in t) ss) ≡ map (collection_in t) ss
+over_others t id [] others = refl
+over_others t id (s ∷ ss) others = rw others.0 (ap (λ l. collection_in t s ∷ l) (over_others t id ss others.1))
+
+-- where none is found all are others
+pub none_others : (id : ℕ) (ss : List Shelf) → find (λ (x : Shelf). x.id == id) ss ≡ None →
+    AllByRecursion (λ (x : Shelf). (x.id == id) ≡ false) ss
+none_others id [] none = tt
+none_others id (s ∷ ss) none = by (none_others id ss) (s.id == id) refl none
+  where
+    by : (find (λ (x : Shelf). x.id == id) ss ≡ None → AllByRecursion (λ (x : Shelf). (x.id == id) ≡ false) ss) → (b : Bool) →
+        (s.id == id) ≡ b → cond b (Some s) (find (λ (x : Shelf). x.id == id) ss) ≡ None →
+        AllByRecursion (λ (x : Shelf). (x.id == id) ≡ false) (s ∷ ss)
+    by on true same none = absurd (cc)
+    by on false other none = (other, on none)
+
+-- and nothing is forgotten
+pub over_none : (t : Table Node) (id : ℕ) (ss : List Shelf) → find (λ (x : Shelf). x.id == id) ss ≡ None →
+    map (collection_in t) ss ≡ without_over_in id (map (collection_in t) ss)
+over_none t id ss none = sym (over_others t id ss (none_others id ss none))
+
+module _ (t now : Table Node) (s : Shelf) (filed : list_all (is_filed t s.id) s.keys ≡ true) (look : (k : NodeKey) →
+    node_at now k ≡ left_at t s.keys k) where
+  -- other collections stay
+  others_same : (ss : List Shelf) → are_filed t ss ≡ true → AllByRecursion (λ (x : Shelf). (x.id == s.id) ≡ false) ss →
+      map (collection_in now) ss ≡ map (collection_in t) ss
+  others_same [] all others = refl
+  others_same (x ∷ xs) all others =
+      λ i. other_same t now s filed look x others.0 (and_left _ _ all) i ∷ others_same xs (and_right _ _ all) others.1 i
+
+  -- the found one, with all behind it
+  tidied_here : (ss : List Shelf) → are_filed t ss ≡ true → AllByRecursion (λ (x : Shelf). (x.id == s.id) ≡ false) ss → (b : Bool) →
+      is_bare (thinned now s) ≡ b → map (collection_in now) (cond (not b) (thinned now s ∷ ss) ss) ≡ cond
+      (is_left (tidied (collection_in t s))) (map (collection_in t) ss) (tidied (collection_in t s) ∷ map (collection_in t) ss)
+  tidied_here ss all others b bare =
+      let own : collection_in now (thinned now s) ≡ tidied (collection_in t s) = own_tidied t now s filed look in
+      let left : is_left (tidied (collection_in t s)) ≡ b = ap is_left (sym own) ∙ sym (bare_left now s) ∙ bare in
+      rw left (by b)
+    where
+      by : (b : Bool) → map (collection_in now) (cond (not b) (thinned now s ∷ ss) ss) ≡ cond b (map (collection_in t) ss)
+          (tidied (collection_in t s) ∷ map (collection_in t) ss)
+      by true = others_same ss all others
+      by false = λ i. own_tidied t now s filed look i ∷ others_same ss all others i
+
+  -- the nodes that are over are gone from the collection with the id, and it too where nothing is left
+  pub tidied_all : (ss : List Shelf) → AreRising ss → are_filed t ss ≡ true → find (λ (x : Shelf). x.id == s.id) ss ≡ Some s →
+      map (collection_in now) (without_bare s.id (thin_in now s.id ss)) ≡ without_over_in s.id (map (collection_in t) ss)
+  tidied_all [] rising all found = absurd (cc)
+  tidied_all (x ∷ xs) rising all found = by (tidied_all xs rising.1 (and_right _ _ all)) (x.id == s.id) refl found
+    where
+      by : (find (λ (y : Shelf). y.id == s.id) xs ≡ Some s →
+          map (collection_in now) (without_bare s.id (thin_in now s.id xs)) ≡ without_over_in s.id (map (collection_in t) xs)) →
+          (b : Bool) → (x.id == s.id) ≡ b → cond b (Some x) (find (λ (y : Shelf). y.id == s.id) xs) ≡ Some s →
+          map (collection_in now) (without_bare s.id (thin_in now s.id (x ∷ xs))) ≡ without_over_in s.id
+          (map (collection_in t) (x ∷ xs))
+      by on true same is =
+          let one : x ≡ s = cc in
+          let others = above_other s.id x.id xs rising.0 same in
+          let own : (s.id == s.id) ≡ true = eq-eqb s.id s.id refl in
+          rw (one, own, own, thin_others now s.id xs others, bare_others s.id xs others)
+          (tidied_here xs (and_right _ _ all) others (is_bare (thinned now s)) refl)
+      by on false other is =
+          rw (other, other)
+          (λ i. other_same t now s filed look x other (and_left _ _ all) i ∷ on is i)
+
+  -- the shelves of others have only keys that the table has
+  others_thinned : (ss : List Shelf) → are_filed t ss ≡ true → AllByRecursion (λ (x : Shelf). (x.id == s.id) ≡ false) ss →
+      map (thinned now) ss ≡ ss
+  others_thinned [] all others = refl
+  others_thinned (x ∷ xs) all others =
+      λ i. other_thinned t now s filed look x others.0 (and_left _ _ all) i ∷ others_thinned xs (and_right _ _ all) others.1 i
+
+  -- so thinning one shelf thins all
+  pub thinned_all : (ss : List Shelf) → AreRising ss → are_filed t ss ≡ true → thin_in now s.id ss ≡ map (thinned now) ss
+  thinned_all [] rising all = refl
+  thinned_all (x ∷ xs) rising all = by (thinned_all xs rising.1 (and_right _ _ all)) (x.id == s.id) refl
+    where
+      by : thin_in now s.id xs ≡ map (thinned now) xs → (b : Bool) → (x.id == s.id) ≡ b →
+          cond b (thinned now x) x ∷ thin_in now s.id xs ≡ thinned now x ∷ map (thinned now) xs
+      by on true same =
+          let others = above_other s.id x.id xs rising.0 same in
+          ap (λ l. thinned now x ∷ l) (thin_others now s.id xs others ∙ sym (others_thinned xs (and_right _ _ all) others))
+      by on false other =
+          λ i. sym (other_thinned t now s filed look x other (and_left _ _ all)) i ∷ on i
+
+-- ---- shelves without a bare one
+
+-- greater ids stay greater
+bare-above : (id low : ℕ) (ss : List Shelf) → AllByRecursion (λ (later : Shelf). low < later.id) ss →
+    AllByRecursion (λ (later : Shelf). low < later.id) (without_bare id ss)
+bare-above id low [] all = tt
+bare-above id low (s ∷ ss) all =
+    elim (s.id == id && is_bare s) as (λ b. AllByRecursion (λ (later : Shelf).
+    low < later.id) (cond (not b) (s ∷ without_bare id ss) (without_bare id ss))) [
+      | true ↦ bare-above id low ss all.1
+      | false ↦ (all.0, bare-above id low ss all.1)
+    ]
+
+-- the ids still rise
+bare-rising : (id : ℕ) (ss : List Shelf) → AreRising ss → AreRising (without_bare id ss)
+bare-rising id [] rising = tt
+bare-rising id (s ∷ ss) rising =
+    elim (s.id == id && is_bare s) as (λ b. AreRising (cond (not b) (s ∷ without_bare id ss) (without_bare id ss))) [
+      | true ↦ bare-rising id ss rising.1
+      | false ↦ (bare-above id s.id ss rising.0, bare-rising id ss rising.1)
+    ]
+
+-- the keys stay
+no_keys : (ks : List NodeKey) → (length ks == 0) ≡ true → ks ≡ []
+no_keys [] none = refl
+no_keys (k ∷ ks) none = absurd (let zero = eqb-true _ _ none in omega (arith, zero))
+
+-- by induction: a bare shelf has no key
+bare-keys : (id : ℕ) (ss : List Shelf) → all_keys (without_bare id ss) ≡ all_keys ss
+bare-keys id [] = refl
+bare-keys id (s ∷ ss) = by (bare-keys id ss) (s.id == id && is_bare s) refl
+  where
+    by : all_keys (without_bare id ss) ≡ all_keys ss → (b : Bool) → (s.id == id && is_bare s) ≡ b →
+        all_keys (cond (not b) (s ∷ without_bare id ss) (without_bare id ss)) ≡ s.keys ++ all_keys ss
+    by on true bare =
+        let none : s.keys ≡ [] = no_keys s.keys (and_left _ _ (and_right (s.id == id) (is_bare s) bare)) in
+        rw none on
+    by on false other = ap (λ ks. s.keys ++ ks) on
+
+-- they are filed still
+bare-filed : (t : Table Node) (id : ℕ) (ss : List Shelf) → are_filed t ss ≡ true → are_filed t (without_bare id ss) ≡ true
+bare-filed t id ss filed =
+    list_all-filter (λ (s : Shelf). list_all (is_filed t s.id) s.keys) (λ (s : Shelf). not (s.id == id && is_bare s)) ss filed
+
+-- the collections stay whole
+bare-whole : (t : Table Node) (id : ℕ) (ss : List Shelf) → AllByRecursion (λ (s : Shelf). IsWhole (collection_in t s)) ss →
+    AllByRecursion (λ (s : Shelf). IsWhole (collection_in t s)) (without_bare id ss)
+bare-whole t id [] all = tt
+bare-whole t id (s ∷ ss) all =
+    elim (s.id == id && is_bare s) as (λ b. AllByRecursion (λ (x : Shelf).
+    IsWhole (collection_in t x)) (cond (not b) (s ∷ without_bare id ss) (without_bare id ss))) [
+      | true ↦ bare-whole t id ss all.1
+      | false ↦ (all.0, bare-whole t id ss all.1)
+    ]
+
+-- all that holds of forests holds without a bare collection
+pub bare-kept : (t : Table Node) (id : ℕ) (ss : List Shelf) → IsStored t ss → IsStored t (without_bare id ss)
+bare-kept t id ss ok = record {
+  first = ok.first;
+  rising = bare-rising id ss ok.rising;
+  apart = ap are_apart (bare-keys id ss) ∙ ok.apart;
+  named = ok.named;
+  filed = bare-filed t id ss ok.filed;
+  there = λ key n is. ap (list_any (same_key key)) (bare-keys id ss) ∙ ok.there key n is;
+  counted = ap length (bare-keys id ss) ∙ ok.counted;
+  linked = ok.linked;
+  heads = ok.heads;
+  whole = bare-whole t id ss ok.whole;
+  parents = ok.parents;
+  kin = ok.kin;
+}

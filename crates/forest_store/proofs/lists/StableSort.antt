@@ -1,0 +1,216 @@
+-- A stable sort by a number gives what putting the elements in place one after another gives.
+use Rattle.forest_store.proofs.Common.{ℕ, suc, ◌≡◌, ◌==◌, ◌<◌, ◌≤◌, refl, ap, sym, ◌∙◌, Bool, true, false, ◌&&◌, not, nat_lt, cond, inl, inr, List, [], ◌∷◌, length, arith, filter, AllByRecursion, eqb-true, eqb-false, eq-eqb, either_way}
+use Rattle.std.specs.List.{slice_index_or}
+use Rattle.std.specs.List.Sorted.{ties, IsNonDecreasingBy, IsSortedByKey, IsStableByKey}
+use Rattle.std.specs.Ordering.{is_lt, nat_cmp}
+use Rattle.std.proofs.lemmas.Bool.{ne_eqb, ltb-true, ltb-false}
+use Rattle.std.proofs.lemmas.List.Sorted.{IsNonDecreasingBy-from_sort}
+use Rattle.sm_names.specs.Words.{insert_by, sorted_by}
+use Rattle.forest_store.proofs.lists.ByPage.{not_lt}
+
+-- ---- numbers
+
+-- whether a number is less, by the order
+less_is : (a b : ℕ) → is_lt (nat_cmp a b) ≡ nat_lt a b
+less_is a b = elim (either_way (nat_lt a b)) [
+  | inl e ↦ rw e refl
+  | inr e ↦ elim (either_way (a == b)) [
+    | inl f ↦ rw (e, f) refl
+    | inr f ↦ rw (e, f) refl
+  ]
+]
+
+-- neither of two numbers is less where they are the same
+neither_is : (a b : ℕ) → (not (nat_lt a b) && not (nat_lt b a)) ≡ (a == b)
+neither_is a b = elim (either_way (a == b)) [
+  | inl e ↦
+      let same : a ≡ b = eqb-true a b e in
+      rw (not_lt a b (omega arith), not_lt b a (omega arith), e) refl
+  | inr e ↦ elim (either_way (nat_lt a b)) [
+    | inl l ↦ rw (l, e) refl
+    | inr l ↦
+        let far : b ≤ a = ltb-false a b l in
+        let less : nat_lt b a ≡ true = elim (either_way (nat_lt b a)) [
+          | inl m ↦ m
+          | inr m ↦
+              let near : a ≤ b = ltb-false b a m in
+              absurd (eqb-false a b e (omega arith))
+        ] in
+        rw (l, less, e) refl
+  ]
+]
+
+-- a number that is less is not the same
+pub other_number : (a b : ℕ) → a < b → (a == b) ≡ false
+other_number a b l = ne_eqb a b (λ same. omega arith)
+
+-- nor is one that is greater
+pub other_greater : (a b : ℕ) → b < a → (a == b) ≡ false
+other_greater a b l = ne_eqb a b (λ same. omega arith)
+
+-- ---- lists by a number
+
+module _ {A : Type 0} (number : A → ℕ) where
+  -- whether the two have the same number
+  abbrev pub beside : A → A → Bool
+  beside x y = number x == number y
+
+  -- no element of the list has a smaller number
+  abbrev pub IsFirst : A → List A → Type 0
+  IsFirst x xs = AllByRecursion (λ (y : A). number x ≤ number y) xs
+
+  -- the numbers do not fall
+  abbrev pub Rises : List A → Type 0
+  Rises [] = Unit {0}
+  Rises (x ∷ xs) = IsFirst x xs × Rises xs
+
+  -- one with a smaller number comes first too
+  first_weaker : (x y : A) (xs : List A) → number x ≤ number y → IsFirst y xs → IsFirst x xs
+  first_weaker x y [] le first = tt
+  first_weaker x y (z ∷ zs) le first =
+      let on : number y ≤ number z = first.0 in
+      (omega arith, first_weaker x y zs le first.1)
+
+  -- ---- the elements put in place
+
+  -- one more that is put in place
+  first_insert : (x y : A) (xs : List A) → number x ≤ number y → IsFirst x xs → IsFirst x (insert_by number y xs)
+  first_insert x y [] le first = (le, tt)
+  first_insert x y (z ∷ zs) le first =
+      elim (nat_lt (number z) (number y)) as (λ (b : Bool). IsFirst x (cond b (z ∷ insert_by number y zs) (y ∷ z ∷ zs))) [
+        | true ↦ (first.0, first_insert x y zs le first.1)
+        | false ↦ (le, first)
+      ]
+
+  -- by induction: the element goes before the first that is not smaller
+  rises_insert : (x : A) (xs : List A) → Rises xs → Rises (insert_by number x xs)
+  rises_insert x [] rises = (tt, tt)
+  rises_insert x (y ∷ ys) rises = elim (either_way (nat_lt (number y) (number x))) [
+    | inl e ↦
+        let less : number y < number x = ltb-true (number y) (number x) e in
+        rw e (first_insert y x ys (omega arith) rises.0, rises_insert x ys rises.1)
+    | inr e ↦
+        let far : number x ≤ number y = ltb-false (number y) (number x) e in
+        rw e ((far, first_weaker x y ys far rises.0), rises)
+  ]
+
+  -- so the numbers rise in the end
+  rises_sorted : (xs : List A) → Rises (sorted_by number xs)
+  rises_sorted [] = tt
+  rises_sorted (x ∷ xs) = rises_insert x (sorted_by number xs) (rises_sorted xs)
+
+  -- of two with other numbers at most one has this number
+  filter_swap : (z x y : A) (xs : List A) → number y < number x →
+      filter (beside z) (y ∷ x ∷ xs) ≡ filter (beside z) (x ∷ y ∷ xs)
+  filter_swap z x y xs less = elim (either_way (beside z x)) [
+    | inl e ↦
+        let same : number z ≡ number x = eqb-true (number z) (number x) e in
+        rw (e, other_greater (number z) (number y) (omega arith)) refl
+    | inr e ↦ rw e refl
+  ]
+
+  -- one that is put in place stands before those with its number
+  filter_insert : (z x : A) (xs : List A) → filter (beside z) (insert_by number x xs) ≡ filter (beside z) (x ∷ xs)
+  filter_insert z x [] = refl
+  filter_insert z x (y ∷ ys) = elim (either_way (nat_lt (number y) (number x))) [
+    | inl e ↦
+        let less : number y < number x = ltb-true (number y) (number x) e in
+        rw e (ap (λ (l : List A). cond (beside z y) (y ∷ l) l) (filter_insert z x ys) ∙ filter_swap z x y ys less)
+    | inr e ↦ rw e refl
+  ]
+
+  -- so those with one number keep their order
+  filter_sorted : (z : A) (xs : List A) → filter (beside z) (sorted_by number xs) ≡ filter (beside z) xs
+  filter_sorted z [] = refl
+  filter_sorted z (x ∷ xs) =
+      filter_insert z x (sorted_by number xs)
+      ∙ ap (λ (l : List A). cond (beside z x) (x ∷ l) l) (filter_sorted z xs)
+
+  -- ---- there is one such list
+
+  -- none has a number below that of the first
+  none_below : (x y : A) (xs : List A) → number x < number y → IsFirst y xs → filter (beside x) xs ≡ []
+  none_below x y [] less first = refl
+  none_below x y (z ∷ zs) less first =
+      let on : number y ≤ number z = first.0 in
+      rw (other_number (number x) (number z) (omega arith)) (none_below x y zs less first.1)
+
+  -- an element has its own number
+  beside_itself : (x : A) → beside x x ≡ true
+  beside_itself x = eq-eqb (number x) (number x) refl
+
+  -- the first of the one is not below all of the other
+  not_below : (x : A) (xs : List A) (y : A) (ys : List A) → Rises (y ∷ ys) →
+      filter (beside x) (x ∷ xs) ≡ filter (beside x) (y ∷ ys) → number x < number y → ⊥
+  not_below x xs y ys rises same less =
+      let some : filter (beside x) (x ∷ xs) ≡ x ∷ filter (beside x) xs = rw (beside_itself x) refl in
+      let none : filter (beside x) (y ∷ ys) ≡ [] = rw (other_number (number x) (number y) less) (none_below x y ys less rises.0) in
+      let wrong : x ∷ filter (beside x) xs ≡ [] = sym some ∙ (same ∙ none) in
+      cc
+
+  -- the rests keep the order that the wholes keep
+  rest_same : (z x : A) (xs ys : List A) (b : Bool) →
+      cond b (x ∷ filter (beside z) xs) (filter (beside z) xs) ≡ cond b (x ∷ filter (beside z) ys) (filter (beside z) ys) →
+      filter (beside z) xs ≡ filter (beside z) ys
+  rest_same z x xs ys true same = cc
+  rest_same z x xs ys false same = same
+
+  -- two lists that rise, where those with one number stand in the same order, are the same
+  rises_same : (xs ys : List A) → Rises xs → Rises ys → ((z : A) → filter (beside z) xs ≡ filter (beside z) ys) → xs ≡ ys
+  rises_same [] [] up on same = refl
+  rises_same [] (y ∷ ys) up on same =
+      let some : filter (beside y) (y ∷ ys) ≡ y ∷ filter (beside y) ys = rw (beside_itself y) refl in
+      let wrong : y ∷ filter (beside y) ys ≡ [] = sym some ∙ sym (same y) in
+      absurd (cc)
+  rises_same (x ∷ xs) [] up on same =
+      let some : filter (beside x) (x ∷ xs) ≡ x ∷ filter (beside x) xs = rw (beside_itself x) refl in
+      let wrong : x ∷ filter (beside x) xs ≡ [] = sym some ∙ same x in
+      absurd (cc)
+  rises_same (x ∷ xs) (y ∷ ys) up on same = elim (either_way (nat_lt (number x) (number y))) [
+    | inl e ↦ absurd (not_below x xs y ys on (same x) (ltb-true (number x) (number y) e))
+    | inr e ↦ elim (either_way (nat_lt (number y) (number x))) [
+      | inl f ↦ absurd (not_below y ys x xs up (sym (same y)) (ltb-true (number y) (number x) f))
+      | inr f ↦
+          let far : number y ≤ number x = ltb-false (number x) (number y) e in
+          let near : number x ≤ number y = ltb-false (number y) (number x) f in
+          let other : beside x y ≡ true = eq-eqb (number x) (number y) (omega arith) in
+          let first : filter (beside x) (x ∷ xs) ≡ x ∷ filter (beside x) xs = rw (beside_itself x) refl in
+          let second : filter (beside x) (y ∷ ys) ≡ y ∷ filter (beside x) ys = rw other refl in
+          let heads : x ∷ filter (beside x) xs ≡ y ∷ filter (beside x) ys = sym first ∙ (same x ∙ second) in
+          let is : x ≡ y = cc in
+          let rests : (z : A) → filter (beside z) xs ≡ filter (beside z) ys = λ z.
+          rest_same z x xs ys (beside z x) (same z
+          ∙ sym (ap (λ (w : A). cond (beside z w) (w ∷ filter (beside z) ys) (filter (beside z) ys)) is)) in
+          λ i. is i ∷ rises_same xs ys up.1 on.1 rests i
+    ]
+  ]
+
+  -- ---- what a sort ensures
+
+  -- numbers that do not fall, by their places
+  first_from : (x : A) (xs : List A) → ((k : ℕ) → k < length xs → number x ≤ number (slice_index_or xs k x)) → IsFirst x xs
+  first_from x [] up = tt
+  first_from x (y ∷ ys) up = (up 0 (omega arith), first_from x ys (λ k l. up (suc k) (omega arith)))
+
+  -- each element is at most those behind it
+  rises_from : (xs : List A) → IsNonDecreasingBy number xs → Rises xs
+  rises_from [] up = tt
+  rises_from (x ∷ xs) up = (
+    first_from x xs (λ k l. up 0 (suc k) x (omega arith) (omega arith)),
+    rises_from xs (λ i j d le l. up (suc i) (suc j) d (omega arith) (omega arith)),
+  )
+
+  -- those that tie have the same number
+  ties_are : ties (λ (x y : A). is_lt (nat_cmp (number x) (number y))) ≡ beside
+  ties_are = λ i x y.
+      ((λ j. not (less_is (number x) (number y) j) && not (less_is (number y) (number x) j))
+      ∙ neither_is (number x) (number y)) i
+
+  -- a stable sort by the number gives the elements by their numbers
+  pub stable_sorted : (xs ys : List A) → IsSortedByKey number nat_cmp ys → IsStableByKey number nat_cmp xs ys → ys ≡ sorted_by number xs
+  stable_sorted xs ys up stable =
+      rises_same ys (sorted_by number xs) (rises_from ys (IsNonDecreasingBy-from_sort number ys up)) (rises_sorted xs)
+      (λ z. ap (λ (p : A → A → Bool). filter (p z) ys) (sym ties_are)
+      ∙ (stable z
+      ∙ (ap (λ (p : A → A → Bool). filter (p z) xs) ties_are
+      ∙ sym (filter_sorted z xs))))

@@ -1,0 +1,8 @@
+use Rattle.forest_store.proofs.Common.{◌≡◌, take}
+use Rattle.std.specs.List.{flat_map}
+use Rattle.forest_store.specs.declared.entry.Entry.{Entry as NodeValue}
+use Rattle.forest_store.proofs.lookup.held_by_page.Given as goal
+
+-- so far the buffers of these entries
+abbrev pub invariant-loop-entry : goal.invariant-loop-entry
+invariant-loop-entry l = l.held.items ≡ flat_map (λ (e : NodeValue). e.held.items) (take l.entry-index l.entries)

@@ -1,0 +1,129 @@
+-- A node that is born: what the table has, and what stays true.
+use Rattle.forest_store.proofs.Common.{◌≡◌, ℕ, ◌+◌, nat_lt, Bool, true, false, length, Option, Some, None, option_map, cond, if◌then◌else◌, refl, sym, ap, subst, ◌∙◌, inl, inr, arith, option_map_or, lt-ltb, false≢true, NodeKey, same_key, either_way, Table, node_at, parent_at, Node}
+use Rattle.std.proofs.Common.{nat_le, Result, Ok, Err, IfOk}
+use Rattle.std.proofs.lemmas.Bool.{ne_eqb, le-leb, cases_eq}
+use Rattle.std.proofs.lemmas.List.{get_or_past}
+use Rattle.node_table.specs.Table.{Row, row_at, parent_in, next_at, was_given}
+use Rattle.node_table.specs.Changes.{Births, Writes, at_parent, with_child}
+use Rattle.node_table.specs.Lending.{table_with_node}
+use Rattle.node_table.proofs.Keys.{key_cases, same_key-equal, same_key-apart}
+use Rattle.forest_store.specs.Shelves.{Bears, born, named}
+use Rattle.forest_store.proofs.tables.Writing.{look-written, parents-written}
+
+-- ---- the table
+
+-- a key that was given to none has no node
+ungiven : (t : Table Node) (key : NodeKey) → t.first ≡ 0 → was_given t key ≡ false → node_at t key ≡ None
+ungiven t key first fresh = elim (cases_eq (next_at t key.slot) (key.generation + 1)) [
+  | inl last ↦
+      let low : nat_le t.first key.generation ≡ true = le-leb _ _ (omega arith) in
+      let below : nat_lt key.generation (next_at t key.slot) ≡ true = lt-ltb _ _ (omega arith) in
+      absurd (false≢true (sym fresh ∙ rw (low, below) refl))
+  | inr other ↦ rw (ne_eqb _ _ other) refl
+]
+
+-- a key that has a node was given
+pub given_there : (t : Table Node) (key : NodeKey) (n : Node) → t.first ≡ 0 → node_at t key ≡ Some n → was_given t key ≡ true
+given_there t key n first is = elim (either_way (was_given t key)) [
+  | inl given ↦ given
+  | inr fresh ↦ absurd (let none = ungiven t key first fresh in cc)
+]
+
+-- the tables give the same generation first
+first_born : (t u : Table Node) (parent : Option NodeKey) (node : Node) (key : NodeKey) → Births t u parent node key → u.first ≡ t.first
+first_born t u parent node key b =
+    let far = length t.nexts + (length u.nexts + (key.slot + 1)) in
+    sym (get_or_past u.nexts far u.first (omega arith)) ∙ b.nexts far (λ same. omega (arith, same))
+    ∙ get_or_past t.nexts far t.first (omega arith)
+
+-- the other rows have their nodes
+still_node : (parent : Option NodeKey) (key other : NodeKey) (o : Option (Row Node)) →
+    option_map (λ (row : Row Node). row.node) (option_map (at_parent parent (with_child key) other) o) ≡ option_map (λ (row : Row Node).
+    row.node) o
+still_node None key other None = refl
+still_node None key other (Some row) = refl
+still_node (Some above) key other None = refl
+still_node (Some above) key other (Some row) =
+    elim (same_key above other) as (λ b. Some (cond b (with_child key row) row).node ≡ Some row.node) [ true ↦ refl | false ↦ refl ]
+
+-- what the table has once the node is born and written
+pub born_look : (t u now : Table Node) (parent : Option NodeKey) (draft node : Node) → Births t u parent draft node.key →
+    Writes u now node.key node → (k : NodeKey) → node_at now k ≡ (if same_key node.key k then Some node else node_at t k)
+born_look t u now parent draft node b w k = look-written u now node.key node w k ∙ (elim (key_cases node.key k) [
+  | inl same ↦
+      let there : node_at u k ≡ Some draft = ap (node_at u) (sym same) ∙ ap (option_map (λ (row : Row Node). row.node)) b.born in
+      rw (same_key-equal node.key k same, there) refl
+  | inr differ ↦
+      rw (same_key-apart node.key k differ) (ap (option_map (λ (row : Row Node). row.node)) (b.others k (λ same. differ (sym same)))
+      ∙ still_node parent node.key k (row_at t k))
+])
+
+-- and their parents
+still_parent : (parent : Option NodeKey) (key other : NodeKey) (o : Option (Row Node)) →
+    parent_in (option_map (at_parent parent (with_child key) other) o) ≡ parent_in o
+still_parent None key other None = refl
+still_parent None key other (Some row) = refl
+still_parent (Some above) key other None = refl
+still_parent (Some above) key other (Some row) =
+    elim (same_key above other) as (λ b. (cond b (with_child key row) row).parent ≡ row.parent) [ true ↦ refl | false ↦ refl ]
+
+-- the node has its parent in the table, and the others have theirs
+born_parents : (t u now : Table Node) (parent : Option NodeKey) (draft node : Node) → node.parent ≡ parent →
+    Births t u parent draft node.key → Writes u now node.key node → (k : NodeKey) →
+    parent_at now k ≡ (if same_key node.key k then node.parent else parent_at t k)
+born_parents t u now parent draft node up b w k = parents-written u now node.key node w k ∙ (elim (key_cases node.key k) [
+  | inl same ↦ rw (same_key-equal node.key k same) (ap (parent_at u) (sym same) ∙ ap parent_in b.born ∙ sym up)
+  | inr differ ↦ rw (same_key-apart node.key k differ) (ap parent_in (b.others k (λ same. differ (sym same)))
+      ∙ still_parent parent node.key k (row_at t k))
+])
+
+-- there is one more node
+pub bears_node : (t u now : Table Node) (parent : Option NodeKey) (draft node : Node) → t.first ≡ 0 → node.parent ≡ parent →
+    Births t u parent draft node.key → now ≡ table_with_node u node.key node → Writes u now node.key node → Bears t now node
+bears_node t u now parent draft node first up b becomes w = record {
+  look = born_look t u now parent draft node b w;
+  parents = born_parents t u now parent draft node up b w;
+  none = ungiven t node.key first b.fresh;
+  gives = record {
+    slot = b.slot;
+    fresh = b.fresh;
+    given = λ other. w.keys.given other ∙ b.given other;
+    first = ap (λ (x : Table Node). x.first) becomes ∙ first_born t u parent draft node.key b;
+    limit = w.keys.limit ∙ b.limit;
+  };
+  len = w.len ∙ b.longer;
+}
+
+-- a node that is born has its key
+pub born_key : (above : Option Node) (attached : Bool) (id event client : ℕ) (key : NodeKey) →
+    (born above attached id event client key).key ≡ key
+born_key None attached id event client key = refl
+born_key (Some above) attached id event client key = refl
+
+-- and the one above as its parent
+pub born_parent : (above : Option Node) (attached : Bool) (id event client : ℕ) (key : NodeKey) →
+    (born above attached id event client key).parent ≡ option_map (λ (n : Node). n.key) above
+born_parent None attached id event client key = refl
+born_parent (Some above) attached id event client key = refl
+
+-- it is as weak as the one above
+pub born_weak : (above : Option Node) (attached : Bool) (id event client : ℕ) (key : NodeKey) →
+    (born above attached id event client key).weak ≡ option_map_or (λ (n : Node). n.weak) above false
+born_weak None attached id event client key = refl
+born_weak (Some above) attached id event client key = refl
+
+-- a draft that is given its key is the node
+pub born_named : (above : Option Node) (attached : Bool) (id event client : ℕ) (any key : NodeKey) →
+    named key (born above attached id event client any) ≡ born above attached id event client key
+born_named None attached id event client any key = refl
+born_named (Some above) true id event client any key = refl
+born_named (Some above) false id event client any key = refl
+
+-- so it is born
+pub named_bears : {E : Type 0} (t now : Table Node) (above : Option Node) (attached : Bool) (id event client : ℕ) (any : NodeKey)
+    (draft : Node) → draft ≡ born above attached id event client any → (result : Result NodeKey E) →
+    IfOk result (λ key. Bears t now (named key draft)) →
+    IfOk result (λ key. Bears t now (born above attached id event client key))
+named_bears t now above attached id event client any draft is (Ok key) bears =
+    subst (Bears t now) (ap (named key) is ∙ born_named above attached id event client any key) bears
+named_bears t now above attached id event client any draft is (Err e) bears = bears

@@ -1,0 +1,62 @@
+-- The nodes of a unit are of one unit still, whatever is changed or forced.
+use Rattle.forest_store.proofs.Common.{◌≡◌, refl, ap, sym, ◌∙◌, Bool, true, false, ◌||◌, ◌&&◌, not, inl, inr, List, [], ◌∷◌, ◌++◌, map, reverse, is_none, filter, list_all, option_map_or, same_key, In, and_both, and_left, and_right, either_way, all_on, Node}
+use Rattle.std.proofs.lemmas.List.{reverse-append}
+use Rattle.sm_names.proofs.ListLaws.{In-reverse, list_all-filter}
+use Rattle.forest_store.specs.Units.{are_united, shares_unit}
+use Rattle.forest_store.proofs.tables.KeptRoots.{filter-reverse_aux, map-reverse_aux}
+
+-- what is kept of a node that stays in its unit
+pub record KeepsUnit (f : Node → Node) : Type 0 where
+  pub key : (n : Node) → (f n).key ≡ n.key
+  pub parent : (n : Node) → (f n).parent ≡ n.parent
+  pub attached : (n : Node) → (f n).attached ≡ n.attached
+  pub head : (n : Node) → (f n).head ≡ n.head
+
+module _ (f : Node → Node) (keeps : KeepsUnit f) where
+  -- parent, attachment, key and head are kept, and sharing a unit is read from these
+  shares_same : (n q : Node) → shares_unit (f n) (f q) ≡ shares_unit n q
+  shares_same n q = λ i. (is_none (keeps.parent n i) || keeps.attached n i)
+      || (not (option_map_or (λ p. same_key (keeps.key q i) p) (keeps.parent n i) false) || same_key (keeps.head q i) (keeps.head n i))
+
+  -- by induction over the others
+  shares_map : (n : Node) (qs : List Node) → list_all (shares_unit (f n)) (map f qs) ≡ list_all (shares_unit n) qs
+  shares_map n [] = refl
+  shares_map n (q ∷ qs) = λ i. shares_same n q i && shares_map n qs i
+
+  -- by induction: each node shares its unit with those before it as it did
+  united_map : (ns : List Node) → are_united (map f ns) ≡ are_united ns
+  united_map [] = refl
+  united_map (n ∷ ns) = λ i. shares_map n ns i && united_map ns i
+
+  -- nodes that are changed so stay united
+  pub united_mapped : (ns : List Node) → are_united (reverse (map f ns)) ≡ are_united (reverse ns)
+  united_mapped ns = ap are_united (sym (map-reverse_aux f ns [])) ∙ united_map (reverse ns)
+
+-- ---- some of the nodes
+
+-- by induction: a node that passes shares its unit with fewer others
+united_some : (p : Node → Bool) (ns : List Node) → are_united ns ≡ true → are_united (filter p ns) ≡ true
+united_some p [] united = refl
+united_some p (n ∷ ns) united =
+    let here : list_all (shares_unit n) ns ≡ true = and_left (list_all (shares_unit n) ns) (are_united ns) united in
+    let rest : are_united (filter p ns) ≡ true = united_some p ns (and_right (list_all (shares_unit n) ns) (are_united ns) united) in
+    elim (either_way (p n)) [
+      | inl e ↦ rw e (and_both (list_all (shares_unit n) (filter p ns)) (are_united (filter p ns))
+          (list_all-filter (shares_unit n) p ns here)
+          rest)
+      | inr e ↦ rw e rest
+    ]
+
+-- they are united still
+pub united_filter : (p : Node → Bool) (ns : List Node) → are_united (reverse ns) ≡ true → are_united (reverse (filter p ns)) ≡ true
+united_filter p ns united = ap are_united (sym (filter-reverse_aux p ns [])) ∙ united_some p (reverse ns) united
+
+-- ---- one more node
+
+-- the new node stands first in the list turned round, and shares its unit with its parent
+pub united_born : (ns : List Node) (b : Node) → ((q : Node) → In q ns → shares_unit b q ≡ true) → are_united (reverse ns) ≡ true →
+    are_united (reverse (ns ++ b ∷ [])) ≡ true
+united_born ns b shares united =
+    ap are_united (reverse-append ns (b ∷ []))
+    ∙ and_both (list_all (shares_unit b) (reverse ns)) (are_united (reverse ns)) (all_on (shares_unit b) (reverse ns) (λ q on.
+    shares q (In-reverse ns q on))) united

@@ -1,0 +1,16 @@
+-- What is reserved is a sum over the nodes.
+use Rattle.forest_store.proofs.Common.{◌≡◌, List, drop, sym, ◌∙◌, ap, arith, NodeKey, nodes_with}
+use Rattle.std.proofs.lemmas.List.{drop_all}
+use Rattle.forest_store.specs.Reserved.{camped}
+use Rattle.forest_store.proofs.tallies.Amounts.{amount_of}
+use Rattle.forest_store.proofs.tallies.Reserved.{reserved_is}
+use Rattle.forest_store.proofs.removed_nodes.recount.Goals as goal
+
+pub returns-clause-reserved : goal.returns-clause-reserved
+returns-clause-reserved c =
+    let t = c.args.table.now in
+    let none : amount_of camped (nodes_with t (drop c.loop-key.key-index c.args.keys.now)) ≡ 0 =
+    ap (λ (ks : List NodeKey). amount_of camped (nodes_with t ks))
+    (drop_all c.loop-key.key-index c.args.keys.now (omega (arith, c.loop-key-test.false))) in
+    let all = c.loop-key.invariant.reserved in
+    omega (arith, none, all) ∙ sym (reserved_is (nodes_with t c.args.keys.now))

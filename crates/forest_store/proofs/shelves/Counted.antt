@@ -1,0 +1,426 @@
+-- Entries that are counted stay so, where one is put among them.
+use Rattle.forest_store.proofs.Common.{◌≡◌, ◌≢◌, ℕ, zero, suc, ◌+◌, ◌<◌, ◌≤◌, ◌==◌, ◌&&◌, Bool, true, false, ◌⊎◌, inl, inr, List, [], ◌∷◌, map, length, get_or, set, if◌then◌else◌, cond, Option, Some, None, option_map, is_some, sym, ap, subst, ◌∙◌, refl, arith, AllByRecursion, cons_option, filter, list_all, list_any, eqb-true, eqb-false, NodeKey, same_key, In, In-map, and_left, and_right, both_ways, either_way, same_key-refl, same_key-true, some-injective, In-any, Table, node_at, Entry, Node, strong_count, over_except, Collection, AreRising, IsWhole, Shelf, are_filed, collection_in, is_filed, nodes_with, place_in, put_shelf, shelf_of, shelves_of, is_over, reserved_count}
+use Rattle.std.specs.List.{remove}
+use Rattle.std.proofs.lemmas.Bool.{ltb-true}
+use Rattle.sm_names.proofs.ListLaws.{times-le-length}
+use Rattle.forest_store.specs.declared.node.End.{End}
+use Rattle.forest_store.specs.Calm.{AreCounted, AreCountedExcept, IsQuiescent, IsCounted, put_in}
+use Rattle.forest_store.specs.Garbage.{IsNotedIn, IsNoting, IsThinned}
+use Rattle.forest_store.specs.Garbage.{is_found, left_at, unless_over}
+use Rattle.forest_store.specs.Shelves.{is_strong}
+use Rattle.forest_store.specs.Nodes.{is_spent, with_end}
+use Rattle.forest_store.specs.Reserved.{camped}
+use Rattle.forest_store.proofs.changes.Altering.{looked-of}
+use Rattle.forest_store.proofs.quiescence.Calming.{IsPlain, calm_filter, calm_map, strong_filter, times_map}
+use Rattle.forest_store.proofs.tables.Hanging.{in_all, looked_there}
+use Rattle.forest_store.proofs.lists.Lookups.{looked-map}
+use Rattle.forest_store.proofs.leaving.Noted.{fewer_over, more_noted, not_over_but, noted_not}
+use Rattle.forest_store.proofs.shelves.Putting.{cases_place}
+use Rattle.forest_store.proofs.shelves.Showing.{filed-length}
+use Rattle.forest_store.proofs.quiescence.Steps.{all-In}
+use Rattle.forest_store.proofs.leaving.Thinning.{none-filter}
+use Rattle.forest_store.proofs.tallies.Reserved.{reserved_filter, reserved_map}
+
+-- what is told of the collection of an entry by one table is told by another that shows the same
+pub moved : (t now : Table Node) (e : Entry) → collection_in now (shelf_of e) ≡ collection_in t (shelf_of e) → IsCounted t e →
+    IsCounted now e
+moved t now e same counted = record {
+  calm = subst IsQuiescent (sym same) counted.calm;
+  strong = counted.strong ∙ ap (λ (c : Collection). strong_count c.nodes) (sym same);
+  reserved = counted.reserved ∙ ap (λ (c : Collection). reserved_count c.nodes) (sym same);
+  garbage_known = λ h. ap (λ (c : Collection). list_any (over_except e.garbage.items) c.nodes) same ∙ counted.garbage_known h;
+}
+
+-- an entry that shows the same with the same counts
+pub recounted : (t : Table Node) (e new : Entry) → collection_in t (shelf_of new) ≡ collection_in t (shelf_of e) → new.strong ≡ e.strong →
+    new.reserved ≡ e.reserved →
+    (new.garbage_known ≡ true → list_any (over_except new.garbage.items) (nodes_with t e.keys.items) ≡ false) → IsCounted t e → IsCounted t new
+recounted t e new same count sum garbage_known counted = record {
+  calm = subst IsQuiescent (sym same) counted.calm;
+  strong = count ∙ counted.strong ∙ ap (λ (c : Collection). strong_count c.nodes) (sym same);
+  reserved = sum ∙ counted.reserved ∙ ap (λ (c : Collection). reserved_count c.nodes) (sym same);
+  garbage_known = λ h. ap (λ (c : Collection). list_any (over_except new.garbage.items) c.nodes) same ∙ garbage_known h;
+}
+
+-- so of all that show the same
+pub moved_all : (t now : Table Node) (es : List Entry) → are_filed t (shelves_of es) ≡ true →
+    ((e : Entry) → list_all (is_filed t e.id) e.keys.items ≡ true → collection_in now (shelf_of e) ≡ collection_in t (shelf_of e)) →
+    AreCounted t es → AreCounted now es
+moved_all t now [] filed same all = tt
+moved_all t now (e ∷ es) filed same all = (
+  moved t now e (same e (and_left (list_all (is_filed t e.id) e.keys.items) _ filed)) all.0,
+  moved_all t now es (and_right (list_all (is_filed t e.id) e.keys.items) _ filed) same all.1,
+)
+
+-- and of all but one
+pub moved_but : (t now : Table Node) (id : ℕ) (es : List Entry) → AllByRecursion (λ (e : Entry). e.id ≢ id →
+    list_all (is_filed t e.id) e.keys.items ≡ true) es →
+    ((e : Entry) → e.id ≢ id → list_all (is_filed t e.id) e.keys.items ≡ true →
+    collection_in now (shelf_of e) ≡ collection_in t (shelf_of e)) →
+    AreCountedExcept t id es → AreCountedExcept now id es
+moved_but t now id [] filed same all = tt
+moved_but t now id (e ∷ es) filed same all =
+    (λ differ. moved t now e (same e differ (filed.0 differ)) (all.0 differ), moved_but t now id es filed.1 same all.1)
+
+-- where all are counted, all but one are
+pub counted_but : (t : Table Node) (id : ℕ) (es : List Entry) → AreCounted t es → AreCountedExcept t id es
+counted_but t id [] all = tt
+counted_but t id (e ∷ es) all = (λ differ. all.0, counted_but t id es all.1)
+
+-- ids above another are not it
+counted_above : (t : Table Node) (id low : ℕ) (es : List Entry) → id < low →
+    AllByRecursion (λ (later : Shelf). low < later.id) (shelves_of es) → AreCountedExcept t id es → AreCounted t es
+counted_above t id low [] less all but = tt
+counted_above t id low (e ∷ es) less all but =
+    (but.0 (λ same. omega (arith, all.0)), counted_above t id low es less all.1 but.1)
+
+-- by induction: no entry behind has the id
+counted_behind : (t : Table Node) (id : ℕ) (es : List Entry) →
+    AllByRecursion (λ (later : Shelf). id < later.id) (shelves_of es) → AreCountedExcept t id es → AreCounted t es
+counted_behind t id [] all but = tt
+counted_behind t id (e ∷ es) all but = (but.0 (λ same. omega (arith, all.0)), counted_behind t id es all.1 but.1)
+
+-- the entry is put among the others
+pub counted_put : (t : Table Node) (new : Entry) (es : List Entry) → AreRising (shelves_of es) → AreCountedExcept t new.id es →
+    IsCounted t new → AreCounted t (put_in new es)
+counted_put t new [] rising but own = (own, tt)
+counted_put t new (e ∷ es) rising but own = cases_place e.id new.id (AreCounted t (put_in new (e ∷ es)))
+    (λ same. rw same (
+      own,
+      counted_behind t new.id es
+          (subst (λ (low : ℕ). AllByRecursion (λ (later : Shelf). low < later.id) (shelves_of es)) (eqb-true e.id new.id same) rising.0)
+          but.1,
+    ))
+    (λ other above. rw (other, above) (
+      own,
+      (
+        but.0 (eqb-false e.id new.id other),
+        counted_above t new.id e.id es (ltb-true new.id e.id above) rising.0 but.1,
+      ),
+    ))
+    (λ other below. rw (other, below) (but.0 (eqb-false e.id new.id other), counted_put t new es rising.1 but.1 own))
+
+-- the shelves follow the entries
+pub shelves_put : (new : Entry) (es : List Entry) → shelves_of (put_in new es) ≡ put_shelf (shelf_of new) (shelves_of es)
+shelves_put new [] = refl
+shelves_put new (e ∷ es) = cases_place e.id new.id (shelves_of (put_in new (e ∷ es)) ≡ put_shelf (shelf_of new) (shelves_of (e ∷ es)))
+    (λ same. rw same refl)
+    (λ other above. rw (other, above) refl)
+    (λ other below. rw (other, below) (ap (λ ss. shelf_of e ∷ ss) (shelves_put new es)))
+
+-- ---- nodes that are forgotten
+
+-- each node stays, or is found no more and was gone
+abbrev pub Drops : Table Node → Table Node → Type 0
+Drops t now = (k : NodeKey) → (node_at now k ≡ node_at t k) ⊎ ((node_at now k ≡ None) × ((n : Node) → node_at t k ≡ Some n → n.gone ≡ true))
+
+module _ (t now : Table Node) (named : (k : NodeKey) (n : Node) → node_at t k ≡ Some n → n.key ≡ k) (drops : Drops t now) where
+  -- the nodes that are found still
+  abbrev stays : Node → Bool
+  stays n = is_some (node_at now n.key)
+
+  -- a node that was dropped was gone
+  dropped_first : (k : NodeKey) (o : Option Node) (ns : List Node) → node_at t k ≡ o →
+      (node_at now k ≡ o) ⊎ ((node_at now k ≡ None) × ((n : Node) → o ≡ Some n → n.gone ≡ true)) →
+      cons_option (node_at now k) (filter stays ns) ≡ filter stays (cons_option o ns)
+  dropped_first k None ns is (inl same) = rw same refl
+  dropped_first k None ns is (inr gone) = rw gone.0 refl
+  dropped_first k (Some n) ns is (inl same) =
+      let there : is_some (node_at now n.key) ≡ true = ap (λ (x : NodeKey). is_some (node_at now x)) (named k n is) ∙ ap is_some same in
+      rw (same, there) refl
+  dropped_first k (Some n) ns is (inr gone) =
+      let none : is_some (node_at now n.key) ≡ false = ap (λ (x : NodeKey). is_some (node_at now x)) (named k n is) ∙ ap is_some gone.0 in
+      rw (gone.0, none) refl
+
+  -- by induction over the keys
+  dropped_nodes : (keys : List NodeKey) → nodes_with now keys ≡ filter stays (nodes_with t keys)
+  dropped_nodes [] = refl
+  dropped_nodes (k ∷ ks) =
+      ap (cons_option (node_at now k)) (dropped_nodes ks)
+      ∙ dropped_first k (node_at t k) (nodes_with t ks) refl (drops k)
+
+  -- what does not stay was dropped, so it was gone
+  dropped_over : (n : Node) → node_at t n.key ≡ Some n → stays n ≡ false → n.gone ≡ true
+  dropped_over n is out = elim (drops n.key) [
+    | inl same ↦ let there : is_some (node_at now n.key) ≡ true = ap is_some (same ∙ is) in both_ways (stays n) there out
+    | inr gone ↦ gone.1 n is
+  ]
+
+  -- a collection stays calm, and its counts what they are
+  dropped : (e : Entry) → IsWhole (collection_in t (shelf_of e)) → IsCounted t e → IsCounted now e
+  dropped e whole counted =
+      let nodes : List Node = nodes_with t e.keys.items in
+      let over : (n : Node) → In n nodes → stays n ≡ false → n.gone ≡ true =
+      λ n on out. dropped_over n (in_all (λ (m : Node). node_at t m.key ≡ Some m) nodes (looked_there t named e.keys.items) n on) out in
+      record {
+        calm = subst IsQuiescent (λ i. record (collection_in t (shelf_of e)) { nodes = sym (dropped_nodes e.keys.items) i })
+            (calm_filter (collection_in t (shelf_of e)) whole stays over counted.calm);
+        strong = counted.strong ∙ sym (strong_filter stays nodes over) ∙ ap strong_count (sym (dropped_nodes e.keys.items));
+        reserved = counted.reserved ∙ sym (reserved_filter stays nodes over) ∙ ap reserved_count (sym (dropped_nodes e.keys.items));
+        garbage_known = λ h. ap (list_any (over_except e.garbage.items)) (dropped_nodes e.keys.items)
+            ∙ none-filter stays (over_except e.garbage.items) nodes (counted.garbage_known h);
+      }
+
+  -- by induction over the entries
+  pub dropped_all : (es : List Entry) → AllByRecursion (λ (s : Shelf). IsWhole (collection_in t s)) (shelves_of es) → AreCounted t es →
+      AreCounted now es
+  dropped_all [] whole all = tt
+  dropped_all (e ∷ es) whole all = (dropped e whole.0 all.0, dropped_all es whole.1 all.1)
+
+-- ---- nodes that are changed
+
+-- where each node is as f makes it, which keeps what the counts read
+pub mapped_all : (t now : Table Node) (f : Node → Node) → ((n : Node) → IsPlain (f n) n) → ((n : Node) → is_strong (f n) ≡ is_strong n) →
+    ((n : Node) → camped (f n) ≡ camped n) →
+    ((key : NodeKey) → node_at now key ≡ option_map f (node_at t key)) → (es : List Entry) →
+    AllByRecursion (λ (e : Entry). e.garbage_known ≡ true → list_any (over_except e.garbage.items) (map f (nodes_with t e.keys.items)) ≡ false) es →
+    AreCounted t es → AreCounted now es
+mapped_all t now f plain strong camps look [] garbage_known all = tt
+mapped_all t now f plain strong camps look (e ∷ es) garbage_known all =
+    let nodes : nodes_with now e.keys.items ≡ map f (nodes_with t e.keys.items) =
+    looked-map f (node_at t) (node_at now) look e.keys.items in (
+      record {
+        calm = subst IsQuiescent (λ i. record (collection_in t (shelf_of e)) { nodes = sym nodes i }) (calm_map (collection_in t (shelf_of e)) f
+            plain all.0.calm);
+        strong = all.0.strong ∙ sym (times_map is_strong is_strong f (nodes_with t e.keys.items) strong) ∙ ap strong_count (sym nodes);
+        reserved = all.0.reserved ∙ sym (reserved_map f camps (nodes_with t e.keys.items)) ∙ ap reserved_count (sym nodes);
+        garbage_known = λ h. ap (list_any (over_except e.garbage.items)) nodes ∙ garbage_known.0 h;
+      },
+      mapped_all t now f plain strong camps look es garbage_known.1 all.1,
+    )
+
+-- ---- entries that are left out
+
+-- what holds of the entries holds where one is removed
+pub counted_removed : (t : Table Node) (es : List Entry) (at : ℕ) → AreCounted t es → AreCounted t (remove es at)
+counted_removed t [] zero all = tt
+counted_removed t [] (suc n) all = tt
+counted_removed t (e ∷ es) zero all = all.1
+counted_removed t (e ∷ es) (suc n) all = (all.0, counted_removed t es n all.1)
+
+-- and where one is another that is counted
+pub counted_set : (t : Table Node) (es : List Entry) (at : ℕ) (new : Entry) → (at < length es → IsCounted t (get_or es at new) →
+    IsCounted t new) →
+    AreCounted t es → AreCounted t (set es at new)
+counted_set t [] at new own all = tt
+counted_set t (e ∷ es) zero new own all = (own (omega arith) all.0, all.1)
+counted_set t (e ∷ es) (suc n) new own all = (all.0, counted_set t es n new (λ within. own (omega arith)) all.1)
+
+-- ---- the others of a collection that is put back
+
+-- by induction over the entries
+pub filed_every : (t : Table Node) (id : ℕ) (es : List Entry) → are_filed t (shelves_of es) ≡ true →
+    AllByRecursion (λ (e : Entry). e.id ≢ id → list_all (is_filed t e.id) e.keys.items ≡ true) es
+filed_every t id [] all = tt
+filed_every t id (e ∷ es) all = (
+  λ differ. and_left (list_all (is_filed t e.id) e.keys.items) _ all,
+  filed_every t id es (and_right (list_all (is_filed t e.id) e.keys.items) _ all),
+)
+
+-- ---- keys without a node
+
+-- keys that find nothing are not missed
+pub found_nodes : (t : Table Node) (keys : List NodeKey) → nodes_with t (filter (is_found t) keys) ≡ nodes_with t keys
+found_nodes t [] = refl
+found_nodes t (k ∷ ks) = from (node_at t k) refl (found_nodes t ks)
+  where
+    from : (o : Option Node) → node_at t k ≡ o → nodes_with t (filter (is_found t) ks) ≡ nodes_with t ks →
+        nodes_with t (cond (is_some o) (k ∷ filter (is_found t) ks) (filter (is_found t) ks)) ≡ cons_option o (nodes_with t ks)
+    from None is on = on
+    from (Some n) is on = rw (is, on) refl
+
+-- what is taken out of a table where it was over was gone
+pub drops_over : (t now : Table Node) (keys : List NodeKey) → ((k : NodeKey) → node_at now k ≡ left_at t keys k) → Drops t now
+drops_over t now keys look k = elim (either_way (list_any (same_key k) keys)) [
+  | inl e ↦ by (node_at t k) (look k ∙ (rw e refl))
+  | inr e ↦ inl (look k ∙ (rw e refl))
+]
+  where
+    by : (o : Option Node) → node_at now k ≡ unless_over o → (node_at now k ≡ o) ⊎ ((node_at now k ≡ None) × ((n : Node) → o ≡ Some n →
+        n.gone ≡ true))
+    by None is = inl is
+    by (Some n) is = elim (either_way (is_over n)) [
+      | inl e ↦ inr (is ∙ (rw e refl), λ m same. let one : n ≡ m = cc in ap (λ (x : Node). x.gone) (sym one) ∙ and_left n.gone _ e)
+      | inr e ↦ inl (is ∙ (rw e refl))
+    ]
+
+-- so of one node that was over
+pub drops_one : (t now : Table Node) (key : NodeKey) (node : Node) → node_at t key ≡ Some node → node.gone ≡ true →
+    ((k : NodeKey) → node_at now k ≡ (if same_key key k then None else node_at t k)) → Drops t now
+drops_one t now key node was gone look k = elim (either_way (same_key key k)) [
+  | inl e ↦ inr (
+    look k ∙ (rw e refl),
+    λ m same.
+        let there : Some node ≡ Some m = sym was ∙ ap (node_at t) (same_key-true key k e) ∙ same in
+        let one : node ≡ m = cc in
+        ap (λ (x : Node). x.gone) (sym one) ∙ gone,
+  )
+  | inr e ↦ inl (look k ∙ (rw e refl))
+]
+
+-- no node with one of the keys is over, once those that were are taken out
+pub none_left : (t now : Table Node) (keys : List NodeKey) → ((k : NodeKey) → node_at now k ≡ left_at t keys k) → (ks : List NodeKey) →
+    ((k : NodeKey) → In k ks → list_any (same_key k) keys ≡ true) → list_any is_over (nodes_with now ks) ≡ false
+none_left t now keys look [] within = refl
+none_left t now keys look (k ∷ ks) within =
+    from (node_at t k) (look k ∙ (rw (within k (inl refl)) refl)) (none_left t now keys look ks (λ j on. within j (inr on)))
+  where
+    from : (o : Option Node) → node_at now k ≡ unless_over o → list_any is_over (nodes_with now ks) ≡ false →
+        list_any is_over (nodes_with now (k ∷ ks)) ≡ false
+    from None is rest = rw is rest
+    from (Some n) is rest = elim (either_way (is_over n)) [
+      | inl e ↦ let none : node_at now k ≡ None = is ∙ (rw e refl) in rw none rest
+      | inr e ↦ let some : node_at now k ≡ Some n = is ∙ (rw e refl) in rw (some, e) rest
+    ]
+
+-- a key is one of its own list
+pub own_key : (ks : List NodeKey) (k : NodeKey) → In k ks → list_any (same_key k) ks ≡ true
+own_key ks k on = In-any (same_key k) ks k on (same_key-refl k)
+
+-- ---- ends that are put elsewhere
+
+-- where none passes, this one fails
+pub none_each : {A : Type 0} (p : A → Bool) (xs : List A) → list_any p xs ≡ false → (x : A) → In x xs → p x ≡ false
+none_each p xs none x on = elim (either_way (p x)) [
+  | inl e ↦ both_ways (list_any p xs) (In-any p xs x on e) none
+  | inr e ↦ e
+]
+
+-- and where each fails, none passes
+each_none : {A : Type 0} (p : A → Bool) (xs : List A) → ((x : A) → In x xs → p x ≡ false) → list_any p xs ≡ false
+each_none p [] each = refl
+each_none p (x ∷ xs) each = rw (each x (inl refl)) (each_none p xs (λ y on. each y (inr on)))
+
+module _ (t : Table Node) (named : (k : NodeKey) (n : Node) → node_at t k ≡ Some n → n.key ≡ k) (key : NodeKey) (end : End) (n : Node)
+    (was : node_at t key ≡ Some n) where
+  abbrev f : Node → Node
+  f = with_end key end
+
+  -- one entry, where the node is noted if it is one of its own and is over then
+  end_tidy : (e : Entry) → list_all (is_filed t e.id) e.keys.items ≡ true →
+      list_any (over_except e.garbage.items) (nodes_with t e.keys.items) ≡ false →
+      (is_over (record n { end = end }) ≡ true → e.id ≡ n.collection → list_any (same_key key) e.garbage.items ≡ true) →
+      list_any (over_except e.garbage.items) (map f (nodes_with t e.keys.items)) ≡ false
+  end_tidy e filed none apart = each_none (over_except e.garbage.items) (map f (nodes_with t e.keys.items)) (λ m there.
+      let x = In-map f (nodes_with t e.keys.items) m there in
+      ap (over_except e.garbage.items) x.2 ∙ from x.0 x.1 (either_way (same_key key x.0.key)))
+    where
+      from : (m : Node) → In m (nodes_with t e.keys.items) → (same_key key m.key ≡ true) ⊎ (same_key key m.key ≡ false) →
+          over_except e.garbage.items (f m) ≡ false
+      from m on (inr other) =
+          let same : f m ≡ m = λ i. record m { end = if other i then end else m.end } in
+          ap (over_except e.garbage.items) same ∙ none_each (over_except e.garbage.items) (nodes_with t e.keys.items) none m on
+      from m on (inl same) =
+          let found : node_at t m.key ≡ Some m =
+          in_all (λ (x : Node). node_at t x.key ≡ Some x) (nodes_with t e.keys.items) (looked_there t named e.keys.items) m on in
+          let two : Some n ≡ Some m = sym was ∙ ap (node_at t) (same_key-true key m.key same) ∙ found in
+          let one : n ≡ m = cc in
+          let own : (m.collection == e.id) ≡ true =
+          all-In (λ (x : Node). x.collection == e.id) (nodes_with t e.keys.items) m on (looked-of t e.id e.keys.items filed) in
+          let is : is_over (f m) ≡ is_over (record n { end = end }) = rw same (ap (λ (x : Node). x.gone && is_spent end) (sym one)) in
+          elim (either_way (is_over (record n { end = end }))) [
+            | inl over ↦
+                noted_not e.garbage.items (f m) (subst (λ (j : NodeKey). list_any (same_key j) e.garbage.items ≡ true)
+                (same_key-true key m.key same)
+                (apart over (sym (eqb-true m.collection e.id own) ∙ ap (λ (x : Node). x.collection) (sym one))))
+            | inr not_over ↦ not_over_but e.garbage.items (f m) (is ∙ not_over)
+          ]
+
+  -- by induction: the node is over only in its own collection, which notes it or is not tidy
+  pub ends_tidy : (es : List Entry) → are_filed t (shelves_of es) ≡ true → AreCounted t es →
+      (is_over (record n { end = end }) ≡ true → AllByRecursion (λ (e : Entry). e.id ≡ n.collection → IsNotedIn e key) es) →
+      AllByRecursion (λ (e : Entry). e.garbage_known ≡ true → list_any (over_except e.garbage.items) (map f (nodes_with t e.keys.items)) ≡ false) es
+  ends_tidy [] filed all garbage = tt
+  ends_tidy (e ∷ es) filed all garbage = (
+    λ garbage_known. end_tidy e (and_left (list_all (is_filed t e.id) e.keys.items) _ filed) (all.0.garbage_known garbage_known)
+        (λ over is. (garbage over).0 is garbage_known),
+    ends_tidy es (and_right (list_all (is_filed t e.id) e.keys.items) _ filed) all.1 (λ over. (garbage over).1),
+  )
+
+-- an entry that notes more
+pub garbage : (t : Table Node) (es : List Entry) (at : ℕ) (new : Entry) → (at < length es → IsNoting (get_or es at new) new) →
+    AreCounted t es → AreCounted t (set es at new)
+garbage t es at new known all = counted_set t es at new
+    (λ within counted.
+    let old : Entry = get_or es at new in
+    let more = known within in
+    recounted t old new (ap (collection_in t) more.shelf) more.strong more.reserved
+    (λ garbage_known. more_noted old.garbage.items new.garbage.items more.more (nodes_with t old.keys.items) (counted.garbage_known (more.garbage_known garbage_known)))
+    counted) all
+
+-- one of which the keys were thinned
+pub counted_thinned : (t now : Table Node) (es : List Entry) (at : ℕ) (new : Entry) →
+    (at < length es → IsThinned now (get_or es at new) new) →
+    (at < length es → (k : NodeKey) → node_at now k ≡ left_at t (get_or es at new).keys.items k) →
+    AreCounted now es → AreCounted now (set es at new)
+counted_thinned t now es at new thinned look all = counted_set now es at new
+    (λ within counted.
+    let old : Entry = get_or es at new in
+    let is = thinned within in
+    let keys : List NodeKey = old.keys.items in
+    let none : list_any is_over (nodes_with now keys) ≡ false = none_left t now keys (look within) keys (own_key keys) in
+    recounted now old new
+    (λ i. record {
+      id = is.id i;
+      nodes = (ap (nodes_with now) is.keys ∙ found_nodes now keys) i;
+      buffers = is.buffers i;
+      held = (is.held i).items;
+    }) is.strong is.reserved (λ garbage_known. fewer_over new.garbage.items (nodes_with now keys) none) counted) all
+
+-- and the others of the id, which there are not
+pub noted_set : (P : Entry → Type 0) (id : ℕ) (es : List Entry) (at : ℕ) (new : Entry) → AreRising (shelves_of es) →
+    place_in id es ≡ Some at → P new →
+    AllByRecursion (λ (e : Entry). e.id ≡ id → P e) (set es at new)
+noted_set P id [] at new rising told untidy = tt
+noted_set P id (e ∷ es) at new rising told untidy =
+    from (λ n is. noted_set P id es n new rising.1 is untidy) (e.id == id) refl (place_in id es) refl told
+  where
+    above : (xs : List Entry) → AllByRecursion (λ (later : Shelf). id < later.id) (shelves_of xs) →
+        AllByRecursion (λ (x : Entry). x.id ≡ id → P x) xs
+    above [] all = tt
+    above (x ∷ xs) all = (λ is. absurd (omega (arith, all.0)), above xs all.1)
+
+    from : ((n : ℕ) → place_in id es ≡ Some n → AllByRecursion (λ (x : Entry). x.id ≡ id → P x) (set es n new)) →
+        (here : Bool) → (e.id == id) ≡ here → (behind : Option ℕ) → place_in id es ≡ behind →
+        cond here (Some 0) (option_map (λ n. n + 1) behind) ≡ Some at →
+        AllByRecursion (λ (x : Entry). x.id ≡ id → P x) (set (e ∷ es) at new)
+    from on true here behind is told =
+        let first : zero ≡ at = cc in
+        rw (← first) (
+          λ same. untidy,
+          above es
+              (subst (λ (low : ℕ). AllByRecursion (λ (later : Shelf). low < later.id) (shelves_of es)) (eqb-true e.id id here) rising.0),
+        )
+    from on false other None is told = absurd (cc)
+    from on false other (Some n) is told =
+        let next : at ≡ suc n = omega (arith, some-injective (n + 1) at told) in
+        rw next (λ same. absurd (eqb-false e.id id other same), on n is)
+
+-- where none has the id
+pub noted_none : (P : Entry → Type 0) (id : ℕ) (es : List Entry) → place_in id es ≡ None → AllByRecursion (λ (e : Entry). e.id ≡ id →
+    P e) es
+noted_none P id [] told = tt
+noted_none P id (e ∷ es) told = from (noted_none P id es) (e.id == id) refl (place_in id es) refl told
+  where
+    from : (place_in id es ≡ None → AllByRecursion (λ (x : Entry). x.id ≡ id → P x) es) →
+        (here : Bool) → (e.id == id) ≡ here → (behind : Option ℕ) → place_in id es ≡ behind →
+        cond here (Some 0) (option_map (λ n. n + 1) behind) ≡ None →
+        AllByRecursion (λ (x : Entry). x.id ≡ id → P x) (e ∷ es)
+    from on true here behind is told = absurd (cc)
+    from on false other None is told = (λ same. absurd (eqb-false e.id id other same), on is)
+    from on false other (Some n) is told = absurd (cc)
+
+-- an entry that shows the same in the place of another
+pub set_shelves : (es : List Entry) (at : ℕ) (new : Entry) → (at < length es → shelf_of new ≡ shelf_of (get_or es at new)) →
+    shelves_of (set es at new) ≡ shelves_of es
+set_shelves [] at new same = refl
+set_shelves (e ∷ es) zero new same = ap (λ s. s ∷ shelves_of es) (same (omega arith))
+set_shelves (e ∷ es) (suc n) new same = ap (λ ss. shelf_of e ∷ ss) (set_shelves es n new (λ within. same (omega arith)))
+
+-- the count is no more than the keys
+pub count_few : (t : Table Node) (e : Entry) → list_all (is_filed t e.id) e.keys.items ≡ true → IsCounted t e →
+    e.strong ≤ length e.keys.items
+count_few t e filed counted =
+    let few = times-le-length is_strong (nodes_with t e.keys.items) in
+    let same = filed-length t e.id e.keys.items filed in
+    omega (arith, few, same, counted.strong)

@@ -1,0 +1,124 @@
+-- A shelf that is put in its place among others.
+use Rattle.forest_store.proofs.Common.{◌≡◌, ℕ, ◌<◌, ◌==◌, nat_lt, true, false, ◌&&◌, not, List, [], ◌∷◌, ◌++◌, map, refl, sym, ap, subst, ◌∙◌, inl, inr, arith, list_all, filter, AllByRecursion, lt-ltb, eq-eqb, eqb-true, eqb-false, NodeKey, HeldBuffer, Table, Node, Collection, Shelf, AreRising, put_shelf, collection_in, all_keys, are_filed, is_filed, put}
+use Rattle.std.specs.List.{flat_map}
+use Rattle.std.proofs.lemmas.Bool.{le-ltb, ne_eqb, cases_lt, cases_eq, ltb-true, ltb-false}
+use Rattle.std.proofs.lemmas.List.{map-append}
+use Rattle.forest_store.specs.Forest.{pages_in}
+use Rattle.forest_store.proofs.lists.SameIntervals.{Alike, Alike-refl, Alike-trans, Alike-front, Alike-shift, less_of}
+
+-- three ways in which one number lies to another
+pub cases_place : (a b : ℕ) → (P : Type 0) → (((a == b) ≡ true) → P) → (((a == b) ≡ false) → (nat_lt b a ≡ true) → P) →
+    (((a == b) ≡ false) → (nat_lt b a ≡ false) → P) → P
+cases_place a b P same above below = elim (cases_eq a b) [
+  | inl equal ↦ same (eq-eqb a b equal)
+  | inr differ ↦ elim (cases_lt b a) [
+    | inl less ↦ above (ne_eqb a b differ) (lt-ltb b a less)
+    | inr more ↦ below (ne_eqb a b differ) (le-ltb b a more)
+  ]
+]
+
+-- ids above another are above a smaller one
+pub above-weaker : (low id : ℕ) (ss : List Shelf) → low < id → AllByRecursion (λ (later : Shelf). id < later.id) ss →
+    AllByRecursion (λ (later : Shelf). low < later.id) ss
+above-weaker low id [] less all = tt
+above-weaker low id (s ∷ ss) less all = (omega (arith, all.0), above-weaker low id ss less all.1)
+
+-- one more above
+above-put : (low : ℕ) (new : Shelf) (ss : List Shelf) → low < new.id → AllByRecursion (λ (later : Shelf). low < later.id) ss →
+    AllByRecursion (λ (later : Shelf). low < later.id) (put_shelf new ss)
+above-put low new [] less all = (less, tt)
+above-put low new (s ∷ ss) less all = cases_place s.id new.id (AllByRecursion (λ (later : Shelf). low < later.id) (put_shelf new (s ∷ ss)))
+    (λ same. rw same (less, all.1))
+    (λ other above. rw (other, above) (less, all))
+    (λ other below. rw (other, below) (all.0, above-put low new ss less all.1))
+
+-- the ids still rise
+pub rising-put : (new : Shelf) (ss : List Shelf) → AreRising ss → AreRising (put_shelf new ss)
+rising-put new [] rising = (tt, tt)
+rising-put new (s ∷ ss) rising = cases_place s.id new.id (AreRising (put_shelf new (s ∷ ss)))
+    (λ same. rw same (
+      subst (λ (id : ℕ). AllByRecursion (λ (later : Shelf). id < later.id) ss) (eqb-true s.id new.id same) rising.0,
+      rising.1,
+    ))
+    (λ other above. let less : new.id < s.id = ltb-true _ _ above in
+    rw (other, above) ((less, above-weaker new.id s.id ss less rising.0), rising))
+    (λ other below. let less : s.id < new.id = less_of new.id s.id (λ same. eqb-false s.id new.id other (sym same)) (ltb-false _ _ below) in
+    rw (other, below) (above-put s.id new ss less rising.0, rising-put new ss rising.1))
+
+-- the collections are put so
+pub put-map : (t : Table Node) (new : Shelf) (ss : List Shelf) →
+    map (collection_in t) (put_shelf new ss) ≡ put (collection_in t new) (map (collection_in t) ss)
+put-map t new [] = refl
+put-map t new (s ∷ ss) =
+    cases_place s.id new.id (map (collection_in t) (put_shelf new (s ∷ ss)) ≡ put (collection_in t new) (map (collection_in t) (s ∷ ss)))
+    (λ same. rw same refl)
+    (λ other above. rw (other, above) refl)
+    (λ other below. rw (other, below) (ap (λ cs. collection_in t s ∷ cs) (put-map t new ss)))
+
+-- two shelves of one id with the same keys give the same keys
+pub keys-put : (one other : Shelf) (ss : List Shelf) → one.id ≡ other.id → one.keys ≡ other.keys →
+    all_keys (put_shelf one ss) ≡ all_keys (put_shelf other ss)
+keys-put one other [] ids keys = rw keys refl
+keys-put one other (s ∷ ss) ids keys = cases_place s.id other.id (all_keys (put_shelf one (s ∷ ss)) ≡ all_keys (put_shelf other (s ∷ ss)))
+    (λ same. rw (ids, keys, same) refl)
+    (λ differ above. rw (ids, keys, differ, above) refl)
+    (λ differ below. rw (ids, differ, below) (ap (λ ks. s.keys ++ ks) (keys-put one other ss ids keys)))
+
+-- what two tables that file the same say of keys
+filed-same-keys : (t now : Table Node) → ((id : ℕ) (key : NodeKey) → is_filed now id key ≡ is_filed t id key) →
+    (id : ℕ) (keys : List NodeKey) → list_all (is_filed now id) keys ≡ list_all (is_filed t id) keys
+filed-same-keys t now each id [] = refl
+filed-same-keys t now each id (k ∷ ks) = rw (each id k, filed-same-keys t now each id ks) refl
+
+-- what two tables that file the same say of all
+pub filed-same : (t now : Table Node) → ((id : ℕ) (key : NodeKey) → is_filed now id key ≡ is_filed t id key) → (ss : List Shelf) →
+    are_filed now ss ≡ are_filed t ss
+filed-same t now each [] = refl
+filed-same t now each (s ∷ ss) = rw (filed-same-keys t now each s.id s.keys, filed-same t now each ss) refl
+
+-- two shelves of one id with the same keys are filed alike
+pub filed-put : (t : Table Node) (one other : Shelf) (ss : List Shelf) → one.id ≡ other.id → one.keys ≡ other.keys →
+    are_filed t (put_shelf one ss) ≡ are_filed t (put_shelf other ss)
+filed-put t one other [] ids keys = rw (ids, keys) refl
+filed-put t one other (s ∷ ss) ids keys =
+    cases_place s.id other.id (are_filed t (put_shelf one (s ∷ ss)) ≡ are_filed t (put_shelf other (s ∷ ss)))
+    (λ same. rw (ids, keys, same) refl)
+    (λ differ above. rw (ids, keys, differ, above) refl)
+    (λ differ below. rw (ids, differ, below) (ap (λ b. list_all (is_filed t s.id) s.keys && b) (filed-put t one other ss ids keys)))
+
+-- ---- pages
+
+-- the pages of collections are those of the buffers that hold any
+pub pages_held : (cs : List Collection) → map (λ (h : HeldBuffer). h.pages) (flat_map (λ (c : Collection). c.held) cs)
+    ≡ flat_map pages_in cs
+pages_held [] = refl
+pages_held (c ∷ cs) = map-append (λ (h : HeldBuffer). h.pages) c.held (flat_map (λ (d : Collection). d.held) cs)
+    ∙ ap (λ is. pages_in c ++ is) (pages_held cs)
+
+-- collections of greater ids are others
+others-above : (t : Table Node) (id : ℕ) (ss : List Shelf) → AllByRecursion (λ (later : Shelf). id < later.id) ss →
+    filter (λ (c : Collection). not (c.id == id)) (map (collection_in t) ss) ≡ map (collection_in t) ss
+others-above t id [] all = refl
+others-above t id (s ∷ ss) all =
+    let other : (s.id == id) ≡ false = ne_eqb _ _ (λ same. omega (arith, all.0)) in
+    rw other (ap (λ cs. collection_in t s ∷ cs) (others-above t id ss all.1))
+
+-- the pages of a collection that is put are its own and those of the others
+pub pages-put : (t : Table Node) (c : Collection) (ss : List Shelf) → AreRising ss →
+    Alike (flat_map pages_in (put c (map (collection_in t) ss))) (pages_in c ++ flat_map pages_in (filter (λ (d : Collection).
+    not (d.id == c.id)) (map (collection_in t) ss)))
+pages-put t c [] rising = Alike-refl (pages_in c ++ [])
+pages-put t c (s ∷ ss) rising =
+    cases_place s.id c.id (Alike (flat_map pages_in (put c (map (collection_in t) (s ∷ ss)))) (pages_in c ++ flat_map pages_in
+    (filter (λ (d : Collection). not (d.id == c.id)) (map (collection_in t) (s ∷ ss)))))
+    (λ same. rw (
+      same,
+      others-above t c.id ss
+          (subst (λ (id : ℕ). AllByRecursion (λ (later : Shelf). id < later.id) ss) (eqb-true s.id c.id same) rising.0),
+    ) (Alike-refl _))
+    (λ other above. let less : c.id < s.id = ltb-true _ _ above in
+    rw (other, above, others-above t c.id ss (above-weaker c.id s.id ss less rising.0)) (Alike-refl _))
+    (λ other below. rw (other, below)
+    (Alike-trans _ _ _
+    (Alike-front (pages_in (collection_in t s)) _ _ (pages-put t c ss rising.1))
+    (Alike-shift (pages_in (collection_in t s)) (pages_in c) _)))

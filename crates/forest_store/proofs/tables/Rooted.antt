@@ -1,0 +1,153 @@
+-- The nodes of a collection hang on their parents: that of each node that is not gone stands before it, and is not gone.
+use Rattle.forest_store.proofs.Common.{◌≡◌, refl, ap, sym, ◌∙◌, subst, true, false, ◌&&◌, not, inl, inr, List, [], ◌∷◌, reverse, Option, Some, None, not-true, list_any, option_map_or, NodeKey, same_key, In, In-list_any, and_both, and_left, and_right, both_ways, either_way, or_right, same_key-refl, same_key-true, In-any, Node, is_left_of, Collection, IsWhole, is_of, are_distinct, are_rooted}
+use Rattle.std.proofs.lemmas.Bool.{not_from_false}
+use Rattle.sm_names.proofs.ListLaws.{In-reverse, In-reverse-back}
+use Rattle.sm_names.proofs.ReachLaws.{IsChain}
+use Rattle.forest_store.specs.Nodes.{above_among}
+use Rattle.forest_store.specs.Ties.{hangs_on}
+
+-- nodes with one key are one node
+abbrev pub AreOne : List Node → Type 0
+AreOne nodes = (a b : Node) → In a nodes → In b nodes → a.key ≡ b.key → a ≡ b
+
+-- what holds of the nodes of a collection, by birth
+pub record IsRooted (nodes : List Node) : Type 0 where
+  pub one : AreOne nodes
+  pub rooted : are_rooted (reverse nodes) ≡ true
+
+-- where no key stands twice, nodes with one key are one
+pub distinct_one : (nodes : List Node) → are_distinct nodes ≡ true → AreOne nodes
+distinct_one [] distinct a b on too same = absurd on
+distinct_one (n ∷ ns) distinct a b on too same =
+    from on too (λ here there. distinct_one ns (and_right (not (list_any (is_of n.key) ns)) (are_distinct ns) distinct) a b here there same)
+  where
+    alone : list_any (is_of n.key) ns ≡ false
+    alone = not-true (list_any (is_of n.key) ns) (and_left (not (list_any (is_of n.key) ns)) (are_distinct ns) distinct)
+
+    again : (m : Node) → In m ns → m.key ≡ n.key → ⊥
+    again m there is =
+        both_ways (list_any (is_of n.key) ns) (In-any (is_of n.key) ns m there (ap (λ (k : NodeKey). same_key k n.key) is
+        ∙ same_key-refl n.key)) alone
+
+    key_of : (x y : Node) → x ≡ y → x.key ≡ y.key
+    key_of x y = ap (λ (m : Node). m.key)
+
+    from : In a (n ∷ ns) → In b (n ∷ ns) → (In a ns → In b ns → a ≡ b) → a ≡ b
+    from (inl first) (inl second) rest = first ∙ sym second
+    from (inl first) (inr there) rest = absurd (again b there (sym same ∙ key_of a n first))
+    from (inr there) (inl second) rest = absurd (again a there (same ∙ key_of b n second))
+    from (inr here) (inr there) rest = rest here there
+
+-- the nodes of a whole collection hang so
+pub whole_rooted : (c : Collection) → IsWhole c → IsRooted c.nodes
+whole_rooted c ok = record { one = distinct_one c.nodes ok.sound.distinct; rooted = ok.rooted }
+
+-- ---- keys that are left
+
+-- what is left with this key
+pub record IsLeft (nodes : List Node) (key : NodeKey) : Type 0 where
+  pub node : Node
+  pub on : In node nodes
+  pub is : node.key ≡ key
+  pub here : node.gone ≡ false
+
+-- a key that is left is that of a node
+pub left_node : (nodes : List Node) (key : NodeKey) → is_left_of nodes key ≡ true → IsLeft nodes key
+left_node nodes key left =
+    let x = In-list_any (λ (n : Node). is_of key n && not n.gone) nodes left in
+    record {
+      node = x.0;
+      on = x.1;
+      is = same_key-true x.0.key key (and_left (is_of key x.0) (not x.0.gone) x.2);
+      here = not-true x.0.gone (and_right (is_of key x.0) (not x.0.gone) x.2);
+    }
+
+-- and the key of a node that is not gone is left
+pub left_in : (nodes : List Node) (n : Node) → In n nodes → n.gone ≡ false → is_left_of nodes n.key ≡ true
+left_in nodes n on here =
+    In-any (λ (m : Node). is_of n.key m && not m.gone) nodes n on
+    (and_both (same_key n.key n.key) (not n.gone) (same_key-refl n.key) (not_from_false n.gone here))
+
+-- so what is left in a part is left in the whole
+pub left_within : (assert_disjoint whole : List Node) → ((n : Node) → In n assert_disjoint → In n whole) →
+    (key : NodeKey) → is_left_of assert_disjoint key ≡ true → is_left_of whole key ≡ true
+left_within assert_disjoint whole within key left =
+    let x = left_node assert_disjoint key left in
+    subst (λ (k : NodeKey). is_left_of whole k ≡ true) x.is (left_in whole x.node (within x.node x.on) x.here)
+
+-- ---- lines
+
+-- the parents above a node that is left are left, and the links lead to them
+pub record HasLine (nodes : List Node) (parent : NodeKey → Option NodeKey) (key : NodeKey) (line : List NodeKey) : Type 0 where
+  pub chain : IsChain parent key line
+  pub left : (k : NodeKey) → In k line → is_left_of nodes k ≡ true
+
+module _ (nodes : List Node) (parent : NodeKey → Option NodeKey) (one : AreOne nodes)
+    (linked : (n : Node) → In n nodes → n.gone ≡ false → parent n.key ≡ n.parent) where
+  -- a node of these that has a left key is not gone
+  here_too : (ns : List Node) → ((n : Node) → In n ns → In n nodes) →
+      (n : Node) → In n nodes → is_left_of ns n.key ≡ true → n.gone ≡ false
+  here_too ns within n on left =
+      let x = left_node ns n.key left in
+      ap (λ (m : Node). m.gone) (one n x.node on (within x.node x.on) (sym x.is)) ∙ x.here
+
+  -- so each node that is left has its line, of those before it
+  pub line_among : (ns : List Node) → ((n : Node) → In n ns → In n nodes) → are_rooted ns ≡ true →
+      (key : NodeKey) → is_left_of ns key ≡ true → HasLine nodes parent key (above_among ns key)
+  line_among [] within rooted key left = cc
+  line_among (n ∷ older) within rooted key left =
+      let first : hangs_on older n ≡ true =
+      and_left (hangs_on older n) (are_rooted older) rooted in
+      let rest : are_rooted older ≡ true = and_right (hangs_on older n) (are_rooted older) rooted in
+      elim (either_way (same_key n.key key)) [
+        | inl e ↦
+            let is : n.key ≡ key = same_key-true n.key key e in
+            let on : In n nodes = within n (inl refl) in
+            let here : n.gone ≡ false =
+            here_too (n ∷ older) within n on (subst (λ (k : NodeKey). is_left_of (n ∷ older) k ≡ true) (sym is) left) in
+            let up : parent key ≡ n.parent = ap parent (sym is) ∙ linked n on here in
+            let stays : option_map_or (is_left_of older) n.parent true ≡ true = rw here at first in
+            rw e (from n.parent up stays (λ p there. line_among older (λ m in_older. within m (inr in_older)) rest p there))
+        | inr e ↦ rw e (line_among older (λ m in_older. within m (inr in_older)) rest key (rw e at left))
+      ]
+    where
+      from : (o : Option NodeKey) → parent key ≡ o → option_map_or (is_left_of older) o true ≡ true →
+          ((p : NodeKey) → is_left_of older p ≡ true → HasLine nodes parent p (above_among older p)) →
+          HasLine nodes parent key (option_map_or (λ p. p ∷ above_among older p) o [])
+      from None up stays line = record { chain = up; left = λ k on. absurd on }
+      from (Some p) up stays line = record { chain = (up, (line p stays).chain); left = each }
+        where
+          each : (k : NodeKey) → In k (p ∷ above_among older p) → is_left_of nodes k ≡ true
+          each k (inl is) = subst (λ (j : NodeKey). is_left_of nodes j ≡ true) (sym is) (left_within older nodes (λ m on.
+              within m (inr on)) p stays)
+          each k (inr on) = (line p stays).left k on
+
+  -- the line of a key that is left
+  pub line_of : are_rooted (reverse nodes) ≡ true → (key : NodeKey) → is_left_of nodes key ≡ true →
+      HasLine nodes parent key (above_among (reverse nodes) key)
+  line_of rooted key left =
+      line_among (reverse nodes) (λ n on. In-reverse nodes n on) rooted key
+      (left_within nodes (reverse nodes) (λ n on. In-reverse-back nodes n on) key left)
+
+-- ---- parents
+
+-- the parent of a node that is not gone is left, in a part of the nodes that hangs on parents
+parent_among : (ns : List Node) → are_rooted ns ≡ true → (n : Node) (p : NodeKey) → In n ns → n.gone ≡ false → n.parent ≡ Some p →
+    is_left_of ns p ≡ true
+parent_among [] rooted n p on here up = absurd on
+parent_among (m ∷ older) rooted n p (inl is) here up =
+    let first : hangs_on older m ≡ true =
+    and_left (hangs_on older m) (are_rooted older) rooted in
+    let here' : m.gone ≡ false = ap (λ (x : Node). x.gone) (sym is) ∙ here in
+    let up' : m.parent ≡ Some p = ap (λ (x : Node). x.parent) (sym is) ∙ up in
+    or_right (is_of p m && not m.gone) (is_left_of older p) (rw (here', up') at first)
+parent_among (m ∷ older) rooted n p (inr on) here up =
+    or_right (is_of p m && not m.gone) (is_left_of older p)
+    (parent_among older (and_right (hangs_on older m) (are_rooted older) rooted) n p on here up)
+
+-- so it is left among all
+pub left_parent : (nodes : List Node) → are_rooted (reverse nodes) ≡ true → (n : Node) (p : NodeKey) → In n nodes → n.gone ≡ false →
+    n.parent ≡ Some p → is_left_of nodes p ≡ true
+left_parent nodes rooted n p on here up =
+    left_within (reverse nodes) nodes (λ m there. In-reverse nodes m there) p
+    (parent_among (reverse nodes) rooted n p (In-reverse-back nodes n on) here up)

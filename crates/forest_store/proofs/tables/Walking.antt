@@ -1,0 +1,102 @@
+-- The walk over the keys of a collection that takes out the nodes that are over.
+use Rattle.forest_store.proofs.Common.{◌≡◌, ◌≢◌, Bool, true, false, List, [], ◌∷◌, ◌++◌, map, Option, Some, None, cond, refl, sym, ap, subst, ◌∙◌, inl, inr, list_any, option_map_or, NodeKey, same_key, and_left, or_right, Table, node_at, Node, Shelf, IsStored, is_over}
+use Rattle.std.proofs.lemmas.List.Folds.{list_any-append}
+use Rattle.sm_names.proofs.SamenessLaws.{or_false}
+use Rattle.node_table.specs.Changes.{SameKeys}
+use Rattle.node_table.proofs.Keys.{key_cases, same_key-equal, same_key-apart}
+use Rattle.forest_store.specs.Garbage.{TakesOut, left_at, thinned, unless_over}
+use Rattle.forest_store.specs.Nodes.{is_spent}
+use Rattle.forest_store.proofs.tables.TakingOut.{SameKeys-refl, SameKeys-trans}
+use Rattle.forest_store.proofs.leaving.Thinning.{all_thinned-same, found_before, taken-kept, thinned-twice}
+
+-- what was taken out so far: the walk over the rest ends where the whole does
+pub record Walks (old now : Table Node) (keys rest : List NodeKey) : Type 0 where
+  pub look : (k : NodeKey) → left_at now rest k ≡ left_at old keys k
+  pub kept : (ss : List Shelf) → IsStored old ss → IsStored now (map (thinned now) ss)
+  pub given : SameKeys old now
+
+-- nothing so far
+pub Walks-none : (t : Table Node) (keys : List NodeKey) → Walks t t keys keys
+Walks-none t keys = record {
+  look = λ k. refl;
+  kept = λ ss ok. subst (IsStored t) (sym (all_thinned-same t ss ok.filed)) ok;
+  given = SameKeys-refl t;
+}
+
+-- the same on either side
+either_same : (b : Bool) (o : Option Node) → cond b o o ≡ o
+either_same true o = refl
+either_same false o = refl
+
+-- a key that is not the last one
+left_before : (t : Table Node) (older : List NodeKey) (key k : NodeKey) → key ≢ k → left_at t older k ≡ left_at t (older ++ key ∷ []) k
+left_before t older key k differ =
+    let other : same_key k key ≡ false = same_key-apart k key (λ same. differ (sym same)) in
+    let any : list_any (same_key k) (older ++ key ∷ []) ≡ list_any (same_key k) older =
+    list_any-append (same_key k) older (key ∷ []) ∙ (rw other (or_false (list_any (same_key k) older))) in
+    rw any refl
+
+-- the last one
+left_last : (t : Table Node) (older : List NodeKey) (key k : NodeKey) → key ≡ k →
+    left_at t (older ++ key ∷ []) k ≡ unless_over (node_at t k)
+left_last t older key k same =
+    let one : same_key k key ≡ true = same_key-equal k key (sym same) in
+    let any : list_any (same_key k) (older ++ key ∷ []) ≡ true =
+    list_any-append (same_key k) older (key ∷ []) ∙ or_right (list_any (same_key k) older) _ (rw one refl) in
+    rw any refl
+
+-- by whether the last node is over
+unless-not : (o : Option Node) → option_map_or is_over o false ≡ false → unless_over o ≡ o
+unless-not o h = rw h refl
+
+-- an over node is left out
+unless-over : (o : Option Node) → option_map_or is_over o false ≡ true → unless_over o ≡ None
+unless-over o h = rw h refl
+
+-- a last node that is not over stays
+stays_look : (t : Table Node) (older : List NodeKey) (key : NodeKey) → option_map_or is_over (node_at t key) false ≡ false → (k : NodeKey) →
+    left_at t older k ≡ left_at t (older ++ key ∷ []) k
+stays_look t older key not_over k = elim (key_cases key k) [
+  | inl same ↦
+      let own : unless_over (node_at t k) ≡ node_at t k =
+      unless-not (node_at t k) (ap (λ x. option_map_or is_over (node_at t x) false) (sym same) ∙ not_over) in
+      rw own (either_same (list_any (same_key k) older) (node_at t k)) ∙ sym (left_last t older key k same ∙ own)
+  | inr differ ↦ left_before t older key k differ
+]
+
+-- and one that is over goes
+goes_look : (t now : Table Node) (older : List NodeKey) (key : NodeKey) → TakesOut t now key →
+    option_map_or is_over (node_at t key) false ≡ true → (k : NodeKey) → left_at now older k ≡ left_at t (older ++ key ∷ []) k
+goes_look t now older key out over k = elim (key_cases key k) [
+  | inl same ↦
+      let gone : node_at now k ≡ None = out.look k ∙ (rw (same_key-equal key k same) refl) in
+      let own : unless_over (node_at t k) ≡ None =
+      unless-over (node_at t k) (ap (λ x. option_map_or is_over (node_at t x) false) (sym same) ∙ over) in
+      rw gone (either_same (list_any (same_key k) older) None) ∙ sym (left_last t older key k same ∙ own)
+  | inr differ ↦
+      let there : node_at now k ≡ node_at t k = out.look k ∙ (rw (same_key-apart key k differ) refl) in
+      rw there (left_before t older key k differ)
+]
+
+-- one node more was looked at, and stays
+pub Walks-stays : (old t : Table Node) (keys older : List NodeKey) (key : NodeKey) → Walks old t keys (older ++ key ∷ []) →
+    option_map_or is_over (node_at t key) false ≡ false → Walks old t keys older
+Walks-stays old t keys older key walks not_over = record {
+  look = λ k. stays_look t older key not_over k ∙ walks.look k;
+  kept = walks.kept;
+  given = walks.given;
+}
+
+-- what is over is gone
+over_gone : (o : Option Node) → option_map_or is_over o false ≡ true → (m : Node) → o ≡ Some m → m.gone ≡ true
+over_gone o over m is = and_left m.gone (is_spent m.end) (rw is at over)
+
+-- or goes
+pub Walks-goes : (old t now : Table Node) (keys older : List NodeKey) (key : NodeKey) → Walks old t keys (older ++ key ∷ []) →
+    TakesOut t now key → option_map_or is_over (node_at t key) false ≡ true → Walks old now keys older
+Walks-goes old t now keys older key walks out over = record {
+  look = λ k. goes_look t now older key out over k ∙ walks.look k;
+  kept = λ ss ok. subst (IsStored now) (thinned-twice t now (found_before t now key out) ss)
+      (taken-kept t now key out (over_gone (node_at t key) over) (map (thinned t) ss) (walks.kept ss ok));
+  given = SameKeys-trans old t now walks.given out.keys;
+}

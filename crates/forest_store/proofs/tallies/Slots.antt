@@ -1,0 +1,450 @@
+-- The counts in the slots of keys: which stay where others change.
+use Rattle.forest_store.proofs.Common.{◌≡◌, ◌≢◌, ℕ, ◌+◌, ◌<◌, ◌≤◌, ◌==◌, nat_lt, refl, ap, sym, ◌∙◌, subst, Bool, true, false, ◌&&◌, ◌⊎◌, inl, inr, if◌then◌else◌, List, [], ◌∷◌, map, length, reverse, Option, Some, None, option_map, not, arith, eqb-false, eqb-true, AllByRecursion, find, list_all, list_any, option_map_or, Interval, NodeKey, same_key, times, In, In-find, In-list_any, In-map, In-map-back, and_left, and_right, both_ways, either_way, false_if, same_key-true, In-any, Table, node_at, Change, Node, Unit, AreUnits, lives_in, unit_at, waits_in, Collection, with_nodes, AreRising, IsStored, IsWhole, Shelf, are_filed, collection_in, is_filed, nodes_with, is_of, is_over, are_distinct, Handles, Settles, collection_or_new, put, are_rooted}
+use Rattle.std.proofs.Common.{slice_index_or, filter}
+use Rattle.std.specs.Option.{unwrap_or}
+use Rattle.sm_names.specs.Marks.{Mark, Called, Loss, Allocated, Ended}
+use Rattle.sm_names.proofs.ListLaws.{In-filter, In-filter-back}
+use Rattle.node_table.specs.Table.{Row, next_at}
+use Rattle.forest_store.specs.Counts.{AreUnitsExcept, HasUnit, HasSlots, HasUnits, HaveSlots, cleared, hangs_in, head_above, heads_below, no_unit, reckoned, tallied, unit_of}
+use Rattle.forest_store.specs.Forest.{Forest, collection_at, is_left, tidied, without_over_in}
+use Rattle.forest_store.specs.Nodes.{is_spent}
+use Rattle.forest_store.specs.Settling.{Forces, Rests, changed, is_birth, is_root_of, made}
+use Rattle.forest_store.proofs.changes.Altering.{found_filed, found_id, found_whole, looked-of}
+use Rattle.forest_store.proofs.quiescence.Calming.{times_map}
+use Rattle.forest_store.proofs.changes.Finishing.{looked-keys}
+use Rattle.forest_store.proofs.tables.Hanging.{all_in, in_all, looked_gone, looked_there}
+use Rattle.forest_store.proofs.tallies.Holding.{head_there}
+use Rattle.forest_store.proofs.tallies.Hung.{above_node, below_mapped, hung_hangs, hung_is, hung_long, hung_other, is_hung}
+use Rattle.forest_store.proofs.tallies.Reckoning.{cleared_long, cleared_other, cleared_own, tallied_adds, tallied_long, tallied_other}
+use Rattle.forest_store.proofs.shelves.Showing.{filed-length}
+use Rattle.forest_store.proofs.quiescence.Steps.{all-In}
+use Rattle.forest_store.proofs.tables.Rooted.{distinct_one, left_node, left_parent}
+use Rattle.forest_store.proofs.tables.Writing.{IsSameNode}
+use Rattle.forest_store.proofs.tallies.Untold.{times_same}
+
+-- ---- keys that have nodes
+
+-- the node of a key is of its slot's last generation
+last_given : (t : Table Node) (key : NodeKey) (n : Node) → node_at t key ≡ Some n → next_at t key.slot ≡ key.generation + 1
+last_given t key n is = from (next_at t key.slot == key.generation + 1) refl is
+  where
+    from : (b : Bool) → (next_at t key.slot == key.generation + 1) ≡ b →
+        option_map (λ (row : Row Node). row.node) (if b then slice_index_or t.rows key.slot None else None) ≡ Some n →
+        next_at t key.slot ≡ key.generation + 1
+    from true e is = eqb-true _ _ e
+    from false e is = cc
+
+-- such keys are told apart by their slots
+pub one_slot : (t : Table Node) (a b : NodeKey) (n m : Node) → node_at t a ≡ Some n → node_at t b ≡ Some m → a.slot ≡ b.slot → a ≡ b
+one_slot t a b n m one two slots =
+    let x : next_at t a.slot ≡ a.generation + 1 = last_given t a n one in
+    let y : next_at t b.slot ≡ b.generation + 1 = last_given t b m two in
+    let z : next_at t a.slot ≡ next_at t b.slot = ap (next_at t) slots in
+    let generations : a.generation ≡ b.generation = omega arith in
+    λ i. record { slot = slots i; generation = generations i }
+
+-- ---- lists
+
+-- by induction: the element is the first, or one of the others
+pub all_at : {A : Type 0} (P : A → Type 0) (xs : List A) → AllByRecursion P xs → (x : A) → In x xs → P x
+all_at P [] all x on = absurd on
+all_at P (y ∷ ys) all x (inl is) = subst P (sym is) all.0
+all_at P (y ∷ ys) all x (inr on) = all_at P ys all.1 x on
+
+-- shelves with one id are one
+pub one_shelf : (ss : List Shelf) → AreRising ss → (x y : Shelf) → In x ss → In y ss → x.id ≡ y.id → x ≡ y
+one_shelf [] rising x y on too same = absurd on
+one_shelf (s ∷ ss) rising x y (inl here) (inl there) same = here ∙ sym there
+one_shelf (s ∷ ss) rising x y (inl here) (inr there) same =
+    let less : s.id < y.id = all_at (λ (later : Shelf). s.id < later.id) ss rising.0 y there in
+    let one : x.id ≡ s.id = ap (λ (z : Shelf). z.id) here in
+    absurd (omega arith)
+one_shelf (s ∷ ss) rising x y (inr here) (inl there) same =
+    let less : s.id < x.id = all_at (λ (later : Shelf). s.id < later.id) ss rising.0 x here in
+    let one : y.id ≡ s.id = ap (λ (z : Shelf). z.id) there in
+    absurd (omega arith)
+one_shelf (s ∷ ss) rising x y (inr here) (inr there) same = one_shelf ss rising.1 x y here there same
+
+-- ---- counts that stay
+
+-- the counts in the slots of other collections' keys stay
+abbrev pub Stays : Table Node → ℕ → List Unit → List Unit → Type 0
+Stays t id us new = (k : NodeKey) (n : Node) → node_at t k ≡ Some n → n.collection ≢ id → k.slot < length us → (k.slot < length new) ×
+    (unit_at new k.slot ≡ unit_at us k.slot)
+
+module _ (t : Table Node) (named : (key : NodeKey) (n : Node) → node_at t key ≡ Some n →
+    n.key ≡ key) (us new : List Unit) (id : ℕ) (stays : Stays t id us new) where
+  -- the slots of the keys of other collections stay
+  units_stay : (x : ℕ) → x ≢ id → (keys : List NodeKey) → list_all (is_filed t x) keys ≡ true → HasUnits us (nodes_with t keys) →
+      HasUnits new (nodes_with t keys)
+  units_stay x differ keys filed has = all_in (HasUnit new (nodes_with t keys)) (nodes_with t keys) (λ n on.
+      let at : node_at t n.key ≡ Some n =
+      in_all (λ (m : Node). node_at t m.key ≡ Some m) (nodes_with t keys) (looked_there t named keys) n on in
+      let own : n.collection ≡ x =
+      eqb-true n.collection x (all-In (λ (m : Node). m.collection == x) (nodes_with t keys) n on (looked-of t x keys filed)) in
+      let was = in_all (HasUnit us (nodes_with t keys)) (nodes_with t keys) has n on in
+      let s = stays n.key n at (λ h. differ (sym own ∙ h)) was.0 in
+      (s.0, s.1 ∙ was.1))
+
+  -- by induction over the shelves
+  pub but_stays : (ss : List Shelf) → are_filed t ss ≡ true → AreUnitsExcept us id (map (collection_in t) ss) →
+      AreUnitsExcept new id (map (collection_in t) ss)
+  but_stays [] filed all = tt
+  but_stays (s ∷ ss) filed all = (
+    λ differ. units_stay s.id differ s.keys (and_left (list_all (is_filed t s.id) s.keys) _ filed) (all.0 differ),
+    but_stays ss (and_right (list_all (is_filed t s.id) s.keys) _ filed) all.1,
+  )
+
+-- where all have their counts, all but one have
+pub but_all : (us : List Unit) (id : ℕ) (cs : List Collection) → AreUnits us cs → AreUnitsExcept us id cs
+but_all us id [] all = tt
+but_all us id (c ∷ cs) all = (λ differ. all.0, but_all us id cs all.1)
+
+-- and with that one all have
+pub but_join : (us : List Unit) (id : ℕ) (cs : List Collection) → AreUnitsExcept us id cs → ((c : Collection) → In c cs → c.id ≡ id →
+    HasUnits us c.nodes) → AreUnits us cs
+but_join us id [] but own = tt
+but_join us id (c ∷ cs) but own = (
+  elim (either_way (c.id == id)) [
+    | inl e ↦ own c (inl refl) (eqb-true c.id id e)
+    | inr e ↦ but.0 (eqb-false c.id id e)
+  ],
+  but_join us id cs but.1 (λ d on. own d (inr on)),
+)
+
+-- where the one has its counts and those of the others stay
+pub units_own : (t : Table Node) (ss : List Shelf) → IsStored t ss → (id : ℕ) (us new : List Unit) → Stays t id us new →
+    AreUnitsExcept us id (map (collection_in t) ss) →
+    (s : Shelf) → In s ss → s.id ≡ id → HasUnits new (nodes_with t s.keys) → AreUnits new (map (collection_in t) ss)
+units_own t ss kept id us new stays but s on own has =
+    but_join new id (map (collection_in t) ss) (but_stays t kept.named us new id stays ss kept.filed but) (λ c there same.
+    let x = In-map (collection_in t) ss c there in
+    let one : x.0 ≡ s = one_shelf ss kept.rising x.0 s x.1 on (sym (ap (λ (d : Collection). d.id) x.2) ∙ same ∙ sym own) in
+    subst (λ (d : Collection). HasUnits new d.nodes) (sym (x.2 ∙ ap (collection_in t) one)) has)
+
+-- where the others are the same
+pub but_moved : (t now : Table Node) (us : List Unit) (id : ℕ) (ss : List Shelf) → ((s : Shelf) → In s ss → s.id ≢ id →
+    collection_in now s ≡ collection_in t s) →
+    AreUnitsExcept us id (map (collection_in t) ss) → AreUnitsExcept us id (map (collection_in now) ss)
+but_moved t now us id [] same but = tt
+but_moved t now us id (s ∷ ss) same but = (
+  λ differ. subst (λ (c : Collection). HasUnits us c.nodes) (sym (same s (inl refl) differ)) (but.0 differ),
+  but_moved t now us id ss (λ x on. same x (inr on)) but.1,
+)
+
+-- where the one is put among them
+pub but_put : (us : List Unit) (c : Collection) (cs : List Collection) → AreUnits us cs → AreUnitsExcept us c.id (put c cs)
+but_put us c [] all = (λ differ. absurd (differ refl), tt)
+but_put us c (d ∷ ds) all = from (d.id == c.id) (nat_lt c.id d.id) (but_put us c ds all.1)
+  where
+    from : (here above : Bool) → AreUnitsExcept us c.id (put c ds) →
+        AreUnitsExcept us c.id (if here then c ∷ ds else (if above then c ∷ d ∷ ds else d ∷ put c ds))
+    from true above on = (λ differ. absurd (differ refl), but_all us c.id ds all.1)
+    from false true on = (λ differ. absurd (differ refl), (λ differ. all.0, but_all us c.id ds all.1))
+    from false false on = (λ differ. all.0, on)
+
+-- ---- collections that were settled
+
+-- by cases on the mark: none changes the id
+pub made_id : (pool : ℕ) (others : List Interval) (mark : Mark) (c : Collection) → (made pool others mark c).id ≡ c.id
+made_id pool others (Called client reply call) c = refl
+made_id pool others (Loss origin cause) c = refl
+made_id pool others (Allocated head) c = elim (either_way (is_root_of c head)) [
+  | inl e ↦ rw e refl
+  | inr e ↦ rw e refl
+]
+made_id pool others (Ended top) c = refl
+
+-- no forced step makes a collection another
+pub settles_id : (pool : ℕ) (handles : Handles) (others : List Interval) (c after : Collection) → Settles pool handles others c after →
+    after.id ≡ c.id
+settles_id pool handles others _ _ (Rests c rest) = refl
+settles_id pool handles others _ _ (Forces c after mark forces settles) =
+    settles_id pool handles others (made pool others mark c) after settles ∙ made_id pool others mark c
+
+-- nor a change
+pub changed_id : (change : Change) (key : NodeKey) (c : Collection) → is_birth change ≡ false → (changed change key c).id ≡ c.id
+changed_id (Change.Birth parent attached client event) key c h = cc
+changed_id (Change.Effect on effect) key c h = refl
+changed_id (Change.Loss origin cause) key c h = refl
+changed_id Change.Nothing key c h = refl
+
+-- the collection with an id has it, or is new with it
+pub or_new_id : (f : Forest) (id : ℕ) → (collection_or_new f id).id ≡ id
+or_new_id f id = from (collection_at f id) refl
+  where
+    from : (o : Option Collection) → collection_at f id ≡ o →
+        (unwrap_or o (record { id = id; nodes = []; buffers = None; held = [] })).id ≡ id
+    from None is = refl
+    from (Some c) is = eqb-true c.id id (In-find (λ (d : Collection). d.id == id) f.collections c is).1
+
+-- ---- nodes that count as before
+
+-- the map keeps the keys, and the counts are equal
+pub units_mapped : (us : List Unit) (f : Node → Node) (nodes : List Node) → ((n : Node) → (f n).key ≡ n.key) →
+    ((k : NodeKey) → unit_of (map f nodes) k ≡ unit_of nodes k) →
+    HasUnits us nodes → HasUnits us (map f nodes)
+units_mapped us f nodes keys same has =
+    all_in (HasUnit us (map f nodes)) (map f nodes) (λ n on.
+    let x = In-map f nodes n on in
+    let key : x.0.key ≡ n.key = sym (ap (λ (m : Node). m.key) x.2 ∙ keys x.0) in
+    let had = in_all (HasUnit us nodes) nodes has x.0 x.1 in
+    subst (λ (k : NodeKey). (k.slot < length us) × (unit_at us k.slot ≡ unit_of (map f nodes) k)) key
+    (had.0, had.1 ∙ sym (same x.0.key)))
+
+-- by induction: a node that fails the test was not counted
+times_filter : (p test : Node → Bool) (ns : List Node) → ((n : Node) → In n ns → p n ≡ false → test n ≡ false) →
+    times test (filter p ns) ≡ times test ns
+times_filter p test [] none = refl
+times_filter p test (n ∷ ns) none =
+    let rest = times_filter p test ns (λ m on. none m (inr on)) in
+    elim (either_way (p n)) [
+      | inl e ↦ rw (e, rest) refl
+      | inr e ↦ rw (e, none n (inl refl) e) rest
+    ]
+
+-- whose unit is right above stays so where nodes that are gone are forgotten
+hangs_filter : (p : Node → Bool) (nodes : List Node) → are_distinct nodes ≡ true → are_rooted (reverse nodes) ≡ true →
+    ((n : Node) → In n nodes → p n ≡ false → n.gone ≡ true) → (k : NodeKey) (n : Node) → In n nodes → n.gone ≡ false →
+    hangs_in (filter p nodes) k n ≡ hangs_in nodes k n
+hangs_filter p nodes distinct rooted over k n on here = by n.parent refl
+  where
+    by : (o : Option NodeKey) → n.parent ≡ o →
+        option_map_or (λ a. list_any (λ (q : Node). is_of a q && same_key q.head k) (filter p nodes)) o false
+        ≡ option_map_or (λ a. list_any (λ (q : Node). is_of a q && same_key q.head k) nodes) o false
+    by None up = refl
+    by (Some a) up = from (either_way (list_any test nodes))
+      where
+        test : Node → Bool
+        test q = is_of a q && same_key q.head k
+
+        -- the parent is there, and stays
+        stays : (q : Node) → In q nodes → test q ≡ true → In q (filter p nodes)
+        stays q there is =
+            let x = left_node nodes a (left_parent nodes rooted n a on here up) in
+            let one : q ≡ x.node =
+            distinct_one nodes distinct q x.node there x.on (same_key-true q.key a (and_left (is_of a q) _ is) ∙ sym x.is) in
+            elim (either_way (p q)) [
+              | inl e ↦ In-filter-back p nodes q there e
+              | inr e ↦ both_ways q.gone (over q there e) (ap (λ (m : Node). m.gone) one ∙ x.here)
+            ]
+
+        from : (list_any test nodes ≡ true) ⊎ (list_any test nodes ≡ false) → list_any test (filter p nodes) ≡ list_any test nodes
+        from (inl e) =
+            let q = In-list_any test nodes e in
+            In-any test (filter p nodes) q.0 (stays q.0 q.1 q.2) q.2 ∙ sym e
+        from (inr e) = false_if (list_any test (filter p nodes)) (λ h.
+            let q = In-list_any test (filter p nodes) h in
+            both_ways (list_any test nodes) (In-any test nodes q.0 (In-filter p nodes q.0 q.1).0 q.2) e) ∙ sym e
+
+-- only gone nodes are left out, which are counted nowhere
+below_filter : (p : Node → Bool) (nodes : List Node) → are_distinct nodes ≡ true → are_rooted (reverse nodes) ≡ true →
+    ((n : Node) → In n nodes → p n ≡ false → n.gone ≡ true) → (k : NodeKey) →
+    times (heads_below (filter p nodes) k) (filter p nodes) ≡ times (heads_below nodes k) nodes
+below_filter p nodes distinct rooted over k =
+    times_same (heads_below (filter p nodes) k) (heads_below nodes k) (filter p nodes) (λ n on.
+    one n (In-filter p nodes n on).0 (either_way n.gone))
+    ∙ times_filter p (heads_below nodes k) nodes (λ n on out.
+    ap (λ (b : Bool). not b && (n.attached && hangs_in nodes k n)) (over n on out))
+  where
+    one : (n : Node) → In n nodes → (n.gone ≡ true) ⊎ (n.gone ≡ false) → heads_below (filter p nodes) k n ≡ heads_below nodes k n
+    one n on (inl e) = (λ i. not (e i) && (n.attached && hangs_in (filter p nodes) k n))
+        ∙ sym (λ i. not (e i) && (n.attached && hangs_in nodes k n))
+    one n on (inr e) =
+        λ i. not n.gone && (n.attached && hangs_filter p nodes distinct rooted over k n on e i)
+
+-- the units that are left have the counts that they had
+pub units_filter : (us : List Unit) (p : Node → Bool) (nodes : List Node) → are_distinct nodes ≡ true →
+    are_rooted (reverse nodes) ≡ true → ((n : Node) → In n nodes → p n ≡ false → n.gone ≡ true) →
+    HasUnits us nodes → HasUnits us (filter p nodes)
+units_filter us p nodes distinct rooted over has =
+    all_in (HasUnit us (filter p nodes)) (filter p nodes) (λ n on.
+    let had = in_all (HasUnit us nodes) nodes has n (In-filter p nodes n on).0 in
+    (had.0, had.1 ∙ sym (same n.key)))
+  where
+    same : (k : NodeKey) → unit_of (filter p nodes) k ≡ unit_of nodes k
+    same k =
+        let l : times (lives_in k) (filter p nodes) ≡ times (lives_in k) nodes =
+        times_filter p (lives_in k) nodes (λ n on out. rw (over n on out) refl) in
+        let w : times (waits_in k) (filter p nodes) ≡ times (waits_in k) nodes =
+        times_filter p (waits_in k) nodes (λ n on out. rw (over n on out) refl) in
+        let b : times (heads_below (filter p nodes) k) (filter p nodes) ≡ times (heads_below nodes k) nodes =
+        below_filter p nodes distinct rooted over k in
+        λ i. record { live = l i; unready = w i; below = b i }
+
+-- ---- counting anew
+
+module _ (t : Table Node) (ss : List Shelf) (kept : IsStored t ss) (id : ℕ) (s : Shelf) (found : find (λ
+    (x : Shelf). x.id == id) ss ≡ Some s)
+    (us : List Unit) (few : length s.keys ≤ 18446744073709551615) (slots : HaveSlots us (map (collection_in t) ss)) where
+  abbrev nodes : List Node
+  nodes = nodes_with t s.keys
+
+  abbrev own : List Unit
+  own = tallied nodes (cleared s.keys us)
+
+  abbrev new : List Unit
+  new = reckoned t nodes (cleared s.keys us)
+
+  -- each collection is whole
+  whole : IsWhole (collection_in t s)
+  whole = found_whole t id ss s kept.whole found
+
+  -- its keys are filed under it
+  filed : list_all (is_filed t s.id) s.keys ≡ true
+  filed = found_filed t id ss s kept.filed found
+
+  -- each node stands in the table under its key
+  at : (n : Node) → In n nodes → node_at t n.key ≡ Some n
+  at n on = in_all (λ (m : Node). node_at t m.key ≡ Some m) nodes (looked_there t kept.named s.keys) n on
+
+  -- each node at its keys is of the collection
+  of : (n : Node) → In n nodes → n.collection ≡ id
+  of n on = eqb-true n.collection s.id (all-In (λ (m : Node). m.collection == s.id) nodes n on (looked-of t s.id s.keys filed))
+      ∙ found_id id ss s found
+
+  -- counting and clearing keep the length
+  long : length new ≡ length us
+  long = hung_long t nodes (tallied nodes (cleared s.keys us)) ∙ tallied_long nodes (cleared s.keys us) ∙ cleared_long s.keys us
+
+  -- the head of the unit of a node that is not gone
+  head_of : (m : Node) → In m nodes → m.gone ≡ false → (h : Node) × In h nodes × (h.key ≡ m.head)
+  head_of m there here =
+      let h = head_there nodes whole.sound.distinct whole.sound.heads whole.rooted whole.united m there here in (h.0, h.1, h.2)
+
+  -- and of the unit right above the one that it heads
+  above_of : (m : Node) → In m nodes → (h : NodeKey) → head_above t m ≡ Some h → (a : Node) × In a nodes × (a.key ≡ h)
+  above_of m there h is =
+      let x = above_node t nodes whole.sound.distinct whole.rooted at m there h is in
+      let a = head_of x.0 x.1 x.2 in
+      (a.0, a.1, a.2 ∙ x.3)
+
+  -- the slot of each node's key is in the list
+  slot_in : (n : Node) → In n nodes → n.key.slot < length us
+  slot_in n on =
+      in_all (λ (m : Node). m.key.slot < length us) nodes (all_at (λ (c : Collection). HasSlots us c.nodes) (map (collection_in t) ss) slots
+      (collection_in t s) (In-map-back (collection_in t) ss s (In-find (λ (x : Shelf). x.id == id) ss s found).0)) n on
+
+  -- each node's key has its unit's counts
+  has : HasUnits new nodes
+  has = all_in (HasUnit new nodes) nodes (λ n on.
+      let inside = slot_in n on in
+      let key : In n.key s.keys =
+      subst (In n.key) (looked-keys t s.id kept.named s.keys filed) (In-map-back (λ (m : Node). m.key) nodes n on) in
+      let short = cleared_long s.keys us in
+      let same_long = long in
+      let own_long = tallied_long nodes (cleared s.keys us) in
+      let zero : unit_at (cleared s.keys us) n.key.slot ≡ no_unit = cleared_own s.keys us n.key key (omega arith) in
+      let l0 : (unit_at (cleared s.keys us) n.key.slot).live ≡ 0 = ap (λ (u : Unit). u.live) zero in
+      let u0 : (unit_at (cleared s.keys us) n.key.slot).unready ≡ 0 = ap (λ (u : Unit). u.unready) zero in
+      let b0 : (unit_at (cleared s.keys us) n.key.slot).below ≡ 0 = ap (λ (u : Unit). u.below) zero in
+      let count : length nodes ≡ length s.keys = filed-length t s.id s.keys filed in
+      let adds = tallied_adds nodes (cleared s.keys us) n.key (omega arith)
+      (λ m there here slots. let h = head_of m there here in
+      one_slot t m.head n.key h.0 n (ap (node_at t) (sym h.2) ∙ at h.0 h.1) (at n on) slots)
+      (omega arith) (omega arith) in
+      let a = adds.live in
+      let b = adds.unready in
+      let d = adds.below in
+      let hangs = hung_hangs t nodes own n.key (omega arith)
+      (λ m there h is slots. let x = above_of m there h is in
+      one_slot t h n.key x.0 n (ap (node_at t) (sym x.2) ∙ at x.0 x.1) (at n on) slots)
+      (omega arith) in
+      let e = hangs.live in
+      let f = hangs.unready in
+      let g = hangs.below in
+      let told : times (is_hung t n.key) nodes ≡ times (heads_below nodes n.key) nodes =
+      times_same (is_hung t n.key) (heads_below nodes n.key) nodes (hung_is t nodes whole.sound.distinct whole.rooted at n.key) in
+      let l : (unit_at new n.key.slot).live ≡ times (lives_in n.key) nodes = omega arith in
+      let w : (unit_at new n.key.slot).unready ≡ times (waits_in n.key) nodes = omega arith in
+      let h : (unit_at new n.key.slot).below ≡ times (heads_below nodes n.key) nodes = omega arith in
+      (subst (λ (m : ℕ). n.key.slot < m) (sym long) inside, λ i. record { live = l i; unready = w i; below = h i }))
+
+  -- a filed key has a node of the collection
+  filed_at : (k : NodeKey) → In k s.keys → (m : Node) × (node_at t k ≡ Some m) × (m.collection ≡ id)
+  filed_at k on = from (node_at t k) refl (all-In (is_filed t s.id) s.keys k on filed)
+    where
+      from : (o : Option Node) → node_at t k ≡ o → option_map_or (λ (n : Node). n.collection == s.id) o false ≡ true →
+          (m : Node) × (node_at t k ≡ Some m) × (m.collection ≡ id)
+      from None is h = cc
+      from (Some m) is h = (m, is, eqb-true m.collection s.id h ∙ found_id id ss s found)
+
+  -- a key of another collection has another slot
+  apart : (k j : NodeKey) (n m : Node) → node_at t k ≡ Some n → n.collection ≢ id → node_at t j ≡ Some m → m.collection ≡ id →
+      j.slot ≢ k.slot
+  apart k j n m is differ there own slots =
+      let same : j ≡ k = one_slot t j k m n there is slots in
+      let one : Some m ≡ Some n = sym there ∙ (ap (node_at t) same ∙ is) in
+      let node : m ≡ n = cc in
+      differ (ap (λ (x : Node). x.collection) (sym node) ∙ own)
+
+  -- each slot that is written is that of a head of this collection
+  stays : Stays t id us new
+  stays k n is differ within =
+      let same_long = long in (
+        omega arith,
+        hung_other t nodes own k.slot (λ m there j above.
+            let h = above_of m there j above in
+            apart k j n h.0 is differ (ap (node_at t) (sym h.2) ∙ at h.0 h.1) (of h.0 h.1))
+            ∙ tallied_other nodes (cleared s.keys us) k.slot (λ m there here.
+            let h = head_of m there here in
+            apart k m.head n h.0 is differ (ap (node_at t) (sym h.2) ∙ at h.0 h.1) (of h.0 h.1))
+            ∙ cleared_other s.keys us k.slot (λ j on. let x = filed_at j on in apart k j n x.0 is differ x.1 x.2),
+      )
+
+-- ---- forests whose nodes are changed or forgotten
+
+-- where each node is as f makes it, which keeps what is counted
+pub units_with : (us : List Unit) (f : Node → Node) → ((n : Node) → IsSameNode (f n) n) → ((n : Node) → (f n).gone ≡ n.gone) →
+    ((k : NodeKey) (n : Node) → lives_in k (f n) ≡ lives_in k n) →
+    ((k : NodeKey) (n : Node) → waits_in k (f n) ≡ waits_in k n) → (cs : List Collection) → AreUnits us cs →
+    AreUnits us (map (with_nodes (map f)) cs)
+units_with us f same gone lives waits [] all = tt
+units_with us f same gone lives waits (c ∷ cs) all = (
+  units_mapped us f c.nodes (λ n. (same n).key) (λ k.
+      let l = times_map (lives_in k) (lives_in k) f c.nodes (lives k) in
+      let w = times_map (waits_in k) (waits_in k) f c.nodes (waits k) in
+      let b = below_mapped f same c.nodes gone k in
+      λ i. record { live = l i; unready = w i; below = b i }) all.0,
+  units_with us f same gone lives waits cs all.1,
+)
+
+-- where a node that is gone is forgotten
+pub units_without : (t : Table Node) (us : List Unit) (key : NodeKey) → ((k : NodeKey) (n : Node) → node_at t k ≡ Some n → n.key ≡ k) →
+    ((m : Node) → node_at t key ≡ Some m → m.gone ≡ true) → (ss : List Shelf) →
+    AllByRecursion (λ (s : Shelf). IsWhole (collection_in t s)) ss → AreUnits us (map (collection_in t) ss) →
+    AreUnits us (map (with_nodes (filter (λ n. not (is_of key n)))) (map (collection_in t) ss))
+units_without t us key named goes [] formed all = tt
+units_without t us key named goes (s ∷ ss) formed all = (
+  units_filter us (λ n. not (is_of key n)) (nodes_with t s.keys) formed.0.sound.distinct formed.0.rooted
+      (looked_gone t named key goes s.keys) all.0,
+  units_without t us key named goes ss formed.1 all.1,
+)
+
+-- where all of a collection that are over are
+pub units_over : (us : List Unit) (id : ℕ) (cs : List Collection) → AllByRecursion IsWhole cs → AreUnits us cs →
+    AreUnits us (without_over_in id cs)
+units_over us id [] formed all = tt
+units_over us id (c ∷ cs) formed all = from (c.id == id) (is_left (tidied c)) (units_over us id cs formed.1 all.1)
+  where
+    garbage_known : HasUnits us (tidied c).nodes
+    garbage_known = units_filter us (λ n. not (is_over n)) c.nodes formed.0.sound.distinct formed.0.rooted
+        (λ n on out. over n.gone (is_spent n.end) out) all.0
+      where
+        over : (g e : Bool) → not (g && e) ≡ false → g ≡ true
+        over true e h = refl
+        over false e h = cc
+
+    from : (here bare : Bool) → AreUnits us (without_over_in id cs) →
+        AreUnits us (if here then (if bare then cs else tidied c ∷ cs) else c ∷ without_over_in id cs)
+    from true true on = all.1
+    from true false on = (garbage_known, all.1)
+    from false bare on = (all.0, on)
+
+-- and where collections are
+pub units_some : (us : List Unit) (p : Collection → Bool) (cs : List Collection) → AreUnits us cs → AreUnits us (filter p cs)
+units_some us p [] all = tt
+units_some us p (c ∷ cs) all = elim (p c) as (λ (b : Bool). AreUnits us (if b then c ∷ filter p cs else filter p cs)) [
+  | true ↦ (all.0, units_some us p cs all.1)
+  | false ↦ units_some us p cs all.1
+]

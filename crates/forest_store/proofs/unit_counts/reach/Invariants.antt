@@ -1,0 +1,12 @@
+use Rattle.forest_store.proofs.Common.{◌+◌}
+use Rattle.std.proofs.Common.{◌-◌, vec_len}
+use Rattle.forest_store.specs.Counts.{Extends}
+use Rattle.forest_store.proofs.unit_counts.reach.Given as goal
+
+-- the list is as long at least, and counts what it did
+abbrev pub invariant-on : goal.invariant-on
+invariant-on l = record { extends : Extends l.initial.units.items l.units.items }
+
+-- one slot is added at a time
+abbrev pub decreases-on : goal.decreases-on
+decreases-on l = l.slot + 1 - vec_len l.units

@@ -1,0 +1,386 @@
+//! Forgetting: nodes that are taken out of the table with their keys, and collections of which
+//! nothing is left.
+ghost use Rattle.std.specs.Prelude.{IfSome, Some, None, ◌≡◌, ◌==◌, [], map, not, IsSome, MatchOption, length, nat_lt, ◌≤◌, List, true, false};
+ghost use Rattle.std.specs.List.{filter, find, list_all, list_any, AllByRecursion};
+ghost use Rattle.std.specs.Option.{option_map_or};
+ghost use Rattle.sm_names.specs.declared.keys.NodeKey.{NodeKey as Key};
+ghost use Rattle.sm_names.specs.Sameness.{same_key};
+ghost use Rattle.node_table.specs.Table.{Table, node_at, children_at};
+ghost use Rattle.node_table.specs.Changes.{SameKeys};
+ghost use Rattle.forest_store.specs.declared.node.Node.{Node as NodeValue};
+ghost use Rattle.forest_store.specs.declared.entry.Entry.{Entry as KeptEntry};
+ghost use Rattle.forest_store.specs.Calm.{AreCounted, over_except};
+ghost use Rattle.forest_store.specs.Forest.{without_over_in};
+ghost use Rattle.forest_store.specs.Garbage.{AreAllOver, IsChild, IsForgettable, IsNotedIn, IsNoting, IsPlace, IsThinned, Unlinks, TakesOut, is_bare, is_found, is_left_by, is_own_if_over, left_at, thinned, thin_in, without_bare};
+ghost use Rattle.forest_store.specs.Shelves.{AreRising, IsStored, Shelf, are_apart, collection_in, nodes_with, shelf_of, shelves_of};
+ghost use Rattle.forest_store.specs.Nodes.{is_over};
+ghost use Rattle.forest_store.specs.Stores.{AreNamed};
+
+use crate::entry::{Entry, place_of};
+use crate::key_list::KeyList;
+use crate::lookup::is_over;
+use crate::node::Node;
+use node_table::NodeTable;
+use sm_names::{CollectionId, NodeKey};
+use std::alloc::AllocError;
+
+/// A pass over so many nodes costs no more than to note which of them are over.
+const FEW: usize = 4;
+
+/// So many nodes of a collection are noted at a time.
+const MOST: usize = 64;
+
+/// The first child of the node.
+pub(crate) fn first_child(table: &NodeTable<Node>, key: NodeKey) -> Option<NodeKey>
+    ensures { MatchOption result (children_at table.now key ≡ []) (IsChild table.now key) }
+{
+    table.first_child(key)
+}
+
+/// Cuts the children of the node, which costs their number.
+fn cut_children(table: &mut NodeTable<Node>, key: NodeKey)
+    ensures { Unlinks table.old table.new key }
+{
+    'cutting: while let Some(child) = first_child(table, key) {
+        table.cut(child);
+    }
+}
+
+/// Takes a node out of the table. Its children stay. It takes no memory.
+pub fn take_out(table: &mut NodeTable<Node>, key: NodeKey) -> Node
+    requires { IsSome (node_at table.old key) }
+    ensures out { TakesOut table.old table.new key }
+    ensures was { node_at table.old key ≡ Some result }
+{
+    cut_children(table, key);
+    table.remove(key)
+}
+
+/// Whether the table has a node of the key that is gone and whose end is spent.
+fn is_over_at(table: &NodeTable<Node>, key: NodeKey) -> bool
+    ensures { result ≡ option_map_or is_over (node_at table.now key) false }
+{
+    match table.get(key) {
+        Some(node) => is_over(node),
+        None => false,
+    }
+}
+
+/// Takes those of the nodes with these keys out of the table that are over, from the last to the
+/// first. It takes no memory.
+fn collect_garbage(table: &mut NodeTable<Node>, keys: &[NodeKey])
+    ensures look { (k : Key) → node_at table.new k ≡ left_at table.old keys.now k }
+    ensures kept { (ss : List Shelf) → IsStored table.old ss →
+        IsStored table.new (map (thinned table.new) ss) }
+    ensures keys { SameKeys table.old table.new }
+{
+    let mut rest = keys;
+    'back: while let Some((key, older)) = rest.split_last() {
+        if is_over_at(table, *key) {
+            take_out(table, *key);
+        }
+        rest = older;
+    }
+}
+
+/// Whether the table has a node of the key.
+pub(crate) fn is_found(table: &NodeTable<Node>, key: NodeKey) -> bool
+    ensures { result ≡ is_found table.now key }
+{
+    table.get(key).is_some()
+}
+
+/// Whether it is known that no node of the collection is over.
+fn is_garbage_known(entry: &Entry) -> bool
+    ensures { result ≡ true → (entry.now.garbage_known ≡ true) × (entry.now.garbage.items ≡ []) }
+{
+    entry.garbage_known && entry.garbage.is_empty()
+}
+
+/// Whether the table has a node of the key that was born before this event.
+fn is_born_before(table: &NodeTable<Node>, key: NodeKey, event: u64) -> bool
+    ensures { result ≡ option_map_or (λ (n : NodeValue).
+        nat_lt n.event event) (node_at table.now key) false }
+{
+    match table.get(key) {
+        Some(node) => node.event < event,
+        None => false,
+    }
+}
+
+/// How many of the keys, which stand by birth, are of nodes that were born before this event. A
+/// binary search.
+fn born_before(table: &NodeTable<Node>, keys: &[NodeKey], event: u64) -> usize
+    ensures { result ≤ length keys.now }
+{
+    keys.partition_point(|key| is_born_before(table, *key, event))
+}
+
+/// The place, if the key stands there.
+fn found_at(keys: &[NodeKey], at: usize, key: NodeKey) -> Option<usize>
+    ensures { IfSome result (λ at. IsPlace keys.now key at) }
+{
+    if at < keys.len() && keys[at] == key {
+        Some(at)
+    } else {
+        None
+    }
+}
+
+/// The place of the key among these, which stand by birth: a constant for the first, for the one behind
+/// it, which is the oldest below a root that stays, and for the last, and else a binary search.
+pub(crate) fn place_by_birth(
+    table: &NodeTable<Node>,
+    keys: &[NodeKey],
+    key: NodeKey,
+) -> Option<usize>
+    ensures { IfSome result (λ at. IsPlace keys.now key at) }
+{
+    if let Some(at) = found_at(keys, 0, key) {
+        return Some(at);
+    }
+    if let Some(at) = found_at(keys, 1, key) {
+        return Some(at);
+    }
+    if let Some(at) = found_at(keys, keys.len().saturating_sub(1), key) {
+        return Some(at);
+    }
+    let node = table.get(key)?;
+    let at = born_before(table, keys, node.event);
+    found_at(keys, at, key)
+}
+
+/// The same, which is looked for behind this place first, and before it.
+pub fn place_near(
+    table: &NodeTable<Node>,
+    keys: &[NodeKey],
+    near: usize,
+    key: NodeKey,
+) -> Option<usize>
+    ensures { IfSome result (λ at. IsPlace keys.now key at) }
+{
+    if let Some(at) = found_at(keys, near.wrapping_add(1), key) {
+        return Some(at);
+    }
+    if let Some(at) = found_at(keys, near.wrapping_sub(1), key) {
+        return Some(at);
+    }
+    place_by_birth(table, keys, key)
+}
+
+/// Whether the node with this key, if it is over, is of this collection.
+fn is_own_if_over(table: &NodeTable<Node>, id: CollectionId, key: NodeKey) -> bool
+    ensures { result ≡ is_own_if_over table.now id key }
+{
+    match table.get(key) {
+        Some(node) => !is_over(node) || node.collection == id,
+        None => true,
+    }
+}
+
+/// Whether each node with these keys that is over is of this collection.
+fn are_own(table: &NodeTable<Node>, id: CollectionId, keys: &[NodeKey]) -> bool
+    ensures { result ≡ list_all (is_own_if_over table.now id) keys.now }
+{
+    keys.iter().all(|key| is_own_if_over(table, id, *key))
+}
+
+/// Takes this key out of those of a collection.
+fn drop_key(table: &NodeTable<Node>, keys: &mut KeyList, key: NodeKey)
+    requires { are_apart keys.old.items ≡ true }
+    ensures { keys.new.items ≡ filter (λ other. not (same_key key other)) keys.old.items }
+{
+    match place_by_birth(table, keys.as_slice(), key) {
+        Some(at) => keys.remove(at),
+        None => keys.forget(key),
+    }
+}
+
+/// Takes those of the noted keys of which the nodes are over out of those of a collection.
+fn drop_keys(table: &NodeTable<Node>, keys: &mut KeyList, garbage: &[NodeKey])
+    requires { are_apart keys.old.items ≡ true }
+    ensures { keys.new.items ≡ filter (is_left_by table.now garbage.now) keys.old.items }
+{
+    let mut rest = garbage;
+    'dropping: while let Some((key, later)) = rest.split_first() {
+        if is_over_at(table, *key) {
+            drop_key(table, keys, *key);
+        }
+        rest = later;
+    }
+}
+
+/// Takes the nodes with these keys that are over out of the table, and their keys out of these: the noted
+/// ones, where it is known that no other is over, and else all that are found. It takes no memory.
+fn take_all_over(table: &mut NodeTable<Node>, keys: &mut KeyList, garbage: &[NodeKey], known: bool)
+    requires apart { are_apart keys.old.items ≡ true }
+    requires known { known ≡ true → AreAllOver table.old garbage.now keys.old.items }
+    ensures look { (k : Key) → node_at table.new k ≡ left_at table.old keys.old.items k }
+    ensures kept { (ss : List Shelf) → IsStored table.old ss →
+        IsStored table.new (map (thinned table.new) ss) }
+    ensures same { SameKeys table.old table.new }
+    ensures keys { keys.new.items ≡ filter (is_found table.new) keys.old.items }
+{
+    if known {
+        drop_keys(table, keys, garbage);
+        collect_garbage(table, garbage);
+    } else {
+        collect_garbage(table, keys.as_slice());
+        keys.keep_found(table);
+    }
+}
+
+/// Forgets the nodes of the collection that are over.
+fn forget_of(table: &mut NodeTable<Node>, entry: &mut Entry)
+    requires { IsForgettable table.old entry.old }
+    ensures look { (k : Key) → node_at table.new k ≡ left_at table.old entry.old.keys.items k }
+    ensures kept { (ss : List Shelf) → IsStored table.old ss →
+        IsStored table.new (map (thinned table.new) ss) }
+    ensures keys { SameKeys table.old table.new }
+    ensures entry { IsThinned table.new entry.old entry.new }
+{
+    let known = entry.garbage_known && are_own(table, entry.id, &entry.garbage);
+    take_all_over(table, &mut entry.keys, &entry.garbage, known);
+    entry.garbage.clear();
+    entry.garbage_known = true;
+}
+
+/// Whether the collection has no node and no page.
+fn is_bare(entry: &Entry) -> bool
+    ensures { result ≡ is_bare (shelf_of entry.now) }
+{
+    entry.keys.len() == 0 && entry.held.is_empty()
+}
+
+/// Takes the collection away, if it has no node and no page. It takes no memory.
+pub(crate) fn drop_bare(entries: &mut Vec<Entry>, id: CollectionId)
+    requires { AreRising (shelves_of entries.old.items) }
+    ensures shelves { shelves_of entries.new.items
+        ≡ without_bare id (shelves_of entries.old.items) }
+    ensures counted { (t : Table NodeValue) → AreCounted t entries.old.items →
+        AreCounted t entries.new.items }
+{
+    if let Some(at) = place_of(entries, id) {
+        if is_bare(&entries[at]) {
+            entries.remove(at);
+        }
+    }
+}
+
+/// Forgets the nodes of the collection that are over. Where it is known that none is, it costs a binary
+/// search of the collection alone. Where those that are over are noted, each costs a binary search among
+/// the collection's nodes and a move of the keys on its shorter side besides, and else it costs a pass
+/// over the collection's nodes. Answers whether nothing is left of it then.
+fn forget_nodes(table: &mut NodeTable<Node>, entries: &mut Vec<Entry>, id: CollectionId) -> bool
+    requires kept { IsStored table.old (shelves_of entries.old.items) }
+    requires counted { AreCounted table.old entries.old.items }
+    ensures shelves { shelves_of entries.new.items
+        ≡ thin_in table.new id (shelves_of entries.old.items) }
+    ensures look { (s : Shelf) →
+        find (λ (x : Shelf). x.id == id) (shelves_of entries.old.items) ≡ Some s →
+        (k : Key) → node_at table.new k ≡ left_at table.old s.keys k }
+    ensures none { find (λ (x : Shelf). x.id == id) (shelves_of entries.old.items) ≡ None →
+        table.new ≡ table.old }
+    ensures kept { IsStored table.new (map (thinned table.new) (shelves_of entries.old.items)) }
+    ensures counted { AreCounted table.new entries.new.items }
+    ensures keys { SameKeys table.old table.new }
+    ensures full { result ≡ false →
+        without_bare id (shelves_of entries.new.items) ≡ shelves_of entries.new.items }
+{
+    let Some(at) = place_of(entries, id) else {
+        return false;
+    };
+    if is_garbage_known(&entries[at]) {
+        return is_bare(&entries[at]);
+    }
+    let entry = &mut entries[at];
+    forget_of(table, entry);
+    is_bare(entry)
+}
+
+/// Takes the nodes of the collection that are over out, and the collection where nothing is left
+/// of it. It takes no memory.
+pub fn forget_over(table: &mut NodeTable<Node>, entries: &mut Vec<Entry>, id: CollectionId)
+    requires kept { IsStored table.old (shelves_of entries.old.items) }
+    requires counted { AreCounted table.old entries.old.items }
+    ensures collections { map (collection_in table.new) (shelves_of entries.new.items)
+        ≡ without_over_in id (map (collection_in table.old) (shelves_of entries.old.items)) }
+    ensures kept { IsStored table.new (shelves_of entries.new.items) }
+    ensures counted { AreCounted table.new entries.new.items }
+    ensures keys { SameKeys table.old table.new }
+{
+    if forget_nodes(table, entries, id) {
+        drop_bare(entries, id);
+    }
+}
+
+/// Notes the key of a node that is over, or where there is no room for it, that more may be over than
+/// is noted. It takes no memory.
+fn note_key(entry: &mut Entry, key: NodeKey)
+    ensures entry { IsNoting entry.old entry.new }
+    ensures garbage { IsNotedIn entry.new key }
+{
+    if entry.garbage.len() < entry.garbage.capacity() && entry.garbage.push(key).is_ok() {
+        return;
+    }
+    entry.garbage_known = false;
+}
+
+/// Notes of the collection whether its node with this key is over now. It takes no memory.
+pub fn list_garbage(entries: &mut Vec<Entry>, id: CollectionId, key: NodeKey, over: bool)
+    requires { AreRising (shelves_of entries.old.items) }
+    ensures shelves { shelves_of entries.new.items ≡ shelves_of entries.old.items }
+    ensures counted { (t : Table NodeValue) → AreCounted t entries.old.items →
+        AreCounted t entries.new.items }
+    ensures garbage { over ≡ true →
+        AllByRecursion (λ (e : KeptEntry). e.id ≡ id → IsNotedIn e key) entries.new.items }
+{
+    if !over {
+        return;
+    }
+    if let Some(at) = place_of(entries, id) {
+        note_key(&mut entries[at], key);
+    }
+}
+
+/// Notes those of the collection's nodes with these keys that are over. It takes no memory.
+fn note_all(table: &NodeTable<Node>, entry: &mut Entry, keys: &[NodeKey])
+    requires named { AreNamed table.now }
+    ensures entry { IsNoting entry.old entry.new }
+    ensures over { entry.new.garbage_known ≡ true →
+        list_any (over_except entry.new.garbage.items) (nodes_with table.now keys.now) ≡ false }
+{
+    let mut rest = keys;
+    'noting: while let Some((key, later)) = rest.split_first() {
+        if is_over_at(table, *key) {
+            note_key(entry, *key);
+        }
+        rest = later;
+    }
+}
+
+/// Notes which nodes of the collection are over once those with these keys went, of which one is or
+/// none. It takes no memory.
+pub fn note_gone(table: &NodeTable<Node>, entry: &mut Entry, keys: &[NodeKey], over: bool)
+    requires named { AreNamed table.now }
+    requires over { over ≡ list_any is_over (nodes_with table.now keys.now) }
+    ensures entry { IsNoting entry.old entry.new }
+    ensures over { entry.new.garbage_known ≡ true →
+        list_any (over_except entry.new.garbage.items) (nodes_with table.now keys.now) ≡ false }
+{
+    if over {
+        note_all(table, entry, keys);
+    }
+}
+
+/// Makes room to note nodes of a collection of so many: for none where all are passed over as
+/// cheaply, and for at most 64.
+pub(crate) fn reserve_notes(garbage: &mut Vec<NodeKey>, nodes: usize) -> Result<(), AllocError>
+    ensures { garbage.new.items ≡ garbage.old.items }
+{
+    if nodes <= FEW {
+        return Ok(());
+    }
+    let most = nodes.min(MOST);
+    garbage.reserve(most.saturating_sub(garbage.len()))
+}

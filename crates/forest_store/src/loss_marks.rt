@@ -1,0 +1,75 @@
+//! How nodes go, and how their units count them no longer.
+ghost use Rattle.std.specs.Prelude.{◌≡◌, ◌+◌, Some, true};
+ghost use Rattle.forest_store.specs.LossMarks.{gone_by, lowered, without_below, without_node};
+ghost use Rattle.forest_store.specs.Nodes.{lost};
+
+use crate::lookup::is_live;
+use crate::node::Node;
+use crate::unit_counts::{Unit, is_unready, put_unit, unit_in};
+use sm_names::{Fault, NodeKey};
+
+/// One less, if it counted and there is one.
+fn lowered(count: usize, is: bool) -> usize
+    ensures { result ≡ lowered is count }
+{
+    if is && 0 < count { count - 1 } else { count }
+}
+
+/// Counts the node no longer for its unit.
+pub(crate) fn uncount(units: &mut Vec<Unit>, node: &Node)
+    ensures { units.new.items ≡ without_node node.now units.old.items }
+{
+    let slot = node.head.slot as usize;
+    let unit = unit_in(units, slot);
+    let less = Unit {
+        live: lowered(unit.live, is_live(node)),
+        unready: lowered(unit.unready, is_unready(node)),
+        below: unit.below,
+    };
+    put_unit(units, slot, less);
+}
+
+/// Counts one unit less right below the one with this head.
+pub(crate) fn uncount_below(units: &mut Vec<Unit>, head: Option<NodeKey>)
+    ensures { units.new.items ≡ without_below head units.old.items }
+{
+    if let Some(head) = head {
+        let slot = head.slot as usize;
+        let unit = unit_in(units, slot);
+        let less = Unit {
+            live: unit.live,
+            unready: unit.unready,
+            below: lowered(unit.below, true),
+        };
+        put_unit(units, slot, less);
+    }
+}
+
+/// How nodes go.
+#[derive(Clone, Copy)]
+pub enum Going {
+    /// They fail.
+    Fails(Fault),
+    /// They leave without a fault.
+    Leaves,
+}
+
+/// The node goes. One that is gone keeps its fault.
+pub(crate) fn go(node: &mut Node, going: &Going)
+    ensures { node.new ≡ gone_by going.now node.old }
+{
+    match going {
+        Going::Fails(fault) => fail(node, true, *fault),
+        Going::Leaves => node.gone = true,
+    }
+}
+
+/// The node fails, if it is taken and is not gone yet.
+pub(crate) fn fail(node: &mut Node, taken: bool, fault: Fault)
+    ensures { node.new ≡ lost (λ _. taken) fault node.old }
+{
+    if taken && !node.gone {
+        node.gone = true;
+        node.fault = Some(fault);
+    }
+}

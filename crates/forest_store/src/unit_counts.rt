@@ -1,0 +1,205 @@
+//! What is counted of units: how many of their nodes are live, for how many they wait, and how many
+//! units hang right below them.
+ghost use Rattle.std.specs.Prelude.{◌≡◌, ◌<◌, ◌≤◌, [], ◌∷◌, set, length, OnOk};
+ghost use Rattle.node_table.specs.Table.{table_len};
+ghost use Rattle.forest_store.specs.Counts.{Extends, decrement_if, head_above, head_of, hung, is_held_by, is_unready, no_unit, raised, reckoned, tallied, unit_at, unit_then, with_below, with_node};
+ghost use Rattle.forest_store.specs.Shelves.{nodes_with};
+
+use crate::lookup::is_live;
+use crate::node::Node;
+use node_table::NodeTable;
+use sm_names::{NoMemory, NodeKey};
+
+/// The counts of one unit.
+#[derive(Clone, Copy)]
+pub struct Unit {
+    /// Its live nodes.
+    pub live: usize,
+    /// Its nodes that are not gone, neither released nor with constraints.
+    pub unready: usize,
+    /// The attached nodes that are not gone whose parents are its nodes: the heads right below it.
+    pub below: usize,
+}
+
+/// The counts of a unit without a node.
+pub(crate) fn no_unit() -> Unit
+    ensures { result ≡ no_unit }
+{
+    Unit {
+        live: 0,
+        unready: 0,
+        below: 0,
+    }
+}
+
+/// Whether something holds the unit: a node of it is live, or a unit hangs right below it.
+pub fn is_held_by(unit: &Unit) -> bool
+    ensures { result ≡ is_held_by unit.now }
+{
+    unit.live > 0 || unit.below > 0
+}
+
+/// Whether its unit waits for the node.
+pub fn is_unready(node: &Node) -> bool
+    ensures { result ≡ is_unready node.now }
+{
+    !node.gone && !node.released && node.constraints.is_none()
+}
+
+/// One less, if it counted and counts no longer.
+pub fn decrement_if(count: usize, was: bool, is: bool) -> usize
+    ensures { result ≡ decrement_if count was is }
+{
+    if was && !is && count > 0 {
+        count - 1
+    } else {
+        count
+    }
+}
+
+/// The counts of the unit of the first node once it is the second one.
+pub fn unit_then(units: &[Unit], node: &Node, after: &Node) -> Unit
+    ensures { result ≡ unit_then units.now node.now after.now }
+{
+    let unit = unit_in(units, node.head.slot as usize);
+    Unit {
+        live: decrement_if(unit.live, is_live(node), is_live(after)),
+        unready: decrement_if(unit.unready, is_unready(node), is_unready(after)),
+        below: unit.below,
+    }
+}
+
+/// The counts in this slot.
+pub fn unit_in(units: &[Unit], slot: usize) -> Unit
+    ensures { result ≡ unit_at units.now slot }
+{
+    match units.get(slot) {
+        Some(unit) => *unit,
+        None => no_unit(),
+    }
+}
+
+/// Puts the counts into this slot, if the list has it.
+pub fn put_unit(units: &mut Vec<Unit>, slot: usize, unit: Unit)
+    ensures { units.new.items ≡ set units.old.items slot unit }
+{
+    if slot < units.len() {
+        units[slot] = unit;
+    }
+}
+
+/// Makes the list reach to this slot. The slots that this adds count nothing. `NoMemory` comes where
+/// that was refused room; the counts are then what they were. It costs what is added, growth spread
+/// over the calls.
+pub fn reach(units: &mut Vec<Unit>, slot: usize) -> Result<(), NoMemory>
+    ensures ok { OnOk result (slot < length units.new.items) }
+    ensures extends { Extends units.old.items units.new.items }
+{
+    'on: while units.len() <= slot {
+        if units.push(no_unit()).is_err() {
+            return Err(NoMemory);
+        }
+    }
+    Ok(())
+}
+
+/// One more, if it counts and there is room for it.
+fn raised(count: usize, is: bool) -> usize
+    ensures { result ≡ raised is count }
+{
+    if is && count < usize::MAX {
+        count + 1
+    } else {
+        count
+    }
+}
+
+/// Counts the node for its unit.
+fn count(units: &mut Vec<Unit>, node: &Node)
+    ensures { units.new.items ≡ with_node node.now units.old.items }
+{
+    let slot = node.head.slot as usize;
+    let unit = unit_in(units, slot);
+    let more = Unit {
+        live: raised(unit.live, is_live(node)),
+        unready: raised(unit.unready, is_unready(node)),
+        below: unit.below,
+    };
+    put_unit(units, slot, more);
+}
+
+/// The head of the unit of the node with this key.
+fn head_of(table: &NodeTable<Node>, key: NodeKey) -> Option<NodeKey>
+    ensures { result ≡ head_of table.now key }
+{
+    match table.get(key) {
+        Some(node) => Some(node.head),
+        None => None,
+    }
+}
+
+/// The head of the unit right above the one that the node heads, if it heads one and is not gone.
+pub(crate) fn head_above(table: &NodeTable<Node>, node: &Node) -> Option<NodeKey>
+    ensures { result ≡ head_above table.now node.now }
+{
+    if node.gone || !node.attached {
+        return None;
+    }
+    match node.parent {
+        Some(above) => head_of(table, above),
+        None => None,
+    }
+}
+
+/// Counts one unit more right below the one with this head.
+fn count_below(units: &mut Vec<Unit>, head: Option<NodeKey>)
+    ensures { units.new.items ≡ with_below head units.old.items }
+{
+    if let Some(head) = head {
+        let slot = head.slot as usize;
+        let unit = unit_in(units, slot);
+        let more = Unit {
+            live: unit.live,
+            unready: unit.unready,
+            below: raised(unit.below, true),
+        };
+        put_unit(units, slot, more);
+    }
+}
+
+/// Counts the node with this key for its unit, unless it is gone.
+fn count_own(units: &mut Vec<Unit>, table: &NodeTable<Node>, key: NodeKey)
+    ensures { units.new.items ≡ tallied (nodes_with table.now (key ∷ [])) units.old.items }
+{
+    if let Some(node) = table.get(key) {
+        if !node.gone {
+            count(units, node);
+        }
+    }
+}
+
+/// Counts the node with this key for the unit right above the one that it heads, if it heads one
+/// and is not gone.
+fn hang_at(units: &mut Vec<Unit>, table: &NodeTable<Node>, key: NodeKey)
+    ensures { units.new.items ≡ hung table.now (nodes_with table.now (key ∷ [])) units.old.items }
+{
+    if let Some(node) = table.get(key) {
+        count_below(units, head_above(table, node));
+    }
+}
+
+/// Counts the node with this key, for its unit and for the one right above that.
+pub(crate) fn count_at(units: &mut Vec<Unit>, table: &NodeTable<Node>, key: NodeKey)
+    ensures { units.new.items
+        ≡ reckoned table.now (nodes_with table.now (key ∷ [])) units.old.items }
+{
+    count_own(units, table, key);
+    hang_at(units, table, key);
+}
+
+/// No table has more nodes than a number can tell.
+pub fn bound(table: &NodeTable<Node>)
+    ensures { table_len table.now ≤ 18446744073709551615 }
+{
+    let _ = table.len();
+}
