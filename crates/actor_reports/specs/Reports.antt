@@ -7,13 +7,13 @@ use Rattle.script_lines.specs.declared.label.Label.{Label}
 use Rattle.script_lines.specs.Labels.{text_of_label}
 
 -- a client: its label, how many events it made after its join, and its open handles of each strength
-abbrev pub line_text : Label → ClientLine → List ℕ
-line_text label line = text_of_label label ++ codes " events " ++ decimal line.events ++ codes " strong "
+abbrev pub client_line_text : Label → ClientLine → List ℕ
+client_line_text label line = text_of_label label ++ codes " events " ++ decimal line.events ++ codes " strong "
     ++ decimal line.strong ++ codes " weak " ++ decimal line.weak ++ 10 ∷ []
 
 -- the first line is of the first label, and so on
 abbrev pub lines_text : List Label → List ClientLine → List ℕ
-lines_text labels lines = flat_map (λ (told : Label × ClientLine). line_text told.0 told.1) (zip labels lines)
+lines_text labels lines = flat_map (λ (told : Label × ClientLine). client_line_text told.0 told.1) (zip labels lines)
 
 -- all events, then each client, and that all was gathered
 abbrev pub report_text : List Label → ℕ → List ClientLine → List ℕ

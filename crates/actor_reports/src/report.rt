@@ -1,6 +1,6 @@
 //! The text of a report.
 ghost use Rattle.std.specs.Prelude.{◌≡◌, ◌++◌, OnOk};
-ghost use Rattle.actor_reports.specs.Reports.{line_text, lines_text, report_text};
+ghost use Rattle.actor_reports.specs.Reports.{client_line_text, lines_text, report_text};
 
 use event_laws::ClientLine;
 use script_lines::{Label, push, push_label, push_number};
@@ -49,7 +49,7 @@ fn push_lines(text: &mut Vec<u8>, labels: &[Label], lines: &[ClientLine]) -> Res
 
 // Puts the line of a client behind the text.
 fn push_line(text: &mut Vec<u8>, label: Label, line: ClientLine) -> Result<(), AllocError>
-    ensures { OnOk result (text.new.items ≡ text.old.items ++ line_text label line) }
+    ensures { OnOk result (text.new.items ≡ text.old.items ++ client_line_text label line) }
 {
     push_label(text, Some(label))?;
     push(text, " events ")?;

@@ -1,5 +1,5 @@
 pub mod Blocks
 pub mod FitLaws
 pub mod Lines
-pub mod Playing
+pub mod StepLaws
 pub mod TableLaws

@@ -6,39 +6,39 @@ use Rattle.std.specs.Option.{option_map_or}
 use Rattle.script_lines.proofs.Piecing.{is_end, ends_found, unended_none}
 use Rattle.script_lines.specs.Pieces.{lines_from, rest_from}
 use Rattle.actor_scripts.specs.declared.halt.Halt.{Halt}
-use Rattle.actor_scripts.specs.Casts.{Reading, Halts, after, after_all, cast_from, ended, ended_after}
-use Rattle.actor_scripts.specs.Reads.{IsWhy, fault_of}
+use Rattle.actor_scripts.specs.ActorLists.{Reading, Halts, after_line, after_lines, script_actors_from, actors_at_end, actors_after}
+use Rattle.actor_scripts.specs.Reads.{IsScriptFault, line_fault}
 
 module _ (so_far : Reading) (rest : List ℕ) where
   -- where a line is ended
   module _ (at : ℕ) (found : position is_end rest ≡ Some at) where
-    by_line : cast_from so_far rest ≡ ended_after (rest_from [] (drop (at + 1) rest))
-        (option_map_or (λ next. after_all next (lines_from [] (drop (at + 1) rest))) (after so_far (take at rest)) (Err (so_far.lines + 1)))
+    by_line : script_actors_from so_far rest ≡ actors_after (rest_from [] (drop (at + 1) rest))
+        (option_map_or (λ next. after_lines next (lines_from [] (drop (at + 1) rest))) (after_line so_far (take at rest)) (Err (so_far.lines + 1)))
     by_line =
         let ends = ends_found [] rest at found in
-        ap (λ (ls : List (List ℕ)). ended_after (rest_from [] rest) (after_all so_far ls)) ends.lines
-        ∙ ap (λ (last : List ℕ). ended_after last (after_all so_far (take at rest ∷ lines_from [] (drop (at + 1) rest)))) ends.rest
+        ap (λ (ls : List (List ℕ)). actors_after (rest_from [] rest) (after_lines so_far ls)) ends.lines
+        ∙ ap (λ (last : List ℕ). actors_after last (after_lines so_far (take at rest ∷ lines_from [] (drop (at + 1) rest)))) ends.rest
 
     -- a good one
-    pub goes-on : (next : Reading) → after so_far (take at rest) ≡ Some next →
-        cast_from so_far rest ≡ cast_from next (drop (at + 1) rest)
-    goes-on next good = by_line ∙ ap (λ (led : Option Reading). ended_after (rest_from [] (drop (at + 1) rest))
-        (option_map_or (λ n. after_all n (lines_from [] (drop (at + 1) rest))) led (Err (so_far.lines + 1)))) good
+    pub goes-on : (next : Reading) → after_line so_far (take at rest) ≡ Some next →
+        script_actors_from so_far rest ≡ script_actors_from next (drop (at + 1) rest)
+    goes-on next good = by_line ∙ ap (λ (led : Option Reading). actors_after (rest_from [] (drop (at + 1) rest))
+        (option_map_or (λ n. after_lines n (lines_from [] (drop (at + 1) rest))) led (Err (so_far.lines + 1)))) good
 
     -- a bad one
-    goes-wrong : after so_far (take at rest) ≡ None → cast_from so_far rest ≡ Err (so_far.lines + 1)
-    goes-wrong bad = by_line ∙ ap (λ (led : Option Reading). ended_after (rest_from [] (drop (at + 1) rest))
-        (option_map_or (λ n. after_all n (lines_from [] (drop (at + 1) rest))) led (Err (so_far.lines + 1)))) bad
+    goes-wrong : after_line so_far (take at rest) ≡ None → script_actors_from so_far rest ≡ Err (so_far.lines + 1)
+    goes-wrong bad = by_line ∙ ap (λ (led : Option Reading). actors_after (rest_from [] (drop (at + 1) rest))
+        (option_map_or (λ n. after_lines n (lines_from [] (drop (at + 1) rest))) led (Err (so_far.lines + 1)))) bad
 
     -- one that is not read
-    pub goes-no-further : (halt : Halt) → Halts (after so_far (take at rest)) halt →
-        IsWhy (cast_from so_far rest) (fault_of (so_far.lines + 1) halt)
+    pub goes-no-further : (halt : Halt) → Halts (after_line so_far (take at rest)) halt →
+        IsScriptFault (script_actors_from so_far rest) (line_fault (so_far.lines + 1) halt)
     goes-no-further Halt.BadLine bad = goes-wrong bad
     goes-no-further Halt.NoMemory why = tt
 
   -- where none is
-  pub goes-out : position is_end rest ≡ None → cast_from so_far rest ≡ ended rest so_far
+  pub goes-out : position is_end rest ≡ None → script_actors_from so_far rest ≡ actors_at_end rest so_far
   goes-out none =
       let unended = unended_none [] rest none in
-      ap (λ (ls : List (List ℕ)). ended_after (rest_from [] rest) (after_all so_far ls)) unended.lines
-      ∙ ap (λ (last : List ℕ). ended last so_far) unended.rest
+      ap (λ (ls : List (List ℕ)). actors_after (rest_from [] rest) (after_lines so_far ls)) unended.lines
+      ∙ ap (λ (last : List ℕ). actors_at_end last so_far) unended.rest

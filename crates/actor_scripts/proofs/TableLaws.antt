@@ -5,11 +5,11 @@ use Rattle.sm_names.specs.declared.rules.TheConstants.{MAX_BUFFERS}
 use Rattle.sm_names.specs.declared.keys.BufferName.{BufferName}
 use Rattle.sm_names.specs.declared.keys.Strength.{Strength}
 use Rattle.actor_scripts.specs.declared.queues.Queues.{Queues}
-use Rattle.actor_scripts.specs.declared.thing.Thing.{Thing}
+use Rattle.actor_scripts.specs.declared.object.Object.{Object}
 use Rattle.sm_names.specs.declared.messages.Reply.{Reply}
 use Rattle.actor_scripts.specs.declared.step.Step.{Step}
-use Rattle.actor_scripts.specs.declared.thing.Asked.{Asked}
-use Rattle.actor_scripts.specs.Desks.{Known, desk_after, emptied, given, handle_of, handles_from, on_of, spends, spent, things_after, with_node, with_thing, with_things, with_tracker, without_handle, without_thing}
+use Rattle.actor_scripts.specs.declared.object.StepCall.{StepCall}
+use Rattle.actor_scripts.specs.ActorStates.{Known, state_after, emptied, new_objects, handle_of, handles_from, on_of, spends_object, without_spent, objects_after, with_node_label, with_object, with_objects, with_tracker_label, without_handle, without_object}
 use Rattle.actor_scripts.specs.Tables.{both_of, queues_of}
 
 -- with no handle of either strength there is none
@@ -20,16 +20,16 @@ both_none strong weak none none' Strength.Weak = none'
 
 module _ (collection : ℕ) (strength : Strength) (set index : ℕ) where
   -- the handles from this index on
-  abbrev pub rest_from : List Thing
+  abbrev pub rest_from : List Object
   rest_from = handles_from collection strength set index (MAX_BUFFERS - index)
 
   -- and those behind it
-  abbrev pub behind : List Thing
+  abbrev pub behind : List Object
   behind = handles_from collection strength set (index + 1) (MAX_BUFFERS - (index + 1))
 
   -- this one
-  abbrev pub handle_here : Thing
-  handle_here = Thing.Handle (record { collection = collection; index = index }) strength
+  abbrev pub handle_here : Object
+  handle_here = Object.Handle (record { collection = collection; index = index }) strength
 
   -- so many from this one on, which the set has
   pub from_with : (count : ℕ) → (bit_at set index == 1) ≡ true → handles_from collection strength set index (suc count) ≡
@@ -66,50 +66,50 @@ module _ (collection : ℕ) (strength : Strength) (set index : ℕ) where
       let e : MAX_BUFFERS - index ≡ 0 = omega arith in
       ap (λ n. handles_from collection strength set index n) e ∙ from_none
 
--- a thing that is gone
-pub spent_so : (desk without next : Known) (asked : Asked) (reply : Reply) → spends asked.call reply ≡ true →
-    without ≡ without_thing desk asked.slot → next ≡ without_handle without (handle_of asked.call) →
-    next ≡ spent desk asked reply
-spent_so desk without next asked reply so gone let_go = rw (let_go, gone, so) refl
+-- an object that is gone
+pub spent_so : (state without next : Known) (asked : StepCall) (reply : Reply) → spends_object asked.call reply ≡ true →
+    without ≡ without_object state asked.slot → next ≡ without_handle without (handle_of asked.call) →
+    next ≡ without_spent state asked reply
+spent_so state without next asked reply so gone remove_handle = rw (remove_handle, gone, so) refl
 
 -- what a reply changes, one after another
-pub noted : (desk node tracker next last : Known) (on : Option Thing) (step : Step) (asked : Asked) (reply : Reply) →
-    on ≡ on_of desk.things asked.slot → node ≡ with_node desk step reply → tracker ≡ with_tracker node step reply →
-    next ≡ spent tracker asked reply → last ≡ with_things next (given on asked.call reply) →
-    last ≡ desk_after desk step asked reply
-noted desk node tracker next last on step asked reply is a b c d = rw (d, c, b, a, is) refl
+pub noted : (state node tracker next last : Known) (on : Option Object) (step : Step) (asked : StepCall) (reply : Reply) →
+    on ≡ on_of state.objects asked.slot → node ≡ with_node_label state step reply → tracker ≡ with_tracker_label node step reply →
+    next ≡ without_spent tracker asked reply → last ≡ with_objects next (new_objects on asked.call reply) →
+    last ≡ state_after state step asked reply
+noted state node tracker next last on step asked reply is a b c d = rw (d, c, b, a, is) refl
 
--- one more thing
-pub thing_more : (desk : Known) (thing : Thing) → (with_thing desk thing).things ≡ desk.things ++ Some thing ∷ []
-thing_more desk (Thing.Token key collection) = refl
-thing_more desk (Thing.Collection key collection) = refl
-thing_more desk (Thing.Handle buffer strength) = refl
+-- one more object
+pub object_more : (state : Known) (object : Object) → (with_object state object).objects ≡ state.objects ++ Some object ∷ []
+object_more state (Object.Token key collection) = refl
+object_more state (Object.Collection key collection) = refl
+object_more state (Object.Handle buffer strength) = refl
 
--- more things
-pub things_more : (desk : Known) (things : List Thing) → (with_things desk things).things ≡ desk.things ++ map Some things
-things_more desk [] = sym (append-nil desk.things)
-things_more desk (thing ∷ things) =
-    things_more (with_thing desk thing) things
-    ∙ (ap (λ l. l ++ map Some things) (thing_more desk thing)
-    ∙ append_assoc desk.things (Some thing ∷ []) (map Some things))
+-- more objects
+pub objects_more : (state : Known) (objects : List Object) → (with_objects state objects).objects ≡ state.objects ++ map Some objects
+objects_more state [] = sym (append-nil state.objects)
+objects_more state (object ∷ objects) =
+    objects_more (with_object state object) objects
+    ∙ (ap (λ l. l ++ map Some objects) (object_more state object)
+    ∙ append_assoc state.objects (Some object ∷ []) (map Some objects))
 
 -- the queues have no say in what lies where
-pub handle_less : (desk : Known) (name : Option (BufferName × Strength)) → (without_handle desk name).things ≡ desk.things
-handle_less desk None = refl
-handle_less desk (Some name) = refl
+pub handle_less : (state : Known) (name : Option (BufferName × Strength)) → (without_handle state name).objects ≡ state.objects
+handle_less state None = refl
+handle_less state (Some name) = refl
 
--- things that are gone
-pub things_spent : (desk : Known) (slot : Option ℕ) (name : Option (BufferName × Strength)) (gone : Bool) →
-    (if gone then without_handle (without_thing desk slot) name else desk).things
-    ≡ (if gone then emptied desk.things slot else desk.things)
-things_spent desk slot name true = handle_less (without_thing desk slot) name
-things_spent desk slot name false = refl
+-- objects that are gone
+pub objects_spent : (state : Known) (slot : Option ℕ) (name : Option (BufferName × Strength)) (gone : Bool) →
+    (if gone then without_handle (without_object state slot) name else state).objects
+    ≡ (if gone then emptied state.objects slot else state.objects)
+objects_spent state slot name true = handle_less (without_object state slot) name
+objects_spent state slot name false = refl
 
--- the things after the reply
-pub things_noted : (desk : Known) (step : Step) (asked : Asked) (reply : Reply) →
-    (desk_after desk step asked reply).things ≡ things_after desk.things asked reply
-things_noted desk step asked reply =
-    let named = with_tracker (with_node desk step reply) step reply in
-    let all = given (on_of desk.things asked.slot) asked.call reply in
-    things_more (spent named asked reply) all
-    ∙ ap (λ l. l ++ map Some all) (things_spent named asked.slot (handle_of asked.call) (spends asked.call reply))
+-- the objects after the reply
+pub objects_noted : (state : Known) (step : Step) (asked : StepCall) (reply : Reply) →
+    (state_after state step asked reply).objects ≡ objects_after state.objects asked reply
+objects_noted state step asked reply =
+    let named = with_tracker_label (with_node_label state step reply) step reply in
+    let all = new_objects (on_of state.objects asked.slot) asked.call reply in
+    objects_more (without_spent named asked reply) all
+    ∙ ap (λ l. l ++ map Some all) (objects_spent named asked.slot (handle_of asked.call) (spends_object asked.call reply))

@@ -1,6 +1,6 @@
-pub mod Casts
-pub mod Desks
-pub mod Plays
+pub mod ActorLists
+pub mod ActorStates
+pub mod ScriptRuns
 pub mod Reads
 pub mod Steps
 pub mod Tables

@@ -5,9 +5,9 @@ use Rattle.std.specs.declared.collections.VecDeque.{VecDeque}
 use Rattle.sm_names.specs.declared.keys.BufferName.{BufferName}
 use Rattle.sm_names.specs.declared.keys.Strength.{Strength}
 use Rattle.sm_names.specs.Sameness.{same_buffer, same_key}
-use Rattle.actor_scripts.specs.declared.desk.Desk.{Desk}
+use Rattle.actor_scripts.specs.declared.actor_state.ActorState.{ActorState}
 use Rattle.actor_scripts.specs.declared.queues.Queues.{Queues}
-use Rattle.actor_scripts.specs.Desks.{Known}
+use Rattle.actor_scripts.specs.ActorStates.{Known}
 
 -- the slots in a queue, none where there is no queue
 abbrev pub slots_of : {Z : Type 0} → Option (VecDeque ℕ Z) → List ℕ
@@ -24,11 +24,11 @@ both_of strong weak Strength.Strong = queues_of strong
 both_of strong weak Strength.Weak = queues_of weak
 
 -- what is known by the table
-abbrev pub known : Desk → Known
-known desk = record {
-  nodes = λ label. lookup (λ other. label == other) desk.nodes.entries;
-  trackers = λ label. lookup (λ other. label == other) desk.trackers.entries;
-  things = desk.things.items;
-  spots = λ key. lookup (same_key key) desk.spots.entries;
-  handles = both_of desk.strong desk.weak;
+abbrev pub known : ActorState → Known
+known state = record {
+  nodes = λ label. lookup (λ other. label == other) state.nodes.entries;
+  trackers = λ label. lookup (λ other. label == other) state.trackers.entries;
+  objects = state.objects.items;
+  spots = λ key. lookup (same_key key) state.spots.entries;
+  handles = both_of state.strong state.weak;
 }

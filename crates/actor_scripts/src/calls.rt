@@ -1,39 +1,39 @@
-//! The calls that verbs make on things.
+//! The calls that verbs make on objects.
 ghost use Rattle.std.specs.Prelude.{◌≡◌, slice_get};
-ghost use Rattle.actor_scripts.specs.Desks.{collection_key as key_of_collection, end_call as call_on_end, end_key as key_of_end, handle_call as call_on_handle, node_label as label_of_node, strength_of as strength_for, token_key as key_of_token, tracker_label as label_of_tracker};
+ghost use Rattle.actor_scripts.specs.ActorStates.{collection_key as key_of_collection, end_call as call_on_end, end_key as key_of_end, handle_call as call_on_handle, node_label as label_of_node, verb_strength as strength_told, token_key as key_of_token, tracker_label as label_of_tracker};
 
+use crate::object::Object;
 use crate::step::{BufferVerb, Step, Verb};
-use crate::thing::Thing;
 use sm_names::{Call, ClientId, NodeKey, Strength};
 
-// The node, if the thing is its token.
-fn token_key(thing: Thing) -> Option<NodeKey>
-    ensures { result ≡ key_of_token thing }
+// The node, if the object is its token.
+fn token_key(object: Object) -> Option<NodeKey>
+    ensures { result ≡ key_of_token object }
 {
-    match thing {
-        Thing::Token { key, .. } => Some(key),
+    match object {
+        Object::Token { key, .. } => Some(key),
         _ => None,
     }
 }
 
 // If it is its collection.
-fn collection_key(thing: Thing) -> Option<NodeKey>
-    ensures { result ≡ key_of_collection thing }
+fn collection_key(object: Object) -> Option<NodeKey>
+    ensures { result ≡ key_of_collection object }
 {
-    match thing {
-        Thing::Collection { key, .. } => Some(key),
+    match object {
+        Object::Collection { key, .. } => Some(key),
         _ => None,
     }
 }
 
 // If it is its end of either kind.
-fn end_key(thing: Thing) -> Option<NodeKey>
-    ensures { result ≡ key_of_end thing }
+fn end_key(object: Object) -> Option<NodeKey>
+    ensures { result ≡ key_of_end object }
 {
-    match thing {
-        Thing::Token { key, .. } => Some(key),
-        Thing::Collection { key, .. } => Some(key),
-        Thing::Handle { .. } => None,
+    match object {
+        Object::Token { key, .. } => Some(key),
+        Object::Collection { key, .. } => Some(key),
+        Object::Handle { .. } => None,
     }
 }
 
@@ -44,37 +44,37 @@ fn client_at(clients: &[ClientId], label: u32) -> Option<ClientId>
     clients.get(label as usize).copied()
 }
 
-/// The call that the verb makes on the thing, whatever label it binds.
-pub(crate) fn end_call(clients: &[ClientId], verb: Verb, thing: Thing) -> Option<Call>
-    ensures { result ≡ call_on_end clients.now verb thing }
+/// The call that the verb makes on the object, whatever label it binds.
+pub(crate) fn end_call(clients: &[ClientId], verb: Verb, object: Object) -> Option<Call>
+    ensures { result ≡ call_on_end clients.now verb object }
 {
     Some(match verb {
-        Verb::Sync => Call::Sync(end_key(thing)?),
-        Verb::Bind => Call::Bind(token_key(thing)?),
-        Verb::Dispensable => Call::SetDispensable(token_key(thing)?),
-        Verb::Weak => Call::SetWeak(end_key(thing)?),
-        Verb::WeakOk { children } => Call::SetWeakOk(end_key(thing)?, children),
-        Verb::Check => Call::Check(collection_key(thing)?),
-        Verb::Take => Call::Take(collection_key(thing)?),
-        Verb::Release => Call::Release(end_key(thing)?),
-        Verb::Close => Call::Close(end_key(thing)?),
-        Verb::Duplicate { .. } => Call::Duplicate(token_key(thing)?),
-        Verb::Attach { .. } => Call::AttachToken(collection_key(thing)?),
-        Verb::Give { to } => Call::Give(end_key(thing)?, client_at(clients, to)?),
+        Verb::Sync => Call::Sync(end_key(object)?),
+        Verb::Bind => Call::Bind(token_key(object)?),
+        Verb::Dispensable => Call::SetDispensable(token_key(object)?),
+        Verb::Weak => Call::SetWeak(end_key(object)?),
+        Verb::WeakOk { children } => Call::SetWeakOk(end_key(object)?, children),
+        Verb::Check => Call::Check(collection_key(object)?),
+        Verb::Take => Call::Take(collection_key(object)?),
+        Verb::Release => Call::Release(end_key(object)?),
+        Verb::Close => Call::Close(end_key(object)?),
+        Verb::Duplicate { .. } => Call::Duplicate(token_key(object)?),
+        Verb::Attach { .. } => Call::AttachToken(collection_key(object)?),
+        Verb::Give { to } => Call::Give(end_key(object)?, client_at(clients, to)?),
         Verb::Constrain { constraints } => {
-            Call::SetConstraints(collection_key(thing)?, constraints)
+            Call::SetConstraints(collection_key(object)?, constraints)
         }
-        Verb::TrackNode { .. } => Call::TrackNode(end_key(thing)?),
-        Verb::TrackLifetime { most, .. } => Call::TrackLifetime(collection_key(thing)?, most),
+        Verb::TrackNode { .. } => Call::TrackNode(end_key(object)?),
+        Verb::TrackLifetime { most, .. } => Call::TrackLifetime(collection_key(object)?, most),
     })
 }
 
 /// The same of a handle.
-pub(crate) fn handle_call(clients: &[ClientId], verb: BufferVerb, thing: Thing) -> Option<Call>
-    ensures { result ≡ call_on_handle clients.now verb thing }
+pub(crate) fn handle_call(clients: &[ClientId], verb: BufferVerb, object: Object) -> Option<Call>
+    ensures { result ≡ call_on_handle clients.now verb object }
 {
-    match thing {
-        Thing::Handle { buffer, strength } => match verb {
+    match object {
+        Object::Handle { buffer, strength } => match verb {
             BufferVerb::Duplicate { .. } => Some(Call::DupHandle(buffer, strength)),
             BufferVerb::Drop { .. } => Some(Call::DropHandle(buffer, strength)),
             BufferVerb::Give { to, .. } => {
@@ -87,8 +87,8 @@ pub(crate) fn handle_call(clients: &[ClientId], verb: BufferVerb, thing: Thing) 
 }
 
 /// The strength of the handle that the verb is for.
-pub(crate) fn strength_of(verb: BufferVerb) -> Strength
-    ensures { result ≡ strength_for verb }
+pub(crate) fn verb_strength(verb: BufferVerb) -> Strength
+    ensures { result ≡ strength_told verb }
 {
     match verb {
         BufferVerb::Duplicate { strength } => strength,

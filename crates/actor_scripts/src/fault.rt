@@ -1,8 +1,8 @@
-//! Why a script of actors has no cast.
+//! Why a script of actors was not read.
 
-/// Why a script of actors has no cast.
+/// Why a script of actors was not read.
 #[derive(Clone, Copy, Debug, PartialEq, Eq)]
-pub enum CastFault {
+pub enum ActorScriptFault {
     /// The reader failed, or the script is too long.
     ReadFault,
     /// The line of this number, from 1, is the first bad one.

@@ -1,23 +1,23 @@
 //! Scripts of actors: the lines of all clients, read as the steps of each.
 #![tactic(auto)]
 
+mod actor_list;
+mod actor_state;
+mod builder;
 mod calls;
-mod cast;
-mod casting;
-mod desk;
 mod fault;
 mod halt;
-mod judging;
-mod numbering;
+mod input;
+mod labels;
+mod object;
 mod queues;
-mod reading;
 mod replies;
+mod script;
 mod step;
-mod thing;
 
-pub use cast::Cast;
-pub use desk::Desk;
-pub use fault::CastFault;
-pub use judging::read_actors;
+pub use actor_list::ActorList;
+pub use actor_state::ActorState;
+pub use fault::ActorScriptFault;
+pub use object::{Object, StepCall};
+pub use script::read_actors;
 pub use step::{ActorScript, BufferVerb, Step, Verb};
-pub use thing::{Asked, Thing};

@@ -1,6 +1,6 @@
 //! The handles of one strength: for each buffer a queue of their slots.
 ghost use Rattle.std.specs.Prelude.{◌≡◌, [], OnOk, slice_get};
-ghost use Rattle.actor_scripts.specs.Desks.{with_first_gone, with_last};
+ghost use Rattle.actor_scripts.specs.ActorStates.{with_first_gone, with_last};
 ghost use Rattle.actor_scripts.specs.Tables.{queues_of};
 
 use sm_names::BufferName;

@@ -1,6 +1,6 @@
 //! What replies tell.
 ghost use Rattle.std.specs.Prelude.{◌≡◌};
-ghost use Rattle.actor_scripts.specs.Desks.{handle_of as let_go_by, new_place as place_told, new_tracker as tracker_told, spends as is_spending};
+ghost use Rattle.actor_scripts.specs.ActorStates.{handle_of as handle_told, new_place as place_told, new_tracker as tracker_told, spends_object as is_spending};
 
 use sm_names::{BufferName, Call, CollectionId, NodeKey, Reply, Strength, TrackerId};
 
@@ -29,8 +29,8 @@ pub(crate) fn new_tracker(reply: &Reply) -> Option<TrackerId>
     }
 }
 
-/// Whether the thing on which the call was made is gone.
-pub(crate) fn spends(call: &Call, reply: &Reply) -> bool
+/// Whether the object on which the call was made is gone.
+pub(crate) fn spends_object(call: &Call, reply: &Reply) -> bool
     ensures { result ≡ is_spending call.now reply.now }
 {
     match (*call, *reply) {
@@ -47,7 +47,7 @@ pub(crate) fn spends(call: &Call, reply: &Reply) -> bool
 
 /// The handle that the call lets go.
 pub(crate) fn handle_of(call: &Call) -> Option<(BufferName, Strength)>
-    ensures { result ≡ let_go_by call.now }
+    ensures { result ≡ handle_told call.now }
 {
     match *call {
         Call::DropHandle(buffer, strength) => Some((buffer, strength)),

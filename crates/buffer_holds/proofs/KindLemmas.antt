@@ -7,7 +7,7 @@ use Rattle.sm_names.specs.declared.keys.Strength.{Strength}
 use Rattle.sm_names.specs.declared.keys.Strength.TheVariants.{Strong, Weak}
 use Rattle.buffer_holds.specs.declared.kinds.HandleKind.{HandleKind}
 use Rattle.buffer_holds.specs.declared.kinds.Hold.{Hold}
-use Rattle.buffer_holds.specs.Kinds.{same_kind, same_hold}
+use Rattle.buffer_holds.specs.Kinds.{same_handle_kind, same_hold}
 use Rattle.sm_names.specs.contracts.keys.StrengthPartialEq.TheImpl as strength
 use Rattle.sm_names.proofs.HandleLaws.{same_buffer-true, same_strength-true}
 use Rattle.sm_names.proofs.TakeLaws.{same_strength-refl}
@@ -22,7 +22,7 @@ derived_strength Weak Strong = refl
 derived_strength Weak Weak = refl
 
 -- the derived test of kinds
-pub derived_kind : (kind.eq-value).it ≡ same_kind
+pub derived_kind : (kind.eq-value).it ≡ same_handle_kind
 derived_kind = λ i a b. same_buffer a.buffer b.buffer && derived_strength a.strength b.strength i
 
 -- the derived test of holds
@@ -30,7 +30,7 @@ pub derived_hold : (hold.eq-value).it ≡ same_hold
 derived_hold = λ i a b. a.client == b.client && derived_kind i a.kind b.kind
 
 -- kinds that are the same are one
-pub same_kind-one : (a b : HandleKind) → same_kind a b ≡ true → a ≡ b
+pub same_kind-one : (a b : HandleKind) → same_handle_kind a b ≡ true → a ≡ b
 same_kind-one a b e =
     let both = and_parts (same_buffer a.buffer b.buffer) (same_strength a.strength b.strength) e in
     λ i. record { buffer = same_buffer-true a.buffer b.buffer both.0 i; strength = same_strength-true a.strength b.strength both.1 i }
@@ -38,11 +38,11 @@ same_kind-one a b e =
 -- holds that are the same are one
 pub same_hold-one : (a b : Hold) → same_hold a b ≡ true → a ≡ b
 same_hold-one a b e =
-    let both = and_parts (a.client == b.client) (same_kind a.kind b.kind) e in
+    let both = and_parts (a.client == b.client) (same_handle_kind a.kind b.kind) e in
     λ i. record { client = eqb-true a.client b.client both.0 i; kind = same_kind-one a.kind b.kind both.1 i }
 
 -- a kind is the same as itself
-pub same_kind-refl : (a : HandleKind) → same_kind a a ≡ true
+pub same_kind-refl : (a : HandleKind) → same_handle_kind a a ≡ true
 same_kind-refl a = grind (arith, common_steps, same_strength-refl a.strength)
 
 -- a hold is the same as itself

@@ -2,16 +2,16 @@
 use Rattle.std.proofs.Common.{◌≤◌, ◌-◌, None, Some, ℕ, Bool, true, false, sym, subst, List, Option, if◌then◌else◌, unwrap_or, arith}
 use Rattle.buffer_holds.specs.declared.kinds.HandleKind.{HandleKind}
 use Rattle.buffer_holds.specs.declared.tally.Tally.{Tally}
-use Rattle.buffer_holds.specs.Kinds.{same_kind}
+use Rattle.buffer_holds.specs.Kinds.{same_handle_kind}
 use Rattle.buffer_holds.specs.Rows.{Resets}
-use Rattle.buffer_holds.specs.Sound.{AreUpTo, is_idle, no_tally, tally_at, tally_row, without_client}
+use Rattle.buffer_holds.specs.Sound.{TotalsAreUpTo, is_idle, no_tally, tally_at, tally_row, without_client}
 
 -- the tally that changed has no more, nor have the others
 pub up_to_after : (most most' : ℕ) (tallies tallies' : List (HandleKind × Tally)) (kind : HandleKind) (was now : Option Tally)
-    → Resets same_kind tallies tallies' kind was now → most ≤ most' → (unwrap_or now no_tally).total ≤ most' → AreUpTo most tallies
-    → AreUpTo most' tallies'
+    → Resets same_handle_kind tallies tallies' kind was now → most ≤ most' → (unwrap_or now no_tally).total ≤ most' → TotalsAreUpTo most tallies
+    → TotalsAreUpTo most' tallies'
 up_to_after most most' tallies tallies' kind was now resets grows within up_to other =
-    subst (λ o. (unwrap_or o no_tally).total ≤ most') (sym (resets.finds other)) (chosen (same_kind kind other))
+    subst (λ o. (unwrap_or o no_tally).total ≤ most') (sym (resets.finds other)) (chosen (same_handle_kind kind other))
   where
     chosen : (b : Bool) → (unwrap_or (if b then now else tally_row tallies other) no_tally).total ≤ most'
     chosen true = within
@@ -19,8 +19,8 @@ up_to_after most most' tallies tallies' kind was now resets grows within up_to o
 
 -- a tally with one client less has no more
 pub up_to_without : (most : ℕ) (tallies tallies' : List (HandleKind × Tally)) (kind : HandleKind)
-    → Resets same_kind tallies tallies' kind (tally_row tallies kind) (without_client (tally_at tallies kind)) → AreUpTo most tallies
-    → AreUpTo most tallies'
+    → Resets same_handle_kind tallies tallies' kind (tally_row tallies kind) (without_client (tally_at tallies kind)) → TotalsAreUpTo most tallies
+    → TotalsAreUpTo most tallies'
 up_to_without most tallies tallies' kind resets up_to =
     up_to_after most most tallies tallies' kind (tally_row tallies kind) (without_client (tally_at tallies kind)) resets (omega arith)
     (less (is_idle (record (tally_at tallies kind) { clients = (tally_at tallies kind).clients - 1 }))) up_to

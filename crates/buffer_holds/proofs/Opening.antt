@@ -4,13 +4,13 @@ use Rattle.buffer_holds.specs.declared.kinds.HandleKind.{HandleKind}
 use Rattle.buffer_holds.specs.declared.kinds.Hold.{Hold}
 use Rattle.buffer_holds.specs.declared.tally.Tally.{Tally}
 use Rattle.buffer_holds.specs.Rows.{Raises, count_at}
-use Rattle.buffer_holds.specs.Sound.{IsSound, tally_at}
-use Rattle.buffer_holds.specs.Stored.{one_more, Opens}
+use Rattle.buffer_holds.specs.Sound.{CountsInvariant, tally_at}
+use Rattle.buffer_holds.specs.Stored.{one_more, OpensOne}
 use Rattle.buffer_holds.proofs.Steps.{Step, Step-raised}
 
-module _ (limit : ℕ) (rows rows' : List (Hold × ℕ)) (tallies tallies' : List (HandleKind × Tally)) (sound : IsSound limit rows tallies)
+module _ (limit : ℕ) (rows rows' : List (Hold × ℕ)) (tallies tallies' : List (HandleKind × Tally)) (sound : CountsInvariant limit rows tallies)
     (hold : Hold)
-    (raises : Raises rows rows' hold) (opens : Opens rows rows' tallies tallies' hold.kind) (room : (tally_at tallies hold.kind).total ≢
+    (raises : Raises rows rows' hold) (opens : OpensOne rows rows' tallies tallies' hold.kind) (room : (tally_at tallies hold.kind).total ≢
     limit) where
   -- the row and the tally change together
   pub Step-opened : Step limit rows rows' tallies tallies' hold (Some (count_at rows hold + 1))

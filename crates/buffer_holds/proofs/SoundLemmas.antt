@@ -9,10 +9,10 @@ use Rattle.sm_names.specs.declared.keys.Strength.{Strength}
 use Rattle.buffer_holds.specs.declared.kinds.HandleKind.{HandleKind}
 use Rattle.buffer_holds.specs.declared.kinds.Hold.{Hold}
 use Rattle.buffer_holds.specs.declared.tally.Tally.{Tally}
-use Rattle.buffer_holds.specs.Counts.{Counts, moving, total, share}
-use Rattle.buffer_holds.specs.Kinds.{kind_of, same_kind, same_hold}
+use Rattle.buffer_holds.specs.Counts.{Counts, moving_count, total, share}
+use Rattle.buffer_holds.specs.Kinds.{kind_of, same_handle_kind, same_hold}
 use Rattle.buffer_holds.specs.Rows.{weight_at, row_at, count_at}
-use Rattle.buffer_holds.specs.Sound.{IsSound, tally_at, no_tally, one_of, parcels_in}
+use Rattle.buffer_holds.specs.Sound.{CountsInvariant, tally_at, no_tally, one_of, parcels_in}
 use Rattle.buffer_holds.proofs.KindLemmas.{same_hold-one, same_kind-refl}
 use Rattle.buffer_holds.proofs.RowLemmas.{weight_at-le-sum_by}
 
@@ -22,13 +22,13 @@ one_row None = 0
 one_row (Some count) = 1
 
 -- what a row weighs, by whether it is of the kind
-pub weight_at-share : (kind : HandleKind) (hold : Hold) (row : Option ℕ) (b : Bool) → same_kind hold.kind kind ≡ b →
+pub weight_at-share : (kind : HandleKind) (hold : Hold) (row : Option ℕ) (b : Bool) → same_handle_kind hold.kind kind ≡ b →
     weight_at (share kind) hold row ≡ cond b (unwrap_or row 0) 0
 weight_at-share kind hold None true e = refl
 weight_at-share kind hold None false e = refl
 weight_at-share kind hold (Some count) b e = ap (λ v. cond v count 0) e
 
-pub weight_at-one_of : (kind : HandleKind) (hold : Hold) (row : Option ℕ) (b : Bool) → same_kind hold.kind kind ≡ b →
+pub weight_at-one_of : (kind : HandleKind) (hold : Hold) (row : Option ℕ) (b : Bool) → same_handle_kind hold.kind kind ≡ b →
     weight_at (one_of kind) hold row ≡ cond b (one_row row) 0
 weight_at-one_of kind hold None true e = refl
 weight_at-one_of kind hold None false e = refl
@@ -40,17 +40,17 @@ counts_of limit rows tallies = record { limit = limit; rows = rows; parcels = pa
 
 -- how many are in parcels, by the tally
 pub moving_is : (limit : ℕ) (rows : List (Hold × ℕ)) (tallies : List (HandleKind × Tally)) (buffer : BufferName) (strength : Strength)
-    → moving (counts_of limit rows tallies) buffer strength ≡ (tally_at tallies (kind_of buffer strength)).moving
+    → moving_count (counts_of limit rows tallies) buffer strength ≡ (tally_at tallies (kind_of buffer strength)).moving
 moving_is limit rows tallies buffer strength =
-    ap (λ o. unwrap_or o 0) (lookup-map_values (λ (t : Tally). t.moving) (same_kind (kind_of buffer strength)) tallies)
-    ∙ mapped (lookup (same_kind (kind_of buffer strength)) tallies)
+    ap (λ o. unwrap_or o 0) (lookup-map_values (λ (t : Tally). t.moving) (same_handle_kind (kind_of buffer strength)) tallies)
+    ∙ mapped (lookup (same_handle_kind (kind_of buffer strength)) tallies)
   where
     mapped : (o : Option Tally) → unwrap_or (option_map (λ (t : Tally). t.moving) o) 0 ≡ (unwrap_or o no_tally).moving
     mapped None = refl
     mapped (Some t) = refl
 
 -- how many are open, by the tally
-pub total_is : (limit : ℕ) (rows : List (Hold × ℕ)) (tallies : List (HandleKind × Tally)) (sound : IsSound limit rows tallies)
+pub total_is : (limit : ℕ) (rows : List (Hold × ℕ)) (tallies : List (HandleKind × Tally)) (sound : CountsInvariant limit rows tallies)
     (buffer : BufferName) (strength : Strength)
     → total (counts_of limit rows tallies) buffer strength ≡ (tally_at tallies (kind_of buffer strength)).total
 total_is limit rows tallies sound buffer strength =
@@ -81,7 +81,7 @@ one_row-added (Some count) = refl
 pub sum_by-one_of-le-length : (kind : HandleKind) (rows : List (Hold × ℕ)) → sum_by (one_of kind) rows ≤ length rows
 sum_by-one_of-le-length kind [] = omega arith
 sum_by-one_of-le-length kind (row ∷ rows) =
-    omega (arith, sum_by-one_of-le-length kind rows, sum_by-cons (one_of kind) row rows, at_most_one (same_kind row.0.kind kind))
+    omega (arith, sum_by-one_of-le-length kind rows, sum_by-cons (one_of kind) row rows, at_most_one (same_handle_kind row.0.kind kind))
   where
     at_most_one : (b : Bool) → cond b 1 0 ≤ 1
     at_most_one true = omega arith
@@ -95,7 +95,7 @@ sum_by-share-none kind (row ∷ rows) none =
       arith,
       sum_by-share-none kind rows (omega (arith, none, sum_by-cons (one_of kind) row rows)),
       sum_by-cons (share kind) row rows,
-      apart (same_kind row.0.kind kind) (omega (arith, none, sum_by-cons (one_of kind) row rows)),
+      apart (same_handle_kind row.0.kind kind) (omega (arith, none, sum_by-cons (one_of kind) row rows)),
     )
   where
     apart : (b : Bool) → ◌≡◌ {A = ℕ} (cond b 1 0) 0 → ◌≡◌ {A = ℕ} (cond b row.1 0) 0
@@ -107,7 +107,7 @@ pub kept_from_something : (row : Option Tally) → 0 < (unwrap_or row no_tally).
 kept_from_something None some = absurd (omega arith)
 kept_from_something (Some tally) some = refl
 
-module _ (limit : ℕ) (rows : List (Hold × ℕ)) (tallies : List (HandleKind × Tally)) (sound : IsSound limit rows tallies) (hold : Hold) where
+module _ (limit : ℕ) (rows : List (Hold × ℕ)) (tallies : List (HandleKind × Tally)) (sound : CountsInvariant limit rows tallies) (hold : Hold) where
   -- a client's handles and those in parcels are at most all
   pub count_at-le-total : count_at rows hold + (tally_at tallies hold.kind).moving ≤ (tally_at tallies hold.kind).total
   count_at-le-total =

@@ -7,11 +7,11 @@ use Rattle.sm_names.specs.declared.keys.Strength.{Strength}
 use Rattle.buffer_holds.specs.declared.kinds.HandleKind.{HandleKind}
 use Rattle.buffer_holds.specs.declared.kinds.Hold.{Hold}
 use Rattle.buffer_holds.specs.declared.tally.Tally.{Tally}
-use Rattle.buffer_holds.specs.Counts.{Counts, of, moving, total, has_handle_room, share}
+use Rattle.buffer_holds.specs.Counts.{Counts, of, moving_count, total, has_handle_room, share}
 use Rattle.buffer_holds.specs.Changes.{Sets, Tidies}
-use Rattle.buffer_holds.specs.Kinds.{kind_of, hold_of, same_kind, same_hold}
+use Rattle.buffer_holds.specs.Kinds.{kind_of, hold_of, same_handle_kind, same_hold}
 use Rattle.buffer_holds.specs.Rows.{Resets, Raises, row_at, count_at}
-use Rattle.buffer_holds.specs.Sound.{Tallies, IsSound, tally_at, tally_row, no_tally, one_of, is_idle, without_client}
+use Rattle.buffer_holds.specs.Sound.{Tallies, CountsInvariant, tally_at, tally_row, no_tally, one_of, is_idle, without_client}
 use Rattle.buffer_holds.proofs.KindLemmas.{same_kind-one, same_hold-one, same_kind-refl}
 use Rattle.buffer_holds.proofs.SoundLemmas.{one_row, one_row-some, one_row-added, one_row-le-clients, weight_at-share, weight_at-one_of, sum_by-share-none, counts_of, moving_is, total_is}
 
@@ -24,15 +24,15 @@ pub record KeepsUp (limit : ℕ) (row row' : Option ℕ) (tally tally' : Tally) 
 -- the client's row of these handles becomes row', and the tally of the kind tally'
 pub record Step (limit : ℕ) (rows rows' : List (Hold × ℕ)) (tallies tallies' : List (HandleKind × Tally)) (hold : Hold) (row' : Option ℕ)
     (tally' : Option Tally) : Type 0 where
-  pub sound : IsSound limit rows tallies
+  pub sound : CountsInvariant limit rows tallies
   pub resets : Resets same_hold rows rows' hold (row_at rows hold) row'
-  pub retallies : Resets same_kind tallies tallies' hold.kind (tally_row tallies hold.kind) tally'
+  pub retallies : Resets same_handle_kind tallies tallies' hold.kind (tally_row tallies hold.kind) tally'
   pub keeps : KeepsUp limit (row_at rows hold) row' (tally_at tallies hold.kind) (unwrap_or tally' no_tally)
   pub needed : IsSome tally' → 0 < (unwrap_or tally' no_tally).clients + (unwrap_or tally' no_tally).moving
 
-module _ (limit : ℕ) (rows rows' : List (Hold × ℕ)) (tallies tallies' : List (HandleKind × Tally)) (sound : IsSound limit rows tallies)
+module _ (limit : ℕ) (rows rows' : List (Hold × ℕ)) (tallies tallies' : List (HandleKind × Tally)) (sound : CountsInvariant limit rows tallies)
     (hold : Hold) (tally' : Tally)
-    (retallies : Resets same_kind tallies tallies' hold.kind (tally_row tallies hold.kind) (Some tally')) where
+    (retallies : Resets same_handle_kind tallies tallies' hold.kind (tally_row tallies hold.kind) (Some tally')) where
   -- one handle of the client less
   pub Step-lowered : 0 < count_at rows hold → Resets same_hold rows rows' hold (row_at rows hold) (Some (count_at rows hold - 1))
       → tally'.clients ≡ (tally_at tallies hold.kind).clients → tally'.total ≤ (tally_at tallies hold.kind).total
@@ -74,10 +74,10 @@ module _ (limit : ℕ) (rows rows' : List (Hold × ℕ)) (tallies tallies' : Lis
   }
 
 -- a row of 0 goes, and with it a tally that says nothing
-module _ (limit : ℕ) (rows rows' : List (Hold × ℕ)) (tallies tallies' : List (HandleKind × Tally)) (sound : IsSound limit rows tallies)
+module _ (limit : ℕ) (rows rows' : List (Hold × ℕ)) (tallies tallies' : List (HandleKind × Tally)) (sound : CountsInvariant limit rows tallies)
     (hold : Hold)
     (idle : row_at rows hold ≡ Some 0) (resets : Resets same_hold rows rows' hold (row_at rows hold) None)
-    (retallies : Resets same_kind tallies tallies' hold.kind (tally_row tallies hold.kind)
+    (retallies : Resets same_handle_kind tallies tallies' hold.kind (tally_row tallies hold.kind)
     (without_client (tally_at tallies hold.kind))) where
   -- the other clients' rows of the kind
   others : sum_by (one_of hold.kind) rows' + 1 ≡ sum_by (one_of hold.kind) rows
@@ -132,7 +132,7 @@ module _ (limit : ℕ) (rows rows' : List (Hold × ℕ)) (tallies tallies' : Lis
   pub Step-forgotten : Step limit rows rows' tallies tallies' hold None (without_client (tally_at tallies hold.kind))
   Step-forgotten =
       elim (is_idle left) as (λ b. is_idle left ≡ b →
-      Resets same_kind tallies tallies' hold.kind (tally_row tallies hold.kind) (cond b None (Some left)) →
+      Resets same_handle_kind tallies tallies' hold.kind (tally_row tallies hold.kind) (cond b None (Some left)) →
       Step limit rows rows' tallies tallies' hold None (cond b None (Some left))) [
         | true ↦ λ e changed.
             let nothing = nothing_left e in
@@ -180,11 +180,11 @@ module _ (limit : ℕ) (rows rows' : List (Hold × ℕ)) (tallies tallies' : Lis
 module _ {limit : ℕ} {rows rows' : List (Hold × ℕ)} {tallies tallies' : List (HandleKind × Tally)} {hold : Hold} {row' : Option ℕ}
     {tally' : Option Tally} (step : Step limit rows rows' tallies tallies' hold row' tally') where
   -- the tally of each kind, by whether it is this one
-  tally_after : (kind : HandleKind) → tally_at tallies' kind ≡ cond (same_kind hold.kind kind) (unwrap_or tally' no_tally)
+  tally_after : (kind : HandleKind) → tally_at tallies' kind ≡ cond (same_handle_kind hold.kind kind) (unwrap_or tally' no_tally)
       (tally_at tallies kind)
-  tally_after kind = ap (λ o. unwrap_or o no_tally) (step.retallies.finds kind) ∙ inside (same_kind hold.kind kind)
+  tally_after kind = ap (λ o. unwrap_or o no_tally) (step.retallies.finds kind) ∙ inside (same_handle_kind hold.kind kind)
     where
-      inside : (b : Bool) → unwrap_or (cond b tally' (lookup (same_kind kind) tallies)) no_tally ≡ cond b (unwrap_or tally' no_tally)
+      inside : (b : Bool) → unwrap_or (cond b tally' (lookup (same_handle_kind kind) tallies)) no_tally ≡ cond b (unwrap_or tally' no_tally)
           (tally_at tallies kind)
       inside true = refl
       inside false = refl
@@ -214,7 +214,7 @@ module _ {limit : ℕ} {rows rows' : List (Hold × ℕ)} {tallies tallies' : Lis
         within = step.keeps.within;
       }
 
-  tallied_there : (kind : HandleKind) → same_kind hold.kind kind ≡ false → Tallies limit rows' kind (tally_at tallies kind)
+  tallied_there : (kind : HandleKind) → same_handle_kind hold.kind kind ≡ false → Tallies limit rows' kind (tally_at tallies kind)
   tallied_there kind e =
       let was = step.sound.tallied kind in
       let row = row_at rows hold in
@@ -239,25 +239,25 @@ module _ {limit : ℕ} {rows rows' : List (Hold × ℕ)} {tallies tallies' : Lis
   tallied_after : (kind : HandleKind) → Tallies limit rows' kind (tally_at tallies' kind)
   tallied_after kind =
       subst (Tallies limit rows' kind) (sym (tally_after kind))
-      (elim (same_kind hold.kind kind) as (λ b. same_kind hold.kind kind ≡ b →
+      (elim (same_handle_kind hold.kind kind) as (λ b. same_handle_kind hold.kind kind ≡ b →
       Tallies limit rows' kind (cond b (unwrap_or tally' no_tally) (tally_at tallies kind))) [
         | true ↦ λ e. subst (λ k. Tallies limit rows' k (unwrap_or tally' no_tally)) (same_kind-one hold.kind kind e) tallied_here
         | false ↦ λ e. tallied_there kind e
       ] refl)
 
-  needed_after : (kind : HandleKind) → IsSome (lookup (same_kind kind) tallies') →
+  needed_after : (kind : HandleKind) → IsSome (lookup (same_handle_kind kind) tallies') →
       0 < (tally_at tallies' kind).clients + (tally_at tallies' kind).moving
   needed_after kind =
       subst (λ o. IsSome o → 0 < (unwrap_or o no_tally).clients + (unwrap_or o no_tally).moving) (sym (step.retallies.finds kind))
-      (elim (same_kind hold.kind kind) as (λ b. IsSome (cond b tally' (lookup (same_kind kind) tallies)) →
-      0 < (unwrap_or (cond b tally' (lookup (same_kind kind) tallies)) no_tally).clients + (unwrap_or
-      (cond b tally' (lookup (same_kind kind) tallies)) no_tally).moving) [
+      (elim (same_handle_kind hold.kind kind) as (λ b. IsSome (cond b tally' (lookup (same_handle_kind kind) tallies)) →
+      0 < (unwrap_or (cond b tally' (lookup (same_handle_kind kind) tallies)) no_tally).clients + (unwrap_or
+      (cond b tally' (lookup (same_handle_kind kind) tallies)) no_tally).moving) [
         | true ↦ step.needed
         | false ↦ step.sound.needed kind
       ])
 
   -- the fields stay sound
-  pub sound_after : IsSound limit rows' tallies'
+  pub sound_after : CountsInvariant limit rows' tallies'
   sound_after = record { distinct = step.resets.distinct; tallied = tallied_after; needed = needed_after }
 
   -- what each client has open
@@ -284,9 +284,9 @@ module _ {limit : ℕ} {rows rows' : List (Hold × ℕ)} {tallies tallies' : Lis
 
   -- a number of the tally of each kind
   number_after : (number : Tally → ℕ) (kind : HandleKind) →
-      number (tally_at tallies' kind) ≡ cond (same_kind hold.kind kind) (number (unwrap_or tally' no_tally))
+      number (tally_at tallies' kind) ≡ cond (same_handle_kind hold.kind kind) (number (unwrap_or tally' no_tally))
       (number (tally_at tallies kind))
-  number_after number kind = ap number (tally_after kind) ∙ inside (same_kind hold.kind kind)
+  number_after number kind = ap number (tally_after kind) ∙ inside (same_handle_kind hold.kind kind)
     where
       inside : (here : Bool) → number (cond here (unwrap_or tally' no_tally) (tally_at tallies kind)) ≡ cond here
           (number (unwrap_or tally' no_tally)) (number (tally_at tallies kind))
@@ -295,21 +295,21 @@ module _ {limit : ℕ} {rows rows' : List (Hold × ℕ)} {tallies tallies' : Lis
 
   -- what is in parcels
   pub moving_after : (b : BufferName) (s : Strength)
-      → moving (counts_of limit rows' tallies') b s ≡ cond (same_kind hold.kind (kind_of b s)) (unwrap_or tally' no_tally).moving
-      (moving (counts_of limit rows tallies) b s)
+      → moving_count (counts_of limit rows' tallies') b s ≡ cond (same_handle_kind hold.kind (kind_of b s)) (unwrap_or tally' no_tally).moving
+      (moving_count (counts_of limit rows tallies) b s)
   moving_after b s =
       moving_is limit rows' tallies' b s
       ∙ number_after (λ t. t.moving) (kind_of b s)
-      ∙ ap (cond (same_kind hold.kind (kind_of b s)) (unwrap_or tally' no_tally).moving) (sym (moving_is limit rows tallies b s))
+      ∙ ap (cond (same_handle_kind hold.kind (kind_of b s)) (unwrap_or tally' no_tally).moving) (sym (moving_is limit rows tallies b s))
 
   -- what is open
   pub total_after : (b : BufferName) (s : Strength)
-      → total (counts_of limit rows' tallies') b s ≡ cond (same_kind hold.kind (kind_of b s)) (unwrap_or tally' no_tally).total
+      → total (counts_of limit rows' tallies') b s ≡ cond (same_handle_kind hold.kind (kind_of b s)) (unwrap_or tally' no_tally).total
       (total (counts_of limit rows tallies) b s)
   total_after b s =
       total_is limit rows' tallies' sound_after b s
       ∙ number_after (λ t. t.total) (kind_of b s)
-      ∙ ap (cond (same_kind hold.kind (kind_of b s)) (unwrap_or tally' no_tally).total) (sym (total_is limit rows tallies step.sound b s))
+      ∙ ap (cond (same_handle_kind hold.kind (kind_of b s)) (unwrap_or tally' no_tally).total) (sym (total_is limit rows tallies step.sound b s))
 
 -- what contracts see of a step
 module _ {limit : ℕ} {rows rows' : List (Hold × ℕ)} {tallies tallies' : List (HandleKind × Tally)} {row' : Option ℕ} {tally' : Option Tally}
@@ -321,17 +321,17 @@ module _ {limit : ℕ} {rows rows' : List (Hold × ℕ)} {tallies tallies' : Lis
       → (unwrap_or tally' no_tally).moving ≡ in_parcels (tally_at tallies (kind_of buffer strength)).moving →
       (unwrap_or tally' no_tally).total ≡ in_all (tally_at tallies (kind_of buffer strength)).total
       → Sets old (counts_of limit rows' tallies') client buffer strength (held (of old client buffer strength))
-      (in_parcels (moving old buffer strength)) (in_all (total old buffer strength))
+      (in_parcels (moving_count old buffer strength)) (in_all (total old buffer strength))
   sets_by held in_parcels in_all is_held is_moving is_total =
       let before = counts_of limit rows tallies in
       subst (λ counts. Sets counts (counts_of limit rows' tallies') client buffer strength (held (of counts client buffer strength))
-      (in_parcels (moving counts buffer strength)) (in_all (total counts buffer strength))) view (record {
+      (in_parcels (moving_count counts buffer strength)) (in_all (total counts buffer strength))) view (record {
         limit = refl;
         counts = λ c b s. of_after step c b s
             ∙ ap (λ o. cond (same_hold (hold_of client buffer strength) (hold_of c b s)) (unwrap_or o 0) (of before c b s)) is_held;
-        parcels = λ b s. moving_after step b s ∙ ap (λ n. cond (same_kind (kind_of buffer strength) (kind_of b s)) n (moving before b s))
+        parcels = λ b s. moving_after step b s ∙ ap (λ n. cond (same_handle_kind (kind_of buffer strength) (kind_of b s)) n (moving_count before b s))
             (is_moving ∙ ap in_parcels (sym (moving_is limit rows tallies buffer strength)));
-        totals = λ b s. total_after step b s ∙ ap (λ n. cond (same_kind (kind_of buffer strength) (kind_of b s)) n (total before b s))
+        totals = λ b s. total_after step b s ∙ ap (λ n. cond (same_handle_kind (kind_of buffer strength) (kind_of b s)) n (total before b s))
             (is_total ∙ ap in_all (sym (total_is limit rows tallies step.sound buffer strength)));
         rooms = λ c b s. has_room_after step c b s
             ∙ ap (λ o. cond (same_hold (hold_of client buffer strength) (hold_of c b s)) (is_some o) (has_handle_room before c b s)) is_held
@@ -349,8 +349,8 @@ module _ {limit : ℕ} {rows rows' : List (Hold × ℕ)} {tallies tallies' : Lis
     same_number : (number : Tally → ℕ) → number (unwrap_or tally' no_tally) ≡ number (tally_at tallies (kind_of buffer strength)) →
         (kind : HandleKind) → number (tally_at tallies' kind) ≡ number (tally_at tallies kind)
     same_number number same kind =
-        number_after step number kind ∙ (elim (same_kind (kind_of buffer strength) kind) as (λ b.
-        same_kind (kind_of buffer strength) kind ≡ b →
+        number_after step number kind ∙ (elim (same_handle_kind (kind_of buffer strength) kind) as (λ b.
+        same_handle_kind (kind_of buffer strength) kind ≡ b →
         cond b (number (unwrap_or tally' no_tally)) (number (tally_at tallies kind)) ≡ number (tally_at tallies kind)) [
           | true ↦ λ e. same ∙ ap (λ k. number (tally_at tallies k)) (same_kind-one (kind_of buffer strength) kind e)
           | false ↦ λ e. refl

@@ -7,7 +7,7 @@ use Rattle.std.specs.HashMap.{HashMap, get, values, IsUnique}
 use Rattle.buffer_holds.specs.declared.kinds.HandleKind.{HandleKind}
 use Rattle.buffer_holds.specs.declared.tally.Tally.{Tally}
 use Rattle.buffer_holds.specs.contracts.kinds.HandleKindPartialEq.TheImpl.{eq-value as derived}
-use Rattle.buffer_holds.specs.Kinds.{same_kind}
+use Rattle.buffer_holds.specs.Kinds.{same_handle_kind}
 use Rattle.buffer_holds.specs.Rows.{Resets, StandsAt}
 use Rattle.buffer_holds.specs.Sound.{tally_row, tally_at, no_tally}
 use Rattle.buffer_holds.proofs.SoundLemmas.{kept_from_something}
@@ -18,7 +18,7 @@ use Rattle.buffer_holds.proofs.RowLemmas.{lookup_found, lookup_placed, resets_pl
 module _ {S : Type 0} (tallies : HashMap HandleKind Tally S) (kind : HandleKind) where
   -- the tally that a look-up found
   row_found : (found : Option Tally) → found ≡ get derived.it tallies kind → tally_row tallies.entries kind ≡ found
-  row_found found is = lookup_found derived.it same_kind derived_kind same_kind-one tallies tallies kind found is
+  row_found found is = lookup_found derived.it same_handle_kind derived_kind same_kind-one tallies tallies kind found is
 
   -- a tally that is read at its place
   module _ (searched : Option ℕ) (found : IfSome searched (λ place. StandsAt tallies.entries place kind)) (place : ℕ)
@@ -51,7 +51,7 @@ module _ {S : Type 0} (tallies : HashMap HandleKind Tally S) (kind : HandleKind)
       option_copied_mut lent ≡ slice_get (values tallies) place
       → IsUnique derived.it tallies → (tally : MutBor Tally) → lent ≡ Some tally → tally_at tallies.entries kind ≡ tally.now
   tally_lent_at place there lent value unique tally is =
-      ap (λ o. unwrap_or o no_tally) (lookup_placed derived.it same_kind derived_kind same_kind-one same_kind-refl tallies tallies kind
+      ap (λ o. unwrap_or o no_tally) (lookup_placed derived.it same_handle_kind derived_kind same_kind-one same_kind-refl tallies tallies kind
       place there.0 there.1 unique)
       ∙ sym (value_lent_at tallies place kind there.0 there.1 lent value tally is)
 
@@ -77,7 +77,7 @@ module _ {S : Type 0} (tallies : HashMap HandleKind Tally S) (kind : HandleKind)
 
       -- what is written there
       pub row_written : (after : Tally)
-          → Resets same_kind tallies.entries (set_value_at tallies.entries place after) kind (tally_row tallies.entries kind) (Some after)
+          → Resets same_handle_kind tallies.entries (set_value_at tallies.entries place after) kind (tally_row tallies.entries kind) (Some after)
       row_written after =
-          resets_placed derived.it same_kind derived_kind same_kind-one same_kind-refl tallies tallies kind place placed.0 placed.1 unique
+          resets_placed derived.it same_handle_kind derived_kind same_kind-one same_kind-refl tallies tallies kind place placed.0 placed.1 unique
           after

@@ -5,7 +5,7 @@ use Rattle.sm_names.specs.declared.keys.BufferName.{BufferName}
 use Rattle.sm_names.specs.declared.keys.Strength.{Strength}
 use Rattle.buffer_holds.specs.declared.kinds.HandleKind.{HandleKind}
 use Rattle.buffer_holds.specs.declared.kinds.Hold.{Hold}
-use Rattle.buffer_holds.specs.Kinds.{kind_of, hold_of, same_kind, same_hold}
+use Rattle.buffer_holds.specs.Kinds.{kind_of, hold_of, same_handle_kind, same_hold}
 
 -- at most `limit` handles of a kind; a row for each hold that has room here, and one for each kind; no row means 0
 pub record Counts : Type 0 where
@@ -18,16 +18,16 @@ abbrev pub of : Counts → ℕ → BufferName → Strength → ℕ
 of counts client buffer strength = unwrap_or (lookup (same_hold (hold_of client buffer strength)) counts.rows) 0
 
 -- how many of these handles are in parcels
-abbrev pub moving : Counts → BufferName → Strength → ℕ
-moving counts buffer strength = unwrap_or (lookup (same_kind (kind_of buffer strength)) counts.parcels) 0
+abbrev pub moving_count : Counts → BufferName → Strength → ℕ
+moving_count counts buffer strength = unwrap_or (lookup (same_handle_kind (kind_of buffer strength)) counts.parcels) 0
 
 -- the row's count, if it is of this kind
 abbrev pub share : HandleKind → Hold × ℕ → ℕ
-share kind row = if same_kind row.0.kind kind then row.1 else 0
+share kind row = if same_handle_kind row.0.kind kind then row.1 else 0
 
 -- how many of these handles are open: those of each client, and those in parcels
 abbrev pub total : Counts → BufferName → Strength → ℕ
-total counts buffer strength = sum_by (share (kind_of buffer strength)) counts.rows + moving counts buffer strength
+total counts buffer strength = sum_by (share (kind_of buffer strength)) counts.rows + moving_count counts buffer strength
 
 -- one more of these handles takes no memory for this client
 abbrev pub has_handle_room : Counts → ℕ → BufferName → Strength → Bool

@@ -15,9 +15,9 @@ abbrev pub hold_of : ℕ → BufferName → Strength → Hold
 hold_of client buffer strength = record { client = client; kind = kind_of buffer strength }
 
 -- the kinds are one
-abbrev pub same_kind : HandleKind → HandleKind → Bool
-same_kind a b = same_buffer a.buffer b.buffer && same_strength a.strength b.strength
+abbrev pub same_handle_kind : HandleKind → HandleKind → Bool
+same_handle_kind a b = same_buffer a.buffer b.buffer && same_strength a.strength b.strength
 
 -- the kinds are one, and so are the clients
 abbrev pub same_hold : Hold → Hold → Bool
-same_hold a b = a.client == b.client && same_kind a.kind b.kind
+same_hold a b = a.client == b.client && same_handle_kind a.kind b.kind

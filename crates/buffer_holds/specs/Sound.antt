@@ -6,7 +6,7 @@ use Rattle.buffer_holds.specs.declared.kinds.HandleKind.{HandleKind}
 use Rattle.buffer_holds.specs.declared.kinds.Hold.{Hold}
 use Rattle.buffer_holds.specs.declared.tally.Tally.{Tally}
 use Rattle.buffer_holds.specs.Counts.{share}
-use Rattle.buffer_holds.specs.Kinds.{same_kind, same_hold}
+use Rattle.buffer_holds.specs.Kinds.{same_handle_kind, same_hold}
 
 -- the tally of a kind of which nothing is open
 abbrev pub no_tally : Tally
@@ -14,7 +14,7 @@ no_tally = record { total = 0; moving = 0; clients = 0 }
 
 -- the entry of this kind
 abbrev pub tally_row : List (HandleKind × Tally) → HandleKind → Option Tally
-tally_row tallies kind = lookup (same_kind kind) tallies
+tally_row tallies kind = lookup (same_handle_kind kind) tallies
 
 -- the tally of this kind
 abbrev pub tally_at : List (HandleKind × Tally) → HandleKind → Tally
@@ -36,7 +36,7 @@ parcels_in tallies = map (λ e. (e.0, e.1.moving)) tallies
 
 -- 1 for a row of this kind
 abbrev pub one_of : HandleKind → Hold × ℕ → ℕ
-one_of kind row = if same_kind row.0.kind kind then 1 else 0
+one_of kind row = if same_handle_kind row.0.kind kind then 1 else 0
 
 -- the tally is that of the rows
 pub record Tallies (limit : ℕ) (rows : List (Hold × ℕ)) (kind : HandleKind) (tally : Tally) : Type 0 where
@@ -45,10 +45,10 @@ pub record Tallies (limit : ℕ) (rows : List (Hold × ℕ)) (kind : HandleKind)
   pub within : tally.total ≤ limit
 
 -- no hold has two rows, each tally is that of the rows, and none stands for nothing
-pub record IsSound (limit : ℕ) (rows : List (Hold × ℕ)) (tallies : List (HandleKind × Tally)) : Type 0 where
+pub record CountsInvariant (limit : ℕ) (rows : List (Hold × ℕ)) (tallies : List (HandleKind × Tally)) : Type 0 where
   pub distinct : IsDistinct same_hold (keys_of rows)
   pub tallied : (kind : HandleKind) → Tallies limit rows kind (tally_at tallies kind)
-  pub needed : (kind : HandleKind) → IsSome (lookup (same_kind kind) tallies) →
+  pub needed : (kind : HandleKind) → IsSome (lookup (same_handle_kind kind) tallies) →
       0 < (tally_at tallies kind).clients + (tally_at tallies kind).moving
 
 -- how many handles of the tally's kind are in parcels
@@ -65,5 +65,5 @@ pub record HasPlaces (sent free : ℕ) (tallies : List (HandleKind × Tally)) : 
   pub enough : sent ≤ free
 
 -- no more than so many of one kind are open
-abbrev pub AreUpTo : ℕ → List (HandleKind × Tally) → Type 0
-AreUpTo most tallies = (kind : HandleKind) → (tally_at tallies kind).total ≤ most
+abbrev pub TotalsAreUpTo : ℕ → List (HandleKind × Tally) → Type 0
+TotalsAreUpTo most tallies = (kind : HandleKind) → (tally_at tallies kind).total ≤ most

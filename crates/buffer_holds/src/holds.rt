@@ -4,7 +4,7 @@ ghost use Rattle.std.specs.Bool.{OnTrue, OnFalse};
 ghost use Rattle.std.specs.List.{IsDistinct};
 ghost use Rattle.std.specs.Map.{keys_of};
 ghost use Rattle.sm_names.specs.Handles.{is_doomed, is_home};
-ghost use Rattle.buffer_holds.specs.Counts.{of, moving, total, has_handle_room};
+ghost use Rattle.buffer_holds.specs.Counts.{of, moving_count, total, has_handle_room};
 ghost use Rattle.buffer_holds.specs.Kinds.{same_hold};
 ghost use Rattle.buffer_holds.specs.Changes.{Sets, Tidies};
 
@@ -53,7 +53,7 @@ impl Model for Holds {
 
     ghost Value = { Counts };
 
-    ghost use Rattle.buffer_holds.specs.Sound.{AreUpTo, HasPlaces, IsSound, parcels_in};
+    ghost use Rattle.buffer_holds.specs.Sound.{TotalsAreUpTo, HasPlaces, CountsInvariant, parcels_in};
     ghost use Rattle.indexmap.specs.IndexMap.{spare};
 
     ghost view = { λ h. record {
@@ -62,8 +62,8 @@ impl Model for Holds {
       parcels = parcels_in h.tallies.entries;
     } };
 
-    ghost invariant = { λ h. IsSound h.limit h.rows.entries h.tallies.entries
-        × AreUpTo h.most h.tallies.entries
+    ghost invariant = { λ h. CountsInvariant h.limit h.rows.entries h.tallies.entries
+        × TotalsAreUpTo h.most h.tallies.entries
         × HasPlaces h.sent (spare h.rows) h.tallies.entries };
 }
 
@@ -103,8 +103,8 @@ impl Holds {
     }
 
     /// How many of these handles are in parcels. One look-up.
-    pub fn moving(&self, buffer: BufferName, strength: Strength) -> u32
-        ensures { result ≡ moving self.now buffer strength }
+    pub fn moving_count(&self, buffer: BufferName, strength: Strength) -> u32
+        ensures { result ≡ moving_count self.now buffer strength }
     {
         let kind = HandleKind { buffer, strength };
         tally_of(&self.tallies, kind, self.last.tally(strength)).moving
@@ -198,7 +198,7 @@ impl Holds {
         strength: Strength,
     ) -> Result<(), HoldFault>
         ensures opened { OnOk result (Sets self.old self.new client buffer strength
-            (of self.old client buffer strength + 1) (moving self.old buffer strength) (total self.old buffer strength + 1)) }
+            (of self.old client buffer strength + 1) (moving_count self.old buffer strength) (total self.old buffer strength + 1)) }
         ensures too_many { IsErrOf result HoldFault.TooMany ↔ (total self.old buffer strength ≡ self.old.limit) }
         ensures room { IsTrue (has_handle_room self.old client buffer strength) → IsOkUnless result HoldFault.TooMany }
         ensures err { OnErr result (self.new ≡ self.old) }
@@ -217,7 +217,7 @@ impl Holds {
         near: &mut Spot,
     ) -> Result<(), HoldFault>
         ensures opened { OnOk result (Sets self.old self.new client buffer strength
-            (of self.old client buffer strength + 1) (moving self.old buffer strength) (total self.old buffer strength + 1)) }
+            (of self.old client buffer strength + 1) (moving_count self.old buffer strength) (total self.old buffer strength + 1)) }
         ensures too_many { IsErrOf result HoldFault.TooMany ↔ (total self.old buffer strength ≡ self.old.limit) }
         ensures room { IsTrue (has_handle_room self.old client buffer strength) → IsOkUnless result HoldFault.TooMany }
         ensures err { OnErr result (self.new ≡ self.old) }
@@ -242,7 +242,7 @@ impl Holds {
     pub fn sub(&mut self, client: ClientId, buffer: BufferName, strength: Strength) -> bool
         ensures had { IsTrue result ↔ (0 < of self.old client buffer strength) }
         ensures closed { OnTrue result (Sets self.old self.new client buffer strength
-            (of self.old client buffer strength - 1) (moving self.old buffer strength) (total self.old buffer strength - 1)) }
+            (of self.old client buffer strength - 1) (moving_count self.old buffer strength) (total self.old buffer strength - 1)) }
         ensures unchanged { OnFalse result (self.new ≡ self.old) }
     {
         let kind = HandleKind { buffer, strength };
@@ -280,7 +280,7 @@ impl Holds {
     ) -> Result<bool, NoMemory>
         ensures had { IfOk result (λ had. IsTrue had ↔ (0 < of self.old client buffer strength)) }
         ensures lifted { IfOk result (λ had. OnTrue had (Sets self.old self.new client buffer strength
-            (of self.old client buffer strength - 1) (moving self.old buffer strength + 1) (total self.old buffer strength))) }
+            (of self.old client buffer strength - 1) (moving_count self.old buffer strength + 1) (total self.old buffer strength))) }
         ensures unchanged { IfOk result (λ had. OnFalse had (self.new ≡ self.old)) }
         ensures err { OnErr result (self.new ≡ self.old) }
     {
@@ -305,9 +305,9 @@ impl Holds {
     /// parcel; the limit is not looked at, since the handle is open already. It takes no memory: the
     /// `lift` took what it needs. Two look-ups.
     pub fn land(&mut self, client: ClientId, buffer: BufferName, strength: Strength)
-        requires { 0 < moving self.old buffer strength }
+        requires { 0 < moving_count self.old buffer strength }
         ensures { Sets self.old self.new client buffer strength
-            (of self.old client buffer strength + 1) (moving self.old buffer strength - 1) (total self.old buffer strength) }
+            (of self.old client buffer strength + 1) (moving_count self.old buffer strength - 1) (total self.old buffer strength) }
     {
         let kind = HandleKind { buffer, strength };
         let sent = self.sent - 1;

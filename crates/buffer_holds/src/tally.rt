@@ -1,9 +1,9 @@
 //! The running counts of one kind of handle.
 ghost use Rattle.std.specs.Prelude.{◌≡◌, ◌+◌, ◌<◌, ◌≤◌, ◌↔◌, true, length, IsSome, IfSome, IfNone, None, OnOk, OnErr, IsErrOf, IsOkUnless};
 ghost use Rattle.indexmap.specs.IndexMap.{spare};
-ghost use Rattle.buffer_holds.specs.Kinds.{same_kind};
+ghost use Rattle.buffer_holds.specs.Kinds.{same_handle_kind};
 ghost use Rattle.buffer_holds.specs.Rows.{row_at, count_at, Resets, Raises, StandsAt};
-ghost use Rattle.buffer_holds.specs.Stored.{Opens};
+ghost use Rattle.buffer_holds.specs.Stored.{OpensOne};
 ghost use Rattle.buffer_holds.specs.Sound.{tally_row, tally_at, is_idle, without_client};
 
 use crate::fault::HoldFault;
@@ -172,7 +172,7 @@ pub(crate) fn tally_near(
 // One client less has a row. A tally that says nothing goes.
 pub(crate) fn leave(tallies: &mut Tallies, kind: HandleKind, hint: &Hint)
     requires { 0 < (tally_at tallies.old.entries kind).clients }
-    ensures { Resets same_kind tallies.old.entries tallies.new.entries kind
+    ensures { Resets same_handle_kind tallies.old.entries tallies.new.entries kind
         (tally_row tallies.old.entries kind) (without_client (tally_at tallies.old.entries kind)) }
 {
     let place = tally_place(tallies, kind, hint).unwrap();
@@ -203,7 +203,7 @@ fn open_first(
     requires first { tally_row tallies.old.entries hold.kind ≡ None }
     requires none { row_at rows.old.entries hold ≡ None }
     ensures raised { OnOk result (Raises rows.old.entries rows.new.entries hold) }
-    ensures tallied { OnOk result (Opens rows.old.entries rows.new.entries tallies.old.entries tallies.new.entries hold.kind) }
+    ensures tallied { OnOk result (OpensOne rows.old.entries rows.new.entries tallies.old.entries tallies.new.entries hold.kind) }
     ensures too_many { IsErrOf result HoldFault.TooMany ↔ (0 ≡ limit) }
     ensures more { most.old ≤ most.new }
     ensures most { OnOk result ((tally_at tallies.old.entries hold.kind).total + 1 ≤ most.new) }
@@ -248,7 +248,7 @@ pub(crate) fn open(
     requires with { tally_row tallies.old.entries hold.kind ≡ None → row_at rows.old.entries hold ≡ None }
     requires listed { (tally_at tallies.old.entries hold.kind).clients ≤ length rows.old.entries }
     ensures raised { OnOk result (Raises rows.old.entries rows.new.entries hold) }
-    ensures tallied { OnOk result (Opens rows.old.entries rows.new.entries tallies.old.entries tallies.new.entries hold.kind) }
+    ensures tallied { OnOk result (OpensOne rows.old.entries rows.new.entries tallies.old.entries tallies.new.entries hold.kind) }
     ensures too_many { IsErrOf result HoldFault.TooMany ↔ ((tally_at tallies.old.entries hold.kind).total ≡ limit) }
     ensures room { IsSome (row_at rows.old.entries hold) → IsSome (tally_row tallies.old.entries hold.kind)
         → IsOkUnless result HoldFault.TooMany }

@@ -8,8 +8,8 @@ use Rattle.std.proofs.lemmas.List.Sums.{sum_by-cons}
 use Rattle.sm_names.specs.declared.rules.TheConstants.{MAX_PAGES}
 use Rattle.sm_names.specs.declared.keys.Interval.{Interval}
 use Rattle.buffer_pool.specs.Holes.{end_of, gap, holes_from, holes_of}
-use Rattle.buffer_pool.specs.Holdings.{HasRun, IsPoolSound, in_order, in_run, pages_in, without, without_run}
-use Rattle.buffer_pool.specs.Merging.{spaced, first_begins, joined, released}
+use Rattle.buffer_pool.specs.Holdings.{HasRun, IsPoolSound, in_order, in_run, total_pages, without, without_run}
+use Rattle.buffer_pool.specs.Merging.{spaced, first_begins, with_merged, with_released}
 use Rattle.buffer_pool.proofs.Orders.{first_in_order, in_order-cons, in_order-wider, in_order-at, without-later}
 use Rattle.buffer_pool.proofs.Keeping.{lists_of}
 use Rattle.buffer_pool.proofs.Runs.{in_order-without_run, run-end, without_run-keeps}
@@ -23,7 +23,7 @@ begins-later page low (h ∷ hs) lt s = let f = first_spaced low h hs s in ne_eq
 
 -- what comes back before all holes is joined with the first, if they touch
 released-first : (back : Interval) (low : ℕ) (hs : List Interval) → back.start < low → spaced low hs ≡ true →
-    released back hs ≡ joined back hs
+    with_released back hs ≡ with_merged back hs
 released-first back low [] lt s = refl
 released-first back low (h ∷ hs) lt s =
     let f = first_spaced low h hs s in
@@ -33,7 +33,7 @@ released-first back low (h ∷ hs) lt s =
 
 -- a gap that is joined with pages before it is a longer gap
 joined-gap : (low pages end to : ℕ) (rest : List Interval) → 0 < pages → low + pages ≡ end → end ≤ to → first_begins end rest ≡ false →
-    joined (record { start = low; pages = pages }) (gap end to ++ rest) ≡ gap low to ++ rest
+    with_merged (record { start = low; pages = pages }) (gap end to ++ rest) ≡ gap low to ++ rest
 joined-gap low pages end to rest some is le apart =
     let wide = gap_some low to (omega arith) in
     elim (cases_lt end to) [
@@ -49,7 +49,7 @@ joined-gap low pages end to rest some is le apart =
     ]
 
 joined-holes : (low pages end size : ℕ) (is : List Interval) → 0 < pages → low + pages ≡ end → in_order end size is ≡ true →
-    joined (record { start = low; pages = pages }) (holes_from end size is) ≡ holes_from low size is
+    with_merged (record { start = low; pages = pages }) (holes_from end size is) ≡ holes_from low size is
 joined-holes low pages end size [] some same h =
     let le : end ≤ size = leb-true _ _ h in simp append-nil at (joined-gap low pages end size [] some same le refl)
 joined-holes low pages end size (i ∷ is) some same h =
@@ -60,9 +60,9 @@ joined-holes low pages end size (i ∷ is) some same h =
 
 -- what is so once the interval went back
 pub record GoesBack (low size : ℕ) (back : Interval) (is : List Interval) : Type 0 where
-  pub holes : holes_from low size (without back.start is) ≡ released back (holes_from low size is)
+  pub holes : holes_from low size (without back.start is) ≡ with_released back (holes_from low size is)
   pub in_order : in_order low size (without back.start is) ≡ true
-  pub pages : back.pages + pages_in (without back.start is) ≡ pages_in is
+  pub pages : back.pages + total_pages (without back.start is) ≡ total_pages is
   pub fewer : length (without back.start is) + 1 ≡ length is
 
 -- the first interval goes back
@@ -74,7 +74,7 @@ first_back low size i is h =
     let here : (i.start == i.start) ≡ true = eq-eqb _ _ refl in
     let later : without i.start is ≡ is = without-later i.start (end_of i) size is (omega (arith, f.has_pages)) f.rest in
     let gone : without i.start (i ∷ is) ≡ is = rw here later in
-    let holes : released i (gap low i.start ++ rest) ≡ holes_from low size is =
+    let holes : with_released i (gap low i.start ++ rest) ≡ holes_from low size is =
     elim (cases_lt low i.start) [
       | inl some ↦
           let up : low + (i.start - low) ≡ i.start = omega arith in
@@ -93,7 +93,7 @@ first_back low size i is h =
       holes = ap (holes_from low size) gone ∙ sym holes;
       in_order = subst (λ xs. in_order low size xs ≡ true) (sym gone) (in_order-wider (end_of i) size low size is (omega (arith, f.from))
           (omega arith) f.rest);
-      pages = ap (λ xs. i.pages + pages_in xs) gone ∙ sym (sum_by-cons (λ (x : Interval). x.pages) i is);
+      pages = ap (λ xs. i.pages + total_pages xs) gone ∙ sym (sum_by-cons (λ (x : Interval). x.pages) i is);
       fewer = ap (λ xs. length xs + 1) gone ∙ add-one (length is);
     }
 
@@ -105,23 +105,23 @@ later_back low size back i is h from r =
     let rest : List Interval = holes_from (end_of i) size is in
     let other : (i.start == back.start) ≡ false = ne_eqb _ _ (λ same. absurd (omega (arith, f.has_pages))) in
     let stays : without back.start (i ∷ is) ≡ i ∷ without back.start is = rw other refl in
-    let passes : released back (gap low i.start ++ rest) ≡ gap low i.start ++ released back rest =
+    let passes : with_released back (gap low i.start ++ rest) ≡ gap low i.start ++ with_released back rest =
     elim (cases_lt low i.start) [
       | inl some ↦
           let before : nat_lt (low + (i.start - low)) back.start ≡ true = lt-ltb _ _ (omega (arith, f.has_pages)) in
           rw (gap_some low i.start some, before) refl
       | inr none ↦ rw (gap_none low i.start none) refl
     ] in
-    let more : pages_in (i ∷ is) ≡ i.pages + pages_in is = sum_by-cons (λ (x : Interval). x.pages) i is in
-    let more' : pages_in (i ∷ without back.start is) ≡ i.pages + pages_in (without back.start is) =
+    let more : total_pages (i ∷ is) ≡ i.pages + total_pages is = sum_by-cons (λ (x : Interval). x.pages) i is in
+    let more' : total_pages (i ∷ without back.start is) ≡ i.pages + total_pages (without back.start is) =
     sum_by-cons (λ (x : Interval). x.pages) i (without back.start is) in
-    let pages : back.pages + pages_in (i ∷ without back.start is) ≡ pages_in (i ∷ is) = omega (arith, r.pages) in
+    let pages : back.pages + total_pages (i ∷ without back.start is) ≡ total_pages (i ∷ is) = omega (arith, r.pages) in
     let fewer : length (i ∷ without back.start is) + 1 ≡ length (i ∷ is) = omega (arith, r.fewer) in
     record {
       holes = ap (holes_from low size) stays ∙ ap (λ hs. gap low i.start ++ hs) r.holes ∙ sym passes;
       in_order = subst (λ xs. in_order low size xs ≡ true) (sym stays) (in_order-cons low size i (without back.start is)
           (record { from = f.from; has_pages = f.has_pages; rest = r.in_order }));
-      pages = ap (λ xs. back.pages + pages_in xs) stays ∙ pages;
+      pages = ap (λ xs. back.pages + total_pages xs) stays ∙ pages;
       fewer = ap (λ xs. length xs + 1) stays ∙ fewer;
     }
 
@@ -188,7 +188,7 @@ none-held low size b (i ∷ is) h (suc k) lt at =
 
 -- what comes back right behind a first hole makes it longer
 released-behind : (hole next : Interval) (hs : List Interval) → next.start ≡ end_of hole →
-    released next (hole ∷ hs) ≡ joined (record { start = hole.start; pages = hole.pages + next.pages }) hs
+    with_released next (hole ∷ hs) ≡ with_merged (record { start = hole.start; pages = hole.pages + next.pages }) hs
 released-behind hole next hs same =
     let n : nat_lt (end_of hole) next.start ≡ false = le-ltb _ _ (omega arith) in
     let e : (end_of hole == next.start) ≡ true = eq-eqb _ _ (sym same) in
@@ -196,7 +196,7 @@ released-behind hole next hs same =
 
 -- pages that come back side by side come back as one
 released-twice : (first next : Interval) (hs : List Interval) → next.start ≡ end_of first → none_begins next.start hs ≡ true →
-    released next (released first hs) ≡ released (record { start = first.start; pages = first.pages + next.pages }) hs
+    with_released next (with_released first hs) ≡ with_released (record { start = first.start; pages = first.pages + next.pages }) hs
 unfolding none_begins
 released-twice first next [] same none = released-behind first next [] same
 released-twice first next (h ∷ hs) same none =
@@ -215,20 +215,20 @@ released-twice first next (h ∷ hs) same none =
             (none-first next.start hs p.1) in
             let sum : h.pages + first.pages + next.pages ≡ h.pages + (first.pages + next.pages) = omega arith in
             rw (n, e)
-            (ap (released next) (joined_apart hole hs apart) ∙ released-behind hole next hs last
-            ∙ ap (λ (pages : ℕ). joined (record { start = h.start; pages = pages }) hs) sum)
+            (ap (with_released next) (joined_apart hole hs apart) ∙ released-behind hole next hs last
+            ∙ ap (λ (pages : ℕ). with_merged (record { start = h.start; pages = pages }) hs) sum)
         | inr m ↦
             let apart : first_begins (end_of first) (h ∷ hs) ≡ false = subst (λ page. first_begins page (h ∷ hs) ≡ false) same
             (none-first next.start (h ∷ hs) none) in
-            rw (n, m) (ap (released next) (joined_apart first (h ∷ hs) apart) ∙ released-behind first next (h ∷ hs) same)
+            rw (n, m) (ap (with_released next) (joined_apart first (h ∷ hs) apart) ∙ released-behind first next (h ∷ hs) same)
       ]
     ]
 
 -- what is so once they went back
 pub record RunGoesBack (size start each count : ℕ) (is : List Interval) : Type 0 where
   pub holes : holes_of size (without_run start each count is)
-      ≡ released (record { start = start; pages = count * each }) (holes_of size is)
-  pub pages : count * each + pages_in (without_run start each count is) ≡ pages_in is
+      ≡ with_released (record { start = start; pages = count * each }) (holes_of size is)
+  pub pages : count * each + total_pages (without_run start each count is) ≡ total_pages is
   pub fewer : length (without_run start each count is) + count ≡ length is
 
 run_back : (size start pages n : ℕ) (is : List Interval) → in_order 0 size is ≡ true → HasRun start pages (suc n) is →
@@ -238,7 +238,7 @@ run_back size start pages zero is h run =
     let place : start + 0 * pages ≡ start = omega arith in
     let all : pages ≡ 1 * pages = omega arith in
     record {
-      holes = g.holes ∙ (λ i. released (record { start = place i; pages = all i }) (holes_of size is));
+      holes = g.holes ∙ (λ i. with_released (record { start = place i; pages = all i }) (holes_of size is));
       pages = omega (arith, g.pages);
       fewer = g.fewer;
     }
@@ -252,10 +252,10 @@ run_back size start pages (suc n) is h run =
     (without_run-keeps start pages (suc n) last is some (omega arith) there) in
     let more : suc (suc n) * pages ≡ suc n * pages + pages = suc-mul (suc n) pages in
     record {
-      holes = g.holes ∙ ap (released last) r.holes
+      holes = g.holes ∙ ap (with_released last) r.holes
           ∙ released-twice (record { start = start; pages = suc n * pages }) last (holes_of size is) refl
           (none-held 0 size last is h there.0 there.1 there.2)
-          ∙ ap (λ (all : ℕ). released (record { start = start; pages = all }) (holes_of size is)) (sym more);
+          ∙ ap (λ (all : ℕ). with_released (record { start = start; pages = all }) (holes_of size is)) (sym more);
       pages = omega (arith, r.pages, g.pages);
       fewer = omega (arith, r.fewer, g.fewer);
     }
@@ -267,9 +267,9 @@ pub record KeepsBack (size free : ℕ) (holes held : List Interval) (capacity st
   pub few : length holes ≤ MAX_PAGES
   pub fits : All (λ (h : Interval). end_of h < 4294967296) holes
   pub back_fits : start + count * pages < 4294967296
-  pub room : length (released (record { start = start; pages = count * pages }) holes) ≤ capacity
+  pub room : length (with_released (record { start = start; pages = count * pages }) holes) ≤ capacity
   pub fewer : length (without_run start pages count held) + count ≡ length held
-  pub kept : IsPoolSound size (free + count * pages) (released (record { start = start; pages = count * pages }) holes)
+  pub kept : IsPoolSound size (free + count * pages) (with_released (record { start = start; pages = count * pages }) holes)
       (without_run start pages count held) capacity
 
 keeps_more : (size free : ℕ) (holes held : List Interval) (capacity start pages n : ℕ) → IsPoolSound size free holes held capacity →
@@ -280,7 +280,7 @@ keeps_more size free holes held capacity start pages n k run =
     let order : in_order 0 size left ≡ true = in_order-without_run 0 size start pages (suc n) held k.in_order in
     let g = run_back size start pages n held k.in_order run in
     let end : start + suc n * pages ≤ size = (run-end start pages n size held k.in_order run).1 in
-    let released_is : released back holes ≡ holes_of size left = ap (released back) k.holes_are ∙ sym g.holes in
+    let released_is : with_released back holes ≡ holes_of size left = ap (with_released back) k.holes_are ∙ sym g.holes in
     let fewer = (length-holes 0 size left order).1 in
     let lists = lists_of size free holes held capacity k in
     let small = k.sized.1 in

@@ -11,7 +11,7 @@ use Rattle.buffer_pool.specs.Holes.{end_of}
 use Rattle.buffer_pool.specs.Holdings.{with_interval, with_buffers}
 use Rattle.buffer_pool.proofs.Orders.{length-with_interval, with_interval-rises}
 use Rattle.buffer_pool.proofs.Placing.{length-taken, rooms-some, rooms-taken}
-use Rattle.buffer_pool.specs.Fitting.{too_small, rooms, first_fit, taken, starts_in, left_in, looks_in}
+use Rattle.buffer_pool.specs.Fitting.{too_small, rooms, first_fit, taken, starts_in, holes_after, looks_in}
 
 -- so many buffers of the count are left, and what is so far makes with them what the whole makes
 pub record IsFilling (pages_each count left : ℕ) (holes0 held0 : List Interval) (looks : ℕ) (starts : List ℕ)
@@ -19,7 +19,7 @@ pub record IsFilling (pages_each count left : ℕ) (holes0 held0 : List Interval
   pub has_rooms : left ≤ rooms pages_each holes
   pub starts_are : starts ++ starts_in pages_each left holes ≡ starts_in pages_each count holes0
   pub looks_are : looks + looks_in pages_each left holes ≡ looks_in pages_each count holes0
-  pub holes_are : left_in pages_each left holes ≡ left_in pages_each count holes0
+  pub holes_are : holes_after pages_each left holes ≡ holes_after pages_each count holes0
   pub held_are : with_buffers pages_each (starts_in pages_each left holes) held ≡ with_buffers pages_each
       (starts_in pages_each count holes0) held0
   pub fits : All (λ (h : Interval). end_of h < 4294967296) holes

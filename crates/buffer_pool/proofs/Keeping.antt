@@ -9,7 +9,7 @@ use Rattle.buffer_pool.specs.Holes.{end_of, holes_of}
 use Rattle.buffer_pool.specs.Holdings.{IsPoolSound, with_buffers}
 use Rattle.buffer_pool.specs.Looks.{looks_for}
 use Rattle.buffer_pool.specs.Placing.{PlacesBuffers}
-use Rattle.buffer_pool.specs.Fitting.{rooms, starts_in, left_in, looks_in}
+use Rattle.buffer_pool.specs.Fitting.{rooms, starts_in, holes_after, looks_in}
 use Rattle.buffer_pool.proofs.Gaps.{holes-end, length-holes, spaced-holes}
 use Rattle.buffer_pool.proofs.Spaces.{spaced-begins}
 use Rattle.buffer_pool.proofs.Orders.{in_order-rises, pages_in-le}
@@ -42,7 +42,7 @@ pub record KeepsRun (size free count pages : ℕ) (holes held : List Interval) :
   pub small : count * pages < 4294967296
   pub taken : count * pages ≤ free
   pub kept : (capacity : ℕ) → length held + count ≤ capacity →
-      IsPoolSound size (free - count * pages) (left_in pages count holes) (with_buffers pages (starts_in pages count holes) held) capacity
+      IsPoolSound size (free - count * pages) (holes_after pages count holes) (with_buffers pages (starts_in pages count holes) held) capacity
 
 pub keeps_run : (size free count pages : ℕ) (holes held : List Interval) (capacity : ℕ) → 1 ≤ pages →
     IsPoolSound size free holes held capacity →

@@ -7,7 +7,7 @@ use Rattle.std.proofs.lemmas.List.Sums.{sum_by-cons, prefix_len_passes, prefix_l
 use Rattle.std.proofs.lemmas.List.Sorted.{IsNonDecreasingBy-insert}
 use Rattle.sm_names.specs.declared.keys.Interval.{Interval}
 use Rattle.buffer_pool.specs.Holes.{end_of}
-use Rattle.buffer_pool.specs.Holdings.{in_order, pages_in, with_interval, without}
+use Rattle.buffer_pool.specs.Holdings.{in_order, total_pages, with_interval, without}
 
 -- the parts of an order with a first interval
 pub record IsFirst (low high : ℕ) (i : Interval) (is : List Interval) : Type 0 where
@@ -82,23 +82,23 @@ in_order-rises low high is h j k d le lt =
     ]
 
 -- the intervals of an order have no more pages than there are
-pub pages_in-le : (low high : ℕ) (is : List Interval) → in_order low high is ≡ true → low + pages_in is ≤ high
-pages_in-le low high [] h = let r : low ≤ high = leb-true _ _ h in let n : pages_in [] ≡ 0 = refl in omega arith
+pub pages_in-le : (low high : ℕ) (is : List Interval) → in_order low high is ≡ true → low + total_pages is ≤ high
+pages_in-le low high [] h = let r : low ≤ high = leb-true _ _ h in let n : total_pages [] ≡ 0 = refl in omega arith
 pages_in-le low high (i ∷ is) h =
     let f = first_in_order low high i is h in
-    let r : end_of i + pages_in is ≤ high = pages_in-le (end_of i) high is f.rest in
-    let s : pages_in (i ∷ is) ≡ i.pages + pages_in is = sum_by-cons (λ (i : Interval). i.pages) i is in
+    let r : end_of i + total_pages is ≤ high = pages_in-le (end_of i) high is f.rest in
+    let s : total_pages (i ∷ is) ≡ i.pages + total_pages is = sum_by-cons (λ (i : Interval). i.pages) i is in
     omega (arith, f.from)
 
 -- one more interval has its pages
-pub pages_in-with_interval : (new : Interval) (is : List Interval) → pages_in (with_interval new is) ≡ new.pages + pages_in is
+pub pages_in-with_interval : (new : Interval) (is : List Interval) → total_pages (with_interval new is) ≡ new.pages + total_pages is
 pages_in-with_interval new [] = sum_by-cons (λ (i : Interval). i.pages) new []
 pages_in-with_interval new (i ∷ is) =
-    let s : pages_in (i ∷ is) ≡ i.pages + pages_in is = sum_by-cons (λ (i : Interval). i.pages) i is in
+    let s : total_pages (i ∷ is) ≡ i.pages + total_pages is = sum_by-cons (λ (i : Interval). i.pages) i is in
     elim (cases_Bool (nat_lt i.start new.start)) [
       | inl y ↦
-          let r : pages_in (with_interval new is) ≡ new.pages + pages_in is = pages_in-with_interval new is in
-          let t : pages_in (i ∷ with_interval new is) ≡ i.pages + pages_in (with_interval new is) =
+          let r : total_pages (with_interval new is) ≡ new.pages + total_pages is = pages_in-with_interval new is in
+          let t : total_pages (i ∷ with_interval new is) ≡ i.pages + total_pages (with_interval new is) =
           sum_by-cons (λ (i : Interval). i.pages) i (with_interval new is) in
           rw y (omega arith)
       | inr n ↦ rw n (sum_by-cons (λ (i : Interval). i.pages) new (i ∷ is))

@@ -10,9 +10,9 @@ use Rattle.sm_names.specs.Apart.{at_pages}
 use Rattle.sm_names.specs.Pages.{places}
 use Rattle.sm_names.proofs.PlaceLaws.{places_same}
 use Rattle.buffer_pool.specs.Holes.{end_of, holes_of}
-use Rattle.buffer_pool.specs.Holdings.{in_order, pages_in, with_interval, with_buffers}
+use Rattle.buffer_pool.specs.Holdings.{in_order, total_pages, with_interval, with_buffers}
 use Rattle.buffer_pool.specs.Looks.{looks_at, looks_for}
-use Rattle.buffer_pool.specs.Fitting.{too_small, rooms, first_fit, taken, starts_in, left_in, looks_in}
+use Rattle.buffer_pool.specs.Fitting.{too_small, rooms, first_fit, taken, starts_in, holes_after, looks_in}
 use Rattle.buffer_pool.specs.Merging.{spaced}
 use Rattle.buffer_pool.proofs.Orders.{length-with_interval, pages_in-with_interval}
 use Rattle.buffer_pool.proofs.Spaces.{first_spaced}
@@ -148,10 +148,10 @@ looks_in-bounds pages (suc count) hs one le =
 -- what placing buffers makes of what is held, with these holes
 pub record Run (size pages count : ℕ) (held hs : List Interval) : Type 0 where
   pub places_are : places size pages count held ≡ Some (starts_in pages count hs)
-  pub holes_are : holes_of size (with_buffers pages (starts_in pages count hs) held) ≡ left_in pages count hs
+  pub holes_are : holes_of size (with_buffers pages (starts_in pages count hs) held) ≡ holes_after pages count hs
   pub looks_are : looks_for size pages (starts_in pages count hs) held ≡ looks_in pages count hs
   pub in_order : in_order 0 size (with_buffers pages (starts_in pages count hs) held) ≡ true
-  pub pages_are : pages_in (with_buffers pages (starts_in pages count hs) held) ≡ count * pages + pages_in held
+  pub pages_are : total_pages (with_buffers pages (starts_in pages count hs) held) ≡ count * pages + total_pages held
   pub length_is : length (with_buffers pages (starts_in pages count hs) held) ≡ count + length held
 
 -- the places after the first are those beside it
@@ -174,7 +174,7 @@ run_more size pages count held one order f r =
     let new : Interval = at_pages pages (first_fit pages hs) in
     let look = looks_at-first_fit pages 0 hs (spaced-holes 0 size held order) f.some in
     let more : suc count * pages ≡ count * pages + pages = suc-mul count pages in
-    let added : pages_in (with_interval new held) ≡ pages + pages_in held = pages_in-with_interval new held in
+    let added : total_pages (with_interval new held) ≡ pages + total_pages held = pages_in-with_interval new held in
     record {
       places_are = places-more size pages count held one f ∙ ap (option_map (λ starts. first_fit pages hs ∷ starts)) r.places_are;
       holes_are = r.holes_are;

@@ -8,7 +8,7 @@ use Rattle.std.proofs.lemmas.List.Edits.{length-insert, length-remove}
 use Rattle.std.proofs.lemmas.List.Sums.{prefix_len-le-length}
 use Rattle.sm_names.specs.declared.keys.Interval.{Interval}
 use Rattle.buffer_pool.specs.Holes.{end_of}
-use Rattle.buffer_pool.specs.Merging.{spaced, first_ends, first_begins, joined, merged, released}
+use Rattle.buffer_pool.specs.Merging.{spaced, first_ends, first_begins, with_merged, merged, with_released}
 
 -- the parts of spaced holes with a first
 pub record IsFirst (low : ℕ) (h : Interval) (hs : List Interval) : Type 0 where
@@ -72,7 +72,7 @@ spaced-begins low (h ∷ hs) s (suc j) (suc k) d le lt =
     spaced-begins (end_of h + 1) hs f.rest j k d before within
 
 -- what comes back is merged behind the holes that end before it
-pub released_at : (i : Interval) (hs : List Interval) → released i hs ≡ take (prefix_len (λ (h : Interval). nat_lt (end_of h) i.start) hs)
+pub released_at : (i : Interval) (hs : List Interval) → with_released i hs ≡ take (prefix_len (λ (h : Interval). nat_lt (end_of h) i.start) hs)
     hs ++ merged i (drop (prefix_len (λ (h : Interval). nat_lt (end_of h) i.start) hs) hs)
 released_at i [] = refl
 released_at i (h ∷ hs) =
@@ -92,7 +92,7 @@ first_within test at hs none some =
 -- the three ways of merging
 pub merged_behind : (i hole : Interval) (at : ℕ) (hs : List Interval) → at < length hs → hole ≡ get_or hs at hole →
     first_ends i.start (drop at hs) ≡ true → (end_of hole ≡ i.start) ×
-    (merged i (drop at hs) ≡ joined (record { start = hole.start; pages = hole.pages + i.pages }) (drop (at + 1) hs))
+    (merged i (drop at hs) ≡ with_merged (record { start = hole.start; pages = hole.pages + i.pages }) (drop (at + 1) hs))
 merged_behind i hole at hs lt is ends =
     let parts : drop at hs ≡ hole ∷ drop (at + 1) hs = rw (sym is) at (drop_more hs at hole lt) in
     let e : (end_of hole == i.start) ≡ true = rw parts at ends in
@@ -113,18 +113,18 @@ merged_apart i [] ends begins = refl
 merged_apart i (h ∷ hs) ends begins = rw (ends, begins) refl
 
 -- an interval that does not touch the first stays apart
-pub joined_apart : (i : Interval) (ys : List Interval) → first_begins (end_of i) ys ≡ false → joined i ys ≡ i ∷ ys
+pub joined_apart : (i : Interval) (ys : List Interval) → first_begins (end_of i) ys ≡ false → with_merged i ys ≡ i ∷ ys
 joined_apart i [] begins = refl
 joined_apart i (h ∷ hs) begins = rw begins refl
 
 -- the two ways of joining a hole with the next
 pub join_apart : (hole : Interval) (at : ℕ) (hs : List Interval) → at < length hs → first_begins (end_of hole) (drop (at + 1) hs) ≡ false →
-    set hs at hole ≡ take at hs ++ joined hole (drop (at + 1) hs)
+    set hs at hole ≡ take at hs ++ with_merged hole (drop (at + 1) hs)
 join_apart hole at hs lt begins = rw (joined_apart hole (drop (at + 1) hs) begins, add-one) (set_split hs at hole lt)
 
 pub join_touching : (hole next : Interval) (at : ℕ) (hs : List Interval) → next ≡ get_or hs (at + 1) next →
     first_begins (end_of hole) (drop (at + 1) hs) ≡ true →
-    set (remove hs (at + 1)) at (record { start = hole.start; pages = hole.pages + next.pages }) ≡ take at hs ++ joined hole
+    set (remove hs (at + 1)) at (record { start = hole.start; pages = hole.pages + next.pages }) ≡ take at hs ++ with_merged hole
     (drop (at + 1) hs)
 join_touching hole next at hs is begins =
     let lt : at + 1 < length hs = first_within (first_begins (end_of hole)) (at + 1) hs refl begins in
@@ -142,29 +142,29 @@ join_touching hole next at hs is begins =
 
 -- what comes back, behind the hole at the place, before it, or apart from all
 module _ (i : Interval) (hs : List Interval) (at : ℕ) (found : at ≡ prefix_len (λ (h : Interval). nat_lt (end_of h) i.start) hs) where
-  placed_at : released i hs ≡ take at hs ++ merged i (drop at hs)
-  placed_at = subst (λ n. released i hs ≡ take n hs ++ merged i (drop n hs)) (sym found) (released_at i hs)
+  placed_at : with_released i hs ≡ take at hs ++ merged i (drop at hs)
+  placed_at = subst (λ n. with_released i hs ≡ take n hs ++ merged i (drop n hs)) (sym found) (released_at i hs)
 
   pub released_behind : (hole : Interval) → hole ≡ get_or hs at hole → first_ends i.start (drop at hs) ≡ true →
-      take at hs ++ joined (record { start = hole.start; pages = hole.pages + i.pages }) (drop (at + 1) hs) ≡ released i hs
+      take at hs ++ with_merged (record { start = hole.start; pages = hole.pages + i.pages }) (drop (at + 1) hs) ≡ with_released i hs
   released_behind hole is ends =
       let m = merged_behind i hole at hs (first_within (first_ends i.start) at hs refl ends) is ends in
       sym (placed_at ∙ ap (λ r. take at hs ++ r) m.1)
 
   pub released_before : (hole : Interval) → hole ≡ get_or hs at hole → first_ends i.start (drop at hs) ≡ false →
-      first_begins (end_of i) (drop at hs) ≡ true → set hs at (record { start = i.start; pages = i.pages + hole.pages }) ≡ released i hs
+      first_begins (end_of i) (drop at hs) ≡ true → set hs at (record { start = i.start; pages = i.pages + hole.pages }) ≡ with_released i hs
   released_before hole is ends begins =
       let lt : at < length hs = first_within (first_begins (end_of i)) at hs refl begins in
       let m = merged_before i hole at hs lt is ends begins in
       set_split hs at _ lt ∙ sym (placed_at ∙ ap (λ r. take at hs ++ r) (rw (sym (add-one at)) m.1))
 
   pub released_apart : first_ends i.start (drop at hs) ≡ false → first_begins (end_of i) (drop at hs) ≡ false →
-      insert hs at i ≡ released i hs
+      insert hs at i ≡ with_released i hs
   released_apart ends begins = sym (placed_at ∙ ap (λ r. take at hs ++ r) (merged_apart i (drop at hs) ends begins))
 
   -- there is room for it where it lies apart
   pub room_apart : (capacity : ℕ) → first_ends i.start (drop at hs) ≡ false → first_begins (end_of i) (drop at hs) ≡ false →
-      length (released i hs) ≤ capacity → (at ≤ length hs) × (length hs < capacity)
+      length (with_released i hs) ≤ capacity → (at ≤ length hs) × (length hs < capacity)
   room_apart capacity ends begins room =
       let le : at ≤ length hs = omega (arith, prefix_len-le-length (λ (h : Interval). nat_lt (end_of h) i.start) hs) in
       (le, omega (arith, length-insert hs at i le, ap length (released_apart ends begins)))

@@ -35,9 +35,9 @@ starts_in pages zero holes = []
 starts_in pages (suc n) holes = first_fit pages holes ∷ starts_in pages n (taken pages holes)
 
 -- the holes after so many buffers
-abbrev pub left_in : ℕ → ℕ → List Interval → List Interval
-left_in pages zero holes = holes
-left_in pages (suc n) holes = left_in pages n (taken pages holes)
+abbrev pub holes_after : ℕ → ℕ → List Interval → List Interval
+holes_after pages zero holes = holes
+holes_after pages (suc n) holes = holes_after pages n (taken pages holes)
 
 -- the holes that a search from the first looks at, buffer by buffer
 abbrev pub looks_in : ℕ → ℕ → List Interval → ℕ

@@ -24,8 +24,8 @@ pub record IsSound (pool : Holdings) : Type 0 where
   pub inside : All (λ i. (0 < i.pages) × (end_of i ≤ pool.size)) pool.held
 
 -- how many pages the intervals have together
-abbrev pub pages_in : List Interval → ℕ
-pages_in is = sum_by (λ i. i.pages) is
+abbrev pub total_pages : List Interval → ℕ
+total_pages is = sum_by (λ i. i.pages) is
 
 -- the intervals with one more, in order of page
 abbrev pub with_interval : Interval → List Interval → List Interval
@@ -59,5 +59,5 @@ pub record IsPoolSound (size free : ℕ) (holes held : List Interval) (capacity 
   pub sized : (1 ≤ size) × (size ≤ MAX_PAGES)
   pub in_order : IsTrue (in_order 0 size held)
   pub holes_are : holes ≡ holes_of size held
-  pub free_are : free + pages_in held ≡ size
+  pub free_are : free + total_pages held ≡ size
   pub has_capacity : length held ≤ capacity

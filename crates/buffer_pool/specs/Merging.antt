@@ -19,16 +19,16 @@ first_begins page [] = false
 first_begins page (h ∷ hs) = h.start == page
 
 -- an interval before holes, as one with the first where they touch
-abbrev pub joined : Interval → List Interval → List Interval
-joined i [] = i ∷ []
-joined i (h ∷ hs) = if h.start == end_of i then record { start = i.start; pages = i.pages + h.pages } ∷ hs else i ∷ h ∷ hs
+abbrev pub with_merged : Interval → List Interval → List Interval
+with_merged i [] = i ∷ []
+with_merged i (h ∷ hs) = if h.start == end_of i then record { start = i.start; pages = i.pages + h.pages } ∷ hs else i ∷ h ∷ hs
 
 -- an interval that comes back at the front of holes, of which it may touch the first on either side
 abbrev pub merged : Interval → List Interval → List Interval
 merged i [] = i ∷ []
-merged i (h ∷ hs) = if end_of h == i.start then joined (record { start = h.start; pages = h.pages + i.pages }) hs else joined i (h ∷ hs)
+merged i (h ∷ hs) = if end_of h == i.start then with_merged (record { start = h.start; pages = h.pages + i.pages }) hs else with_merged i (h ∷ hs)
 
 -- the holes once an interval comes back
-abbrev pub released : Interval → List Interval → List Interval
-released i [] = i ∷ []
-released i (h ∷ hs) = if nat_lt (end_of h) i.start then h ∷ released i hs else merged i (h ∷ hs)
+abbrev pub with_released : Interval → List Interval → List Interval
+with_released i [] = i ∷ []
+with_released i (h ∷ hs) = if nat_lt (end_of h) i.start then h ∷ with_released i hs else merged i (h ∷ hs)

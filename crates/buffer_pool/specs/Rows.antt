@@ -9,7 +9,7 @@ use Rattle.buffer_pool.specs.Fitting.{too_small}
 use Rattle.buffer_pool.specs.Holes.{end_of}
 
 -- the intervals, and how many there can be before there have to be more blocks
-pub record Listed : Type 0 where
+pub record BlockRows : Type 0 where
   pub items : List Interval
   pub capacity : ℕ
 
@@ -27,21 +27,21 @@ abbrev pub all_in : List (List Interval) → List Interval
 all_in lists = flat_map (λ (b : List Interval). b) lists
 
 -- how many intervals lie before a spot
-abbrev pub place_of : List (List Interval) → Spot → ℕ
-place_of lists spot = length (all_in (take spot.block lists)) + spot.offset
+abbrev pub spot_index : List (List Interval) → Spot → ℕ
+spot_index lists spot = length (all_in (take spot.block lists)) + spot.offset
 
 -- an interval lies at the spot
-abbrev pub IsTaken : List (List Interval) → Spot → Type 0
-IsTaken lists spot = (spot.block < length lists) × (spot.offset < length (get_or lists spot.block []))
+abbrev pub HasIntervalAt : List (List Interval) → Spot → Type 0
+HasIntervalAt lists spot = (spot.block < length lists) × (spot.offset < length (get_or lists spot.block []))
 
 -- an interval can be put in before the spot: in a block, or in a new one behind the last
-abbrev pub IsOpen : List (List Interval) → Spot → Type 0
-IsOpen lists spot = (spot.block ≤ length lists) × (spot.offset ≤ length (get_or lists spot.block []))
+abbrev pub IsInsertSpot : List (List Interval) → Spot → Type 0
+IsInsertSpot lists spot = (spot.block ≤ length lists) × (spot.offset ≤ length (get_or lists spot.block []))
 
 -- an interval lies at the spot, or none lies behind it
-pub record IsSettled (lists : List (List Interval)) (spot : Spot) : Type 0 where
-  pub within : IsOpen lists spot
-  pub taken : place_of lists spot < length (all_in lists) → IsTaken lists spot
+pub record IsNextOrEnd (lists : List (List Interval)) (spot : Spot) : Type 0 where
+  pub within : IsInsertSpot lists spot
+  pub taken : spot_index lists spot < length (all_in lists) → HasIntervalAt lists spot
 
 -- a change at a spot made these intervals, and left the blocks before it alone
 pub record IsChanged (old new : Blocked) (spot : Spot) (items : List Interval) : Type 0 where
@@ -69,6 +69,6 @@ pub record AreBlocks (used spare : List (List Interval)) (used_room spare_room :
 
 -- where a search can start: it is known how many intervals lie in the blocks before, and none up to there has so many pages
 pub record IsPassed (pages : ℕ) (reach : Reach) (lists : List (List Interval)) : Type 0 where
-  pub within : IsOpen lists reach.spot
+  pub within : IsInsertSpot lists reach.spot
   pub before : reach.before ≡ length (all_in (take reach.spot.block lists))
-  pub passed : place_of lists reach.spot ≤ prefix_len (too_small pages) (all_in lists)
+  pub passed : spot_index lists reach.spot ≤ prefix_len (too_small pages) (all_in lists)

@@ -4,7 +4,7 @@ ghost use Rattle.std.specs.List.{insert, remove, remove_range, prefix_len};
 ghost use Rattle.std.specs.List.Sorted.{IsNonDecreasingBy};
 ghost use Rattle.sm_names.specs.declared.keys.Interval.{Interval};
 ghost use Rattle.buffer_pool.specs.Fitting.{too_small, rooms};
-ghost use Rattle.buffer_pool.specs.Rows.{capacity_of, all_in, place_of, IsTaken, IsOpen, IsSettled, IsChanged, IsPassed, edge_of};
+ghost use Rattle.buffer_pool.specs.Rows.{capacity_of, all_in, spot_index, HasIntervalAt, IsInsertSpot, IsNextOrEnd, IsChanged, IsPassed, edge_of};
 
 use crate::block::{Block, FULL, HALF, edge, next_guess, place_to_look};
 use sm_names::{Interval, MAX_PAGES};
@@ -108,25 +108,25 @@ impl Blocks {
 
     /// The interval at a spot.
     pub(crate) fn get(&self, spot: Spot) -> Interval
-        requires { IsTaken self.now.lists spot }
-        ensures { result ≡ slice_index_or (all_in self.now.lists) (place_of self.now.lists spot) result }
+        requires { HasIntervalAt self.now.lists spot }
+        ensures { result ≡ slice_index_or (all_in self.now.lists) (spot_index self.now.lists spot) result }
     {
         self.used[spot.block].get(spot.offset)
     }
 
     /// Whether an interval lies at the spot.
-    pub(crate) fn is_taken(&self, spot: Spot) -> bool
-        ensures yes { result ≡ true → IsTaken self.now.lists spot }
-        ensures no { result ≡ false → IsTaken self.now.lists spot → ⊥ }
+    pub(crate) fn has_interval(&self, spot: Spot) -> bool
+        ensures yes { result ≡ true → HasIntervalAt self.now.lists spot }
+        ensures no { result ≡ false → HasIntervalAt self.now.lists spot → ⊥ }
     {
         spot.block < self.used.len() && spot.offset < self.used[spot.block].len()
     }
 
     /// The same place, as the first spot of the next block where it lies behind the last of one.
     pub(crate) fn settle(&self, spot: Spot) -> Spot
-        requires { IsOpen self.now.lists spot }
-        ensures settled { IsSettled self.now.lists result }
-        ensures place { place_of self.now.lists result ≡ place_of self.now.lists spot }
+        requires { IsInsertSpot self.now.lists spot }
+        ensures settled { IsNextOrEnd self.now.lists result }
+        ensures place { spot_index self.now.lists result ≡ spot_index self.now.lists spot }
         ensures block { spot.block ≤ result.block }
     {
         if spot.block < self.used.len() && spot.offset == self.used[spot.block].len() {
@@ -142,8 +142,8 @@ impl Blocks {
     /// The spot behind all that end before this page, or that begin before it.
     pub(crate) fn find(&self, page: u64, by_end: bool) -> Spot
         requires { IsNonDecreasingBy (edge_of by_end) (all_in self.now.lists) }
-        ensures within { IsOpen self.now.lists result }
-        ensures place { place_of self.now.lists result
+        ensures within { IsInsertSpot self.now.lists result }
+        ensures place { spot_index self.now.lists result
             ≡ prefix_len (λ i. nat_lt (edge_of by_end i) page) (all_in self.now.lists) }
     {
         let block = block_of(&self.used, page, by_end, self.near.block);
@@ -156,9 +156,9 @@ impl Blocks {
 
     /// Puts another interval in the place of one.
     pub(crate) fn set(&mut self, spot: Spot, new: Interval)
-        requires { IsTaken self.old.lists spot }
+        requires { HasIntervalAt self.old.lists spot }
         ensures changed { IsChanged self.old self.new spot
-            (set (all_in self.old.lists) (place_of self.old.lists spot) new) }
+            (set (all_in self.old.lists) (spot_index self.old.lists spot) new) }
         ensures lists { self.new.lists ≡ set self.old.lists spot.block
             (set (get_or self.old.lists spot.block []) spot.offset new) }
     {
@@ -168,10 +168,10 @@ impl Blocks {
 
     /// Puts an interval in before a spot.
     pub(crate) fn insert(&mut self, spot: Spot, new: Interval)
-        requires within { IsOpen self.old.lists spot }
+        requires within { IsInsertSpot self.old.lists spot }
         requires spare { 0 < self.old.spares }
         ensures { IsChanged self.old self.new spot
-            (insert (all_in self.old.lists) (place_of self.old.lists spot) new) }
+            (insert (all_in self.old.lists) (spot_index self.old.lists spot) new) }
     {
         if spot.block == self.used.len() {
             self.begin(spot.block, new);
@@ -195,22 +195,22 @@ impl Blocks {
 
     /// Takes the interval at a spot out.
     pub(crate) fn remove(&mut self, spot: Spot)
-        requires { IsTaken self.old.lists spot }
+        requires { HasIntervalAt self.old.lists spot }
         ensures changed { IsChanged self.old self.new spot
-            (remove (all_in self.old.lists) (place_of self.old.lists spot)) }
-        ensures within { IsOpen self.new.lists spot }
+            (remove (all_in self.old.lists) (spot_index self.old.lists spot)) }
+        ensures within { IsInsertSpot self.new.lists spot }
     {
         self.remove_run(spot, 1);
     }
 
     /// Takes intervals from a spot on out, at most so many, and none of the next block. Answers how many.
     pub(crate) fn remove_run(&mut self, spot: Spot, most: usize) -> usize
-        requires there { IsTaken self.old.lists spot }
+        requires there { HasIntervalAt self.old.lists spot }
         requires some { 1 ≤ most }
         ensures count { (1 ≤ result) × (result ≤ most) }
         ensures changed { IsChanged self.old self.new spot (remove_range (all_in self.old.lists)
-            (place_of self.old.lists spot) (place_of self.old.lists spot + result)) }
-        ensures within { IsOpen self.new.lists spot }
+            (spot_index self.old.lists spot) (spot_index self.old.lists spot + result)) }
+        ensures within { IsInsertSpot self.new.lists spot }
     {
         let count = most.min(self.used[spot.block].len() - spot.offset);
         self.used[spot.block].remove_run(spot.offset, count);
@@ -329,9 +329,9 @@ impl Blocks {
         requires few { length (all_in self.old.lists) ≤ MAX_PAGES }
         requires from { IsPassed pages_each from self.old.lists }
         ensures passed { IsPassed pages_each result self.old.lists }
-        ensures found { place_of self.old.lists result.spot
+        ensures found { spot_index self.old.lists result.spot
             ≡ prefix_len (too_small pages_each) (all_in self.old.lists) }
-        ensures taken { IsSettled self.old.lists result.spot }
+        ensures taken { IsNextOrEnd self.old.lists result.spot }
         ensures same { self.new ≡ self.old }
     {
         let mut block = from.spot.block;
@@ -357,8 +357,8 @@ impl Blocks {
     /// Whether there is room for so many buffers, where before this spot there is none.
     pub(crate) fn has_rooms(&self, from: Spot, count: u32, pages_each: u32) -> bool
         requires pages { 1 ≤ pages_each }
-        requires within { IsOpen self.now.lists from }
-        requires first { place_of self.now.lists from ≡ prefix_len (too_small pages_each) (all_in self.now.lists) }
+        requires within { IsInsertSpot self.now.lists from }
+        requires first { spot_index self.now.lists from ≡ prefix_len (too_small pages_each) (all_in self.now.lists) }
         ensures { result ≡ nat_le count (rooms pages_each (all_in self.now.lists)) }
     {
         let mut left = count;

@@ -4,8 +4,8 @@ ghost use Rattle.std.specs.List.{prefix_len};
 ghost use Rattle.sm_names.specs.declared.keys.Interval.{Interval};
 ghost use Rattle.buffer_pool.specs.Holes.{end_of};
 ghost use Rattle.buffer_pool.specs.Fitting.{too_small, rooms, first_fit, taken};
-ghost use Rattle.buffer_pool.specs.Merging.{spaced, first_ends, first_begins, joined, released};
-ghost use Rattle.buffer_pool.specs.Rows.{all_in, place_of, capacity_of, IsTaken, IsOpen, IsSettled, IsChanged, IsPassed};
+ghost use Rattle.buffer_pool.specs.Merging.{spaced, first_ends, first_begins, with_merged, with_released};
+ghost use Rattle.buffer_pool.specs.Rows.{all_in, spot_index, capacity_of, HasIntervalAt, IsInsertSpot, IsNextOrEnd, IsChanged, IsPassed};
 
 use crate::block::edge;
 use crate::blocks::{Blocks, Reach, Spot};
@@ -33,9 +33,9 @@ pub(crate) struct Holes {
 }
 
 impl Model for Holes {
-    ghost use Rattle.buffer_pool.specs.Rows.{Listed, all_in, capacity_of, IsPassed};
+    ghost use Rattle.buffer_pool.specs.Rows.{BlockRows, all_in, capacity_of, IsPassed};
 
-    ghost Value = { Listed };
+    ghost Value = { BlockRows };
 
     ghost view = { λ h. record { items = all_in h.blocks.lists; capacity = capacity_of h.blocks } };
 
@@ -111,8 +111,8 @@ impl Holes {
         requires few { length self.old.items ≤ MAX_PAGES }
         requires fits { All (λ h. end_of h < 2 ^ 32) self.old.items }
         requires back_fits { end_of back < 2 ^ 32 }
-        requires room { length (released back self.old.items) ≤ self.old.capacity }
-        ensures items { self.new.items ≡ released back self.old.items }
+        requires room { length (with_released back self.old.items) ≤ self.old.capacity }
+        ensures items { self.new.items ≡ with_released back self.old.items }
         ensures capacity { self.new.capacity ≡ self.old.capacity }
     {
         let reach = loosened(&mut self.blocks, self.reach);
@@ -130,9 +130,9 @@ fn seek(blocks: &mut Blocks, known: u32, reach: Reach, pages_each: u32) -> Reach
     requires few { length (all_in blocks.old.lists) ≤ MAX_PAGES }
     requires known { IsPassed known reach blocks.old.lists }
     ensures passed { IsPassed pages_each result blocks.old.lists }
-    ensures found { place_of blocks.old.lists result.spot
+    ensures found { spot_index blocks.old.lists result.spot
         ≡ prefix_len (too_small pages_each) (all_in blocks.old.lists) }
-    ensures settled { IsSettled blocks.old.lists result.spot }
+    ensures settled { IsNextOrEnd blocks.old.lists result.spot }
     ensures same { blocks.new ≡ blocks.old }
 {
     if known <= pages_each {
@@ -177,12 +177,12 @@ fn lowered(reach: Reach, spot: Spot) -> Reach
 
 // Takes pages from the front of the first hole that is not too small, and gives their start.
 fn shorten(blocks: &mut Blocks, spot: Spot, pages_each: u32) -> u32
-    requires first { place_of blocks.old.lists spot ≡ prefix_len (too_small pages_each) (all_in blocks.old.lists) }
-    requires some { IsTaken blocks.old.lists spot }
+    requires first { spot_index blocks.old.lists spot ≡ prefix_len (too_small pages_each) (all_in blocks.old.lists) }
+    requires some { HasIntervalAt blocks.old.lists spot }
     requires fits { All (λ h. end_of h < 2 ^ 32) (all_in blocks.old.lists) }
     ensures start { result ≡ first_fit pages_each (all_in blocks.old.lists) }
     ensures changed { IsChanged blocks.old blocks.new spot (taken pages_each (all_in blocks.old.lists)) }
-    ensures within { IsOpen blocks.new.lists spot }
+    ensures within { IsInsertSpot blocks.new.lists spot }
 {
     let hole = blocks.get(spot);
     if hole.pages == pages_each {
@@ -199,28 +199,29 @@ fn shorten(blocks: &mut Blocks, spot: Spot, pages_each: u32) -> u32
 
 // Whether there is a hole at this spot that ends at this page.
 fn ends_at(blocks: &Blocks, spot: Spot, page: u32) -> bool
-    requires { IsSettled blocks.now.lists spot }
-    ensures { result ≡ first_ends page (drop (place_of blocks.now.lists spot) (all_in blocks.now.lists)) }
+    requires { IsNextOrEnd blocks.now.lists spot }
+    ensures { result ≡ first_ends page (drop (spot_index blocks.now.lists spot) (all_in blocks.now.lists)) }
 {
-    blocks.is_taken(spot) && edge(blocks.get(spot), true) == u64::from(page)
+    blocks.has_interval(spot) && edge(blocks.get(spot), true) == u64::from(page)
 }
 
 // Whether there is a hole at this spot that begins at this page.
 fn begins_at(blocks: &Blocks, spot: Spot, page: u64) -> bool
-    requires { IsSettled blocks.now.lists spot }
-    ensures { result ≡ first_begins page (drop (place_of blocks.now.lists spot) (all_in blocks.now.lists)) }
+    requires { IsNextOrEnd blocks.now.lists spot }
+    ensures { result ≡ first_begins page (drop (spot_index blocks.now.lists spot) (all_in blocks.now.lists)) }
 {
-    blocks.is_taken(spot) && edge(blocks.get(spot), false) == page
+    blocks.has_interval(spot) && edge(blocks.get(spot), false) == page
 }
 
 // Makes one hole of this and the next, if they touch.
 fn join_next(blocks: &mut Blocks, spot: Spot, hole: Interval)
-    requires there { IsTaken blocks.old.lists spot }
+    requires there { HasIntervalAt blocks.old.lists spot }
     requires few { length (all_in blocks.old.lists) ≤ MAX_PAGES }
     requires fits { All (λ h. end_of h < 2 ^ 32) (all_in blocks.old.lists) }
     ensures { IsChanged blocks.old blocks.new spot
-        (take (place_of blocks.old.lists spot) (all_in blocks.old.lists)
-        ++ joined hole (drop (place_of blocks.old.lists spot + 1) (all_in blocks.old.lists))) }
+        (take (spot_index blocks.old.lists spot) (all_in blocks.old.lists)
+        ++ with_merged hole
+        (drop (spot_index blocks.old.lists spot + 1) (all_in blocks.old.lists))) }
 {
     let behind = Spot {
         block: spot.block,
@@ -242,15 +243,15 @@ fn join_next(blocks: &mut Blocks, spot: Spot, hole: Interval)
 
 // Puts pages back at the spot before which all holes end before them.
 fn put_back(blocks: &mut Blocks, spot: Spot, back: Interval)
-    requires settled { IsSettled blocks.old.lists spot }
-    requires found { place_of blocks.old.lists spot
+    requires settled { IsNextOrEnd blocks.old.lists spot }
+    requires found { spot_index blocks.old.lists spot
         ≡ prefix_len (λ h. nat_lt (end_of h) back.start) (all_in blocks.old.lists) }
     requires few { length (all_in blocks.old.lists) ≤ MAX_PAGES }
     requires fits { All (λ h. end_of h < 2 ^ 32) (all_in blocks.old.lists) }
     requires back_fits { end_of back < 2 ^ 32 }
-    requires room { length (released back (all_in blocks.old.lists)) ≤ capacity_of blocks.old }
+    requires room { length (with_released back (all_in blocks.old.lists)) ≤ capacity_of blocks.old }
     requires spare { length (all_in blocks.old.lists) < capacity_of blocks.old → 0 < blocks.old.spares }
-    ensures { IsChanged blocks.old blocks.new spot (released back (all_in blocks.old.lists)) }
+    ensures { IsChanged blocks.old blocks.new spot (with_released back (all_in blocks.old.lists)) }
 {
     if ends_at(blocks, spot, back.start) {
         let before = blocks.get(spot);

@@ -2,8 +2,8 @@
 ghost use Rattle.std.specs.Prelude.{◌≡◌, ◌+◌, ◌<◌, ◌≤◌, ◌↔◌, [], length, vec_capacity, ◌^◌, IfOk, OnErr, OnOk, None, Err, All, Contains};
 ghost use Rattle.std.specs.List.Sorted.{IsNonDecreasingBy};
 ghost use Rattle.sm_names.specs.Pages.{places};
-ghost use Rattle.buffer_pool.specs.Fitting.{rooms, starts_in, left_in, looks_in};
-ghost use Rattle.buffer_pool.specs.Holdings.{HasRun, IsSound, pages_in, with_buffers, without, without_run};
+ghost use Rattle.buffer_pool.specs.Fitting.{rooms, starts_in, holes_after, looks_in};
+ghost use Rattle.buffer_pool.specs.Holdings.{HasRun, IsSound, total_pages, with_buffers, without, without_run};
 ghost use Rattle.buffer_pool.specs.Holes.{end_of};
 ghost use Rattle.buffer_pool.specs.Placing.{PlacesBuffers};
 ghost use Rattle.buffer_pool.specs.Rows.{all_in, capacity_of};
@@ -160,7 +160,7 @@ impl Pool {
 
     /// How many pages nobody holds. It takes no memory, and costs one read.
     pub fn free_pages(&self) -> u32
-        ensures free { result + pages_in self.now.held ≡ self.now.size }
+        ensures free { result + total_pages self.now.held ≡ self.now.size }
         ensures sound { IsSound self.now }
     {
         self.free
@@ -210,7 +210,7 @@ fn fill(
     requires starts_room { count ≤ vec_capacity starts }
     ensures starts { result.starts.items ≡ starts_in pages_each count holes.old.items }
     ensures looks { result.looks ≡ looks_in pages_each count holes.old.items }
-    ensures holes { holes.new.items ≡ left_in pages_each count holes.old.items }
+    ensures holes { holes.new.items ≡ holes_after pages_each count holes.old.items }
     ensures held { all_in held.new.lists
         ≡ with_buffers pages_each (starts_in pages_each count holes.old.items) (all_in held.old.lists) }
     ensures capacity { holes.new.capacity ≡ holes.old.capacity }

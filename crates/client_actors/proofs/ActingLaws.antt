@@ -13,20 +13,20 @@ use Rattle.sm_names.specs.declared.outcomes.StepFault.{StepFault}
 use Rattle.event_laws.specs.declared.own.Own.{Own}
 use Rattle.client_ends.specs.declared.held.End.{End}
 use Rattle.client_ends.specs.Clients.{Grip, Made, Seen, last_reply}
-use Rattle.client_parting.specs.Partings.{AreOf as AreTheirs, Token, Collection, Handle, owner_of, sorted}
-use Rattle.client_parting.specs.Stacks.{kept_things}
+use Rattle.client_parting.specs.Partings.{AllHeldBy, Token, Collection, Handle, owner_of, sorted}
+use Rattle.client_parting.specs.Stacks.{kept_objects}
 use Rattle.client_parting.proofs.BackLaws.{sorted_own}
-use Rattle.actor_scripts.specs.declared.thing.Asked.{Asked}
-use Rattle.actor_scripts.specs.declared.thing.Thing.{Thing}
-use Rattle.actor_scripts.specs.Desks.{FitsThere, bound, emptied, given, handles_from, on_of, spends, thing_at}
-use Rattle.client_actors.specs.declared.brought.Brought.{Brought}
-use Rattle.client_actors.specs.Asking.{AreOf, Did, IsOf, full, handle_seen, lies, slots_for, there, things_in}
-use Rattle.client_actors.specs.Acting.{Answers, Asks, left_in, left_of, pairs_of, part_of}
+use Rattle.actor_scripts.specs.declared.object.StepCall.{StepCall}
+use Rattle.actor_scripts.specs.declared.object.Object.{Object}
+use Rattle.actor_scripts.specs.ActorStates.{FitsThere, bound, emptied, new_objects, handles_from, on_of, spends_object, object_at}
+use Rattle.client_actors.specs.declared.new_objects.NewObjects.{NewObjects}
+use Rattle.client_actors.specs.Asking.{NewHeldBy, Did, SlotHeldBy, full, handle_seen, lies, slots_for, there, objects_in}
+use Rattle.client_actors.specs.Acting.{MakesCall, Asks, last_objects_first, objects_in_slots, pairs_of, part_of}
 
 -- ---- one slot
 
 -- where something takes the call, there is a slot
-pub within : {E S W : Type 0} (items : List (Option (End E S W))) (slot : ℕ) (call : Call) → FitsThere (thing_at (lies items) slot) call →
+pub within : {E S W : Type 0} (items : List (Option (End E S W))) (slot : ℕ) (call : Call) → FitsThere (object_at (lies items) slot) call →
     slot < length items
 within [] slot call fits = absurd fits
 within (x ∷ xs) zero call fits = omega arith
@@ -35,12 +35,12 @@ within (x ∷ xs) (suc slot) call fits = let more = within xs slot call fits in 
 -- what lies there
 pub at_slot : {E S W : Type 0} (items : List (Option (End E S W))) (slot : ℕ) (on : Option (End E S W)) → slot < length items →
     on ≡ slice_index_or items slot on →
-    thing_at (lies items) slot ≡ there on
+    object_at (lies items) slot ≡ there on
 at_slot [] slot on lt is = absurd (omega (arith, lt))
 at_slot (x ∷ xs) zero on lt is = sym (ap there is)
 at_slot (x ∷ xs) (suc slot) on lt is = at_slot xs slot on (omega (arith, lt)) is
 
--- the same thing put back changes nothing
+-- the same object put back changes nothing
 set_same : {E S W : Type 0} (items : List (Option (End E S W))) (slot : ℕ) (on : Option (End E S W)) → slot < length items →
     on ≡ slice_index_or items slot on →
     set (lies items) slot (there on) ≡ lies items
@@ -48,7 +48,7 @@ set_same [] slot on lt is = refl
 set_same (x ∷ xs) zero on lt is = ap (λ o. there o ∷ lies xs) is
 set_same (x ∷ xs) (suc slot) on lt is = ap (λ l. there x ∷ l) (set_same xs slot on (omega (arith, lt)) is)
 
--- a thing is gone, or still there
+-- an object is gone, or still there
 set_if : {E S W : Type 0} (items : List (Option (End E S W))) (slot : ℕ) (on : Option (End E S W)) → slot < length items →
     on ≡ slice_index_or items slot on → (gone : Bool) →
     set (lies items) slot (if gone then None else there on) ≡ (if gone then emptied (lies items) (Some slot) else lies items)
@@ -57,7 +57,7 @@ set_if items slot on lt is false = set_same items slot on lt is
 
 -- a call on what lies in a slot
 pub asks_at : {E S W : Type 0} (old new : Seen) (call : Call) (items items' : List (Option (End E S W))) (slot : ℕ)
-    (on on' : Option (End E S W)) (brought : Brought E S W) →
+    (on on' : Option (End E S W)) (brought : NewObjects E S W) →
     slot < length items → on ≡ slice_index_or items slot on → items' ≡ set items slot on' →
     Did old new call (there on) (there on') brought →
     Asks old new call (Some slot) (lies items) (lies items') brought
@@ -65,14 +65,14 @@ asks_at old new call items items' slot on on' brought lt is put did = record {
   reply = did.reply;
   made = did.made;
   left = ap lies put ∙ (map-set there items slot on' ∙ (ap (set (lies items) slot) did.left
-      ∙ set_if items slot on lt is (spends call did.reply)));
-  things = did.things ∙ ap (λ o. given o call did.reply) (sym (at_slot items slot on lt is));
+      ∙ set_if items slot on lt is (spends_object call did.reply)));
+  objects = did.objects ∙ ap (λ o. new_objects o call did.reply) (sym (at_slot items slot on lt is));
   owned = did.owned;
 }
 
 -- whatever comes of it
 pub asks_there : {E S W : Type 0} (old new : Seen) (call : Call) (told : Option ℕ) (items : List (Option (End E S W))) (slot : ℕ)
-    (on on' : Option (End E S W)) (result : Result (Brought E S W) StepFault) →
+    (on on' : Option (End E S W)) (result : Result (NewObjects E S W) StepFault) →
     told ≡ Some slot → slot < length items → on ≡ slice_index_or items slot on →
     MatchResult result (λ b. Did old new call (there on) (there on') b) (λ _. (new ≡ old) × (on' ≡ on)) →
     MatchResult result (λ b. Asks old new call told (lies items) (lies (set items slot on')) b) (λ _. (new ≡ old) ×
@@ -88,49 +88,49 @@ handles_seen : (E S W : Type 0) (hs : List Grip) → lies {E = E} {S = S} {W = W
 handles_seen E S W [] = refl
 handles_seen E S W (h ∷ hs) = ap (λ l. Some (handle_seen h) ∷ l) (handles_seen E S W hs)
 
-brought_seen : {E S W : Type 0} (brought : Brought E S W) → lies (slots_for brought) ≡ map Some (things_in brought)
-brought_seen Brought.Nothing = refl
-brought_seen (Brought.One end) = refl
-brought_seen (Brought.Handles handles) = handles_seen _ _ _ handles.items
-brought_seen (Brought.Tracker tracker) = refl
+brought_seen : {E S W : Type 0} (brought : NewObjects E S W) → lies (slots_for brought) ≡ map Some (objects_in brought)
+brought_seen NewObjects.Nothing = refl
+brought_seen (NewObjects.One end) = refl
+brought_seen (NewObjects.Handles handles) = handles_seen _ _ _ handles.items
+brought_seen (NewObjects.Tracker tracker) = refl
 
--- as many as there are things
-as_many : {E S W : Type 0} (brought : Brought E S W) → length (slots_for brought) ≡ length (things_in brought)
-as_many Brought.Nothing = refl
-as_many (Brought.One end) = refl
-as_many (Brought.Handles handles) = length-map handles.items full ∙ sym (length-map handles.items handle_seen)
-as_many (Brought.Tracker tracker) = refl
+-- as many as there are objects
+as_many : {E S W : Type 0} (brought : NewObjects E S W) → length (slots_for brought) ≡ length (objects_in brought)
+as_many NewObjects.Nothing = refl
+as_many (NewObjects.One end) = refl
+as_many (NewObjects.Handles handles) = length-map handles.items full ∙ sym (length-map handles.items handle_seen)
+as_many (NewObjects.Tracker tracker) = refl
 
 -- they are the client's
 full_owned : {E S W : Type 0} (client : ℕ) (hs : List Grip) → All (λ (h : Grip). h.client ≡ client) hs →
-    All (IsOf {E = E} {S = S} {W = W} client) (map full hs)
-full_owned client [] all = All-nil (IsOf client)
-full_owned client (h ∷ hs) all = All-cons (IsOf client) (full h) (map full hs) (All-head (λ (x : Grip). x.client ≡ client) h hs all)
+    All (SlotHeldBy {E = E} {S = S} {W = W} client) (map full hs)
+full_owned client [] all = All-nil (SlotHeldBy client)
+full_owned client (h ∷ hs) all = All-cons (SlotHeldBy client) (full h) (map full hs) (All-head (λ (x : Grip). x.client ≡ client) h hs all)
     (full_owned client hs (All-tail (λ (x : Grip). x.client ≡ client) h hs all))
 
-pub stored_owned : {E S W : Type 0} (client : ℕ) (slots : List (Option (End E S W))) (brought : Brought E S W) → All (IsOf client) slots →
-    AreOf client brought → All (IsOf client) (slots ++ slots_for brought)
-stored_owned client slots Brought.Nothing all of = All-append (IsOf client) slots [] all (All-nil (IsOf client))
-stored_owned client slots (Brought.One end) all of =
-    All-append (IsOf client) slots (Some end ∷ []) all (All-cons (IsOf client) (Some end) [] of (All-nil (IsOf client)))
-stored_owned client slots (Brought.Handles handles) all of =
-    All-append (IsOf client) slots (map full handles.items) all (full_owned client handles.items of)
-stored_owned client slots (Brought.Tracker tracker) all of = All-append (IsOf client) slots [] all (All-nil (IsOf client))
+pub stored_owned : {E S W : Type 0} (client : ℕ) (slots : List (Option (End E S W))) (brought : NewObjects E S W) → All (SlotHeldBy client) slots →
+    NewHeldBy client brought → All (SlotHeldBy client) (slots ++ slots_for brought)
+stored_owned client slots NewObjects.Nothing all of = All-append (SlotHeldBy client) slots [] all (All-nil (SlotHeldBy client))
+stored_owned client slots (NewObjects.One end) all of =
+    All-append (SlotHeldBy client) slots (Some end ∷ []) all (All-cons (SlotHeldBy client) (Some end) [] of (All-nil (SlotHeldBy client)))
+stored_owned client slots (NewObjects.Handles handles) all of =
+    All-append (SlotHeldBy client) slots (map full handles.items) all (full_owned client handles.items of)
+stored_owned client slots (NewObjects.Tracker tracker) all of = All-append (SlotHeldBy client) slots [] all (All-nil (SlotHeldBy client))
 
 -- with what it brought
-pub answers : {E S W : Type 0} (old new : Seen) (asked : Asked) (before : List (Option Thing)) (mid after : List (Option (End E S W)))
-    (brought : Brought E S W) →
+pub answers : {E S W : Type 0} (old new : Seen) (asked : StepCall) (before : List (Option Object)) (mid after : List (Option (End E S W)))
+    (brought : NewObjects E S W) →
     Asks old new asked.call asked.slot before (lies mid) brought → after ≡ mid ++ slots_for brought →
-    Answers old new asked before (lies after)
+    MakesCall old new asked before (lies after)
 answers old new asked before mid after brought asks stored = record {
   reply = asks.reply;
   made = asks.made;
-  things = ap lies stored ∙ (map-append there mid (slots_for brought) ∙ (ap (λ l. lies mid ++ l) (brought_seen brought)
-      ∙ (ap (λ l. l ++ map Some (things_in brought)) asks.left
-      ∙ ap (λ l. (if spends asked.call asks.reply then emptied before asked.slot else before) ++ map Some l) asks.things)));
+  objects = ap lies stored ∙ (map-append there mid (slots_for brought) ∙ (ap (λ l. lies mid ++ l) (brought_seen brought)
+      ∙ (ap (λ l. l ++ map Some (objects_in brought)) asks.left
+      ∙ ap (λ l. (if spends_object asked.call asks.reply then emptied before asked.slot else before) ++ map Some l) asks.objects)));
 }
 
--- ---- how many things a call gives
+-- ---- how many objects a call gives
 
 handles_few : (collection : ℕ) (strength : Strength) (held index count : ℕ) →
     length (handles_from collection strength held index count) ≤ count
@@ -144,13 +144,13 @@ handles_few collection strength held index (suc count) =
     either more true is = rw is (omega (arith, more))
     either more false is = rw is (omega (arith, more))
 
-bound_few : (on : Option Thing) → length (bound on) ≤ MAX_BUFFERS
-bound_few (Some (Thing.Token key collection)) = omega arith
-bound_few (Some (Thing.Collection key collection)) = omega arith
-bound_few (Some (Thing.Handle buffer strength)) = omega arith
+bound_few : (on : Option Object) → length (bound on) ≤ MAX_BUFFERS
+bound_few (Some (Object.Token key collection)) = omega arith
+bound_few (Some (Object.Collection key collection)) = omega arith
+bound_few (Some (Object.Handle buffer strength)) = omega arith
 bound_few None = omega arith
 
-few : (on : Option Thing) (call : Call) (reply : Reply) → length (given on call reply) ≤ MAX_BUFFERS
+few : (on : Option Object) (call : Call) (reply : Reply) → length (new_objects on call reply) ≤ MAX_BUFFERS
 few on (Call.Take key) (Reply.Taken collection strength held) = handles_few collection strength held 0 MAX_BUFFERS
 few on (Call.Take key) _ = omega arith
 few on (Call.Bind key) Reply.Done = bound_few on
@@ -169,10 +169,10 @@ few on (Call.DupHandle buffer strength) _ = omega arith
 few on _ reply = omega arith
 
 -- so there is room for it
-pub room_for : {E S W : Type 0} (old new : Seen) (call : Call) (slot : Option ℕ) (before after : List (Option Thing))
-    (brought : Brought E S W) → Asks old new call slot before after brought → length (slots_for brought) ≤ MAX_BUFFERS
+pub room_for : {E S W : Type 0} (old new : Seen) (call : Call) (slot : Option ℕ) (before after : List (Option Object))
+    (brought : NewObjects E S W) → Asks old new call slot before after brought → length (slots_for brought) ≤ MAX_BUFFERS
 room_for old new call slot before after brought asks =
-    subst (λ n. n ≤ MAX_BUFFERS) (sym (as_many brought ∙ ap length asks.things)) (few (on_of before slot) call asks.reply)
+    subst (λ n. n ≤ MAX_BUFFERS) (sym (as_many brought ∙ ap length asks.objects)) (few (on_of before slot) call asks.reply)
 
 -- ---- lists of events
 
@@ -196,40 +196,40 @@ pairs_more old new call reply made = ap pairs_of made.told.next
 
 -- ---- what an actor leaves
 
--- turned twice, the things are in their order
-pub left_turned : {E S W : Type 0} (slots : List (Option (End E S W))) → left_in (reverse slots) ≡ left_of slots
-left_turned slots = ap (flat_map kept_things) (reverse-reverse slots)
+-- turned twice, the objects are in their order
+pub left_turned : {E S W : Type 0} (slots : List (Option (End E S W))) → last_objects_first (reverse slots) ≡ objects_in_slots slots
+left_turned slots = ap (flat_map kept_objects) (reverse-reverse slots)
 
 module _ (client : ℕ) where
-  -- a thing in a slot, by what is known of it
-  one_part : {E S W : Type 0} (slot : Option (End E S W)) → IsOf client slot → part_of client (there slot) ≡ kept_things slot
+  -- an object in a slot, by what is known of it
+  one_part : {E S W : Type 0} (slot : Option (End E S W)) → SlotHeldBy client slot → part_of client (there slot) ≡ kept_objects slot
   one_part None of = refl
   one_part (Some (End.Token t)) of = ap (λ c. Token (record { client = c; key = t.key; collection = t.collection }) ∷ []) (sym of)
   one_part (Some (End.Collection t)) of = ap (λ c. Collection (record { client = c; key = t.key; collection = t.collection }) ∷ []) (sym of)
   one_part (Some (End.Handle h)) of = ap (λ c. Handle (record { client = c; buffer = h.buffer; strength = h.strength }) ∷ []) (sym of)
 
   -- all of them
-  pub parts_left : {E S W : Type 0} (slots : List (Option (End E S W))) → All (IsOf client) slots →
-      flat_map (part_of client) (lies slots) ≡ left_of slots
+  pub parts_left : {E S W : Type 0} (slots : List (Option (End E S W))) → All (SlotHeldBy client) slots →
+      flat_map (part_of client) (lies slots) ≡ objects_in_slots slots
   parts_left [] of = refl
   parts_left (x ∷ xs) of =
-      ap (λ l. l ++ flat_map (part_of client) (lies xs)) (one_part x (All-head (IsOf client) x xs of))
-      ∙ ap (λ l. kept_things x ++ l) (parts_left xs (All-tail (IsOf client) x xs of))
+      ap (λ l. l ++ flat_map (part_of client) (lies xs)) (one_part x (All-head (SlotHeldBy client) x xs of))
+      ∙ ap (λ l. kept_objects x ++ l) (parts_left xs (All-tail (SlotHeldBy client) x xs of))
 
   -- who holds them
-  one_owner : {E S W : Type 0} (slot : Option (End E S W)) → IsOf client slot → All (λ p. owner_of p ≡ client) (kept_things slot)
+  one_owner : {E S W : Type 0} (slot : Option (End E S W)) → SlotHeldBy client slot → All (λ p. owner_of p ≡ client) (kept_objects slot)
   one_owner None of = All-nil (λ p. owner_of p ≡ client)
   one_owner (Some (End.Token t)) of = All-cons (λ p. owner_of p ≡ client) (Token t) [] of (All-nil (λ p. owner_of p ≡ client))
   one_owner (Some (End.Collection t)) of = All-cons (λ p. owner_of p ≡ client) (Collection t) [] of (All-nil (λ p. owner_of p ≡ client))
   one_owner (Some (End.Handle h)) of = All-cons (λ p. owner_of p ≡ client) (Handle h) [] of (All-nil (λ p. owner_of p ≡ client))
 
-  all_owner : {E S W : Type 0} (slots : List (Option (End E S W))) → All (IsOf client) slots →
-      All (λ p. owner_of p ≡ client) (left_of slots)
+  all_owner : {E S W : Type 0} (slots : List (Option (End E S W))) → All (SlotHeldBy client) slots →
+      All (λ p. owner_of p ≡ client) (objects_in_slots slots)
   all_owner [] of = All-nil (λ p. owner_of p ≡ client)
-  all_owner (x ∷ xs) of = All-append (λ p. owner_of p ≡ client) (kept_things x) (left_of xs)
-      (one_owner x (All-head (IsOf client) x xs of)) (all_owner xs (All-tail (IsOf client) x xs of))
+  all_owner (x ∷ xs) of = All-append (λ p. owner_of p ≡ client) (kept_objects x) (objects_in_slots xs)
+      (one_owner x (All-head (SlotHeldBy client) x xs of)) (all_owner xs (All-tail (SlotHeldBy client) x xs of))
 
   -- so each list of a kind is
-  pub left_owned : {E S W : Type 0} (slots : List (Option (End E S W))) → All (IsOf client) slots →
-      AreTheirs client (sorted (left_of slots))
-  left_owned slots of = sorted_own client (left_of slots) (all_owner slots of)
+  pub left_owned : {E S W : Type 0} (slots : List (Option (End E S W))) → All (SlotHeldBy client) slots →
+      AllHeldBy client (sorted (objects_in_slots slots))
+  left_owned slots of = sorted_own client (objects_in_slots slots) (all_owner slots of)

@@ -12,14 +12,14 @@ use Rattle.client_ends.specs.declared.held.End.{End}
 use Rattle.client_ends.specs.declared.why.Why.{Why}
 use Rattle.client_ends.specs.Clients.{Grip, MadeOr, Seen}
 use Rattle.client_ends.specs.Taking.{Took, grip_at, grips_at}
-use Rattle.actor_scripts.specs.declared.thing.Thing.{Thing}
-use Rattle.actor_scripts.specs.Desks.{given, handles_from, handles_in, spends}
-use Rattle.client_actors.specs.declared.brought.Brought.{Brought}
+use Rattle.actor_scripts.specs.declared.object.Object.{Object}
+use Rattle.actor_scripts.specs.ActorStates.{new_objects, handles_from, handles_of_set, spends_object}
+use Rattle.client_actors.specs.declared.new_objects.NewObjects.{NewObjects}
 use Rattle.client_actors.specs.Asking.{Did, handle_seen, may_spend, there}
 
 module _ (old new : Seen) (key : NodeKey) (handles : List Grip) (took : Took old new key handles) where
   -- the handles that a Take opens from this index on
-  abbrev pub seen_at : ℕ → ℕ → List Thing
+  abbrev pub seen_at : ℕ → ℕ → List Object
   seen_at index count =
       map handle_seen (map (grip_at old.id took.taken) (filter (λ i. bit_at took.taken.set i == 1) (range_with_len index count)))
 
@@ -39,7 +39,7 @@ module _ (old new : Seen) (key : NodeKey) (handles : List Grip) (took : Took old
   seen_from index (suc count) = seen_more index count (bit_at took.taken.set index == 1) refl (seen_from (index + 1) count)
 
   -- all of them
-  pub seen_all : map handle_seen (grips_at old.id took.taken (indices_in took.taken.set)) ≡ handles_in took.taken.collection
+  pub seen_all : map handle_seen (grips_at old.id took.taken (indices_in took.taken.set)) ≡ handles_of_set took.taken.collection
       took.taken.strength took.taken.set
   unfolding indices_in
   seen_all = seen_from 0 MAX_BUFFERS
@@ -51,7 +51,7 @@ module _ (old new : Seen) (key : NodeKey) (handles : List Grip) (took : Took old
       (grips_owned is)
 
 -- a call that did not spend what it might have spent gives nothing
-unspent : (on : Option Thing) (call : Call) (reply : Reply) → may_spend call ≡ true → spends call reply ≡ false → given on call reply ≡ []
+unspent : (on : Option Object) (call : Call) (reply : Reply) → may_spend call ≡ true → spends_object call reply ≡ false → new_objects on call reply ≡ []
 unspent on (Call.Bind key) Reply.Done may not = cc
 unspent on (Call.Bind key) _ may not = refl
 unspent on (Call.Give key to) reply may not = refl
@@ -63,12 +63,12 @@ unspent on _ reply may not = cc
 
 -- what was not spent is where it was
 pub kept_back : {E S W : Type 0} (old new : Seen) (call : Call) (on on' : Option (End E S W)) (reply : Reply) → may_spend call ≡ true →
-    MadeOr (spends call) old new call (Why.Reply reply) → on' ≡ on →
-    Did {E = E} {S = S} {W = W} old new call (there on) (there on') Brought.Nothing
+    MadeOr (spends_object call) old new call (Why.Reply reply) → on' ≡ on →
+    Did {E = E} {S = S} {W = W} old new call (there on) (there on') NewObjects.Nothing
 kept_back old new call on on' reply may so same = record {
   reply = reply;
   made = so.0;
   left = ap there same ∙ ap (λ (b : Bool). if b then None else there on) (sym so.1);
-  things = sym (unspent (there on) call reply may so.1);
+  objects = sym (unspent (there on) call reply may so.1);
   owned = tt;
 }

@@ -1,4 +1,4 @@
 pub mod ActingLaws
 pub mod AskingLaws
-pub mod PlayLaws
+pub mod ScriptLaws
 pub mod RunLaws

@@ -6,65 +6,65 @@ use Rattle.sm_names.specs.declared.messages.Call.{Call}
 use Rattle.sm_names.specs.declared.messages.Reply.{Reply}
 use Rattle.client_ends.specs.declared.held.End.{End}
 use Rattle.client_ends.specs.Clients.{Grip, Made, Seen, Tag}
-use Rattle.client_ends.specs.Collecting.{holder_of}
-use Rattle.actor_scripts.specs.declared.thing.Thing.{Thing}
-use Rattle.actor_scripts.specs.Desks.{given, spends}
-use Rattle.client_actors.specs.declared.brought.Brought.{Brought}
+use Rattle.client_ends.specs.Collecting.{end_client}
+use Rattle.actor_scripts.specs.declared.object.Object.{Object}
+use Rattle.actor_scripts.specs.ActorStates.{new_objects, spends_object}
+use Rattle.client_actors.specs.declared.new_objects.NewObjects.{NewObjects}
 
 -- a token, a collection and a handle, whoever holds them
-abbrev pub token_seen : Tag → Thing
-token_seen t = Thing.Token t.key t.collection
+abbrev pub token_seen : Tag → Object
+token_seen t = Object.Token t.key t.collection
 
-abbrev pub collection_seen : Tag → Thing
-collection_seen c = Thing.Collection c.key c.collection
+abbrev pub collection_seen : Tag → Object
+collection_seen c = Object.Collection c.key c.collection
 
-abbrev pub handle_seen : Grip → Thing
-handle_seen h = Thing.Handle h.buffer h.strength
+abbrev pub handle_seen : Grip → Object
+handle_seen h = Object.Handle h.buffer h.strength
 
--- a thing, whoever holds it
-abbrev pub thing_seen : {E S W : Type 0} → End E S W → Thing
-thing_seen (End.Token t) = token_seen t
-thing_seen (End.Collection c) = collection_seen c
-thing_seen (End.Handle h) = handle_seen h
+-- an object, whoever holds it
+abbrev pub object_seen : {E S W : Type 0} → End E S W → Object
+object_seen (End.Token t) = token_seen t
+object_seen (End.Collection c) = collection_seen c
+object_seen (End.Handle h) = handle_seen h
 
 -- what lies in a slot
-abbrev pub there : {E S W : Type 0} → Option (End E S W) → Option Thing
-there slot = option_map thing_seen slot
+abbrev pub there : {E S W : Type 0} → Option (End E S W) → Option Object
+there slot = option_map object_seen slot
 
 -- if it is something, it is this client's
-abbrev pub IsOf : {E S W : Type 0} → ℕ → Option (End E S W) → Type 0
-IsOf client None = ⊤
-IsOf client (Some end) = holder_of end ≡ client
+abbrev pub SlotHeldBy : {E S W : Type 0} → ℕ → Option (End E S W) → Type 0
+SlotHeldBy client None = ⊤
+SlotHeldBy client (Some end) = end_client end ≡ client
 
--- the things that were brought
-abbrev pub things_in : {E S W : Type 0} → Brought E S W → List Thing
-things_in Brought.Nothing = []
-things_in (Brought.One end) = thing_seen end ∷ []
-things_in (Brought.Handles handles) = map handle_seen handles.items
-things_in (Brought.Tracker tracker) = []
+-- the objects that were brought
+abbrev pub objects_in : {E S W : Type 0} → NewObjects E S W → List Object
+objects_in NewObjects.Nothing = []
+objects_in (NewObjects.One end) = object_seen end ∷ []
+objects_in (NewObjects.Handles handles) = map handle_seen handles.items
+objects_in (NewObjects.Tracker tracker) = []
 
 -- they are this client's
-abbrev pub AreOf : {E S W : Type 0} → ℕ → Brought E S W → Type 0
-AreOf client Brought.Nothing = ⊤
-AreOf client (Brought.One end) = holder_of end ≡ client
-AreOf client (Brought.Handles handles) = All (λ (h : Grip). h.client ≡ client) handles.items
-AreOf client (Brought.Tracker tracker) = ⊤
+abbrev pub NewHeldBy : {E S W : Type 0} → ℕ → NewObjects E S W → Type 0
+NewHeldBy client NewObjects.Nothing = ⊤
+NewHeldBy client (NewObjects.One end) = end_client end ≡ client
+NewHeldBy client (NewObjects.Handles handles) = All (λ (h : Grip). h.client ≡ client) handles.items
+NewHeldBy client (NewObjects.Tracker tracker) = ⊤
 
--- one event was made, of this call on this thing: `after` is what is left of it, and this was brought
-pub record Did {E S W : Type 0} (old new : Seen) (call : Call) (before after : Option Thing) (brought : Brought E S W) : Type 0 where
+-- one event was made, of this call on this object: `after` is what is left of it, and this was brought
+pub record Did {E S W : Type 0} (old new : Seen) (call : Call) (before after : Option Object) (brought : NewObjects E S W) : Type 0 where
   pub reply : Reply
   pub made : Made old new call reply
-  pub left : after ≡ (if spends call reply then None else before)
-  pub things : things_in brought ≡ given before call reply
-  pub owned : AreOf old.id brought
+  pub left : after ≡ (if spends_object call reply then None else before)
+  pub objects : objects_in brought ≡ new_objects before call reply
+  pub owned : NewHeldBy old.id brought
 
 -- one event was made that spent what it was made on
-pub record Spent {E S W : Type 0} (old new : Seen) (call : Call) (before : Option Thing) (brought : Brought E S W) : Type 0 where
+pub record Spent {E S W : Type 0} (old new : Seen) (call : Call) (before : Option Object) (brought : NewObjects E S W) : Type 0 where
   pub reply : Reply
   pub made : Made old new call reply
-  pub gone : spends call reply ≡ true
-  pub things : things_in brought ≡ given before call reply
-  pub owned : AreOf old.id brought
+  pub gone : spends_object call reply ≡ true
+  pub objects : objects_in brought ≡ new_objects before call reply
+  pub owned : NewHeldBy old.id brought
 
 -- the call may spend what it is made on
 abbrev pub may_spend : Call → Bool
@@ -77,22 +77,22 @@ may_spend (Call.GiveHandle buffer strength to) = true
 may_spend _ = false
 
 -- one event was made of a call that leaves what it is made on, and brought this
-pub record Lent {E S W : Type 0} (old new : Seen) (call : Call) (brought : Brought E S W) : Type 0 where
+pub record Lent {E S W : Type 0} (old new : Seen) (call : Call) (brought : NewObjects E S W) : Type 0 where
   pub reply : Reply
   pub made : Made old new call reply
-  pub stays : spends call reply ≡ false
-  pub things : (on : Option Thing) → things_in brought ≡ given on call reply
-  pub owned : AreOf old.id brought
+  pub stays : spends_object call reply ≡ false
+  pub objects : (on : Option Object) → objects_in brought ≡ new_objects on call reply
+  pub owned : NewHeldBy old.id brought
 
 -- one event was made that spent what it was made on, and brought nothing in its place
 pub record Spends (old new : Seen) (call : Call) : Type 0 where
   pub reply : Reply
   pub made : Made old new call reply
-  pub gone : spends call reply ≡ true
-  pub things : (on : Option Thing) → given on call reply ≡ []
+  pub gone : spends_object call reply ≡ true
+  pub objects : (on : Option Object) → new_objects on call reply ≡ []
 
 -- what lies in all slots
-abbrev pub lies : {E S W : Type 0} → List (Option (End E S W)) → List (Option Thing)
+abbrev pub lies : {E S W : Type 0} → List (Option (End E S W)) → List (Option Object)
 lies slots = map there slots
 
 -- a slot in which a handle lies
@@ -100,8 +100,8 @@ abbrev pub full : {E S W : Type 0} → Grip → Option (End E S W)
 full handle = Some (End.Handle handle)
 
 -- the slots of what was brought
-abbrev pub slots_for : {E S W : Type 0} → Brought E S W → List (Option (End E S W))
-slots_for Brought.Nothing = []
-slots_for (Brought.One end) = Some end ∷ []
-slots_for (Brought.Handles handles) = map full handles.items
-slots_for (Brought.Tracker tracker) = []
+abbrev pub slots_for : {E S W : Type 0} → NewObjects E S W → List (Option (End E S W))
+slots_for NewObjects.Nothing = []
+slots_for (NewObjects.One end) = Some end ∷ []
+slots_for (NewObjects.Handles handles) = map full handles.items
+slots_for (NewObjects.Tracker tracker) = []

@@ -6,7 +6,7 @@ use Rattle.client_parting.specs.declared.gathering.Holding.{Holding}
 use Rattle.client_parting.specs.Partings.{held_in, sorted}
 use Rattle.actor_scripts.specs.declared.step.ActorScript.{ActorScript}
 use Rattle.client_actors.specs.declared.gate.ActorEnd.{ActorEnd}
-use Rattle.client_actors.specs.Acting.{HasPlayed, HasStopped}
+use Rattle.client_actors.specs.Acting.{HasFinished, HasStopped}
 
 -- the client joined, and made no event since
 pub record HasJoined (client : Seen) : Type 0 where
@@ -19,9 +19,9 @@ end_id (ActorEnd.Wrecked wreck) = wreck.client.id
 end_id (ActorEnd.Stopped client held fault) = client.id
 end_id (ActorEnd.NotStarted client) = client.id
 
--- it is gone and has played the script, or was stopped in it, or did not start. Labels stand for these clients
+-- it is gone and has run the script, or was stopped in it, or did not start. Labels stand for these clients
 abbrev pub IsEndOf : {E S W : Type 0} → List ℕ → ActorScript → ActorEnd E S W → Type 0
-IsEndOf clients script (ActorEnd.Wrecked wreck) = HasPlayed clients script.steps.items wreck
+IsEndOf clients script (ActorEnd.Wrecked wreck) = HasFinished clients script.steps.items wreck
 IsEndOf clients script (ActorEnd.Stopped client held fault) = HasStopped clients script.steps.items client (held_in held)
 IsEndOf clients script (ActorEnd.NotStarted client) = HasJoined client
 
@@ -41,9 +41,9 @@ Waits (ActorEnd.Stopped client held fault) = ⊥
 Waits (ActorEnd.NotStarted client) = HasJoined client
 
 -- an actor lies there, and did not start yet
-abbrev pub IsReady : {E S W : Type 0} → Option (ActorEnd E S W) → Type 0
-IsReady None = ⊥
-IsReady (Some end) = Waits end
+abbrev pub CanStart : {E S W : Type 0} → Option (ActorEnd E S W) → Type 0
+CanStart None = ⊥
+CanStart (Some end) = Waits end
 
 -- whose actor lies there
 abbrev pub id_there : {E S W : Type 0} → Option (ActorEnd E S W) → ℕ

@@ -1,16 +1,16 @@
 //! An actor: what it has and knows, and how it makes a step.
 ghost use Rattle.std.specs.Prelude.{◌≡◌, ◌+◌, ◌≤◌, [], MatchResult, IfOk, OnErr, OnOk, vec_len, vec_capacity};
 ghost use Rattle.std.specs.List.{All};
-ghost use Rattle.actor_scripts.specs.Desks.{Fits, nothing_known};
+ghost use Rattle.actor_scripts.specs.ActorStates.{Fits, nothing_known};
 ghost use Rattle.actor_scripts.specs.Tables.{known};
-ghost use Rattle.client_actors.specs.Acting.{Answers, Asks, Falters, HasFaltered, HasMade, HasStepped, IsAware, IsSound};
-ghost use Rattle.client_actors.specs.Asking.{IsOf, lies};
+ghost use Rattle.client_actors.specs.Acting.{MakesCall, Asks, Falters, HasFaltered, HasMade, HasStepped, IsAware, ActorInvariant};
+ghost use Rattle.client_actors.specs.Asking.{SlotHeldBy, lies};
 
 use crate::asking::on_none;
-use crate::brought::Brought;
+use crate::new_objects::NewObjects;
 use crate::slots::ask_there;
 use crate::storing::{make_room, store};
-use actor_scripts::{Asked, Desk, Step};
+use actor_scripts::{ActorState, Step, StepCall};
 use client_ends::{Client, End, Held};
 use service_lock::{Service, Setup};
 use sm_names::{ClientId, MAX_BUFFERS, Reply, StepFault};
@@ -18,13 +18,13 @@ use std::alloc::Global;
 use std::sync::Wait;
 use std::sync::ledger::Ledger;
 
-// An actor while it plays: its client, its things in their slots, and what it knows.
+// An actor while it runs: its client, its objects in their slots, and what it knows.
 pub(crate) struct Actor<E: Setup, S: Ledger, W: Ledger> {
     pub client: Client<E, S, W>,
     pub slots: Vec<Option<End<E, S, W>>>,
     // Empty lists, with room for all that lies in the slots.
     pub held: Held<E, S, W>,
-    pub desk: Desk,
+    pub state: ActorState,
 }
 
 // Makes the call on what lies in the slot, if one is told.
@@ -34,15 +34,15 @@ fn ask_on<E: Setup, S: Ledger, W: Ledger, R: Wait>(
     service: &Service<E, S, W>,
     client: &mut Client<E, S, W>,
     slots: &mut Vec<Option<End<E, S, W>>>,
-    asked: &Asked,
-) -> Result<Brought<E, S, W>, StepFault>
-    requires owned { All (IsOf client.old.id) slots.old.items }
+    asked: &StepCall,
+) -> Result<NewObjects<E, S, W>, StepFault>
+    requires owned { All (SlotHeldBy client.old.id) slots.old.items }
     requires fits { Fits (lies slots.old.items) asked.now.slot asked.now.call }
     ensures asked { MatchResult result
         (λ b. Asks client.old client.new asked.now.call asked.now.slot
         (lies slots.old.items) (lies slots.new.items) b)
         (λ _. (client.new ≡ client.old) × (lies slots.new.items ≡ lies slots.old.items)) }
-    ensures owned { All (IsOf client.old.id) slots.new.items }
+    ensures owned { All (SlotHeldBy client.old.id) slots.new.items }
     ensures len { vec_len slots.new ≡ vec_len slots.old }
     ensures room { vec_capacity slots.new ≡ vec_capacity slots.old }
 {
@@ -59,16 +59,16 @@ fn ask<E: Setup, S: Ledger, W: Ledger, R: Wait>(
     service: &Service<E, S, W>,
     client: &mut Client<E, S, W>,
     slots: &mut Vec<Option<End<E, S, W>>>,
-    asked: &Asked,
+    asked: &StepCall,
 ) -> Result<(), StepFault>
-    requires owned { All (IsOf client.old.id) slots.old.items }
+    requires owned { All (SlotHeldBy client.old.id) slots.old.items }
     requires fits { Fits (lies slots.old.items) asked.now.slot asked.now.call }
     requires room { vec_len slots.old + MAX_BUFFERS ≤ vec_capacity slots.old }
     ensures asked { MatchResult result
-        (λ _. Answers client.old client.new asked.now (lies slots.old.items)
+        (λ _. MakesCall client.old client.new asked.now (lies slots.old.items)
         (lies slots.new.items))
         (λ _. (client.new ≡ client.old) × (lies slots.new.items ≡ lies slots.old.items)) }
-    ensures owned { All (IsOf client.old.id) slots.new.items }
+    ensures owned { All (SlotHeldBy client.old.id) slots.new.items }
     ensures len { vec_len slots.new ≤ vec_len slots.old + MAX_BUFFERS }
 {
     match ask_on(rt, alloc, service, client, slots, asked) {
@@ -85,14 +85,14 @@ impl<E: Setup, S: Ledger, W: Ledger> Actor<E, S, W> {
     pub(crate) fn new(alloc: Global, client: Client<E, S, W>) -> Actor<E, S, W>
         ensures client { result.client ≡ client }
         ensures slots { result.slots.items ≡ [] }
-        ensures desk { known result.desk ≡ nothing_known }
-        ensures sound { IsSound result }
+        ensures state { known result.state ≡ nothing_known }
+        ensures sound { ActorInvariant result }
     {
         Actor {
             client,
             slots: Vec::new(alloc),
             held: Held::new(alloc),
-            desk: Desk::new(alloc),
+            state: ActorState::new(alloc),
         }
     }
 
@@ -103,14 +103,14 @@ impl<E: Setup, S: Ledger, W: Ledger> Actor<E, S, W> {
         alloc: Global,
         service: &Service<E, S, W>,
         step: Step,
-        asked: &Asked,
+        asked: &StepCall,
     ) -> Result<Reply, StepFault>
-        requires sound { IsSound self.old }
+        requires sound { ActorInvariant self.old }
         requires fits { Fits (lies self.old.slots.items) asked.now.slot asked.now.call }
         ensures made { IfOk result (λ reply. HasMade step asked.now reply self.old self.new) }
         ensures falters { OnErr result (Falters self.old.client self.new.client asked.now
             (lies self.old.slots.items) (lies self.new.slots.items)) }
-        ensures sound { IsSound self.new }
+        ensures sound { ActorInvariant self.new }
         ensures id { self.new.client.id ≡ self.old.client.id }
     {
         make_room(&mut self.slots, &mut self.held)?;
@@ -118,7 +118,7 @@ impl<E: Setup, S: Ledger, W: Ledger> Actor<E, S, W> {
         let Some(reply) = self.client.last() else {
             unreachable!();
         };
-        if self.desk.note_reply(step, asked, &reply).is_err() {
+        if self.state.note_reply(step, asked, &reply).is_err() {
             return Err(StepFault::NoMemory);
         }
         Ok(reply)
@@ -133,15 +133,15 @@ impl<E: Setup, S: Ledger, W: Ledger> Actor<E, S, W> {
         clients: &[ClientId],
         step: Step,
     ) -> Result<Option<Reply>, StepFault>
-        requires sound { IsSound self.old }
+        requires sound { ActorInvariant self.old }
         requires aware { IsAware self.old }
         ensures stepped { OnOk result (HasStepped clients.now step self.old self.new) }
         ensures faltered { OnErr result (HasFaltered clients.now step self.old self.new) }
-        ensures sound { IsSound self.new }
+        ensures sound { ActorInvariant self.new }
         ensures id { self.new.client.id ≡ self.old.client.id }
     {
         let again = step;
-        match self.desk.call(clients, step) {
+        match self.state.call(clients, step) {
             Some(asked) => {
                 let reply = self.make_call(rt, alloc, service, again, &asked)?;
                 Ok(Some(reply))

@@ -1,9 +1,9 @@
 //! The calls that leave with the actor what they are made on.
 ghost use Rattle.std.specs.Prelude.{◌≡◌, false, MatchResult};
-ghost use Rattle.actor_scripts.specs.Desks.{FitsCollection, FitsEnd, FitsHandle, FitsNone, FitsToken};
+ghost use Rattle.actor_scripts.specs.ActorStates.{FitsCollection, FitsEnd, FitsHandle, FitsNone, FitsToken};
 ghost use Rattle.client_actors.specs.Asking.{Lent, may_spend};
 
-use crate::brought::Brought;
+use crate::new_objects::NewObjects;
 use client_ends::{Client, CollectionEnd, End, EndOf, Handle, TokenEnd, Why};
 use service_lock::{Service, Setup};
 use sm_names::{Call, StepFault};
@@ -17,7 +17,7 @@ pub(crate) fn on_none<E: Setup, S: Ledger, W: Ledger, R: Wait>(
     service: &Service<E, S, W>,
     client: &mut Client<E, S, W>,
     call: Call,
-) -> Result<Brought<E, S, W>, StepFault>
+) -> Result<NewObjects<E, S, W>, StepFault>
     requires fits { FitsNone call }
     ensures { MatchResult result
         (λ b. Lent client.old client.new call b) (λ _. client.new ≡ client.old) }
@@ -25,17 +25,17 @@ pub(crate) fn on_none<E: Setup, S: Ledger, W: Ledger, R: Wait>(
     match call {
         Call::Shut => {
             client.shut(rt, service)?;
-            Ok(Brought::Nothing)
+            Ok(NewObjects::Nothing)
         }
         Call::OpenRoot => match client.open_root(rt, service) {
-            Ok(token) => Ok(Brought::One(End::Token(token))),
-            Err(Why::Reply(_)) => Ok(Brought::Nothing),
+            Ok(token) => Ok(NewObjects::One(End::Token(token))),
+            Err(Why::Reply(_)) => Ok(NewObjects::Nothing),
             Err(Why::Fault(fault)) => Err(fault),
         },
         Call::Collect => match client.collect(rt, service) {
-            Ok(Some(end)) => Ok(Brought::One(end)),
-            Ok(None) => Ok(Brought::Nothing),
-            Err(Why::Reply(_)) => Ok(Brought::Nothing),
+            Ok(Some(end)) => Ok(NewObjects::One(end)),
+            Ok(None) => Ok(NewObjects::Nothing),
+            Err(Why::Reply(_)) => Ok(NewObjects::Nothing),
             Err(Why::Fault(fault)) => Err(fault),
         },
         _ => unreachable!(),
@@ -49,7 +49,7 @@ fn on_end<K, E: Setup, S: Ledger, W: Ledger, R: Wait>(
     client: &mut Client<E, S, W>,
     end: &EndOf<K>,
     call: Call,
-) -> Result<Brought<E, S, W>, StepFault>
+) -> Result<NewObjects<E, S, W>, StepFault>
     requires holder { end.now.client ≡ client.old.id }
     requires fits { FitsEnd end.now.key call }
     requires lends { may_spend call ≡ false }
@@ -59,19 +59,19 @@ fn on_end<K, E: Setup, S: Ledger, W: Ledger, R: Wait>(
     match call {
         Call::Sync(_) => {
             end.sync(rt, service, client)?;
-            Ok(Brought::Nothing)
+            Ok(NewObjects::Nothing)
         }
         Call::SetWeak(_) => {
             end.set_weak(rt, service, client)?;
-            Ok(Brought::Nothing)
+            Ok(NewObjects::Nothing)
         }
         Call::SetWeakOk(_, children) => {
             end.set_weak_ok(rt, service, client, children)?;
-            Ok(Brought::Nothing)
+            Ok(NewObjects::Nothing)
         }
         Call::TrackNode(_) => match end.track_node(rt, service, client) {
-            Ok(tracker) => Ok(Brought::Tracker(tracker)),
-            Err(Why::Reply(_)) => Ok(Brought::Nothing),
+            Ok(tracker) => Ok(NewObjects::Tracker(tracker)),
+            Err(Why::Reply(_)) => Ok(NewObjects::Nothing),
             Err(Why::Fault(fault)) => Err(fault),
         },
         _ => unreachable!(),
@@ -85,7 +85,7 @@ pub(crate) fn on_token<E: Setup, S: Ledger, W: Ledger, R: Wait>(
     client: &mut Client<E, S, W>,
     token: &TokenEnd,
     call: Call,
-) -> Result<Brought<E, S, W>, StepFault>
+) -> Result<NewObjects<E, S, W>, StepFault>
     requires holder { token.now.client ≡ client.old.id }
     requires fits { FitsToken token.now.key call }
     requires lends { may_spend call ≡ false }
@@ -96,11 +96,11 @@ pub(crate) fn on_token<E: Setup, S: Ledger, W: Ledger, R: Wait>(
     match call {
         Call::SetDispensable(_) => {
             token.set_dispensable(rt, service, client)?;
-            Ok(Brought::Nothing)
+            Ok(NewObjects::Nothing)
         }
         Call::Duplicate(_) => match token.duplicate(rt, service, client) {
-            Ok(child) => Ok(Brought::One(End::Token(child))),
-            Err(Why::Reply(_)) => Ok(Brought::Nothing),
+            Ok(child) => Ok(NewObjects::One(End::Token(child))),
+            Err(Why::Reply(_)) => Ok(NewObjects::Nothing),
             Err(Why::Fault(fault)) => Err(fault),
         },
         _ => on_end(rt, service, client, token, asked),
@@ -115,7 +115,7 @@ pub(crate) fn on_collection<E: Setup, S: Ledger, W: Ledger, R: Wait>(
     client: &mut Client<E, S, W>,
     collection: &CollectionEnd,
     call: Call,
-) -> Result<Brought<E, S, W>, StepFault>
+) -> Result<NewObjects<E, S, W>, StepFault>
     requires holder { collection.now.client ≡ client.old.id }
     requires fits { FitsCollection collection.now.key call }
     requires lends { may_spend call ≡ false }
@@ -125,27 +125,27 @@ pub(crate) fn on_collection<E: Setup, S: Ledger, W: Ledger, R: Wait>(
     let asked = call;
     match call {
         Call::AttachToken(_) => match collection.attach_token(rt, service, client) {
-            Ok(child) => Ok(Brought::One(End::Token(child))),
-            Err(Why::Reply(_)) => Ok(Brought::Nothing),
+            Ok(child) => Ok(NewObjects::One(End::Token(child))),
+            Err(Why::Reply(_)) => Ok(NewObjects::Nothing),
             Err(Why::Fault(fault)) => Err(fault),
         },
         Call::SetConstraints(_, constraints) => {
             collection.set_constraints(rt, service, client, constraints)?;
-            Ok(Brought::Nothing)
+            Ok(NewObjects::Nothing)
         }
         Call::Check(_) => {
             collection.check(rt, service, client)?;
-            Ok(Brought::Nothing)
+            Ok(NewObjects::Nothing)
         }
         Call::Take(_) => match collection.take(rt, alloc, service, client) {
-            Ok(handles) => Ok(Brought::Handles(handles)),
-            Err(Why::Reply(_)) => Ok(Brought::Nothing),
+            Ok(handles) => Ok(NewObjects::Handles(handles)),
+            Err(Why::Reply(_)) => Ok(NewObjects::Nothing),
             Err(Why::Fault(fault)) => Err(fault),
         },
         Call::TrackLifetime(_, most) => {
             match collection.track_lifetime(rt, service, client, most) {
-                Ok(tracker) => Ok(Brought::Tracker(tracker)),
-                Err(Why::Reply(_)) => Ok(Brought::Nothing),
+                Ok(tracker) => Ok(NewObjects::Tracker(tracker)),
+                Err(Why::Reply(_)) => Ok(NewObjects::Nothing),
                 Err(Why::Fault(fault)) => Err(fault),
             }
         }
@@ -160,7 +160,7 @@ pub(crate) fn on_handle<E: Setup, S: Ledger, W: Ledger, R: Wait>(
     client: &mut Client<E, S, W>,
     handle: &Handle<E, S, W>,
     call: Call,
-) -> Result<Brought<E, S, W>, StepFault>
+) -> Result<NewObjects<E, S, W>, StepFault>
     requires holder { handle.now.client ≡ client.old.id }
     requires fits { FitsHandle handle.now.buffer handle.now.strength call }
     requires lends { may_spend call ≡ false }
@@ -169,13 +169,13 @@ pub(crate) fn on_handle<E: Setup, S: Ledger, W: Ledger, R: Wait>(
 {
     match call {
         Call::DupHandle(_, _) => match handle.duplicate(rt, service, client) {
-            Ok(double) => Ok(Brought::One(End::Handle(double))),
-            Err(Why::Reply(_)) => Ok(Brought::Nothing),
+            Ok(double) => Ok(NewObjects::One(End::Handle(double))),
+            Err(Why::Reply(_)) => Ok(NewObjects::Nothing),
             Err(Why::Fault(fault)) => Err(fault),
         },
         Call::TrackWeak(_) => match handle.track_weak(rt, service, client) {
-            Ok(tracker) => Ok(Brought::Tracker(tracker)),
-            Err(Why::Reply(_)) => Ok(Brought::Nothing),
+            Ok(tracker) => Ok(NewObjects::Tracker(tracker)),
+            Err(Why::Reply(_)) => Ok(NewObjects::Nothing),
             Err(Why::Fault(fault)) => Err(fault),
         },
         _ => unreachable!(),

@@ -3,17 +3,17 @@
 #![tactic(auto)]
 
 mod acting;
+mod actor_run;
 mod asking;
-mod brought;
 mod gate;
-mod playing;
+mod new_objects;
 mod running;
 mod slots;
 mod spending;
 mod start;
 mod storing;
 
+pub use actor_run::run_actor;
 pub use actor_scripts::{ActorScript, Step};
 pub use gate::{ActorEnd, Gate};
-pub use playing::play;
 pub use running::run_actors;

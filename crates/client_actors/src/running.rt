@@ -2,10 +2,10 @@
 ghost use Rattle.std.specs.Prelude.{◌≡◌, ◌<◌, ◌≤◌, ◌↔◌, [], Some, map, length, IfOk, IfErr, OnOk, IsSome, vec_len, vec_capacity};
 ghost use Rattle.std.specs.List.{All, AllZip};
 ghost use Rattle.sm_names.specs.declared.outcomes.StepFault.{StepFault as Fault};
-ghost use Rattle.client_actors.specs.Running.{HaveRun, IsEndAt, IsEndThere, IsIdle, IsReady, id_there};
+ghost use Rattle.client_actors.specs.Running.{HaveRun, IsEndAt, IsEndThere, IsIdle, CanStart, id_there};
 
+use crate::actor_run::run_actor;
 use crate::gate::{ActorEnd, Gate};
-use crate::playing::play;
 use crate::start::Start;
 use actor_scripts::ActorScript;
 use client_ends::{Held, join, memory_fault};
@@ -32,7 +32,7 @@ fn run_there<E: Setup, S: Ledger, W: Ledger, G: Gate, R: Wait + Clock>(
     number: usize,
     on: &mut Option<ActorEnd<E, S, W>>,
 )
-    requires ready { IsReady on.old }
+    requires ready { CanStart on.old }
     requires number { number < length scripts.now }
     ensures end { IsEndAt clients.now scripts.now number on.new }
     ensures id { id_there on.new ≡ id_there on.old }
@@ -42,7 +42,7 @@ fn run_there<E: Setup, S: Ledger, W: Ledger, G: Gate, R: Wait + Clock>(
     }
     match mem::replace(on, None) {
         Some(ActorEnd::NotStarted(client)) => {
-            let end = play(rt, alloc, service, gate, clients, client, &scripts[number]);
+            let end = run_actor(rt, alloc, service, gate, clients, client, &scripts[number]);
             match mem::replace(on, Some(end)) {
                 None => {}
                 Some(_) => unreachable!(),
@@ -68,7 +68,7 @@ fn run_all<
     scripts: &[ActorScript],
     actors: &mut [Option<ActorEnd<E, S, W>>],
 )
-    requires ready { All IsReady actors.old }
+    requires ready { All CanStart actors.old }
     requires len { length scripts.now ≡ length actors.old }
     ensures ends { AllZip (IsEndThere clients.now) scripts.now actors.new }
     ensures ids { map id_there actors.new ≡ map id_there actors.old }
@@ -153,7 +153,7 @@ fn join_all<E: Setup, S: Ledger, W: Ledger, R: Wait>(
     requires actors { count ≤ vec_capacity actors.old }
     ensures all { IfOk result (λ _. vec_len actors.new ≡ count) }
     ensures few { vec_len actors.new ≤ count }
-    ensures ready { All IsReady actors.new.items }
+    ensures ready { All CanStart actors.new.items }
     ensures ids { clients.new.items ≡ map id_there actors.new.items }
 {
     for _ in 0..count {
@@ -192,7 +192,7 @@ fn idle<E: Setup, S: Ledger, W: Ledger>(
     alloc: Global,
     actor: Option<ActorEnd<E, S, W>>,
 ) -> Holding<E, S, W>
-    requires { IsReady actor }
+    requires { CanStart actor }
     ensures { IsIdle result }
 {
     match actor {
@@ -209,7 +209,7 @@ fn clients_of<E: Setup, S: Ledger, W: Ledger>(
 ) -> Vec<Holding<E, S, W>>
     requires none { parts.items ≡ [] }
     requires room { vec_len actors ≤ vec_capacity parts }
-    requires ready { All IsReady actors.items }
+    requires ready { All CanStart actors.items }
     ensures idle { All IsIdle result.items }
     ensures len { vec_len result ≡ vec_len actors }
 {
@@ -223,10 +223,10 @@ fn clients_of<E: Setup, S: Ledger, W: Ledger>(
     parts
 }
 
-/// Runs all scripts side by side: a client for each joins, in order, and then each plays its script,
-/// as by `play`, in a thread of its own. All threads wait until all are there, so that each actor
-/// may wait for any other; all have ended when it returns. The gate is told of each step of each
-/// actor, outside the lock.
+/// Runs all scripts side by side: a client for each joins, in order, and then each runs its script,
+/// as by `run_actor`, in a thread of its own. All threads wait until all are there, so that each
+/// actor may wait for any other; all have ended when it returns. The gate is told of each step of
+/// each actor, outside the lock.
 ///
 /// One end for each script, in order; labels of clients stand for the clients of these ends. An
 /// actor that is stopped by a fault leaves the others as they are. Where the system gives no more
@@ -237,7 +237,7 @@ fn clients_of<E: Setup, S: Ledger, W: Ledger>(
 /// starts: the fault, `HistoryFull` or `NoMemory`, and the clients that joined, who hold nothing.
 ///
 /// Costs an event for each client, a thread for each but one, a constant number of words for each
-/// script, and what `play` does.
+/// script, and what `run_actor` does.
 pub fn run_actors<
     E: Setup + Send + Sync,
     S: Ledger + Send + Sync,

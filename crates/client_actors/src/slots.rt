@@ -1,11 +1,11 @@
-//! The slots in which an actor's things lie.
+//! The slots in which an actor's objects lie.
 ghost use Rattle.std.specs.Prelude.{◌≡◌, ◌+◌, ◌≤◌, ◌++◌, Some, None, false, true, map, MatchResult, vec_len, vec_capacity};
-ghost use Rattle.actor_scripts.specs.Desks.{FitsThere, FitsThing};
-ghost use Rattle.client_ends.specs.Collecting.{holder_of};
-ghost use Rattle.client_actors.specs.Asking.{Did, IsOf, Lent, full, may_spend, there, thing_seen};
+ghost use Rattle.actor_scripts.specs.ActorStates.{FitsThere, FitsObject};
+ghost use Rattle.client_ends.specs.Collecting.{end_client};
+ghost use Rattle.client_actors.specs.Asking.{Did, SlotHeldBy, Lent, full, may_spend, there, object_seen};
 
 use crate::asking::{on_collection, on_handle, on_token};
-use crate::brought::Brought;
+use crate::new_objects::NewObjects;
 use crate::spending::spend;
 use client_ends::{Client, End, Handle, Kept, Why};
 use service_lock::{Service, Setup};
@@ -30,7 +30,7 @@ fn is_spending(call: &Call) -> bool
     }
 }
 
-// A call that leaves the thing.
+// A call that leaves the object.
 fn lend<E: Setup, S: Ledger, W: Ledger, R: Wait>(
     rt: &R,
     alloc: Global,
@@ -38,9 +38,9 @@ fn lend<E: Setup, S: Ledger, W: Ledger, R: Wait>(
     client: &mut Client<E, S, W>,
     end: &End<E, S, W>,
     call: Call,
-) -> Result<Brought<E, S, W>, StepFault>
-    requires holder { holder_of end.now ≡ client.old.id }
-    requires fits { FitsThing (thing_seen end.now) call }
+) -> Result<NewObjects<E, S, W>, StepFault>
+    requires holder { end_client end.now ≡ client.old.id }
+    requires fits { FitsObject (object_seen end.now) call }
     requires lends { may_spend call ≡ false }
     ensures { MatchResult result
         (λ b. Lent client.old client.new call b) (λ _. client.new ≡ client.old) }
@@ -54,7 +54,7 @@ fn lend<E: Setup, S: Ledger, W: Ledger, R: Wait>(
     }
 }
 
-// Puts a thing into a slot that is empty.
+// Puts an object into a slot that is empty.
 fn put_back<E: Setup, S: Ledger, W: Ledger>(on: &mut Option<End<E, S, W>>, end: End<E, S, W>)
     requires { on.old ≡ None }
     ensures { on.new ≡ Some end }
@@ -73,8 +73,8 @@ fn lend_there<E: Setup, S: Ledger, W: Ledger, R: Wait>(
     client: &mut Client<E, S, W>,
     on: &Option<End<E, S, W>>,
     call: Call,
-) -> Result<Brought<E, S, W>, StepFault>
-    requires owned { IsOf client.old.id on.now }
+) -> Result<NewObjects<E, S, W>, StepFault>
+    requires owned { SlotHeldBy client.old.id on.now }
     requires fits { FitsThere (there on.now) call }
     requires lends { may_spend call ≡ false }
     ensures { MatchResult result
@@ -94,14 +94,14 @@ fn spend_there<E: Setup, S: Ledger, W: Ledger, R: Wait>(
     client: &mut Client<E, S, W>,
     on: &mut Option<End<E, S, W>>,
     call: Call,
-) -> Result<Brought<E, S, W>, StepFault>
-    requires owned { IsOf client.old.id on.old }
+) -> Result<NewObjects<E, S, W>, StepFault>
+    requires owned { SlotHeldBy client.old.id on.old }
     requires fits { FitsThere (there on.old) call }
     requires spends { may_spend call ≡ true }
     ensures did { MatchResult result
         (λ b. Did client.old client.new call (there on.old) (there on.new) b)
         (λ _. (client.new ≡ client.old) × (on.new ≡ on.old)) }
-    ensures owned { IsOf client.old.id on.new }
+    ensures owned { SlotHeldBy client.old.id on.new }
 {
     match mem::replace(on, None) {
         Some(end) => match spend(rt, service, client, end, call) {
@@ -109,7 +109,7 @@ fn spend_there<E: Setup, S: Ledger, W: Ledger, R: Wait>(
             Err(Kept { value, why }) => {
                 put_back(on, value);
                 match why {
-                    Why::Reply(_) => Ok(Brought::Nothing),
+                    Why::Reply(_) => Ok(NewObjects::Nothing),
                     Why::Fault(fault) => Err(fault),
                 }
             }
@@ -126,13 +126,13 @@ pub(crate) fn ask_there<E: Setup, S: Ledger, W: Ledger, R: Wait>(
     client: &mut Client<E, S, W>,
     on: &mut Option<End<E, S, W>>,
     call: Call,
-) -> Result<Brought<E, S, W>, StepFault>
-    requires owned { IsOf client.old.id on.old }
+) -> Result<NewObjects<E, S, W>, StepFault>
+    requires owned { SlotHeldBy client.old.id on.old }
     requires fits { FitsThere (there on.old) call }
     ensures did { MatchResult result
         (λ b. Did client.old client.new call (there on.old) (there on.new) b)
         (λ _. (client.new ≡ client.old) × (on.new ≡ on.old)) }
-    ensures owned { IsOf client.old.id on.new }
+    ensures owned { SlotHeldBy client.old.id on.new }
 {
     let asked = call;
     if is_spending(&call) {
@@ -148,7 +148,7 @@ pub(crate) fn store_handles<E: Setup, S: Ledger, W: Ledger>(
     handles: Vec<Handle<E, S, W>>,
 )
     requires { vec_len slots.old + vec_len handles ≤ vec_capacity slots.old }
-    ensures things { slots.new.items ≡ slots.old.items ++ map full handles.items }
+    ensures objects { slots.new.items ≡ slots.old.items ++ map full handles.items }
     ensures room { vec_capacity slots.new ≡ vec_capacity slots.old }
     ensures len { vec_len slots.new ≡ vec_len slots.old + vec_len handles }
 {

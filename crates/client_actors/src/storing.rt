@@ -2,17 +2,17 @@
 ghost use Rattle.std.specs.Prelude.{◌≡◌, ◌+◌, ◌≤◌, ◌++◌, length, OnOk, vec_len, vec_capacity};
 ghost use Rattle.client_parting.specs.Partings.{held_in, sorted};
 ghost use Rattle.client_parting.specs.Stacks.{both};
-ghost use Rattle.client_actors.specs.Acting.{HasRoom, left_in};
+ghost use Rattle.client_actors.specs.Acting.{HasRoom, last_objects_first};
 ghost use Rattle.client_actors.specs.Asking.{slots_for};
 
-use crate::brought::Brought;
+use crate::new_objects::NewObjects;
 use crate::slots::store_handles;
 use client_ends::{End, Held};
 use service_lock::Setup;
 use sm_names::{MAX_BUFFERS, StepFault};
 use std::sync::ledger::Ledger;
 
-// How many things one call may bring.
+// How many objects one call may bring.
 const MOST: usize = MAX_BUFFERS as usize;
 
 // Makes room for what one call may bring.
@@ -43,27 +43,27 @@ pub(crate) fn make_room<E: Setup, S: Ledger, W: Ledger>(
 // Puts what was brought into the next slots. A tracker is let go.
 pub(crate) fn store<E: Setup, S: Ledger, W: Ledger>(
     slots: &mut Vec<Option<End<E, S, W>>>,
-    brought: Brought<E, S, W>,
+    brought: NewObjects<E, S, W>,
 )
     requires { vec_len slots.old + length (slots_for brought) ≤ vec_capacity slots.old }
     ensures slots { slots.new.items ≡ slots.old.items ++ slots_for brought }
     ensures len { vec_len slots.new ≡ vec_len slots.old + length (slots_for brought) }
 {
     match brought {
-        Brought::Nothing => {}
-        Brought::One(end) => slots.push_reserved(Some(end)),
-        Brought::Handles(handles) => store_handles(slots, handles),
-        Brought::Tracker(_) => {}
+        NewObjects::Nothing => {}
+        NewObjects::One(end) => slots.push_reserved(Some(end)),
+        NewObjects::Handles(handles) => store_handles(slots, handles),
+        NewObjects::Tracker(_) => {}
     }
 }
 
-// Takes all things out of their slots, the newest first, each into the list of its kind.
+// Takes all objects out of their slots, the newest first, each into the list of its kind.
 pub(crate) fn unload<E: Setup, S: Ledger, W: Ledger>(
     slots: Vec<Option<End<E, S, W>>>,
     held: &mut Held<E, S, W>,
 )
     requires { HasRoom held.old (vec_len slots) }
-    ensures { held_in held.new ≡ both (held_in held.old) (sorted (left_in slots.items)) }
+    ensures { held_in held.new ≡ both (held_in held.old) (sorted (last_objects_first slots.items)) }
 {
     let mut slots = slots;
     'unloading: while let Some(slot) = slots.pop() {

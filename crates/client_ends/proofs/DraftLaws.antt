@@ -8,7 +8,7 @@ use Rattle.sm_names.specs.declared.messages.Call.{Call}
 use Rattle.sm_names.specs.declared.messages.Reply.{Reply}
 use Rattle.client_ends.specs.declared.draft.Drafted.{Drafted}
 use Rattle.client_ends.specs.Clients.{MadeAll, Seen, Tag}
-use Rattle.client_ends.specs.Drafts.{IsStopped, Sketch, Went, WentFar, WentFirst, WentOn, drafted_call, drafted_calls, token_in}
+use Rattle.client_ends.specs.Drafts.{DraftStopped, Sketch, Went, WentFar, WentFirst, WentOn, drafted_call, drafted_calls, token_told}
 use Rattle.client_ends.proofs.MadeLaws.{made_more, made_none}
 
 -- one more drafted call is one more call
@@ -20,7 +20,7 @@ calls_push key ds d = map-append (drafted_call key) ds (d ∷ [])
 pub went_on : (old mid new : Seen) (calls : List Call) (call : Call) (before after : List Reply) (ends further : List Tag) →
     Went old mid calls before ends → WentOn mid new call before after ends further → Went old new (calls ++ call ∷ []) after further
 went_on old mid new calls call before after ends further went on =
-    let f : ℕ → Reply → List Tag = token_in in
+    let f : ℕ → Reply → List Tag = token_told in
     let id : mid.id ≡ old.id = went.made.id in
     let one : f mid.id on.reply ≡ flat_map (f old.id) (on.reply ∷ []) =
     ap (λ (i : ℕ). f i on.reply) id ∙ sym (append-nil (f old.id on.reply)) in
@@ -58,7 +58,7 @@ went_all old mid new key all call left before after ends further far none on =
 
 -- nothing of a draft
 pub stopped_none : (s : Seen) (draft rest : Sketch) (replies : List Reply) (ends : List Tag) → rest ≡ draft → replies ≡ [] → ends ≡ [] →
-    IsStopped s s draft rest replies ends
+    DraftStopped s s draft rest replies ends
 stopped_none s draft rest replies ends same no_reply no_end = record {
   token = ap (λ (d : Sketch). d.token) same;
   far = record {
@@ -66,7 +66,7 @@ stopped_none s draft rest replies ends same no_reply no_end = record {
     first = ap (λ (d : Sketch). d.calls) same;
     went = record {
       made = subst (λ (r : List Reply). MadeAll s s [] r) (sym no_reply) (made_none s);
-      tokens = no_end ∙ ap (λ (r : List Reply). flat_map (token_in s.id) r) (sym no_reply);
+      tokens = no_end ∙ ap (λ (r : List Reply). flat_map (token_told s.id) r) (sym no_reply);
     };
   };
 }

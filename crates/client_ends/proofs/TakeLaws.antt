@@ -9,19 +9,19 @@ use Rattle.sm_names.specs.declared.keys.Strength.TheVariants.{Strong, Weak}
 use Rattle.sm_names.specs.declared.messages.Call.{Call}
 use Rattle.sm_names.specs.declared.messages.Reply.{Reply}
 use Rattle.event_laws.specs.HandleSums.{indices_in}
-use Rattle.service_lock.specs.Units.{Amounts, Counts, HasOne, with_one}
+use Rattle.service_lock.specs.Units.{Amounts, CountsEvent, HasOne, with_one}
 use Rattle.client_ends.specs.declared.taking.Taken.{Taken}
-use Rattle.client_ends.specs.Clients.{Grip, Made, SameHandles, Seen, nothing}
+use Rattle.client_ends.specs.Clients.{Grip, Made, SameHandles, Seen, no_amounts}
 use Rattle.client_ends.specs.Taking.{Took, grip_at, grips_at, grips_by, handful, told_taken}
 
 -- the units that a Take brought
 abbrev pub units_by : Option Taken → Amounts
-units_by None = nothing
+units_by None = no_amounts
 units_by (Some taken) = handful taken.strength (length (indices_in taken.set))
 
 -- who had no handle has those that were taken
-pub after_taking : (key : NodeKey) (reply : Reply) (units new : Amounts) → SameHandles units nothing →
-    Counts units new (Call.Take key) reply →
+pub after_taking : (key : NodeKey) (reply : Reply) (units new : Amounts) → SameHandles units no_amounts →
+    CountsEvent units new (Call.Take key) reply →
     SameHandles new (units_by (told_taken reply))
 after_taking key (Reply.Taken collection Strong set) units new none counts =
     (omega (arith, none.0, counts.strong), omega (arith, none.1, counts.weak))
@@ -131,7 +131,7 @@ module _ (index set : ℕ) where
 
   -- at the end none is left
   pub none_left : (strength : Strength) (units : Amounts) → index ≡ MAX_BUFFERS → SameHandles units (handful strength (length rest_from)) →
-      SameHandles units nothing
+      SameHandles units no_amounts
   none_left Strong units is same = let none = ap length (at_end is) in (omega (arith, none, same.0), same.1)
   none_left Weak units is same = let none = ap length (at_end is) in (same.0, omega (arith, none, same.1))
 

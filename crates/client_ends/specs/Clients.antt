@@ -12,7 +12,7 @@ use Rattle.event_laws.specs.declared.own.Own.{Own}
 use Rattle.client_ends.specs.declared.why.Why.{Why}
 
 -- the amounts of a client's shares, and its own list
-pub record Sums : Type 0 where
+pub record ClientAmounts : Type 0 where
   pub units : Amounts
   pub own : List Own
 
@@ -33,7 +33,7 @@ abbrev pub last_reply : List Own → Option Reply
 last_reply own = option_map (λ (o : Own). o.reply) (slice_get own (length own - 1))
 
 -- the list with one entry more, of this call and this reply
-pub record IsTold (old new : List Own) (call : Call) (reply : Reply) : Type 0 where
+pub record AppendsOwn (old new : List Own) (call : Call) (reply : Reply) : Type 0 where
   pub event : ℕ
   pub next : new ≡ old ++ record { event = event; call = call; reply = reply } ∷ []
 
@@ -42,7 +42,7 @@ pub record IsTold (old new : List Own) (call : Call) (reply : Reply) : Type 0 wh
 pub record Made (old new : Seen) (call : Call) (reply : Reply) : Type 0 where
   pub id : new.id ≡ old.id
   pub share : new.share ≡ old.share + 1
-  pub told : IsTold old.own new.own call reply
+  pub told : AppendsOwn old.own new.own call reply
   pub fits : fits_call call reply ≡ true
 
 -- the calls of the entries
@@ -68,32 +68,32 @@ is_done Reply.Done = true
 is_done _ = false
 
 -- a Release that was answered so has spent its end
-abbrev pub is_over : Reply → Bool
-is_over Reply.Done = true
-is_over (Reply.PeerClosed cause origin) = true
-is_over _ = false
+abbrev pub release_spends : Reply → Bool
+release_spends Reply.Done = true
+release_spends (Reply.PeerClosed cause origin) = true
+release_spends _ = false
 
 -- the reply tells of a new token
-abbrev pub is_token : Reply → Bool
-is_token (Reply.Token key collection) = true
-is_token _ = false
+abbrev pub is_token_reply : Reply → Bool
+is_token_reply (Reply.Token key collection) = true
+is_token_reply _ = false
 
 -- of a new tracker
-abbrev pub is_tracker : Reply → Bool
-is_tracker (Reply.Tracker id) = true
-is_tracker _ = false
+abbrev pub is_tracker_reply : Reply → Bool
+is_tracker_reply (Reply.Tracker id) = true
+is_tracker_reply _ = false
 
 -- of handles that were taken
-abbrev pub is_taken : Reply → Bool
-is_taken (Reply.Taken collection strength set) = true
-is_taken _ = false
+abbrev pub is_take_reply : Reply → Bool
+is_take_reply (Reply.Taken collection strength set) = true
+is_take_reply _ = false
 
 -- of what was in a parcel, or that none waited
-abbrev pub is_found : Reply → Bool
-is_found (Reply.Collected key kind collection) = true
-is_found (Reply.CollectedHandle buffer strength) = true
-is_found Reply.Empty = true
-is_found _ = false
+abbrev pub is_collect_reply : Reply → Bool
+is_collect_reply (Reply.Collected key kind collection) = true
+is_collect_reply (Reply.CollectedHandle buffer strength) = true
+is_collect_reply Reply.Empty = true
+is_collect_reply _ = false
 
 -- one event was made, whose reply is the reason and none of those that were hoped for, or no event was
 abbrev pub MadeOr : (Reply → Bool) → Seen → Seen → Call → Why → Type 0
@@ -107,12 +107,12 @@ pub record Grip : Type 0 where
   pub strength : Strength
 
 -- nothing of any book
-abbrev pub nothing : Amounts
-nothing = record { events = 0; strong = 0; weak = 0 }
+abbrev pub no_amounts : Amounts
+no_amounts = record { events = 0; strong = 0; weak = 0 }
 
 -- the unit of one handle of this strength
-abbrev pub unit_of : Strength → Amounts
-unit_of strength = with_one strength nothing
+abbrev pub handle_unit : Strength → Amounts
+handle_unit strength = with_one strength no_amounts
 
 -- the strength of the handle that the call drops or gives: no other call lets one go
 abbrev pub lets_go : Call → Option Strength
@@ -138,9 +138,9 @@ with_gain None units = units
 with_gain (Some strength) units = with_one strength units
 
 -- how many that is
-abbrev pub gains : Option Strength → ℕ
-gains None = 0
-gains (Some strength) = 1
+abbrev pub handle_gain : Option Strength → ℕ
+handle_gain None = 0
+handle_gain (Some strength) = 1
 
 -- the amounts have the same handles
 abbrev pub SameHandles : Amounts → Amounts → Type 0
@@ -152,10 +152,10 @@ made_done (Ok reply) = is_done reply
 made_done (Err fault) = false
 
 -- the call opens, drops and moves no handle, and collects nothing
-abbrev pub is_plain : Call → Bool
-is_plain Call.Collect = false
-is_plain (Call.Take key) = false
-is_plain (Call.DupHandle buffer strength) = false
-is_plain (Call.DropHandle buffer strength) = false
-is_plain (Call.GiveHandle buffer strength to) = false
-is_plain _ = true
+abbrev pub moves_no_handle : Call → Bool
+moves_no_handle Call.Collect = false
+moves_no_handle (Call.Take key) = false
+moves_no_handle (Call.DupHandle buffer strength) = false
+moves_no_handle (Call.DropHandle buffer strength) = false
+moves_no_handle (Call.GiveHandle buffer strength to) = false
+moves_no_handle _ = true

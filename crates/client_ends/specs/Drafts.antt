@@ -27,22 +27,22 @@ abbrev pub with_call : Sketch → Call → Sketch
 with_call draft call = record draft { calls = draft.calls ++ call ∷ [] }
 
 -- the token that the reply tells of, which is the client's
-abbrev pub token_in : ℕ → Reply → List Tag
-token_in client (Reply.Token key collection) = record { client = client; key = key; collection = collection } ∷ []
-token_in client _ = []
+abbrev pub token_told : ℕ → Reply → List Tag
+token_told client (Reply.Token key collection) = record { client = client; key = key; collection = collection } ∷ []
+token_told client _ = []
 
 -- the client made one event for each of these calls, in this order: these are the replies, and the ends of those
 -- that tell of a token, in order
 pub record Went (old new : Seen) (calls : List Call) (replies : List Reply) (ends : List Tag) : Type 0 where
   pub made : MadeAll old new calls replies
-  pub tokens : ends ≡ flat_map (token_in old.id) replies
+  pub tokens : ends ≡ flat_map (token_told old.id) replies
 
 -- it made one event of this call, whose reply and end came behind those before
 pub record WentOn (old new : Seen) (call : Call) (before after : List Reply) (ends further : List Tag) : Type 0 where
   pub reply : Reply
   pub made : Made old new call reply
   pub replies : after ≡ before ++ reply ∷ []
-  pub tokens : further ≡ ends ++ token_in old.id reply
+  pub tokens : further ≡ ends ++ token_told old.id reply
 
 -- it made the first of the drafted calls so, and that one is no longer among them
 pub record WentFirst (old new : Seen) (key : NodeKey) (drafted left : List Drafted) (before after : List Reply)
@@ -63,6 +63,6 @@ pub record IsSynced (old new : Seen) (draft : Sketch) (back : Tag) (replies : Li
   pub went : Went old new (draft.calls ++ Call.Sync draft.token.key ∷ []) replies ends
 
 -- the first calls of the draft were made, and the draft that came back has the others
-pub record IsStopped (old new : Seen) (draft rest : Sketch) (replies : List Reply) (ends : List Tag) : Type 0 where
+pub record DraftStopped (old new : Seen) (draft rest : Sketch) (replies : List Reply) (ends : List Tag) : Type 0 where
   pub token : rest.token ≡ draft.token
   pub far : WentFar old new draft.calls rest.calls replies ends

@@ -3,13 +3,13 @@ ghost use Rattle.std.specs.Prelude.{◌≡◌, ◌+◌, ◌≤◌, ◌↔◌, []
 ghost use Rattle.sm_names.specs.declared.outcomes.StepFault.{StepFault as Fault};
 ghost use Rattle.sm_names.specs.declared.messages.Call.{Call as Asked};
 ghost use Rattle.lifetime_core.specs.Kinds.{fits_call};
-ghost use Rattle.service_lock.specs.States.{after};
-ghost use Rattle.service_lock.specs.Units.{Counts, HasUnitFor};
-ghost use Rattle.client_ends.specs.Clients.{IsTold, SameHandles, gained, gains, is_done, lets_go, made_done, may_gain, nothing, unit_of};
+ghost use Rattle.service_lock.specs.States.{view_after};
+ghost use Rattle.service_lock.specs.Units.{CountsEvent, HasUnitFor};
+ghost use Rattle.client_ends.specs.Clients.{AppendsOwn, SameHandles, gained, handle_gain, is_done, lets_go, made_done, may_gain, no_amounts, handle_unit};
 ghost use Rattle.client_ends.specs.Taking.{grips_by, told_taken};
 
+use crate::empty_units::{empty, memory_fault};
 use crate::handle::Handle;
-use crate::spare::{empty, memory_fault};
 use crate::taking::{hand_out, taken_by};
 use event_laws::Own;
 use service_lock::{Setup, State, Units, apply, books, pass, take_back};
@@ -56,9 +56,9 @@ pub(crate) struct Account<E: Setup, S: Ledger, W: Ledger> {
 
 impl<E: Setup, S: Ledger, W: Ledger> Model for Account<E, S, W> {
     ghost use Rattle.std.specs.Prelude.{◌≡◌, ◌+◌, vec_len};
-    ghost use Rattle.client_ends.specs.Clients.{Sums};
+    ghost use Rattle.client_ends.specs.Clients.{ClientAmounts};
 
-    ghost Value = { Sums };
+    ghost Value = { ClientAmounts };
 
     ghost view = { λ a. record { units = a.units; own = a.own.items } };
 
@@ -93,10 +93,10 @@ impl<E: Setup, S: Ledger, W: Ledger> Account<E, S, W> {
         call: Call,
     ) -> Result<Reply, StepFault>
         requires { HasUnitFor call self.old.units }
-        ensures counts { IfOk result (λ r. Counts self.old.units self.new.units call r) }
-        ensures told { IfOk result (λ r. IsTold self.old.own self.new.own call r) }
+        ensures counts { IfOk result (λ r. CountsEvent self.old.units self.new.units call r) }
+        ensures told { IfOk result (λ r. AppendsOwn self.old.own self.new.own call r) }
         ensures kind { IfOk result (λ r. fits_call call r ≡ true) }
-        ensures state { IfOk result (λ r. state.new ≡ after state.old client call r) }
+        ensures state { IfOk result (λ r. state.new ≡ view_after state.old client call r) }
         ensures fault { OnErr result ((self.new ≡ self.old) × (state.new ≡ state.old)) }
         ensures full { (result ≡ Err Fault.HistoryFull)
             ↔ (state.old.limits.events ≤ length state.old.history) }
@@ -126,17 +126,17 @@ impl<E: Setup, S: Ledger, W: Ledger> Account<E, S, W> {
         strength: Strength,
         unit: &mut Units<E, S, W>,
     ) -> Result<Reply, StepFault>
-        requires none { SameHandles self.old.units nothing }
-        requires unit { unit.old ≡ unit_of strength }
+        requires none { SameHandles self.old.units no_amounts }
+        requires unit { unit.old ≡ handle_unit strength }
         requires call { lets_go call ≡ Some strength }
-        ensures none { SameHandles self.new.units nothing }
+        ensures none { SameHandles self.new.units no_amounts }
         ensures share { IfOk result (λ r.
             self.new.units.events ≡ self.old.units.events + 1) }
-        ensures told { IfOk result (λ r. IsTold self.old.own self.new.own call r) }
-        ensures state { IfOk result (λ r. state.new ≡ after state.old client call r) }
+        ensures told { IfOk result (λ r. AppendsOwn self.old.own self.new.own call r) }
+        ensures state { IfOk result (λ r. state.new ≡ view_after state.old client call r) }
         ensures kind { IfOk result (λ r. fits_call call r ≡ true) }
         ensures kept { IfOk result (λ r. is_done r ≡ false → unit.new ≡ unit.old) }
-        ensures gone { IfOk result (λ r. is_done r ≡ true → unit.new ≡ nothing) }
+        ensures gone { IfOk result (λ r. is_done r ≡ true → unit.new ≡ no_amounts) }
         ensures fault { OnErr result ((self.new ≡ self.old) × (unit.new ≡ unit.old)
             × (state.new ≡ state.old)) }
         ensures full { (result ≡ Err Fault.HistoryFull)
@@ -158,16 +158,16 @@ impl<E: Setup, S: Ledger, W: Ledger> Account<E, S, W> {
         client: ClientId,
         call: Call,
     ) -> Result<(Reply, Option<Units<E, S, W>>), StepFault>
-        requires none { SameHandles self.old.units nothing }
+        requires none { SameHandles self.old.units no_amounts }
         requires call { may_gain call ≡ true }
-        ensures none { SameHandles self.new.units nothing }
+        ensures none { SameHandles self.new.units no_amounts }
         ensures share { IfOk result (λ p.
             self.new.units.events ≡ self.old.units.events + 1) }
-        ensures told { IfOk result (λ p. IsTold self.old.own self.new.own call p.0) }
+        ensures told { IfOk result (λ p. AppendsOwn self.old.own self.new.own call p.0) }
         ensures kind { IfOk result (λ p. fits_call call p.0 ≡ true) }
-        ensures unit { IfOk result (λ p. p.1 ≡ option_map unit_of (gained call p.0)) }
+        ensures unit { IfOk result (λ p. p.1 ≡ option_map handle_unit (gained call p.0)) }
         ensures parts { IfOk result (λ p.
-            state.new.parts + gains (gained call p.0) ≡ state.old.parts) }
+            state.new.parts + handle_gain (gained call p.0) ≡ state.old.parts) }
         ensures fault { OnErr result ((self.new ≡ self.old) × (state.new ≡ state.old)) }
         ensures full { (result ≡ Err Fault.HistoryFull)
             ↔ (state.old.limits.events ≤ length state.old.history) }
@@ -201,14 +201,14 @@ impl<E: Setup, S: Ledger, W: Ledger> Account<E, S, W> {
         key: NodeKey,
         handles: &mut Vec<Handle<E, S, W>>,
     ) -> Result<Reply, StepFault>
-        requires none { SameHandles self.old.units nothing }
+        requires none { SameHandles self.old.units no_amounts }
         requires empty { handles.old.items ≡ [] }
         requires room { MAX_BUFFERS ≤ vec_capacity handles.old }
         requires parts { MAX_BUFFERS ≤ state.old.parts }
-        ensures none { SameHandles self.new.units nothing }
+        ensures none { SameHandles self.new.units no_amounts }
         ensures share { IfOk result (λ r.
             self.new.units.events ≡ self.old.units.events + 1) }
-        ensures told { IfOk result (λ r. IsTold self.old.own self.new.own (Asked.Take key) r) }
+        ensures told { IfOk result (λ r. AppendsOwn self.old.own self.new.own (Asked.Take key) r) }
         ensures kind { IfOk result (λ r. fits_call (Asked.Take key) r ≡ true) }
         ensures handles { IfOk result (λ r.
             handles.new.items ≡ grips_by client (told_taken r)) }

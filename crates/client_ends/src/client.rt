@@ -5,17 +5,17 @@ ghost use Rattle.sm_names.specs.declared.messages.Reply.{Reply as Told};
 ghost use Rattle.sm_names.specs.declared.outcomes.StepFault.{StepFault as Fault};
 ghost use Rattle.client_ends.specs.declared.why.Why.{Why as Reason};
 ghost use Rattle.lifetime_core.specs.Kinds.{fits_call};
-ghost use Rattle.service_lock.specs.States.{after, with_parts};
-ghost use Rattle.client_ends.specs.Clients.{Made, MadeOr, is_done, is_found, is_over, is_plain, is_taken, is_token, is_tracker, last_reply, lets_go, unit_of};
-ghost use Rattle.client_ends.specs.Collecting.{Collected, handles_in};
+ghost use Rattle.service_lock.specs.States.{view_after, with_parts};
+ghost use Rattle.client_ends.specs.Clients.{Made, MadeOr, is_done, is_collect_reply, release_spends, moves_no_handle, is_take_reply, is_token_reply, is_tracker_reply, last_reply, lets_go, handle_unit};
+ghost use Rattle.client_ends.specs.Collecting.{Collected, handles_collected};
 ghost use Rattle.client_ends.specs.Taking.{Took};
 
 use crate::account::Account;
+use crate::empty_units::empty;
 use crate::ended::Ended;
 use crate::ends::{CollectionEnd, TokenEnd};
 use crate::handle::Handle;
 use crate::held::End;
-use crate::spare::empty;
 use crate::taking::make_room;
 use crate::why::Why;
 use event_laws::Own;
@@ -72,7 +72,7 @@ fn join_in<E: Setup, S: Ledger, W: Ledger>(
 ) -> Result<Client<E, S, W>, StepFault>
     ensures client { IfOk result (λ c. (c.own ≡ []) × (c.share ≡ 1)) }
     ensures event { IfOk result (λ c.
-        with_parts 1 state.new ≡ after state.old 0 Asked.Join (Told.Joined c.id)) }
+        with_parts 1 state.new ≡ view_after state.old 0 Asked.Join (Told.Joined c.id)) }
     ensures fault { OnErr result (state.new ≡ state.old) }
     ensures full { (result ≡ Err Fault.HistoryFull)
         ↔ (state.old.limits.events ≤ length state.old.history) }
@@ -125,10 +125,10 @@ impl<E: Setup, S: Ledger, W: Ledger> Client<E, S, W> {
         state: &mut State<E, S, W>,
         call: Call,
     ) -> Result<Reply, StepFault>
-        requires { is_plain call ≡ true }
+        requires { moves_no_handle call ≡ true }
         ensures made { MatchResult result
             (λ r. Made self.old self.new call r) (λ _. self.new ≡ self.old) }
-        ensures state { IfOk result (λ r. state.new ≡ after state.old self.old.id call r) }
+        ensures state { IfOk result (λ r. state.new ≡ view_after state.old self.old.id call r) }
         ensures fault { OnErr result (state.new ≡ state.old) }
         ensures full { (result ≡ Err Fault.HistoryFull)
             ↔ (state.old.limits.events ≤ length state.old.history) }
@@ -143,7 +143,7 @@ impl<E: Setup, S: Ledger, W: Ledger> Client<E, S, W> {
         service: &Service<E, S, W>,
         call: Call,
     ) -> Result<Reply, StepFault>
-        requires { is_plain call ≡ true }
+        requires { moves_no_handle call ≡ true }
         ensures made { MatchResult result
             (λ r. Made self.old self.new call r) (λ _. self.new ≡ self.old) }
     {
@@ -158,11 +158,11 @@ impl<E: Setup, S: Ledger, W: Ledger> Client<E, S, W> {
         service: &Service<E, S, W>,
         call: Call,
     ) -> Result<TokenEnd, Why>
-        requires { is_plain call ≡ true }
+        requires { moves_no_handle call ≡ true }
         ensures { MatchResult result
             (λ t. (t.client ≡ self.old.id)
             × Made self.old self.new call (Told.Token t.key t.collection))
-            (λ w. MadeOr is_token self.old self.new call w) }
+            (λ w. MadeOr is_token_reply self.old self.new call w) }
     {
         match self.event(rt, service, call) {
             Ok(Reply::Token { key, collection }) => Ok(TokenEnd::new(self.id, key, collection)),
@@ -178,7 +178,7 @@ impl<E: Setup, S: Ledger, W: Ledger> Client<E, S, W> {
         service: &Service<E, S, W>,
         call: Call,
     ) -> Result<(), Why>
-        requires { is_plain call ≡ true }
+        requires { moves_no_handle call ≡ true }
         ensures { MatchResult result
             (λ _. Made self.old self.new call Told.Done)
             (λ w. MadeOr is_done self.old self.new call w) }
@@ -197,10 +197,10 @@ impl<E: Setup, S: Ledger, W: Ledger> Client<E, S, W> {
         service: &Service<E, S, W>,
         call: Call,
     ) -> Result<Reply, Why>
-        requires { is_plain call ≡ true }
+        requires { moves_no_handle call ≡ true }
         ensures { MatchResult result
-            (λ r. Made self.old self.new call r × (is_over r ≡ true))
-            (λ w. MadeOr is_over self.old self.new call w) }
+            (λ r. Made self.old self.new call r × (release_spends r ≡ true))
+            (λ w. MadeOr release_spends self.old self.new call w) }
     {
         match self.event(rt, service, call) {
             Ok(Reply::Done) => Ok(Reply::Done),
@@ -218,10 +218,10 @@ impl<E: Setup, S: Ledger, W: Ledger> Client<E, S, W> {
         service: &Service<E, S, W>,
         call: Call,
     ) -> Result<Tracker, Why>
-        requires { is_plain call ≡ true }
+        requires { moves_no_handle call ≡ true }
         ensures { MatchResult result
             (λ t. Made self.old self.new call (Told.Tracker t.tracker))
-            (λ w. MadeOr is_tracker self.old self.new call w) }
+            (λ w. MadeOr is_tracker_reply self.old self.new call w) }
     {
         let mut guard = service.lock(rt);
         let state = guard.state_mut();
@@ -244,11 +244,11 @@ impl<E: Setup, S: Ledger, W: Ledger> Client<E, S, W> {
         strength: Strength,
         unit: Units<E, S, W>,
     ) -> Result<(), (Why, Units<E, S, W>)>
-        requires unit { unit ≡ unit_of strength }
+        requires unit { unit ≡ handle_unit strength }
         requires call { lets_go call ≡ Some strength }
         ensures { MatchResult result
             (λ _. Made self.old self.new call Told.Done)
-            (λ e. MadeOr is_done self.old self.new call e.0 × (e.1 ≡ unit_of strength)) }
+            (λ e. MadeOr is_done self.old self.new call e.0 × (e.1 ≡ handle_unit strength)) }
     {
         let mut guard = service.lock(rt);
         self.let_go_in(guard.state_mut(), call, strength, unit)
@@ -262,11 +262,11 @@ impl<E: Setup, S: Ledger, W: Ledger> Client<E, S, W> {
         strength: Strength,
         unit: Units<E, S, W>,
     ) -> Result<(), (Why, Units<E, S, W>)>
-        requires unit { unit ≡ unit_of strength }
+        requires unit { unit ≡ handle_unit strength }
         requires call { lets_go call ≡ Some strength }
         ensures made { MatchResult result
             (λ _. Made self.old self.new call Told.Done)
-            (λ e. MadeOr is_done self.old self.new call e.0 × (e.1 ≡ unit_of strength)) }
+            (λ e. MadeOr is_done self.old self.new call e.0 × (e.1 ≡ handle_unit strength)) }
         ensures back { OnOk result (state.old.parts + 1 < 2 ^ 40 →
             state.new.parts ≡ state.old.parts + 1) }
         ensures same { OnErr result (state.new.parts ≡ state.old.parts) }
@@ -338,7 +338,7 @@ impl<E: Setup, S: Ledger, W: Ledger> Client<E, S, W> {
     ) -> Result<Vec<Handle<E, S, W>>, Why>
         ensures { MatchResult result
             (λ hs. Took self.old self.new key hs.items)
-            (λ w. MadeOr is_taken self.old self.new (Asked.Take key) w) }
+            (λ w. MadeOr is_take_reply self.old self.new (Asked.Take key) w) }
     {
         let mut guard = service.lock(rt);
         self.taken_in(alloc, guard.state_mut(), key)
@@ -353,7 +353,7 @@ impl<E: Setup, S: Ledger, W: Ledger> Client<E, S, W> {
     ) -> Result<Vec<Handle<E, S, W>>, Why>
         ensures made { MatchResult result
             (λ hs. Took self.old self.new key hs.items)
-            (λ w. MadeOr is_taken self.old self.new (Asked.Take key) w) }
+            (λ w. MadeOr is_take_reply self.old self.new (Asked.Take key) w) }
         ensures parts { IfOk result (λ hs. state.new.parts + vec_len hs ≡ state.old.parts) }
         ensures same { OnErr result (state.new.parts ≡ state.old.parts) }
         ensures full { (result ≡ Err (Reason.Fault Fault.HistoryFull))
@@ -385,7 +385,7 @@ impl<E: Setup, S: Ledger, W: Ledger> Client<E, S, W> {
     ) -> Result<Option<End<E, S, W>>, Why>
         ensures { MatchResult result
             (λ found. Collected self.old self.new found)
-            (λ w. MadeOr is_found self.old self.new Asked.Collect w) }
+            (λ w. MadeOr is_collect_reply self.old self.new Asked.Collect w) }
     {
         let mut guard = service.lock(rt);
         self.collect_in(guard.state_mut())
@@ -396,9 +396,9 @@ impl<E: Setup, S: Ledger, W: Ledger> Client<E, S, W> {
     fn collect_in(&mut self, state: &mut State<E, S, W>) -> Result<Option<End<E, S, W>>, Why>
         ensures made { MatchResult result
             (λ found. Collected self.old self.new found)
-            (λ w. MadeOr is_found self.old self.new Asked.Collect w) }
+            (λ w. MadeOr is_collect_reply self.old self.new Asked.Collect w) }
         ensures parts { IfOk result (λ found.
-            state.new.parts + handles_in found ≡ state.old.parts) }
+            state.new.parts + handles_collected found ≡ state.old.parts) }
         ensures same { OnErr result (state.new.parts ≡ state.old.parts) }
         ensures full { (result ≡ Err (Reason.Fault Fault.HistoryFull))
             ↔ (state.old.limits.events ≤ length state.old.history) }
@@ -453,7 +453,7 @@ impl<E: Setup, S: Ledger, W: Ledger> Client<E, S, W> {
         ensures { MatchResult result
             (λ t. (t.client ≡ self.old.id)
             × Made self.old self.new Asked.OpenRoot (Told.Token t.key t.collection))
-            (λ w. MadeOr is_token self.old self.new Asked.OpenRoot w) }
+            (λ w. MadeOr is_token_reply self.old self.new Asked.OpenRoot w) }
     {
         self.new_end(rt, service, Call::OpenRoot)
     }

@@ -2,7 +2,7 @@
 ghost use Rattle.std.specs.Prelude.{◌≡◌, MatchResult};
 ghost use Rattle.sm_names.specs.declared.messages.Call.{Call as Asked};
 ghost use Rattle.sm_names.specs.declared.messages.Reply.{Reply as Told};
-ghost use Rattle.client_ends.specs.Clients.{Made, MadeOr, is_taken, is_token, is_tracker};
+ghost use Rattle.client_ends.specs.Clients.{Made, MadeOr, is_take_reply, is_token_reply, is_tracker_reply};
 ghost use Rattle.client_ends.specs.Taking.{Took};
 
 use crate::client::Client;
@@ -29,7 +29,7 @@ impl CollectionEnd {
         ensures { MatchResult result
             (λ t. (t.client ≡ client.old.id) × Made client.old client.new
             (Asked.AttachToken self.now.key) (Told.Token t.key t.collection))
-            (λ w. MadeOr is_token client.old client.new (Asked.AttachToken self.now.key) w) }
+            (λ w. MadeOr is_token_reply client.old client.new (Asked.AttachToken self.now.key) w) }
     {
         client.new_end(rt, service, Call::AttachToken(self.key()))
     }
@@ -83,7 +83,7 @@ impl CollectionEnd {
         requires holder { self.now.client ≡ client.old.id }
         ensures { MatchResult result
             (λ hs. Took client.old client.new self.now.key hs.items)
-            (λ w. MadeOr is_taken client.old client.new (Asked.Take self.now.key) w) }
+            (λ w. MadeOr is_take_reply client.old client.new (Asked.Take self.now.key) w) }
     {
         client.taken(rt, alloc, service, self.key())
     }
@@ -102,7 +102,7 @@ impl CollectionEnd {
         ensures { MatchResult result
             (λ t. Made client.old client.new
             (Asked.TrackLifetime self.now.key most) (Told.Tracker t.tracker))
-            (λ w. MadeOr is_tracker client.old client.new
+            (λ w. MadeOr is_tracker_reply client.old client.new
             (Asked.TrackLifetime self.now.key most) w) }
     {
         client.tracker(rt, service, Call::TrackLifetime(self.key(), most))

@@ -2,11 +2,11 @@
 ghost use Rattle.std.specs.Prelude.{◌≡◌, ◌≤◌, ◌↔◌, [], IfErr, MatchResult, length};
 ghost use Rattle.sm_names.specs.declared.messages.Call.{Call as Asked};
 ghost use Rattle.sm_names.specs.declared.outcomes.StepFault.{StepFault as Fault};
-ghost use Rattle.client_ends.specs.Drafts.{IsStopped, IsSynced, drafted_call, with_call};
+ghost use Rattle.client_ends.specs.Drafts.{DraftStopped, IsSynced, drafted_call, with_call};
 
 use crate::client::Client;
+use crate::empty_units::memory_fault;
 use crate::ends::TokenEnd;
-use crate::spare::memory_fault;
 use crate::syncing::{make_all, make_room};
 use service_lock::{Service, Setup, State};
 use sm_names::{ClientId, NoMemory, Reply, StepFault};
@@ -156,7 +156,7 @@ impl Draft {
         requires holder { self.token.client ≡ client.old.id }
         ensures { MatchResult result
             (λ s. IsSynced client.old client.new self s.token s.replies.items s.made.items)
-            (λ e. IsStopped client.old client.new self e.0 e.1.replies.items e.1.made.items) }
+            (λ e. DraftStopped client.old client.new self e.0 e.1.replies.items e.1.made.items) }
     {
         let mut guard = service.lock(rt);
         self.sync_in(alloc, guard.state_mut(), client)
@@ -172,7 +172,7 @@ impl Draft {
     ) -> Result<Synced, (Draft, Part, StepFault)>
         ensures made { MatchResult result
             (λ s. IsSynced client.old client.new self s.token s.replies.items s.made.items)
-            (λ e. IsStopped client.old client.new self e.0 e.1.replies.items e.1.made.items) }
+            (λ e. DraftStopped client.old client.new self e.0 e.1.replies.items e.1.made.items) }
         ensures full { IfErr result (λ e. (e.2 ≡ Fault.HistoryFull)
             ↔ (state.new.limits.events ≤ length state.new.history)) }
     {

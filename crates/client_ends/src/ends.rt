@@ -2,7 +2,7 @@
 ghost use Rattle.std.specs.Prelude.{◌≡◌, MatchResult, true};
 ghost use Rattle.sm_names.specs.declared.messages.Call.{Call as Asked};
 ghost use Rattle.sm_names.specs.declared.messages.Reply.{Reply as Told};
-ghost use Rattle.client_ends.specs.Clients.{Made, MadeOr, is_done, is_over, is_tracker};
+ghost use Rattle.client_ends.specs.Clients.{Made, MadeOr, is_done, release_spends, is_tracker_reply};
 
 use crate::client::Client;
 use crate::ended::Ended;
@@ -139,7 +139,7 @@ impl<K> EndOf<K> {
         ensures { MatchResult result
             (λ t. Made client.old client.new
             (Asked.TrackNode self.now.key) (Told.Tracker t.tracker))
-            (λ w. MadeOr is_tracker client.old client.new (Asked.TrackNode self.now.key) w) }
+            (λ w. MadeOr is_tracker_reply client.old client.new (Asked.TrackNode self.now.key) w) }
     {
         client.tracker(rt, service, Call::TrackNode(self.key))
     }
@@ -179,9 +179,9 @@ impl<K> EndOf<K> {
     ) -> Result<Reply, Kept<EndOf<K>>>
         requires holder { self.client ≡ client.old.id }
         ensures { MatchResult result
-            (λ r. Made client.old client.new (Asked.Release self.key) r × (is_over r ≡ true))
+            (λ r. Made client.old client.new (Asked.Release self.key) r × (release_spends r ≡ true))
             (λ k. (k.value ≡ self)
-            × MadeOr is_over client.old client.new (Asked.Release self.key) k.why) }
+            × MadeOr release_spends client.old client.new (Asked.Release self.key) k.why) }
     {
         match client.released(rt, service, Call::Release(self.key)) {
             Ok(reply) => {

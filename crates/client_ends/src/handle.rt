@@ -2,7 +2,7 @@
 ghost use Rattle.std.specs.Prelude.{◌≡◌, MatchResult, Some};
 ghost use Rattle.sm_names.specs.declared.messages.Call.{Call as Asked};
 ghost use Rattle.sm_names.specs.declared.messages.Reply.{Reply as Told};
-ghost use Rattle.client_ends.specs.Clients.{Made, MadeOr, is_done, is_tracker, lets_go, unit_of};
+ghost use Rattle.client_ends.specs.Clients.{Made, MadeOr, is_done, is_tracker_reply, lets_go, handle_unit};
 
 use crate::client::Client;
 use crate::ended::Ended;
@@ -27,13 +27,13 @@ pub struct Handle<E: Setup, S: Ledger, W: Ledger> {
 
 impl<E: Setup, S: Ledger, W: Ledger> Model for Handle<E, S, W> {
     ghost use Rattle.std.specs.Prelude.{◌≡◌};
-    ghost use Rattle.client_ends.specs.Clients.{Grip, unit_of};
+    ghost use Rattle.client_ends.specs.Clients.{Grip, handle_unit};
 
     ghost Value = { Grip };
 
     ghost view = { λ h. record { client = h.client; buffer = h.buffer; strength = h.strength } };
 
-    ghost invariant = { λ h. h.unit ≡ unit_of h.strength };
+    ghost invariant = { λ h. h.unit ≡ handle_unit h.strength };
 }
 
 impl<E: Setup, S: Ledger, W: Ledger> Handle<E, S, W> {
@@ -43,7 +43,7 @@ impl<E: Setup, S: Ledger, W: Ledger> Handle<E, S, W> {
         strength: Strength,
         unit: Units<E, S, W>,
     ) -> Handle<E, S, W>
-        requires { unit ≡ unit_of strength }
+        requires { unit ≡ handle_unit strength }
         ensures { result ≡ record { client = client; buffer = buffer; strength = strength } }
     {
         Handle {
@@ -115,7 +115,7 @@ impl<E: Setup, S: Ledger, W: Ledger> Handle<E, S, W> {
         ensures { MatchResult result
             (λ t. Made client.old client.new
             (Asked.TrackWeak self.now.buffer) (Told.Tracker t.tracker))
-            (λ w. MadeOr is_tracker client.old client.new
+            (λ w. MadeOr is_tracker_reply client.old client.new
             (Asked.TrackWeak self.now.buffer) w) }
     {
         client.tracker(rt, service, Call::TrackWeak(self.buffer))

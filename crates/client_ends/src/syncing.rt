@@ -3,8 +3,8 @@ ghost use Rattle.std.specs.Prelude.{◌≡◌, ◌+◌, ◌<◌, ◌≤◌, ◌�
 ghost use Rattle.std.specs.VecDeque.{deque_len};
 ghost use Rattle.sm_names.specs.declared.messages.Call.{Call as Asked};
 ghost use Rattle.sm_names.specs.declared.outcomes.StepFault.{StepFault as Fault};
-ghost use Rattle.client_ends.specs.Clients.{is_plain};
-ghost use Rattle.client_ends.specs.Drafts.{Went, WentFar, WentFirst, WentOn, drafted_call, drafted_calls, token_in};
+ghost use Rattle.client_ends.specs.Clients.{moves_no_handle};
+ghost use Rattle.client_ends.specs.Drafts.{Went, WentFar, WentFirst, WentOn, drafted_call, drafted_calls, token_told};
 
 use crate::client::Client;
 use crate::draft::{Drafted, Part};
@@ -32,7 +32,7 @@ pub(crate) fn make_room(part: &mut Part, events: usize) -> Result<(), AllocError
 // The call of the node that was drafted.
 fn call_of(key: NodeKey, drafted: Drafted) -> Call
     ensures call { result ≡ drafted_call key drafted }
-    ensures plain { is_plain result ≡ true }
+    ensures plain { moves_no_handle result ≡ true }
 {
     match drafted {
         Drafted::Duplicate => Call::Duplicate(key),
@@ -47,7 +47,7 @@ fn keep(client: ClientId, reply: &Reply, part: &mut Part)
     requires replies_room { vec_len part.old.replies < vec_capacity part.old.replies }
     requires made_room { vec_len part.old.made < vec_capacity part.old.made }
     ensures replies { part.new.replies.items ≡ part.old.replies.items ++ reply.now ∷ [] }
-    ensures tokens { part.new.made.items ≡ part.old.made.items ++ token_in client reply.now }
+    ensures tokens { part.new.made.items ≡ part.old.made.items ++ token_told client reply.now }
     ensures one_reply { vec_len part.new.replies ≡ vec_len part.old.replies + 1 }
     ensures one_token { vec_len part.new.made ≤ vec_len part.old.made + 1 }
     ensures same_replies { vec_capacity part.new.replies ≡ vec_capacity part.old.replies }
@@ -67,7 +67,7 @@ fn make_next<E: Setup, S: Ledger, W: Ledger>(
     call: Call,
     part: &mut Part,
 ) -> Result<(), StepFault>
-    requires plain { is_plain call ≡ true }
+    requires plain { moves_no_handle call ≡ true }
     requires replies_room { vec_len part.old.replies < vec_capacity part.old.replies }
     requires made_room { vec_len part.old.made < vec_capacity part.old.made }
     ensures went { OnOk result (WentOn client.old client.new call

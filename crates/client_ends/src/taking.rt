@@ -4,11 +4,11 @@ ghost use Rattle.sm_names.specs.declared.outcomes.StepFault.{StepFault as Fault}
 ghost use Rattle.event_laws.specs.HandleSums.{indices_in};
 ghost use Rattle.service_lock.specs.States.{with_parts};
 ghost use Rattle.service_lock.specs.Units.{HasOne, with_one};
-ghost use Rattle.client_ends.specs.Clients.{SameHandles, nothing};
+ghost use Rattle.client_ends.specs.Clients.{SameHandles, no_amounts};
 ghost use Rattle.client_ends.specs.Taking.{grip_at, grips_at, handful, told_taken};
 
+use crate::empty_units::{empty, memory_fault};
 use crate::handle::Handle;
-use crate::spare::{empty, memory_fault};
 use service_lock::{Setup, State, Units, parts, pass};
 use sm_names::{
     BufferName, ClientId, CollectionId, MAX_BUFFERS, Reply, StepFault, Strength, has_buffer,
@@ -106,7 +106,7 @@ pub(crate) fn hand_out<E: Setup, S: Ledger, W: Ledger>(
     requires none { handles.old.items ≡ [] }
     requires room { MAX_BUFFERS ≤ vec_capacity handles.old }
     requires parts { MAX_BUFFERS ≤ state.old.parts }
-    ensures units { SameHandles units.new nothing }
+    ensures units { SameHandles units.new no_amounts }
     ensures events { units.new.events ≡ units.old.events }
     ensures handles { handles.new.items ≡ grips_at client taken.now (indices_in taken.now.set) }
     ensures parts { state.new.parts + vec_len handles.new ≡ state.old.parts }

@@ -2,7 +2,7 @@
 ghost use Rattle.std.specs.Prelude.{◌≡◌, MatchResult};
 ghost use Rattle.sm_names.specs.declared.messages.Call.{Call as Asked};
 ghost use Rattle.sm_names.specs.declared.messages.Reply.{Reply as Told};
-ghost use Rattle.client_ends.specs.Clients.{Made, MadeOr, is_done, is_token};
+ghost use Rattle.client_ends.specs.Clients.{Made, MadeOr, is_done, is_token_reply};
 
 use crate::client::Client;
 use crate::ends::{CollectionEnd, TokenEnd};
@@ -24,7 +24,7 @@ impl TokenEnd {
         ensures { MatchResult result
             (λ t. (t.client ≡ client.old.id) × Made client.old client.new
             (Asked.Duplicate self.now.key) (Told.Token t.key t.collection))
-            (λ w. MadeOr is_token client.old client.new (Asked.Duplicate self.now.key) w) }
+            (λ w. MadeOr is_token_reply client.old client.new (Asked.Duplicate self.now.key) w) }
     {
         client.new_end(rt, service, Call::Duplicate(self.key()))
     }

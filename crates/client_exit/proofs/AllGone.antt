@@ -28,13 +28,13 @@ use Rattle.sm_names.proofs.SamenessLaws.{both_ways, either_way, or_first, same_k
 use Rattle.sm_names.proofs.StandingLaws.{In-any}
 use Rattle.sm_names.proofs.SumLaws.{sum_by-same, sum_by-zero}
 use Rattle.sm_names.proofs.TakeLaws.{none_key}
-use Rattle.event_laws.specs.ByEvent.{mark_of}
+use Rattle.event_laws.specs.ByEvent.{entry_mark}
 use Rattle.event_laws.proofs.EndEventLaws.{born_event, holder_event}
 use Rattle.event_laws.proofs.FreeEndLaws.{FreeEnd, passed}
 use Rattle.event_laws.proofs.HandLaws.{NextEvent, next_event}
 use Rattle.event_laws.proofs.HandleBufferLaws.{still_joined, stranger_has_none}
 use Rattle.event_laws.proofs.ParcelEventLaws.{stranger_waits_for_none}
-use Rattle.client_exit.specs.Exits.{ExitedIn, HasExited, holds}
+use Rattle.client_exit.specs.Exits.{ExitedIn, HasExited, holds_end}
 use Rattle.client_exit.proofs.ExitEvents.{exited_on, kept_on}
 use Rattle.client_exit.proofs.HeldEnds.{free_holds}
 
@@ -87,10 +87,10 @@ module _ (pool : ℕ) (limits : Bound) (history : List Entry) (entry : Entry) (l
 
   -- who has joined stays so
   joined_still : (c : ℕ) → has_joined (timeline pool history) c ≡ true → has_joined (timeline pool (history ++ entry ∷ [])) c ≡ true
-  joined_still c h = ap (λ (cs : List ℕ). list_any (λ k. k == c) cs) next.same.joined ∙ still_joined old (mark_of entry) c h
+  joined_still c h = ap (λ (cs : List ℕ). list_any (λ k. k == c) cs) next.same.joined ∙ still_joined old (entry_mark entry) c h
 
   -- by a Collect of it
-  of_old : (o : Option ℕ) → collector_at key (mark_of entry) ≡ o → was_born (births (timeline pool history)) key ≡ true →
+  of_old : (o : Option ℕ) → collector_at key (entry_mark entry) ≡ o → was_born (births (timeline pool history)) key ≡ true →
       has_joined (timeline pool (history ++ entry ∷ [])) (holder (timeline pool (history ++ entry ∷ [])) key) ≡ true
   of_old None e born =
       let same : holder new key ≡ holder old key = holder_event pool limits history entry legal key born
@@ -103,7 +103,7 @@ module _ (pool : ℕ) (limits : Bound) (history : List Entry) (entry : Entry) (l
       ∙ joined_still c (collector_joined limits old entry.0 entry.2 entry.1 next.answer key c e)
 
   -- of a node that is born just now
-  of_new : (o : Option Birth) → birth_at (events (timeline pool history) + 1) (mark_of entry) ≡ o →
+  of_new : (o : Option Birth) → birth_at (events (timeline pool history) + 1) (entry_mark entry) ≡ o →
       was_born (births (timeline pool history)) key ≡ false → was_born (births (timeline pool (history ++ entry ∷ []))) key ≡ true →
       has_joined (timeline pool (history ++ entry ∷ [])) (holder (timeline pool (history ++ entry ∷ [])) key) ≡ true
   of_new None e unborn born =
@@ -121,8 +121,8 @@ module _ (pool : ℕ) (limits : Bound) (history : List Entry) (entry : Entry) (l
   pub holder_next : was_born (births (timeline pool (history ++ entry ∷ []))) key ≡ true →
       has_joined (timeline pool (history ++ entry ∷ [])) (holder (timeline pool (history ++ entry ∷ [])) key) ≡ true
   holder_next born = elim (either_way (was_born (births old) key)) [
-    | inl there ↦ of_old (collector_at key (mark_of entry)) refl there
-    | inr unborn ↦ of_new (birth_at (events old + 1) (mark_of entry)) refl unborn born
+    | inl there ↦ of_old (collector_at key (entry_mark entry)) refl there
+    | inr unborn ↦ of_new (birth_at (events old + 1) (entry_mark entry)) refl unborn born
   ]
 
 -- so it is in a legal history
@@ -167,7 +167,7 @@ module _ (pool : ℕ) (limits : Bound) (history : List Entry) (legal : IsLegal p
           let x : HasExited (readings now) (holder now key) =
           exited (holder now key) (holder_joined pool limits history legal key born) in
           let f : FreeEnd now (holder now key) key = record { born = born; unspent = unspent; resting = resting; held = refl } in
-          both_ways (holds (readings now) (holder now key) key) (free_holds now (holder now key) key f) (x.ends key)
+          both_ways (holds_end (readings now) (holder now key) key) (free_holds now (holder now key) key f) (x.ends key)
     ]
   ]
 

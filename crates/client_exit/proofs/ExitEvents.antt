@@ -29,13 +29,13 @@ use Rattle.sm_names.proofs.ListLaws.{when-Some}
 use Rattle.sm_names.proofs.RestLaws.{when-None}
 use Rattle.sm_names.proofs.SamenessLaws.{and_left, both_ways, either_way, false_if, none_or_some, or_first, or_none_left, or_none_right, or_right, same_key-true}
 use Rattle.sm_names.proofs.TakeLaws.{none_key}
-use Rattle.event_laws.specs.ByEvent.{GoesBy, collected_at, delivers, gains, loses, mark_of, one_if, only, sends}
+use Rattle.event_laws.specs.ByEvent.{GoesBy, collected_at, delivers, gains, loses, entry_mark, one_if, only, sends}
 use Rattle.event_laws.proofs.EndEventLaws.{born_event, holder_event, spent_event, transit_event}
 use Rattle.event_laws.proofs.FreeEndLaws.{FreeEnd, free_end, passed}
 use Rattle.event_laws.proofs.HandLaws.{NextEvent, next_event}
 use Rattle.event_laws.proofs.HandleEventLaws.{open_of_event}
 use Rattle.event_laws.proofs.ParcelEventLaws.{collected_event, idle_event, shut_event}
-use Rattle.client_exit.specs.Exits.{HasExited, holds}
+use Rattle.client_exit.specs.Exits.{HasExited, holds_end}
 use Rattle.client_exit.proofs.HeldEnds.{free_holds, holds_free}
 
 -- ---- who gets something is not shut, or has an end, a handle or a parcel
@@ -113,39 +113,39 @@ module _ (pool : ℕ) (limits : Bound) (history : List Entry) (entry : Entry) (l
   next = next_event pool limits history entry legal
 
   -- an end that the client holds after an event by which it gets no parcel and no node, it held before
-  pub held_before : (key : NodeKey) → collected_at client (mark_of entry) ≡ None →
-      ((b : Birth) → birth_at (events (timeline pool history) + 1) (mark_of entry) ≡ Some b → entry.0 ≡ client → ⊥) →
+  pub held_before : (key : NodeKey) → collected_at client (entry_mark entry) ≡ None →
+      ((b : Birth) → birth_at (events (timeline pool history) + 1) (entry_mark entry) ≡ Some b → entry.0 ≡ client → ⊥) →
       FreeEnd (timeline pool (history ++ entry ∷ [])) client key → FreeEnd (timeline pool history) client key
   held_before key idle strange f = elim (either_way (was_born (births old) key)) [
     | inl born ↦
-        let o : (spends key (mark_of entry) || spent old key) ≡ false = sym (spent_event pool limits history entry legal key) ∙ f.unspent in
-        let no : collector_at key (mark_of entry) ≡ None = uncollected born in
-        let t : (sends key (mark_of entry) || (in_transit old key && not (delivers key (mark_of entry)))) ≡ false =
+        let o : (spends key (entry_mark entry) || spent old key) ≡ false = sym (spent_event pool limits history entry legal key) ∙ f.unspent in
+        let no : collector_at key (entry_mark entry) ≡ None = uncollected born in
+        let t : (sends key (entry_mark entry) || (in_transit old key && not (delivers key (entry_mark entry)))) ≡ false =
         sym (transit_event pool limits history entry legal key) ∙ f.resting in
-        let r : (in_transit old key && not (delivers key (mark_of entry))) ≡ false = or_none_right (sends key (mark_of entry)) _ t in
+        let r : (in_transit old key && not (delivers key (entry_mark entry))) ≡ false = or_none_right (sends key (entry_mark entry)) _ t in
         record {
           born = born;
-          unspent = or_none_right (spends key (mark_of entry)) (spent old key) o;
+          unspent = or_none_right (spends key (entry_mark entry)) (spent old key) o;
           resting = sym (and-true (in_transit old key))
               ∙ (ap (λ (o : Option ℕ). in_transit old key && not (is_some o)) (sym no) ∙ r);
           held = sym (holder_event pool limits history entry legal key born
               ∙ ap (λ (o : Option ℕ). option_map_or (λ c. c) o (holder old key)) no)
               ∙ f.held;
         }
-    | inr unborn ↦ absurd (newborn (birth_at (events old + 1) (mark_of entry)) refl unborn)
+    | inr unborn ↦ absurd (newborn (birth_at (events old + 1) (entry_mark entry)) refl unborn)
   ]
     where
-      uncollected : was_born (births (timeline pool history)) key ≡ true → collector_at key (mark_of entry) ≡ None
-      uncollected born = elim (none_or_some (collector_at key (mark_of entry))) [
+      uncollected : was_born (births (timeline pool history)) key ≡ true → collector_at key (entry_mark entry) ≡ None
+      uncollected born = elim (none_or_some (collector_at key (entry_mark entry))) [
         | inl n ↦ n
         | inr c ↦
             let its : c.0 ≡ client = sym (holder_event pool limits history entry legal key born
             ∙ ap (λ (o : Option ℕ). option_map_or (λ c. c) o (holder old key)) c.1)
             ∙ f.held in
-            absurd (collector_gets key (mark_of entry) client (c.1 ∙ ap Some its) idle)
+            absurd (collector_gets key (entry_mark entry) client (c.1 ∙ ap Some its) idle)
       ]
 
-      newborn : (o : Option Birth) → birth_at (events (timeline pool history) + 1) (mark_of entry) ≡ o →
+      newborn : (o : Option Birth) → birth_at (events (timeline pool history) + 1) (entry_mark entry) ≡ o →
           was_born (births (timeline pool history)) key ≡ false → ⊥
       newborn None e unborn =
           let b : births new ≡ births old = next.same.born ∙ ap (λ (o : Option Birth). cons_option o (births old)) e in
@@ -162,15 +162,15 @@ module _ (pool : ℕ) (limits : Bound) (history : List Entry) (entry : Entry) (l
   pub exited_event : HasExited (readings (timeline pool history)) client →
       HasExited (readings (timeline pool (history ++ entry ∷ []))) client
   exited_event x = record {
-    shut = shut_event pool limits history entry legal client ∙ or_right (shuts client (mark_of entry)) (is_shut old client) x.shut;
+    shut = shut_event pool limits history entry legal client ∙ or_right (shuts client (entry_mark entry)) (is_shut old client) x.shut;
     parcels = idle_event pool limits history entry legal client idle ungiven ∙ x.parcels;
-    ends = λ key. false_if (holds (readings new) client key) (λ h. both_ways (holds (readings old) client key)
+    ends = λ key. false_if (holds_end (readings new) client key) (λ h. both_ways (holds_end (readings old) client key)
         (free_holds old client key (held_before key idle unborn (holds_free new client key h))) (x.ends key));
     handles = none_open;
   }
     where
-      idle : collected_at client (mark_of entry) ≡ None
-      idle = elim (none_or_some (collected_at client (mark_of entry))) [
+      idle : collected_at client (entry_mark entry) ≡ None
+      idle = elim (none_or_some (collected_at client (entry_mark entry))) [
         | inl n ↦ n
         | inr p ↦
             let waited : parcels old client ≡ p.0 ∷ parcels new client = collected_event pool limits history entry legal client p.0 p.1 in
@@ -178,8 +178,8 @@ module _ (pool : ℕ) (limits : Bound) (history : List Entry) (entry : Entry) (l
             absurd (cc)
       ]
 
-      ungiven : given_at client (mark_of entry) ≡ None
-      ungiven = elim (none_or_some (given_at client (mark_of entry))) [
+      ungiven : given_at client (entry_mark entry) ≡ None
+      ungiven = elim (none_or_some (given_at client (entry_mark entry))) [
         | inl n ↦ n
         | inr p ↦
             let opened : is_shut old client ≡ false =
@@ -187,26 +187,26 @@ module _ (pool : ℕ) (limits : Bound) (history : List Entry) (entry : Entry) (l
             both_ways (is_shut old client) x.shut opened
       ]
 
-      unborn : (b : Birth) → birth_at (events (timeline pool history) + 1) (mark_of entry) ≡ Some b → entry.0 ≡ client → ⊥
+      unborn : (b : Birth) → birth_at (events (timeline pool history) + 1) (entry_mark entry) ≡ Some b → entry.0 ≡ client → ⊥
       unborn b h is =
           let opened : is_shut old entry.0 ≡ false =
           born_open limits old entry.0 (events old + 1) entry.2 entry.1 b next.answer h in
           both_ways (is_shut old client) x.shut (ap (is_shut old) (sym is) ∙ opened)
 
-      got_by : GetsBy (timeline pool history) client (mark_of entry) → ⊥
-      got_by (By_end key f) = both_ways (holds (readings old) client key) (free_holds old client key f) (x.ends key)
+      got_by : GetsBy (timeline pool history) client (entry_mark entry) → ⊥
+      got_by (By_end key f) = both_ways (holds_end (readings old) client key) (free_holds old client key f) (x.ends key)
       got_by (By_handle buffer strength h) = let none : open_of old client buffer strength ≡ 0 = x.handles buffer strength in omega (arith, h, none)
       got_by (By_parcel p h) = let no : None ≡ Some p = sym idle ∙ h in cc
 
       none_open : (buffer : BufferName) (strength : Strength) → open_of (timeline pool (history ++ entry ∷ [])) client buffer strength ≡ 0
       none_open buffer strength =
           let goes : GoesBy (open_of old client buffer strength) (open_of new client buffer strength)
-          (gains (only client) buffer strength (mark_of entry)) (loses (only client) buffer strength (mark_of entry)) =
+          (gains (only client) buffer strength (entry_mark entry)) (loses (only client) buffer strength (entry_mark entry)) =
           open_of_event pool limits history entry legal client buffer strength in
-          let none : gains (only client) buffer strength (mark_of entry) ≡ false =
-          false_if (gains (only client) buffer strength (mark_of entry)) (λ h. absurd (got_by
+          let none : gains (only client) buffer strength (entry_mark entry) ≡ false =
+          false_if (gains (only client) buffer strength (entry_mark entry)) (λ h. absurd (got_by
           (gets_by limits old entry.0 entry.2 entry.1 next.answer client buffer strength h))) in
-          let gained : one_if (gains (only client) buffer strength (mark_of entry)) ≡ 0 = ap one_if none in
+          let gained : one_if (gains (only client) buffer strength (entry_mark entry)) ≡ 0 = ap one_if none in
           let had : open_of old client buffer strength ≡ 0 = x.handles buffer strength in
           omega (arith, goes.adds_up, gained, had)
 

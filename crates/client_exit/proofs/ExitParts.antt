@@ -20,8 +20,8 @@ use Rattle.sm_names.proofs.SamenessLaws.{false_if}
 use Rattle.lifetime_core.specs.State.{State}
 use Rattle.client_exit.specs.declared.exit.PartFault.{PartFault}
 use Rattle.client_exit.specs.Events.{Collecting, Collects, Gathered, GetsNothing, IsRest, IsShut, Leaves, Leaving, Lets, Whatever}
-use Rattle.client_exit.specs.Exits.{HasExited, IsClose, IsCollect, IsDrop, IsExit, holds}
-use Rattle.client_exit.specs.Parting.{Exits, IsBegun, Stops}
+use Rattle.client_exit.specs.Exits.{HasExited, IsClose, IsCollect, IsDrop, IsExit, holds_end}
+use Rattle.client_exit.specs.Parting.{Exits, IsBegun, ExitStops}
 use Rattle.client_exit.specs.Phases.{HasAmong, HasLeft, HoldsAmong, IsUnshut, Phase, part_fault}
 use Rattle.client_exit.proofs.PhaseLemmas.{gets_then, phase_less, phase_then}
 
@@ -45,7 +45,7 @@ record LetsAll (client : ℕ) (marks : Timeline) (events : List Entry) (later : 
   closed : All (IsClose client) closes
   dropped : All (IsDrop client) drops
   nothing : GetsNothing client marks later
-  ends : (key : NodeKey) → holds (readings later) client key ≡ false
+  ends : (key : NodeKey) → holds_end (readings later) client key ≡ false
   handles : (buffer : BufferName) (strength : Strength) → open_of later client buffer strength ≡ 0
 
 abbrev LettingAll : ℕ → Timeline → List Entry → Timeline → Type 0
@@ -65,7 +65,7 @@ lets_all client old mid new p q =
       closed = x.0.are;
       dropped = y.0.are;
       nothing = gets_then client marks midway later x.0.nothing y.0.nothing;
-      ends = λ key. false_if (holds (readings later) client key) (λ h.
+      ends = λ key. false_if (holds_end (readings later) client key) (λ h.
           let no : false ≡ true = x.1 key (y.0.nothing.ends key h) in absurd (cc));
       handles = λ buffer strength. none_if (open_of later client buffer strength) (λ some.
           let no : false ≡ true = y.1 buffer strength some in cc);
@@ -328,7 +328,7 @@ exits_by client count old new many p = record {
 -- or so many events were made before the fault
 pub stops_by : (client count : ℕ) (fault : PartFault) (old new : State) → old.events + count ≡ new.events →
     Phase old new (λ marks events later. IsBegun client fault events) →
-    (fault ≡ PartFault.HistoryFull → new.limits.events ≤ new.events) → Stops old new client count fault
+    (fault ≡ PartFault.HistoryFull → new.limits.events ≤ new.events) → ExitStops old new client count fault
 stops_by client count fault old new many p full = record {
   events = p.events;
   many = omega (arith, p.advances.counted, many);

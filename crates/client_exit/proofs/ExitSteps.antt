@@ -24,7 +24,7 @@ use Rattle.sm_names.specs.Timelines.{timeline}
 use Rattle.sm_names.proofs.BirthLaws.{birth_is}
 use Rattle.sm_names.proofs.ListLaws.{is_some-find}
 use Rattle.sm_names.proofs.SamenessLaws.{either_way, or_left, or_right, same_key-refl, some_is}
-use Rattle.event_laws.specs.ByEvent.{GoesBy, collected_at, gains, loses, mark_of, one_if, only}
+use Rattle.event_laws.specs.ByEvent.{GoesBy, collected_at, gains, loses, entry_mark, one_if, only}
 use Rattle.event_laws.proofs.EndEventLaws.{in_transit_born, in_transit_unspent, spent_event, waits_in_transit}
 use Rattle.event_laws.proofs.FreeEndLaws.{FreeEnd}
 use Rattle.event_laws.proofs.HandLaws.{NextEvent, next_event}
@@ -32,7 +32,7 @@ use Rattle.event_laws.proofs.HandleBufferLaws.{still_joined}
 use Rattle.event_laws.proofs.HandleEventLaws.{open_of_event}
 use Rattle.event_laws.proofs.ParcelEventLaws.{collected_event, idle_event, shut_event}
 use Rattle.client_exit.specs.Events.{GetsNothing, IsShut, Lets, LetsGo}
-use Rattle.client_exit.specs.Exits.{IsClose, IsCollect, IsDrop, holds}
+use Rattle.client_exit.specs.Exits.{IsClose, IsCollect, IsDrop, holds_end}
 use Rattle.client_exit.proofs.ExitEvents.{held_before}
 use Rattle.client_exit.proofs.HeldEnds.{free_holds, holds_free}
 
@@ -90,20 +90,20 @@ drop_done limits marks client buffer strength reply answer joined some = rw (joi
 joined_on : (pool : ℕ) (limits : Bound) (history : List Entry) (entry : Entry) → NextEvent pool limits history entry → (client : ℕ) →
     has_joined (timeline pool history) client ≡ true → has_joined (timeline pool (history ++ entry ∷ [])) client ≡ true
 joined_on pool limits history entry next client h =
-    ap (λ (cs : List ℕ). list_any (λ k. k == client) cs) next.same.joined ∙ still_joined (timeline pool history) (mark_of entry) client h
+    ap (λ (cs : List ℕ). list_any (λ k. k == client) cs) next.same.joined ∙ still_joined (timeline pool history) (entry_mark entry) client h
 
 -- who is shut stays so
 pub shut_on : (pool : ℕ) (limits : Bound) (history : List Entry) (entry : Entry) → IsLegal pool limits (history ++ entry ∷ []) →
     (client : ℕ) → is_shut (timeline pool history) client ≡ true → is_shut (timeline pool (history ++ entry ∷ [])) client ≡ true
 shut_on pool limits history entry legal client h =
-    shut_event pool limits history entry legal client ∙ or_right (shuts client (mark_of entry)) (is_shut (timeline pool history) client) h
+    shut_event pool limits history entry legal client ∙ or_right (shuts client (entry_mark entry)) (is_shut (timeline pool history) client) h
 
 -- an event that brings the client nothing
 gets_nothing : (pool : ℕ) (limits : Bound) (history : List Entry) (entry : Entry) (legal : IsLegal pool limits (history ++ entry ∷ []))
-    (client : ℕ) → has_joined (timeline pool history) client ≡ true → collected_at client (mark_of entry) ≡ None →
-    given_at client (mark_of entry) ≡ None →
-    ((b : Birth) → birth_at (events (timeline pool history) + 1) (mark_of entry) ≡ Some b → entry.0 ≡ client → ⊥) →
-    ((buffer : BufferName) (strength : Strength) → gains (only client) buffer strength (mark_of entry) ≡ false) →
+    (client : ℕ) → has_joined (timeline pool history) client ≡ true → collected_at client (entry_mark entry) ≡ None →
+    given_at client (entry_mark entry) ≡ None →
+    ((b : Birth) → birth_at (events (timeline pool history) + 1) (entry_mark entry) ≡ Some b → entry.0 ≡ client → ⊥) →
+    ((buffer : BufferName) (strength : Strength) → gains (only client) buffer strength (entry_mark entry) ≡ false) →
     GetsNothing client (timeline pool history) (timeline pool (history ++ entry ∷ []))
 gets_nothing pool limits history entry legal client joined idle ungiven unborn ungained =
     let old : Timeline = timeline pool history in
@@ -116,9 +116,9 @@ gets_nothing pool limits history entry legal client joined idle ungiven unborn u
           (held_before pool limits history entry legal client key idle unborn (holds_free new client key h));
       handles = λ buffer strength.
           let goes : GoesBy (open_of old client buffer strength) (open_of new client buffer strength)
-          (gains (only client) buffer strength (mark_of entry)) (loses (only client) buffer strength (mark_of entry)) =
+          (gains (only client) buffer strength (entry_mark entry)) (loses (only client) buffer strength (entry_mark entry)) =
           open_of_event pool limits history entry legal client buffer strength in
-          let none : one_if (gains (only client) buffer strength (mark_of entry)) ≡ 0 = ap one_if (ungained buffer strength) in
+          let none : one_if (gains (only client) buffer strength (entry_mark entry)) ≡ 0 = ap one_if (ungained buffer strength) in
           omega (arith, goes.adds_up, none);
     }
 
@@ -205,8 +205,8 @@ collect_told pool limits history client left reply legal joined many = from (par
 
 -- one Close of an end that the client holds
 pub close_told : (pool : ℕ) (limits : Bound) (history : List Entry) (client : ℕ) (key : NodeKey) (reply : Reply) →
-    IsLegal pool limits (history ++ (client, Call.Close key, reply) ∷ []) → holds (readings (timeline pool history)) client key ≡ true →
-    Lets (IsClose client) client (λ later. holds (readings later) client key ≡ false) (timeline pool history)
+    IsLegal pool limits (history ++ (client, Call.Close key, reply) ∷ []) → holds_end (readings (timeline pool history)) client key ≡ true →
+    Lets (IsClose client) client (λ later. holds_end (readings later) client key ≡ false) (timeline pool history)
     ((client, Call.Close key, reply) ∷ []) (timeline pool (history ++ (client, Call.Close key, reply) ∷ []))
 close_told pool limits history client key reply legal held joined =
     let old : Timeline = timeline pool history in
@@ -215,13 +215,13 @@ close_told pool limits history client key reply legal held joined =
     (holds_free old client key held) in
     subst (λ (r : Reply). LetsGo (IsClose client) client (timeline pool history)
     ((client, Call.Close key, r) ∷ []) (timeline pool (history ++ (client, Call.Close key, r) ∷ []))
-    × (holds (readings (timeline pool (history ++ (client, Call.Close key, r) ∷ []))) client key ≡ false)) (sym done)
+    × (holds_end (readings (timeline pool (history ++ (client, Call.Close key, r) ∷ []))) client key ≡ false)) (sym done)
     (closed (subst (λ (r : Reply). IsLegal pool limits (history ++ (client, Call.Close key, r) ∷ [])) done legal))
   where
     closed : IsLegal pool limits (history ++ (client, Call.Close key, Reply.Done) ∷ []) →
         LetsGo (IsClose client) client (timeline pool history)
         ((client, Call.Close key, Reply.Done) ∷ []) (timeline pool (history ++ (client, Call.Close key, Reply.Done) ∷ []))
-        × (holds (readings (timeline pool (history ++ (client, Call.Close key, Reply.Done) ∷ []))) client key ≡ false)
+        × (holds_end (readings (timeline pool (history ++ (client, Call.Close key, Reply.Done) ∷ []))) client key ≡ false)
     closed legal =
         let entry : Entry = (client, Call.Close key, Reply.Done) in
         let new : Timeline = timeline pool (history ++ entry ∷ []) in
@@ -264,11 +264,11 @@ drop_told pool limits history client left buffer strength reply legal many joine
     dropped legal =
         let entry : Entry = (client, Call.DropHandle buffer strength, Reply.Done) in
         let goes : GoesBy (open_of (timeline pool history) client buffer strength)
-        (open_of (timeline pool (history ++ entry ∷ [])) client buffer strength) (gains (only client) buffer strength (mark_of entry))
-        (loses (only client) buffer strength (mark_of entry)) =
+        (open_of (timeline pool (history ++ entry ∷ [])) client buffer strength) (gains (only client) buffer strength (entry_mark entry))
+        (loses (only client) buffer strength (entry_mark entry)) =
         open_of_event pool limits history entry legal client buffer strength in
-        let lost : one_if (loses (only client) buffer strength (mark_of entry)) ≡ 1 = ap one_if (or_left _ false (its client buffer strength)) in
-        let got : one_if (gains (only client) buffer strength (mark_of entry)) ≡ 0 = refl in (
+        let lost : one_if (loses (only client) buffer strength (entry_mark entry)) ≡ 1 = ap one_if (or_left _ false (its client buffer strength)) in
+        let got : one_if (gains (only client) buffer strength (entry_mark entry)) ≡ 0 = refl in (
           record {
             are = All-push (IsDrop client) [] entry (All-nil (IsDrop client)) (buffer, strength, refl);
             nothing = gets_nothing pool limits history entry legal client joined refl refl (λ b h is. cc) (λ b s. refl);

@@ -13,7 +13,7 @@ use Rattle.sm_names.proofs.BirthLaws.{birth_is, birth_was_born}
 use Rattle.sm_names.proofs.ListLaws.{is_some-find}
 use Rattle.sm_names.proofs.SamenessLaws.{and_left, and_right, and_both, some_is}
 use Rattle.event_laws.proofs.FreeEndLaws.{FreeEnd}
-use Rattle.client_exit.specs.Exits.{holds}
+use Rattle.client_exit.specs.Exits.{holds_end}
 
 -- what is not so fails
 pub not_so : (b : Bool) → not b ≡ true → b ≡ false
@@ -21,7 +21,7 @@ not_so true h = cc
 not_so false h = refl
 
 -- an end that is read as the client's is there, in no parcel, and the client's
-pub holds_free : (marks : Timeline) (client : ℕ) (key : NodeKey) → holds (readings marks) client key ≡ true → FreeEnd marks client key
+pub holds_free : (marks : Timeline) (client : ℕ) (key : NodeKey) → holds_end (readings marks) client key ≡ true → FreeEnd marks client key
 holds_free marks client key h = from (spent marks key) (birth_of marks key) refl refl h
   where
     from : (s : Bool) (o : Option Birth) → spent marks key ≡ s → birth_of marks key ≡ o →
@@ -41,7 +41,7 @@ holds_free marks client key h = from (spent marks key) (birth_of marks key) refl
         }
 
 -- and such an end is read so
-pub free_holds : (marks : Timeline) (client : ℕ) (key : NodeKey) → FreeEnd marks client key → holds (readings marks) client key ≡ true
+pub free_holds : (marks : Timeline) (client : ℕ) (key : NodeKey) → FreeEnd marks client key → holds_end (readings marks) client key ≡ true
 free_holds marks client key f =
     let b = some_is (birth_of marks key) (is_some-find (λ (x : Birth). same_key x.node key) (births marks) ∙ f.born) in
     let is : b.0.node ≡ key = (birth_is marks key b.0 b.1).1 in

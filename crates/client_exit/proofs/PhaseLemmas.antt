@@ -13,14 +13,14 @@ use Rattle.sm_names.specs.Timelines.{timeline}
 use Rattle.lifetime_core.specs.Shown.{Shows}
 use Rattle.lifetime_core.specs.State.{State}
 use Rattle.client_exit.specs.Events.{GetsNothing, Lets}
-use Rattle.client_exit.specs.Parting.{Advances}
+use Rattle.client_exit.specs.Parting.{AdvancesBy}
 use Rattle.client_exit.specs.Phases.{Phase}
 use Rattle.client_exit.specs.declared.exit.PartFault.{PartFault}
 
 -- ---- events
 
 -- a core goes on by no event
-pub advances_none : (s : State) → Advances s s []
+pub advances_none : (s : State) → AdvancesBy s s []
 advances_none s = record {
   pool = refl;
   limits = refl;
@@ -30,8 +30,8 @@ advances_none s = record {
 }
 
 -- and by some events and then more
-pub advances_then : (old mid new : State) (first more : List Entry) → Advances old mid first → Advances mid new more →
-    Advances old new (first ++ more)
+pub advances_then : (old mid new : State) (first more : List Entry) → AdvancesBy old mid first → AdvancesBy mid new more →
+    AdvancesBy old new (first ++ more)
 advances_then old mid new first more a b = record {
   pool = b.pool ∙ a.pool;
   limits = b.limits ∙ a.limits;
@@ -88,7 +88,7 @@ phase_none s P each = record {
 }
 
 -- a phase of one event, which the history that goes on shows to be legal
-pub phase_one : (old new : State) (entry : Entry) (P : Timeline → List Entry → Timeline → Type 0) → Advances old new (entry ∷ []) →
+pub phase_one : (old new : State) (entry : Entry) (P : Timeline → List Entry → Timeline → Type 0) → AdvancesBy old new (entry ∷ []) →
     ((history : List Entry) → Shows old history → IsLegal old.pool old.limits (history ++ entry ∷ []) →
     P (timeline old.pool history) (entry ∷ []) (timeline old.pool (history ++ entry ∷ []))) → Phase old new P
 phase_one old new entry P a each = record {
@@ -132,11 +132,11 @@ phase_less old new P Q p each = record {
 }
 
 -- a phase, and then a state that goes on by no event
-pub phase_same : (old mid new : State) (P : Timeline → List Entry → Timeline → Type 0) → Phase old mid P → Advances mid new [] →
+pub phase_same : (old mid new : State) (P : Timeline → List Entry → Timeline → Type 0) → Phase old mid P → AdvancesBy mid new [] →
     Phase old new P
 phase_same old mid new P p a = record {
   events = p.events;
-  advances = subst (Advances old new) (append-nil p.events) (advances_then old mid new p.events [] p.advances a);
+  advances = subst (AdvancesBy old new) (append-nil p.events) (advances_then old mid new p.events [] p.advances a);
   so = p.so;
 }
 

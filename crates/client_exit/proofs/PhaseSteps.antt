@@ -27,8 +27,8 @@ use Rattle.lifetime_core.specs.Shown.{Shows}
 use Rattle.lifetime_core.specs.State.{State}
 use Rattle.client_exit.specs.declared.exit.PartFault.{PartFault}
 use Rattle.client_exit.specs.Events.{Collecting, Collects, GetsNothing, IsShut, Lets, Whatever}
-use Rattle.client_exit.specs.Exits.{IsClose, IsCollect, IsDrop, holds}
-use Rattle.client_exit.specs.Parting.{Advances}
+use Rattle.client_exit.specs.Exits.{IsClose, IsCollect, IsDrop, holds_end}
+use Rattle.client_exit.specs.Parting.{AdvancesBy}
 use Rattle.client_exit.specs.Phases.{HasAmong, HoldsAmong, IsUnshut, Phase, part_fault, waiting_told}
 use Rattle.client_exit.proofs.ExitSteps.{close_told, collect_told, drop_told, shut_on, shut_refused, shut_told}
 use Rattle.client_exit.proofs.PhaseLemmas.{gets_then, lets_none, phase_less, phase_lets, phase_none, phase_one, phase_then}
@@ -37,32 +37,32 @@ use Rattle.client_exit.proofs.StateReads.{has_among, holds_among, holds_read}
 -- ---- the Shut
 
 -- it was answered Shut
-shut_phase : (old new : State) (client waiting : ℕ) → Advances old new ((client, Call.Shut, Reply.Shut waiting) ∷ []) →
+shut_phase : (old new : State) (client waiting : ℕ) → AdvancesBy old new ((client, Call.Shut, Reply.Shut waiting) ∷ []) →
     Phase old new (λ marks events later. IsShut client waiting events later)
 shut_phase old new client waiting a =
     phase_one old new (client, Call.Shut, Reply.Shut waiting) (λ marks events later. IsShut client waiting events later) a
     (λ history shows legal. shut_told old.pool old.limits history client waiting legal)
 
 -- or refused
-refused_phase : (old new : State) (client : ℕ) (reply : Reply) → Advances old new ((client, Call.Shut, reply) ∷ []) →
+refused_phase : (old new : State) (client : ℕ) (reply : Reply) → AdvancesBy old new ((client, Call.Shut, reply) ∷ []) →
     ((waiting : ℕ) → reply ≡ Reply.Shut waiting → ⊥) → Phase old new (IsUnshut client PartFault.NoSuchClient)
 refused_phase old new client reply a other =
     phase_one old new (client, Call.Shut, reply) (IsUnshut client PartFault.NoSuchClient) a (λ history shows legal.
     ap (λ (r : Reply). (client, Call.Shut, r) ∷ []) (shut_refused old.pool old.limits history client reply legal other))
 
 -- or not made
-pub unmade_phase : (old new : State) (client : ℕ) (fault : StepFault) → fault ≡ StepFault.HistoryFull → Advances old new [] →
+pub unmade_phase : (old new : State) (client : ℕ) (fault : StepFault) → fault ≡ StepFault.HistoryFull → AdvancesBy old new [] →
     Phase old new (IsUnshut client (part_fault fault))
 unmade_phase old new client StepFault.HistoryFull is a = record { events = []; advances = a; so = λ history shows. refl }
 unmade_phase old new client StepFault.NoMemory is a = absurd (cc)
 
 -- what was answered tells which
-pub told_ok : (old new : State) (client : ℕ) (reply : Reply) → Advances old new ((client, Call.Shut, reply) ∷ []) →
+pub told_ok : (old new : State) (client : ℕ) (reply : Reply) → AdvancesBy old new ((client, Call.Shut, reply) ∷ []) →
     IfOk (waiting_told reply) (λ waiting. Phase old new (λ marks events later. IsShut client waiting events later))
 told_ok old new client (Reply.Shut waiting) a = shut_phase old new client waiting a
 told_ok old new client _ a = tt
 
-pub told_err : (old new : State) (client : ℕ) (reply : Reply) → Advances old new ((client, Call.Shut, reply) ∷ []) →
+pub told_err : (old new : State) (client : ℕ) (reply : Reply) → AdvancesBy old new ((client, Call.Shut, reply) ∷ []) →
     IfErr (waiting_told reply) (λ fault. Phase old new (IsUnshut client fault))
 told_err old new client (Reply.Shut waiting) a = tt
 told_err old new client reply a = refused_phase old new client reply a (λ waiting is. cc)
@@ -93,7 +93,7 @@ record CollectsOne (client : ℕ) (entry : Entry) (left : ℕ) (marks : Timeline
   waits : length (parcels later client) ≡ left
 
 pub collect_more : (old mid new : State) (client waiting count left : ℕ) (reply : Reply) → count + left ≡ waiting → 0 < left →
-    Phase old mid (Collecting client waiting count) → Advances mid new ((client, Call.Collect, reply) ∷ []) →
+    Phase old mid (Collecting client waiting count) → AdvancesBy mid new ((client, Call.Collect, reply) ∷ []) →
     Phase old new (Collecting client waiting (count + 1))
 collect_more old mid new client waiting count left reply adds some p a =
     let entry : Entry = (client, Call.Collect, reply) in
@@ -135,19 +135,19 @@ pub let_on : (Is : Entry → Type 0) (old mid new : State) (client : ℕ) (Q R :
 let_on Is old mid new client Q R p q = phase_lets Is client old mid new Q R Whatever p q (λ midway later n x y. tt)
 
 -- the client does not hold the end
-pub close_none : (s : State) (client : ℕ) (key : NodeKey) → holds (readings_of s) client key ≡ false →
-    Phase s s (Lets (IsClose client) client (λ later. holds (readings later) client key ≡ false))
+pub close_none : (s : State) (client : ℕ) (key : NodeKey) → holds_end (readings_of s) client key ≡ false →
+    Phase s s (Lets (IsClose client) client (λ later. holds_end (readings later) client key ≡ false))
 close_none s client key h =
-    phase_none s (Lets (IsClose client) client (λ later. holds (readings later) client key ≡ false)) (λ history shows.
-    lets_none (IsClose client) client (λ later. holds (readings later) client key ≡ false) (timeline s.pool history)
+    phase_none s (Lets (IsClose client) client (λ later. holds_end (readings later) client key ≡ false)) (λ history shows.
+    lets_none (IsClose client) client (λ later. holds_end (readings later) client key ≡ false) (timeline s.pool history)
     (sym (holds_read s history shows client key) ∙ h))
 
 -- it held it
-pub close_one : (old new : State) (client : ℕ) (key : NodeKey) (reply : Reply) → holds (readings_of old) client key ≡ true →
-    Advances old new ((client, Call.Close key, reply) ∷ []) →
-    Phase old new (Lets (IsClose client) client (λ later. holds (readings later) client key ≡ false))
+pub close_one : (old new : State) (client : ℕ) (key : NodeKey) (reply : Reply) → holds_end (readings_of old) client key ≡ true →
+    AdvancesBy old new ((client, Call.Close key, reply) ∷ []) →
+    Phase old new (Lets (IsClose client) client (λ later. holds_end (readings later) client key ≡ false))
 close_one old new client key reply h a =
-    phase_one old new (client, Call.Close key, reply) (Lets (IsClose client) client (λ later. holds (readings later) client key ≡ false)) a
+    phase_one old new (client, Call.Close key, reply) (Lets (IsClose client) client (λ later. holds_end (readings later) client key ≡ false)) a
     (λ history shows legal. close_told old.pool old.limits history client key reply legal
     (sym (holds_read old history shows client key) ∙ h))
 
@@ -162,12 +162,12 @@ close_first s client nodes is =
 -- one of them was looked at
 pub close_next : (old mid new : State) (client : ℕ) (node : Node) (nodes others : List Node) → nodes ≡ node ∷ others →
     Phase old mid (Lets (IsClose client) client (HoldsAmong client nodes)) →
-    Phase mid new (Lets (IsClose client) client (λ later. holds (readings later) client node.key ≡ false)) →
+    Phase mid new (Lets (IsClose client) client (λ later. holds_end (readings later) client node.key ≡ false)) →
     Phase old new (Lets (IsClose client) client (HoldsAmong client others))
 close_next old mid new client node nodes others is p q =
-    phase_lets (IsClose client) client old mid new (HoldsAmong client nodes) (λ later. holds (readings later) client node.key ≡ false)
+    phase_lets (IsClose client) client old mid new (HoldsAmong client nodes) (λ later. holds_end (readings later) client node.key ≡ false)
     (HoldsAmong client others) p q (λ midway later n among gone key h.
-    among_others key (holds (readings later) client) gone h
+    among_others key (holds_end (readings later) client) gone h
     (subst (λ (ns : List Node). list_any (λ (x : Node). same_key x.key key) ns ≡ true) is (among key (n.ends key h))))
   where
     among_others : (key : NodeKey) (held : NodeKey → Bool) → held node.key ≡ false → held key ≡ true →
@@ -190,7 +190,7 @@ drop_first s client buffer strength count is =
 -- one of them was dropped
 pub drop_more : (old mid new : State) (client : ℕ) (buffer : BufferName) (strength : Strength) (left : ℕ) (reply : Reply) → 0 < left →
     Phase old mid (Lets (IsDrop client) client (λ later. open_of later client buffer strength ≡ left)) →
-    Advances mid new ((client, Call.DropHandle buffer strength, reply) ∷ []) →
+    AdvancesBy mid new ((client, Call.DropHandle buffer strength, reply) ∷ []) →
     Phase old new (Lets (IsDrop client) client (λ later. open_of later client buffer strength ≡ left - 1))
 drop_more old mid new client buffer strength left reply some p a =
     let entry : Entry = (client, Call.DropHandle buffer strength, reply) in

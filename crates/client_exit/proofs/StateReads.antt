@@ -33,7 +33,7 @@ use Rattle.lifetime_core.specs.State.{State}
 use Rattle.lifetime_core.proofs.lists.ByNumber.{mixed_sorted}
 use Rattle.lifetime_core.proofs.lists.Reorderings.{In-mixed_back}
 use Rattle.lifetime_core.proofs.views.Answers.{readings_are}
-use Rattle.client_exit.specs.Exits.{holds}
+use Rattle.client_exit.specs.Exits.{holds_end}
 use Rattle.client_exit.specs.Phases.{HasAmong, HoldsAmong}
 
 module _ (s : State) (history : List Entry) (shows : Shows s history) (client : ℕ) where
@@ -44,8 +44,8 @@ module _ (s : State) (history : List Entry) (shows : Shows s history) (client : 
   grown = legal_grows s.pool s.limits history shows.legal
 
   -- which ends the client holds
-  pub holds_read : (key : NodeKey) → holds (readings_of s) client key ≡ holds (readings (timeline s.pool history)) client key
-  holds_read key = ap (λ (r : Readings). holds r client key) (readings_are s marks shows.shown s.limits grown)
+  pub holds_read : (key : NodeKey) → holds_end (readings_of s) client key ≡ holds_end (readings (timeline s.pool history)) client key
+  holds_read key = ap (λ (r : Readings). holds_end r client key) (readings_are s marks shows.shown s.limits grown)
 
   -- each of them is that of a kept node
   pub holds_among : HoldsAmong client (all_nodes s.forest) (timeline s.pool history)

@@ -14,7 +14,7 @@ use Rattle.lifetime_core.specs.Shown.{Shows}
 use Rattle.lifetime_core.specs.State.{IsSame, State}
 use Rattle.lifetime_core.specs.Steps.{Follows}
 use Rattle.lifetime_core.specs.Theorem.{GoesOn, tracker_told}
-use Rattle.client_exit.specs.Parting.{Advances}
+use Rattle.client_exit.specs.Parting.{AdvancesBy}
 
 -- a call that makes no tracker is told of none
 no_tracker : (call : Call) (reply : Reply) → makes_tracker call ≡ false → fits_call call reply ≡ true → tracker_told reply ≡ None
@@ -26,7 +26,7 @@ pub step_made : (old new : State) (client : ℕ) (call : Call) (r : Result Reply
     IfOk r (λ reply. fits_call call reply ≡ true) → IfOk r (λ reply. Follows old new client call reply) →
     IfOk r (λ reply. GoesOn old new ((client, call, reply) ∷ [])) →
     IfOk r (λ reply. new.trackers.untaken ≡ old.trackers.untaken ++ cons_option (tracker_told reply) []) →
-    IfOk r (λ reply. Advances old new ((client, call, reply) ∷ []))
+    IfOk r (λ reply. AdvancesBy old new ((client, call, reply) ∷ []))
 step_made old new client call (Ok reply) none fits follows goes_on untaken = record {
   pool = follows.pool;
   limits = follows.limits;
@@ -39,7 +39,7 @@ step_made old new client call (Err fault) none fits follows goes_on untaken = tt
 
 -- or by none
 pub step_none : (old new : State) (r : Result Reply StepFault) → OnErr r (IsSame old new) →
-    OnErr r ((history : List Entry) → Shows old history → Shows new history) → OnErr r (Advances old new [])
+    OnErr r ((history : List Entry) → Shows old history → Shows new history) → OnErr r (AdvancesBy old new [])
 step_none old new (Ok reply) same stays = tt
 step_none old new (Err fault) same stays = record {
   pool = ap (λ (s : State). s.pool) same.rest;

@@ -10,7 +10,7 @@ use Rattle.sm_names.specs.Ends.{has_joined, is_shut, parcels}
 use Rattle.sm_names.specs.Handles.{open_of}
 use Rattle.sm_names.specs.Marks.{Entry, Timeline}
 use Rattle.sm_names.specs.Reading.{readings}
-use Rattle.client_exit.specs.Exits.{HasExited, IsClose, IsCollect, IsDrop, holds}
+use Rattle.client_exit.specs.Exits.{HasExited, IsClose, IsCollect, IsDrop, holds_end}
 
 -- the client was shut, and so many parcels wait for it
 pub record IsShut (client waiting : ℕ) (events : List Entry) (later : Timeline) : Type 0 where
@@ -37,7 +37,7 @@ pub record GetsNothing (client : ℕ) (marks later : Timeline) : Type 0 where
   pub joined : has_joined later client ≡ true
   pub shut : is_shut marks client ≡ true → is_shut later client ≡ true
   pub parcels : parcels later client ≡ parcels marks client
-  pub ends : (key : NodeKey) → holds (readings later) client key ≡ true → holds (readings marks) client key ≡ true
+  pub ends : (key : NodeKey) → holds_end (readings later) client key ≡ true → holds_end (readings marks) client key ≡ true
   pub handles : (buffer : BufferName) (strength : Strength) → open_of later client buffer strength ≤ open_of marks client buffer strength
 
 -- the events are such ones, and by them the client got nothing

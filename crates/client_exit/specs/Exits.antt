@@ -12,19 +12,19 @@ use Rattle.sm_names.specs.Answers.{OpenEnd, Readings}
 use Rattle.sm_names.specs.Marks.{Entry}
 use Rattle.sm_names.specs.Reading.{readings}
 use Rattle.sm_names.specs.Timelines.{timeline}
-use Rattle.event_laws.specs.ByEvent.{collected_at, mark_of}
+use Rattle.event_laws.specs.ByEvent.{collected_at, entry_mark}
 
 -- ---- what a client has
 
 -- the client holds the end of the node: it is not spent, and in no parcel
-abbrev pub holds : Readings → ℕ → NodeKey → Bool
-holds r client key = option_map_or (λ (e : OpenEnd). e.holder == client && not e.in_transit) (r.end_of key) false
+abbrev pub holds_end : Readings → ℕ → NodeKey → Bool
+holds_end r client key = option_map_or (λ (e : OpenEnd). e.holder == client && not e.in_transit) (r.end_of key) false
 
 -- the client is shut, no parcel waits for it, it holds no end and has no handle open
 pub record HasExited (r : Readings) (client : ℕ) : Type 0 where
   pub shut : r.is_shut client ≡ true
   pub parcels : r.waiting client ≡ []
-  pub ends : (key : NodeKey) → holds r client key ≡ false
+  pub ends : (key : NodeKey) → holds_end r client key ≡ false
   pub handles : (buffer : BufferName) (strength : Strength) → r.open_of client buffer strength ≡ 0
 
 -- at some time in this history, or at its end, the client had exited
@@ -36,7 +36,7 @@ ExitedIn pool history client =
 
 -- a Collect by which the client gets a parcel
 abbrev pub IsCollect : ℕ → Entry → Type 0
-IsCollect client entry = (parcel : Parcel) × (collected_at client (mark_of entry) ≡ Some parcel)
+IsCollect client entry = (parcel : Parcel) × (collected_at client (entry_mark entry) ≡ Some parcel)
 
 -- a Close of the client that took effect
 abbrev pub IsClose : ℕ → Entry → Type 0

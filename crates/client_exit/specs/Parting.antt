@@ -22,7 +22,7 @@ IsBegun client PartFault.NoMemory events =
 
 -- the core went on by these events: each legal history that the old state shows goes on by them to a legal one that the new state
 -- shows, and no tracker was made
-pub record Advances (old new : State) (events : List Entry) : Type 0 where
+pub record AdvancesBy (old new : State) (events : List Entry) : Type 0 where
   pub pool : new.pool ≡ old.pool
   pub limits : new.limits ≡ old.limits
   pub counted : new.events ≡ old.events + length events
@@ -33,15 +33,15 @@ pub record Advances (old new : State) (events : List Entry) : Type 0 where
 pub record Exits (old new : State) (client count : ℕ) : Type 0 where
   pub events : List Entry
   pub many : count ≡ length events
-  pub advances : Advances old new events
+  pub advances : AdvancesBy old new events
   pub is_exit : (history : List Entry) → Shows old history → IsExit client events
   pub has_exited : (history : List Entry) → Shows old history →
       HasExited (readings (timeline new.pool (history ++ events))) client
 
 -- so many events were made, and then no more for this reason
-pub record Stops (old new : State) (client count : ℕ) (fault : PartFault) : Type 0 where
+pub record ExitStops (old new : State) (client count : ℕ) (fault : PartFault) : Type 0 where
   pub events : List Entry
   pub many : count ≡ length events
-  pub advances : Advances old new events
+  pub advances : AdvancesBy old new events
   pub begun : (history : List Entry) → Shows old history → IsBegun client fault events
   pub full : fault ≡ PartFault.HistoryFull → new.limits.events ≤ new.events

@@ -18,14 +18,14 @@ use Rattle.forest_store.specs.declared.node.Node.{Node}
 use Rattle.lifetime_core.specs.Shown.{Shows}
 use Rattle.lifetime_core.specs.State.{State}
 use Rattle.client_exit.specs.declared.exit.PartFault.{PartFault}
-use Rattle.client_exit.specs.Exits.{HasExited, IsExit, holds}
-use Rattle.client_exit.specs.Parting.{Advances}
+use Rattle.client_exit.specs.Exits.{HasExited, IsExit, holds_end}
+use Rattle.client_exit.specs.Parting.{AdvancesBy}
 
 -- the core went on by some events, of which this holds for each history that it showed: of its marks, the events, and the marks
 -- after them
 pub record Phase (old new : State) (P : Timeline → List Entry → Timeline → Type 0) : Type 0 where
   pub events : List Entry
-  pub advances : Advances old new events
+  pub advances : AdvancesBy old new events
   pub so : (history : List Entry) → Shows old history →
       P (timeline old.pool history) events (timeline old.pool (history ++ events))
 
@@ -49,7 +49,7 @@ IsUnshut client PartFault.NoMemory marks events later = ⊥
 -- each end that the client holds is that of one of these nodes
 abbrev pub HoldsAmong : ℕ → List Node → Timeline → Type 0
 HoldsAmong client nodes marks =
-    (key : NodeKey) → holds (readings marks) client key ≡ true → list_any (λ (n : Node). same_key n.key key) nodes ≡ true
+    (key : NodeKey) → holds_end (readings marks) client key ≡ true → list_any (λ (n : Node). same_key n.key key) nodes ≡ true
 
 -- each buffer of which the client has a handle open is one of these
 abbrev pub HasAmong : ℕ → List HeldBuffer → Timeline → Type 0

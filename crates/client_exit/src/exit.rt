@@ -9,8 +9,8 @@ ghost use Rattle.lifetime_core.specs.Kinds.{takes_no_memory};
 ghost use Rattle.lifetime_core.specs.Reads.{readings_of};
 ghost use Rattle.client_exit.specs.declared.exit.PartFault.{PartFault};
 ghost use Rattle.client_exit.specs.Events.{Collecting, Gathered, IsShut, Leaves, Leaving, Lets, Whatever};
-ghost use Rattle.client_exit.specs.Exits.{IsClose, IsDrop, holds};
-ghost use Rattle.client_exit.specs.Parting.{Advances, Exits, IsBegun, Stops};
+ghost use Rattle.client_exit.specs.Exits.{IsClose, IsDrop, holds_end};
+ghost use Rattle.client_exit.specs.Parting.{AdvancesBy, Exits, IsBegun, ExitStops};
 ghost use Rattle.client_exit.specs.Phases.{HasAmong, HasLeft, HoldsAmong, IsUnshut, Phase, part_fault, waiting_told};
 
 use alloc_event::End;
@@ -49,8 +49,8 @@ fn fault_of(fault: StepFault) -> PartFault
 fn make(core: &mut Core, client: ClientId, call: Call) -> Result<Reply, StepFault>
     requires { makes_tracker call ≡ false }
     ensures made { IfOk result (λ reply.
-        Advances core.old core.new ((client, call, reply) ∷ [])) }
-    ensures none { OnErr result (Advances core.old core.new []) }
+        AdvancesBy core.old core.new ((client, call, reply) ∷ [])) }
+    ensures none { OnErr result (AdvancesBy core.old core.new []) }
     ensures full { result ≡ Err StepFault.HistoryFull → core.new.limits.events ≤ core.new.events }
     ensures memory { IfErr result (λ fault. takes_no_memory call ≡ true → fault ≡ StepFault.HistoryFull) }
 {
@@ -99,7 +99,7 @@ fn collect_all(core: &mut Core, client: ClientId, waiting: u64) -> Result<(), St
 
 // Whether the client holds the end of the node.
 fn is_held(core: &Core, client: ClientId, key: NodeKey) -> bool
-    ensures { result ≡ holds (readings_of core.now) client key }
+    ensures { result ≡ holds_end (readings_of core.now) client key }
 {
     match core.node(key) {
         Some(node) => match node.end {
@@ -114,7 +114,7 @@ fn is_held(core: &Core, client: ClientId, key: NodeKey) -> bool
 // Closes the end of the node, if the client holds it.
 fn close(core: &mut Core, client: ClientId, key: NodeKey) -> Result<(), StepFault>
     ensures ok { OnOk result (Phase core.old core.new (Lets (IsClose client) client
-        (λ later. holds (readings later) client key ≡ false))) }
+        (λ later. holds_end (readings later) client key ≡ false))) }
     ensures err { OnErr result (Phase core.old core.new (Lets (IsClose client) client Whatever)) }
     ensures full { result ≡ Err StepFault.HistoryFull → core.new.limits.events ≤ core.new.events }
 {
@@ -240,7 +240,7 @@ fn exit(core: &mut Core, client: ClientId) -> Result<(), PartFault>
 /// square of anything.
 pub fn part_with(core: &mut Core, client: ClientId) -> Result<Parted, (Parted, PartFault)>
     ensures ok { IfOk result (λ parted. Exits core.old core.new client parted.events) }
-    ensures err { IfErr result (λ e. Stops core.old core.new client e.0.events e.1) }
+    ensures err { IfErr result (λ e. ExitStops core.old core.new client e.0.events e.1) }
 {
     let before = core.events();
     let end = exit(core, client);

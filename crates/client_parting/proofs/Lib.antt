@@ -1,4 +1,4 @@
 pub mod BackLaws
 pub mod GatherLaws
 pub mod PartingLaws
-pub mod ThingLaws
+pub mod ObjectLaws

@@ -1,4 +1,4 @@
--- Parting with one thing after another.
+-- Parting with one object after another.
 use Rattle.std.proofs.Common.{ℕ, ◌≡◌, ◌≤◌, ◌+◌, ◌∙◌, refl, sym, ap, subst, inl, inr, ◌⊎◌, Bool, true, false, List, [], ◌∷◌, ◌++◌, append_assoc, append-nil, length, length-append, map, replicate, arith}
 use Rattle.std.specs.Prelude.{flat_map, vec_capacity, vec_len}
 use Rattle.std.specs.List.{All}
@@ -12,9 +12,9 @@ use Rattle.sm_names.specs.declared.messages.Reply.{Reply}
 use Rattle.event_laws.specs.declared.own.Own.{Own}
 use Rattle.client_ends.specs.Clients.{Made, MadeAll, Seen, calls_of, is_done, replies_of}
 use Rattle.client_ends.proofs.MadeLaws.{made_more, made_none, made_one, made_then}
-use Rattle.client_parting.specs.Partings.{AreOf, Collection, Goes, Handle, Holds, IsGone, Thing, Token, all_things, collection_in, end_of, end_told, handle_in, handle_told, held_in, kept_of, owner_of, parting_call, sorted, token_in, waiting_in}
-use Rattle.client_parting.specs.Stacks.{Collects, CollectsFor, CollectsOne, HasRoomFor, Parts, PartsIf, PartsWith, both, top_first}
-use Rattle.client_parting.proofs.ThingLaws.{both_none, flat-append, flat_collections, flat_handles, flat_tokens, no_collection_h, no_collection_t, no_handle_c, no_handle_t, no_token_c, no_token_h, sorted-append}
+use Rattle.client_parting.specs.Partings.{AllHeldBy, Collection, Goes, Handle, Holds, IsGone, HeldObject, Token, all_objects, collections_among, held_end, end_told, handles_among, handle_told, held_in, kept_of, owner_of, parting_call, sorted, tokens_among, parcels_told}
+use Rattle.client_parting.specs.Stacks.{CollectsMany, CollectsFor, CollectsOne, HasRoomFor, PartsWithSome, PartsIf, PartsWith, both, top_first}
+use Rattle.client_parting.proofs.ObjectLaws.{both_none, flat-append, flat_collections, flat_handles, flat_tokens, no_collection_h, no_collection_t, no_handle_c, no_handle_t, no_token_c, no_token_h, sorted-append}
 
 -- ---- collecting
 
@@ -22,9 +22,9 @@ replicate_push : (n : ℕ) (c : Call) → replicate (n + 1) c ≡ replicate n c 
 replicate_push n c = sym (replicate-append-replicate n 1 c)
 
 -- one more
-pub collects_more : (old mid new : Seen) (told : List Reply) (ends handles ends' handles' : List Thing) →
-    Collects old mid told ends handles → (one : CollectsOne mid new ends ends' handles handles') →
-    Collects old new (told ++ one.reply ∷ []) ends' handles'
+pub collects_more : (old mid new : Seen) (told : List Reply) (ends handles ends' handles' : List HeldObject) →
+    CollectsMany old mid told ends handles → (one : CollectsOne mid new ends ends' handles handles') →
+    CollectsMany old new (told ++ one.reply ∷ []) ends' handles'
 collects_more old mid new told ends handles ends' handles' so one = record {
   made =
       let calls : replicate (length (told ++ one.reply ∷ [])) Call.Collect ≡ replicate (length told) Call.Collect ++ Call.Collect ∷ [] =
@@ -35,10 +35,10 @@ collects_more old mid new told ends handles ends' handles' so one = record {
   handles_are = one.handle ∙ grown (λ n. handle_told n) handles so.handles_are;
 }
   where
-    grown : (f : ℕ → Reply → List Thing) (things : List Thing) → things ≡ flat_map (f old.id) told →
-        things ++ f mid.id one.reply ≡ flat_map (f old.id) (told ++ one.reply ∷ [])
-    grown f things are =
-        ap (λ n. things ++ f n one.reply) so.made.id
+    grown : (f : ℕ → Reply → List HeldObject) (objects : List HeldObject) → objects ≡ flat_map (f old.id) told →
+        objects ++ f mid.id one.reply ≡ flat_map (f old.id) (told ++ one.reply ∷ [])
+    grown f objects are =
+        ap (λ n. objects ++ f n one.reply) so.made.id
         ∙ (ap (λ l. l ++ f old.id one.reply) are
         ∙ (ap (λ l. flat_map (f old.id) told ++ l) (sym (append-nil (f old.id one.reply)))
         ∙ sym (flat-append (f old.id) told (one.reply ∷ []))))
@@ -46,7 +46,7 @@ collects_more old mid new told ends handles ends' handles' so one = record {
 -- ---- parting
 
 -- with nothing yet
-abbrev pub parts_none : (s : Seen) (all : List Thing) (kept : Holds) → kept ≡ sorted [] → Parts s s all all kept
+abbrev pub parts_none : (s : Seen) (all : List HeldObject) (kept : Holds) → kept ≡ sorted [] → PartsWithSome s s all all kept
 parts_none s all kept none = record { answers = []; parted = []; made = made_none s; all_is = refl; kept_is = none }
 
 -- each answer is to one call
@@ -57,55 +57,55 @@ as_many old new calls answers made =
     sym (ap length made.calls) ∙ (asked ∙ (sym told ∙ ap length made.replies))
 
 -- what is kept of one more
-kept_push : (things : List Thing) (answers : List Reply) (thing : Thing) (answer : Reply) → length things ≡ length answers →
-    kept_of (things ++ thing ∷ []) (answers ++ answer ∷ []) ≡ kept_of things answers ++ kept_of (thing ∷ []) (answer ∷ [])
-kept_push [] [] thing answer many = refl
-kept_push [] (a ∷ answers) thing answer many = absurd (omega (arith, many))
-kept_push (t ∷ things) [] thing answer many = absurd (omega (arith, many))
-kept_push (t ∷ things) (a ∷ answers) thing answer many =
-    either (kept_push things answers thing answer (omega (arith, many))) (is_done a) refl
+kept_push : (objects : List HeldObject) (answers : List Reply) (object : HeldObject) (answer : Reply) → length objects ≡ length answers →
+    kept_of (objects ++ object ∷ []) (answers ++ answer ∷ []) ≡ kept_of objects answers ++ kept_of (object ∷ []) (answer ∷ [])
+kept_push [] [] object answer many = refl
+kept_push [] (a ∷ answers) object answer many = absurd (omega (arith, many))
+kept_push (t ∷ objects) [] object answer many = absurd (omega (arith, many))
+kept_push (t ∷ objects) (a ∷ answers) object answer many =
+    either (kept_push objects answers object answer (omega (arith, many))) (is_done a) refl
   where
-    either : kept_of (things ++ thing ∷ []) (answers ++ answer ∷ []) ≡ kept_of things answers ++ kept_of (thing ∷ []) (answer ∷ []) →
+    either : kept_of (objects ++ object ∷ []) (answers ++ answer ∷ []) ≡ kept_of objects answers ++ kept_of (object ∷ []) (answer ∷ []) →
         (b : Bool) → is_done a ≡ b →
-        kept_of (t ∷ (things ++ thing ∷ [])) (a ∷ (answers ++ answer ∷ [])) ≡ kept_of (t ∷ things) (a ∷ answers) ++ kept_of (thing ∷ [])
+        kept_of (t ∷ (objects ++ object ∷ [])) (a ∷ (answers ++ answer ∷ [])) ≡ kept_of (t ∷ objects) (a ∷ answers) ++ kept_of (object ∷ [])
         (answer ∷ [])
     either more true done = rw done more
     either more false not_done = rw not_done (ap (λ l. t ∷ l) more)
 
 -- with one more
-pub parts_more : (old mid new : Seen) (all left later : List Thing) (thing : Thing) (ks : List Thing) (kept kept' : Holds) →
-    Parts old mid all left kept → left ≡ thing ∷ later → PartsWith mid new thing ks →
-    kept' ≡ both kept (sorted ks) → Parts old new all later kept'
-parts_more old mid new all left later thing ks kept kept' so on one grown =
+pub parts_more : (old mid new : Seen) (all left later : List HeldObject) (object : HeldObject) (ks : List HeldObject) (kept kept' : Holds) →
+    PartsWithSome old mid all left kept → left ≡ object ∷ later → PartsWith mid new object ks →
+    kept' ≡ both kept (sorted ks) → PartsWithSome old new all later kept'
+parts_more old mid new all left later object ks kept kept' so on one grown =
     let many : length so.parted ≡ length so.answers =
     sym (length-map so.parted parting_call) ∙ as_many old mid (map parting_call so.parted) so.answers so.made in
     record {
       answers = so.answers ++ one.answer ∷ [];
-      parted = so.parted ++ thing ∷ [];
+      parted = so.parted ++ object ∷ [];
       made =
-          let calls : map parting_call (so.parted ++ thing ∷ []) ≡ map parting_call so.parted ++ parting_call thing ∷ [] =
-          map-append parting_call so.parted (thing ∷ []) in
+          let calls : map parting_call (so.parted ++ object ∷ []) ≡ map parting_call so.parted ++ parting_call object ∷ [] =
+          map-append parting_call so.parted (object ∷ []) in
           subst (λ cs. MadeAll old new cs (so.answers ++ one.answer ∷ [])) (sym calls) (made_more old mid new (map parting_call so.parted)
-          (parting_call thing) so.answers one.answer so.made one.made);
-      all_is = so.all_is ∙ (ap (λ l. so.parted ++ l) on ∙ sym (append_assoc so.parted (thing ∷ []) later));
+          (parting_call object) so.answers one.answer so.made one.made);
+      all_is = so.all_is ∙ (ap (λ l. so.parted ++ l) on ∙ sym (append_assoc so.parted (object ∷ []) later));
       kept_is = grown
           ∙ (ap (λ h. both h (sorted ks)) so.kept_is
           ∙ (ap (λ l. both (sorted (kept_of so.parted so.answers)) (sorted l)) one.kept_is
-          ∙ (sym (sorted-append (kept_of so.parted so.answers) (kept_of (thing ∷ []) (one.answer ∷ [])))
-          ∙ ap sorted (sym (kept_push so.parted so.answers thing one.answer many)))));
+          ∙ (sym (sorted-append (kept_of so.parted so.answers) (kept_of (object ∷ []) (one.answer ∷ [])))
+          ∙ ap sorted (sym (kept_push so.parted so.answers object one.answer many)))));
     }
 
 -- with one that was answered Done
-pub parted_done : (old new : Seen) (thing : Thing) (call : Call) → parting_call thing ≡ call → Made old new call Reply.Done →
-    PartsWith old new thing []
-parted_done old new thing call is made = record {
+pub parted_done : (old new : Seen) (object : HeldObject) (call : Call) → parting_call object ≡ call → Made old new call Reply.Done →
+    PartsWith old new object []
+parted_done old new object call is made = record {
   answer = Reply.Done;
   made = subst (λ (c : Call). Made old new c Reply.Done) (sym is) made;
   kept_is = refl;
 }
 
--- what is kept of one thing is that thing
-pub kept_same : (old new : Seen) (x y : Thing) → PartsWith old new x (y ∷ []) → y ≡ x
+-- what is kept of one object is that object
+pub kept_same : (old new : Seen) (x y : HeldObject) → PartsWith old new x (y ∷ []) → y ≡ x
 kept_same old new x y one = either (is_done one.answer) refl
   where
     either : (b : Bool) → is_done one.answer ≡ b → y ≡ x
@@ -124,7 +124,7 @@ sorted_held held = λ i. record {
   handles = handles i;
 }
   where
-    three : {A : Type 0} (f : Thing → List A) (a b c : List A) → flat_map f (map Token held.tokens) ≡ a →
+    three : {A : Type 0} (f : HeldObject → List A) (a b c : List A) → flat_map f (map Token held.tokens) ≡ a →
         flat_map f (map Collection held.collections) ≡ b → flat_map f (map Handle held.handles) ≡ c →
         flat_map f (map Token held.tokens ++ (map Collection held.collections ++ map Handle held.handles)) ≡ a ++ (b ++ c)
     three f a b c x y z =
@@ -133,25 +133,25 @@ sorted_held held = λ i. record {
         ∙ ap (λ l. a ++ l) (flat-append f (map Collection held.collections) (map Handle held.handles)
         ∙ (ap (λ l. l ++ flat_map f (map Handle held.handles)) y ∙ ap (λ l. b ++ l) z)))
 
-    tokens : flat_map token_in (map Token held.tokens ++ (map Collection held.collections ++ map Handle held.handles)) ≡ held.tokens
-    tokens = three token_in held.tokens [] [] (flat_tokens held.tokens) (no_token_c held.collections) (no_token_h held.handles)
+    tokens : flat_map tokens_among (map Token held.tokens ++ (map Collection held.collections ++ map Handle held.handles)) ≡ held.tokens
+    tokens = three tokens_among held.tokens [] [] (flat_tokens held.tokens) (no_token_c held.collections) (no_token_h held.handles)
         ∙ append-nil held.tokens
 
-    collections : flat_map collection_in (map Token held.tokens ++ (map Collection held.collections ++ map Handle
+    collections : flat_map collections_among (map Token held.tokens ++ (map Collection held.collections ++ map Handle
         held.handles)) ≡ held.collections
-    collections = three collection_in [] held.collections [] (no_collection_t held.tokens) (flat_collections held.collections)
+    collections = three collections_among [] held.collections [] (no_collection_t held.tokens) (flat_collections held.collections)
         (no_collection_h held.handles) ∙ append-nil held.collections
 
-    handles : flat_map handle_in (map Token held.tokens ++ (map Collection held.collections ++ map Handle held.handles)) ≡ held.handles
-    handles = three handle_in [] [] held.handles (no_handle_t held.tokens) (no_handle_c held.collections) (flat_handles held.handles)
+    handles : flat_map handles_among (map Token held.tokens ++ (map Collection held.collections ++ map Handle held.handles)) ≡ held.handles
+    handles = three handles_among [] [] held.handles (no_handle_t held.tokens) (no_handle_c held.collections) (flat_handles held.handles)
 
 -- all that there is, with what was collected
-abbrev pub stacked : List Thing → List Thing → Holds → List Thing
+abbrev pub stacked : List HeldObject → List HeldObject → Holds → List HeldObject
 stacked ends handles held = ends ++ (map Token held.tokens ++ (map Collection held.collections ++ (handles ++ map Handle held.handles)))
 
-pub told_all : (old mid : Seen) → mid.id ≡ old.id → (told : List Reply) (ends handles : List Thing) (held : Holds) →
+pub told_all : (old mid : Seen) → mid.id ≡ old.id → (told : List Reply) (ends handles : List HeldObject) (held : Holds) →
     ends ≡ flat_map (end_told mid.id) told → handles ≡ flat_map (handle_told mid.id) told →
-    all_things old.id told held ≡ stacked ends handles held
+    all_objects old.id told held ≡ stacked ends handles held
 told_all old mid same told ends handles held ends_are handles_are =
     sym (ap (λ e. stacked e handles held) (ends_are ∙ ap (λ n. flat_map (end_told n) told) same)
     ∙ ap (λ h. stacked (flat_map (end_told old.id) told) h held) (handles_are ∙ ap (λ n. flat_map (handle_told n) told) same))
@@ -161,9 +161,9 @@ in_turn may P Q (inl p) whole = inl p
 in_turn may P Q (inr so) whole = inr (whole so)
 
 -- a client that made its Shut, so many Collects, and parted with some
-abbrev pub goes : (old mid far new : Seen) (shut : Reply) (may : Bool) (ends handles all left : List Thing) (held kept back : Holds) →
+abbrev pub goes : (old mid far new : Seen) (shut : Reply) (may : Bool) (ends handles all left : List HeldObject) (held kept back : Holds) →
     Made old mid Call.Shut shut →
-    CollectsFor may (waiting_in shut) mid far ends handles → PartsIf may far new all left kept → all ≡ stacked ends handles held →
+    CollectsFor may (parcels_told shut) mid far ends handles → PartsIf may far new all left kept → all ≡ stacked ends handles held →
     back ≡ both kept (sorted left) → Goes old new held back
 goes old mid far new shut may ends handles all left held kept back made collects part is back_is = record {
   shut = shut;
@@ -178,15 +178,15 @@ goes old mid far new shut may ends handles all left held kept back made collects
   counted = collects.within;
   all = told_all old mid made.id collects.told ends handles held collects.collects.ends_are collects.collects.handles_are
       ∙ (sym is ∙ part.parts.all_is);
-  turn = in_turn may (part.parts.parted ≡ []) (length collects.told ≡ waiting_in shut) part.turn collects.whole;
+  turn = in_turn may (part.parts.parted ≡ []) (length collects.told ≡ parcels_told shut) part.turn collects.whole;
   back_is = back_is ∙ (ap (λ k. both k (sorted left)) part.parts.kept_is
       ∙ sym (sorted-append (kept_of part.parts.parted part.parts.answers) left));
 }
 
 -- one that is gone
-pub gone : (old mid far new : Seen) (shut : Reply) (may : Bool) (ends handles all left : List Thing) (held kept : Holds) →
+pub gone : (old mid far new : Seen) (shut : Reply) (may : Bool) (ends handles all left : List HeldObject) (held kept : Holds) →
     Made old mid Call.Shut shut →
-    CollectsFor may (waiting_in shut) mid far ends handles → PartsIf may far new all left kept → all ≡ stacked ends handles held →
+    CollectsFor may (parcels_told shut) mid far ends handles → PartsIf may far new all left kept → all ≡ stacked ends handles held →
     left ≡ [] → may ≡ true → IsGone old new held kept
 gone old mid far new shut may ends handles all left held kept made collects part is none may_so = record {
   goes = goes old mid far new shut may ends handles all left held kept kept made collects part is (sym (both_none kept)
@@ -202,7 +202,7 @@ shut_only old new shut held back made same = record {
   told = [];
   answers = [];
   parted = [];
-  left = all_things old.id [] held;
+  left = all_objects old.id [] held;
   made = made_one old new Call.Shut shut made;
   counted = omega arith;
   all = refl;
@@ -215,10 +215,10 @@ shut_only old new shut held back made same = record {
 -- an end that a reply tells of is the client's
 end_owner : (client : ℕ) (reply : Reply) → All (λ t. owner_of t ≡ client) (end_told client reply)
 end_owner client (Reply.Collected key Kind.Token collection) =
-    All-cons (λ t. owner_of t ≡ client) (end_of Kind.Token (record { client = client; key = key; collection = collection })) [] refl
+    All-cons (λ t. owner_of t ≡ client) (held_end Kind.Token (record { client = client; key = key; collection = collection })) [] refl
     (All-nil (λ t. owner_of t ≡ client))
 end_owner client (Reply.Collected key Kind.Collection collection) =
-    All-cons (λ t. owner_of t ≡ client) (end_of Kind.Collection (record { client = client; key = key; collection = collection })) [] refl
+    All-cons (λ t. owner_of t ≡ client) (held_end Kind.Collection (record { client = client; key = key; collection = collection })) [] refl
     (All-nil (λ t. owner_of t ≡ client))
 end_owner client _ = All-nil (λ t. owner_of t ≡ client)
 
@@ -229,17 +229,17 @@ handle_owner client (Reply.CollectedHandle buffer strength) =
     owner_of t ≡ client))
 handle_owner client _ = All-nil (λ t. owner_of t ≡ client)
 
-flat_owner : (client : ℕ) (f : Reply → List Thing) → ((r : Reply) → All (λ t. owner_of t ≡ client) (f r)) → (told : List Reply) →
+flat_owner : (client : ℕ) (f : Reply → List HeldObject) → ((r : Reply) → All (λ t. owner_of t ≡ client) (f r)) → (told : List Reply) →
     All (λ t. owner_of t ≡ client) (flat_map f told)
 flat_owner client f each [] = All-nil (λ t. owner_of t ≡ client)
 flat_owner client f each (r ∷ rs) = All-append (λ t. owner_of t ≡ client) (f r) (flat_map f rs) (each r) (flat_owner client f each rs)
 
 -- so all that there is is
-pub owners : (client : ℕ) (told : List Reply) (ends handles : List Thing) (held : Holds) → AreOf client held →
+pub owners : (client : ℕ) (told : List Reply) (ends handles : List HeldObject) (held : Holds) → AllHeldBy client held →
     ends ≡ flat_map (end_told client) told → handles ≡ flat_map (handle_told client) told →
     All (λ t. owner_of t ≡ client) (stacked ends handles held)
 owners client told ends handles held of ends_are handles_are =
-    let P : Thing → Type 0 = λ t. owner_of t ≡ client in
+    let P : HeldObject → Type 0 = λ t. owner_of t ≡ client in
     let first : All P ends = subst (All P) (sym ends_are) (flat_owner client (end_told client) (end_owner client) told) in
     let later : All P handles = subst (All P) (sym handles_are) (flat_owner client (handle_told client) (handle_owner client) told) in
     All-append P ends (map Token held.tokens ++ (map Collection held.collections ++ (handles ++ map Handle held.handles))) first
@@ -249,36 +249,36 @@ owners client told ends handles held of ends_are handles_are =
     of.collections)
     (All-append P handles (map Handle held.handles) later (All-map P Handle held.handles of.handles))))
 
--- a reply tells of one thing at most, of its kind
-end_no_handle : (n : ℕ) (r : Reply) → flat_map handle_in (end_told n r) ≡ []
+-- a reply tells of one object at most, of its kind
+end_no_handle : (n : ℕ) (r : Reply) → flat_map handles_among (end_told n r) ≡ []
 end_no_handle n (Reply.Collected key Kind.Token collection) = refl
 end_no_handle n (Reply.Collected key Kind.Collection collection) = refl
 end_no_handle n _ = refl
 
-handle_no_token : (n : ℕ) (r : Reply) → flat_map token_in (handle_told n r) ≡ []
+handle_no_token : (n : ℕ) (r : Reply) → flat_map tokens_among (handle_told n r) ≡ []
 handle_no_token n (Reply.CollectedHandle buffer strength) = refl
 handle_no_token n _ = refl
 
-handle_no_collection : (n : ℕ) (r : Reply) → flat_map collection_in (handle_told n r) ≡ []
+handle_no_collection : (n : ℕ) (r : Reply) → flat_map collections_among (handle_told n r) ≡ []
 handle_no_collection n (Reply.CollectedHandle buffer strength) = refl
 handle_no_collection n _ = refl
 
-end_one_token : (n : ℕ) (r : Reply) → length (flat_map token_in (end_told n r)) ≤ 1
+end_one_token : (n : ℕ) (r : Reply) → length (flat_map tokens_among (end_told n r)) ≤ 1
 end_one_token n (Reply.Collected key Kind.Token collection) = omega arith
 end_one_token n (Reply.Collected key Kind.Collection collection) = omega arith
 end_one_token n _ = omega arith
 
-end_one_collection : (n : ℕ) (r : Reply) → length (flat_map collection_in (end_told n r)) ≤ 1
+end_one_collection : (n : ℕ) (r : Reply) → length (flat_map collections_among (end_told n r)) ≤ 1
 end_one_collection n (Reply.Collected key Kind.Token collection) = omega arith
 end_one_collection n (Reply.Collected key Kind.Collection collection) = omega arith
 end_one_collection n _ = omega arith
 
-handle_one_handle : (n : ℕ) (r : Reply) → length (flat_map handle_in (handle_told n r)) ≤ 1
+handle_one_handle : (n : ℕ) (r : Reply) → length (flat_map handles_among (handle_told n r)) ≤ 1
 handle_one_handle n (Reply.CollectedHandle buffer strength) = omega arith
 handle_one_handle n _ = omega arith
 
 -- so do replies
-no_more : {A : Type 0} (f : Thing → List A) (g : Reply → List Thing) → ((r : Reply) → length (flat_map f (g r)) ≤ 1) → (told : List Reply) →
+no_more : {A : Type 0} (f : HeldObject → List A) (g : Reply → List HeldObject) → ((r : Reply) → length (flat_map f (g r)) ≤ 1) → (told : List Reply) →
     length (flat_map f (flat_map g told)) ≤ length told
 no_more f g each [] = omega arith
 no_more f g each (r ∷ rs) =
@@ -290,18 +290,18 @@ no_more f g each (r ∷ rs) =
       no_more f g each rs,
     )
 
-none_of : {A : Type 0} (f : Thing → List A) (g : Reply → List Thing) → ((r : Reply) → flat_map f (g r) ≡ []) → (told : List Reply) →
+none_of : {A : Type 0} (f : HeldObject → List A) (g : Reply → List HeldObject) → ((r : Reply) → flat_map f (g r) ≡ []) → (told : List Reply) →
     flat_map f (flat_map g told) ≡ []
 none_of f g each [] = refl
 none_of f g each (r ∷ rs) = flat-append f (g r) (flat_map g rs) ∙ (ap (λ l. l ++ flat_map f (flat_map g rs)) (each r) ∙ none_of f g each rs)
 
 -- how many of one kind there are in all
-many_of : {A : Type 0} (f : Thing → List A) (ends handles : List Thing) (held : Holds) →
+many_of : {A : Type 0} (f : HeldObject → List A) (ends handles : List HeldObject) (held : Holds) →
     length (flat_map f (stacked ends handles held))
     ≡ length (flat_map f ends) + (length (flat_map f (map Token held.tokens)) + (length
     (flat_map f (map Collection held.collections)) + (length (flat_map f handles) + length (flat_map f (map Handle held.handles)))))
 many_of f ends handles held =
-    let two = λ (a b : List Thing). ap length (flat-append f a b) ∙ length-append (flat_map f a) (flat_map f b) in
+    let two = λ (a b : List HeldObject). ap length (flat-append f a b) ∙ length-append (flat_map f a) (flat_map f b) in
     omega (
       arith,
       two ends (map Token held.tokens ++ (map Collection held.collections ++ (handles ++ map Handle held.handles))),
@@ -311,7 +311,7 @@ many_of f ends handles held =
     )
 
 -- and there is room for them
-pub room_all : {E S W : Type 0} (before after : Held E S W) (n waiting : ℕ) (told : List Reply) (ends handles all : List Thing) →
+pub room_all : {E S W : Type 0} (before after : Held E S W) (n waiting : ℕ) (told : List Reply) (ends handles all : List HeldObject) →
     length told ≤ waiting → ends ≡ flat_map (end_told n) told → handles ≡ flat_map (handle_told n) told →
     all ≡ stacked ends handles (held_in before) → held_in after ≡ sorted [] → vec_len before.tokens + waiting ≤ vec_capacity before.tokens →
     vec_len before.collections + waiting ≤ vec_capacity before.collections →
@@ -329,15 +329,15 @@ room_all before after n waiting told ends handles all few ends_are handles_are i
         before.tokens.ok.0,
         after.tokens.ok.0,
         ap (λ x. length x.tokens) none,
-        ap (λ l. length (flat_map token_in l)) is,
-        many_of token_in ends handles held,
-        ap (λ l. length (flat_map token_in l)) ends_are,
-        no_more token_in (end_told n) (end_one_token n) told,
+        ap (λ l. length (flat_map tokens_among l)) is,
+        many_of tokens_among ends handles held,
+        ap (λ l. length (flat_map tokens_among l)) ends_are,
+        no_more tokens_among (end_told n) (end_one_token n) told,
         ap length (flat_tokens held.tokens),
         ap length (no_token_c held.collections),
         ap length (no_token_h held.handles),
-        ap (λ l. length (flat_map token_in l)) handles_are,
-        ap length (none_of token_in (handle_told n) (handle_no_token n) told),
+        ap (λ l. length (flat_map tokens_among l)) handles_are,
+        ap length (none_of tokens_among (handle_told n) (handle_no_token n) told),
       );
       collections = omega (
         arith,
@@ -347,15 +347,15 @@ room_all before after n waiting told ends handles all few ends_are handles_are i
         before.collections.ok.0,
         after.collections.ok.0,
         ap (λ x. length x.collections) none,
-        ap (λ l. length (flat_map collection_in l)) is,
-        many_of collection_in ends handles held,
-        ap (λ l. length (flat_map collection_in l)) ends_are,
-        no_more collection_in (end_told n) (end_one_collection n) told,
+        ap (λ l. length (flat_map collections_among l)) is,
+        many_of collections_among ends handles held,
+        ap (λ l. length (flat_map collections_among l)) ends_are,
+        no_more collections_among (end_told n) (end_one_collection n) told,
         ap length (no_collection_t held.tokens),
         ap length (flat_collections held.collections),
         ap length (no_collection_h held.handles),
-        ap (λ l. length (flat_map collection_in l)) handles_are,
-        ap length (none_of collection_in (handle_told n) (handle_no_collection n) told),
+        ap (λ l. length (flat_map collections_among l)) handles_are,
+        ap length (none_of collections_among (handle_told n) (handle_no_collection n) told),
       );
       handles = omega (
         arith,
@@ -365,15 +365,15 @@ room_all before after n waiting told ends handles all few ends_are handles_are i
         before.handles.ok.0,
         after.handles.ok.0,
         ap (λ x. length x.handles) none,
-        ap (λ l. length (flat_map handle_in l)) is,
-        many_of handle_in ends handles held,
-        ap (λ l. length (flat_map handle_in l)) ends_are,
-        ap length (none_of handle_in (end_told n) (end_no_handle n) told),
+        ap (λ l. length (flat_map handles_among l)) is,
+        many_of handles_among ends handles held,
+        ap (λ l. length (flat_map handles_among l)) ends_are,
+        ap length (none_of handles_among (end_told n) (end_no_handle n) told),
         ap length (no_handle_t held.tokens),
         ap length (no_handle_c held.collections),
         ap length (flat_handles held.handles),
-        ap (λ l. length (flat_map handle_in l)) handles_are,
-        no_more handle_in (handle_told n) (handle_one_handle n) told,
+        ap (λ l. length (flat_map handles_among l)) handles_are,
+        no_more handles_among (handle_told n) (handle_one_handle n) told,
       );
     }
 

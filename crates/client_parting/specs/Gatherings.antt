@@ -29,15 +29,15 @@ own_of (Holding.Present client held) = client.own
 own_of (Holding.Wrecked wreck) = wreck.client.own
 
 -- the handles of this strength that are there
-abbrev pub handed : {E S W : Type 0} → Strength → Holding E S W → ℕ
-handed strength (Holding.Present client held) =
+abbrev pub present_handles : {E S W : Type 0} → Strength → Holding E S W → ℕ
+present_handles strength (Holding.Present client held) =
     count_by (λ (h : Grip). same_strength strength h.strength) held.handles.items
-handed strength (Holding.Wrecked wreck) =
+present_handles strength (Holding.Wrecked wreck) =
     count_by (λ (h : Grip). same_strength strength h.strength) wreck.refused.handles
 
 -- of all parts
-abbrev pub all_handed : {E S W : Type 0} → Strength → List (Holding E S W) → ℕ
-all_handed strength parts = sum_by (handed strength) parts
+abbrev pub all_present_handles : {E S W : Type 0} → Strength → List (Holding E S W) → ℕ
+all_present_handles strength parts = sum_by (present_handles strength) parts
 
 -- whose parts they are
 abbrev pub ids_of : {E S W : Type 0} → List (Holding E S W) → List ℕ
@@ -64,12 +64,12 @@ pub record IsFirstMismatch {E S W : Type 0} (history : List Entry) (parts : List
 -- all open handles of both strengths are here
 abbrev pub AllHere : {E S W : Type 0} → View → List (Holding E S W) → Type 0
 AllHere s parts =
-    (all_handed Strong parts ≡ all_open (timeline s.pool s.history) Strong)
-    × (all_handed Weak parts ≡ all_open (timeline s.pool s.history) Weak)
+    (all_present_handles Strong parts ≡ all_open (timeline s.pool s.history) Strong)
+    × (all_present_handles Weak parts ≡ all_open (timeline s.pool s.history) Weak)
 
 -- the record is a legal history, all who joined are here, all open handles are, each own list is its client's part, and
 -- the report says what is on record
-pub record IsGathered {E S W : Type 0} (s : View) (all : List (Holding E S W)) (report : Report) : Type 0 where
+pub record IsGatherReport {E S W : Type 0} (s : View) (all : List (Holding E S W)) (report : Report) : Type 0 where
   pub legal : IsLegal s.pool s.limits s.history
   pub events : report.events ≡ length s.history
   pub members : AreAmong (ids_of all) (joined s.history)
@@ -81,7 +81,7 @@ pub record IsGathered {E S W : Type 0} (s : View) (all : List (Holding E S W)) (
 
 -- so many are open and not here, 0 if more are here than are open
 abbrev pub not_here : {E S W : Type 0} → View → Strength → List (Holding E S W) → ℕ
-not_here s strength parts = all_open (timeline s.pool s.history) strength - all_handed strength parts
+not_here s strength parts = all_open (timeline s.pool s.history) strength - all_present_handles strength parts
 
 -- all who joined are here, but not all open handles, or more: these are missing
 pub record AreOpen {E S W : Type 0} (s : View) (all : List (Holding E S W)) (strong weak : ℕ) : Type 0 where

@@ -1,24 +1,24 @@
--- Stacks of things, and lists that have room for them.
+-- Stacks of objects, and lists that have room for them.
 use Rattle.std.specs.Prelude.{ℕ, ◌≡◌, ◌≤◌, ◌+◌, List, [], ◌∷◌, ◌++◌, length, map, reverse, flat_map, vec_len, vec_capacity}
 use Rattle.sm_names.specs.declared.messages.Call.{Call}
 use Rattle.sm_names.specs.declared.messages.Reply.{Reply}
 use Rattle.client_ends.specs.declared.held.End.{End}
 use Rattle.client_ends.specs.declared.held.Held.{Held}
 use Rattle.client_ends.specs.Clients.{Made, MadeAll, Seen}
-use Rattle.client_parting.specs.Partings.{Holds, Thing, collection_in, end_told, handle_in, handle_told, kept_of, parting_call, sorted, thing_of, token_in}
+use Rattle.client_parting.specs.Partings.{Holds, HeldObject, collections_among, end_told, handles_among, handle_told, kept_of, parting_call, sorted, object_of, tokens_among}
 use Rattle.client_parting.specs.declared.leaving.Room.{Room}
 use Rattle.std.specs.Prelude.{replicate, Option, None, Some, Bool, true, ◌⊎◌}
 
--- the things on a stack, the top first
-abbrev pub top_first : {E S W : Type 0} → List (End E S W) → List Thing
-top_first items = map thing_of (reverse items)
+-- the objects on a stack, the top first
+abbrev pub top_first : {E S W : Type 0} → List (End E S W) → List HeldObject
+top_first items = map object_of (reverse items)
 
--- one thing in the list of its kind
-abbrev pub sorted_one : Thing → Holds
-sorted_one thing = record {
-  tokens = token_in thing;
-  collections = collection_in thing;
-  handles = handle_in thing;
+-- one object in the list of its kind
+abbrev pub sorted_one : HeldObject → Holds
+sorted_one object = record {
+  tokens = tokens_among object;
+  collections = collections_among object;
+  handles = handles_among object;
 }
 
 -- what both have, kind by kind
@@ -30,47 +30,47 @@ both a b = record {
 }
 
 -- each list has room for those of its kind
-pub record HasRoomFor {E S W : Type 0} (held : Held E S W) (things : List Thing) : Type 0 where
-  pub tokens : vec_len held.tokens + length (flat_map token_in things) ≤ vec_capacity held.tokens
-  pub collections : vec_len held.collections + length (flat_map collection_in things) ≤ vec_capacity held.collections
-  pub handles : vec_len held.handles + length (flat_map handle_in things) ≤ vec_capacity held.handles
+pub record HasRoomFor {E S W : Type 0} (held : Held E S W) (objects : List HeldObject) : Type 0 where
+  pub tokens : vec_len held.tokens + length (flat_map tokens_among objects) ≤ vec_capacity held.tokens
+  pub collections : vec_len held.collections + length (flat_map collections_among objects) ≤ vec_capacity held.collections
+  pub handles : vec_len held.handles + length (flat_map handles_among objects) ≤ vec_capacity held.handles
 
 -- one Collect was made and answered so, and what it brought was put behind the others
-pub record CollectsOne (old new : Seen) (ends ends' handles handles' : List Thing) : Type 0 where
+pub record CollectsOne (old new : Seen) (ends ends' handles handles' : List HeldObject) : Type 0 where
   pub reply : Reply
   pub made : Made old new Call.Collect reply
   pub end : ends' ≡ ends ++ end_told old.id reply
   pub handle : handles' ≡ handles ++ handle_told old.id reply
 
 -- so many Collects were made, and this is what they brought
-pub record Collects (old new : Seen) (told : List Reply) (ends handles : List Thing) : Type 0 where
+pub record CollectsMany (old new : Seen) (told : List Reply) (ends handles : List HeldObject) : Type 0 where
   pub made : MadeAll old new (replicate (length told) Call.Collect) told
   pub ends_are : ends ≡ flat_map (end_told old.id) told
   pub handles_are : handles ≡ flat_map (handle_told old.id) told
 
--- the thing that was kept, if one was
-abbrev pub kept_things : {E S W : Type 0} → Option (End E S W) → List Thing
-kept_things None = []
-kept_things (Some thing) = thing_of thing ∷ []
+-- the object that was kept, if one was
+abbrev pub kept_objects : {E S W : Type 0} → Option (End E S W) → List HeldObject
+kept_objects None = []
+kept_objects (Some object) = object_of object ∷ []
 
--- the client made the call that parts with the thing, and kept it unless the answer was Done
-pub record PartsWith (old new : Seen) (thing : Thing) (kept : List Thing) : Type 0 where
+-- the client made the call that parts with the object, and kept it unless the answer was Done
+pub record PartsWith (old new : Seen) (object : HeldObject) (kept : List HeldObject) : Type 0 where
   pub answer : Reply
-  pub made : Made old new (parting_call thing) answer
-  pub kept_is : kept ≡ kept_of (thing ∷ []) (answer ∷ [])
+  pub made : Made old new (parting_call object) answer
+  pub kept_is : kept ≡ kept_of (object ∷ []) (answer ∷ [])
 
 -- the client parted with the first of these, the others are left, and it kept what it was refused
-pub record Parts (old new : Seen) (all left : List Thing) (kept : Holds) : Type 0 where
+pub record PartsWithSome (old new : Seen) (all left : List HeldObject) (kept : Holds) : Type 0 where
   pub answers : List Reply
-  pub parted : List Thing
+  pub parted : List HeldObject
   pub made : MadeAll old new (map parting_call parted) answers
   pub all_is : all ≡ parted ++ left
   pub kept_is : kept ≡ sorted (kept_of parted answers)
 
 -- at most so many Collects were made, and all of them unless there was a fault
-pub record CollectsFor (all : Bool) (most : ℕ) (old new : Seen) (ends handles : List Thing) : Type 0 where
+pub record CollectsFor (all : Bool) (most : ℕ) (old new : Seen) (ends handles : List HeldObject) : Type 0 where
   pub told : List Reply
-  pub collects : Collects old new told ends handles
+  pub collects : CollectsMany old new told ends handles
   pub within : length told ≤ most
   pub whole : all ≡ true → length told ≡ most
 
@@ -85,6 +85,6 @@ pub record IsRoom {E S W : Type 0} (room : Room E S W) (held : Held E S W) (wait
   pub for_handles : vec_len held.handles + waiting ≤ vec_capacity held.handles
 
 -- the same, and it parted with none unless this is so
-pub record PartsIf (may : Bool) (old new : Seen) (all left : List Thing) (kept : Holds) : Type 0 where
-  pub parts : Parts old new all left kept
+pub record PartsIf (may : Bool) (old new : Seen) (all left : List HeldObject) (kept : Holds) : Type 0 where
+  pub parts : PartsWithSome old new all left kept
   pub turn : (parts.parted ≡ []) ⊎ (may ≡ true)

@@ -18,9 +18,9 @@ pub enum GatherFault {
 
 impl fmt::Display for GatherFault {
     ghost use Rattle.std.specs.Prelude.{Some};
-    ghost use Rattle.client_parting.specs.Faults.{fault_text};
+    ghost use Rattle.client_parting.specs.Faults.{gather_fault_text};
 
-    ghost output = { λ fault. Some (fault_text fault) };
+    ghost output = { λ fault. Some (gather_fault_text fault) };
 
     fn fmt<W: fmt::Write>(&self, f: &mut fmt::Formatter<W>) -> fmt::Result {
         match self {

@@ -1,9 +1,9 @@
 //! What all clients have at the end, against the record under the lock.
 ghost use Rattle.std.specs.Prelude.{◌≡◌, ◌+◌, ◌<◌, IfOk, IfErr, MatchOption};
 ghost use Rattle.std.specs.List.{All, count_by};
-ghost use Rattle.service_lock.specs.States.{IsAsked, View};
+ghost use Rattle.service_lock.specs.States.{IsSetUpWith, View};
 ghost use Rattle.sm_names.specs.Sameness.{same_strength};
-ghost use Rattle.client_parting.specs.Gatherings.{IsFirstMismatch, IsFound, IsGathered, IsSo, Matches, all_handed, handed, id_of, ids_of, own_of};
+ghost use Rattle.client_parting.specs.Gatherings.{IsFirstMismatch, IsFound, IsGatherReport, IsSo, Matches, all_present_handles, present_handles, id_of, ids_of, own_of};
 
 use crate::fault::GatherFault;
 use crate::wreck::Wreck;
@@ -74,7 +74,7 @@ impl<E: Setup, S: Ledger, W: Ledger> Holding<E, S, W> {
 
     // How many handles of this strength it has.
     fn handles(&self, strength: Strength) -> u64
-        ensures { result ≡ handed strength self.now }
+        ensures { result ≡ present_handles strength self.now }
     {
         match self {
             Holding::Present(_, held) => count(held, strength),
@@ -107,8 +107,8 @@ fn left_of<E: Setup, S: Ledger, W: Ledger>(
     parts: &[Holding<E, S, W>],
     strength: Strength,
 ) -> Option<u64>
-    ensures { MatchOption result (total < all_handed strength parts.now)
-        (λ left. left + all_handed strength parts.now ≡ total) }
+    ensures { MatchOption result (total < all_present_handles strength parts.now)
+        (λ left. left + all_present_handles strength parts.now ≡ total) }
 {
     let mut rest = parts;
     let mut left = total;
@@ -169,8 +169,8 @@ pub fn compare<E: Setup, S: Ledger, W: Ledger>(
     state: &State<E, S, W>,
     parts: &[Holding<E, S, W>],
 ) -> Result<Report, GatherFault>
-    ensures asked { IsAsked E.pages E.limits state.now.pool state.now.limits }
-    ensures gathered { IfOk result (λ r. IsGathered state.now parts.now r) }
+    ensures asked { IsSetUpWith E.pages E.limits state.now.pool state.now.limits }
+    ensures gathered { IfOk result (λ r. IsGatherReport state.now parts.now r) }
     ensures so { IfErr result (λ f. IsSo state.now parts.now f) }
 {
     let Ok(view) = Parts::new(alloc, entries(state)) else {
@@ -217,9 +217,9 @@ pub fn gather<E: Setup, S: Ledger, W: Ledger, R: Wait>(
     parts: Vec<Holding<E, S, W>>,
 ) -> (Vec<Holding<E, S, W>>, Result<Report, GatherFault>)
     ensures parts { result.0 ≡ parts }
-    ensures gathered { IfOk result.1 (λ r. (s : View) × IsAsked E.pages E.limits s.pool s.limits
-        × IsGathered s parts.items r) }
-    ensures so { IfErr result.1 (λ f. (s : View) × IsAsked E.pages E.limits s.pool s.limits
+    ensures gathered { IfOk result.1 (λ r. (s : View) × IsSetUpWith E.pages E.limits s.pool s.limits
+        × IsGatherReport s parts.items r) }
+    ensures so { IfErr result.1 (λ f. (s : View) × IsSetUpWith E.pages E.limits s.pool s.limits
         × IsSo s parts.items f) }
 {
     let guard = service.lock(rt);

@@ -2,10 +2,10 @@
 ghost use Rattle.std.specs.Prelude.{◌≡◌, ◌+◌, ◌<◌, ◌≤◌, ◌↔◌, ◌++◌, [], length, map, vec_len, vec_capacity, MatchResult, IfOk, IfErr, IfSome, OnOk, is_ok, true};
 ghost use Rattle.std.specs.List.{All};
 ghost use Rattle.sm_names.specs.declared.outcomes.StepFault.{StepFault as Fault};
-ghost use Rattle.client_parting.specs.Partings.{AreOf, Collection, Handle as Handed, IsBroken, IsGone, Token, held_in, owner_of, sorted, thing_of, waiting_in};
-ghost use Rattle.client_parting.specs.Stacks.{CollectsFor, CollectsOne, HasRoomFor, IsRoom, Parts, PartsIf, PartsWith, kept_things, top_first};
+ghost use Rattle.client_parting.specs.Partings.{AllHeldBy, Collection, Handle as Handed, IsBroken, IsGone, Token, held_in, owner_of, sorted, object_of, parcels_told};
+ghost use Rattle.client_parting.specs.Stacks.{CollectsFor, CollectsOne, HasRoomFor, IsRoom, PartsWithSome, PartsIf, PartsWith, kept_objects, top_first};
 
-use crate::things::{put, put_all, stack_collections, stack_ends, stack_handles, stack_tokens};
+use crate::stack::{put, put_all, stack_collections, stack_ends, stack_handles, stack_tokens};
 use crate::wreck::Wreck;
 use client_ends::{Client, End, Held, Kept, Why, memory_fault};
 use service_lock::{Service, Setup, State};
@@ -15,8 +15,8 @@ use std::sync::Wait;
 use std::sync::ledger::Ledger;
 
 // How many parcels the reply to a Shut counts.
-fn waiting_in(reply: &Reply) -> u64
-    ensures { result ≡ waiting_in reply.now }
+fn parcels_told(reply: &Reply) -> u64
+    ensures { result ≡ parcels_told reply.now }
 {
     match *reply {
         Reply::Shut(waiting) => waiting,
@@ -31,7 +31,7 @@ struct Room<E: Setup, S: Ledger, W: Ledger> {
     stack: Vec<End<E, S, W>>,
 }
 
-// How many things there are at most, if that is a number.
+// How many objects there are at most, if that is a number.
 fn most<E: Setup, S: Ledger, W: Ledger>(held: &Held<E, S, W>, waiting: usize) -> Option<usize>
     ensures { IfSome result (λ most. most ≡ vec_len held.now.tokens
         + vec_len held.now.collections + vec_len held.now.handles + waiting + waiting) }
@@ -109,9 +109,9 @@ fn collect_one<E: Setup, S: Ledger, W: Ledger, R: Wait>(
     requires ends { vec_len ends.old < vec_capacity ends.old }
     requires handles { vec_len handles.old < vec_capacity handles.old }
     ensures made { MatchResult result
-        (λ _. CollectsOne client.old client.new (map thing_of ends.old.items)
-        (map thing_of ends.new.items) (map thing_of handles.old.items)
-        (map thing_of handles.new.items))
+        (λ _. CollectsOne client.old client.new (map object_of ends.old.items)
+        (map object_of ends.new.items) (map object_of handles.old.items)
+        (map object_of handles.new.items))
         (λ _. (client.new ≡ client.old) × (ends.new.items ≡ ends.old.items)
         × (handles.new.items ≡ handles.old.items)) }
     ensures ends { (vec_capacity ends.new ≡ vec_capacity ends.old)
@@ -146,7 +146,7 @@ fn collect_all<E: Setup, S: Ledger, W: Ledger, R: Wait>(
     requires ends { (ends.old.items ≡ []) × (waiting ≤ vec_capacity ends.old) }
     requires handles { (handles.old.items ≡ []) × (waiting ≤ vec_capacity handles.old) }
     ensures made { CollectsFor (is_ok result) waiting client.old client.new
-        (map thing_of ends.new.items) (map thing_of handles.new.items) }
+        (map object_of ends.new.items) (map object_of handles.new.items) }
     ensures ends { vec_len ends.new ≤ waiting }
     ensures handles { vec_len handles.new ≤ waiting }
 {
@@ -158,19 +158,19 @@ fn collect_all<E: Setup, S: Ledger, W: Ledger, R: Wait>(
     Ok(())
 }
 
-// Makes the call that parts with the thing, which comes back where the answer is not Done.
+// Makes the call that parts with the object, which comes back where the answer is not Done.
 fn part_with<E: Setup, S: Ledger, W: Ledger, R: Wait>(
     rt: &R,
     service: &Service<E, S, W>,
     client: &mut Client<E, S, W>,
-    thing: End<E, S, W>,
+    object: End<E, S, W>,
 ) -> Result<Option<End<E, S, W>>, (End<E, S, W>, StepFault)>
-    requires { owner_of (thing_of thing) ≡ client.old.id }
+    requires { owner_of (object_of object) ≡ client.old.id }
     ensures { MatchResult result
-        (λ kept. PartsWith client.old client.new (thing_of thing) (kept_things kept))
-        (λ e. (e.0 ≡ thing) × (client.new ≡ client.old)) }
+        (λ kept. PartsWith client.old client.new (object_of object) (kept_objects kept))
+        (λ e. (e.0 ≡ object) × (client.new ≡ client.old)) }
 {
-    let (thing, why) = match thing {
+    let (object, why) = match object {
         End::Token(token) => match token.close(rt, service, client) {
             Ok(()) => return Ok(None),
             Err(Kept { value, why }) => (End::Token(value), why),
@@ -185,8 +185,8 @@ fn part_with<E: Setup, S: Ledger, W: Ledger, R: Wait>(
         },
     };
     match why {
-        Why::Reply(_) => Ok(Some(thing)),
-        Why::Fault(fault) => Err((thing, fault)),
+        Why::Reply(_) => Ok(Some(object)),
+        Why::Fault(fault) => Err((object, fault)),
     }
 }
 
@@ -201,17 +201,17 @@ fn part_with_all<E: Setup, S: Ledger, W: Ledger, R: Wait>(
     requires owner { All (λ t. owner_of t ≡ client.old.id) (top_first stack.old.items) }
     requires none { held_in kept.old ≡ sorted [] }
     requires room { HasRoomFor kept.old (top_first stack.old.items) }
-    ensures parts { Parts client.old client.new (top_first stack.old.items)
+    ensures parts { PartsWithSome client.old client.new (top_first stack.old.items)
         (top_first stack.new.items) (held_in kept.new) }
     ensures all { OnOk result (vec_len stack.new ≡ 0) }
     ensures room { HasRoomFor kept.new (top_first stack.new.items) }
 {
-    while let Some(thing) = stack.pop() {
-        match part_with(rt, service, client, thing) {
+    while let Some(object) = stack.pop() {
+        match part_with(rt, service, client, object) {
             Ok(None) => {}
-            Ok(Some(thing)) => put(kept, thing),
-            Err((thing, fault)) => {
-                stack.push_reserved(thing);
+            Ok(Some(object)) => put(kept, object),
+            Err((object, fault)) => {
+                stack.push_reserved(object);
                 return Err(fault);
             }
         }
@@ -250,9 +250,9 @@ fn stack_all<E: Setup, S: Ledger, W: Ledger>(
     requires none { room.stack.items ≡ [] }
     requires room { vec_len room.ends + vec_len room.handles + vec_len held.old.tokens
         + vec_len held.old.collections + vec_len held.old.handles ≤ vec_capacity room.stack }
-    ensures things { top_first result.items ≡ map thing_of room.ends.items
+    ensures objects { top_first result.items ≡ map object_of room.ends.items
         ++ (map Token held.old.tokens.items ++ (map Collection held.old.collections.items
-        ++ (map thing_of room.handles.items ++ map Handed held.old.handles.items))) }
+        ++ (map object_of room.handles.items ++ map Handed held.old.handles.items))) }
     ensures none { held_in held.new ≡ sorted [] }
     ensures tokens { vec_capacity held.new.tokens ≡ vec_capacity held.old.tokens }
     ensures collections { vec_capacity held.new.collections ≡ vec_capacity held.old.collections }
@@ -289,15 +289,15 @@ pub fn vanish<E: Setup, S: Ledger, W: Ledger, R: Wait>(
     client: Client<E, S, W>,
     held: Held<E, S, W>,
 ) -> Result<Wreck<E, S, W>, (Client<E, S, W>, Held<E, S, W>, StepFault)>
-    requires { AreOf client.id (held_in held) }
+    requires { AllHeldBy client.id (held_in held) }
     ensures gone { IfOk result (λ w. IsGone client w.client (held_in held) w.refused) }
     ensures fault { IfErr result (λ e. IsBroken client e.0 (held_in held) (held_in e.1)) }
-    ensures own { IfErr result (λ e. AreOf e.0.id (held_in e.1)) }
+    ensures own { IfErr result (λ e. AllHeldBy e.0.id (held_in e.1)) }
 {
     let mut client = client;
     let mut held = held;
     let waiting = match client.shut(rt, service) {
-        Ok(reply) => waiting_in(&reply) as usize,
+        Ok(reply) => parcels_told(&reply) as usize,
         Err(fault) => return Err((client, held, fault)),
     };
     let mut room = match room_for(rt, alloc, service, &mut held, waiting) {

@@ -5,7 +5,7 @@
 mod fault;
 mod gathering;
 mod leaving;
-mod things;
+mod stack;
 mod wreck;
 
 pub use event_laws::ClientLine;

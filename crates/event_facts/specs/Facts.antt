@@ -7,7 +7,7 @@ use Rattle.sm_names.specs.declared.keys.HeldBuffer.{HeldBuffer}
 use Rattle.sm_names.specs.declared.keys.NodeKey.{NodeKey}
 use Rattle.sm_names.specs.declared.keys.Strength.{Strength}
 use Rattle.sm_names.specs.Sameness.{same_buffer, same_key}
-use Rattle.buffer_holds.specs.Counts.{Counts, moving, of}
+use Rattle.buffer_holds.specs.Counts.{Counts, moving_count, of}
 use Rattle.forest_store.specs.declared.node.Node.{Node}
 use Rattle.forest_store.specs.Nodes.{node_of}
 use Rattle.forest_store.specs.Questions.{is_below, is_live_node}
@@ -23,8 +23,8 @@ stop_of nodes key = option_map_or
     (node_of nodes key) Stop.AtRoot
 
 -- the node is not gone, and is the top one or below it
-abbrev pub is_taken : List Node → NodeKey → Node → Bool
-is_taken nodes top n = not n.gone && is_below nodes top n.key
+abbrev pub is_lost_with : List Node → NodeKey → Node → Bool
+is_lost_with nodes top n = not n.gone && is_below nodes top n.key
 
 -- the node hangs on this one, and a failure did not come up by it
 abbrev pub is_handed : List NodeKey → NodeKey → Node → Bool
@@ -37,20 +37,20 @@ abbrev pub is_keeper : Node → Bool
 is_keeper n = is_live_node n && not n.weak
 
 -- so many handles of the client, or in parcels, if there are some
-abbrev pub held_by : Option ℕ → Strength → ℕ → List Holder
-held_by client strength count = if nat_lt 0 count then record { client = client; strength = strength; count = count } ∷ [] else []
+abbrev pub holders_with : Option ℕ → Strength → ℕ → List Holder
+holders_with client strength count = if nat_lt 0 count then record { client = client; strength = strength; count = count } ∷ [] else []
 
 -- the handles of the client on the buffer, strong before weak
 abbrev pub client_holds : Counts → BufferName → ℕ → List Holder
 client_holds holds buffer client =
-    held_by (Some client) Strength.Strong (of holds client buffer Strength.Strong)
-    ++ held_by (Some client) Strength.Weak (of holds client buffer Strength.Weak)
+    holders_with (Some client) Strength.Strong (of holds client buffer Strength.Strong)
+    ++ holders_with (Some client) Strength.Weak (of holds client buffer Strength.Weak)
 
 -- the handles on the buffer, of these clients in their order, and those in parcels last
 abbrev pub holders_in : Counts → List ℕ → BufferName → List Holder
 holders_in holds clients buffer =
     flat_map (client_holds holds buffer) clients
-    ++ (held_by None Strength.Strong (moving holds buffer Strength.Strong) ++ held_by None Strength.Weak (moving holds buffer Strength.Weak))
+    ++ (holders_with None Strength.Strong (moving_count holds buffer Strength.Strong) ++ holders_with None Strength.Weak (moving_count holds buffer Strength.Weak))
 
 -- ---- buffers
 

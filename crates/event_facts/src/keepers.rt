@@ -2,7 +2,7 @@
 ghost use Rattle.std.specs.Prelude.{◌≡◌, ◌++◌, IfOk, OnOk, map};
 ghost use Rattle.std.specs.List.{filter};
 ghost use Rattle.forest_store.specs.declared.node.Node.{Node as Kept};
-ghost use Rattle.event_facts.specs.Facts.{client_holds, held_by, holders_in, is_keeper};
+ghost use Rattle.event_facts.specs.Facts.{client_holds, holders_with, holders_in, is_keeper};
 
 use alloc_event::Node;
 use event_marks::questions::is_live;
@@ -83,7 +83,8 @@ fn add(
     strength: Strength,
     count: u32,
 ) -> Result<(), AllocError>
-    ensures { OnOk result (found.new.items ≡ found.old.items ++ held_by client strength count) }
+    ensures { OnOk result
+        (found.new.items ≡ found.old.items ++ holders_with client strength count) }
 {
     if 0 < count {
         found.push(Holder {

@@ -3,7 +3,7 @@ ghost use Rattle.std.specs.Prelude.{◌≡◌, ◌&&◌, not, IfOk, map};
 ghost use Rattle.std.specs.List.{filter, list_any};
 ghost use Rattle.sm_names.specs.Sameness.{same_key};
 ghost use Rattle.forest_store.specs.declared.node.Node.{Node as Kept};
-ghost use Rattle.event_facts.specs.Facts.{is_handed, is_taken};
+ghost use Rattle.event_facts.specs.Facts.{is_handed, is_lost_with};
 
 use alloc_event::Node;
 use event_marks::questions::is_under;
@@ -13,7 +13,7 @@ use std::alloc::AllocError;
 /// The nodes that are not gone, and are the top one or below it, by birth. Costs O(n^2) for n nodes.
 pub fn taken_under(nodes: &Vec<Node>, top: NodeKey) -> Result<Vec<Node>, AllocError>
     ensures { IfOk result (λ taken. taken.items
-        ≡ filter (is_taken nodes.now.items top) nodes.now.items) }
+        ≡ filter (is_lost_with nodes.now.items top) nodes.now.items) }
 {
     let mut taken = Vec::new(*nodes.allocator());
     for node in nodes {
@@ -26,7 +26,7 @@ pub fn taken_under(nodes: &Vec<Node>, top: NodeKey) -> Result<Vec<Node>, AllocEr
 
 // Whether the node is not gone, and is the top one or below it.
 fn takes(nodes: &[Node], top: NodeKey, node: &Node) -> bool
-    ensures { result ≡ is_taken nodes.now top node.now }
+    ensures { result ≡ is_lost_with nodes.now top node.now }
 {
     !node.gone && is_under(nodes, top, node.key)
 }

@@ -16,7 +16,7 @@ use Rattle.sm_names.specs.Reading.{readings}
 use Rattle.sm_names.specs.Sameness.{same_key}
 use Rattle.sm_names.specs.Timelines.{after}
 use Rattle.sm_names.specs.Trackers.{Tracked, tracked, tracked_at, collection_of_node, fired_at, world}
-use Rattle.event_laws.specs.Waiting.{waiting, made, asked, is_due}
+use Rattle.event_laws.specs.Waiting.{unfired_trackers, tracker_made, trackers_to_test, is_tracked_met}
 use Rattle.sm_names.specs.Words.{first_some}
 use Rattle.sm_names.proofs.AnswerLaws.{took_effect_all}
 use Rattle.sm_names.proofs.ApartLaws.{as_before}
@@ -79,7 +79,7 @@ made_of_one limits marks client reply call t answer h = cc
 
 -- the event that attaches a tracker, and the tracker, are of one collection
 pub made_together : (limits : Bound) (marks : Timeline) (entry : Entry) (t : Tracked) →
-    IsAnswer limits (readings marks) entry.0 entry.1 entry.2 → In t (made marks entry) →
+    IsAnswer limits (readings marks) entry.0 entry.1 entry.2 → In t (tracker_made marks entry) →
     (collection : ℕ) × (collection_at marks entry ≡ Some collection) × IsOf marks collection t.condition
 made_together limits marks entry t answer on = elim (In_new (tracked_at marks (Called entry.0 entry.2 entry.1)) [] t on) [
   | inl e ↦
@@ -168,10 +168,10 @@ still_tracked pool marks entry t on =
 -- after an event none is due that is of another collection
 pub others_not_due : (pool : ℕ) (limits : Bound) (marks : Timeline) (entry : Entry) (collection : ℕ) → Grows pool limits [] marks →
     IsAnswer limits (readings marks) entry.0 entry.1 entry.2 →
-    (collection_at marks entry ≡ Some collection → ⊥) → (t : Tracked) → In t (asked marks entry) → IsOf marks collection t.condition →
-    is_due (world (after pool marks entry)) t ≡ false
+    (collection_at marks entry ≡ Some collection → ⊥) → (t : Tracked) → In t (trackers_to_test marks entry) → IsOf marks collection t.condition →
+    is_tracked_met (world (after pool marks entry)) t ≡ false
 others_not_due pool limits marks entry collection g answer away t on of_it =
-    elim (In-append (waiting marks) (made marks entry) t on) [
+    elim (In-append (unfired_trackers marks) (tracker_made marks entry) t on) [
       | inl waits ↦
           let w = In-waiting marks t waits in
           let attached : list_any (λ (u : Tracked). u.id == t.id) (tracked marks) ≡ true =

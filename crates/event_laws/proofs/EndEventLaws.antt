@@ -9,7 +9,7 @@ use Rattle.sm_names.specs.declared.messages.Reply.{Reply}
 use Rattle.sm_names.specs.Answers.{IsAnswer}
 use Rattle.sm_names.specs.Births.{Birth, births, birth_at, birth_of, was_born}
 use Rattle.sm_names.specs.Bounds.{Bound}
-use Rattle.event_laws.specs.ByEvent.{mark_of, one_if, sends, delivers}
+use Rattle.event_laws.specs.ByEvent.{entry_mark, one_if, sends, delivers}
 use Rattle.sm_names.specs.Ends.{clients, spent, spends, binds, kind, parcels, is_end_of, in_transit, collector_at, collector, holder}
 use Rattle.sm_names.specs.Legality.{IsLegal}
 use Rattle.sm_names.specs.Marks.{Entry, Timeline, Called, events}
@@ -141,52 +141,52 @@ module _ (pool : ℕ) (limits : Bound) (history : List Entry) (entry : Entry) (l
 
   -- a Close or a Release spends
   pub spent_event : (node : NodeKey) →
-      spent (timeline pool (history ++ entry ∷ [])) node ≡ (spends node (mark_of entry) || spent (timeline pool history) node)
+      spent (timeline pool (history ++ entry ∷ [])) node ≡ (spends node (entry_mark entry) || spent (timeline pool history) node)
   spent_event node = λ i. next.same.over i node
 
   -- a Give puts into a parcel, and a Collect takes out
   pub transit_event : (node : NodeKey) →
-      in_transit (timeline pool (history ++ entry ∷ [])) node ≡ (sends node (mark_of entry) || (in_transit (timeline pool history)
-      node && not (delivers node (mark_of entry))))
+      in_transit (timeline pool (history ++ entry ∷ [])) node ≡ (sends node (entry_mark entry) || (in_transit (timeline pool history)
+      node && not (delivers node (entry_mark entry))))
   transit_event node = (λ i. next.same.under_way i node)
       ∙ transit_mark limits old entry.0 entry.2 entry.1 next.answer drawn node (was_at node)
 
   -- a Collect changes who holds
   pub holder_event : (node : NodeKey) → was_born (births (timeline pool history)) node ≡ true →
-      holder (timeline pool (history ++ entry ∷ [])) node ≡ option_map_or (λ c. c) (collector_at node (mark_of entry))
+      holder (timeline pool (history ++ entry ∷ [])) node ≡ option_map_or (λ c. c) (collector_at node (entry_mark entry))
       (holder (timeline pool history) node)
   holder_event node born = (λ i. next.same.holders i node) ∙ holder_mark limits old entry.0 entry.2 entry.1 node next.answer born
 
   -- a Bind makes a collection of a token
-  pub kind_event : (node : NodeKey) → kind (timeline pool (history ++ entry ∷ [])) node ≡ cond (binds node (mark_of entry)) Kind.Collection
+  pub kind_event : (node : NodeKey) → kind (timeline pool (history ++ entry ∷ [])) node ≡ cond (binds node (entry_mark entry)) Kind.Collection
       (kind (timeline pool history) node)
-  kind_event node = (λ i. next.same.kinds i node) ∙ from (binds node (mark_of entry)) (list_any (binds node) old)
+  kind_event node = (λ i. next.same.kinds i node) ∙ from (binds node (entry_mark entry)) (list_any (binds node) old)
     where
       from : (b o : Bool) → cond (b || o) Kind.Collection Kind.Token ≡ cond b Kind.Collection (cond o Kind.Collection Kind.Token)
       from true o = refl
       from false o = refl
 
   -- what was done is as it should be
-  pub given_was : (node : NodeKey) → sends node (mark_of entry) ≡ true → (spent (timeline pool history) node ≡ false) ×
+  pub given_was : (node : NodeKey) → sends node (entry_mark entry) ≡ true → (spent (timeline pool history) node ≡ false) ×
       (in_transit (timeline pool history) node ≡ false) × (holder (timeline pool history) node ≡ entry.0)
   given_was node h = let f : FreeEnd old entry.0 node =
       sends_free limits old entry.0 entry.2 entry.1 node next.answer h in (f.unspent, f.resting, f.held)
 
   -- so too where it is spent
-  pub spent_was : (node : NodeKey) → spends node (mark_of entry) ≡ true → (spent (timeline pool history) node ≡ false) ×
+  pub spent_was : (node : NodeKey) → spends node (entry_mark entry) ≡ true → (spent (timeline pool history) node ≡ false) ×
       (in_transit (timeline pool history) node ≡ false) × (holder (timeline pool history) node ≡ entry.0)
   spent_was node h = let f : FreeEnd old entry.0 node =
       spends_free limits old entry.0 entry.2 entry.1 node next.answer h in (f.unspent, f.resting, f.held)
 
   -- and where it is delivered
-  pub delivered_was : (node : NodeKey) → delivers node (mark_of entry) ≡ true → (spent (timeline pool history) node ≡ false) ×
+  pub delivered_was : (node : NodeKey) → delivers node (entry_mark entry) ≡ true → (spent (timeline pool history) node ≡ false) ×
       (in_transit (timeline pool history) node ≡ true)
   delivered_was node h =
       let t = (delivers_waited limits old entry.0 entry.2 entry.1 next.answer drawn node (was_at node) h).1 in
       ((was_at node).unspent t, t)
 
   -- a birth is to its caller
-  pub born_event : (b : Birth) → birth_at (events (timeline pool history) + 1) (mark_of entry) ≡ Some b →
+  pub born_event : (b : Birth) → birth_at (events (timeline pool history) + 1) (entry_mark entry) ≡ Some b →
       (spent (timeline pool (history ++ entry ∷ [])) b.node ≡ false) × (in_transit (timeline pool (history ++ entry ∷ [])) b.node ≡ false) ×
       (holder (timeline pool (history ++ entry ∷ [])) b.node ≡ entry.0) ×
       (kind (timeline pool (history ++ entry ∷ [])) b.node ≡ Kind.Token)
@@ -194,12 +194,12 @@ module _ (pool : ℕ) (limits : Bound) (history : List Entry) (entry : Entry) (l
       let k : Comes old entry.0 entry.2 entry.1 b = comes limits old entry.0 (events old + 1) entry.2 entry.1 b next.answer h in
       let u = (was_at b.node).unborn k.fresh in
       let idle = unborn_idle limits old entry.0 entry.2 entry.1 next.answer drawn b.node (was_at b.node) k.fresh in
-      let nobody : collector (mark_of entry ∷ old) b.node ≡ None =
+      let nobody : collector (entry_mark entry ∷ old) b.node ≡ None =
       ap (λ (o : Option ℕ). option_map_or Some o (collector old b.node)) idle.2 ∙ u.1 in (
-        spent_event b.node ∙ or_both (spends b.node (mark_of entry)) (spent old b.node) idle.0 u.0,
-        transit_event b.node ∙ or_both (sends b.node (mark_of entry)) _ idle.1 (ap (λ (t : Bool).
-            t && not (delivers b.node (mark_of entry))) u.2),
+        spent_event b.node ∙ or_both (spends b.node (entry_mark entry)) (spent old b.node) idle.0 u.0,
+        transit_event b.node ∙ or_both (sends b.node (entry_mark entry)) _ idle.1 (ap (λ (t : Bool).
+            t && not (delivers b.node (entry_mark entry))) u.2),
         (λ i. next.same.holders i b.node) ∙ born_held limits old entry.0 entry.2 entry.1 b next.answer h nobody,
-        (λ i. next.same.kinds i b.node) ∙ ap (λ (t : Bool). cond t Kind.Collection Kind.Token) (or_both (binds b.node (mark_of entry))
+        (λ i. next.same.kinds i b.node) ∙ ap (λ (t : Bool). cond t Kind.Collection Kind.Token) (or_both (binds b.node (entry_mark entry))
             (list_any (binds b.node) old) idle.3 u.3),
       )

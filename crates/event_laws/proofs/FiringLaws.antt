@@ -9,7 +9,7 @@ use Rattle.sm_names.specs.Marks.{Entry, Timeline, Called, events}
 use Rattle.sm_names.specs.Reading.{readings}
 use Rattle.sm_names.specs.Timelines.{after}
 use Rattle.sm_names.specs.Trackers.{Tracked, tracked, tracked_at, earlier_moments, moments, fires_at, fired_at, holds, world}
-use Rattle.event_laws.specs.Waiting.{is_due}
+use Rattle.event_laws.specs.Waiting.{is_tracked_met}
 use Rattle.sm_names.specs.Words.{last_match}
 use Rattle.sm_names.proofs.GoneLaws.{earlier_after}
 use Rattle.sm_names.proofs.GrowthLaws.{Grows}
@@ -38,14 +38,14 @@ none_fired marks t other = from (last_match (fires_at t) (moments marks)) refl
     from (Some moment) e = absurd (last_match-kept (λ m. ⊥) (fires_at t) (moments marks) never moment e)
 
 -- a tracker that was attached passes where what it waits for holds
-passes : (marks : Timeline) (t : Tracked) → In t (tracked marks) → fires_at t marks ≡ is_due (world marks) t
+passes : (marks : Timeline) (t : Tracked) → In t (tracked marks) → fires_at t marks ≡ is_tracked_met (world marks) t
 passes marks t on =
     let attached : list_any (λ (u : Tracked). u.id == t.id) (tracked marks) ≡ true =
     In-any (λ (u : Tracked). u.id == t.id) (tracked marks) t on (eq-eqb t.id t.id refl) in
     rw attached refl
 
 -- so what a tracker that has not fired waits for does not hold
-pub not_due : (marks : Timeline) (t : Tracked) → In t (tracked marks) → fired_at marks t ≡ None → is_due (world marks) t ≡ false
+pub not_due : (marks : Timeline) (t : Tracked) → In t (tracked marks) → fired_at marks t ≡ None → is_tracked_met (world marks) t ≡ false
 not_due marks t on h = sym (passes marks t on) ∙ from (last_match (fires_at t) (earlier_moments marks)) (fires_at t marks) h
   where
     from : (o : Option Timeline) (b : Bool) → option_map events (option_map_or Some o (cond b (Some marks) None)) ≡ None → b ≡ false
@@ -57,7 +57,7 @@ not_due marks t on h = sym (passes marks t on) ∙ from (last_match (fires_at t)
 
 -- it fired before, or fires now if what it waits for holds
 pub fired_next : (pool : ℕ) (marks : Timeline) (entry : Entry) (t : Tracked) → In t (tracked (after pool marks entry)) →
-    fired_at (after pool marks entry) t ≡ option_map_or Some (fired_at marks t) (cond (is_due (world (after pool marks entry)) t)
+    fired_at (after pool marks entry) t ≡ option_map_or Some (fired_at marks t) (cond (is_tracked_met (world (after pool marks entry)) t)
     (Some (events (after pool marks entry))) None)
 fired_next pool marks entry t on =
     ap (λ (ms : List Timeline). option_map events (last_match (fires_at t) (after pool marks entry ∷ ms))) (earlier_after pool marks entry)
@@ -74,9 +74,9 @@ fired_next pool marks entry t on =
 
 -- it waits on if it waited, and is not due
 pub waits_next : (pool : ℕ) (marks : Timeline) (entry : Entry) (t : Tracked) → In t (tracked (after pool marks entry)) →
-    is_none (fired_at (after pool marks entry) t) ≡ (is_none (fired_at marks t) && not (is_due (world (after pool marks entry)) t))
+    is_none (fired_at (after pool marks entry) t) ≡ (is_none (fired_at marks t) && not (is_tracked_met (world (after pool marks entry)) t))
 waits_next pool marks entry t on =
-    ap is_none (fired_next pool marks entry t on) ∙ from (fired_at marks t) (is_due (world (after pool marks entry)) t)
+    ap is_none (fired_next pool marks entry t on) ∙ from (fired_at marks t) (is_tracked_met (world (after pool marks entry)) t)
   where
     from : (o : Option ℕ) (b : Bool) → is_none (option_map_or Some o (cond b (Some (events (after pool marks entry))) None)) ≡ (is_none
         o && not b)
@@ -87,10 +87,10 @@ waits_next pool marks entry t on =
 -- it fires at this event if it waited, and is due
 pub fires_now : (pool : ℕ) (marks : Timeline) (entry : Entry) (t : Tracked) → In t (tracked (after pool marks entry)) →
     option_map_or (λ e. e == events (after pool marks entry)) (fired_at (after pool marks entry) t)
-    false ≡ (is_none (fired_at marks t) && is_due (world (after pool marks entry)) t)
+    false ≡ (is_none (fired_at marks t) && is_tracked_met (world (after pool marks entry)) t)
 fires_now pool marks entry t on =
     ap (λ (o : Option ℕ). option_map_or (λ e. e == events (after pool marks entry)) o false) (fired_next pool marks entry t on)
-    ∙ from (fired_at marks t) refl (is_due (world (after pool marks entry)) t)
+    ∙ from (fired_at marks t) refl (is_tracked_met (world (after pool marks entry)) t)
   where
     now : ℕ
     now = events (after pool marks entry)
@@ -111,7 +111,7 @@ pub fired_then : (pool : ℕ) (marks : Timeline) (entry : Entry) (event : ℕ) �
     option_map_or (λ e. e == event) (fired_at (after pool marks entry) t) false ≡ option_map_or (λ e. e == event) (fired_at marks t) false
 fired_then pool marks entry event early t on =
     ap (λ (o : Option ℕ). option_map_or (λ e. e == event) o false) (fired_next pool marks entry t on)
-    ∙ from (fired_at marks t) (is_due (world (after pool marks entry)) t)
+    ∙ from (fired_at marks t) (is_tracked_met (world (after pool marks entry)) t)
   where
     now : ℕ
     now = events (after pool marks entry)

@@ -2,7 +2,7 @@
 use Rattle.std.proofs.Common.{ℕ, ◌≡◌, ◌∙◌, refl, subst, sym, false, List, [], ◌∷◌, ◌++◌}
 use Rattle.sm_names.specs.Answers.{IsAnswer}
 use Rattle.sm_names.specs.Bounds.{Bound}
-use Rattle.event_laws.specs.ByEvent.{SameHands, mark_of}
+use Rattle.event_laws.specs.ByEvent.{SameHands, entry_mark}
 use Rattle.sm_names.specs.Legality.{IsLegal}
 use Rattle.sm_names.specs.Marks.{Entry, Mark, Timeline, Called, Loss, Allocated, Ended, is_event}
 use Rattle.sm_names.specs.Reading.{readings}
@@ -78,9 +78,9 @@ still_same : (first marks : Timeline) (mark : Mark) → is_event mark ≡ false 
 still_same first marks mark h s = then_same first marks (mark ∷ marks) s (same_hands marks mark h)
 
 -- so all marks that an event forces leave them as its own mark does
-pub same_after : (pool : ℕ) (marks : Timeline) (entry : Entry) → SameHands (mark_of entry ∷ marks) (after pool marks entry)
+pub same_after : (pool : ℕ) (marks : Timeline) (entry : Entry) → SameHands (entry_mark entry ∷ marks) (after pool marks entry)
 same_after pool marks entry =
-    kept-after (SameHands (mark_of entry ∷ marks)) (still_same (mark_of entry ∷ marks)) pool marks entry
+    kept-after (SameHands (entry_mark entry ∷ marks)) (still_same (entry_mark entry ∷ marks)) pool marks entry
     (record {
       born = refl;
       joined = refl;
@@ -99,7 +99,7 @@ same_after pool marks entry =
 pub record NextEvent (pool : ℕ) (limits : Bound) (history : List Entry) (entry : Entry) : Type 0 where
   pub grown : Grows pool limits [] (timeline pool history)
   pub answer : IsAnswer limits (readings (timeline pool history)) entry.0 entry.1 entry.2
-  pub same : SameHands (mark_of entry ∷ timeline pool history) (timeline pool (history ++ entry ∷ []))
+  pub same : SameHands (entry_mark entry ∷ timeline pool history) (timeline pool (history ++ entry ∷ []))
 
 -- what is known of it
 pub next_event : (pool : ℕ) (limits : Bound) (history : List Entry) (entry : Entry) → IsLegal pool limits (history ++ entry ∷ []) →
@@ -109,6 +109,6 @@ next_event pool limits history entry legal =
     record {
       grown = grows_history pool limits [] [] history Stays r.0;
       answer = r.1;
-      same = subst (SameHands (mark_of entry ∷ timeline pool history)) (sym (timeline-push pool history entry))
+      same = subst (SameHands (entry_mark entry ∷ timeline pool history)) (sym (timeline-push pool history entry))
           (same_after pool (timeline pool history) entry);
     }

@@ -8,7 +8,7 @@ use Rattle.sm_names.specs.declared.keys.Strength.{Strength}
 use Rattle.sm_names.specs.declared.messages.Call.{Call}
 use Rattle.sm_names.specs.declared.messages.Reply.{Reply}
 use Rattle.sm_names.specs.Bounds.{Bound}
-use Rattle.event_laws.specs.ByEvent.{mark_of, one_if, only, anyone, gains, loses, is_about_handles, GoesBy, SetsHandles}
+use Rattle.event_laws.specs.ByEvent.{entry_mark, one_if, only, anyone, gains, loses, is_about_handles, GoesBy, SetsHandles}
 use Rattle.sm_names.specs.Handles.{opens, drops, lifts, lands, open_of, open_total, moving}
 use Rattle.sm_names.specs.Legality.{IsLegal}
 use Rattle.sm_names.specs.Marks.{Entry, Timeline}
@@ -118,12 +118,12 @@ module _ (pool : ℕ) (limits : Bound) (history : List Entry) (client : ℕ) (bu
       let new : Timeline = timeline pool (history ++ (client, Call.DupHandle buffer strength, Reply.Done) ∷ []) in
       record {
         counts = λ c b s. up (open_of old c b s) (open_of new c b s) (hold_test buffer strength client c b s)
-            (gains (only c) b s (mark_of entry)) (loses (only c) b s (mark_of entry)) (open_of_event pool limits history entry legal c b s)
+            (gains (only c) b s (entry_mark entry)) (loses (only c) b s (entry_mark entry)) (open_of_event pool limits history entry legal c b s)
             (or_false (hold_test buffer strength client c b s)) refl
             ∙ at_hold buffer strength client (λ c b s. open_of old c b s + 1) c b s (open_of old c b s);
         parcels = kind_stays buffer strength (moving old) (moving new) (λ b s.
             still (moving old b s) (moving new b s) false false (moving_event pool limits history entry legal b s) refl refl);
-        totals = λ b s. up (open_total old b s) (open_total new b s) (kind_test buffer strength b s) (opens anyone b s (mark_of entry))
+        totals = λ b s. up (open_total old b s) (open_total new b s) (kind_test buffer strength b s) (opens anyone b s (entry_mark entry))
             false (open_total_event pool limits history entry legal b s) refl refl
             ∙ at_kind buffer strength (λ b s. open_total old b s + 1) b s (open_total old b s);
       }
@@ -145,12 +145,12 @@ module _ (pool : ℕ) (limits : Bound) (history : List Entry) (client : ℕ) (bu
         (all buffer strength).was_there (own_kind buffer strength client),
         record {
           counts = λ c b s. down (open_of old c b s) (open_of new c b s) (hold_test buffer strength client c b s) false
-              (loses (only c) b s (mark_of entry)) (each c b s) refl (or_false (hold_test buffer strength client c b s))
+              (loses (only c) b s (entry_mark entry)) (each c b s) refl (or_false (hold_test buffer strength client c b s))
               ∙ at_hold buffer strength client (λ c b s. open_of old c b s - 1) c b s (open_of old c b s);
           parcels = kind_stays buffer strength (moving old) (moving new) (λ b s.
               still (moving old b s) (moving new b s) false false (moving_event pool limits history entry legal b s) refl refl);
           totals = λ b s. down (open_total old b s) (open_total new b s) (kind_test buffer strength b s) false
-              (drops anyone b s (mark_of entry)) (all b s) refl refl
+              (drops anyone b s (entry_mark entry)) (all b s) refl refl
               ∙ at_kind buffer strength (λ b s. open_total old b s - 1) b s (open_total old b s);
         },
       )
@@ -169,9 +169,9 @@ module _ (pool : ℕ) (limits : Bound) (history : List Entry) (client : ℕ) (bu
         (each client buffer strength).was_there (own_hold buffer strength client),
         record {
           counts = λ c b s. down (open_of old c b s) (open_of new c b s) (hold_test buffer strength client c b s) false
-              (loses (only c) b s (mark_of entry)) (each c b s) refl refl
+              (loses (only c) b s (entry_mark entry)) (each c b s) refl refl
               ∙ at_hold buffer strength client (λ c b s. open_of old c b s - 1) c b s (open_of old c b s);
-          parcels = λ b s. up (moving old b s) (moving new b s) (kind_test buffer strength b s) (lifts anyone b s (mark_of entry)) false
+          parcels = λ b s. up (moving old b s) (moving new b s) (kind_test buffer strength b s) (lifts anyone b s (entry_mark entry)) false
               (moving_event pool limits history entry legal b s) refl refl
               ∙ at_kind buffer strength (λ b s. moving old b s + 1) b s (moving old b s);
           totals = kind_stays buffer strength (open_total old) (open_total new) (λ b s.
@@ -193,9 +193,9 @@ module _ (pool : ℕ) (limits : Bound) (history : List Entry) (client : ℕ) (bu
         (moved buffer strength).was_there (own_kind buffer strength client),
         record {
           counts = λ c b s. up (open_of old c b s) (open_of new c b s) (hold_test buffer strength client c b s)
-              (gains (only c) b s (mark_of entry)) false (open_of_event pool limits history entry legal c b s) refl refl
+              (gains (only c) b s (entry_mark entry)) false (open_of_event pool limits history entry legal c b s) refl refl
               ∙ at_hold buffer strength client (λ c b s. open_of old c b s + 1) c b s (open_of old c b s);
-          parcels = λ b s. down (moving old b s) (moving new b s) (kind_test buffer strength b s) false (lands anyone b s (mark_of entry))
+          parcels = λ b s. down (moving old b s) (moving new b s) (kind_test buffer strength b s) false (lands anyone b s (entry_mark entry))
               (moved b s) refl refl
               ∙ at_kind buffer strength (λ b s. moving old b s - 1) b s (moving old b s);
           totals = kind_stays buffer strength (open_total old) (open_total new) (λ b s.
@@ -227,7 +227,7 @@ module _ (pool : ℕ) (limits : Bound) (history : List Entry) where
       let t : Bool = client == c && in_set collection set taken b s in
       up (open_of (timeline pool history) c b s)
       (open_of (timeline pool (history ++ (client, Call.Take key, Reply.Taken collection taken set) ∷ [])) c b s) t
-      (gains (only c) b s (mark_of entry)) false (open_of_event pool limits history entry legal c b s) (or_false t) refl
+      (gains (only c) b s (entry_mark entry)) false (open_of_event pool limits history entry legal c b s) (or_false t) refl
       ∙ plus t (open_of (timeline pool history) c b s)
 
   -- so there are as many more in all
@@ -255,28 +255,28 @@ module _ (pool : ℕ) (limits : Bound) (history : List Entry) where
       (moving_event pool limits history entry legal b s) refl refl
 
   -- what is about no handles leaves what each client has
-  pub others_each : (entry : Entry) → IsLegal pool limits (history ++ entry ∷ []) → is_about_handles (mark_of entry) ≡ false →
+  pub others_each : (entry : Entry) → IsLegal pool limits (history ++ entry ∷ []) → is_about_handles (entry_mark entry) ≡ false →
       (c : ℕ) (b : BufferName) (s : Strength) →
       open_of (timeline pool (history ++ entry ∷ [])) c b s ≡ open_of (timeline pool history) c b s
   others_each entry legal idle c b s =
       still (open_of (timeline pool history) c b s) (open_of (timeline pool (history ++ entry ∷ [])) c b s)
-      (gains (only c) b s (mark_of entry)) (loses (only c) b s (mark_of entry)) (open_of_event pool limits history entry legal c b s)
-      (idle_gains (only c) b s (mark_of entry) idle) (idle_loses (only c) b s (mark_of entry) idle)
+      (gains (only c) b s (entry_mark entry)) (loses (only c) b s (entry_mark entry)) (open_of_event pool limits history entry legal c b s)
+      (idle_gains (only c) b s (entry_mark entry) idle) (idle_loses (only c) b s (entry_mark entry) idle)
 
   -- what is open in all
-  pub others_all : (entry : Entry) → IsLegal pool limits (history ++ entry ∷ []) → is_about_handles (mark_of entry) ≡ false →
+  pub others_all : (entry : Entry) → IsLegal pool limits (history ++ entry ∷ []) → is_about_handles (entry_mark entry) ≡ false →
       (b : BufferName) (s : Strength) →
       open_total (timeline pool (history ++ entry ∷ [])) b s ≡ open_total (timeline pool history) b s
   others_all entry legal idle b s =
       still (open_total (timeline pool history) b s) (open_total (timeline pool (history ++ entry ∷ [])) b s)
-      (opens anyone b s (mark_of entry)) (drops anyone b s (mark_of entry)) (open_total_event pool limits history entry legal b s)
-      (idle_opens anyone b s (mark_of entry) idle) (idle_drops anyone b s (mark_of entry) idle)
+      (opens anyone b s (entry_mark entry)) (drops anyone b s (entry_mark entry)) (open_total_event pool limits history entry legal b s)
+      (idle_opens anyone b s (entry_mark entry) idle) (idle_drops anyone b s (entry_mark entry) idle)
 
   -- and what is in parcels
-  pub others_moving : (entry : Entry) → IsLegal pool limits (history ++ entry ∷ []) → is_about_handles (mark_of entry) ≡ false →
+  pub others_moving : (entry : Entry) → IsLegal pool limits (history ++ entry ∷ []) → is_about_handles (entry_mark entry) ≡ false →
       (b : BufferName) (s : Strength) →
       moving (timeline pool (history ++ entry ∷ [])) b s ≡ moving (timeline pool history) b s
   others_moving entry legal idle b s =
-      still (moving (timeline pool history) b s) (moving (timeline pool (history ++ entry ∷ [])) b s) (lifts anyone b s (mark_of entry))
-      (lands anyone b s (mark_of entry)) (moving_event pool limits history entry legal b s)
-      (idle_lifts anyone b s (mark_of entry) idle) (idle_lands anyone b s (mark_of entry) idle)
+      still (moving (timeline pool history) b s) (moving (timeline pool (history ++ entry ∷ [])) b s) (lifts anyone b s (entry_mark entry))
+      (lands anyone b s (entry_mark entry)) (moving_event pool limits history entry legal b s)
+      (idle_lifts anyone b s (entry_mark entry) idle) (idle_lands anyone b s (entry_mark entry) idle)

@@ -5,7 +5,7 @@ use Rattle.sm_names.specs.declared.keys.Strength.{Strength}
 use Rattle.sm_names.specs.declared.messages.Call.{Call}
 use Rattle.sm_names.specs.declared.messages.Reply.{Reply}
 use Rattle.sm_names.specs.Bounds.{Bound}
-use Rattle.event_laws.specs.ByEvent.{mark_of, one_if, only, anyone, gains, loses, is_about_handles, GoesBy}
+use Rattle.event_laws.specs.ByEvent.{entry_mark, one_if, only, anyone, gains, loses, is_about_handles, GoesBy}
 use Rattle.sm_names.specs.Handles.{opens, drops, lifts, lands, open_of, open_total, moving}
 use Rattle.sm_names.specs.Legality.{IsLegal}
 use Rattle.sm_names.specs.Marks.{Entry, Mark, Timeline, Called}
@@ -181,37 +181,37 @@ module _ (pool : ℕ) (limits : Bound) (history : List Entry) (entry : Entry) (l
   was_counted : IsCounted (timeline pool history)
   was_counted = counted pool limits (timeline pool history) next.grown
 
-  is_counted : IsCounted (mark_of entry ∷ timeline pool history)
-  is_counted = counted pool limits (mark_of entry ∷ timeline pool history) (Answers (timeline pool history) entry.0 entry.2 entry.1
+  is_counted : IsCounted (entry_mark entry ∷ timeline pool history)
+  is_counted = counted pool limits (entry_mark entry ∷ timeline pool history) (Answers (timeline pool history) entry.0 entry.2 entry.1
       next.grown next.answer)
 
   -- what a client has open
   pub open_of_event : (client : ℕ) (buffer : BufferName) (strength : Strength) →
       GoesBy (open_of (timeline pool history) client buffer strength) (open_of (timeline pool (history ++ entry ∷ [])) client buffer
-      strength) (gains (only client) buffer strength (mark_of entry)) (loses (only client) buffer strength (mark_of entry))
+      strength) (gains (only client) buffer strength (entry_mark entry)) (loses (only client) buffer strength (entry_mark entry))
   open_of_event client buffer strength =
-      goes_same (open_of old client buffer strength) (open_of (mark_of entry ∷ old) client buffer strength)
-      (open_of new client buffer strength) (gains (only client) buffer strength (mark_of entry)) (loses (only client) buffer strength
-      (mark_of entry))
+      goes_same (open_of old client buffer strength) (open_of (entry_mark entry ∷ old) client buffer strength)
+      (open_of new client buffer strength) (gains (only client) buffer strength (entry_mark entry)) (loses (only client) buffer strength
+      (entry_mark entry))
       (λ i. next.same.had i client buffer strength)
-      (open_of_mark old (mark_of entry) was_counted is_counted buffer strength client)
+      (open_of_mark old (entry_mark entry) was_counted is_counted buffer strength client)
 
   -- what is open in all
   pub open_total_event : (buffer : BufferName) (strength : Strength) →
       GoesBy (open_total (timeline pool history) buffer strength) (open_total (timeline pool (history ++ entry ∷ [])) buffer strength)
-      (opens anyone buffer strength (mark_of entry)) (drops anyone buffer strength (mark_of entry))
+      (opens anyone buffer strength (entry_mark entry)) (drops anyone buffer strength (entry_mark entry))
   open_total_event buffer strength =
-      goes_same (open_total old buffer strength) (open_total (mark_of entry ∷ old) buffer strength) (open_total new buffer strength)
-      (opens anyone buffer strength (mark_of entry)) (drops anyone buffer strength (mark_of entry))
+      goes_same (open_total old buffer strength) (open_total (entry_mark entry ∷ old) buffer strength) (open_total new buffer strength)
+      (opens anyone buffer strength (entry_mark entry)) (drops anyone buffer strength (entry_mark entry))
       (λ i. next.same.in_all i buffer strength)
-      (open_total_mark old (mark_of entry) was_counted is_counted buffer strength)
+      (open_total_mark old (entry_mark entry) was_counted is_counted buffer strength)
 
   -- what is in parcels
   pub moving_event : (buffer : BufferName) (strength : Strength) →
       GoesBy (moving (timeline pool history) buffer strength) (moving (timeline pool (history ++ entry ∷ [])) buffer strength)
-      (lifts anyone buffer strength (mark_of entry)) (lands anyone buffer strength (mark_of entry))
+      (lifts anyone buffer strength (entry_mark entry)) (lands anyone buffer strength (entry_mark entry))
   moving_event buffer strength =
-      goes_same (moving old buffer strength) (moving (mark_of entry ∷ old) buffer strength) (moving new buffer strength)
-      (lifts anyone buffer strength (mark_of entry)) (lands anyone buffer strength (mark_of entry))
+      goes_same (moving old buffer strength) (moving (entry_mark entry ∷ old) buffer strength) (moving new buffer strength)
+      (lifts anyone buffer strength (entry_mark entry)) (lands anyone buffer strength (entry_mark entry))
       (λ i. next.same.in_parcels i buffer strength)
-      (moving_mark old (mark_of entry) was_counted is_counted buffer strength)
+      (moving_mark old (entry_mark entry) was_counted is_counted buffer strength)

@@ -21,7 +21,7 @@ use Rattle.sm_names.proofs.GrowthLaws.{Grows, legal_grows}
 use Rattle.sm_names.proofs.KeptLaws.{kept-after}
 use Rattle.sm_names.proofs.SamenessLaws.{and_both, and_left, and_right, and_swap, either_way}
 use Rattle.sm_names.proofs.SumLaws.{one, one_of, AreOnce, times-cons, sum_by-same, sum_by-add, sum_by-zero, sum_once}
-use Rattle.event_laws.specs.ByEvent.{anyone, only, mark_of}
+use Rattle.event_laws.specs.ByEvent.{anyone, only, entry_mark}
 use Rattle.event_laws.specs.HandleSums.{ListsAllocated, all_moving, all_open, all_open_of, allocated_collections, opened_at, dropped_at, sent_at, got_at, opened, dropped, sent, got, indices_in, over_buffers}
 use Rattle.event_laws.proofs.HandleSumNamedLaws.{IsThere, lists_allocated, opens_there, drops_there, lifts_there, lands_there}
 use Rattle.event_laws.proofs.HandleCaseLaws.{same_buffer-refl}
@@ -230,13 +230,13 @@ module _ (cs is : List ℕ) (test : BufferName → Mark → Bool) (amount : Mark
     grid cs is (λ b. one (test b mark)) ≡ amount mark) where
   -- an event adds its own mark
   count_after : (pool : ℕ) (b : BufferName) (marks : Timeline) (e : Entry) →
-      times (test b) (after pool marks e) ≡ times (test b) marks + one (test b (mark_of e))
+      times (test b) (after pool marks e) ≡ times (test b) marks + one (test b (entry_mark e))
   count_after pool b marks e =
-      kept-after (λ (m : Timeline). times (test b) m ≡ times (test b) marks + one (test b (mark_of e))) same pool marks e
-      (times-cons (test b) (mark_of e) marks)
+      kept-after (λ (m : Timeline). times (test b) m ≡ times (test b) marks + one (test b (entry_mark e))) same pool marks e
+      (times-cons (test b) (entry_mark e) marks)
     where
-      same : (m : Timeline) (mark : Mark) → is_event mark ≡ false → times (test b) m ≡ times (test b) marks + one (test b (mark_of e)) →
-          times (test b) (mark ∷ m) ≡ times (test b) marks + one (test b (mark_of e))
+      same : (m : Timeline) (mark : Mark) → is_event mark ≡ false → times (test b) m ≡ times (test b) marks + one (test b (entry_mark e)) →
+          times (test b) (mark ∷ m) ≡ times (test b) marks + one (test b (entry_mark e))
       same m mark forced so = let none : test b mark ≡ false = quiet b mark forced in rw none so
 
   -- so counts only grow
@@ -249,27 +249,27 @@ module _ (cs is : List ℕ) (test : BufferName → Mark → Bool) (amount : Mark
   count_fold : (pool : ℕ) (marks : Timeline) (history : List Entry) →
       ((b : BufferName) → 0 < times (test b) (fold (after pool) marks history) → IsListed cs is b) →
       grid cs is (λ b. times (test b) (fold (after pool) marks history)) ≡ grid cs is (λ b. times (test b) marks) + sum_by (λ (e : Entry).
-      amount (mark_of e)) history
+      amount (entry_mark e)) history
   count_fold pool marks [] on = omega arith
   count_fold pool marks (e ∷ es) on =
-      let on_mark : (b : BufferName) → test b (mark_of e) ≡ true → IsListed cs is b = λ b h.
-      let this : one (test b (mark_of e)) ≡ 1 = ap one h in
+      let on_mark : (b : BufferName) → test b (entry_mark e) ≡ true → IsListed cs is b = λ b h.
+      let this : one (test b (entry_mark e)) ≡ 1 = ap one h in
       on b (omega (arith, this, count_after pool b marks e, count_grows pool b (after pool marks e) es)) in
-      let next : grid cs is (λ b. times (test b) (after pool marks e)) ≡ grid cs is (λ b. times (test b) marks + one (test b (mark_of e))) =
-      grid-same cs is (λ b. times (test b) (after pool marks e)) (λ b. times (test b) marks + one (test b (mark_of e))) (λ b.
+      let next : grid cs is (λ b. times (test b) (after pool marks e)) ≡ grid cs is (λ b. times (test b) marks + one (test b (entry_mark e))) =
+      grid-same cs is (λ b. times (test b) (after pool marks e)) (λ b. times (test b) marks + one (test b (entry_mark e))) (λ b.
       count_after pool b marks e) in
       omega (
         arith,
         count_fold pool (after pool marks e) es on,
         next,
-        grid-add cs is (λ b. times (test b) marks) (λ b. one (test b (mark_of e))),
-        adds (mark_of e) on_mark,
-        sum_by-cons (λ (x : Entry). amount (mark_of x)) e es,
+        grid-add cs is (λ b. times (test b) marks) (λ b. one (test b (entry_mark e))),
+        adds (entry_mark e) on_mark,
+        sum_by-cons (λ (x : Entry). amount (entry_mark x)) e es,
       )
 
   -- in the timeline of a history too
   count_all : (pool : ℕ) (history : List Entry) → ((b : BufferName) → 0 < times (test b) (timeline pool history) → IsListed cs is b) →
-      grid cs is (λ b. times (test b) (timeline pool history)) ≡ sum_by (λ (e : Entry). amount (mark_of e)) history
+      grid cs is (λ b. times (test b) (timeline pool history)) ≡ sum_by (λ (e : Entry). amount (entry_mark e)) history
   count_all pool history on = omega (arith, count_fold pool [] history on, grid-zero cs is)
 
 -- ---- a legal history

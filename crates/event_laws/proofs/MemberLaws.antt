@@ -3,7 +3,7 @@ use Rattle.std.proofs.Common.{ℕ, ◌+◌, ◌-◌, ◌<◌, ◌≡◌, ◌||�
 use Rattle.std.proofs.lemmas.List.{get_or_read}
 use Rattle.std.proofs.lemmas.List.Elements.{All-append, All-cons, All-nil}
 use Rattle.sm_names.specs.Marks.{Entry}
-use Rattle.event_laws.specs.Members.{AreAmong, Marks, is_among, is_join, joined, joined_from}
+use Rattle.event_laws.specs.Members.{AreAmong, Marks, is_among, makes_client, joined, joined_from}
 
 -- ---- marks
 
@@ -21,7 +21,7 @@ pub record IsRead (ids : List ℕ) (event : ℕ) (rest history : List Entry) : T
 
 -- an event that made no client
 pub read_other : (ids : List ℕ) (event : ℕ) (entry : Entry) (rest later history : List Entry) → rest ≡ entry ∷ later →
-    is_join entry ≡ false → IsRead ids event rest history →
+    makes_client entry ≡ false → IsRead ids event rest history →
     IsRead ids (event + 1) later history
 read_other ids event entry rest later history on other so = record {
   before = so.before;
@@ -30,7 +30,7 @@ read_other ids event entry rest later history on other so = record {
 }
 
 -- an event that made a client who is there
-pub read_join : (ids : List ℕ) (event : ℕ) (entry : Entry) (rest later history : List Entry) → rest ≡ entry ∷ later → is_join entry ≡ true →
+pub read_join : (ids : List ℕ) (event : ℕ) (entry : Entry) (rest later history : List Entry) → rest ≡ entry ∷ later → makes_client entry ≡ true →
     is_among ids event ≡ true → IsRead ids event rest history →
     IsRead ids (event + 1) later history
 read_join ids event entry rest later history on join there so = record {
@@ -46,11 +46,11 @@ read_join ids event entry rest later history on join there so = record {
 
 -- an event, where the client that it made is there
 pub read_next : (ids : List ℕ) (event : ℕ) (entry : Entry) (rest later history : List Entry) → rest ≡ entry ∷ later →
-    (is_join entry ≡ true → is_among ids event ≡ true) → IsRead ids event rest history →
+    (makes_client entry ≡ true → is_among ids event ≡ true) → IsRead ids event rest history →
     IsRead ids (event + 1) later history
-read_next ids event entry rest later history on there so = either (is_join entry) refl
+read_next ids event entry rest later history on there so = either (makes_client entry) refl
   where
-    either : (b : Bool) → is_join entry ≡ b → IsRead ids (event + 1) later history
+    either : (b : Bool) → makes_client entry ≡ b → IsRead ids (event + 1) later history
     either true join = read_join ids event entry rest later history on join (there join) so
     either false other = read_other ids event entry rest later history on other so
 

@@ -12,7 +12,7 @@ use Rattle.sm_names.specs.Reading.{readings}
 use Rattle.sm_names.specs.Trackers.{Tracked, tracked, tracked_at}
 use Rattle.sm_names.proofs.AnswerLaws.{took_effect_all}
 use Rattle.sm_names.proofs.GrowthLaws.{Grows, kept-grown}
-use Rattle.event_laws.specs.Waiting.{made}
+use Rattle.event_laws.specs.Waiting.{tracker_made}
 use Rattle.sm_names.proofs.LifeLaws.{In_new}
 use Rattle.sm_names.proofs.ListLaws.{In, In-reverse}
 use Rattle.event_laws.proofs.MomentLaws.{only_events}
@@ -113,7 +113,7 @@ numbered pool limits = kept-grown AreNumbered numbered_nothing pool limits (numb
 
 -- the tracker that an event attaches bears its number
 pub made_numbered : (limits : Bound) (marks : Timeline) (entry : Entry) (t : Tracked) →
-    IsAnswer limits (readings marks) entry.0 entry.1 entry.2 → In t (made marks entry) → t.id ≡ events marks + 1
+    IsAnswer limits (readings marks) entry.0 entry.1 entry.2 → In t (tracker_made marks entry) → t.id ≡ events marks + 1
 made_numbered limits marks entry t answer on = elim (In_new (tracked_at marks (Called entry.0 entry.2 entry.1)) [] t on) [
   | inl e ↦ made_id limits marks entry.0 entry.2 entry.1 t answer e
   | inr none ↦ absurd none

@@ -20,7 +20,7 @@ use Rattle.sm_names.specs.Sameness.{same_strength}
 use Rattle.sm_names.specs.Timelines.{after, timeline}
 use Rattle.sm_names.proofs.GrowthLaws.{legal_grows}
 use Rattle.sm_names.proofs.SumLaws.{sum_by-same, sum_by-zero}
-use Rattle.event_laws.specs.ByEvent.{mark_of, only}
+use Rattle.event_laws.specs.ByEvent.{entry_mark, only}
 use Rattle.event_laws.specs.HandleSums.{all_open_of, allocated_collections, dropped_at, got_at, indices_in, opened_at, sent_at}
 use Rattle.event_laws.proofs.HandleBufferLaws.{stranger_has_none}
 use Rattle.event_laws.proofs.HandleSumLaws.{all_client_adds}
@@ -28,8 +28,8 @@ use Rattle.event_laws.proofs.MomentLaws.{events-fold}
 use Rattle.event_laws.proofs.ParcelEventLaws.{clients_event, made_event}
 use Rattle.event_laws.specs.declared.line.ClientLine.{ClientLine}
 use Rattle.event_laws.specs.declared.own.Own.{Own}
-use Rattle.event_laws.specs.Lines.{gained_by, gains, line_of, lines_of, losses, lost_by}
-use Rattle.event_laws.specs.Members.{is_join, joined, joined_from}
+use Rattle.event_laws.specs.Lines.{gained_by, gains, client_line, lines_of, losses, lost_by}
+use Rattle.event_laws.specs.Members.{makes_client, joined, joined_from}
 use Rattle.event_laws.specs.Parts.{is_own, own_entry, part, part_from}
 use Rattle.event_laws.proofs.LinkLaws.{own_not_yet}
 
@@ -99,35 +99,35 @@ module _ (client : ℕ) (amount : Call → Reply → ℕ) (one two : Mark → �
   -- after it all that the client makes is
   amounts_from : (event : ℕ) (es : List Entry) → client < event →
       sum_by (λ (o : Own). amount o.call o.reply) (part_from client event es) ≡ sum_by (λ (e : Entry).
-      one (mark_of e)) es + sum_by (λ (e : Entry). two (mark_of e)) es
+      one (entry_mark e)) es + sum_by (λ (e : Entry). two (entry_mark e)) es
   amounts_from event [] late = refl
   amounts_from event (e ∷ es) late = either (amounts_from (event + 1) es (omega (arith, late))) (e.0 == client) refl
     where
       either : sum_by (λ (o : Own). amount o.call o.reply) (part_from client (event + 1) es) ≡ sum_by (λ (x : Entry).
-          one (mark_of x)) es + sum_by (λ (x : Entry). two (mark_of x)) es →
+          one (entry_mark x)) es + sum_by (λ (x : Entry). two (entry_mark x)) es →
           (b : Bool) → (e.0 == client) ≡ b →
           sum_by (λ (o : Own). amount o.call o.reply) (part_from client event (e ∷ es)) ≡ sum_by (λ (x : Entry).
-          one (mark_of x)) (e ∷ es) + sum_by (λ (x : Entry). two (mark_of x)) (e ∷ es)
+          one (entry_mark x)) (e ∷ es) + sum_by (λ (x : Entry). two (entry_mark x)) (e ∷ es)
       either more true is =
           let own : is_own client event e ≡ true = rw (is, lt-ltb client event late) refl in
-          let this : one (mark_of e) + two (mark_of e) ≡ amount e.1 e.2 = rw is at (each e.0 e.1 e.2) in
+          let this : one (entry_mark e) + two (entry_mark e) ≡ amount e.1 e.2 = rw is at (each e.0 e.1 e.2) in
           rw own (omega (
             arith,
             more,
             this,
             sum_by-cons (λ (o : Own). amount o.call o.reply) (own_entry event e) (part_from client (event + 1) es),
-            sum_by-cons (λ (x : Entry). one (mark_of x)) e es,
-            sum_by-cons (λ (x : Entry). two (mark_of x)) e es,
+            sum_by-cons (λ (x : Entry). one (entry_mark x)) e es,
+            sum_by-cons (λ (x : Entry). two (entry_mark x)) e es,
           ))
       either more false is =
           let own : is_own client event e ≡ false = rw is refl in
-          let this : one (mark_of e) + two (mark_of e) ≡ 0 = rw is at (each e.0 e.1 e.2) in
+          let this : one (entry_mark e) + two (entry_mark e) ≡ 0 = rw is at (each e.0 e.1 e.2) in
           rw own (omega (
             arith,
             more,
             this,
-            sum_by-cons (λ (x : Entry). one (mark_of x)) e es,
-            sum_by-cons (λ (x : Entry). two (mark_of x)) e es,
+            sum_by-cons (λ (x : Entry). one (entry_mark x)) e es,
+            sum_by-cons (λ (x : Entry). two (entry_mark x)) e es,
           ))
 
 -- ---- the first events of a history
@@ -182,7 +182,7 @@ module _ (pool : ℕ) (limits : Bound) (history : List Entry) (legal : IsLegal p
     as_long = length-append before (e ∷ [])
 
     -- who is made has the number of the event, and never joined before
-    made_now : (made : ℕ) → joined_at (mark_of e) ≡ Some made → (made ≡ length before + 1) ×
+    made_now : (made : ℕ) → joined_at (entry_mark e) ≡ Some made → (made ≡ length before + 1) ×
         (has_joined (timeline pool before) made ≡ false)
     made_now made is =
         let so = made_event pool limits before e legal_front made is in
@@ -201,13 +201,13 @@ module _ (pool : ℕ) (limits : Bound) (history : List Entry) (legal : IsLegal p
     sides : (f : Entry → ℕ) → sum_by f history ≡ sum_by f before + (f e + sum_by f es)
     sides f = ap (sum_by f) on ∙ (sum_by-append f before (e ∷ es) ∙ ap (λ n. sum_by f before + n) (sum_by-cons f e es))
 
-    balances_at : is_join e ≡ true → has_joined (timeline pool before) (length before + 1) ≡ false → Balances (length before + 1)
+    balances_at : makes_client e ≡ true → has_joined (timeline pool before) (length before + 1) ≡ false → Balances (length before + 1)
     balances_at join stranger strength =
         let client = length before + 1 in
-        let o : Entry → ℕ = λ x. opened_at (only client) strength (mark_of x) in
-        let g : Entry → ℕ = λ x. got_at (only client) strength (mark_of x) in
-        let d : Entry → ℕ = λ x. dropped_at (only client) strength (mark_of x) in
-        let s : Entry → ℕ = λ x. sent_at (only client) strength (mark_of x) in
+        let o : Entry → ℕ = λ x. opened_at (only client) strength (entry_mark x) in
+        let g : Entry → ℕ = λ x. got_at (only client) strength (entry_mark x) in
+        let d : Entry → ℕ = λ x. dropped_at (only client) strength (entry_mark x) in
+        let s : Entry → ℕ = λ x. sent_at (only client) strength (entry_mark x) in
         let came : o e + g e ≡ 0 = brought client strength e.0 e.1 e.2
         ∙ none_asked (e.0 == client) (gained_by strength e.1 e.2) (join_brings strength e.0 e.1 e.2 join) in
         let went : d e + s e ≡ 0 = taken_away client strength e.0 e.1 e.2
@@ -239,14 +239,14 @@ module _ (pool : ℕ) (limits : Bound) (history : List Entry) (legal : IsLegal p
   balances_from : (before rest : List Entry) → history ≡ before ++ rest → All Balances (joined_from (length before + 1) rest)
   balances_from before [] on = All-nil Balances
   balances_from before (e ∷ es) on =
-      either (balances_from (before ++ e ∷ []) es (front_is before e es on)) (joined_at (mark_of e)) refl
+      either (balances_from (before ++ e ∷ []) es (front_is before e es on)) (joined_at (entry_mark e)) refl
     where
-      either : All Balances (joined_from (length (before ++ e ∷ []) + 1) es) → (o : Option ℕ) → joined_at (mark_of e) ≡ o →
+      either : All Balances (joined_from (length (before ++ e ∷ []) + 1) es) → (o : Option ℕ) → joined_at (entry_mark e) ≡ o →
           All Balances (joined_from (length before + 1) (e ∷ es))
       either more None none = rw none (subst (λ n. All Balances (joined_from (n + 1) es)) (as_long before e es on) more)
       either more (Some made) some =
           let now = made_now before e es on made some in
-          let join : is_join e ≡ true = rw some refl in
+          let join : makes_client e ≡ true = rw some refl in
           let stranger : has_joined (timeline pool before) (length before + 1) ≡ false =
           subst (λ n. has_joined (timeline pool before) n ≡ false) now.0 now.1 in
           let later = subst (λ n. All Balances (joined_from (n + 1) es)) (as_long before e es on) more in
@@ -259,10 +259,10 @@ module _ (pool : ℕ) (limits : Bound) (history : List Entry) (legal : IsLegal p
       (line.weak ≡ all_open_of (timeline pool history) line.client Weak)
 
   pub lines_told : All IsTold (lines_of history)
-  lines_told = All-map IsTold (line_of history) (joined history) (λ k d below.
+  lines_told = All-map IsTold (client_line history) (joined history) (λ k d below.
       told (get_or (joined history) k d) (balances_from [] history refl k d below))
     where
-      told : (client : ℕ) → Balances client → IsTold (line_of history client)
+      told : (client : ℕ) → Balances client → IsTold (client_line history client)
       told client b = (omega (arith, b Strong), omega (arith, b Weak))
 
   -- who joined so far, and who joins from here on
@@ -271,11 +271,11 @@ module _ (pool : ℕ) (limits : Bound) (history : List Entry) (legal : IsLegal p
   members_from before [] on =
       append-nil (reverse (clients (timeline pool before))) ∙ ap (λ h. reverse (clients (timeline pool h))) (sym (on ∙ append-nil before))
   members_from before (e ∷ es) on =
-      either (members_from (before ++ e ∷ []) es (front_is before e es on)) (joined_at (mark_of e)) refl
+      either (members_from (before ++ e ∷ []) es (front_is before e es on)) (joined_at (entry_mark e)) refl
     where
       either : reverse (clients (timeline pool (before ++ e ∷ []))) ++ joined_from (length (before ++ e ∷ []) + 1) es ≡ reverse
           (clients (timeline pool history)) →
-          (o : Option ℕ) → joined_at (mark_of e) ≡ o →
+          (o : Option ℕ) → joined_at (entry_mark e) ≡ o →
           reverse (clients (timeline pool before)) ++ joined_from (length before + 1) (e ∷ es) ≡ reverse
           (clients (timeline pool history))
       either more None none =

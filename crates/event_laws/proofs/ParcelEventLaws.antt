@@ -9,7 +9,7 @@ use Rattle.sm_names.specs.declared.messages.Reply.{Reply}
 use Rattle.sm_names.specs.declared.outcomes.Refusal.{Refusal}
 use Rattle.sm_names.specs.Answers.{IsAnswer, OpenEnd, collected, refused_if}
 use Rattle.sm_names.specs.Bounds.{Bound}
-use Rattle.event_laws.specs.ByEvent.{mark_of, one_if, collected_at}
+use Rattle.event_laws.specs.ByEvent.{entry_mark, one_if, collected_at}
 use Rattle.sm_names.specs.Ends.{clients, joined_at, has_joined, shuts, is_shut, given_at, collects, parcels}
 use Rattle.sm_names.specs.Legality.{IsLegal}
 use Rattle.sm_names.specs.Marks.{Entry, Mark, Timeline, Called, events}
@@ -235,35 +235,35 @@ module _ (pool : ℕ) (limits : Bound) (history : List Entry) (entry : Entry) (l
   were_drawn = (counted pool limits (timeline pool history) next.grown).drawn
 
   -- what is got waited first
-  pub collected_event : (client : ℕ) (p : Parcel) → collected_at client (mark_of entry) ≡ Some p →
+  pub collected_event : (client : ℕ) (p : Parcel) → collected_at client (entry_mark entry) ≡ Some p →
       parcels (timeline pool history) client ≡ p ∷ parcels (timeline pool (history ++ entry ∷ [])) client
   collected_event client p h =
       collected_mark limits old entry.0 entry.2 entry.1 next.answer were_drawn client p h ∙ (λ i. p ∷ sym next.same.waiting i client)
 
   -- what is given waits last
-  pub given_event : (client : ℕ) (p : Parcel) → given_at client (mark_of entry) ≡ Some p →
+  pub given_event : (client : ℕ) (p : Parcel) → given_at client (entry_mark entry) ≡ Some p →
       parcels (timeline pool (history ++ entry ∷ [])) client ≡ parcels (timeline pool history) client ++ p ∷ []
   given_event client p h =
       (λ i. next.same.waiting i client) ∙ given_mark limits old entry.0 entry.2 entry.1 next.answer were_drawn client p h
 
   -- and else all wait as they did
-  pub idle_event : (client : ℕ) → collected_at client (mark_of entry) ≡ None → given_at client (mark_of entry) ≡ None →
+  pub idle_event : (client : ℕ) → collected_at client (entry_mark entry) ≡ None → given_at client (entry_mark entry) ≡ None →
       parcels (timeline pool (history ++ entry ∷ [])) client ≡ parcels (timeline pool history) client
   idle_event client c h = (λ i. next.same.waiting i client) ∙ idle_mark limits old entry.0 entry.2 entry.1 next.answer were_drawn client c h
 
   -- a Join adds its client
-  pub clients_event : clients (timeline pool (history ++ entry ∷ [])) ≡ cons_option (joined_at (mark_of entry))
+  pub clients_event : clients (timeline pool (history ++ entry ∷ [])) ≡ cons_option (joined_at (entry_mark entry))
       (clients (timeline pool history))
   clients_event = next.same.joined
 
   -- which is new
-  pub made_event : (made : ℕ) → joined_at (mark_of entry) ≡ Some made → (made ≡ events (timeline pool history) + 1) ×
+  pub made_event : (made : ℕ) → joined_at (entry_mark entry) ≡ Some made → (made ≡ events (timeline pool history) + 1) ×
       (has_joined (timeline pool history) made ≡ false)
   made_event made h =
       let is : made ≡ events old + 1 = made_is limits old entry.0 entry.2 entry.1 next.answer made h in
       (is, ap (has_joined old) is ∙ not_joined_yet old (counted pool limits old next.grown).clients_are)
 
   -- and a Shut shuts its caller
-  pub shut_event : (client : ℕ) → is_shut (timeline pool (history ++ entry ∷ [])) client ≡ (shuts client (mark_of entry) || is_shut
+  pub shut_event : (client : ℕ) → is_shut (timeline pool (history ++ entry ∷ [])) client ≡ (shuts client (entry_mark entry) || is_shut
       (timeline pool history) client)
   shut_event client = λ i. next.same.shut i client

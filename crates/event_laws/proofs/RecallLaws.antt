@@ -18,7 +18,7 @@ use Rattle.sm_names.specs.Losses.{gone, allocated}
 use Rattle.sm_names.specs.Marks.{Entry, Timeline, Called}
 use Rattle.sm_names.specs.Reading.{readings}
 use Rattle.sm_names.specs.Trackers.{Tracked, World, tracked_at, collection_of_node, holds, world}
-use Rattle.event_laws.specs.Waiting.{waiting, made, asked, is_due, IsRecalled, IsWaitedFor}
+use Rattle.event_laws.specs.Waiting.{unfired_trackers, tracker_made, trackers_to_test, is_tracked_met, IsRecalled, IsWaitedFor}
 use Rattle.event_laws.proofs.AllocatedLaws.{allocated_on}
 use Rattle.sm_names.proofs.AnswerLaws.{took_effect_all}
 use Rattle.sm_names.proofs.BirthLaws.{Named, named, birth_was_born}
@@ -125,9 +125,9 @@ known_due pool limits earlier later w g r (Condition.Weak buffer) known = r.doom
 -- so it is of each that waited, and of the one that the event attaches
 pub recalled_due : (pool : ℕ) (limits : Bound) (marks later : Timeline) (entry : Entry) (w : World) → Grows pool limits [] marks →
     Grows pool limits marks later → IsAnswer limits (readings marks) entry.0 entry.1 entry.2 → IsRecalled marks later w →
-    (t : Tracked) → In t (asked marks entry) → is_due w t ≡ is_due (world later) t
+    (t : Tracked) → In t (trackers_to_test marks entry) → is_tracked_met w t ≡ is_tracked_met (world later) t
 recalled_due pool limits marks later entry w g on answer r t there =
-    known_due pool limits marks later w on r t.condition (elim (In-append (waiting marks) (made marks entry) t there) [
+    known_due pool limits marks later w on r t.condition (elim (In-append (unfired_trackers marks) (tracker_made marks entry) t there) [
       | inl waits ↦
           let o = concerned pool limits marks g t (In-waiting marks t waits).0 in
           waiting_known marks o.0 t.condition o.1 (waited_for marks t waits)

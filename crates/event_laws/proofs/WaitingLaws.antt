@@ -16,7 +16,7 @@ use Rattle.sm_names.specs.Marks.{Entry, Timeline, Called, events}
 use Rattle.sm_names.specs.Reading.{readings}
 use Rattle.sm_names.specs.Timelines.{after}
 use Rattle.sm_names.specs.Trackers.{Tracked, tracked, tracked_at, moments, fired_at, fired_in, fired, unfired, holds, world}
-use Rattle.event_laws.specs.Waiting.{waiting, made, asked, is_due, firing, IsWaitedFor}
+use Rattle.event_laws.specs.Waiting.{unfired_trackers, tracker_made, trackers_to_test, is_tracked_met, tracked_firing, IsWaitedFor}
 use Rattle.event_laws.proofs.FiringLaws.{not_due, waits_next, fires_now, fired_then, made_waits}
 use Rattle.sm_names.proofs.GoneLaws.{earlier_after}
 use Rattle.sm_names.proofs.GrowthLaws.{Grows}
@@ -56,13 +56,13 @@ count_by-reverse {A} p (x ∷ xs) =
 -- ---- any marks
 
 -- as many have not fired as wait
-pub counted : (marks : Timeline) → unfired marks ≡ length (waiting marks)
+pub counted : (marks : Timeline) → unfired marks ≡ length (unfired_trackers marks)
 counted marks =
     sym (length-filter (λ t. is_none (fired_at marks t)) (reverse (tracked marks))
     ∙ count_by-reverse (λ t. is_none (fired_at marks t)) (tracked marks))
 
 -- a tracker that waits was attached, and has not fired
-pub In-waiting : (marks : Timeline) (t : Tracked) → In t (waiting marks) → In t (tracked marks) × (fired_at marks t ≡ None)
+pub In-waiting : (marks : Timeline) (t : Tracked) → In t (unfired_trackers marks) → In t (tracked marks) × (fired_at marks t ≡ None)
 In-waiting marks t on =
     let r = In-filter (λ (u : Tracked). is_none (fired_at marks u)) (reverse (tracked marks)) t on in
     (In-reverse (tracked marks) t r.0, none (fired_at marks t) r.1)
@@ -72,11 +72,11 @@ In-waiting marks t on =
     none (Some event) h = cc
 
 -- of one that waits it does not hold
-pub waiting_not_due : (marks : Timeline) (t : Tracked) → In t (waiting marks) → is_due (world marks) t ≡ false
+pub waiting_not_due : (marks : Timeline) (t : Tracked) → In t (unfired_trackers marks) → is_tracked_met (world marks) t ≡ false
 waiting_not_due marks t on = let w = In-waiting marks t on in not_due marks t w.0 w.1
 
 -- so its node is not gone, or was allocated, and its buffer is not doomed
-pub waited_for : (marks : Timeline) (t : Tracked) → In t (waiting marks) → IsWaitedFor marks t.condition
+pub waited_for : (marks : Timeline) (t : Tracked) → In t (unfired_trackers marks) → IsWaitedFor marks t.condition
 waited_for marks t on = from t.condition (waiting_not_due marks t on)
   where
     or_allocated : (a g : Bool) (few : Bool) → cond a few g ≡ false → g ≡ true → a ≡ true
@@ -99,7 +99,7 @@ module _ (pool : ℕ) (limits : Bound) (marks : Timeline) (entry : Entry) (g : G
   then = after pool marks entry
 
   -- the trackers after it are those before, and the one that it attaches
-  tracked_on : reverse (tracked (after pool marks entry)) ≡ reverse (tracked marks) ++ made marks entry
+  tracked_on : reverse (tracked (after pool marks entry)) ≡ reverse (tracked marks) ++ tracker_made marks entry
   tracked_on = ap reverse (tracked_after pool marks entry) ∙ from (tracked_at marks (Called entry.0 entry.2 entry.1))
     where
       from : (o : Option Tracked) → reverse (cons_option o (tracked marks)) ≡ reverse (tracked marks) ++ cons_option o []
@@ -107,11 +107,11 @@ module _ (pool : ℕ) (limits : Bound) (marks : Timeline) (entry : Entry) (g : G
       from (Some t) = reverse-append (t ∷ []) (tracked marks)
 
   -- of all of them those are asked that have not fired before
-  unfired_on : filter (λ t. is_none (fired_at marks t)) (reverse (tracked (after pool marks entry))) ≡ asked marks entry
+  unfired_on : filter (λ t. is_none (fired_at marks t)) (reverse (tracked (after pool marks entry))) ≡ trackers_to_test marks entry
   unfired_on =
       ap (filter (λ t. is_none (fired_at marks t))) tracked_on
-      ∙ (filter-append (λ t. is_none (fired_at marks t)) (reverse (tracked marks)) (made marks entry)
-      ∙ ap (λ (l : List Tracked). waiting marks ++ l) (from (tracked_at marks (Called entry.0 entry.2 entry.1)) refl))
+      ∙ (filter-append (λ t. is_none (fired_at marks t)) (reverse (tracked marks)) (tracker_made marks entry)
+      ∙ ap (λ (l : List Tracked). unfired_trackers marks ++ l) (from (tracked_at marks (Called entry.0 entry.2 entry.1)) refl))
     where
       from : (o : Option Tracked) → tracked_at marks (Called entry.0 entry.2 entry.1) ≡ o →
           filter (λ t. is_none (fired_at marks t)) (cons_option o []) ≡ cons_option o []
@@ -120,35 +120,35 @@ module _ (pool : ℕ) (limits : Bound) (marks : Timeline) (entry : Entry) (g : G
 
   -- those of them that pass one more test
   asked_of : (test : Tracked → Bool) →
-      filter (λ t. is_none (fired_at marks t) && test t) (reverse (tracked (after pool marks entry))) ≡ filter test (asked marks entry)
+      filter (λ t. is_none (fired_at marks t) && test t) (reverse (tracked (after pool marks entry))) ≡ filter test (trackers_to_test marks entry)
   asked_of test = filter-both (λ t. is_none (fired_at marks t)) test (reverse (tracked (after pool marks entry)))
       ∙ ap (filter test) unfired_on
 
   -- those that are not due wait on
-  pub waiting_next : waiting (after pool marks entry) ≡ filter (λ t. not (is_due (world (after pool marks entry)) t)) (asked marks entry)
+  pub waiting_next : unfired_trackers (after pool marks entry) ≡ filter (λ t. not (is_tracked_met (world (after pool marks entry)) t)) (trackers_to_test marks entry)
   waiting_next =
-      filter-In (λ t. is_none (fired_at then t)) (λ t. is_none (fired_at marks t) && not (is_due (world then) t)) (reverse (tracked then))
+      filter-In (λ t. is_none (fired_at then t)) (λ t. is_none (fired_at marks t) && not (is_tracked_met (world then) t)) (reverse (tracked then))
       (λ t on. waits_next pool marks entry t (In-reverse (tracked then) t on))
-      ∙ asked_of (λ t. not (is_due (world then) t))
+      ∙ asked_of (λ t. not (is_tracked_met (world then) t))
 
   -- those that are due fire at the event
-  fired_now : fired_in (after pool marks entry) (events (after pool marks entry)) ≡ map (firing (events (after pool marks entry)))
-      (filter (is_due (world (after pool marks entry))) (asked marks entry))
+  fired_now : fired_in (after pool marks entry) (events (after pool marks entry)) ≡ map (tracked_firing (events (after pool marks entry)))
+      (filter (is_tracked_met (world (after pool marks entry))) (trackers_to_test marks entry))
   fired_now =
-      ap (map (firing (events then)))
+      ap (map (tracked_firing (events then)))
       (filter-In (λ t. option_map_or (λ e. e == events then) (fired_at then t) false) (λ t.
-      is_none (fired_at marks t) && is_due (world then) t) (reverse (tracked then))
+      is_none (fired_at marks t) && is_tracked_met (world then) t) (reverse (tracked then))
       (λ t on. fires_now pool marks entry t (In-reverse (tracked then) t on))
-      ∙ asked_of (is_due (world then)))
+      ∙ asked_of (is_tracked_met (world then)))
 
   -- and at each earlier event those fired that did
   fired_before : (event : ℕ) → event ≤ events marks → fired_in (after pool marks entry) event ≡ fired_in marks event
   fired_before event early =
-      ap (map (firing event))
+      ap (map (tracked_firing event))
       (filter-In (at then) (at marks) (reverse (tracked then)) (λ t on.
       fired_then pool marks entry event early t (In-reverse (tracked then) t on))
       ∙ (ap (filter (at marks)) tracked_on
-      ∙ (filter-append (at marks) (reverse (tracked marks)) (made marks entry)
+      ∙ (filter-append (at marks) (reverse (tracked marks)) (tracker_made marks entry)
       ∙ (ap (λ (l : List Tracked). filter (at marks) (reverse (tracked marks)) ++ l)
       (from (tracked_at marks (Called entry.0 entry.2 entry.1)) refl)
       ∙ append-nil (filter (at marks) (reverse (tracked marks)))))))
@@ -162,8 +162,8 @@ module _ (pool : ℕ) (limits : Bound) (marks : Timeline) (entry : Entry) (g : G
       from (Some t) e = rw (made_waits pool limits marks entry t g answer e) refl
 
   -- so the firings go on by those that are due
-  pub fired_next : fired (after pool marks entry) ≡ fired marks ++ map (firing (events (after pool marks entry)))
-      (filter (is_due (world (after pool marks entry))) (asked marks entry))
+  pub fired_next : fired (after pool marks entry) ≡ fired marks ++ map (tracked_firing (events (after pool marks entry)))
+      (filter (is_tracked_met (world (after pool marks entry))) (trackers_to_test marks entry))
   fired_next =
       let at : Timeline → List Fired = λ moment. fired_in then (events moment) in
       ap (λ (ms : List Timeline). flat_map at (reverse (then ∷ ms))) (earlier_after pool marks entry)
@@ -172,4 +172,4 @@ module _ (pool : ℕ) (limits : Bound) (marks : Timeline) (entry : Entry) (g : G
       ∙ ((λ i. flat_map-In at (λ moment. fired_in marks (events moment)) (reverse (moments marks))
       (λ m on. fired_before (events m) (moment_earlier marks m (In-reverse (moments marks) m on)).few) i ++ (fired_now i ++ []))
       ∙ ap (λ (l : List Fired). fired marks ++ l)
-      (append-nil (map (firing (events then)) (filter (is_due (world then)) (asked marks entry)))))))
+      (append-nil (map (tracked_firing (events then)) (filter (is_tracked_met (world then)) (trackers_to_test marks entry)))))))

@@ -13,8 +13,8 @@ use Rattle.sm_names.specs.Marks.{Entry, Mark, Timeline, Called}
 use Rattle.sm_names.specs.Sameness.{same_key, same_buffer, same_strength}
 
 -- the event as a mark
-abbrev pub mark_of : Entry → Mark
-mark_of entry = Called entry.0 entry.2 entry.1
+abbrev pub entry_mark : Entry → Mark
+entry_mark entry = Called entry.0 entry.2 entry.1
 
 -- 1 where the test holds, else 0
 abbrev pub one_if : Bool → ℕ

@@ -13,7 +13,7 @@ use Rattle.sm_names.specs.Handles.{buffers_of, moving, open_of, open_total}
 use Rattle.sm_names.specs.Marks.{Entry, Mark, Timeline, Called, Allocated}
 use Rattle.sm_names.specs.Sameness.{same_strength}
 use Rattle.sm_names.specs.Words.{times, when}
-use Rattle.event_laws.specs.ByEvent.{mark_of}
+use Rattle.event_laws.specs.ByEvent.{entry_mark}
 
 -- ---- what events do
 
@@ -61,19 +61,19 @@ got_at who strength _ = 0
 
 -- how many handles of this strength such clients opened
 abbrev pub opened : (ℕ → Bool) → Strength → List Entry → ℕ
-opened who strength history = sum_by (λ (e : Entry). opened_at who strength (mark_of e)) history
+opened who strength history = sum_by (λ (e : Entry). opened_at who strength (entry_mark e)) history
 
 -- how many they dropped
 abbrev pub dropped : (ℕ → Bool) → Strength → List Entry → ℕ
-dropped who strength history = sum_by (λ (e : Entry). dropped_at who strength (mark_of e)) history
+dropped who strength history = sum_by (λ (e : Entry). dropped_at who strength (entry_mark e)) history
 
 -- how many they put into parcels
 abbrev pub sent : (ℕ → Bool) → Strength → List Entry → ℕ
-sent who strength history = sum_by (λ (e : Entry). sent_at who strength (mark_of e)) history
+sent who strength history = sum_by (λ (e : Entry). sent_at who strength (entry_mark e)) history
 
 -- how many they took out
 abbrev pub got : (ℕ → Bool) → Strength → List Entry → ℕ
-got who strength history = sum_by (λ (e : Entry). got_at who strength (mark_of e)) history
+got who strength history = sum_by (λ (e : Entry). got_at who strength (entry_mark e)) history
 
 -- ---- what is open on buffers
 
@@ -84,15 +84,15 @@ pub record ListsAllocated (marks : Timeline) (collections : List ℕ) : Type 0 w
       → list_any (λ c. c == collection) collections ≡ true
 
 -- the collection to which the mark, coming after these, gives buffers: only the allocation of a root does
-abbrev pub given_buffers : Timeline → Mark → Option ℕ
-given_buffers before (Allocated head) =
+abbrev pub newly_allocated : Timeline → Mark → Option ℕ
+newly_allocated before (Allocated head) =
     option_and_then (λ (b : Birth). when (is_none b.parent) b.collection) (birth_of before head)
-given_buffers before _ = None
+newly_allocated before _ = None
 
 -- the collections that were given buffers, the last one first
 abbrev pub allocated_collections : Timeline → List ℕ
 allocated_collections [] = []
-allocated_collections (mark ∷ before) = cons_option (given_buffers before mark) (allocated_collections before)
+allocated_collections (mark ∷ before) = cons_option (newly_allocated before mark) (allocated_collections before)
 
 -- a count of each buffer, added up over these collections: no collection has more than may be, with indices from 0
 abbrev pub over_buffers : List ℕ → (BufferName → ℕ) → ℕ

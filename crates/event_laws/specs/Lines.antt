@@ -36,8 +36,8 @@ abbrev pub losses : Strength → List Own → ℕ
 losses strength own = sum_by (λ (o : Own). lost_by strength o.call o.reply) own
 
 -- how many events the client made after its Join, and how many handles of each strength it has open by them
-abbrev pub line_of : List Entry → ℕ → ClientLine
-line_of history client =
+abbrev pub client_line : List Entry → ℕ → ClientLine
+client_line history client =
     let own = part client history in
     record {
       client = client;
@@ -48,4 +48,4 @@ line_of history client =
 
 -- a line for each client that joined, in order
 abbrev pub lines_of : List Entry → List ClientLine
-lines_of history = map (line_of history) (joined history)
+lines_of history = map (client_line history) (joined history)

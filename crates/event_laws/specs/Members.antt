@@ -3,17 +3,17 @@ use Rattle.std.specs.Prelude.{ℕ, ◌+◌, ◌==◌, ◌≡◌, Bool, true, fal
 use Rattle.std.specs.List.{All, list_any}
 use Rattle.sm_names.specs.Ends.{joined_at}
 use Rattle.sm_names.specs.Marks.{Entry}
-use Rattle.event_laws.specs.ByEvent.{mark_of}
+use Rattle.event_laws.specs.ByEvent.{entry_mark}
 
 -- the event made a client
-abbrev pub is_join : Entry → Bool
-is_join entry = is_some (joined_at (mark_of entry))
+abbrev pub makes_client : Entry → Bool
+makes_client entry = is_some (joined_at (entry_mark entry))
 
 -- the clients that a record made which goes on with this event: each has the number of its Join
 abbrev pub joined_from : ℕ → List Entry → List ℕ
 joined_from event [] = []
 joined_from event (e ∷ es) =
-    let later = joined_from (event + 1) es in if is_join e then event ∷ later else later
+    let later = joined_from (event + 1) es in if makes_client e then event ∷ later else later
 
 -- the clients that the record made, in order
 abbrev pub joined : List Entry → List ℕ

@@ -12,24 +12,24 @@ use Rattle.sm_names.specs.Marks.{Entry, Timeline, Called}
 use Rattle.sm_names.specs.Trackers.{World, Tracked, holds, tracked, tracked_at, fired_at}
 
 -- the trackers that have not fired, the earliest first
-abbrev pub waiting : Timeline → List Tracked
-waiting marks = filter (λ t. is_none (fired_at marks t)) (reverse (tracked marks))
+abbrev pub unfired_trackers : Timeline → List Tracked
+unfired_trackers marks = filter (λ t. is_none (fired_at marks t)) (reverse (tracked marks))
 
 -- the tracker that the event, coming after these marks, attaches, if it attaches one
-abbrev pub made : Timeline → Entry → List Tracked
-made before entry = cons_option (tracked_at before (Called entry.0 entry.2 entry.1)) []
+abbrev pub tracker_made : Timeline → Entry → List Tracked
+tracker_made before entry = cons_option (tracked_at before (Called entry.0 entry.2 entry.1)) []
 
 -- those that waited before the event, and the one that it attaches
-abbrev pub asked : Timeline → Entry → List Tracked
-asked before entry = waiting before ++ made before entry
+abbrev pub trackers_to_test : Timeline → Entry → List Tracked
+trackers_to_test before entry = unfired_trackers before ++ tracker_made before entry
 
 -- what the tracker waits for holds in this world
-abbrev pub is_due : World → Tracked → Bool
-is_due w t = holds w t.condition
+abbrev pub is_tracked_met : World → Tracked → Bool
+is_tracked_met w t = holds w t.condition
 
 -- the firing of the tracker at this event
-abbrev pub firing : ℕ → Tracked → Fired
-firing event t = record { tracker = t.id; event = event }
+abbrev pub tracked_firing : ℕ → Tracked → Fired
+tracked_firing event t = record { tracker = t.id; event = event }
 
 -- what a tracker that waits knows of its node or buffer: a node that is tracked is not gone, a node whose lifetime
 -- is tracked was allocated if it is gone, a buffer is not doomed

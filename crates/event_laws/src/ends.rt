@@ -7,7 +7,7 @@ ghost use Rattle.sm_names.specs.declared.keys.NodeKey.{NodeKey};
 ghost use Rattle.sm_names.specs.declared.messages.Parcel.{Parcel};
 ghost use Rattle.sm_names.specs.Births.{Birth, birth_at, births, was_born};
 ghost use Rattle.sm_names.specs.Bounds.{Bound};
-ghost use Rattle.event_laws.specs.ByEvent.{collected_at, delivers, mark_of, one_if, sends};
+ghost use Rattle.event_laws.specs.ByEvent.{collected_at, delivers, entry_mark, one_if, sends};
 ghost use Rattle.sm_names.specs.Ends.{binds, clients, collector_at, given_at, has_joined, holder, in_transit, is_end_of, is_shut, joined_at, kind, parcels, shuts, spends, spent};
 ghost use Rattle.sm_names.specs.Legality.{IsLegal};
 ghost use Rattle.sm_names.specs.Marks.{Entry, events};
@@ -20,16 +20,16 @@ pub fn clients_go_by_event()
     ensures joined { (pool : ℕ) (limits : Bound) (history : List Entry) (entry : Entry) →
         IsLegal pool limits (history ++ entry ∷ []) →
         clients (timeline pool (history ++ entry ∷ []))
-        ≡ cons_option (joined_at (mark_of entry)) (clients (timeline pool history)) }
+        ≡ cons_option (joined_at (entry_mark entry)) (clients (timeline pool history)) }
     ensures made { (pool : ℕ) (limits : Bound) (history : List Entry) (entry : Entry) →
         IsLegal pool limits (history ++ entry ∷ []) → (made : ℕ) →
-        joined_at (mark_of entry) ≡ Some made →
+        joined_at (entry_mark entry) ≡ Some made →
         (made ≡ events (timeline pool history) + 1)
         × (has_joined (timeline pool history) made ≡ false) }
     ensures shut { (pool : ℕ) (limits : Bound) (history : List Entry) (entry : Entry) →
         IsLegal pool limits (history ++ entry ∷ []) → (client : ℕ) →
         is_shut (timeline pool (history ++ entry ∷ [])) client
-        ≡ (shuts client (mark_of entry) || is_shut (timeline pool history) client) }
+        ≡ (shuts client (entry_mark entry) || is_shut (timeline pool history) client) }
 {}
 
 /// A parcel that an event gives to a client waits last, and one that the client gets waited first:
@@ -37,17 +37,17 @@ pub fn clients_go_by_event()
 pub fn parcels_go_by_event()
     ensures given { (pool : ℕ) (limits : Bound) (history : List Entry) (entry : Entry) →
         IsLegal pool limits (history ++ entry ∷ []) → (client : ℕ) (parcel : Parcel) →
-        given_at client (mark_of entry) ≡ Some parcel →
+        given_at client (entry_mark entry) ≡ Some parcel →
         parcels (timeline pool (history ++ entry ∷ [])) client
         ≡ parcels (timeline pool history) client ++ parcel ∷ [] }
     ensures collected { (pool : ℕ) (limits : Bound) (history : List Entry) (entry : Entry) →
         IsLegal pool limits (history ++ entry ∷ []) → (client : ℕ) (parcel : Parcel) →
-        collected_at client (mark_of entry) ≡ Some parcel →
+        collected_at client (entry_mark entry) ≡ Some parcel →
         parcels (timeline pool history) client
         ≡ parcel ∷ parcels (timeline pool (history ++ entry ∷ [])) client }
     ensures kept { (pool : ℕ) (limits : Bound) (history : List Entry) (entry : Entry) →
         IsLegal pool limits (history ++ entry ∷ []) → (client : ℕ) →
-        collected_at client (mark_of entry) ≡ None → given_at client (mark_of entry) ≡ None →
+        collected_at client (entry_mark entry) ≡ None → given_at client (entry_mark entry) ≡ None →
         parcels (timeline pool (history ++ entry ∷ [])) client
         ≡ parcels (timeline pool history) client }
     ensures strangers { (pool : ℕ) (limits : Bound) (history : List Entry) →
@@ -87,26 +87,26 @@ pub fn ends_go_by_event()
     ensures spent { (pool : ℕ) (limits : Bound) (history : List Entry) (entry : Entry) →
         IsLegal pool limits (history ++ entry ∷ []) → (node : NodeKey) →
         spent (timeline pool (history ++ entry ∷ [])) node
-        ≡ (spends node (mark_of entry) || spent (timeline pool history) node) }
+        ≡ (spends node (entry_mark entry) || spent (timeline pool history) node) }
     ensures in_transit { (pool : ℕ) (limits : Bound) (history : List Entry) (entry : Entry) →
         IsLegal pool limits (history ++ entry ∷ []) → (node : NodeKey) →
         in_transit (timeline pool (history ++ entry ∷ [])) node
-        ≡ (sends node (mark_of entry)
-        || (in_transit (timeline pool history) node && not (delivers node (mark_of entry)))) }
+        ≡ (sends node (entry_mark entry)
+        || (in_transit (timeline pool history) node && not (delivers node (entry_mark entry)))) }
     ensures holder { (pool : ℕ) (limits : Bound) (history : List Entry) (entry : Entry) →
         IsLegal pool limits (history ++ entry ∷ []) → (node : NodeKey) →
         was_born (births (timeline pool history)) node ≡ true →
         holder (timeline pool (history ++ entry ∷ [])) node
-        ≡ option_map_or (λ c. c) (collector_at node (mark_of entry))
+        ≡ option_map_or (λ c. c) (collector_at node (entry_mark entry))
         (holder (timeline pool history) node) }
     ensures kind { (pool : ℕ) (limits : Bound) (history : List Entry) (entry : Entry) →
         IsLegal pool limits (history ++ entry ∷ []) → (node : NodeKey) →
         kind (timeline pool (history ++ entry ∷ [])) node
-        ≡ (if binds node (mark_of entry) then Kind.Collection
+        ≡ (if binds node (entry_mark entry) then Kind.Collection
         else kind (timeline pool history) node) }
     ensures born { (pool : ℕ) (limits : Bound) (history : List Entry) (entry : Entry) →
         IsLegal pool limits (history ++ entry ∷ []) → (b : Birth) →
-        birth_at (events (timeline pool history) + 1) (mark_of entry) ≡ Some b →
+        birth_at (events (timeline pool history) + 1) (entry_mark entry) ≡ Some b →
         (spent (timeline pool (history ++ entry ∷ [])) b.node ≡ false)
         × (in_transit (timeline pool (history ++ entry ∷ [])) b.node ≡ false)
         × (holder (timeline pool (history ++ entry ∷ [])) b.node ≡ entry.0)
@@ -118,19 +118,19 @@ pub fn ends_go_by_event()
 pub fn ends_are_there_to_go()
     ensures given { (pool : ℕ) (limits : Bound) (history : List Entry) (entry : Entry) →
         IsLegal pool limits (history ++ entry ∷ []) → (node : NodeKey) →
-        sends node (mark_of entry) ≡ true →
+        sends node (entry_mark entry) ≡ true →
         (spent (timeline pool history) node ≡ false)
         × (in_transit (timeline pool history) node ≡ false)
         × (holder (timeline pool history) node ≡ entry.0) }
     ensures spent { (pool : ℕ) (limits : Bound) (history : List Entry) (entry : Entry) →
         IsLegal pool limits (history ++ entry ∷ []) → (node : NodeKey) →
-        spends node (mark_of entry) ≡ true →
+        spends node (entry_mark entry) ≡ true →
         (spent (timeline pool history) node ≡ false)
         × (in_transit (timeline pool history) node ≡ false)
         × (holder (timeline pool history) node ≡ entry.0) }
     ensures collected { (pool : ℕ) (limits : Bound) (history : List Entry) (entry : Entry) →
         IsLegal pool limits (history ++ entry ∷ []) → (node : NodeKey) →
-        delivers node (mark_of entry) ≡ true →
+        delivers node (entry_mark entry) ≡ true →
         (spent (timeline pool history) node ≡ false)
         × (in_transit (timeline pool history) node ≡ true) }
 {}

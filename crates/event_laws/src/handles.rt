@@ -8,7 +8,7 @@ ghost use Rattle.sm_names.specs.declared.keys.Strength.{Strength};
 ghost use Rattle.sm_names.specs.declared.messages.Call.{Call};
 ghost use Rattle.sm_names.specs.declared.messages.Reply.{Reply};
 ghost use Rattle.sm_names.specs.Bounds.{Bound};
-ghost use Rattle.event_laws.specs.ByEvent.{GoesBy, SameHands, SetsHandles, anyone, gains, is_about_handles, loses, mark_of, one_if, only};
+ghost use Rattle.event_laws.specs.ByEvent.{GoesBy, SameHands, SetsHandles, anyone, gains, is_about_handles, loses, entry_mark, one_if, only};
 ghost use Rattle.event_laws.specs.HandleSums.{ListsAllocated, all_moving, all_open, all_open_of, allocated_collections};
 ghost use Rattle.event_laws.specs.HandleSums.{dropped, got, opened, over_buffers, sent};
 ghost use Rattle.sm_names.specs.Ends.{has_joined};
@@ -24,7 +24,8 @@ pub fn only_calls_move_things()
     ensures mark { (marks : Timeline) (mark : Mark) → is_event mark ≡ false →
         SameHands marks (mark ∷ marks) }
     ensures event { (pool : ℕ) (history : List Entry) (entry : Entry) →
-        SameHands (mark_of entry ∷ timeline pool history) (timeline pool (history ++ entry ∷ [])) }
+        SameHands (entry_mark entry ∷ timeline pool history)
+        (timeline pool (history ++ entry ∷ [])) }
 {}
 
 /// Each event changes what a client has open, what is open in all and what is in parcels by what
@@ -36,20 +37,20 @@ pub fn handles_go_by_event()
         (client : ℕ) (buffer : BufferName) (strength : Strength) →
         GoesBy (open_of (timeline pool history) client buffer strength)
         (open_of (timeline pool (history ++ entry ∷ [])) client buffer strength)
-        (gains (only client) buffer strength (mark_of entry))
-        (loses (only client) buffer strength (mark_of entry)) }
+        (gains (only client) buffer strength (entry_mark entry))
+        (loses (only client) buffer strength (entry_mark entry)) }
     ensures in_all { (pool : ℕ) (limits : Bound) (history : List Entry) (entry : Entry) →
         IsLegal pool limits (history ++ entry ∷ []) → (buffer : BufferName) (strength : Strength) →
         GoesBy (open_total (timeline pool history) buffer strength)
         (open_total (timeline pool (history ++ entry ∷ [])) buffer strength)
-        (opens anyone buffer strength (mark_of entry))
-        (drops anyone buffer strength (mark_of entry)) }
+        (opens anyone buffer strength (entry_mark entry))
+        (drops anyone buffer strength (entry_mark entry)) }
     ensures in_parcels { (pool : ℕ) (limits : Bound) (history : List Entry) (entry : Entry) →
         IsLegal pool limits (history ++ entry ∷ []) → (buffer : BufferName) (strength : Strength) →
         GoesBy (moving (timeline pool history) buffer strength)
         (moving (timeline pool (history ++ entry ∷ [])) buffer strength)
-        (lifts anyone buffer strength (mark_of entry))
-        (lands anyone buffer strength (mark_of entry)) }
+        (lifts anyone buffer strength (entry_mark entry))
+        (lands anyone buffer strength (entry_mark entry)) }
 {}
 
 /// A DupHandle opens one handle, a DropHandle drops one, a GiveHandle puts one into a parcel and a
@@ -138,17 +139,17 @@ pub fn a_take_opens_its_set()
 /// Every other event leaves all counts of handles.
 pub fn other_events_leave_handles()
     ensures each { (pool : ℕ) (limits : Bound) (history : List Entry) (entry : Entry) →
-        IsLegal pool limits (history ++ entry ∷ []) → is_about_handles (mark_of entry) ≡ false →
+        IsLegal pool limits (history ++ entry ∷ []) → is_about_handles (entry_mark entry) ≡ false →
         (client : ℕ) (buffer : BufferName) (strength : Strength) →
         open_of (timeline pool (history ++ entry ∷ [])) client buffer strength
         ≡ open_of (timeline pool history) client buffer strength }
     ensures in_all { (pool : ℕ) (limits : Bound) (history : List Entry) (entry : Entry) →
-        IsLegal pool limits (history ++ entry ∷ []) → is_about_handles (mark_of entry) ≡ false →
+        IsLegal pool limits (history ++ entry ∷ []) → is_about_handles (entry_mark entry) ≡ false →
         (buffer : BufferName) (strength : Strength) →
         open_total (timeline pool (history ++ entry ∷ [])) buffer strength
         ≡ open_total (timeline pool history) buffer strength }
     ensures in_parcels { (pool : ℕ) (limits : Bound) (history : List Entry) (entry : Entry) →
-        IsLegal pool limits (history ++ entry ∷ []) → is_about_handles (mark_of entry) ≡ false →
+        IsLegal pool limits (history ++ entry ∷ []) → is_about_handles (entry_mark entry) ≡ false →
         (buffer : BufferName) (strength : Strength) →
         moving (timeline pool (history ++ entry ∷ [])) buffer strength
         ≡ moving (timeline pool history) buffer strength }

@@ -1,8 +1,8 @@
 //! Each client's part of the record.
 ghost use Rattle.std.specs.Prelude.{◌≡◌, ◌∷◌, ◌<◌, ◌*◌, ◌^◌, IfOk, MatchOption, false, length, replicate};
-ghost use Rattle.event_laws.specs.Lines.{line_of, lines_of};
+ghost use Rattle.event_laws.specs.Lines.{client_line, lines_of};
 ghost use Rattle.event_laws.specs.Links.{Links, Stands, rest_at};
-ghost use Rattle.event_laws.specs.Members.{AreAmong, IsFirstAbsent, Marks, is_join, joined};
+ghost use Rattle.event_laws.specs.Members.{AreAmong, IsFirstAbsent, Marks, makes_client, joined};
 ghost use Rattle.event_laws.specs.Parts.{DifferAt, own_entry, part};
 
 use crate::line::{Balance, ClientLine, NOTHING};
@@ -59,8 +59,8 @@ fn chain(record: &[(ClientId, Call, Reply)], first: &mut [u64], next: &mut [u64]
 }
 
 // Whether the event made a client.
-fn is_join(entry: &(ClientId, Call, Reply)) -> bool
-    ensures { result ≡ is_join entry.now }
+fn makes_client(entry: &(ClientId, Call, Reply)) -> bool
+    ensures { result ≡ makes_client entry.now }
 {
     match entry.1 {
         Call::Join => match entry.2 {
@@ -160,7 +160,7 @@ impl<'a> Parts<'a> {
     /// How many events the client made after its Join, and how many handles of each strength it has
     /// open by them. Costs a step for each of these events.
     pub fn line(&self, client: ClientId) -> ClientLine
-        ensures { result ≡ line_of self.now client }
+        ensures { result ≡ client_line self.now client }
     {
         let mut events = 0;
         let mut strong = NOTHING;
@@ -190,7 +190,7 @@ impl<'a> Parts<'a> {
         let mut rest = self.record;
         let mut event: u64 = 1;
         while let Some((entry, later)) = rest.split_first() {
-            if is_join(entry) && lines.push(self.line(event)).is_err() {
+            if makes_client(entry) && lines.push(self.line(event)).is_err() {
                 return Err(NoMemory);
             }
             rest = later;
@@ -217,7 +217,7 @@ impl<'a> Parts<'a> {
         let mut rest = record;
         let mut at: usize = 0;
         while let Some((entry, later)) = rest.split_first() {
-            if is_join(entry) && !present[at] {
+            if makes_client(entry) && !present[at] {
                 return Ok(Some(at as u64 + 1));
             }
             rest = later;

@@ -11,7 +11,7 @@ ghost use Rattle.sm_names.specs.Losses.{allocated};
 ghost use Rattle.sm_names.specs.Marks.{Entry, Timeline, events};
 ghost use Rattle.sm_names.specs.Timelines.{timeline};
 ghost use Rattle.sm_names.specs.Trackers.{Tracked, World, tracked, fired, unfired, world};
-ghost use Rattle.event_laws.specs.Waiting.{waiting, made, asked, is_due, firing, IsWaitedFor, IsRecalled};
+ghost use Rattle.event_laws.specs.Waiting.{unfired_trackers, tracker_made, trackers_to_test, is_tracked_met, tracked_firing, IsWaitedFor, IsRecalled};
 
 /// An event fires those that waited, and the tracker that it attaches, where what they wait for
 /// holds after it, the earliest first. The others wait on, in their order.
@@ -20,20 +20,20 @@ pub fn events_fire_what_is_due()
         IsLegal pool limits (history ++ entry ∷ []) →
         fired (timeline pool (history ++ entry ∷ []))
         ≡ fired (timeline pool history)
-        ++ map (firing (events (timeline pool (history ++ entry ∷ []))))
-        (filter (is_due (world (timeline pool (history ++ entry ∷ []))))
-        (asked (timeline pool history) entry)) }
+        ++ map (tracked_firing (events (timeline pool (history ++ entry ∷ []))))
+        (filter (is_tracked_met (world (timeline pool (history ++ entry ∷ []))))
+        (trackers_to_test (timeline pool history) entry)) }
     ensures waiting { (pool : ℕ) (limits : Bound) (history : List Entry) (entry : Entry) →
         IsLegal pool limits (history ++ entry ∷ []) →
-        waiting (timeline pool (history ++ entry ∷ []))
-        ≡ filter (λ t. not (is_due (world (timeline pool (history ++ entry ∷ []))) t))
-        (asked (timeline pool history) entry) }
-    ensures nothing { waiting [] ≡ [] }
+        unfired_trackers (timeline pool (history ++ entry ∷ []))
+        ≡ filter (λ t. not (is_tracked_met (world (timeline pool (history ++ entry ∷ []))) t))
+        (trackers_to_test (timeline pool history) entry) }
+    ensures nothing { unfired_trackers [] ≡ [] }
 {}
 
 /// As many trackers have not fired as wait.
 pub fn waiting_is_counted()
-    ensures { (marks : Timeline) → unfired marks ≡ length (waiting marks) }
+    ensures { (marks : Timeline) → unfired marks ≡ length (unfired_trackers marks) }
 {}
 
 /// Events are numbered in turn, and a tracker bears the number of the event that attached it: of
@@ -42,7 +42,7 @@ pub fn waiting_is_counted()
 pub fn trackers_are_numbered()
     ensures rising { (pool : ℕ) (limits : Bound) (history : List Entry) →
         IsLegal pool limits history →
-        AllPairs (λ (s t : Tracked). s.id < t.id) (waiting (timeline pool history)) }
+        AllPairs (λ (s t : Tracked). s.id < t.id) (unfired_trackers (timeline pool history)) }
     ensures early { (pool : ℕ) (limits : Bound) (history : List Entry) →
         IsLegal pool limits history →
         All (λ (t : Tracked). t.id ≤ events (timeline pool history))
@@ -50,11 +50,11 @@ pub fn trackers_are_numbered()
     ensures waiting { (pool : ℕ) (limits : Bound) (history : List Entry) (entry : Entry) →
         IsLegal pool limits (history ++ entry ∷ []) →
         All (λ (t : Tracked). t.id < events (timeline pool (history ++ entry ∷ [])))
-        (waiting (timeline pool history)) }
+        (unfired_trackers (timeline pool history)) }
     ensures made { (pool : ℕ) (limits : Bound) (history : List Entry) (entry : Entry) →
         IsLegal pool limits (history ++ entry ∷ []) →
         All (λ (t : Tracked). t.id ≡ events (timeline pool (history ++ entry ∷ [])))
-        (made (timeline pool history) entry) }
+        (tracker_made (timeline pool history) entry) }
     ensures event { (pool : ℕ) (history : List Entry) (entry : Entry) →
         events (timeline pool (history ++ entry ∷ [])) ≡ events (timeline pool history) + 1 }
 {}
@@ -71,7 +71,7 @@ pub fn trackers_concern_a_collection()
         All (λ (t : Tracked). (collection : ℕ)
         × (collection_at (timeline pool history) entry ≡ Some collection)
         × IsOf (timeline pool history) collection t.condition)
-        (made (timeline pool history) entry) }
+        (tracker_made (timeline pool history) entry) }
     ensures kept { (pool : ℕ) (limits : Bound) (history : List Entry) (entry : Entry) →
         IsLegal pool limits (history ++ entry ∷ []) → (collection : ℕ) (condition : Condition) →
         IsOf (timeline pool history) collection condition →
@@ -84,17 +84,17 @@ pub fn events_fire_their_collection()
         IsLegal pool limits (history ++ entry ∷ []) → (collection : ℕ) →
         (collection_at (timeline pool history) entry ≡ Some collection → ⊥) →
         All (λ (t : Tracked). IsOf (timeline pool history) collection t.condition →
-        is_due (world (timeline pool (history ++ entry ∷ []))) t ≡ false)
-        (asked (timeline pool history) entry) }
+        is_tracked_met (world (timeline pool (history ++ entry ∷ []))) t ≡ false)
+        (trackers_to_test (timeline pool history) entry) }
 {}
 
 /// What a tracker that waits is waiting for does not hold. So a node that is tracked is not gone,
 /// a node whose lifetime is tracked was allocated if it is gone, and a buffer is not doomed.
 pub fn waiting_is_not_over()
     ensures undue { (marks : Timeline) →
-        All (λ (t : Tracked). is_due (world marks) t ≡ false) (waiting marks) }
+        All (λ (t : Tracked). is_tracked_met (world marks) t ≡ false) (unfired_trackers marks) }
     ensures kept { (marks : Timeline) →
-        All (λ (t : Tracked). IsWaitedFor marks t.condition) (waiting marks) }
+        All (λ (t : Tracked). IsWaitedFor marks t.condition) (unfired_trackers marks) }
 {}
 
 /// A unit that was given its buffers stays so. So the node of a lifetime tracker that waits, once
@@ -114,7 +114,7 @@ pub fn what_is_over_may_be_forgotten()
     ensures { (pool : ℕ) (limits : Bound) (history : List Entry) (entry : Entry) →
         IsLegal pool limits (history ++ entry ∷ []) → (w : World) →
         IsRecalled (timeline pool history) (timeline pool (history ++ entry ∷ [])) w →
-        All (λ (t : Tracked). is_due w t
-        ≡ is_due (world (timeline pool (history ++ entry ∷ []))) t)
-        (asked (timeline pool history) entry) }
+        All (λ (t : Tracked). is_tracked_met w t
+        ≡ is_tracked_met (world (timeline pool (history ++ entry ∷ []))) t)
+        (trackers_to_test (timeline pool history) entry) }
 {}

@@ -9,7 +9,7 @@ use Rattle.sm_names.specs.Handles.{opens, drops, lifts, lands}
 use Rattle.sm_names.specs.Marks.{Mark}
 use Rattle.sm_names.specs.Sameness.{same_buffer, same_strength}
 use Rattle.event_laws.specs.ByEvent.{GoesBy, anyone, only, gains, loses, one_if}
-use Rattle.buffer_holds.specs.Counts.{Counts, of, moving, total, has_handle_room}
+use Rattle.buffer_holds.specs.Counts.{Counts, of, moving_count, total, has_handle_room}
 
 -- a handle of each buffer of the set has room under the limit
 abbrev pub CanOpen : Counts → ℕ → Strength → ℕ → Type 0
@@ -23,15 +23,15 @@ MayMove holds client (Call.Take key) (Reply.Taken collection strength set) = Can
 MayMove holds client (Call.DupHandle buffer strength) Reply.Done = total holds buffer strength < holds.limit
 MayMove holds client (Call.DropHandle buffer strength) Reply.Done = 0 < of holds client buffer strength
 MayMove holds client (Call.GiveHandle buffer strength to) Reply.Done = 0 < of holds client buffer strength
-MayMove holds client Call.Collect (Reply.CollectedHandle buffer strength) = 0 < moving holds buffer strength
+MayMove holds client Call.Collect (Reply.CollectedHandle buffer strength) = 0 < moving_count holds buffer strength
 MayMove holds client _ _ = ⊤
 
 -- each count goes by what the mark does to such handles
 pub record MovesHandles (old new : Counts) (mark : Mark) : Type 0 where
   pub each : (client : ℕ) (buffer : BufferName) (strength : Strength) → GoesBy (of old client buffer strength)
       (of new client buffer strength) (gains (only client) buffer strength mark) (loses (only client) buffer strength mark)
-  pub in_parcels : (buffer : BufferName) (strength : Strength) → GoesBy (moving old buffer strength)
-      (moving new buffer strength) (lifts anyone buffer strength mark) (lands anyone buffer strength mark)
+  pub in_parcels : (buffer : BufferName) (strength : Strength) → GoesBy (moving_count old buffer strength)
+      (moving_count new buffer strength) (lifts anyone buffer strength mark) (lands anyone buffer strength mark)
   pub in_all : (buffer : BufferName) (strength : Strength) → GoesBy (total old buffer strength)
       (total new buffer strength) (opens anyone buffer strength mark) (drops anyone buffer strength mark)
 
@@ -40,7 +40,7 @@ abbrev pub CanUndo : Counts → ℕ → Call → Reply → Type 0
 CanUndo holds client (Call.DropHandle buffer strength) Reply.Done =
     (has_handle_room holds client buffer strength ≡ true) × (total holds buffer strength < holds.limit)
 CanUndo holds client (Call.GiveHandle buffer strength to) Reply.Done =
-    (has_handle_room holds client buffer strength ≡ true) × (0 < moving holds buffer strength)
+    (has_handle_room holds client buffer strength ≡ true) × (0 < moving_count holds buffer strength)
 CanUndo holds client _ _ = ⊤
 
 -- the call collects a handle: the gift made room for it, so that this takes no memory, and is never undone
@@ -69,5 +69,5 @@ is_below collection strength set end b s =
 -- from the old counts to the new the client opened one handle of each buffer and strength that pass, and no other
 pub record Opens (old new : Counts) (client : ℕ) (passes : BufferName → Strength → Bool) : Type 0 where
   pub counts : (c : ℕ) (b : BufferName) (s : Strength) → of new c b s ≡ of old c b s + one_if (client == c && passes b s)
-  pub parcels : (b : BufferName) (s : Strength) → moving new b s ≡ moving old b s
+  pub parcels : (b : BufferName) (s : Strength) → moving_count new b s ≡ moving_count old b s
   pub totals : (b : BufferName) (s : Strength) → total new b s ≡ total old b s + one_if (passes b s)

@@ -18,9 +18,9 @@ use Rattle.sm_names.specs.Timelines.{held, timeline}
 use Rattle.sm_names.specs.Trackers.{Tracked, tracked, fired}
 use Rattle.sm_names.specs.Weakness.{weak, weak_ok, covered, covers_children}
 use Rattle.sm_names.specs.Words.{times}
-use Rattle.event_laws.specs.Waiting.{waiting}
+use Rattle.event_laws.specs.Waiting.{unfired_trackers}
 use Rattle.trackers.specs.declared.waiting.Waiting.{Waiting}
-use Rattle.trackers.specs.Table.{Table, is_untaken}
+use Rattle.trackers.specs.Table.{TrackerTable, is_untaken}
 use Rattle.forest_store.specs.declared.node.End.{End}
 use Rattle.forest_store.specs.declared.node.Node.{Node}
 use Rattle.forest_store.specs.Forest.{Collection, given}
@@ -101,9 +101,9 @@ abbrev pub tracked_as : Waiting → Tracked
 tracked_as t = record { id = t.id; condition = t.condition }
 
 -- the trackers are those of the marks: those that fired, those that wait, and each that is still to be taken was attached
-pub record AreTrackers (t : Table) (marks : Timeline) : Type 0 where
+pub record AreTrackers (t : TrackerTable) (marks : Timeline) : Type 0 where
   pub fired : t.fired ≡ fired marks
-  pub waiting : map tracked_as t.unfired ≡ waiting marks
+  pub waiting : map tracked_as t.unfired ≡ unfired_trackers marks
   pub untaken : (id : ℕ) → is_untaken t.untaken id ≡ true → list_any (λ (u : Tracked). u.id == id) (tracked marks) ≡ true
 
 -- the state is what the marks make of it, where a core forgets the nodes that are over and the collections that are not kept

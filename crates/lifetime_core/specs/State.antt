@@ -4,8 +4,8 @@ use Rattle.sm_names.specs.declared.keys.BufferName.{BufferName}
 use Rattle.sm_names.specs.declared.keys.Strength.{Strength}
 use Rattle.sm_names.specs.declared.messages.Parcel.{Parcel}
 use Rattle.sm_names.specs.Bounds.{Bound}
-use Rattle.buffer_holds.specs.Counts.{Counts, of, moving, total}
-use Rattle.trackers.specs.Table.{Table}
+use Rattle.buffer_holds.specs.Counts.{Counts, of, moving_count, total}
+use Rattle.trackers.specs.Table.{TrackerTable}
 use Rattle.forest_store.specs.Forest.{Forest}
 
 -- a client that joined: its number, whether it was shut, and the parcels that wait for it, the first one first
@@ -23,7 +23,7 @@ pub record State : Type 0 where
   pub clients : List Client
   pub forest : Forest
   pub holds : Counts
-  pub trackers : Table
+  pub trackers : TrackerTable
 
 -- how many handles of a buffer and strength a client has open, how many are in parcels, and how many are open in all
 pub record HandleCounts : Type 0 where
@@ -33,7 +33,7 @@ pub record HandleCounts : Type 0 where
 
 -- what the rows of handles say
 abbrev pub counts_of : Counts → HandleCounts
-counts_of holds = record { of = of holds; moving = moving holds; total = total holds }
+counts_of holds = record { of = of holds; moving = moving_count holds; total = total holds }
 
 -- the two states are the same, but for the order in which the rows of handles stand
 pub record IsSame (old new : State) : Type 0 where

@@ -19,7 +19,7 @@ use Rattle.sm_names.specs.Trackers.{World}
 use Rattle.event_laws.specs.ByEvent.{one_if, anyone, only, gains, loses}
 use Rattle.buffer_holds.specs.Counts.{total}
 use Rattle.trackers.specs.declared.waiting.Waiting.{Waiting}
-use Rattle.trackers.specs.Table.{Table, Attaches, firings, still_waiting}
+use Rattle.trackers.specs.Table.{TrackerTable, Attaches, firings, still_waiting}
 use Rattle.forest_store.specs.declared.change.Change.{Change}
 use Rattle.forest_store.specs.declared.change.Effect.{Effect}
 use Rattle.forest_store.specs.declared.node.End.{End}
@@ -176,12 +176,12 @@ tracker_by f (Call.TrackWeak buffer) (Reply.Tracker id) =
 tracker_by f _ _ = None
 
 -- the trackers with one more, if one is made
-abbrev pub GainsTracker : Table → Option Waiting → Table → Type 0
+abbrev pub GainsTracker : TrackerTable → Option Waiting → TrackerTable → Type 0
 GainsTracker old None new = new ≡ old
 GainsTracker old (Some tracker) new = Attaches old new tracker
 
 -- the trackers, once those that are due in this world fired at this event
-abbrev pub swept : World → ℕ → Table → Table
+abbrev pub swept : World → ℕ → TrackerTable → TrackerTable
 swept world event t = record t { unfired = still_waiting world t.unfired; fired = t.fired ++ firings world event t.unfired }
 
 -- ---- the event
@@ -198,6 +198,6 @@ pub record Follows (old new : State) (client : ℕ) (call : Call) (reply : Reply
   pub work : Worked old (total new.holds) (work_of old client call reply) (new_key reply) worked
   pub collections : new.forest.collections ≡ without_over (with_place (end_by client call reply) worked).collections
   pub keys : SameKeys worked new.forest
-  pub attached : Table
+  pub attached : TrackerTable
   pub gains : GainsTracker old.trackers (tracker_by old.forest call reply) attached
   pub trackers : new.trackers ≡ swept (world_in worked (total new.holds)) new.events attached

@@ -16,7 +16,7 @@ use Rattle.forest_store.specs.Forest.{Forest, collection_at, node_at}
 use Rattle.forest_store.specs.Settling.{Handles, MayChange, Settled, no_key}
 use Rattle.buffer_holds.specs.Counts.{Counts, total}
 use Rattle.trackers.specs.declared.waiting.Waiting.{Waiting}
-use Rattle.trackers.specs.Table.{Table}
+use Rattle.trackers.specs.Table.{TrackerTable}
 use Rattle.lifetime_core.specs.declared.event.Asked.{Asked}
 use Rattle.lifetime_core.specs.declared.task.Place.{Place}
 use Rattle.lifetime_core.specs.declared.task.Task.{Task}
@@ -142,7 +142,7 @@ pub record Parts : Type 0 where
   pub clients : List Client
   pub forest : Forest
   pub holds : Counts
-  pub trackers : Table
+  pub trackers : TrackerTable
 
 -- the call that was answered so took effect, but for the trackers that fire and for what is forgotten; a new node has this key
 pub record TakesEffect (pool : ℕ) (old new : Parts) (client : ℕ) (call : Call) (asked : Reply) (task : Option Task)

@@ -17,7 +17,7 @@ use Rattle.forest_store.specs.Forest.{Collection, Forest, IsPoolOf, given, node_
 use Rattle.forest_store.specs.Nodes.{is_spent}
 use Rattle.forest_store.specs.Settling.{Handles, is_home_in}
 use Rattle.trackers.specs.declared.waiting.Waiting.{Waiting}
-use Rattle.trackers.specs.Table.{Cell, Table, is_due}
+use Rattle.trackers.specs.Table.{Cell, TrackerTable, is_due}
 use Rattle.lifetime_core.specs.declared.task.Place.{Place}
 use Rattle.lifetime_core.specs.declared.task.Task.{Task}
 use Rattle.lifetime_core.specs.Reads.{world_in}
@@ -121,7 +121,7 @@ AreUpTo most f = (c : Collection) → In c f.collections → c.id ≤ most
 
 -- what holds of the fields of each core
 pub record IsWhole (pool : Holdings) (limits : Bound) (events : ℕ) (clients : List Client) (forest : Forest) (holds : Counts)
-    (trackers : Table) : Type 0 where
+    (trackers : TrackerTable) : Type 0 where
   pub sized : (1 ≤ pool.size) × (pool.size ≤ 1048576)
   pub pages : IsPoolOf pool forest
   pub in_time : events ≤ limits.events

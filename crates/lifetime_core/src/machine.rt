@@ -21,7 +21,7 @@ ghost use Rattle.sm_names.specs.Views.{live_nodes, held_by_page as held_after};
 ghost use Rattle.sm_names.specs.Views.{free_pages as free_after};
 ghost use Rattle.std.specs.List.{cons_option, list_any};
 ghost use Rattle.std.specs.Option.{option_and_then, option_map_or};
-ghost use Rattle.trackers.specs.Table.{empty, is_untaken, reader_of, cell_of, without};
+ghost use Rattle.trackers.specs.Table.{empty, is_untaken, reader_of, cell_of, without_id};
 ghost use Rattle.sm_names.specs.declared.keys.HeldBuffer.{HeldBuffer as Held};
 ghost use Rattle.forest_store.specs.Forest.{all_nodes, beside, empty_forest, given, node_count, live_keys, node_at, held_by_page};
 ghost use Rattle.forest_store.specs.Forest.{Collection as Shelved, collection_at, collection_at as shelved_at};
@@ -29,7 +29,7 @@ ghost use Rattle.forest_store.specs.Scenes.{IsSound as IsSoundCollection};
 ghost use Rattle.forest_store.specs.Snapshots.{collection_of};
 ghost use Rattle.forest_store.specs.Nodes.{is_of, is_spent, members_of};
 ghost use Rattle.forest_store.specs.Settling.{MayChange, collection_or_new};
-ghost use Rattle.buffer_holds.specs.Counts.{moving, of, total};
+ghost use Rattle.buffer_holds.specs.Counts.{moving_count, of, total};
 ghost use Rattle.lifetime_core.specs.Kinds.{fits_call, takes_no_memory};
 ghost use Rattle.lifetime_core.specs.Reads.{buffers_in, end_in, open_end_of};
 ghost use Rattle.lifetime_core.specs.Reads.{readings_of};
@@ -502,7 +502,7 @@ impl Core {
             then Some (reader_of self.old.trackers id) else None) }
         ensures cell { IfSome result (λ t. cell_of self.old.trackers.cells id ≡ Some t.cell) }
         ensures taken { self.new ≡ record self.old {
-          trackers = record self.old.trackers { untaken = without self.old.trackers.untaken id };
+          trackers = record self.old.trackers { untaken = without_id self.old.trackers.untaken id };
         } }
         ensures shows { (history : List Entry) → Shows self.old history →
             Shows self.new history }
@@ -671,11 +671,11 @@ impl Core {
 
     /// How many handles of this buffer and strength are in parcels. It costs one look-up.
     pub fn handles_in_parcels(&self, buffer: BufferName, strength: Strength) -> u32
-        ensures value { result ≡ moving self.now.holds buffer strength }
+        ensures value { result ≡ moving_count self.now.holds buffer strength }
         ensures shown { (history : List Entry) → Shows self.now history →
             result ≡ moving_after (timeline self.now.pool history) buffer strength }
     {
-        self.contents.holds.moving(buffer, strength)
+        self.contents.holds.moving_count(buffer, strength)
     }
 
     /// How many handles of this buffer and strength are open, those in parcels among them. It costs a

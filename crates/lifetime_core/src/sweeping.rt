@@ -2,7 +2,7 @@
 ghost use Rattle.std.specs.Prelude.{◌≡◌, ◌<◌, OnOk, OnErr, IfSome, Some, false, true, is_some, length, option_copied};
 ghost use Rattle.std.specs.List.{All};
 ghost use Rattle.trackers.specs.declared.waiting.Waiting.{Waiting};
-ghost use Rattle.trackers.specs.Table.{Cell, Table, is_due};
+ghost use Rattle.trackers.specs.Table.{Cell, TrackerTable, is_due};
 ghost use Rattle.lifetime_core.specs.Reads.{node_named, world_in};
 ghost use Rattle.lifetime_core.specs.Steps.{GainsTracker, swept, tracker_by};
 ghost use Rattle.lifetime_core.specs.Tasks.{looked_in};
@@ -70,8 +70,8 @@ pub(crate) fn attach(trackers: &mut Trackers, tracking: Option<Waiting>) -> Resu
 
 /// Takes the tracker out again that was attached just now, if one was. It takes no memory.
 pub(crate) fn detach(trackers: &mut Trackers, tracking: Option<Waiting>)
-    requires { (before : Table) × GainsTracker before tracking trackers.old }
-    ensures { (before : Table) →
+    requires { (before : TrackerTable) × GainsTracker before tracking trackers.old }
+    ensures { (before : TrackerTable) →
         GainsTracker before tracking trackers.old → trackers.new ≡ before }
 {
     if let Some(tracker) = tracking {

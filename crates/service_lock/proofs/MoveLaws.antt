@@ -7,7 +7,7 @@ use Rattle.sm_names.specs.declared.messages.Call.{Call}
 use Rattle.sm_names.specs.declared.messages.Reply.{Reply}
 use Rattle.sm_names.specs.Marks.{Entry, Mark, Called}
 use Rattle.sm_names.specs.Sameness.{same_strength}
-use Rattle.event_laws.specs.ByEvent.{anyone, mark_of}
+use Rattle.event_laws.specs.ByEvent.{anyone, entry_mark}
 use Rattle.event_laws.specs.HandleSums.{indices_in, opened, opened_at}
 use Rattle.event_laws.proofs.SetLaws.{indices_most, cond-le}
 use Rattle.service_lock.specs.Counting.{moves_by}
@@ -26,8 +26,8 @@ opened_le strength [] = omega arith
 opened_le strength (e ∷ es) =
     omega (
       arith,
-      sum_by-cons (λ (x : Entry). opened_at anyone strength (mark_of x)) e es,
-      opened_most strength (mark_of e),
+      sum_by-cons (λ (x : Entry). opened_at anyone strength (entry_mark x)) e es,
+      opened_most strength (entry_mark e),
       opened_le strength es,
     )
 

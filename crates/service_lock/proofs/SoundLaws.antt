@@ -14,8 +14,8 @@ use Rattle.lifetime_core.specs.Shown.{Shows}
 use Rattle.lifetime_core.specs.State.{State}
 use Rattle.service_lock.specs.declared.moves.HandleMoves.{HandleMoves}
 use Rattle.service_lock.specs.Counting.{moves_by}
-use Rattle.service_lock.specs.States.{CountsHandles, IsSound}
-use Rattle.service_lock.specs.Units.{Sums, Written}
+use Rattle.service_lock.specs.States.{CountsHandles, StateInvariant}
+use Rattle.service_lock.specs.Units.{BookSums, Written}
 use Rattle.service_lock.proofs.MarkLaws.{dropped_push, got_push, opened_push, sent_push}
 use Rattle.service_lock.proofs.MoveLaws.{got_or_sent, opened_le}
 
@@ -24,18 +24,18 @@ pub pushed : (old kept new : List Entry) (e : Entry) → kept ≡ old → new �
 pushed old kept new e same more = more ∙ ap (λ (l : List Entry). l ++ e ∷ []) same
 
 -- before the first mark there are no handles
-none_counted : (strength : Strength) (sums : Sums) → sums.total ≡ 0 → sums.carried ≡ 0 → CountsHandles [] strength sums
+none_counted : (strength : Strength) (sums : BookSums) → sums.total ≡ 0 → sums.carried ≡ 0 → CountsHandles [] strength sums
 unfolding all_open all_moving
 none_counted strength sums none left = record { standing = none; carried = left }
 
 -- an empty record, a core that shows it and empty books fit together
-pub begins : (pages : ℕ) (asked : Bound) (core : State) (limits : Bound) (history : List Entry) (events strong weak : Sums) →
+pub begins : (pages : ℕ) (asked : Bound) (core : State) (limits : Bound) (history : List Entry) (events strong weak : BookSums) →
     history ≡ [] → Shows core [] → core.pool ≡ pages → limits ≡ asked → core.limits ≡ limits →
     events.total ≡ 0 → strong.total ≡ 0 → strong.carried ≡ 0 → weak.total ≡ 0 → weak.carried ≡ 0 →
     strong.left ≡ events.left → weak.left ≡ events.left →
-    IsSound pages asked core limits history events strong weak
+    StateInvariant pages asked core limits history events strong weak
 begins pages asked core limits history events strong weak none shows paged as_asked limited no_event no_strong no_strong_parcel no_weak no_weak_parcel strong_cut weak_cut =
-    let start : IsSound pages asked core limits [] events strong weak = record {
+    let start : StateInvariant pages asked core limits [] events strong weak = record {
       asked = (paged, as_asked);
       shown = shows;
       limited = limited;
@@ -44,11 +44,11 @@ begins pages asked core limits history events strong weak none shows paged as_as
       strong = none_counted Strong strong no_strong no_strong_parcel;
       weak = none_counted Weak weak no_weak no_weak_parcel;
     } in
-    subst (λ (h : List Entry). IsSound pages asked core limits h events strong weak) (sym none) start
+    subst (λ (h : List Entry). StateInvariant pages asked core limits h events strong weak) (sym none) start
 
 -- the book holds what the event opens
 pub fits : (pool : ℕ) (limits : Bound) (strength : Strength) (client : ℕ) (call : Call) (reply : Reply) (history : List Entry)
-    (moves : HandleMoves) (sums : Sums) (most : ℕ) →
+    (moves : HandleMoves) (sums : BookSums) (most : ℕ) →
     IsLegal pool limits history → moves ≡ moves_by strength call reply → CountsHandles (timeline pool history) strength sums →
     length history < most → most < 2 ^ 32 → sums.total + moves.opened < 2 ^ 64
 fits pool limits strength client call reply history moves sums most legal is counts few small =
@@ -76,7 +76,7 @@ module _ (was pool : ℕ) (before now : Bound) (strength : Strength) (client : �
   legal_here : IsLegal pool before history
   legal_here = subst (λ (p : ℕ). IsLegal p before history) (sym same) legal
 
-  module _ (old : Sums) (counts : CountsHandles (timeline was history) strength old) where
+  module _ (old : BookSums) (counts : CountsHandles (timeline was history) strength old) where
     -- and what was counted then is counted so
     counts_here : CountsHandles (timeline pool history) strength old
     counts_here = subst (λ (p : ℕ). CountsHandles (timeline p history) strength old) (sym same) counts
@@ -99,7 +99,7 @@ module _ (was pool : ℕ) (before now : Bound) (strength : Strength) (client : �
     ]
 
     -- once its moves are written, the record with the event is counted
-    pub written : (new : Sums) → Written old new moves → CountsHandles (timeline pool more) strength new
+    pub written : (new : BookSums) → Written old new moves → CountsHandles (timeline pool more) strength new
     written new goes = record {
       standing = omega (
         arith,

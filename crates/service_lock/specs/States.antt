@@ -12,7 +12,7 @@ use Rattle.event_laws.specs.HandleSums.{all_moving, all_open}
 use Rattle.lifetime_core.specs.Shown.{Shows}
 use Rattle.lifetime_core.specs.State.{State}
 use Rattle.lifetime_core.specs.Theorem.{tracker_told}
-use Rattle.service_lock.specs.Units.{Sums}
+use Rattle.service_lock.specs.Units.{BookSums}
 
 -- a pool of so many pages, the limits, the record, the trackers that are still to be taken, and how many units can be handed out
 pub record View : Type 0 where
@@ -23,12 +23,12 @@ pub record View : Type 0 where
   pub parts : ℕ
 
 -- the pool and the limits are those that were asked for
-abbrev pub IsAsked : ℕ → Bound → ℕ → Bound → Type 0
-IsAsked asked_pages asked_limits pool limits = (pool ≡ asked_pages) × (limits ≡ asked_limits)
+abbrev pub IsSetUpWith : ℕ → Bound → ℕ → Bound → Type 0
+IsSetUpWith asked_pages asked_limits pool limits = (pool ≡ asked_pages) × (limits ≡ asked_limits)
 
 -- the state after one more event
-abbrev pub after : View → ℕ → Call → Reply → View
-after s client call reply = record s {
+abbrev pub view_after : View → ℕ → Call → Reply → View
+view_after s client call reply = record s {
   history = s.history ++ (client, call, reply) ∷ [];
   untaken = s.untaken ++ cons_option (tracker_told reply) [];
 }
@@ -38,15 +38,15 @@ abbrev pub with_parts : ℕ → View → View
 with_parts n s = record s { parts = s.parts + n }
 
 -- the book of this strength counts the handles that are open, and those in parcels are carried
-pub record CountsHandles (marks : Timeline) (strength : Strength) (sums : Sums) : Type 0 where
+pub record CountsHandles (marks : Timeline) (strength : Strength) (sums : BookSums) : Type 0 where
   pub standing : sums.total ≡ all_open marks strength
   pub carried : sums.carried ≡ all_moving marks strength
 
 -- what lies under the lock fits together: it is what was asked for, the core shows the record, the books count its events and
 -- its handles, and each can hand out as many shares
-pub record IsSound (asked_pages : ℕ) (asked_limits : Bound) (core : State) (limits : Bound) (history : List Entry)
-    (events_book strong_book weak_book : Sums) : Type 0 where
-  pub asked : IsAsked asked_pages asked_limits core.pool limits
+pub record StateInvariant (asked_pages : ℕ) (asked_limits : Bound) (core : State) (limits : Bound) (history : List Entry)
+    (events_book strong_book weak_book : BookSums) : Type 0 where
+  pub asked : IsSetUpWith asked_pages asked_limits core.pool limits
   pub shown : Shows core history
   pub limited : core.limits ≡ limits
   pub counted : events_book.total ≡ length history

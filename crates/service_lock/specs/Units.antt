@@ -4,19 +4,19 @@ use Rattle.sm_names.specs.declared.keys.Strength.{Strength}
 use Rattle.sm_names.specs.declared.keys.Strength.TheVariants.{Strong, Weak}
 use Rattle.sm_names.specs.declared.messages.Call.{Call}
 use Rattle.sm_names.specs.declared.messages.Reply.{Reply}
-use Rattle.service_lock.specs.declared.blanks.Blanks.{Blanks}
+use Rattle.service_lock.specs.declared.blank_books.BlankBooks.{BlankBooks}
 use Rattle.service_lock.specs.declared.moves.HandleMoves.{HandleMoves}
 use Rattle.event_laws.specs.HandleSums.{count_if}
 use Rattle.service_lock.specs.Counting.{moves_by}
 
 -- the sum of a book, the part of it that is in parcels, and how many shares can still be handed out
-pub record Sums : Type 0 where
+pub record BookSums : Type 0 where
   pub total : ℕ
   pub carried : ℕ
   pub left : ℕ
 
 -- the sums after these moves
-pub record Written (old new : Sums) (moves : HandleMoves) : Type 0 where
+pub record Written (old new : BookSums) (moves : HandleMoves) : Type 0 where
   pub total : new.total + moves.dropped ≡ old.total + moves.opened
   pub carried : new.carried + moves.got ≡ old.carried + moves.sent
 
@@ -42,7 +42,7 @@ abbrev pub Moved : ℕ → ℕ → HandleMoves → Type 0
 Moved old new moves = new + (moves.dropped + moves.sent) ≡ old + (moves.opened + moves.got)
 
 -- the units count the event: one event more, and each handle that it opened, dropped or moved
-pub record Counts (old new : Amounts) (call : Call) (reply : Reply) : Type 0 where
+pub record CountsEvent (old new : Amounts) (call : Call) (reply : Reply) : Type 0 where
   pub events : new.events ≡ old.events + 1
   pub strong : Moved old.strong new.strong (moves_by Strong call reply)
   pub weak : Moved old.weak new.weak (moves_by Weak call reply)
@@ -63,7 +63,7 @@ Passed strength from_old from_new to_old to_new =
     (from_old ≡ with_one strength from_new) × (to_new ≡ with_one strength to_old)
 
 -- each blank is that of its ledger, and of so many parts
-pub record AreFor (events events_parts strong strong_parts weak weak_parts : ℕ) (blanks : Blanks) : Type 0 where
+pub record AreFor (events events_parts strong strong_parts weak weak_parts : ℕ) (blanks : BlankBooks) : Type 0 where
   pub events_name : blanks.events.name ≡ events
   pub events_size : (blanks.events.parts ≡ events_parts) × (events_parts ≡ 2 ^ 40)
   pub strong_name : blanks.strong.name ≡ strong

@@ -5,8 +5,8 @@ ghost use Rattle.sm_names.specs.declared.messages.Reply.{Reply as Told};
 ghost use Rattle.sm_names.specs.declared.outcomes.StepFault.{StepFault as Fault};
 ghost use Rattle.sm_names.specs.Legality.{IsLegal};
 ghost use Rattle.lifetime_core.specs.Kinds.{fits_call};
-ghost use Rattle.service_lock.specs.States.{after};
-ghost use Rattle.service_lock.specs.Units.{Counts, HasUnitFor};
+ghost use Rattle.service_lock.specs.States.{view_after};
+ghost use Rattle.service_lock.specs.Units.{CountsEvent, HasUnitFor};
 
 use crate::moves::{HandleMoves, moves_of};
 use crate::setup::Setup;
@@ -41,8 +41,8 @@ pub fn apply<E: Setup, S: Ledger, W: Ledger>(
     call: Call,
 ) -> Result<Reply, StepFault>
     requires { HasUnitFor call units.old }
-    ensures made { IfOk result (λ reply. state.new ≡ after state.old client call reply) }
-    ensures counts { IfOk result (λ reply. Counts units.old units.new call reply) }
+    ensures made { IfOk result (λ reply. state.new ≡ view_after state.old client call reply) }
+    ensures counts { IfOk result (λ reply. CountsEvent units.old units.new call reply) }
     ensures kind { IfOk result (λ reply. fits_call call reply ≡ true) }
     ensures joins { IfOk result (λ reply. client ≡ 0 → call ≡ Asked.Join →
         reply ≡ Told.Joined (length state.old.history + 1)) }

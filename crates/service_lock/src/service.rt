@@ -1,9 +1,9 @@
 //! The service, and its lock.
 ghost use Rattle.std.specs.Prelude.{◌≤◌};
-ghost use Rattle.service_lock.specs.States.{IsAsked};
+ghost use Rattle.service_lock.specs.States.{IsSetUpWith};
 ghost use Rattle.service_lock.specs.Units.{AreFor};
 
-use crate::blanks::Blanks;
+use crate::blank_books::BlankBooks;
 use crate::setup::Setup;
 use crate::state::State;
 use sm_names::{Limits, MAX_PAGES, NoMemory};
@@ -47,20 +47,20 @@ impl<E: Setup, S: Ledger, W: Ledger> Drop for Guard<'_, E, S, W> {
 
 impl<E: Setup, S: Ledger, W: Ledger> Service<E, S, W> {
     /// A service that has seen nothing, with a pool of `pages` pages of 4,096 bytes each, from 1 to
-    /// 1,048,576, these limits, and books of `PARTS` parts each. The counts of handles hash from a
-    /// seed that everybody knows.
+    /// 1,048,576, these limits, and books of `MAX_SHARES` shares each. The counts of handles hash
+    /// from a seed that everybody knows.
     ///
     /// `NoMemory` where the pool's first list is refused. It costs the same for any size and any
     /// limits.
     pub fn new(
         alloc: Global,
-        blanks: Blanks,
+        blanks: BlankBooks,
         pages: u32,
         limits: Limits,
     ) -> Result<Service<E, S, W>, NoMemory>
         requires pages { (1 ≤ pages) × (pages ≤ MAX_PAGES) }
         requires blanks { AreFor E.name E.parts S.name S.parts W.name W.parts blanks }
-        requires asked { IsAsked E.pages E.limits pages limits }
+        requires asked { IsSetUpWith E.pages E.limits pages limits }
     {
         Service::with_seed(alloc, blanks, pages, limits, [0; 16])
     }
@@ -68,14 +68,14 @@ impl<E: Setup, S: Ledger, W: Ledger> Service<E, S, W> {
     /// Does what `new` does. The counts of handles hash from this seed, as in `Core::with_seed`.
     pub fn with_seed(
         alloc: Global,
-        blanks: Blanks,
+        blanks: BlankBooks,
         pages: u32,
         limits: Limits,
         seed: [u8; 16],
     ) -> Result<Service<E, S, W>, NoMemory>
         requires pages { (1 ≤ pages) × (pages ≤ MAX_PAGES) }
         requires blanks { AreFor E.name E.parts S.name S.parts W.name W.parts blanks }
-        requires asked { IsAsked E.pages E.limits pages limits }
+        requires asked { IsSetUpWith E.pages E.limits pages limits }
     {
         Ok(Service {
             state: Mutex::new(State::new(alloc, blanks, pages, limits, seed)?),

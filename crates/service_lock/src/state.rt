@@ -3,14 +3,14 @@ ghost use Rattle.std.specs.Prelude.{◌≡◌, ◌+◌, ◌<◌, ◌≤◌, ◌^
 ghost use Rattle.sm_names.specs.Legality.{IsLegal};
 ghost use Rattle.sm_names.specs.Timelines.{timeline};
 ghost use Rattle.sm_names.specs.Trackers.{fired as fired_after};
-ghost use Rattle.trackers.specs.Table.{firing_of, is_untaken, without};
+ghost use Rattle.trackers.specs.Table.{firing_of, is_untaken, without_id};
 ghost use Rattle.lifetime_core.specs.Shown.{Shows};
 ghost use Rattle.sm_names.specs.declared.keys.Strength.{Strength};
 ghost use Rattle.event_laws.specs.HandleSums.{all_open};
-ghost use Rattle.service_lock.specs.States.{IsAsked, with_parts};
+ghost use Rattle.service_lock.specs.States.{IsSetUpWith, with_parts};
 ghost use Rattle.service_lock.specs.Units.{AreFor};
 
-use crate::blanks::{Blanks, PARTS};
+use crate::blank_books::{BlankBooks, MAX_SHARES};
 use crate::setup::Setup;
 use crate::shares::Units;
 use crate::sums::Books;
@@ -36,7 +36,7 @@ pub struct State<E: Setup, S: Ledger, W: Ledger> {
 }
 
 impl<E: Setup, S: Ledger, W: Ledger> Model for State<E, S, W> {
-    ghost use Rattle.service_lock.specs.States.{View, IsSound};
+    ghost use Rattle.service_lock.specs.States.{View, StateInvariant};
 
     ghost Value = { View };
 
@@ -48,7 +48,7 @@ impl<E: Setup, S: Ledger, W: Ledger> Model for State<E, S, W> {
       parts = s.events.left;
     } };
 
-    ghost invariant = { λ s. IsSound E.pages E.limits s.core s.limits s.log.items
+    ghost invariant = { λ s. StateInvariant E.pages E.limits s.core s.limits s.log.items
         s.events s.strong s.weak };
 }
 
@@ -56,14 +56,14 @@ impl<E: Setup, S: Ledger, W: Ledger> State<E, S, W> {
     /// What lies under the lock at first: a core that hashes from this seed.
     pub(crate) fn new(
         alloc: Global,
-        blanks: Blanks,
+        blanks: BlankBooks,
         pages: u32,
         limits: Limits,
         seed: [u8; 16],
     ) -> Result<State<E, S, W>, NoMemory>
         requires pages { (1 ≤ pages) × (pages ≤ MAX_PAGES) }
         requires blanks { AreFor E.name E.parts S.name S.parts W.name W.parts blanks }
-        requires asked { IsAsked E.pages E.limits pages limits }
+        requires asked { IsSetUpWith E.pages E.limits pages limits }
         ensures { IfOk result (λ s. s
             ≡ record {
               pool = pages;
@@ -73,7 +73,7 @@ impl<E: Setup, S: Ledger, W: Ledger> State<E, S, W> {
               parts = 1099511627775;
             }) }
     {
-        let Blanks {
+        let BlankBooks {
             events,
             strong,
             weak,
@@ -82,9 +82,9 @@ impl<E: Setup, S: Ledger, W: Ledger> State<E, S, W> {
             core: Core::with_seed(alloc, pages, limits, seed)?,
             limits,
             log: Vec::new(alloc),
-            events: Tally::new(events, PARTS),
-            strong: Tally::new(strong, PARTS),
-            weak: Tally::new(weak, PARTS),
+            events: Tally::new(events, MAX_SHARES),
+            strong: Tally::new(strong, MAX_SHARES),
+            weak: Tally::new(weak, MAX_SHARES),
         })
     }
 
@@ -152,7 +152,7 @@ pub fn take_back<E: Setup, S: Ledger, W: Ledger>(state: &mut State<E, S, W>, uni
 pub fn entries<E: Setup, S: Ledger, W: Ledger>(state: &State<E, S, W>) -> &[(ClientId, Call, Reply)]
     ensures value { result.now ≡ state.now.history }
     ensures legal { IsLegal state.now.pool state.now.limits state.now.history }
-    ensures asked { IsAsked E.pages E.limits state.now.pool state.now.limits }
+    ensures asked { IsSetUpWith E.pages E.limits state.now.pool state.now.limits }
 {
     state.log.as_slice()
 }
@@ -200,7 +200,7 @@ pub fn take_tracker<E: Setup, S: Ledger, W: Ledger>(
     ensures tracker { IfSome result (λ t. (t.tracker ≡ id) × (t.known
         ≡ firing_of (fired_after (timeline state.old.pool state.old.history)) id)) }
     ensures taken { state.new
-        ≡ record state.old { untaken = without state.old.untaken id } }
+        ≡ record state.old { untaken = without_id state.old.untaken id } }
 {
     state.core.take_tracker(id)
 }

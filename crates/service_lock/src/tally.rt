@@ -2,7 +2,7 @@
 ghost use Rattle.std.specs.Prelude.{◌≡◌, ◌+◌, ◌<◌, ◌≤◌, ◌^◌};
 ghost use Rattle.service_lock.specs.Units.{Moved, Written};
 
-use crate::blanks::PARTS;
+use crate::blank_books::MAX_SHARES;
 use crate::moves::HandleMoves;
 use std::marker::Model;
 use std::sync::ledger::{Blank, Book, Ledger, Share};
@@ -19,9 +19,9 @@ pub(crate) struct Tally<L: Ledger> {
 
 impl<L: Ledger> Model for Tally<L> {
     ghost use Rattle.std.specs.Prelude.{◌≡◌, ◌+◌, ◌<◌, ◌^◌};
-    ghost use Rattle.service_lock.specs.Units.{Sums};
+    ghost use Rattle.service_lock.specs.Units.{BookSums};
 
-    ghost Value = { Sums };
+    ghost Value = { BookSums };
 
     ghost view = { λ t. record { total = t.book.total; carried = t.rest.amount; left = t.left } };
 
@@ -100,7 +100,7 @@ impl<L: Ledger> Tally<L> {
         ensures left { self.old.left + 1 < 2 ^ 40 → self.new.left ≡ self.old.left + 1 }
         ensures all { 2 ^ 40 ≤ self.old.left + 1 → self.new.left ≡ self.old.left }
     {
-        if self.left < PARTS - 1 {
+        if self.left < MAX_SHARES - 1 {
             self.rest.merge(share);
             self.left += 1;
         }

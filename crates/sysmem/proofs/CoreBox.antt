@@ -13,7 +13,7 @@ use Rattle.std_heap.proofs.Global.TheLaws as heap_laws
 use Rattle.lifetime_core.specs.contracts.machine.Core as core
 use Rattle.lifetime_core.proofs.machine.Core.TheLaws as core_laws
 use Rattle.sysmem.specs.contracts.place.Place as place
-use Rattle.sysmem.specs.contracts.unboxed.Unboxed as unboxed
+use Rattle.sysmem.specs.contracts.raw.Unboxed as unboxed
 
 abbrev pub E : Bx
 E = record {

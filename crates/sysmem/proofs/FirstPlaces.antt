@@ -9,9 +9,9 @@ step (w ∷ words) (x ∷ places) zero z p q = refl
 step (w ∷ words) (x ∷ places) (suc i) z p q = ap (λ l. w ∷ l) (step words places i z (omega (arith, p)) (omega (arith, q)))
 
 -- one more word is written
-pub lay_more : {A : Type 0} (words places now : List A) (i : ℕ) (word z : A) → i < length words → i < length places
+pub write_more : {A : Type 0} (words places now : List A) (i : ℕ) (word z : A) → i < length words → i < length places
     → word ≡ get_or words i z → now ≡ take i words ++ drop i places → set now i word ≡ take (i + 1) words ++ drop (i + 1) places
-lay_more words places now i word z p q is was =
+write_more words places now i word z p q is was =
     let on : suc i ≡ i + 1 = omega arith in
     ap (λ l. set l i word) was ∙ ap (λ w. set (take i words ++ drop i places) i w) is ∙ step words places i z p q
     ∙ ap (λ n. take n words ++ drop n places) on

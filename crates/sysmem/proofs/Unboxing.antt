@@ -23,7 +23,7 @@ use Rattle.std.proofs.alloc.Calls.{token, Fits, α, handle_tells}
 use Rattle.std_alloc.proofs.BoxSteps.Form.{Bx, τ, R, P, handle, word, box_typed}
 use Rattle.std_alloc.proofs.ResultValues.{and_tt}
 use Rattle.std_alloc.specs.Box.Ownership.{box_owns}
-use Rattle.sysmem.specs.contracts.unboxed.Unboxed as unboxed
+use Rattle.sysmem.specs.contracts.raw.Unboxed as unboxed
 
 module _ (E : Bx) where
   abbrev pub Parts : RattleType

@@ -2,7 +2,7 @@
 use Rattle.std.specs.Prelude.{ℕ, ◌≡◌, Option, Some, None, IsSomeAnd}
 use Rattle.lifetime_core.specs.State.{State}
 use Rattle.client_exit.specs.declared.exit.PartFault.{PartFault}
-use Rattle.client_exit.specs.Parting.{Stops}
+use Rattle.client_exit.specs.Parting.{ExitStops}
 
 -- the code of a fault
 abbrev pub fault_code : PartFault → ℕ
@@ -14,9 +14,9 @@ fault_code PartFault.NoMemory = 6
 pub record StoppedBy (old new : State) (client count code : ℕ) : Type 0 where
   pub fault : PartFault
   pub told : code ≡ fault_code fault
-  pub stops : Stops old new client count fault
+  pub stops : ExitStops old new client count fault
 
 -- where there was a core it stopped so, and where there was none there is none
-abbrev pub IsStopped : Option State → Option State → ℕ → ℕ → ℕ → Type 0
-IsStopped None after client count code = after ≡ None
-IsStopped (Some old) after client count code = IsSomeAnd after (λ new. StoppedBy old new client count code)
+abbrev pub IsExitStopped : Option State → Option State → ℕ → ℕ → ℕ → Type 0
+IsExitStopped None after client count code = after ≡ None
+IsExitStopped (Some old) after client count code = IsSomeAnd after (λ new. StoppedBy old new client count code)

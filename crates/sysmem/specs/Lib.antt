@@ -1,9 +1,9 @@
 pub mod Exits
-pub mod Keeping
-pub mod Laying
+pub mod Ownership
+pub mod Arrays
 pub mod Names
 pub mod Nodes
 pub mod Opening
-pub mod Seeing
+pub mod Encodings
 pub mod Stepping
 pub mod Words

@@ -8,7 +8,7 @@ use Rattle.sm_names.specs.Demands.{Demand}
 use Rattle.forest_store.specs.declared.node.End.{End}
 use Rattle.forest_store.specs.declared.node.Node.{Node}
 use Rattle.sysmem.specs.declared.nodes.NodeWords.{NodeWords}
-use Rattle.sysmem.specs.Seeing.{key_words}
+use Rattle.sysmem.specs.Encodings.{key_words}
 use Rattle.sysmem.specs.Words.{cause_number}
 
 -- the buffer with this collection and index
@@ -26,23 +26,23 @@ is_in_transit (End.InTransit client) = true
 is_in_transit End.Spent = false
 
 -- the end is spent
-abbrev pub is_spent : End → Bool
-is_spent (End.Held client) = false
-is_spent (End.InTransit client) = false
-is_spent End.Spent = true
+abbrev pub is_end_spent : End → Bool
+is_end_spent (End.Held client) = false
+is_end_spent (End.InTransit client) = false
+is_end_spent End.Spent = true
 
 -- who holds the end, or gave it away, or 0
-abbrev pub holder_of : End → ℕ
-holder_of (End.Held client) = client
-holder_of (End.InTransit client) = client
-holder_of End.Spent = 0
+abbrev pub holder_number : End → ℕ
+holder_number (End.Held client) = client
+holder_number (End.InTransit client) = client
+holder_number End.Spent = 0
 
 -- what is so of the node, a bit each
 abbrev pub flags_of : Node → ℕ
 flags_of n =
     ((((((flag n.attached 1 + flag n.allocated 2) + flag n.gone 4) + flag (is_some n.fault) 8) + flag n.released 16) + flag n.dispensable 32)
     + (((((flag n.weak 64 + flag n.weak_ok 128) + flag (is_some n.constraints) 256) + flag n.bound 512) + flag (is_in_transit n.end) 1024)
-    + flag (is_spent n.end) 2048))
+    + flag (is_end_spent n.end) 2048))
 
 -- a key that is told where there is none
 abbrev pub nobody : NodeKey
@@ -56,7 +56,7 @@ node_words n = record {
   head = key_words n.head;
   collection = n.collection;
   event = n.event;
-  holder = holder_of n.end;
+  holder = holder_number n.end;
   flags = flags_of n;
   cause = option_map_or (λ (f : Fault). cause_number f.cause) n.fault 0;
   origin = key_words (option_map_or (λ (f : Fault). f.origin) n.fault nobody);

@@ -9,14 +9,14 @@ use Rattle.lifetime_core.specs.Steps.{Follows}
 use Rattle.lifetime_core.specs.Theorem.{GoesOn}
 use Rattle.sysmem.specs.declared.words.CallWords.{CallWords}
 use Rattle.sysmem.specs.declared.words.ReplyWords.{ReplyWords}
-use Rattle.sysmem.specs.Words.{said, telling}
+use Rattle.sysmem.specs.Words.{said, reply_words}
 
 -- the words say a call, the core took it as `step` does, and the other words are those of its reply
-pub record IsStep (old new : State) (client : ℕ) (asked : CallWords) (told : ReplyWords) : Type 0 where
+pub record IsCoreCall (old new : State) (client : ℕ) (asked : CallWords) (told : ReplyWords) : Type 0 where
   pub call : Call
   pub reply : Reply
   pub says : said asked ≡ Some call
-  pub tells : told ≡ telling reply
+  pub tells : told ≡ reply_words reply
   pub follows : Follows old new client call reply
   pub goes_on : GoesOn old new ((client, call, reply) ∷ [])
 
@@ -26,6 +26,6 @@ pub record StaysAs (old new : State) : Type 0 where
   pub shows : (history : List Entry) → Shows old history → Shows new history
 
 -- where there was a core it stays as it was, and where there was none there is none
-abbrev pub AreAlike : Option State → Option State → Type 0
-AreAlike None after = after ≡ None
-AreAlike (Some old) after = IsSomeAnd after (StaysAs old)
+abbrev pub IsCoreUnchanged : Option State → Option State → Type 0
+IsCoreUnchanged None after = after ≡ None
+IsCoreUnchanged (Some old) after = IsSomeAnd after (StaysAs old)

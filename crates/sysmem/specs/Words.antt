@@ -83,26 +83,26 @@ said w =
     (if w.kind == 22 then Some (Call.TrackWeak buffer) else None))))))))))))))))))))))
 
 -- a reply that has nothing to tell
-abbrev pub nothing : ReplyWords
-nothing = record { kind = 0; slot = 0; generation = 0; detail = 0; id = 0; set = 0; count = 0; size = 0; index = 0 }
+abbrev pub blank_reply : ReplyWords
+blank_reply = record { kind = 0; slot = 0; generation = 0; detail = 0; id = 0; set = 0; count = 0; size = 0; index = 0 }
 
 -- the words of the reply: the number of its kind and what it tells, and 0 elsewhere
-abbrev pub telling : Reply → ReplyWords
-telling Reply.Done = nothing
-telling (Reply.Joined id) = record nothing { kind = 1; id = id }
-telling (Reply.Shut left) = record nothing { kind = 2; id = left }
-telling (Reply.Token key collection) = record nothing { kind = 3; slot = key.slot; generation = key.generation; id = collection }
-telling (Reply.Collected key kind collection) =
-    record nothing { kind = 4; slot = key.slot; generation = key.generation; detail = kind_number kind; id = collection }
-telling (Reply.CollectedHandle buffer strength) =
-    record nothing { kind = 5; detail = strength_number strength; id = buffer.collection; index = buffer.index }
-telling Reply.Empty = record nothing { kind = 6 }
-telling Reply.Pending = record nothing { kind = 7 }
-telling (Reply.Allocated count size) = record nothing { kind = 8; count = count; size = size }
-telling (Reply.Taken collection strength set) =
-    record nothing { kind = 9; detail = strength_number strength; id = collection; set = set }
-telling (Reply.Tracker id) = record nothing { kind = 10; id = id }
-telling (Reply.Refused refusal) = record nothing { kind = 11; detail = refusal_number refusal }
-telling (Reply.Misused misuse) = record nothing { kind = 12; detail = misuse_number misuse }
-telling (Reply.PeerClosed cause origin) =
-    record nothing { kind = 13; slot = origin.slot; generation = origin.generation; detail = cause_number cause }
+abbrev pub reply_words : Reply → ReplyWords
+reply_words Reply.Done = blank_reply
+reply_words (Reply.Joined id) = record blank_reply { kind = 1; id = id }
+reply_words (Reply.Shut left) = record blank_reply { kind = 2; id = left }
+reply_words (Reply.Token key collection) = record blank_reply { kind = 3; slot = key.slot; generation = key.generation; id = collection }
+reply_words (Reply.Collected key kind collection) =
+    record blank_reply { kind = 4; slot = key.slot; generation = key.generation; detail = kind_number kind; id = collection }
+reply_words (Reply.CollectedHandle buffer strength) =
+    record blank_reply { kind = 5; detail = strength_number strength; id = buffer.collection; index = buffer.index }
+reply_words Reply.Empty = record blank_reply { kind = 6 }
+reply_words Reply.Pending = record blank_reply { kind = 7 }
+reply_words (Reply.Allocated count size) = record blank_reply { kind = 8; count = count; size = size }
+reply_words (Reply.Taken collection strength set) =
+    record blank_reply { kind = 9; detail = strength_number strength; id = collection; set = set }
+reply_words (Reply.Tracker id) = record blank_reply { kind = 10; id = id }
+reply_words (Reply.Refused refusal) = record blank_reply { kind = 11; detail = refusal_number refusal }
+reply_words (Reply.Misused misuse) = record blank_reply { kind = 12; detail = misuse_number misuse }
+reply_words (Reply.PeerClosed cause origin) =
+    record blank_reply { kind = 13; slot = origin.slot; generation = origin.generation; detail = cause_number cause }

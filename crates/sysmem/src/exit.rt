@@ -1,10 +1,10 @@
 //! A client that vanishes.
 ghost use Rattle.std.specs.Prelude.{◌≡◌, ◌↔◌, ◌≢◌, None, IsSomeAnd};
 ghost use Rattle.client_exit.specs.Parting.{Exits};
-ghost use Rattle.sysmem.specs.Exits.{IsStopped, StoppedBy, fault_code};
+ghost use Rattle.sysmem.specs.Exits.{IsExitStopped, StoppedBy, fault_code};
 
 use crate::codes::{DONE, HISTORY_FULL, NO_CLIENT, NO_MEMORY, NOT_OPEN};
-use crate::keeping::{Handle, put, take};
+use crate::handle::{Handle, put, take};
 use client_exit::{PartFault, part_with};
 use lifetime_core::Core;
 use sm_names::ClientId;
@@ -60,7 +60,7 @@ pub extern "C" fn sysmem_vanish(
         (λ old. IsSomeAnd handle.new.place.core
         (λ new. Exits old new client events.new)) }
     ensures stopped { result ≢ 0 →
-        IsStopped handle.old.place.core handle.new.place.core client events.new result }
+        IsExitStopped handle.old.place.core handle.new.place.core client events.new result }
     ensures not_open { (result ≡ 1) ↔ (handle.old.place.core ≡ None) }
     ensures untold { result ≡ 1 → events.new ≡ events.old }
 {

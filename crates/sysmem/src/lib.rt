@@ -6,22 +6,22 @@
 //! was; `sysmem_vanish` alone tells then how many events it made before.
 #![tactic(auto)]
 
+mod arrays;
 mod codes;
+mod encode;
 mod exit;
-mod keeping;
-mod laying;
+mod handle;
 mod names;
 mod nodes;
 mod opening;
 mod place;
+mod raw;
 mod stepping;
-mod telling;
-mod unboxed;
 mod views;
 mod words;
 
 pub use exit::sysmem_vanish;
-pub use keeping::Handle;
+pub use handle::Handle;
 pub use names::sysmem_name;
 pub use nodes::{
     NodeWords, sysmem_given, sysmem_handles_in_parcels, sysmem_nodes, sysmem_open_handles,

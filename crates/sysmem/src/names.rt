@@ -1,10 +1,10 @@
 //! Names of the numbers that C is told.
 ghost use Rattle.std.specs.Prelude.{◌≡◌, ◌≢◌, ◌∷◌, ◌++◌, length, []};
-ghost use Rattle.sysmem.specs.Laying.{laid};
+ghost use Rattle.sysmem.specs.Arrays.{written_over};
 ghost use Rattle.sysmem.specs.Names.{cause_name, code_name, misuse_at, name, refusal_at};
 
+use crate::arrays::write_text;
 use crate::codes::{DONE, NO_NAME};
-use crate::laying::lay_text;
 use sm_names::{Misuse, Refusal};
 
 // The name of the code.
@@ -106,7 +106,7 @@ fn name(about: u32, number: u32) -> &'static str
 /// `NO_NAME` where there is no such number: nothing is written then. It costs what it writes.
 #[unsafe(no_mangle)]
 pub extern "C" fn sysmem_name(about: u32, number: u32, out: &mut [u8], count: &mut u64) -> u32
-    ensures done { result ≡ 0 → (out.new ≡ laid (name about number ++ 0 ∷ []) out.old)
+    ensures done { result ≡ 0 → (out.new ≡ written_over (name about number ++ 0 ∷ []) out.old)
         × (count.new ≡ length (name about number)) }
     ensures none { result ≢ 0 → name about number ≡ [] }
     ensures failed { result ≢ 0 → (out.new ≡ out.old) × (count.new ≡ count.old) }
@@ -116,6 +116,6 @@ pub extern "C" fn sysmem_name(about: u32, number: u32, out: &mut [u8], count: &m
         return NO_NAME;
     }
     *count = text.len() as u64;
-    lay_text(out, text);
+    write_text(out, text);
     DONE
 }

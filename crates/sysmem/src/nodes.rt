@@ -2,17 +2,17 @@
 ghost use Rattle.std.specs.Prelude.{◌≡◌, ◌≢◌, ◌≤◌, ◌↔◌, ◌⊎◌, None, IsSomeAnd, length, map, option_map, if◌then◌else◌};
 ghost use Rattle.std.specs.Option.{option_map_or};
 ghost use Rattle.sm_names.specs.declared.outcomes.Buffers.{Buffers};
-ghost use Rattle.buffer_holds.specs.Counts.{moving, of};
+ghost use Rattle.buffer_holds.specs.Counts.{moving_count, of};
 ghost use Rattle.forest_store.specs.Forest.{all_nodes};
 ghost use Rattle.lifetime_core.specs.Reads.{buffers_in};
-ghost use Rattle.sysmem.specs.Laying.{laid};
-ghost use Rattle.sysmem.specs.Nodes.{buffer_at, flags_of, holder_of, node_words};
+ghost use Rattle.sysmem.specs.Arrays.{written_over};
+ghost use Rattle.sysmem.specs.Nodes.{buffer_at, flags_of, holder_number, node_words};
 ghost use Rattle.sysmem.specs.Words.{said_strength};
 
+use crate::arrays::write_array;
 use crate::codes::{BAD_CALL, DONE, NO_MEMORY, NOT_OPEN};
-use crate::keeping::{Handle, put, take};
-use crate::laying::lay;
-use crate::telling::Telling;
+use crate::encode::Encode;
+use crate::handle::{Handle, put, take};
 use crate::views::KeyWords;
 use crate::words::{cause_word, strength_of};
 use alloc_event::{End, Node};
@@ -73,7 +73,7 @@ fn flags_word(node: &Node) -> u32
 
 // The client that holds the node's end, or gave it away, or 0.
 fn holder_word(end: End) -> u64
-    ensures { result ≡ holder_of end }
+    ensures { result ≡ holder_number end }
 {
     match end {
         End::Held(client) | End::InTransit(client) => client,
@@ -81,12 +81,12 @@ fn holder_word(end: End) -> u64
     }
 }
 
-impl Telling<Node> for NodeWords {
-    ghost telling = { node_words };
+impl Encode<Node> for NodeWords {
+    ghost encoded = { node_words };
 
-    fn tell(node: Node) -> NodeWords {
+    fn encode(node: Node) -> NodeWords {
         let (cause, origin) = match node.fault {
-            Some(fault) => (cause_word(fault.cause), KeyWords::tell(fault.origin)),
+            Some(fault) => (cause_word(fault.cause), KeyWords::encode(fault.origin)),
             None => (0, NO_KEY),
         };
         let (camping, at_least, size) = match node.constraints {
@@ -94,9 +94,9 @@ impl Telling<Node> for NodeWords {
             None => (0, 0, 0),
         };
         NodeWords {
-            key: KeyWords::tell(node.key),
-            parent: KeyWords::tell(node.parent.unwrap_or(node.key)),
-            head: KeyWords::tell(node.head),
+            key: KeyWords::encode(node.key),
+            parent: KeyWords::encode(node.parent.unwrap_or(node.key)),
+            head: KeyWords::encode(node.head),
             collection: node.collection,
             event: node.event,
             holder: holder_word(node.end),
@@ -112,7 +112,7 @@ impl Telling<Node> for NodeWords {
 
 fn put_nodes(core: &Core, out: &mut [NodeWords], count: &mut u64) -> u32
     ensures codes { (result ≡ 0) ⊎ (result ≡ 6) }
-    ensures done { result ≡ 0 → out.new ≡ laid (map node_words (all_nodes core.now.forest)) out.old }
+    ensures done { result ≡ 0 → out.new ≡ written_over (map node_words (all_nodes core.now.forest)) out.old }
     ensures count { result ≡ 0 → count.new ≡ length (all_nodes core.now.forest) }
     ensures failed { result ≢ 0 → (out.new ≡ out.old) × (count.new ≡ count.old) }
 {
@@ -120,7 +120,7 @@ fn put_nodes(core: &Core, out: &mut [NodeWords], count: &mut u64) -> u32
         return NO_MEMORY;
     };
     *count = nodes.len() as u64;
-    lay(out, &nodes);
+    write_array(out, &nodes);
     DONE
 }
 
@@ -140,7 +140,7 @@ pub extern "C" fn sysmem_nodes(
     ensures same { handle.new.place.core ≡ handle.old.place.core }
     ensures not_open { (result ≡ 1) ↔ (handle.old.place.core ≡ None) }
     ensures done { result ≡ 0 → IsSomeAnd handle.old.place.core
-        (λ core. (out.new ≡ laid (map node_words (all_nodes core.forest)) out.old)
+        (λ core. (out.new ≡ written_over (map node_words (all_nodes core.forest)) out.old)
         × (count.new ≡ length (all_nodes core.forest))) }
     ensures failed { result ≢ 0 → (out.new ≡ out.old) × (count.new ≡ count.old) }
 {
@@ -260,7 +260,7 @@ pub extern "C" fn sysmem_handles_in_parcels(
     ensures not_open { (result ≡ 1) ↔ (handle.old.place.core ≡ None) }
     ensures done { result ≡ 0 → IsSomeAnd handle.old.place.core (λ core.
         IsSomeAnd (said_strength strength)
-        (λ s. count.new ≡ moving core.holds (buffer_at collection index) s)) }
+        (λ s. count.new ≡ moving_count core.holds (buffer_at collection index) s)) }
     ensures bad { result ≡ 4 → said_strength strength ≡ None }
     ensures failed { result ≢ 0 → count.new ≡ count.old }
 {
@@ -274,7 +274,7 @@ pub extern "C" fn sysmem_handles_in_parcels(
 
 // How many are in parcels, if the number is a strength.
 fn handles_in_parcels(core: &Core, buffer: BufferName, strength: u32) -> Option<u32>
-    ensures { result ≡ option_map (moving core.now.holds buffer) (said_strength strength) }
+    ensures { result ≡ option_map (moving_count core.now.holds buffer) (said_strength strength) }
 {
     Some(core.handles_in_parcels(buffer, strength_of(strength)?))
 }

@@ -3,7 +3,7 @@ ghost use Rattle.std.specs.Prelude.{◌≡◌, ◌↔◌, ◌≢◌, None, true,
 ghost use Rattle.sysmem.specs.Opening.{IsInRange, IsNew};
 
 use crate::codes::{ALREADY_OPEN, BAD_LIMITS, DONE, NO_MEMORY, NOT_OPEN};
-use crate::keeping::{Handle, is_open, put, take};
+use crate::handle::{Handle, is_open, put, take};
 use lifetime_core::Core;
 use sm_names::{Limits, MAX_PAGES};
 use std::alloc::Global;

@@ -1,9 +1,9 @@
 //! Where C keeps a core.
 ghost use Rattle.std.specs.Prelude.{◌≡◌, true, is_some, Option, Some, None};
 ghost use Rattle.lifetime_core.specs.State.{State};
-ghost use Rattle.sysmem.specs.Keeping.{keeps, state_coded};
+ghost use Rattle.sysmem.specs.Ownership.{owns_core, state_coded};
 
-use crate::unboxed::Unboxed;
+use crate::raw::Unboxed;
 use lifetime_core::Core;
 use std::alloc::Global;
 use std::marker::Model;
@@ -25,7 +25,7 @@ pub struct Place {
 }
 
 impl Model for Place {
-    ghost also_owns = { λ p. keeps p.alloc p.at p.core };
+    ghost also_owns = { λ p. owns_core p.alloc p.at p.core };
 }
 
 // A core keeps nothing of a thread, and any thread may free its block.

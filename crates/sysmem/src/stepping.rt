@@ -1,10 +1,10 @@
 //! One call.
 ghost use Rattle.std.specs.Prelude.{◌≡◌, ◌↔◌, ◌≢◌, ◌≤◌, None, IsSomeAnd, is_some, true};
-ghost use Rattle.sysmem.specs.Stepping.{AreAlike, IsStep, StaysAs};
+ghost use Rattle.sysmem.specs.Stepping.{IsCoreUnchanged, IsCoreCall, StaysAs};
 ghost use Rattle.sysmem.specs.Words.{said};
 
 use crate::codes::{BAD_CALL, DONE, HISTORY_FULL, NO_MEMORY, NOT_OPEN};
-use crate::keeping::{Handle, put, take};
+use crate::handle::{Handle, put, take};
 use crate::words::{CallWords, ReplyWords, call_of, words_of};
 use lifetime_core::Core;
 use sm_names::{ClientId, StepFault};
@@ -12,7 +12,7 @@ use std::alloc::Global;
 
 // Makes the call that the words say.
 fn step_by_words(core: &mut Core, client: ClientId, asked: &CallWords, told: &mut ReplyWords) -> u32
-    ensures done { result ≡ 0 → IsStep core.old core.new client asked.now told.new }
+    ensures done { result ≡ 0 → IsCoreCall core.old core.new client asked.now told.new }
     ensures failed { result ≢ 0 → StaysAs core.old core.new }
     ensures untold { result ≢ 0 → told.new ≡ told.old }
     ensures bad { (result ≡ 4) ↔ (said asked.now ≡ None) }
@@ -50,8 +50,8 @@ pub extern "C" fn sysmem_step(
 ) -> u32
     ensures done { result ≡ 0 → IsSomeAnd handle.old.place.core
         (λ old. IsSomeAnd handle.new.place.core
-        (λ new. IsStep old new client asked.now told.new)) }
-    ensures failed { result ≢ 0 → AreAlike handle.old.place.core handle.new.place.core }
+        (λ new. IsCoreCall old new client asked.now told.new)) }
+    ensures failed { result ≢ 0 → IsCoreUnchanged handle.old.place.core handle.new.place.core }
     ensures untold { result ≢ 0 → told.new ≡ told.old }
     ensures not_open { (result ≡ 1) ↔ (handle.old.place.core ≡ None) }
     ensures bad { result ≡ 4 → said asked.now ≡ None }

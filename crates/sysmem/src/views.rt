@@ -2,14 +2,14 @@
 ghost use Rattle.std.specs.Prelude.{◌≡◌, ◌≢◌, ◌↔◌, None, IsSomeAnd, drop, length, map};
 ghost use Rattle.std.specs.Prelude.{if◌then◌else◌, ◌⊎◌};
 ghost use Rattle.lifetime_core.specs.Reads.{views_of, is_live_in, fault_in};
-ghost use Rattle.sysmem.specs.Laying.{laid};
-ghost use Rattle.sysmem.specs.Seeing.{fired_words, held_words, key_of, key_words};
+ghost use Rattle.sysmem.specs.Arrays.{written_over};
+ghost use Rattle.sysmem.specs.Encodings.{fired_words, held_words, key_from_words, key_words};
 ghost use Rattle.sysmem.specs.Words.{cause_number};
 
+use crate::arrays::write_array;
 use crate::codes::{DONE, NO_MEMORY, NOT_FAILED, NOT_OPEN};
-use crate::keeping::{Handle, put, take};
-use crate::laying::lay;
-use crate::telling::Telling;
+use crate::encode::Encode;
+use crate::handle::{Handle, put, take};
 use crate::words::cause_word;
 use lifetime_core::Core;
 use sm_names::{Fired, HeldBuffer, NodeKey};
@@ -41,10 +41,10 @@ pub struct FiredWords {
     pub event: u64,
 }
 
-impl Telling<NodeKey> for KeyWords {
-    ghost telling = { key_words };
+impl Encode<NodeKey> for KeyWords {
+    ghost encoded = { key_words };
 
-    fn tell(key: NodeKey) -> KeyWords {
+    fn encode(key: NodeKey) -> KeyWords {
         KeyWords {
             slot: key.slot,
             generation: key.generation,
@@ -52,10 +52,10 @@ impl Telling<NodeKey> for KeyWords {
     }
 }
 
-impl Telling<HeldBuffer> for HeldWords {
-    ghost telling = { held_words };
+impl Encode<HeldBuffer> for HeldWords {
+    ghost encoded = { held_words };
 
-    fn tell(held: HeldBuffer) -> HeldWords {
+    fn encode(held: HeldBuffer) -> HeldWords {
         HeldWords {
             collection: held.buffer.collection,
             index: u32::from(held.buffer.index),
@@ -65,10 +65,10 @@ impl Telling<HeldBuffer> for HeldWords {
     }
 }
 
-impl Telling<Fired> for FiredWords {
-    ghost telling = { fired_words };
+impl Encode<Fired> for FiredWords {
+    ghost encoded = { fired_words };
 
-    fn tell(fired: Fired) -> FiredWords {
+    fn encode(fired: Fired) -> FiredWords {
         FiredWords {
             tracker: fired.tracker,
             event: fired.event,
@@ -78,7 +78,8 @@ impl Telling<Fired> for FiredWords {
 
 fn put_live(core: &Core, out: &mut [KeyWords], count: &mut u64) -> u32
     ensures codes { (result ≡ 0) ⊎ (result ≡ 6) }
-    ensures done { result ≡ 0 → out.new ≡ laid (map key_words (views_of core.now).live) out.old }
+    ensures done { result ≡ 0 →
+        out.new ≡ written_over (map key_words (views_of core.now).live) out.old }
     ensures count { result ≡ 0 → count.new ≡ length (views_of core.now).live }
     ensures failed { result ≢ 0 → (out.new ≡ out.old) × (count.new ≡ count.old) }
 {
@@ -86,14 +87,14 @@ fn put_live(core: &Core, out: &mut [KeyWords], count: &mut u64) -> u32
         return NO_MEMORY;
     };
     *count = keys.len() as u64;
-    lay(out, &keys);
+    write_array(out, &keys);
     DONE
 }
 
 fn put_held(core: &Core, out: &mut [HeldWords], count: &mut u64) -> u32
     ensures codes { (result ≡ 0) ⊎ (result ≡ 6) }
     ensures done { result ≡ 0 →
-        out.new ≡ laid (map held_words (views_of core.now).held) out.old }
+        out.new ≡ written_over (map held_words (views_of core.now).held) out.old }
     ensures count { result ≡ 0 → count.new ≡ length (views_of core.now).held }
     ensures failed { result ≢ 0 → (out.new ≡ out.old) × (count.new ≡ count.old) }
 {
@@ -101,7 +102,7 @@ fn put_held(core: &Core, out: &mut [HeldWords], count: &mut u64) -> u32
         return NO_MEMORY;
     };
     *count = held.len() as u64;
-    lay(out, &held);
+    write_array(out, &held);
     DONE
 }
 
@@ -119,7 +120,7 @@ pub extern "C" fn sysmem_live(
     ensures same { handle.new.place.core ≡ handle.old.place.core }
     ensures not_open { (result ≡ 1) ↔ (handle.old.place.core ≡ None) }
     ensures done { result ≡ 0 → IsSomeAnd handle.old.place.core
-        (λ core. (out.new ≡ laid (map key_words (views_of core).live) out.old)
+        (λ core. (out.new ≡ written_over (map key_words (views_of core).live) out.old)
         × (count.new ≡ length (views_of core).live)) }
     ensures failed { result ≢ 0 → (out.new ≡ out.old) × (count.new ≡ count.old) }
 {
@@ -146,7 +147,7 @@ pub extern "C" fn sysmem_held(
     ensures same { handle.new.place.core ≡ handle.old.place.core }
     ensures not_open { (result ≡ 1) ↔ (handle.old.place.core ≡ None) }
     ensures done { result ≡ 0 → IsSomeAnd handle.old.place.core (λ core.
-        (out.new ≡ laid (map held_words (views_of core).held) out.old)
+        (out.new ≡ written_over (map held_words (views_of core).held) out.old)
         × (count.new ≡ length (views_of core).held)) }
     ensures failed { result ≢ 0 → (out.new ≡ out.old) × (count.new ≡ count.old) }
 {
@@ -173,7 +174,7 @@ pub extern "C" fn sysmem_fired(
     ensures same { handle.new.place.core ≡ handle.old.place.core }
     ensures not_open { (result ≡ 1) ↔ (handle.old.place.core ≡ None) }
     ensures done { result ≡ 0 → IsSomeAnd handle.old.place.core
-        (λ core. (out.new ≡ laid (map fired_words (views_of core).fired) out.old)
+        (λ core. (out.new ≡ written_over (map fired_words (views_of core).fired) out.old)
         × (count.new ≡ length (views_of core).fired)) }
     ensures failed { result ≢ 0 → (out.new ≡ out.old) × (count.new ≡ count.old) }
 {
@@ -196,7 +197,8 @@ pub extern "C" fn sysmem_fired_from(
     ensures same { handle.new.place.core ≡ handle.old.place.core }
     ensures not_open { (result ≡ 1) ↔ (handle.old.place.core ≡ None) }
     ensures done { result ≡ 0 → IsSomeAnd handle.old.place.core
-        (λ core. (out.new ≡ laid (map fired_words (drop from (views_of core).fired)) out.old)
+        (λ core. (out.new
+        ≡ written_over (map fired_words (drop from (views_of core).fired)) out.old)
         × (count.new ≡ length (views_of core).fired)) }
     ensures failed { result ≢ 0 → (out.new ≡ out.old) × (count.new ≡ count.old) }
 {
@@ -205,7 +207,7 @@ pub extern "C" fn sysmem_fired_from(
     };
     let fired = core.fired();
     *count = fired.len() as u64;
-    lay(out, after(fired, from));
+    write_array(out, after(fired, from));
     put(handle, core);
     DONE
 }
@@ -233,7 +235,7 @@ pub extern "C" fn sysmem_is_live(
     ensures same { handle.new.place.core ≡ handle.old.place.core }
     ensures not_open { (result ≡ 1) ↔ (handle.old.place.core ≡ None) }
     ensures done { result ≡ 0 → IsSomeAnd handle.old.place.core
-        (λ core. live.new ≡ (if is_live_in core (key_of key.now) then 1 else 0)) }
+        (λ core. live.new ≡ (if is_live_in core (key_from_words key.now) then 1 else 0)) }
     ensures failed { result ≢ 0 → live.new ≡ live.old }
 {
     let Some(core) = take(alloc, handle) else {
@@ -259,11 +261,11 @@ pub extern "C" fn sysmem_cause(
     ensures same { handle.new.place.core ≡ handle.old.place.core }
     ensures not_open { (result ≡ 1) ↔ (handle.old.place.core ≡ None) }
     ensures done { result ≡ 0 → IsSomeAnd handle.old.place.core
-        (λ core. IsSomeAnd (fault_in core (key_of key.now))
+        (λ core. IsSomeAnd (fault_in core (key_from_words key.now))
         (λ fault. (cause.new ≡ cause_number fault.cause)
         × (origin.new ≡ key_words fault.origin))) }
     ensures not_failed { result ≡ 7 → IsSomeAnd handle.old.place.core
-        (λ core. fault_in core (key_of key.now) ≡ None) }
+        (λ core. fault_in core (key_from_words key.now) ≡ None) }
     ensures failed { result ≢ 0 → (cause.new ≡ cause.old) × (origin.new ≡ origin.old) }
 {
     let Some(core) = take(alloc, handle) else {
@@ -274,7 +276,7 @@ pub extern "C" fn sysmem_cause(
     match found {
         Some((why, node)) => {
             *cause = cause_word(why);
-            *origin = KeyWords::tell(node);
+            *origin = KeyWords::encode(node);
             DONE
         }
         None => NOT_FAILED,
@@ -318,7 +320,7 @@ pub extern "C" fn sysmem_events(alloc: Global, handle: &mut Handle, events: &mut
 
 // The key that the words say.
 fn node_key(words: &KeyWords) -> NodeKey
-    ensures { result ≡ key_of words.now }
+    ensures { result ≡ key_from_words words.now }
 {
     NodeKey {
         slot: words.slot,

@@ -1,6 +1,6 @@
 //! Calls and replies as numbers.
 ghost use Rattle.std.specs.Prelude.{◌≡◌};
-ghost use Rattle.sysmem.specs.Words.{said, said_strength, said_constraints, telling};
+ghost use Rattle.sysmem.specs.Words.{said, said_strength, said_constraints, reply_words};
 ghost use Rattle.sysmem.specs.Words.{strength_number, kind_number, cause_number};
 
 use sm_names::{BufferName, Call, Cause, Constraints, Failure, Kind, NodeKey, Reply, Strength};
@@ -154,7 +154,7 @@ const NOTHING: ReplyWords = ReplyWords {
 
 // The words of the reply.
 pub(crate) fn words_of(reply: &Reply) -> ReplyWords
-    ensures { result ≡ telling reply.now }
+    ensures { result ≡ reply_words reply.now }
 {
     match *reply {
         Reply::Done => NOTHING,

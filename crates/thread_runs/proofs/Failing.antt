@@ -2,20 +2,20 @@
 use Rattle.std.proofs.Common.{ℕ, List, Option, refl}
 use Rattle.sm_names.specs.Bounds.{Bound}
 use Rattle.client_parting.specs.declared.fault.GatherFault.{GatherFault}
-use Rattle.actor_scripts.specs.declared.cast.Cast.{Cast}
-use Rattle.actor_scripts.specs.Casts.{company_of}
-use Rattle.actor_scripts.specs.Reads.{IsRead as IsReadAs}
+use Rattle.actor_scripts.specs.declared.actor_list.ActorList.{ActorList}
+use Rattle.actor_scripts.specs.ActorLists.{actors_of}
+use Rattle.actor_scripts.specs.Reads.{ReadsActors as IsReadAs}
 use Rattle.thread_runs.specs.declared.fault.ThreadsFault.{ThreadsFault}
 use Rattle.thread_runs.specs.Gathered.{IsLate}
 use Rattle.thread_runs.specs.Runs.{HasNoReport, IsRead, RunFails}
 
 module _ (pages : ℕ) (limits : Bound) (before after old : Option (List ℕ)) where
-  module _ (cast : Cast) (so : IsReadAs before after cast) where
-    pub read-as : IsRead before after (company_of cast)
-    read-as = record { script = so.script; whole = so.whole; is_cast = so.is_cast }
+  module _ (cast : ActorList) (so : IsReadAs before after cast) where
+    pub read-as : IsRead before after (actors_of cast)
+    read-as = record { script = so.script; whole = so.whole; is_cast = so.is_list }
 
     none : HasNoReport before after old old
-    none = record { company = company_of cast; read = read-as; silent = refl }
+    none = record { company = actors_of cast; read = read-as; silent = refl }
 
     -- the actors have no report
     pub fails-late : (told : ThreadsFault) → IsLate told → RunFails pages limits before after old old told

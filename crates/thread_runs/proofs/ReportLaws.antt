@@ -6,46 +6,46 @@ use Rattle.std.proofs.lemmas.List.Elements.{recursion_from_All}
 use Rattle.sm_names.specs.Bounds.{Bound}
 use Rattle.sm_names.specs.Legality.{IsLegal}
 use Rattle.sm_names.specs.Marks.{Entry}
-use Rattle.event_laws.specs.Lines.{line_of}
+use Rattle.event_laws.specs.Lines.{client_line}
 use Rattle.event_laws.specs.Members.{joined}
 use Rattle.event_laws.specs.Parts.{part}
-use Rattle.service_lock.specs.States.{IsAsked, View}
+use Rattle.service_lock.specs.States.{IsSetUpWith, View}
 use Rattle.client_parting.specs.declared.gathering.Holding.{Holding}
 use Rattle.client_parting.specs.declared.gathering.Report.{Report}
-use Rattle.client_parting.specs.Gatherings.{IsGathered, Matches, ids_of}
+use Rattle.client_parting.specs.Gatherings.{IsGatherReport, Matches, ids_of}
 use Rattle.client_parting.specs.Partings.{Remains}
 use Rattle.actor_scripts.specs.declared.step.ActorScript.{ActorScript}
-use Rattle.actor_scripts.specs.declared.cast.Cast.{Cast}
-use Rattle.actor_scripts.specs.Casts.{company_of, steps_of}
+use Rattle.actor_scripts.specs.declared.actor_list.ActorList.{ActorList}
+use Rattle.actor_scripts.specs.ActorLists.{actors_of, steps_of}
 use Rattle.actor_reports.specs.Reports.{report_text}
 use Rattle.script_lines.specs.declared.label.Label.{Label}
 use Rattle.client_actors.specs.declared.gate.ActorEnd.{ActorEnd}
-use Rattle.client_actors.specs.Acting.{HasPlayed}
+use Rattle.client_actors.specs.Acting.{HasFinished}
 use Rattle.client_actors.specs.Running.{HaveRun, IsEndOf, end_id}
 use Rattle.thread_runs.specs.Gathered.{IsLeft, Tells, client_of, first_fault}
 use Rattle.thread_runs.specs.Runs.{IsPlayed, IsReport}
 use Rattle.thread_runs.proofs.EndLaws.{ids-left}
 
 -- each line is that of its client
-clients-of : (history : List Entry) (clients : List ℕ) → map client_of (map (line_of history) clients) ≡ clients
+clients-of : (history : List Entry) (clients : List ℕ) → map client_of (map (client_line history) clients) ≡ clients
 clients-of history [] = refl
 clients-of history (client ∷ clients) = ap (λ (l : List ℕ). client ∷ l) (clients-of history clients)
 
 -- an actor that vanished, whose own list is its part of the record
 was-played : (history : List Entry) (clients : List ℕ) (script : ActorScript) (wreck remains : Remains) →
-    HasPlayed clients script.steps.items wreck →
+    HasFinished clients script.steps.items wreck →
     remains ≡ wreck → remains.client.own ≡ part remains.client.id history → IsPlayed history clients (steps_of script) remains.client.id
 was-played history clients script wreck remains played is own = record {
   left = remains;
   its_id = refl;
   its_part = own;
-  played = subst (HasPlayed clients script.steps.items) (sym is) played;
+  played = subst (HasFinished clients script.steps.items) (sym is) played;
 }
 
 module _ {E S W : Type 0} where
   -- what was gathered is told
   pub tells : (pages : ℕ) (limits : Bound) (s : View) (labels : List Label) (parts : List (Holding E S W)) (report : Report) (text : List ℕ) →
-      IsAsked pages limits s.pool s.limits → IsGathered s parts report →
+      IsSetUpWith pages limits s.pool s.limits → IsGatherReport s parts report →
       map client_of report.lines.items ≡ ids_of parts → text ≡ report_text labels report.events report.lines.items →
       Tells pages limits s labels parts text
   tells pages limits s labels parts report text asked so ordered told = record {
@@ -61,7 +61,7 @@ module _ {E S W : Type 0} where
       (report : Report) →
       OnOk result (map client_of report.lines.items ≡ ids_of parts) →
       IfOk result (λ text. items text ≡ report_text labels report.events report.lines.items) →
-      ((s : View) × IsAsked pages limits s.pool s.limits × IsGathered s parts report) →
+      ((s : View) × IsSetUpWith pages limits s.pool s.limits × IsGatherReport s parts report) →
       IfOk result (λ text. (s : View) × Tells pages limits s labels parts (items text))
   told-ok items (Err fault) pages limits labels parts report ordered told so = tt
   told-ok items (Ok text) pages limits labels parts report ordered told (s, asked, so) =
@@ -85,9 +85,9 @@ module _ {E S W : Type 0} where
     were-played (script ∷ scripts) (ActorEnd.NotStarted client ∷ ends) (part ∷ parts) ran left well own = cc
 
   -- it is the report of the cast
-  pub is-report : (pages : ℕ) (limits : Bound) (cast : Cast) (ends : List (ActorEnd E S W)) (parts : List (Holding E S W)) → HaveRun cast.scripts.items ends →
+  pub is-report : (pages : ℕ) (limits : Bound) (cast : ActorList) (ends : List (ActorEnd E S W)) (parts : List (Holding E S W)) → HaveRun cast.scripts.items ends →
       AllZip IsLeft ends parts → first_fault ends ≡ None → (text : List ℕ) → ((s : View) × Tells pages limits s cast.labels.items parts text) →
-      IsReport pages limits (company_of cast) text
+      IsReport pages limits (actors_of cast) text
   is-report pages limits cast ends parts ran left well text (s, so) = record {
     history = s.history;
     legal = so.legal;

@@ -1,7 +1,7 @@
 -- The texts of faults of a run of actors.
 use Rattle.std.specs.Prelude.{ℕ, List, ◌∷◌, ◌++◌, codes}
 use Rattle.std.specs.Fmt.{decimal}
-use Rattle.actor_scripts.specs.declared.fault.CastFault.{CastFault}
+use Rattle.actor_scripts.specs.declared.fault.ActorScriptFault.{ActorScriptFault}
 use Rattle.client_parting.specs.declared.fault.GatherFault.{GatherFault}
 use Rattle.thread_runs.specs.declared.fault.ThreadsFault.{ThreadsFault}
 
@@ -34,10 +34,10 @@ fault_status (ThreadsFault.Gather (GatherFault.OpenValues strong weak)) = 5
 fault_status (ThreadsFault.Gather (GatherFault.RecordMismatch event)) = 5
 
 -- why no run began, as a fault of it
-abbrev pub cast_fault : CastFault → ThreadsFault
-cast_fault CastFault.ReadFault = ThreadsFault.ReadFault
-cast_fault (CastFault.BadLine number) = ThreadsFault.BadLine number
-cast_fault CastFault.NoMemory = ThreadsFault.NoMemory
+abbrev pub cast_fault : ActorScriptFault → ThreadsFault
+cast_fault ActorScriptFault.ReadFault = ThreadsFault.ReadFault
+cast_fault (ActorScriptFault.BadLine number) = ThreadsFault.BadLine number
+cast_fault ActorScriptFault.NoMemory = ThreadsFault.NoMemory
 
 -- what was found at the end, as a fault of the run: refused memory is told as such
 abbrev pub gather_fault : GatherFault → ThreadsFault

@@ -2,7 +2,7 @@
 ghost use Rattle.std.specs.Prelude.{◌≡◌};
 ghost use Rattle.thread_runs.specs.Faults.{fault_status};
 
-use actor_scripts::CastFault;
+use actor_scripts::ActorScriptFault;
 use client_parting::GatherFault;
 use std::fmt;
 use thiserror::Error;
@@ -45,17 +45,17 @@ impl ThreadsFault {
     }
 }
 
-impl From<CastFault> for ThreadsFault {
+impl From<ActorScriptFault> for ThreadsFault {
     ghost use Rattle.std.specs.Prelude.{◌≡◌};
     ghost use Rattle.thread_runs.specs.Faults.{cast_fault};
 
     ghost from_gives = { λ fault told. told ≡ cast_fault fault };
 
-    fn from(fault: CastFault) -> ThreadsFault {
+    fn from(fault: ActorScriptFault) -> ThreadsFault {
         match fault {
-            CastFault::ReadFault => ThreadsFault::ReadFault,
-            CastFault::BadLine(number) => ThreadsFault::BadLine(number),
-            CastFault::NoMemory => ThreadsFault::NoMemory,
+            ActorScriptFault::ReadFault => ThreadsFault::ReadFault,
+            ActorScriptFault::BadLine(number) => ThreadsFault::BadLine(number),
+            ActorScriptFault::NoMemory => ThreadsFault::NoMemory,
         }
     }
 }

@@ -1,9 +1,9 @@
 //! The actors run, and what they leave is told.
 ghost use Rattle.std.specs.Prelude.{◌≡◌, ◌≤◌, IfErr, IfOk, IfNone, OnOk, map};
 ghost use Rattle.actor_reports.specs.Reports.{report_text};
-ghost use Rattle.actor_scripts.specs.Casts.{company_of};
+ghost use Rattle.actor_scripts.specs.ActorLists.{actors_of};
 ghost use Rattle.client_parting.specs.Gatherings.{ids_of};
-ghost use Rattle.service_lock.specs.States.{IsAsked, View};
+ghost use Rattle.service_lock.specs.States.{IsSetUpWith, View};
 ghost use Rattle.service_lock.specs.Units.{AreFor};
 ghost use Rattle.thread_runs.specs.Gathered.{IsLate, Tells, client_of};
 ghost use Rattle.thread_runs.specs.Runs.{IsReport};
@@ -11,12 +11,12 @@ ghost use Rattle.thread_runs.specs.Runs.{IsReport};
 use crate::fault::ThreadsFault;
 use crate::parting::{fault_of, part_all};
 use actor_reports::push_report;
-use actor_scripts::Cast;
+use actor_scripts::ActorList;
 use client_actors::{Gate, run_actors};
 use client_parting::{GatherFault, Holding, Report, end_service, gather};
 use event_laws::ClientLine;
 use script_lines::Label;
-use service_lock::{Blanks, PARTS, Service, Setup};
+use service_lock::{BlankBooks, MAX_SHARES, Service, Setup};
 use sm_names::{ClientId, Limits, MAX_PAGES, Reply};
 use std::alloc::Global;
 use std::marker::Brand;
@@ -112,10 +112,10 @@ fn run_all<
     rt: &R,
     alloc: Global,
     service: &Service<E, S, W>,
-    cast: &Cast,
+    cast: &ActorList,
 ) -> (Vec<Holding<E, S, W>>, Result<Vec<u8>, ThreadsFault>)
     ensures ok { IfOk result.1 (λ text.
-        IsReport E.pages E.limits (company_of cast.now) text.items) }
+        IsReport E.pages E.limits (actors_of cast.now) text.items) }
     ensures late { IfErr result.1 IsLate }
 {
     let mut parts = match Vec::with_capacity(alloc, cast.scripts.len()) {
@@ -143,16 +143,16 @@ fn run_on<
 >(
     rt: &R,
     alloc: Global,
-    blanks: Blanks,
+    blanks: BlankBooks,
     seed: [u8; 16],
-    cast: &Cast,
+    cast: &ActorList,
     pages: u32,
     limits: Limits,
 ) -> Result<Vec<u8>, ThreadsFault>
     requires pages { (1 ≤ pages) × (pages ≤ MAX_PAGES) }
     requires blanks { AreFor E.name E.parts S.name S.parts W.name W.parts blanks }
-    requires asked { IsAsked E.pages E.limits pages limits }
-    ensures ok { IfOk result (λ text. IsReport pages limits (company_of cast.now) text.items) }
+    requires asked { IsSetUpWith E.pages E.limits pages limits }
+    ensures ok { IfOk result (λ text. IsReport pages limits (actors_of cast.now) text.items) }
     ensures late { IfErr result IsLate }
 {
     match Service::<E, S, W>::with_seed(alloc, blanks, pages, limits, seed) {
@@ -170,18 +170,18 @@ pub(crate) fn report<R: Threads + Wait + Clock + Sync>(
     rt: &R,
     alloc: Global,
     seed: [u8; 16],
-    cast: &Cast,
+    cast: &ActorList,
     pages: u32,
     limits: Limits,
 ) -> Result<Vec<u8>, ThreadsFault>
     requires { (1 ≤ pages) × (pages ≤ MAX_PAGES) }
-    ensures ok { IfOk result (λ text. IsReport pages limits (company_of cast.now) text.items) }
+    ensures ok { IfOk result (λ text. IsReport pages limits (actors_of cast.now) text.items) }
     ensures late { IfErr result IsLate }
 {
-    let blanks = Blanks {
-        events: Blank::new(PARTS),
-        strong: Blank::new(PARTS),
-        weak: Blank::new(PARTS),
+    let blanks = BlankBooks {
+        events: Blank::new(MAX_SHARES),
+        strong: Blank::new(MAX_SHARES),
+        weak: Blank::new(MAX_SHARES),
     };
     run_on::<Brand, Brand, Brand, _>(rt, alloc, blanks, seed, cast, pages, limits)
 }

@@ -6,19 +6,19 @@ use Rattle.std.proofs.lemmas.List.Sums.{sum_by-append, sum_by-cons}
 use Rattle.sm_names.specs.declared.tracking.Fired.{Fired}
 use Rattle.trackers.specs.declared.waiting.Waiting.{Waiting}
 use Rattle.trackers.specs.Table.{Cell, Attaches, firing_of}
-use Rattle.trackers.specs.Row.{TrackerRow, Stage, Waits, Over, is_waiting, waiting_of_row, firing_of_row}
-use Rattle.trackers.specs.Filing.{Piles, Wish, entries_of, weigh}
-use Rattle.trackers.specs.Held.{cell_of_row, untaken_of_row, awaited, awaited_from, AreRising, IsTableSound, NoneHas, table_of, attached}
-use Rattle.trackers.proofs.FilingLemmas.{asked_push}
+use Rattle.trackers.specs.Row.{TrackerRow, RowState, Waits, Over, is_waiting, waiting_of_row, firing_of_row}
+use Rattle.trackers.specs.WaitIndex.{WaitIndex, Wish, entries_of, weigh}
+use Rattle.trackers.specs.Held.{cell_of_row, untaken_of_row, wish_of_row, wishes_from, IdsRise, TableInvariant, NoneHas, table_of, attached}
+use Rattle.trackers.proofs.IndexLemmas.{asked_push}
 use Rattle.trackers.proofs.FoundLemmas.{table_with}
 use Rattle.trackers.proofs.Weights.{weigh_append}
 use Rattle.trackers.proofs.Walks.{filter_map_push}
 
 -- a row that waits is shown
-shown_at : (id cell : ℕ) (stage : Stage) (has : Bool) (rows : List TrackerRow) →
+shown_at : (id cell : ℕ) (state : RowState) (has : Bool) (rows : List TrackerRow) →
     length (filter_map waiting_of_row rows) ≡ count_by is_waiting rows →
-    length (cons_option (waiting_of_row (record { id = id; cell = cell; stage = stage; has_reader = has }))
-    (filter_map waiting_of_row rows)) ≡ cond (is_waiting (record { id = id; cell = cell; stage = stage; has_reader = has })) 1
+    length (cons_option (waiting_of_row (record { id = id; cell = cell; state = state; has_reader = has }))
+    (filter_map waiting_of_row rows)) ≡ cond (is_waiting (record { id = id; cell = cell; state = state; has_reader = has })) 1
     0 + count_by is_waiting rows
 shown_at id cell (Over event) has rows same = omega arith
 shown_at id cell (Waits place c) has rows same = omega arith
@@ -27,7 +27,7 @@ shown_at id cell (Waits place c) has rows same = omega arith
 pub count_shown : (rows : List TrackerRow) → length (filter_map waiting_of_row rows) ≡ count_by is_waiting rows
 count_shown [] = refl
 count_shown (row ∷ rows) =
-    shown_at row.id row.cell row.stage row.has_reader rows (count_shown rows) ∙ sym (sum_by-cons (λ r. cond (is_waiting r) 1 0) row rows)
+    shown_at row.id row.cell row.state row.has_reader rows (count_shown rows) ∙ sym (sum_by-cons (λ r. cond (is_waiting r) 1 0) row rows)
 
 -- the ids of the cells are those of the rows
 pub all_below : (n : ℕ) (rows : List TrackerRow) → AllByRecursion (λ (c : Cell). c.id < n) (map cell_of_row rows) →
@@ -48,8 +48,8 @@ module _ (row : TrackerRow) where
   below_push n (other ∷ rows) above below = (below.0, below_push n rows above below.1)
 
   -- the ids rise on with a greater one
-  rising_push : (rows : List TrackerRow) → AllByRecursion (λ (r : TrackerRow). r.id < row.id) rows → AreRising rows →
-      AreRising (rows ++ row ∷ [])
+  rising_push : (rows : List TrackerRow) → AllByRecursion (λ (r : TrackerRow). r.id < row.id) rows → IdsRise rows →
+      IdsRise (rows ++ row ∷ [])
   rising_push [] all rising = (tt, tt)
   rising_push (other ∷ rows) all rising = (below_push other.id rows all.0 rising.0, rising_push rows all.1 rising.1)
 
@@ -65,15 +65,15 @@ module _ (row : TrackerRow) where
   none_push id [] none = tt
   none_push id (other ∷ rows) none = (none.0, none_push id rows none.1)
 
-module _ (limit capacity capacity' spare spare' : ℕ) (rows rows' : List TrackerRow) (fired fired' : List Fired) (old new : Piles)
-    (sound : IsTableSound limit rows fired capacity spare old) (same : fired' ≡ fired) where
+module _ (limit capacity capacity' spare spare' : ℕ) (rows rows' : List TrackerRow) (fired fired' : List Fired) (old new : WaitIndex)
+    (sound : TableInvariant limit rows fired capacity spare old) (same : fired' ≡ fired) where
   -- the table is right with one row more
   pub sound_push : (cell : ℕ) (t : Waiting) → AllByRecursion (λ (r : TrackerRow). r.id < t.id) rows → count_by is_waiting rows < limit →
       length rows + 1 ≤ capacity' → count_by is_waiting rows + 1 ≤ spare' → rows' ≡ rows ++ attached cell t ∷ [] →
       ((k : ℕ) (f : Wish → ℕ) → weigh f (entries_of new k)
       ≡ (if k == t.collection then f (t.condition, length rows) + weigh f (entries_of old k) else weigh
-      f (entries_of old k))) → IsTableSound limit rows' fired' capacity' spare' new
-  sound_push cell t all room_left room spare_left pushed filed =
+      f (entries_of old k))) → TableInvariant limit rows' fired' capacity' spare' new
+  sound_push cell t all room_left room spare_left pushed indexed =
       let row : TrackerRow = attached cell t in
       rw (same, pushed) record {
         held = record {
@@ -84,17 +84,17 @@ module _ (limit capacity capacity' spare spare' : ℕ) (rows rows' : List Tracke
           told = told_push row fired rows (sound.held.own t.id (fresh t.id rows all)) sound.held.told;
           own = λ other none. sound.held.own other (none_push row other rows none);
         };
-        filed = record {
+        indexed = record {
           at = λ k f.
-              let had : weigh f (entries_of old k) ≡ weigh f (awaited_from k 0 rows) = sound.filed.at k f in
-              let joined : weigh f (awaited_from k 0 (rows ++ row ∷ [])) ≡ weigh f (awaited_from k 0 rows) + weigh f
-              (option_to_list (awaited k (0 + length rows) row)) =
+              let had : weigh f (entries_of old k) ≡ weigh f (wishes_from k 0 rows) = sound.indexed.at k f in
+              let joined : weigh f (wishes_from k 0 (rows ++ row ∷ [])) ≡ weigh f (wishes_from k 0 rows) + weigh f
+              (option_to_list (wish_of_row k (0 + length rows) row)) =
               ap (weigh f) (asked_push k 0 rows row)
-              ∙ weigh_append f (awaited_from k 0 rows) (option_to_list (awaited k (0 + length rows) row)) in
+              ∙ weigh_append f (wishes_from k 0 rows) (option_to_list (wish_of_row k (0 + length rows) row)) in
               let place_is : 0 + length rows ≡ length rows = omega arith in
-              filed k f ∙ (elim (k == t.collection) as (λ b.
+              indexed k f ∙ (elim (k == t.collection) as (λ b.
               (if b then f (t.condition, length rows) + weigh f (entries_of old k) else weigh f (entries_of old k)) ≡ weigh f
-              (awaited_from k 0 rows) + weigh f (option_to_list (if b then Some (t.condition, 0 + length rows) else None))) [
+              (wishes_from k 0 rows) + weigh f (option_to_list (if b then Some (t.condition, 0 + length rows) else None))) [
                 | true ↦ omega (arith, had, ap (λ m. f (t.condition, m)) place_is)
                 | false ↦ omega (arith, had)
               ] ∙ sym joined);
@@ -105,8 +105,8 @@ module _ (limit capacity capacity' spare spare' : ℕ) (rows rows' : List Tracke
   -- and with more room alone
   pub sound_grown : capacity ≤ capacity' → spare ≤ spare' → rows' ≡ rows →
       ((k : ℕ) (f : Wish → ℕ) → weigh f (entries_of new k) ≡ weigh f (entries_of old k)) →
-      IsTableSound limit rows' fired' capacity' spare' new
-  sound_grown more more_spare stay filed = rw (same, stay) record {
+      TableInvariant limit rows' fired' capacity' spare' new
+  sound_grown more more_spare stay indexed = rw (same, stay) record {
     held = record {
       rising = sound.held.rising;
       counted = sound.held.counted;
@@ -115,7 +115,7 @@ module _ (limit capacity capacity' spare spare' : ℕ) (rows rows' : List Tracke
       told = sound.held.told;
       own = sound.held.own;
     };
-    filed = record { at = λ k f. filed k f ∙ sound.filed.at k f };
+    indexed = record { at = λ k f. indexed k f ∙ sound.indexed.at k f };
     spare_room = omega (arith, sound.spare_room, more_spare);
   }
 

@@ -9,11 +9,11 @@ use Rattle.std.proofs.lemmas.List.Sums.{sum_by-append, sum_by-cons}
 use Rattle.sm_names.specs.declared.tracking.Fired.{Fired}
 use Rattle.sm_names.specs.declared.tracking.Condition.{Condition}
 use Rattle.trackers.specs.declared.waiting.Waiting.{Waiting}
-use Rattle.trackers.specs.Table.{Cell, Table, Attaches, firing_of}
-use Rattle.trackers.specs.Row.{TrackerRow, Stage, Waits, Over, is_waiting, waiting_of_row, firing_of_row}
-use Rattle.trackers.specs.Filing.{Piles, Wish, entries_of, weigh, weigh_at}
-use Rattle.trackers.specs.Held.{cell_of_row, untaken_of_row, awaited, awaited_from, AreRising, IsTableSound, NoneHas, table_of}
-use Rattle.trackers.proofs.FilingLemmas.{asked_push}
+use Rattle.trackers.specs.Table.{Cell, TrackerTable, Attaches, firing_of}
+use Rattle.trackers.specs.Row.{TrackerRow, RowState, Waits, Over, is_waiting, waiting_of_row, firing_of_row}
+use Rattle.trackers.specs.WaitIndex.{WaitIndex, Wish, entries_of, weigh, weigh_at}
+use Rattle.trackers.specs.Held.{cell_of_row, untaken_of_row, wish_of_row, wishes_from, IdsRise, TableInvariant, NoneHas, table_of}
+use Rattle.trackers.proofs.IndexLemmas.{asked_push}
 use Rattle.trackers.proofs.Walks.{filter_map_push, row_of}
 use Rattle.trackers.proofs.Weights.{weigh_append}
 
@@ -32,19 +32,19 @@ front_of P (y ∷ ys) x all = (all.0, front_of P ys x all.1)
 -- ---- ids below that of the last row
 
 -- the rows before the last have lower ids
-below_last : (rows : List TrackerRow) (row : TrackerRow) → AreRising (rows ++ row ∷ []) →
+below_last : (rows : List TrackerRow) (row : TrackerRow) → IdsRise (rows ++ row ∷ []) →
     AllByRecursion (λ (r : TrackerRow). r.id < row.id) rows
 below_last [] row rising = tt
 below_last (other ∷ rows) row rising = (last_of (λ (r : TrackerRow). other.id < r.id) rows row rising.0, below_last rows row rising.1)
 
 -- and rise among themselves
-front_rises : (rows : List TrackerRow) (row : TrackerRow) → AreRising (rows ++ row ∷ []) → AreRising rows
+front_rises : (rows : List TrackerRow) (row : TrackerRow) → IdsRise (rows ++ row ∷ []) → IdsRise rows
 front_rises [] row rising = tt
 front_rises (other ∷ rows) row rising = (front_of (λ (r : TrackerRow). other.id < r.id) rows row rising.0, front_rises rows row rising.1)
 
 -- what waits of rows with low ids has a low id
-waits_low : (n id cell : ℕ) (stage : Stage) (has : Bool) (more : List Waiting) → id < n → AllByRecursion (λ (t : Waiting). t.id < n) more →
-    AllByRecursion (λ (t : Waiting). t.id < n) (cons_option (waiting_of_row (row_of id cell stage has)) more)
+waits_low : (n id cell : ℕ) (state : RowState) (has : Bool) (more : List Waiting) → id < n → AllByRecursion (λ (t : Waiting). t.id < n) more →
+    AllByRecursion (λ (t : Waiting). t.id < n) (cons_option (waiting_of_row (row_of id cell state has)) more)
 waits_low n id cell (Waits place c) has more low all = (low, all)
 waits_low n id cell (Over event) has more low all = all
 
@@ -52,30 +52,30 @@ waits_below : (n : ℕ) (rows : List TrackerRow) → AllByRecursion (λ (r : Tra
     AllByRecursion (λ (t : Waiting). t.id < n) (filter_map waiting_of_row rows)
 waits_below n [] all = tt
 waits_below n (row ∷ rows) all =
-    waits_low n row.id row.cell row.stage row.has_reader (filter_map waiting_of_row rows) all.0 (waits_below n rows all.1)
+    waits_low n row.id row.cell row.state row.has_reader (filter_map waiting_of_row rows) all.0 (waits_below n rows all.1)
 
 -- so has what is still to be taken
-untaken_low : (n id cell : ℕ) (stage : Stage) (has : Bool) (more : List ℕ) → id < n → AllByRecursion (λ (i : ℕ). i < n) more →
-    AllByRecursion (λ (i : ℕ). i < n) (cons_option (untaken_of_row (row_of id cell stage has)) more)
-untaken_low n id cell stage true more low all = (low, all)
-untaken_low n id cell stage false more low all = all
+untaken_low : (n id cell : ℕ) (state : RowState) (has : Bool) (more : List ℕ) → id < n → AllByRecursion (λ (i : ℕ). i < n) more →
+    AllByRecursion (λ (i : ℕ). i < n) (cons_option (untaken_of_row (row_of id cell state has)) more)
+untaken_low n id cell state true more low all = (low, all)
+untaken_low n id cell state false more low all = all
 
 untaken_below : (n : ℕ) (rows : List TrackerRow) → AllByRecursion (λ (r : TrackerRow). r.id < n) rows →
     AllByRecursion (λ (i : ℕ). i < n) (filter_map untaken_of_row rows)
 untaken_below n [] all = tt
 untaken_below n (row ∷ rows) all =
-    untaken_low n row.id row.cell row.stage row.has_reader (filter_map untaken_of_row rows) all.0 (untaken_below n rows all.1)
+    untaken_low n row.id row.cell row.state row.has_reader (filter_map untaken_of_row rows) all.0 (untaken_below n rows all.1)
 
 -- ---- the row that was attached last
 
-module _ (limit : ℕ) (rows : List TrackerRow) (row : TrackerRow) (fired : List Fired) (rising : AreRising (rows ++ row ∷ []))
-    (before : Table)
+module _ (limit : ℕ) (rows : List TrackerRow) (row : TrackerRow) (fired : List Fired) (rising : IdsRise (rows ++ row ∷ []))
+    (before : TrackerTable)
     (tracker : Waiting)
     (attaches : Attaches before (table_of limit (rows ++ row ∷ []) fired) tracker) where
   -- its cell is the last
   cells_same : (map cell_of_row rows ≡ before.cells) × (cell_of_row row ≡ record { id = tracker.id; name = attaches.name })
   cells_same = same_from_push (map cell_of_row rows) before.cells (cell_of_row row) (record { id = tracker.id; name = attaches.name })
-      (sym (map_push cell_of_row rows row) ∙ ap (λ (t : Table). t.cells) attaches.next)
+      (sym (map_push cell_of_row rows row) ∙ ap (λ (t : TrackerTable). t.cells) attaches.next)
 
   -- so it has the tracker's id
   same_id : row.id ≡ tracker.id
@@ -86,7 +86,7 @@ module _ (limit : ℕ) (rows : List TrackerRow) (row : TrackerRow) (fired : List
   waits_same = from (waiting_of_row row) refl
     where
       all : filter_map waiting_of_row rows ++ option_to_list (waiting_of_row row) ≡ before.unfired ++ tracker ∷ []
-      all = sym (filter_map_push waiting_of_row rows row) ∙ ap (λ (t : Table). t.unfired) attaches.next
+      all = sym (filter_map_push waiting_of_row rows row) ∙ ap (λ (t : TrackerTable). t.unfired) attaches.next
 
       from : (o : Option Waiting) → waiting_of_row row ≡ o → (filter_map waiting_of_row rows ≡ before.unfired) ×
           (waiting_of_row row ≡ Some tracker)
@@ -107,7 +107,7 @@ module _ (limit : ℕ) (rows : List TrackerRow) (row : TrackerRow) (fired : List
   untaken_same = from (untaken_of_row row) refl
     where
       all : filter_map untaken_of_row rows ++ option_to_list (untaken_of_row row) ≡ before.untaken ++ tracker.id ∷ []
-      all = sym (filter_map_push untaken_of_row rows row) ∙ ap (λ (t : Table). t.untaken) attaches.next
+      all = sym (filter_map_push untaken_of_row rows row) ∙ ap (λ (t : TrackerTable). t.untaken) attaches.next
 
       from : (o : Option ℕ) → untaken_of_row row ≡ o → filter_map untaken_of_row rows ≡ before.untaken
       from None e =
@@ -124,19 +124,19 @@ module _ (limit : ℕ) (rows : List TrackerRow) (row : TrackerRow) (fired : List
   -- without it the table shows what it showed
   pub table_popped : table_of limit rows fired ≡ before
   table_popped = λ i. record {
-    limit = ap (λ (t : Table). t.limit) attaches.next i;
+    limit = ap (λ (t : TrackerTable). t.limit) attaches.next i;
     cells = cells_same.0 i;
     unfired = waits_same.0 i;
     untaken = untaken_same i;
-    fired = ap (λ (t : Table). t.fired) attaches.next i;
+    fired = ap (λ (t : TrackerTable). t.fired) attaches.next i;
   }
 
 -- ---- the rows that are left
 
 -- nothing behind the rows is asked
-none_at_row : (collection m n id cell : ℕ) (stage : Stage) (has : Bool) (f : Wish → ℕ) (more : List Wish) → n < m →
+none_at_row : (collection m n id cell : ℕ) (state : RowState) (has : Bool) (f : Wish → ℕ) (more : List Wish) → n < m →
     weigh (weigh_at m f) more ≡ 0 →
-    weigh (weigh_at m f) (cons_option (awaited collection n (row_of id cell stage has)) more) ≡ 0
+    weigh (weigh_at m f) (cons_option (wish_of_row collection n (row_of id cell state has)) more) ≡ 0
 none_at_row collection m n id cell (Over event) has f more less rest = rest
 none_at_row collection m n id cell (Waits p c) has f more less rest =
     elim (collection == p) as (λ b. weigh (weigh_at m f) (cons_option (if b then Some (c, n) else None) more) ≡ 0) [
@@ -148,10 +148,10 @@ none_at_row collection m n id cell (Waits p c) has f more less rest =
     ]
 
 none_at : (collection m n : ℕ) (f : Wish → ℕ) (rows : List TrackerRow) → n + length rows ≤ m →
-    weigh (weigh_at m f) (awaited_from collection n rows) ≡ 0
+    weigh (weigh_at m f) (wishes_from collection n rows) ≡ 0
 none_at collection m n f [] within = refl
 none_at collection m n f (row ∷ rows) within =
-    none_at_row collection m n row.id row.cell row.stage row.has_reader f _ (omega (arith, within)) (none_at collection m (n + 1) f rows
+    none_at_row collection m n row.id row.cell row.state row.has_reader f _ (omega (arith, within)) (none_at collection m (n + 1) f rows
     (omega (arith, within)))
 
 -- and what is asked right there counts
@@ -164,17 +164,17 @@ none_last id [] row other none = (other, tt)
 none_last id (r ∷ rows) row other none = (none.0, none_last id rows row other none.1)
 
 -- a row that waits has no firing
-waits_untold : (id cell : ℕ) (stage : Stage) (has : Bool) (tracker : Waiting) → waiting_of_row (row_of id cell stage has) ≡ Some tracker →
-    (firing_of_row (row_of id cell stage has) ≡ None) × (is_waiting (row_of id cell stage has) ≡ true)
+waits_untold : (id cell : ℕ) (state : RowState) (has : Bool) (tracker : Waiting) → waiting_of_row (row_of id cell state has) ≡ Some tracker →
+    (firing_of_row (row_of id cell state has) ≡ None) × (is_waiting (row_of id cell state has) ≡ true)
 waits_untold id cell (Waits place c) has tracker e = (refl, refl)
 waits_untold id cell (Over event) has tracker e = cc
 
-module _ (limit capacity spare : ℕ) (rows : List TrackerRow) (row : TrackerRow) (fired : List Fired) (old new : Piles)
-    (sound : IsTableSound limit (rows ++ row ∷ []) fired capacity spare old) (tracker : Waiting)
+module _ (limit capacity spare : ℕ) (rows : List TrackerRow) (row : TrackerRow) (fired : List Fired) (old new : WaitIndex)
+    (sound : TableInvariant limit (rows ++ row ∷ []) fired capacity spare old) (tracker : Waiting)
     (waits : waiting_of_row row ≡ Some tracker) where
   -- the last row waits
   waits_on : (firing_of_row row ≡ None) × (is_waiting row ≡ true)
-  waits_on = waits_untold row.id row.cell row.stage row.has_reader tracker waits
+  waits_on = waits_untold row.id row.cell row.state row.has_reader tracker waits
 
   -- the firing of a row is found under its id
   abbrev Told : TrackerRow → Type 0
@@ -189,23 +189,23 @@ module _ (limit capacity spare : ℕ) (rows : List TrackerRow) (row : TrackerRow
       from false e = sound.held.own id (none_last id rows row (λ same. let no : false ≡ true = sym e ∙ eq-eqb row.id id same in cc) none)
 
   -- what it asks
-  asked_last : (c n : ℕ) → awaited c n row ≡ (if c == tracker.collection then Some (tracker.condition, n) else None)
+  asked_last : (c n : ℕ) → wish_of_row c n row ≡ (if c == tracker.collection then Some (tracker.condition, n) else None)
   asked_last c n = ap (λ o. option_map_or (λ (t : Waiting). if c == t.collection then Some (t.condition, n) else None) o None) waits
 
-  -- what was filed
-  was_filed : (c : ℕ) (g : Wish → ℕ) →
-      weigh g (entries_of old c) ≡ weigh g (awaited_from c 0 rows) + weigh g
+  -- what was indexed
+  was_indexed : (c : ℕ) (g : Wish → ℕ) →
+      weigh g (entries_of old c) ≡ weigh g (wishes_from c 0 rows) + weigh g
       (option_to_list (if c == tracker.collection then Some (tracker.condition, 0 + length rows) else None))
-  was_filed c g =
-      sound.filed.at c g
+  was_indexed c g =
+      sound.indexed.at c g
       ∙ (ap (weigh g) (asked_push c 0 rows row)
-      ∙ (weigh_append g (awaited_from c 0 rows) (option_to_list (awaited c (0 + length rows) row))
-      ∙ ap (λ o. weigh g (awaited_from c 0 rows) + weigh g (option_to_list o)) (asked_last c (0 + length rows))))
+      ∙ (weigh_append g (wishes_from c 0 rows) (option_to_list (wish_of_row c (0 + length rows) row))
+      ∙ ap (λ o. weigh g (wishes_from c 0 rows) + weigh g (option_to_list o)) (asked_last c (0 + length rows))))
 
   -- the table is right without it
   pub sound_popped : ((c : ℕ) (f : Wish → ℕ) →
       (if c == tracker.collection then weigh f (entries_of new c) + weigh (weigh_at (length rows) f) (entries_of old c) else weigh f
-      (entries_of new c)) ≡ weigh f (entries_of old c)) → IsTableSound limit rows fired capacity spare new
+      (entries_of new c)) ≡ weigh f (entries_of old c)) → TableInvariant limit rows fired capacity spare new
   sound_popped withdrawn = record {
     held = record {
       rising = front_rises rows row sound.held.rising;
@@ -215,7 +215,7 @@ module _ (limit capacity spare : ℕ) (rows : List TrackerRow) (row : TrackerRow
       told = front_of Told rows row sound.held.told;
       own = own_left;
     };
-    filed = record { at = at };
+    indexed = record { at = at };
     spare_room = omega (arith, sound.spare_room, counts);
   }
     where
@@ -225,29 +225,29 @@ module _ (limit capacity spare : ℕ) (rows : List TrackerRow) (row : TrackerRow
       counts : count_by is_waiting (rows ++ row ∷ []) ≡ count_by is_waiting rows + 1
       counts = sum_by-append (λ r. cond (is_waiting r) 1 0) rows (row ∷ []) ∙ ap (λ n. count_by is_waiting rows + n) one
 
-      at : (c : ℕ) (f : Wish → ℕ) → weigh f (entries_of new c) ≡ weigh f (awaited_from c 0 rows)
+      at : (c : ℕ) (f : Wish → ℕ) → weigh f (entries_of new c) ≡ weigh f (wishes_from c 0 rows)
       at c f =
-          let none_there : weigh (weigh_at (length rows) f) (awaited_from c 0 rows) ≡ 0 = none_at c (length rows) 0 f rows (omega arith) in
+          let none_there : weigh (weigh_at (length rows) f) (wishes_from c 0 rows) ≡ 0 = none_at c (length rows) 0 f rows (omega arith) in
           let there = all_at (length rows) tracker.condition f in
           (elim (c == tracker.collection) as (λ b.
-          weigh f (entries_of old c) ≡ weigh f (awaited_from c 0 rows) + weigh f
+          weigh f (entries_of old c) ≡ weigh f (wishes_from c 0 rows) + weigh f
           (option_to_list (if b then Some (tracker.condition, 0 + length rows) else None)) →
-          weigh (weigh_at (length rows) f) (entries_of old c) ≡ weigh (weigh_at (length rows) f) (awaited_from c 0 rows) + weigh
+          weigh (weigh_at (length rows) f) (entries_of old c) ≡ weigh (weigh_at (length rows) f) (wishes_from c 0 rows) + weigh
           (weigh_at (length rows) f) (option_to_list (if b then Some (tracker.condition, 0 + length rows) else None)) →
           (if b then weigh f (entries_of new c) + weigh (weigh_at (length rows) f) (entries_of old c) else weigh f
           (entries_of new c)) ≡ weigh f (entries_of old c) →
-          weigh f (entries_of new c) ≡ weigh f (awaited_from c 0 rows)) [
+          weigh f (entries_of new c) ≡ weigh f (wishes_from c 0 rows)) [
             | true ↦ λ all some gone. omega (arith, all, some, gone, none_there, there)
             | false ↦ λ all some gone. omega (arith, all, gone)
-          ]) (was_filed c f) (was_filed c (weigh_at (length rows) f)) (withdrawn c f)
+          ]) (was_indexed c f) (was_indexed c (weigh_at (length rows) f)) (withdrawn c f)
 
 -- ---- the last row, taken out
 
-module _ (limit capacity spare : ℕ) (rows left : List TrackerRow) (fired : List Fired) (old new : Piles)
-    (sound : IsTableSound limit rows fired
+module _ (limit capacity spare : ℕ) (rows left : List TrackerRow) (fired : List Fired) (old new : WaitIndex)
+    (sound : TableInvariant limit rows fired
     capacity spare old) where
   -- the row that was taken out
-  popped : (o : Option TrackerRow) → rows ≡ left ++ option_to_list o → (o ≡ None → rows ≡ []) → (before : Table) (tracker : Waiting) →
+  popped : (o : Option TrackerRow) → rows ≡ left ++ option_to_list o → (o ≡ None → rows ≡ []) → (before : TrackerTable) (tracker : Waiting) →
       Attaches before (table_of limit rows fired) tracker →
       (row : TrackerRow) × (rows ≡ left ++ row ∷ [])
   popped (Some row) is none before tracker attaches = (row, is)
@@ -255,7 +255,7 @@ module _ (limit capacity spare : ℕ) (rows left : List TrackerRow) (fired : Lis
       let empty : rows ≡ [] = none refl in
       let bad : Attaches before (table_of limit [] fired) tracker =
       subst (λ (rs : List TrackerRow). Attaches before (table_of limit rs fired) tracker) empty attaches in
-      absurd (some_cells (record { id = tracker.id; name = bad.name }) before.cells (ap (λ (t : Table). t.cells) bad.next))
+      absurd (some_cells (record { id = tracker.id; name = bad.name }) before.cells (ap (λ (t : TrackerTable). t.cells) bad.next))
     where
       some_cells : (c : Cell) (cs : List Cell) → ◌≡◌ {A = List Cell} [] (cs ++ c ∷ []) → ⊥
       some_cells c [] e = cc
@@ -263,24 +263,24 @@ module _ (limit capacity spare : ℕ) (rows left : List TrackerRow) (fired : Lis
 
   -- the table shows what it showed before
   pub shown_again : (o : Option TrackerRow) → rows ≡ left ++ option_to_list o → (o ≡ None → rows ≡ []) →
-      (before : Table) (tracker : Waiting) →
+      (before : TrackerTable) (tracker : Waiting) →
       Attaches before (table_of limit rows fired) tracker → table_of limit left fired ≡ before
   shown_again o is none before tracker attaches =
       let p = popped o is none before tracker attaches in
-      table_popped limit left p.0 fired (subst AreRising p.1 sound.held.rising) before tracker (subst (λ (rs : List TrackerRow).
+      table_popped limit left p.0 fired (subst IdsRise p.1 sound.held.rising) before tracker (subst (λ (rs : List TrackerRow).
       Attaches before (table_of limit rs fired) tracker) p.1 attaches)
 
   -- and is right
   pub sound_detached : (o : Option TrackerRow) → rows ≡ left ++ option_to_list o → (o ≡ None → rows ≡ []) →
-      (before : Table) (tracker : Waiting) →
+      (before : TrackerTable) (tracker : Waiting) →
       Attaches before (table_of limit rows fired) tracker →
       ((c : ℕ) (f : Wish → ℕ) → (if c == tracker.collection then weigh f (entries_of new c) + weigh (weigh_at (length left) f)
-      (entries_of old c) else weigh f (entries_of new c)) ≡ weigh f (entries_of old c)) → IsTableSound limit left fired capacity spare new
+      (entries_of old c) else weigh f (entries_of new c)) ≡ weigh f (entries_of old c)) → TableInvariant limit left fired capacity spare new
   sound_detached o is none before tracker attaches withdrawn =
       let p = popped o is none before tracker attaches in
       let so : Attaches before (table_of limit (left ++ p.0 ∷ []) fired) tracker =
       subst (λ (rs : List TrackerRow). Attaches before (table_of limit rs fired) tracker) p.1 attaches in
       sound_popped limit capacity spare left p.0 fired old new
-      (subst (λ (rs : List TrackerRow). IsTableSound limit rs fired capacity spare old) p.1
+      (subst (λ (rs : List TrackerRow). TableInvariant limit rs fired capacity spare old) p.1
       sound) tracker
-      (waits_same limit left p.0 fired (subst AreRising p.1 sound.held.rising) before tracker so).1 withdrawn
+      (waits_same limit left p.0 fired (subst IdsRise p.1 sound.held.rising) before tracker so).1 withdrawn

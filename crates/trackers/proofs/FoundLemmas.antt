@@ -6,10 +6,10 @@ use Rattle.std.proofs.lemmas.List.Sums.{sum_by-cons}
 use Rattle.std.proofs.lemmas.Bool.Decides.{nat_tests}
 use Rattle.sm_names.specs.declared.tracking.Fired.{Fired}
 use Rattle.trackers.specs.declared.waiting.Waiting.{Waiting}
-use Rattle.trackers.specs.Table.{Table, Reader, Cell, firing_of, cell_of, is_untaken, without, reader_of}
-use Rattle.trackers.specs.Filing.{Piles, weigh}
+use Rattle.trackers.specs.Table.{TrackerTable, Reader, Cell, firing_of, cell_of, is_untaken, without_id, reader_of}
+use Rattle.trackers.specs.WaitIndex.{WaitIndex, weigh}
 use Rattle.trackers.specs.Row.{TrackerRow, is_waiting, waiting_of_row, firing_of_row, reader_of_row}
-use Rattle.trackers.specs.Held.{cell_of_row, untaken_of_row, awaited, awaited_from, AreRising, AreHeld, IsTableSound, NoneHas, Found, here, later, table_of}
+use Rattle.trackers.specs.Held.{cell_of_row, untaken_of_row, wish_of_row, wishes_from, IdsRise, AreHeld, TableInvariant, NoneHas, Found, here, later, table_of}
 
 -- the test of an id against itself
 pub same_id : (i : ℕ) → (i == i) ≡ true
@@ -25,7 +25,7 @@ none_below id [] below = tt
 none_below id (row ∷ rows) below = ((λ same. omega (arith, below.0)), none_below id rows below.1)
 
 -- each row of rising ones is found at its place
-pub found_at : (rows : List TrackerRow) → AreRising rows → (at : ℕ) (d : TrackerRow) → at < length rows →
+pub found_at : (rows : List TrackerRow) → IdsRise rows → (at : ℕ) (d : TrackerRow) → at < length rows →
     Found (get_or rows at d).id rows at (get_or rows at d)
 found_at [] rising at d within = absurd (omega arith)
 found_at (row ∷ rows) rising zero d within = here refl (none_below row.id rows rising.0)
@@ -71,11 +71,11 @@ module _ (id : ℕ) where
       ]
 
   -- and no id is lost with it
-  pub none_without : (rows : List TrackerRow) → NoneHas id rows → without (filter_map untaken_of_row rows) id ≡
+  pub none_without : (rows : List TrackerRow) → NoneHas id rows → without_id (filter_map untaken_of_row rows) id ≡
       filter_map untaken_of_row rows
   none_without [] none = refl
   none_without (row ∷ rows) none =
-      elim row.has_reader as (λ b. without (cons_option (if b then Some row.id else None) (filter_map untaken_of_row rows)) id ≡ cons_option
+      elim row.has_reader as (λ b. without_id (cons_option (if b then Some row.id else None) (filter_map untaken_of_row rows)) id ≡ cons_option
       (if b then Some row.id else None) (filter_map untaken_of_row rows)) [
         | true ↦ rw (other_id row.id id none.0) (ap (λ l. row.id ∷ l) (none_without rows none.1))
         | false ↦ none_without rows none.1
@@ -97,7 +97,7 @@ module _ (id : ℕ) where
       ]
 
 -- a table of these parts
-abbrev pub table_with : ℕ → List Cell → List Waiting → List ℕ → List Fired → Table
+abbrev pub table_with : ℕ → List Cell → List Waiting → List ℕ → List Fired → TrackerTable
 table_with limit cells unfired untaken fired = record { limit = limit; cells = cells; unfired = unfired; untaken = untaken; fired = fired }
 
 -- a row whose reader was taken
@@ -117,25 +117,25 @@ module _ (id : ℕ) where
   taken_unfired (here same rest) = refl
   taken_unfired (later {other = other} differ found) = ap (cons_option (waiting_of_row other)) (taken_unfired found)
 
-  -- it is filed as before
+  -- it is indexed as before
   pub taken_asked : (collection : ℕ) {rows : List TrackerRow} {at : ℕ} {row : TrackerRow} → Found id rows at row → (n : ℕ) →
-      awaited_from collection n (set rows at (taken row)) ≡ awaited_from collection n rows
+      wishes_from collection n (set rows at (taken row)) ≡ wishes_from collection n rows
   taken_asked collection (here same rest) n = refl
   taken_asked collection (later {other = other} differ found) n =
-      ap (cons_option (awaited collection n other)) (taken_asked collection found (n + 1))
+      ap (cons_option (wish_of_row collection n other)) (taken_asked collection found (n + 1))
 
   -- its id is no longer untaken
   pub taken_untaken : {rows : List TrackerRow} {at : ℕ} {row : TrackerRow} → Found id rows at row →
-      filter_map untaken_of_row (set rows at (taken row)) ≡ without (filter_map untaken_of_row rows) id
+      filter_map untaken_of_row (set rows at (taken row)) ≡ without_id (filter_map untaken_of_row rows) id
   taken_untaken (here {row = row} {rows = rows} same rest) =
-      elim row.has_reader as (λ b. filter_map untaken_of_row rows ≡ without (cons_option (if b then Some row.id else None)
+      elim row.has_reader as (λ b. filter_map untaken_of_row rows ≡ without_id (cons_option (if b then Some row.id else None)
       (filter_map untaken_of_row rows)) id) [
         | true ↦ rw same (rw (same_id id) (sym (none_without id rows rest)))
         | false ↦ sym (none_without id rows rest)
       ]
   taken_untaken (later {row = row} {other = other} {rows = rows} {at = at} differ found) =
       elim other.has_reader as (λ b. cons_option (if b then Some other.id else None)
-      (filter_map untaken_of_row (set rows at (taken row))) ≡ without (cons_option (if b then Some other.id else None)
+      (filter_map untaken_of_row (set rows at (taken row))) ≡ without_id (cons_option (if b then Some other.id else None)
       (filter_map untaken_of_row rows)) id) [
         | true ↦ rw (other_id other.id id differ) (ap (λ l. other.id ∷ l) (taken_untaken found))
         | false ↦ taken_untaken found
@@ -165,8 +165,8 @@ module _ (id : ℕ) where
   taken_below n (later differ found) below = (below.0, taken_below n found below.1)
 
   -- the ids rise on
-  taken_rising : {rows : List TrackerRow} {at : ℕ} {row : TrackerRow} → Found id rows at row → AreRising rows →
-      AreRising (set rows at (taken row))
+  taken_rising : {rows : List TrackerRow} {at : ℕ} {row : TrackerRow} → Found id rows at row → IdsRise rows →
+      IdsRise (set rows at (taken row))
   taken_rising (here same rest) rising = rising
   taken_rising (later {other = other} differ found) rising = (taken_below other.id found rising.0, taken_rising found rising.1)
 
@@ -198,20 +198,20 @@ module _ (id : ℕ) where
   }
 
   -- and so does the table
-  pub sound_taken : (limit : ℕ) (fired : List Fired) (capacity spare : ℕ) (piles : Piles)
+  pub sound_taken : (limit : ℕ) (fired : List Fired) (capacity spare : ℕ) (index : WaitIndex)
       {rows : List TrackerRow} {at : ℕ} {row : TrackerRow} →
-      Found id rows at row → IsTableSound limit rows fired capacity spare piles →
-      IsTableSound limit (set rows at (taken row)) fired capacity spare piles
-  sound_taken limit fired capacity spare piles found sound = record {
+      Found id rows at row → TableInvariant limit rows fired capacity spare index →
+      TableInvariant limit (set rows at (taken row)) fired capacity spare index
+  sound_taken limit fired capacity spare index found sound = record {
     held = held_taken limit fired capacity found sound.held;
-    filed = record { at = λ collection f. sound.filed.at collection f ∙ ap (weigh f) (sym (taken_asked collection found 0)) };
+    indexed = record { at = λ collection f. sound.indexed.at collection f ∙ ap (weigh f) (sym (taken_asked collection found 0)) };
     spare_room = rw (taken_count found) sound.spare_room;
   }
 
   -- of what the table shows only those still to be taken change
   pub table_taken : (limit : ℕ) (fired : List Fired) {rows : List TrackerRow} {at : ℕ} {row : TrackerRow} → Found id rows at row →
       table_of limit (set rows at (taken row)) fired ≡ record (table_of limit rows
-      fired) { untaken = without (filter_map untaken_of_row rows) id }
+      fired) { untaken = without_id (filter_map untaken_of_row rows) id }
   table_taken limit fired {rows} {at} {row} found =
       ap (λ l. table_with limit l (filter_map waiting_of_row (set rows at (taken row)))
       (filter_map untaken_of_row (set rows at (taken row))) fired) (taken_cells found)

@@ -8,8 +8,8 @@ use Rattle.sm_names.specs.declared.tracking.Fired.{Fired}
 use Rattle.sm_names.specs.Trackers.{World, holds}
 use Rattle.trackers.specs.declared.waiting.Waiting.{Waiting}
 use Rattle.trackers.specs.Table.{is_due, firing, firings, still_waiting, firing_of}
-use Rattle.trackers.specs.Row.{TrackerRow, Stage, Waits, Over, is_waiting, waiting_of_row, firing_of_row}
-use Rattle.trackers.specs.Held.{cell_of_row, untaken_of_row, is_met, after, fires, AreRising, AreHeld, NoneHas, Found, here, later}
+use Rattle.trackers.specs.Row.{TrackerRow, RowState, Waits, Over, is_waiting, waiting_of_row, firing_of_row}
+use Rattle.trackers.specs.Held.{cell_of_row, untaken_of_row, is_met, row_after, fires, IdsRise, AreHeld, NoneHas, Found, here, later}
 use Rattle.trackers.proofs.FoundLemmas.{found_at, same_id, other_id}
 use Rattle.trackers.proofs.Walks.{balance, row_of}
 
@@ -20,9 +20,9 @@ length_cons_option (Some x) xs = omega arith
 
 module _ (w : World) (e : ℕ) where
   -- of the rows after an event those wait that were not met
-  unfired_at : (id cell : ℕ) (stage : Stage) (has : Bool) (rest more : List Waiting) → rest ≡ still_waiting w more →
-      cons_option (waiting_of_row (after w e (row_of id cell stage has))) rest ≡ still_waiting w
-      (cons_option (waiting_of_row (row_of id cell stage has)) more)
+  unfired_at : (id cell : ℕ) (state : RowState) (has : Bool) (rest more : List Waiting) → rest ≡ still_waiting w more →
+      cons_option (waiting_of_row (row_after w e (row_of id cell state has))) rest ≡ still_waiting w
+      (cons_option (waiting_of_row (row_of id cell state has)) more)
   unfired_at id cell (Over event) has rest more same = same
   unfired_at id cell (Waits place c) has rest more same =
       elim (holds w c) as (λ b. cons_option (waiting_of_row (if b then row_of id cell (Over e) has else row_of id cell (Waits place c) has))
@@ -34,13 +34,13 @@ module _ (w : World) (e : ℕ) where
 
   -- the same for all rows
   pub unfired_after : (rows : List TrackerRow) →
-      filter_map waiting_of_row (map (after w e) rows) ≡ still_waiting w (filter_map waiting_of_row rows)
+      filter_map waiting_of_row (map (row_after w e) rows) ≡ still_waiting w (filter_map waiting_of_row rows)
   unfired_after [] = refl
-  unfired_after (row ∷ rows) = unfired_at row.id row.cell row.stage row.has_reader _ _ (unfired_after rows)
+  unfired_after (row ∷ rows) = unfired_at row.id row.cell row.state row.has_reader _ _ (unfired_after rows)
 
   -- the firings of the rows are those of the trackers that wait
-  firings_at : (id cell : ℕ) (stage : Stage) (has : Bool) (rest : List Fired) (more : List Waiting) → rest ≡ firings w e more →
-      cons_option (fires w e (row_of id cell stage has)) rest ≡ firings w e (cons_option (waiting_of_row (row_of id cell stage has)) more)
+  firings_at : (id cell : ℕ) (state : RowState) (has : Bool) (rest : List Fired) (more : List Waiting) → rest ≡ firings w e more →
+      cons_option (fires w e (row_of id cell state has)) rest ≡ firings w e (cons_option (waiting_of_row (row_of id cell state has)) more)
   firings_at id cell (Over event) has rest more same = same
   firings_at id cell (Waits place c) has rest more same =
       let t : Waiting = record { id = id; collection = place; condition = c } in
@@ -55,32 +55,32 @@ module _ (w : World) (e : ℕ) where
   -- the same for all rows
   pub firings_after : (rows : List TrackerRow) → filter_map (fires w e) rows ≡ firings w e (filter_map waiting_of_row rows)
   firings_after [] = refl
-  firings_after (row ∷ rows) = firings_at row.id row.cell row.stage row.has_reader _ _ (firings_after rows)
+  firings_after (row ∷ rows) = firings_at row.id row.cell row.state row.has_reader _ _ (firings_after rows)
 
   -- the id, the cell and the reader of a row stay
-  id_after : (row : TrackerRow) → (after w e row).id ≡ row.id
-  id_after row = elim (is_met w row) as (λ b. (if b then record row { stage = Over e } else row).id ≡ row.id) [ true ↦ refl | false ↦ refl ]
+  id_after : (row : TrackerRow) → (row_after w e row).id ≡ row.id
+  id_after row = elim (is_met w row) as (λ b. (if b then record row { state = Over e } else row).id ≡ row.id) [ true ↦ refl | false ↦ refl ]
 
   -- its cell stays
-  cell_after : (row : TrackerRow) → cell_of_row (after w e row) ≡ cell_of_row row
-  cell_after row = elim (is_met w row) as (λ b. cell_of_row (if b then record row { stage = Over e } else row) ≡ cell_of_row row)
+  cell_after : (row : TrackerRow) → cell_of_row (row_after w e row) ≡ cell_of_row row
+  cell_after row = elim (is_met w row) as (λ b. cell_of_row (if b then record row { state = Over e } else row) ≡ cell_of_row row)
       [ true ↦ refl | false ↦ refl ]
 
   -- its reader stays
-  untaken_after_row : (row : TrackerRow) → untaken_of_row (after w e row) ≡ untaken_of_row row
-  untaken_after_row row = elim (is_met w row) as (λ b. untaken_of_row (if b then record row { stage = Over e } else row) ≡ untaken_of_row
+  untaken_after_row : (row : TrackerRow) → untaken_of_row (row_after w e row) ≡ untaken_of_row row
+  untaken_after_row row = elim (is_met w row) as (λ b. untaken_of_row (if b then record row { state = Over e } else row) ≡ untaken_of_row
       row) [ true ↦ refl | false ↦ refl ]
 
   -- so do all cells
-  pub cells_after : (rows : List TrackerRow) → map cell_of_row (map (after w e) rows) ≡ map cell_of_row rows
+  pub cells_after : (rows : List TrackerRow) → map cell_of_row (map (row_after w e) rows) ≡ map cell_of_row rows
   cells_after [] = refl
   cells_after (row ∷ rows) =
-      ap (λ c. c ∷ map cell_of_row (map (after w e) rows)) (cell_after row) ∙ ap (λ l. cell_of_row row ∷ l) (cells_after rows)
+      ap (λ c. c ∷ map cell_of_row (map (row_after w e) rows)) (cell_after row) ∙ ap (λ l. cell_of_row row ∷ l) (cells_after rows)
 
   -- and all readers
-  pub untaken_after : (rows : List TrackerRow) → filter_map untaken_of_row (map (after w e) rows) ≡ filter_map untaken_of_row rows
+  pub untaken_after : (rows : List TrackerRow) → filter_map untaken_of_row (map (row_after w e) rows) ≡ filter_map untaken_of_row rows
   untaken_after [] = refl
-  untaken_after (row ∷ rows) = ap (λ o. cons_option o (filter_map untaken_of_row (map (after w e) rows))) (untaken_after_row row)
+  untaken_after (row ∷ rows) = ap (λ o. cons_option o (filter_map untaken_of_row (map (row_after w e) rows))) (untaken_after_row row)
       ∙ ap (cons_option (untaken_of_row row)) (untaken_after rows)
 
 -- the firings of two lists in a row
@@ -130,9 +130,9 @@ module _ (w : World) (e : ℕ) where
       skip_firing id other (filter_map (fires w e) rows) differ ∙ found_fires id found
 
   -- of one row: what is found before and what fires now make what is found after
-  told_row : (fired new : List Fired) (id cell : ℕ) (stage : Stage) (has : Bool) →
-      firing_of fired id ≡ firing_of_row (row_of id cell stage has) → firing_of new id ≡ fires w e (row_of id cell stage has) →
-      firing_of (fired ++ new) id ≡ firing_of_row (after w e (row_of id cell stage has))
+  told_row : (fired new : List Fired) (id cell : ℕ) (state : RowState) (has : Bool) →
+      firing_of fired id ≡ firing_of_row (row_of id cell state has) → firing_of new id ≡ fires w e (row_of id cell state has) →
+      firing_of (fired ++ new) id ≡ firing_of_row (row_after w e (row_of id cell state has))
   told_row fired new id cell (Over event) has told fires_now = firing_before fired new id _ told
   told_row fired new id cell (Waits place c) has told fires_now = firing_behind fired new id told ∙ fires_now
       ∙ elim (holds w c) as (λ b. (if b then Some (record { tracker = id; event = e }) else None) ≡ firing_of_row
@@ -140,22 +140,22 @@ module _ (w : World) (e : ℕ) where
 
   -- the facts of the rows after an event
   below_after : (n : ℕ) (rows : List TrackerRow) → AllByRecursion (λ (r : TrackerRow). n < r.id) rows →
-      AllByRecursion (λ (r : TrackerRow). n < r.id) (map (after w e) rows)
+      AllByRecursion (λ (r : TrackerRow). n < r.id) (map (row_after w e) rows)
   below_after n [] below = tt
   below_after n (row ∷ rows) below = (rw (id_after w e row) below.0, below_after n rows below.1)
 
   -- the ids rise on
-  rising_after : (rows : List TrackerRow) → AreRising rows → AreRising (map (after w e) rows)
+  rising_after : (rows : List TrackerRow) → IdsRise rows → IdsRise (map (row_after w e) rows)
   rising_after [] rising = tt
   rising_after (row ∷ rows) rising = (rw (id_after w e row) (below_after row.id rows rising.0), rising_after rows rising.1)
 
   -- no id is lost
-  none_after : (id : ℕ) (rows : List TrackerRow) → NoneHas id (map (after w e) rows) → NoneHas id rows
+  none_after : (id : ℕ) (rows : List TrackerRow) → NoneHas id (map (row_after w e) rows) → NoneHas id rows
   none_after id [] none = tt
   none_after id (row ∷ rows) none = (rw (id_after w e row) at none.0, none_after id rows none.1)
 
   -- each firing is of a row that waited
-  pub count_after : (rows : List TrackerRow) → length (filter_map (fires w e) rows) + count_by is_waiting (map (after w e) rows) ≡ count_by
+  pub count_after : (rows : List TrackerRow) → length (filter_map (fires w e) rows) + count_by is_waiting (map (row_after w e) rows) ≡ count_by
       is_waiting rows
   count_after [] = refl
   count_after (row ∷ rows) =
@@ -167,31 +167,31 @@ module _ (w : World) (e : ℕ) where
         balance w e row,
         count_after rows,
         sum_by-cons (λ r. cond (is_waiting r) 1 0) row rows,
-        sum_by-cons (λ r. cond (is_waiting r) 1 0) (after w e row) (map (after w e) rows),
+        sum_by-cons (λ r. cond (is_waiting r) 1 0) (row_after w e row) (map (row_after w e) rows),
       )
 
   -- each firing is found under its id
-  told_after : (fired : List Fired) (rows : List TrackerRow) → AreRising rows →
+  told_after : (fired : List Fired) (rows : List TrackerRow) → IdsRise rows →
       AllByRecursion (λ (r : TrackerRow). firing_of fired r.id ≡ firing_of_row r) rows →
-      AllByRecursion (λ (r : TrackerRow). firing_of (fired ++ filter_map (fires w e) rows) r.id ≡ firing_of_row r) (map (after w e) rows)
-  told_after fired rows rising told = recursion_from_All _ (map (after w e) rows) (λ k d within.
-      let below : k < length rows = omega (arith, length-map rows (after w e)) in
+      AllByRecursion (λ (r : TrackerRow). firing_of (fired ++ filter_map (fires w e) rows) r.id ≡ firing_of_row r) (map (row_after w e) rows)
+  told_after fired rows rising told = recursion_from_All _ (map (row_after w e) rows) (λ k d within.
+      let below : k < length rows = omega (arith, length-map rows (row_after w e)) in
       let row : TrackerRow = get_or rows k d in
       let found : Found row.id rows k row = found_at rows rising k d below in
-      let now : firing_of (fired ++ filter_map (fires w e) rows) row.id ≡ firing_of_row (after w e row) =
-      told_row fired (filter_map (fires w e) rows) row.id row.cell row.stage row.has_reader (All-from_recursion (λ (r : TrackerRow).
+      let now : firing_of (fired ++ filter_map (fires w e) rows) row.id ≡ firing_of_row (row_after w e row) =
+      told_row fired (filter_map (fires w e) rows) row.id row.cell row.state row.has_reader (All-from_recursion (λ (r : TrackerRow).
       firing_of fired r.id ≡ firing_of_row r) rows told k d below) (found_fires row.id found) in
       let IsTold : TrackerRow → Type 0 = λ r. firing_of (fired ++ filter_map (fires w e) rows) r.id ≡ firing_of_row r in
-      subst IsTold (sym (get_or-map (after w e) rows k d d below)) (ap (firing_of (fired ++ filter_map (fires w e) rows)) (id_after w e row)
+      subst IsTold (sym (get_or-map (row_after w e) rows k d d below)) (ap (firing_of (fired ++ filter_map (fires w e) rows)) (id_after w e row)
       ∙ now))
 
   -- the rows stay sound over an event
   pub held_after : (limit : ℕ) (fired : List Fired) (capacity : ℕ) (rows : List TrackerRow) → AreHeld limit rows fired capacity →
-      AreHeld limit (map (after w e) rows) (fired ++ filter_map (fires w e) rows) capacity
+      AreHeld limit (map (row_after w e) rows) (fired ++ filter_map (fires w e) rows) capacity
   held_after limit fired capacity rows held = record {
     rising = rising_after rows held.rising;
-    counted = omega (arith, held.counted, count_after rows, length-append fired (filter_map (fires w e) rows), length-map rows (after w e));
-    room = omega (arith, held.room, length-map rows (after w e));
+    counted = omega (arith, held.counted, count_after rows, length-append fired (filter_map (fires w e) rows), length-map rows (row_after w e));
+    room = omega (arith, held.room, length-map rows (row_after w e));
     within = omega (arith, held.within, count_after rows);
     told = told_after fired rows held.rising held.told;
     own = λ id none.

@@ -1,10 +1,10 @@
 pub mod AttachLemmas
 pub mod DetachLemmas
-pub mod FilingLemmas
+pub mod IndexLemmas
 pub mod FoundLemmas
 pub mod HeldLemmas
 pub mod PlaceLemmas
 pub mod SweepLemmas
 pub mod Walks
-pub mod GroupLemmas
+pub mod WaitListLemmas
 pub mod Weights

@@ -5,13 +5,13 @@ use Rattle.sm_names.specs.declared.tracking.Fired.{Fired}
 use Rattle.sm_names.specs.Trackers.{World}
 use Rattle.trackers.specs.Table.{still_waiting}
 use Rattle.trackers.specs.Row.{TrackerRow, waiting_of_row}
-use Rattle.trackers.specs.Filing.{Piles, Wish, entries_of, undue_in, weigh}
-use Rattle.trackers.specs.Held.{cell_of_row, untaken_of_row, after, fires, IsTableSound, table_of}
-use Rattle.trackers.proofs.FilingLemmas.{Elsewhere, filed_dropped}
+use Rattle.trackers.specs.WaitIndex.{WaitIndex, Wish, entries_of, unmet_in, weigh}
+use Rattle.trackers.specs.Held.{cell_of_row, untaken_of_row, row_after, fires, TableInvariant, table_of}
+use Rattle.trackers.proofs.IndexLemmas.{Elsewhere, indexed_dropped}
 use Rattle.trackers.proofs.FoundLemmas.{table_with}
 use Rattle.trackers.proofs.HeldLemmas.{count_after, held_after, cells_after, untaken_after, unfired_after}
 
-module _ (w : World) (e : ℕ) (rows rows' : List TrackerRow) (over : rows' ≡ map (after w e) rows) where
+module _ (w : World) (e : ℕ) (rows rows' : List TrackerRow) (over : rows' ≡ map (row_after w e) rows) where
   -- of what the table shows those that wait and the firings change
   pub swept_rest : (limit : ℕ) (fired fired' : List Fired) →
       table_of limit rows' fired' ≡ record (table_of limit rows fired) { unfired = filter_map waiting_of_row rows'; fired = fired' }
@@ -25,16 +25,16 @@ module _ (w : World) (e : ℕ) (rows rows' : List TrackerRow) (over : rows' ≡ 
   pub swept_unfired : filter_map waiting_of_row rows' ≡ still_waiting w (filter_map waiting_of_row rows)
   swept_unfired = ap (filter_map waiting_of_row) over ∙ unfired_after w e rows
 
-  module _ (limit capacity capacity' spare spare' : ℕ) (fired fired' : List Fired) (old : Piles)
-      (sound : IsTableSound limit rows fired capacity
+  module _ (limit capacity capacity' spare spare' : ℕ) (fired fired' : List Fired) (old : WaitIndex)
+      (sound : TableInvariant limit rows fired capacity
       spare old) (grown : fired' ≡ fired ++ filter_map (fires w e) rows) (same : capacity' ≡ capacity) (more : spare ≤ spare') where
     -- the table is right once what holds was taken out under the place
-    pub swept_dropped : (new : Piles) (place : ℕ) → AllByRecursion (Elsewhere w place) (filter_map waiting_of_row rows) →
-        ((c : ℕ) (f : Wish → ℕ) → weigh f (entries_of new c) ≡ (if c == place then weigh f (undue_in w (entries_of old c)) else weigh f
+    pub swept_dropped : (new : WaitIndex) (place : ℕ) → AllByRecursion (Elsewhere w place) (filter_map waiting_of_row rows) →
+        ((c : ℕ) (f : Wish → ℕ) → weigh f (entries_of new c) ≡ (if c == place then weigh f (unmet_in w (entries_of old c)) else weigh f
         (entries_of old c))) →
-        IsTableSound limit rows' fired' capacity' spare' new
+        TableInvariant limit rows' fired' capacity' spare' new
     swept_dropped new place all dropped = rw (over, grown, same) record {
       held = held_after w e limit fired capacity rows sound.held;
-      filed = filed_dropped w e place rows old new all sound.filed dropped;
+      indexed = indexed_dropped w e place rows old new all sound.indexed dropped;
       spare_room = omega (arith, sound.spare_room, more, count_after w e rows);
     }

@@ -6,7 +6,7 @@ use Rattle.std.specs.List.Sorted.{IsPermutation, IsNonDecreasing}
 use Rattle.std.proofs.lemmas.Bool.Decides.{nat_tests}
 use Rattle.std.proofs.lemmas.List.Sums.{sum_by-cons}
 use Rattle.std.proofs.lemmas.List.Sorted.{sum_by-IsPermutation}
-use Rattle.trackers.specs.Filing.{AreAlike, weigh}
+use Rattle.trackers.specs.WaitIndex.{SameElements, weigh}
 
 module _ {X : Type 0} (f : X → ℕ) where
   -- two lists in a row
@@ -46,15 +46,15 @@ weigh_length (x ∷ xs) = omega (arith, weigh_length xs)
 
 module _ {X : Type 0} (xs ys : List X) where
   -- another order
-  pub alike_moved : IsPermutation xs ys → AreAlike xs ys
+  pub alike_moved : IsPermutation xs ys → SameElements xs ys
   alike_moved moved = λ f. sym (weigh_sum f xs) ∙ (sym (sum_by-IsPermutation f xs ys moved) ∙ weigh_sum f ys)
 
   -- those that pass a test
-  pub alike_filter : (test : X → Bool) → AreAlike xs ys → AreAlike (filter test xs) (filter test ys)
+  pub alike_filter : (test : X → Bool) → SameElements xs ys → SameElements (filter test xs) (filter test ys)
   alike_filter test alike = λ f. weigh_filter f test xs ∙ (alike (λ x. if test x then f x else 0) ∙ sym (weigh_filter f test ys))
 
   -- what a function makes of each
-  pub alike_map : {Y : Type 0} (g : X → Y) → AreAlike xs ys → AreAlike (map g xs) (map g ys)
+  pub alike_map : {Y : Type 0} (g : X → Y) → SameElements xs ys → SameElements (map g xs) (map g ys)
   alike_map g alike = λ f. weigh_map f g xs ∙ (alike (λ x. f (g x)) ∙ sym (weigh_map f g ys))
 
 -- ---- rising numbers
@@ -88,27 +88,27 @@ one_here x xs =
     omega (arith, one)
 
 -- rising lists with the same numbers have the same first
-not_less : (x y : ℕ) (xs ys : List ℕ) → AllByRecursion (λ (z : ℕ). y ≤ z) ys → AreAlike (x ∷ xs) (y ∷ ys) → x < y → ⊥
+not_less : (x y : ℕ) (xs ys : List ℕ) → AllByRecursion (λ (z : ℕ). y ≤ z) ys → SameElements (x ∷ xs) (y ∷ ys) → x < y → ⊥
 not_less x y xs ys rise alike less =
     let none : weigh (one_at x) (y ∷ ys) ≡ 0 = none_below x (y ∷ ys) (less, all_above x y ys less rise) in
     let one = one_here x xs in
     absurd (omega (arith, none, one, alike (one_at x)))
 
 same_first : (x y : ℕ) (xs ys : List ℕ) → AllByRecursion (λ (z : ℕ). x ≤ z) xs → AllByRecursion (λ (z : ℕ). y ≤ z) ys →
-    AreAlike (x ∷ xs) (y ∷ ys) → x ≡ y
+    SameElements (x ∷ xs) (y ∷ ys) → x ≡ y
 same_first x y xs ys left right alike =
     let no : x < y → ⊥ = not_less x y xs ys right alike in
     let back : y < x → ⊥ = not_less y x ys xs left (λ f. sym (alike f)) in
     grind (arith, no, back)
 
 -- so they are the same
-pub rising_same : (xs ys : List ℕ) → DoRise xs → DoRise ys → AreAlike xs ys → xs ≡ ys
+pub rising_same : (xs ys : List ℕ) → DoRise xs → DoRise ys → SameElements xs ys → xs ≡ ys
 rising_same [] [] left right alike = refl
 rising_same [] (y ∷ ys) left right alike = absurd (omega (arith, alike (λ z. 1)))
 rising_same (x ∷ xs) [] left right alike = absurd (omega (arith, alike (λ z. 1)))
 rising_same (x ∷ xs) (y ∷ ys) left right alike =
     let first : x ≡ y = same_first x y xs ys left.0 right.0 alike in
-    let rest : AreAlike xs ys = λ f. omega (arith, alike f, ap f first) in
+    let rest : SameElements xs ys = λ f. omega (arith, alike f, ap f first) in
     λ i. first i ∷ rising_same xs ys left.1 right.1 rest i
 
 -- a sorted list rises

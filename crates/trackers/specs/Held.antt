@@ -5,8 +5,8 @@ use Rattle.std.specs.Option.{option_map_or}
 use Rattle.sm_names.specs.declared.tracking.Fired.{Fired}
 use Rattle.sm_names.specs.Trackers.{World}
 use Rattle.trackers.specs.declared.waiting.Waiting.{Waiting}
-use Rattle.trackers.specs.Table.{Table, Cell, is_due, firing_of}
-use Rattle.trackers.specs.Filing.{Piles, Wish, AreAlike, entries_of}
+use Rattle.trackers.specs.Table.{TrackerTable, Cell, is_due, firing_of}
+use Rattle.trackers.specs.WaitIndex.{WaitIndex, Wish, SameElements, entries_of}
 use Rattle.trackers.specs.Row.{TrackerRow, Waits, Over, is_waiting, waiting_of_row, firing_of_row}
 
 -- the cell of a row
@@ -18,7 +18,7 @@ abbrev pub untaken_of_row : TrackerRow → Option ℕ
 untaken_of_row row = if row.has_reader then Some row.id else None
 
 -- what these rows and firings show
-abbrev pub table_of : ℕ → List TrackerRow → List Fired → Table
+abbrev pub table_of : ℕ → List TrackerRow → List Fired → TrackerTable
 table_of limit rows fired = record {
   limit = limit;
   cells = map cell_of_row rows;
@@ -32,27 +32,27 @@ abbrev pub is_met : World → TrackerRow → Bool
 is_met world row = option_map_or (is_due world) (waiting_of_row row) false
 
 -- the row after this event
-abbrev pub after : World → ℕ → TrackerRow → TrackerRow
-after world event row = if is_met world row then record row { stage = Over event } else row
+abbrev pub row_after : World → ℕ → TrackerRow → TrackerRow
+row_after world event row = if is_met world row then record row { state = Over event } else row
 
 -- the firing of the row at this event, if it fires
 abbrev pub fires : World → ℕ → TrackerRow → Option Fired
 fires world event row = if is_met world row then Some (record { tracker = row.id; event = event }) else None
 
 -- what the row at this place waits for, if it does under the collection
-abbrev pub awaited : ℕ → ℕ → TrackerRow → Option Wish
-awaited collection n row =
+abbrev pub wish_of_row : ℕ → ℕ → TrackerRow → Option Wish
+wish_of_row collection n row =
     option_map_or (λ (t : Waiting). if collection == t.collection then Some (t.condition, n) else None) (waiting_of_row row) None
 
 -- what the rows wait for under the collection, where the list begins at this place
-abbrev pub awaited_from : ℕ → ℕ → List TrackerRow → List Wish
-awaited_from collection n [] = []
-awaited_from collection n (row ∷ rows) = cons_option (awaited collection n row) (awaited_from collection (n + 1) rows)
+abbrev pub wishes_from : ℕ → ℕ → List TrackerRow → List Wish
+wishes_from collection n [] = []
+wishes_from collection n (row ∷ rows) = cons_option (wish_of_row collection n row) (wishes_from collection (n + 1) rows)
 
 -- the ids rise
-abbrev pub AreRising : List TrackerRow → Type 0
-AreRising [] = ⊤
-AreRising (row ∷ rows) = AllByRecursion (λ (later : TrackerRow). row.id < later.id) rows × AreRising rows
+abbrev pub IdsRise : List TrackerRow → Type 0
+IdsRise [] = ⊤
+IdsRise (row ∷ rows) = AllByRecursion (λ (later : TrackerRow). row.id < later.id) rows × IdsRise rows
 
 -- no row has this id
 abbrev pub NoneHas : ℕ → List TrackerRow → Type 0
@@ -61,7 +61,7 @@ NoneHas id rows = AllByRecursion (λ (row : TrackerRow). row.id ≢ id) rows
 -- what holds of the rows and the firings: each row fired or waits, there is room for the firings of all, no more
 -- wait than may, the firing of each row is found under its id, and no other id has one
 pub record AreHeld (limit : ℕ) (rows : List TrackerRow) (fired : List Fired) (capacity : ℕ) : Type 0 where
-  pub rising : AreRising rows
+  pub rising : IdsRise rows
   pub counted : length fired + count_by is_waiting rows ≡ length rows
   pub room : length rows ≤ capacity
   pub within : count_by is_waiting rows ≤ limit
@@ -69,25 +69,25 @@ pub record AreHeld (limit : ℕ) (rows : List TrackerRow) (fired : List Fired) (
   pub own : (id : ℕ) → NoneHas id rows → firing_of fired id ≡ None
 
 -- these are places of rows, rising, and no row elsewhere is met
-pub data Reach (world : World) : ℕ → List TrackerRow → List ℕ → Type 0 where
-  none : {n : ℕ} → Reach world n [] []
+pub data MetPlaces (world : World) : ℕ → List TrackerRow → List ℕ → Type 0 where
+  none : {n : ℕ} → MetPlaces world n [] []
   pass : {n : ℕ} {row : TrackerRow} {rows : List TrackerRow} {due : List ℕ} → is_met world row ≡ false
-      → Reach world (n + 1) rows due → Reach world n (row ∷ rows) due
+      → MetPlaces world (n + 1) rows due → MetPlaces world n (row ∷ rows) due
   pick : {n : ℕ} {row : TrackerRow} {rows : List TrackerRow} {due : List ℕ}
-      → Reach world (n + 1) rows due → Reach world n (row ∷ rows) (n ∷ due)
+      → MetPlaces world (n + 1) rows due → MetPlaces world n (row ∷ rows) (n ∷ due)
 
--- under each collection is filed what its rows wait for
-pub record AreFiled (rows : List TrackerRow) (piles : Piles) : Type 0 where
-  pub at : (collection : ℕ) → AreAlike (entries_of piles collection) (awaited_from collection 0 rows)
+-- the index has under each collection what its rows wait for
+pub record IsIndexed (rows : List TrackerRow) (index : WaitIndex) : Type 0 where
+  pub at : (collection : ℕ) → SameElements (entries_of index collection) (wishes_from collection 0 rows)
 
 -- the row of a tracker that was attached just now
 abbrev pub attached : ℕ → Waiting → TrackerRow
-attached cell t = record { id = t.id; cell = cell; stage = Waits t.collection t.condition; has_reader = true }
+attached cell t = record { id = t.id; cell = cell; state = Waits t.collection t.condition; has_reader = true }
 
--- what holds of the table: its rows and firings are sound, those that wait are filed, and there is room for their places
-pub record IsTableSound (limit : ℕ) (rows : List TrackerRow) (fired : List Fired) (capacity : ℕ) (spare : ℕ) (piles : Piles) : Type 0 where
+-- what holds of the table: its rows and firings are sound, those that wait are in the index, and there is room for their places
+pub record TableInvariant (limit : ℕ) (rows : List TrackerRow) (fired : List Fired) (capacity : ℕ) (spare : ℕ) (index : WaitIndex) : Type 0 where
   pub held : AreHeld limit rows fired capacity
-  pub filed : AreFiled rows piles
+  pub indexed : IsIndexed rows index
   pub spare_room : count_by is_waiting rows ≤ spare
 
 -- at this place the only row with this id stands
@@ -97,5 +97,5 @@ pub data Found (id : ℕ) : List TrackerRow → ℕ → TrackerRow → Type 0 wh
       Found id (other ∷ rows) (suc at) row
 
 -- what a search for this id answers
-abbrev pub IsPlace : ℕ → List TrackerRow → Option ℕ → Type 0
-IsPlace id rows answer = MatchOption answer (NoneHas id rows) (λ at. (row : TrackerRow) × Found id rows at row)
+abbrev pub IsSearchAnswer : ℕ → List TrackerRow → Option ℕ → Type 0
+IsSearchAnswer id rows answer = MatchOption answer (NoneHas id rows) (λ at. (row : TrackerRow) × Found id rows at row)

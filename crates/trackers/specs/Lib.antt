@@ -1,5 +1,5 @@
-pub mod Filing
+pub mod WaitIndex
 pub mod Held
 pub mod Row
-pub mod Stage
+pub mod RowStates
 pub mod Table

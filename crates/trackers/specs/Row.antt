@@ -10,44 +10,44 @@ abbrev pub first_known : Option Fired → Option Fired → Option Fired
 first_known None other = other
 first_known (Some fired) other = Some fired
 
--- how far a tracker is: it waits, filed under a collection, or it fired at an event
-pub data Stage : Type 0 where
-  Waits : ℕ → Condition → Stage
-  Over : ℕ → Stage
+-- how far a tracker is: it waits, under a collection, or it fired at an event
+pub data RowState : Type 0 where
+  Waits : ℕ → Condition → RowState
+  Over : ℕ → RowState
 
 -- a tracker: its id, the name of its cell, how far it is, and whether its reader is still here
 pub record TrackerRow : Type 0 where
   pub id : ℕ
   pub cell : ℕ
-  pub stage : Stage
+  pub state : RowState
   pub has_reader : Bool
 
--- the tracker with this id waits at this stage
-abbrev pub waiting_at : ℕ → Stage → Option Waiting
+-- the tracker with this id waits at this state
+abbrev pub waiting_at : ℕ → RowState → Option Waiting
 waiting_at id (Waits place condition) = Some (record { id = id; collection = place; condition = condition })
 waiting_at id (Over event) = None
 
--- the tracker with this id fired at this stage
-abbrev pub firing_at : ℕ → Stage → Option Fired
+-- the tracker with this id fired at this state
+abbrev pub firing_at : ℕ → RowState → Option Fired
 firing_at id (Waits place condition) = None
 firing_at id (Over event) = Some (record { tracker = id; event = event })
 
--- at this stage a tracker has not fired
-abbrev pub waits : Stage → Bool
+-- at this state a tracker has not fired
+abbrev pub waits : RowState → Bool
 waits (Waits place condition) = true
 waits (Over event) = false
 
 -- the tracker has not fired
 abbrev pub is_waiting : TrackerRow → Bool
-is_waiting row = waits row.stage
+is_waiting row = waits row.state
 
 -- what the tracker waits for, if it has not fired
 abbrev pub waiting_of_row : TrackerRow → Option Waiting
-waiting_of_row row = waiting_at row.id row.stage
+waiting_of_row row = waiting_at row.id row.state
 
 -- the firing of the tracker, if it fired
 abbrev pub firing_of_row : TrackerRow → Option Fired
-firing_of_row row = firing_at row.id row.stage
+firing_of_row row = firing_at row.id row.state
 
 -- the reader of the tracker, if it is still here
 abbrev pub reader_of_row : TrackerRow → Option Reader

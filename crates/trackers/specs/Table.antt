@@ -19,7 +19,7 @@ pub record Cell : Type 0 where
 
 -- all trackers: how many may wait; the cells of all, those that wait and those still to be taken, each by rising
 -- id; and the firings in their order
-pub record Table : Type 0 where
+pub record TrackerTable : Type 0 where
   pub limit : ℕ
   pub cells : List Cell
   pub unfired : List Waiting
@@ -27,7 +27,7 @@ pub record Table : Type 0 where
   pub fired : List Fired
 
 -- no trackers
-abbrev pub empty : ℕ → Table
+abbrev pub empty : ℕ → TrackerTable
 empty limit = record { limit = limit; cells = []; unfired = []; untaken = []; fired = [] }
 
 -- what the tracker waits for holds in this world
@@ -59,15 +59,15 @@ abbrev pub is_untaken : List ℕ → ℕ → Bool
 is_untaken untaken id = list_any (λ i. i == id) untaken
 
 -- the ids but this one
-abbrev pub without : List ℕ → ℕ → List ℕ
-without untaken id = filter (λ i. not (i == id)) untaken
+abbrev pub without_id : List ℕ → ℕ → List ℕ
+without_id untaken id = filter (λ i. not (i == id)) untaken
 
 -- a reader of the tracker with this id, which knows the firing if there was one
-abbrev pub reader_of : Table → ℕ → Reader
+abbrev pub reader_of : TrackerTable → ℕ → Reader
 reader_of table id = record { tracker = id; cell = unwrap_or (cell_of table.cells id) 0; known = firing_of table.fired id }
 
 -- the table gained a tracker that waits, with a cell of its own, and that is to be taken
-pub record Attaches (old new : Table) (tracker : Waiting) : Type 0 where
+pub record Attaches (old new : TrackerTable) (tracker : Waiting) : Type 0 where
   pub name : ℕ
   pub next : new ≡ record old {
     cells = old.cells ++ record { id = tracker.id; name = name } ∷ [];

@@ -2,11 +2,11 @@
 //! and is read without a lock.
 #![tactic(auto)]
 
-mod filing;
-mod group;
+mod index;
 mod row;
 mod table;
 mod tracker;
+mod wait_list;
 mod waiting;
 mod walk;
 mod world;

@@ -24,7 +24,7 @@ struct Spare {
 
 /// How far a tracker is.
 #[derive(Drop)]
-enum Stage {
+enum RowState {
     Waiting(Spare),
     Over { event: u64, was_set: bool },
 }
@@ -33,7 +33,7 @@ enum Stage {
 #[derive(Drop)]
 pub(crate) struct Row {
     id: TrackerId,
-    stage: Stage,
+    state: RowState,
     note: Note<Fired>,
     reader: Option<Tracker>,
 }
@@ -43,18 +43,18 @@ impl Model for Row {
 
     ghost Value = { TrackerRow };
 
-    ghost use Rattle.trackers.specs.Stage.{view_of, IsSound};
+    ghost use Rattle.trackers.specs.RowStates.{row_view, RowInvariant};
 
-    ghost view = { view_of };
+    ghost view = { row_view };
 
-    ghost invariant = { IsSound };
+    ghost invariant = { RowInvariant };
 }
 
 impl Row {
     /// The tracker as a row, and its reader.
     pub(crate) fn new(alloc: Global, tracker: Waiting) -> Result<Row, AllocError>
         ensures { IfOk result (λ r. (r.id ≡ tracker.id)
-            × (r.stage ≡ Waits tracker.collection tracker.condition) × (r.has_reader ≡ true)) }
+            × (r.state ≡ Waits tracker.collection tracker.condition) × (r.has_reader ≡ true)) }
     {
         let Waiting {
             id,
@@ -73,7 +73,7 @@ impl Row {
         let reader = Tracker::new(id, Arc::try_clone(&cell)?, note.again());
         Ok(Row {
             id,
-            stage: Stage::Waiting(Spare {
+            state: RowState::Waiting(Spare {
                 place,
                 condition,
                 cell,
@@ -94,9 +94,9 @@ impl Row {
     pub(crate) fn is_waiting(&self) -> bool
         ensures { result ≡ is_waiting self.now }
     {
-        match &self.stage {
-            Stage::Waiting(_) => true,
-            Stage::Over { .. } => false,
+        match &self.state {
+            RowState::Waiting(_) => true,
+            RowState::Over { .. } => false,
         }
     }
 
@@ -104,33 +104,33 @@ impl Row {
     pub(crate) fn is_due<W: World>(&self, world: &W) -> bool
         ensures { result ≡ is_met (W.seen world.now) self.now }
     {
-        match &self.stage {
-            Stage::Waiting(spare) => holds_in(spare.condition, world),
-            Stage::Over { .. } => false,
+        match &self.state {
+            RowState::Waiting(spare) => holds_in(spare.condition, world),
+            RowState::Over { .. } => false,
         }
     }
 
     /// Fires the tracker: sets its cell, and tells the reader that is still here.
     pub(crate) fn fire(&mut self, event: u64) -> Fired
         requires { IsTrue (is_waiting self.old) }
-        ensures over { self.new ≡ record self.old { stage = Over event } }
+        ensures over { self.new ≡ record self.old { state = Over event } }
         ensures firing { result ≡ record { tracker = self.old.id; event = event } }
     {
         let fired = Fired {
             tracker: self.id,
             event,
         };
-        let over = Stage::Over {
+        let over = RowState::Over {
             event,
             was_set: false,
         };
-        match mem::replace(&mut self.stage, over) {
-            Stage::Over { .. } => unreachable!(),
-            Stage::Waiting(spare) => {
+        match mem::replace(&mut self.state, over) {
+            RowState::Over { .. } => unreachable!(),
+            RowState::Waiting(spare) => {
                 let Spare { cell, mut room, .. } = spare;
                 *room = fired;
                 let was_set = cell.set_as(room, &mut self.note).is_ok();
-                self.stage = Stage::Over { event, was_set };
+                self.state = RowState::Over { event, was_set };
                 if let Some(reader) = &mut self.reader {
                     if was_set {
                         reader.learn(self.note.again());
@@ -160,7 +160,7 @@ impl Row {
         ensures same { IfSome reader.old.known
             (λ f. (result ≡ true) ↔ (firing_of_row self.old ≡ Some f)) }
     {
-        let Stage::Over { event, was_set } = self.stage else {
+        let RowState::Over { event, was_set } = self.state else {
             return false;
         };
         let fired = Fired {

@@ -1,11 +1,11 @@
 //! All trackers of a service.
 ghost use Rattle.std.specs.Prelude.{◌≡◌, ◌≢◌, ℕ, ◌+◌, ◌^◌, ◌<◌, ◌≤◌, ◌==◌, ◌↔◌, [], ◌∷◌, ◌++◌, length, vec_len, vec_capacity, true, false, if◌then◌else◌, Some, None, All, OnOk, OnErr, IfSome, Err};
 ghost use Rattle.trackers.specs.declared.waiting.Waiting.{Waiting};
-ghost use Rattle.trackers.specs.Table.{Table, Cell, empty, is_due, firings, still_waiting, firing_of, cell_of, is_untaken, without, reader_of, Attaches};
-ghost use Rattle.trackers.specs.Filing.{Wish, entries_of, weigh};
-ghost use Rattle.trackers.specs.Held.{AreRising, IsPlace, attached};
+ghost use Rattle.trackers.specs.Table.{TrackerTable, Cell, empty, is_due, firings, still_waiting, firing_of, cell_of, is_untaken, without_id, reader_of, Attaches};
+ghost use Rattle.trackers.specs.WaitIndex.{Wish, entries_of, weigh};
+ghost use Rattle.trackers.specs.Held.{IdsRise, IsSearchAnswer, attached};
 
-use crate::filing::{Piles, file, gather, withdraw};
+use crate::index::{WaitIndex, insert_row, remove_row, take_due_rows};
 use crate::row::Row;
 use crate::tracker::Tracker;
 use crate::waiting::Waiting;
@@ -32,24 +32,24 @@ pub struct Trackers {
     // All that were attached, by rising id.
     rows: Vec<Row>,
     fired: Vec<Fired>,
-    piles: Piles,
+    index: WaitIndex,
     // Room for the places of all that wait: a sweep sorts there those that are due.
     due: Vec<usize>,
 }
 
 impl Model for Trackers {
-    ghost use Rattle.trackers.specs.Table.{Table};
+    ghost use Rattle.trackers.specs.Table.{TrackerTable};
 
-    ghost Value = { Table };
+    ghost Value = { TrackerTable };
 
     ghost use Rattle.std.specs.Prelude.{vec_capacity};
-    ghost use Rattle.trackers.specs.Held.{table_of, IsTableSound};
+    ghost use Rattle.trackers.specs.Held.{table_of, TableInvariant};
 
     ghost view = { λ t. table_of t.limit t.rows.items t.fired.items };
 
     ghost invariant = { λ t.
-        IsTableSound t.limit t.rows.items t.fired.items (vec_capacity t.fired) (vec_capacity t.due)
-        t.piles };
+        TableInvariant t.limit t.rows.items t.fired.items (vec_capacity t.fired)
+        (vec_capacity t.due) t.index };
 }
 
 impl Trackers {
@@ -61,7 +61,7 @@ impl Trackers {
             limit,
             rows: Vec::new(alloc),
             fired: Vec::new(alloc),
-            piles: HashMap::new(alloc),
+            index: HashMap::new(alloc),
             due: Vec::new(alloc),
         }
     }
@@ -86,7 +86,7 @@ impl Trackers {
         match add(
             &mut self.rows,
             &mut self.fired,
-            &mut self.piles,
+            &mut self.index,
             &mut self.due,
             waiting,
             tracker,
@@ -108,13 +108,13 @@ impl Trackers {
     /// all is as it was before that. It takes no memory, and a pass over the trackers that wait
     /// under the collection.
     pub fn detach(&mut self, collection: CollectionId)
-        requires last { (before : Table) × (tracker : Waiting) × Attaches before self.old tracker
-            × (tracker.collection ≡ collection) }
-        ensures { (before : Table) (tracker : Waiting) →
+        requires last { (before : TrackerTable) × (tracker : Waiting)
+            × Attaches before self.old tracker × (tracker.collection ≡ collection) }
+        ensures { (before : TrackerTable) (tracker : Waiting) →
             Attaches before self.old tracker → self.new ≡ before }
     {
         self.rows.pop();
-        withdraw(&mut self.piles, collection, self.rows.len());
+        remove_row(&mut self.index, collection, self.rows.len());
     }
 
     /// Fires the trackers that wait and whose condition holds, by rising id, at this event, which
@@ -135,7 +135,7 @@ impl Trackers {
             ≡ record self.old { unfired = self.new.unfired; fired = self.new.fired } }
     {
         self.due.clear();
-        gather(&mut self.piles, collection, &mut self.due, world);
+        take_due_rows(&mut self.index, collection, &mut self.due, world);
         self.due.sort_unstable();
         fire_due(&mut self.rows, &mut self.fired, &self.due, event, world);
     }
@@ -156,9 +156,9 @@ impl Trackers {
             then Some (reader_of self.old id) else None) }
         ensures cell { IfSome result (λ t. cell_of self.old.cells id ≡ Some t.cell) }
         ensures taken { self.new
-            ≡ record self.old { untaken = without self.old.untaken id } }
+            ≡ record self.old { untaken = without_id self.old.untaken id } }
     {
-        match place_of(&self.rows, id) {
+        match find_row(&self.rows, id) {
             Some(at) => self.rows[at].take(),
             None => None,
         }
@@ -178,7 +178,7 @@ impl Trackers {
         ensures kept { self.new ≡ self.old }
         ensures tracker_kept { tracker.new ≡ tracker.old }
     {
-        match place_of(&self.rows, tracker.id()) {
+        match find_row(&self.rows, tracker.id()) {
             Some(at) => self.rows[at].agree(tracker),
             None => false,
         }
@@ -189,7 +189,7 @@ impl Trackers {
 fn add(
     rows: &mut Vec<Row>,
     fired: &mut Vec<Fired>,
-    piles: &mut Piles,
+    index: &mut WaitIndex,
     due: &mut Vec<usize>,
     waiting: usize,
     tracker: Waiting,
@@ -199,23 +199,23 @@ fn add(
         ≡ rows.old.items ++ attached cell tracker ∷ [])) }
     ensures room { OnOk result (vec_len fired.old + (waiting + 1) ≤ vec_capacity fired.new) }
     ensures spare { OnOk result (waiting + 1 ≤ vec_capacity due.new) }
-    ensures filed { OnOk result ((c : ℕ) (f : Wish → ℕ) → weigh f (entries_of piles.new c)
-        ≡ (if c == tracker.collection then f (tracker.condition, vec_len rows.old) + weigh f (entries_of piles.old c)
-        else weigh f (entries_of piles.old c))) }
+    ensures indexed { OnOk result ((c : ℕ) (f : Wish → ℕ) → weigh f (entries_of index.new c)
+        ≡ (if c == tracker.collection then f (tracker.condition, vec_len rows.old) + weigh f (entries_of index.old c)
+        else weigh f (entries_of index.old c))) }
     ensures fired { fired.new.items ≡ fired.old.items }
     ensures capacity { vec_capacity fired.old ≤ vec_capacity fired.new }
     ensures more_spare { vec_capacity due.old ≤ vec_capacity due.new }
     ensures rows_kept { OnErr result (rows.new.items ≡ rows.old.items) }
-    ensures piles_kept { OnErr result ((c : ℕ) (f : Wish → ℕ) →
-        weigh f (entries_of piles.new c) ≡ weigh f (entries_of piles.old c)) }
+    ensures index_kept { OnErr result ((c : ℕ) (f : Wish → ℕ) →
+        weigh f (entries_of index.new c) ≡ weigh f (entries_of index.old c)) }
 {
     let alloc = *rows.allocator();
     let row = Row::new(alloc, tracker)?;
     rows.reserve(1)?;
     fired.reserve(waiting + 1)?;
     due.reserve(waiting + 1)?;
-    file(
-        piles,
+    insert_row(
+        index,
         alloc,
         tracker.collection,
         tracker.condition,
@@ -226,9 +226,9 @@ fn add(
 }
 
 /// Where the row with this id stands.
-fn place_of(rows: &[Row], id: TrackerId) -> Option<usize>
-    requires { AreRising rows.now }
-    ensures { IsPlace id rows.now result }
+fn find_row(rows: &[Row], id: TrackerId) -> Option<usize>
+    requires { IdsRise rows.now }
+    ensures { IsSearchAnswer id rows.now result }
 {
     rows.binary_search_by_key(&id, |row| row.id()).ok()
 }

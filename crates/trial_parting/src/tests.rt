@@ -27,7 +27,7 @@ fn a_handle_in_a_parcel_is_open_until_its_receiver_vanishes(rt: HostRuntime) {
 }
 
 #[test]
-fn who_was_refused_memory_goes_and_gathers_again(rt: HostRuntime) {
+fn vanish_and_gather_succeed_after_out_of_memory(rt: HostRuntime) {
     stage(&rt, rt.alloc(), Scene::Memory)
 }
 

@@ -1,10 +1,10 @@
 //! Readers and writers for trials: they take a few bytes at a time, and fail where they are told to.
 #![tactic(auto)]
 
-mod drip;
-mod sink;
-mod slate;
+mod failing_writer;
+mod fixed_writer;
+mod short_reader;
 
-pub use drip::Drip;
-pub use sink::Sink;
-pub use slate::Slate;
+pub use failing_writer::FailingWriter;
+pub use fixed_writer::FixedWriter;
+pub use short_reader::ShortReader;

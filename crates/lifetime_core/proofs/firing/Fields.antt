@@ -26,7 +26,7 @@ use Rattle.event_laws.proofs.NumberLaws.{all-In, In-all}
 use Rattle.event_laws.proofs.FreeEndLaws.{passed}
 use Rattle.buffer_holds.specs.Counts.{Counts, total}
 use Rattle.trackers.specs.declared.waiting.Waiting.{Waiting}
-use Rattle.trackers.specs.Table.{Cell, Table, is_due}
+use Rattle.trackers.specs.Table.{Cell, TrackerTable, is_due}
 use Rattle.forest_store.specs.declared.change.Change.{Change}
 use Rattle.forest_store.specs.declared.change.Effect.{Effect}
 use Rattle.forest_store.specs.declared.node.Node.{Node}
@@ -128,7 +128,7 @@ module _ (s : State) (call : Call) (asked : Reply) (limits : Bound) (client : �
       by (Some t) is = rw limit (tracked told tracks t is).room
 
   -- the ids are still those of events
-  pub still_numbered : (attached : Table) → IsTold → Tracks → GainsTracker s.trackers tracking attached →
+  pub still_numbered : (attached : TrackerTable) → IsTold → Tracks → GainsTracker s.trackers tracking attached →
       All (λ (c : Cell). c.id ≤ s.events) s.trackers.cells →
       All (λ (c : Cell). c.id ≤ s.events + 1) attached.cells
   still_numbered attached told tracks gains numbered = by tracking refl gains
@@ -140,9 +140,9 @@ module _ (s : State) (call : Call) (asked : Reply) (limits : Bound) (client : �
       by : (o : Option Waiting) → tracking ≡ o → GainsTracker s.trackers o attached →
           All (λ (c : Cell). c.id ≤ s.events + 1) attached.cells
       by None is gains = all-In (λ (c : Cell). c.id ≤ s.events + 1) attached.cells (λ c on.
-          before c (subst (λ (t : Table). In c t.cells) gains on))
+          before c (subst (λ (t : TrackerTable). In c t.cells) gains on))
       by (Some t) is gains = all-In (λ (c : Cell). c.id ≤ s.events + 1) attached.cells (λ c on.
-          elim (In-append s.trackers.cells (record { id = t.id; name = gains.name } ∷ []) c (subst (λ (x : Table).
+          elim (In-append s.trackers.cells (record { id = t.id; name = gains.name } ∷ []) c (subst (λ (x : TrackerTable).
           In c x.cells) gains.next on)) [
             | inl old ↦ before c old
             | inr (inl new) ↦
@@ -178,10 +178,10 @@ made_filed f sound (Call.TrackWeak buffer) (Reply.Tracker id) t is =
 made_filed f sound _ _ t is = cc
 
 -- the trackers that wait are those that waited, and the one that is attached
-attached_from : (old new : Table) (o : Option Waiting) → GainsTracker old o new → (t : Waiting) → In t new.unfired →
+attached_from : (old new : TrackerTable) (o : Option Waiting) → GainsTracker old o new → (t : Waiting) → In t new.unfired →
     In t old.unfired ⊎ (o ≡ Some t)
-attached_from old new None gains t on = inl (subst (λ (x : Table). In t x.unfired) gains on)
-attached_from old new (Some w) gains t on = elim (In-append old.unfired (w ∷ []) t (subst (λ (x : Table). In t x.unfired) gains.next on)) [
+attached_from old new None gains t on = inl (subst (λ (x : TrackerTable). In t x.unfired) gains on)
+attached_from old new (Some w) gains t on = elim (In-append old.unfired (w ∷ []) t (subst (λ (x : TrackerTable). In t x.unfired) gains.next on)) [
   | inl before ↦ inl before
   | inr (inl is) ↦ inr (ap Some (sym is))
   | inr (inr none) ↦ absurd none
@@ -293,7 +293,7 @@ module _ (s : State) (client : ℕ) (call : Call) (asked : Reply) (task : Option
     (starts : Starts s client call asked task tracking)
     (holds : Counts) (moves : MovesHandles s.holds holds (Called client asked call)) (worked : Forest) (key : Option NodeKey)
     (work : Reworked s.pool (total holds) s.forest (work_in task) key worked)
-    (amid : CanFinish worked task) (attached : Table) (gains : GainsTracker s.trackers tracking attached) where
+    (amid : CanFinish worked task) (attached : TrackerTable) (gains : GainsTracker s.trackers tracking attached) where
   -- the other collections are as they were
   rest : LeavesRest s.forest worked (changed_by task)
   rest = leaves_rest s.pool (total holds) s.forest worked task key starts.sound starts.may work

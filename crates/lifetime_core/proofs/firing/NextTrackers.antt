@@ -21,13 +21,13 @@ use Rattle.sm_names.proofs.GrowthLaws.{Grows, Stays, grows_after}
 use Rattle.sm_names.proofs.ListLaws.{In, filter-In, map-map}
 use Rattle.sm_names.proofs.SamenessLaws.{or_cases, or_first, or_left, or_right}
 use Rattle.sm_names.proofs.TakeLaws.{none_key}
-use Rattle.event_laws.specs.Waiting.{IsRecalled, asked, firing, is_due, waiting}
+use Rattle.event_laws.specs.Waiting.{IsRecalled, trackers_to_test, tracked_firing, is_tracked_met, unfired_trackers}
 use Rattle.event_laws.proofs.MomentLaws.{events_after, tracked_after}
 use Rattle.event_laws.proofs.RecallLaws.{recalled_due}
 use Rattle.event_laws.proofs.WaitingLaws.{fired_next, waiting_next}
 use Rattle.buffer_holds.specs.Counts.{total}
 use Rattle.trackers.specs.declared.waiting.Waiting.{Waiting}
-use Rattle.trackers.specs.Table.{Table, firing as firing_in, is_due as is_due_in, is_untaken}
+use Rattle.trackers.specs.Table.{TrackerTable, firing as firing_in, is_due as is_due_in, is_untaken}
 use Rattle.forest_store.specs.Forest.{node_at}
 use Rattle.lifetime_core.specs.Reads.{world_in}
 use Rattle.lifetime_core.specs.Shown.{AreTrackers, IsAfter, node_after, tracked_as}
@@ -79,9 +79,9 @@ module _ (s : State) (marks : Timeline) (shown : IsAfter s marks) (limits : Boun
   later = after s.pool marks (client, call, reply)
 
   -- the trackers that are asked are those that waited, and the one that is new; each that is still to be taken was attached
-  pub record AreAsked (t : Table) : Type 0 where
+  pub record AreAsked (t : TrackerTable) : Type 0 where
     pub fired : t.fired ≡ fired marks
-    pub waiting : map tracked_as t.unfired ≡ asked marks (client, call, reply)
+    pub waiting : map tracked_as t.unfired ≡ trackers_to_test marks (client, call, reply)
     pub untaken : (id : ℕ) → is_untaken t.untaken id ≡ true →
         list_any (λ (u : Tracked). u.id == id) (tracked (after s.pool marks (client, call, reply))) ≡ true
 
@@ -91,26 +91,26 @@ module _ (s : State) (marks : Timeline) (shown : IsAfter s marks) (limits : Boun
   tracked_later o is = tracked_after s.pool marks entry ∙ ap (λ (x : Option Tracked). cons_option x (tracked marks)) (sym is)
 
   -- so it is once the new tracker is attached
-  are_asked : (t : Table) (o : Option Waiting) → GainsTracker s.trackers o t →
+  are_asked : (t : TrackerTable) (o : Option Waiting) → GainsTracker s.trackers o t →
       option_map tracked_as o ≡ tracked_at marks (Called client reply call) → AreAsked t
   are_asked t None same is = record {
-    fired = ap (λ (x : Table). x.fired) same ∙ shown.trackers.fired;
-    waiting = ap (λ (x : Table). map tracked_as x.unfired) same
+    fired = ap (λ (x : TrackerTable). x.fired) same ∙ shown.trackers.fired;
+    waiting = ap (λ (x : TrackerTable). map tracked_as x.unfired) same
         ∙ (shown.trackers.waiting
-        ∙ (sym (append-nil (waiting marks)) ∙ ap (λ (x : Option Tracked). waiting marks ++ cons_option x []) is));
+        ∙ (sym (append-nil (unfired_trackers marks)) ∙ ap (λ (x : Option Tracked). unfired_trackers marks ++ cons_option x []) is));
     untaken = λ id on.
         ap (list_any (λ (u : Tracked). u.id == id)) (tracked_later None is)
-        ∙ shown.trackers.untaken id (ap (λ (x : Table). is_untaken x.untaken id) (sym same) ∙ on);
+        ∙ shown.trackers.untaken id (ap (λ (x : TrackerTable). is_untaken x.untaken id) (sym same) ∙ on);
   }
   are_asked t (Some new) gains is = record {
-    fired = ap (λ (x : Table). x.fired) gains.next ∙ shown.trackers.fired;
-    waiting = ap (λ (x : Table). map tracked_as x.unfired) gains.next
+    fired = ap (λ (x : TrackerTable). x.fired) gains.next ∙ shown.trackers.fired;
+    waiting = ap (λ (x : TrackerTable). map tracked_as x.unfired) gains.next
         ∙ (map-append tracked_as s.trackers.unfired (new ∷ [])
         ∙ λ i. shown.trackers.waiting i ++ cons_option (is i) []);
     untaken = λ id on.
         ap (list_any (λ (u : Tracked). u.id == id)) (tracked_later (Some (tracked_as new)) is)
         ∙ taken id (sym (list_any-append (λ i. i == id) s.trackers.untaken (new.id ∷ []))
-        ∙ (ap (λ (x : Table). is_untaken x.untaken id) (sym gains.next) ∙ on));
+        ∙ (ap (λ (x : TrackerTable). is_untaken x.untaken id) (sym gains.next) ∙ on));
   }
     where
       taken : (id : ℕ) → (is_untaken s.trackers.untaken id || (new.id == id || false)) ≡ true →
@@ -121,35 +121,35 @@ module _ (s : State) (marks : Timeline) (shown : IsAfter s marks) (limits : Boun
       ]
 
   -- the trackers are those of the marks once those that are due fired
-  are_swept : (t : Table) → AreAsked t → (w : World) → IsRecalled marks (after s.pool marks (client, call, reply)) w → (event : ℕ) →
+  are_swept : (t : TrackerTable) → AreAsked t → (w : World) → IsRecalled marks (after s.pool marks (client, call, reply)) w → (event : ℕ) →
       event ≡ events (after s.pool marks (client, call, reply)) →
       AreTrackers (swept w event t) (after s.pool marks (client, call, reply))
   are_swept t asks w seen event now = record {
     fired =
         (λ i. asks.fired i ++ map (firing_in (now i)) (filter (is_due_in w) t.unfired))
-        ∙ (ap (λ (l : List Fired). fired marks ++ l) (named_fired ∙ ap (map (firing (events later))) due_fire)
+        ∙ (ap (λ (l : List Fired). fired marks ++ l) (named_fired ∙ ap (map (tracked_firing (events later))) due_fire)
         ∙ sym (fired_next s.pool limits marks entry grown answer));
     waiting =
-        sym (filter-map (λ u. not (is_due w u)) tracked_as t.unfired)
-        ∙ (ap (filter (λ u. not (is_due w u))) asks.waiting
-        ∙ (filter-In (λ u. not (is_due w u)) (λ u. not (is_due (world later) u)) (asked marks entry) (λ u on. ap not (due u on))
+        sym (filter-map (λ u. not (is_tracked_met w u)) tracked_as t.unfired)
+        ∙ (ap (filter (λ u. not (is_tracked_met w u))) asks.waiting
+        ∙ (filter-In (λ u. not (is_tracked_met w u)) (λ u. not (is_tracked_met (world later) u)) (trackers_to_test marks entry) (λ u on. ap not (due u on))
         ∙ sym (waiting_next s.pool limits marks entry grown answer)));
     untaken = asks.untaken;
   }
     where
-      due : (u : Tracked) → In u (asked marks (client, call, reply)) →
-          is_due w u ≡ is_due (world (after s.pool marks (client, call, reply))) u
+      due : (u : Tracked) → In u (trackers_to_test marks (client, call, reply)) →
+          is_tracked_met w u ≡ is_tracked_met (world (after s.pool marks (client, call, reply))) u
       due = recalled_due s.pool limits marks later entry w grown (grows_after s.pool limits marks marks entry Stays answer) answer seen
 
       named_fired : map (firing_in (events (after s.pool marks (client, call, reply)))) (filter (is_due_in w) t.unfired) ≡ map
-          (firing (events (after s.pool marks (client, call, reply)))) (filter (is_due w) (asked marks (client, call, reply)))
+          (tracked_firing (events (after s.pool marks (client, call, reply)))) (filter (is_tracked_met w) (trackers_to_test marks (client, call, reply)))
       named_fired =
-          sym (map-map (firing (events later)) tracked_as (filter (is_due_in w) t.unfired))
-          ∙ ap (map (firing (events later))) (sym (filter-map (is_due w) tracked_as t.unfired) ∙ ap (filter (is_due w)) asks.waiting)
+          sym (map-map (tracked_firing (events later)) tracked_as (filter (is_due_in w) t.unfired))
+          ∙ ap (map (tracked_firing (events later))) (sym (filter-map (is_tracked_met w) tracked_as t.unfired) ∙ ap (filter (is_tracked_met w)) asks.waiting)
 
-      due_fire : filter (is_due w) (asked marks (client, call, reply)) ≡ filter (is_due (world (after s.pool marks (client, call, reply))))
-          (asked marks (client, call, reply))
-      due_fire = filter-In (is_due w) (is_due (world later)) (asked marks entry) due
+      due_fire : filter (is_tracked_met w) (trackers_to_test marks (client, call, reply)) ≡ filter (is_tracked_met (world (after s.pool marks (client, call, reply))))
+          (trackers_to_test marks (client, call, reply))
+      due_fire = filter-In (is_tracked_met w) (is_tracked_met (world later)) (trackers_to_test marks entry) due
 
   -- the next state's trackers are those of the marks after the event
   pub trackers_follow : (new : State) (f : Follows s new client call reply) →
@@ -159,6 +159,6 @@ module _ (s : State) (marks : Timeline) (shown : IsAfter s marks) (limits : Boun
       let asks : AreAsked f.attached =
       are_asked f.attached (tracker_by s.forest call reply) f.gains (tracker_is s marks shown limits grown client reply call answer) in
       let now : new.events ≡ events later = f.events ∙ (ap (λ (n : ℕ). n + 1) shown.events ∙ sym (events_after s.pool marks entry)) in
-      subst (λ (t : Table). AreTrackers t later) (sym f.trackers)
+      subst (λ (t : TrackerTable). AreTrackers t later) (sym f.trackers)
       (are_swept f.attached asks (world_in f.worked (total new.holds)) (recalled s.pool limits marks grown entry f.worked (total new.holds)
       seen) new.events now)

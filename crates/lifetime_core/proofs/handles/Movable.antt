@@ -29,7 +29,7 @@ use Rattle.sm_names.proofs.ListLaws.{In, In-find, In-list_any, none-In}
 use Rattle.sm_names.proofs.SamenessLaws.{and_left, and_right, either_way}
 use Rattle.sm_names.proofs.SettledLaws.{and_then-Some}
 use Rattle.sm_names.proofs.SumLaws.{In-le-sum_by, one}
-use Rattle.buffer_holds.specs.Counts.{moving, total}
+use Rattle.buffer_holds.specs.Counts.{moving_count, total}
 use Rattle.forest_store.specs.declared.node.Node.{Node}
 use Rattle.forest_store.specs.Forest.{Collection, collection_at, node_at}
 use Rattle.forest_store.specs.Nodes.{is_spent, members_of}
@@ -135,7 +135,7 @@ module _ (limits : Bound) (s : State) (client : ℕ) (sent : AreSent s.clients (
 
   -- a handle that is collected was in a parcel
   was_moving : (buffer : BufferName) (strength : Strength) →
-      Reply.CollectedHandle buffer strength ≡ answer limits (readings_of s) client no_key Call.Collect → 0 < moving s.holds buffer strength
+      Reply.CollectedHandle buffer strength ≡ answer limits (readings_of s) client no_key Call.Collect → 0 < moving_count s.holds buffer strength
   was_moving buffer strength told =
       let head = first_handle (readings_of s) ((readings_of s).waiting client) buffer strength
       (took Call.Collect (Reply.CollectedHandle buffer strength) refl refl told).answered in

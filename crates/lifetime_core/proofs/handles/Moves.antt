@@ -3,7 +3,7 @@ use Rattle.std.proofs.Common.{ℕ, ◌≡◌, ◌+◌, ◌-◌, sym, subst, Bool
 use Rattle.sm_names.specs.Handles.{opens, drops, lifts, lands}
 use Rattle.sm_names.specs.Marks.{Mark}
 use Rattle.event_laws.specs.ByEvent.{GoesBy, anyone, one_if, only, gains, loses}
-use Rattle.buffer_holds.specs.Counts.{Counts, of, moving, total}
+use Rattle.buffer_holds.specs.Counts.{Counts, of, moving_count, total}
 use Rattle.lifetime_core.specs.Hands.{MovesHandles}
 use Rattle.lifetime_core.specs.State.{HandleCounts, counts_of}
 use Rattle.lifetime_core.specs.Steps.{handles_by}
@@ -14,7 +14,7 @@ pub moves_to : (old new other : Counts) (mark : Mark) → MovesHandles old new m
 moves_to old new other mark moves same = record {
   each = λ client buffer strength. subst (λ (h : HandleCounts). GoesBy (of old client buffer strength) (h.of client buffer strength)
       (gains (only client) buffer strength mark) (loses (only client) buffer strength mark)) (sym same) (moves.each client buffer strength);
-  in_parcels = λ buffer strength. subst (λ (h : HandleCounts). GoesBy (moving old buffer strength) (h.moving buffer strength)
+  in_parcels = λ buffer strength. subst (λ (h : HandleCounts). GoesBy (moving_count old buffer strength) (h.moving buffer strength)
       (lifts anyone buffer strength mark) (lands anyone buffer strength mark)) (sym same) (moves.in_parcels buffer strength);
   in_all = λ buffer strength. subst (λ (h : HandleCounts). GoesBy (total old buffer strength) (h.total buffer strength)
       (opens anyone buffer strength mark) (drops anyone buffer strength mark)) (sym same) (moves.in_all buffer strength);
@@ -29,7 +29,7 @@ pub moved : (old new : Counts) (mark : Mark) → MovesHandles old new mark → c
 moved old new mark moves = λ i. record {
   of = λ client buffer strength. goes (of old client buffer strength) (of new client buffer strength) (gains (only client) buffer strength
       mark) (loses (only client) buffer strength mark) (moves.each client buffer strength) i;
-  moving = λ buffer strength. goes (moving old buffer strength) (moving new buffer strength) (lifts anyone buffer strength mark)
+  moving = λ buffer strength. goes (moving_count old buffer strength) (moving_count new buffer strength) (lifts anyone buffer strength mark)
       (lands anyone buffer strength mark) (moves.in_parcels buffer strength) i;
   total = λ buffer strength. goes (total old buffer strength) (total new buffer strength) (opens anyone buffer strength mark)
       (drops anyone buffer strength mark) (moves.in_all buffer strength) i;

@@ -10,7 +10,7 @@ use Rattle.sm_names.proofs.SamenessLaws.{and_right}
 use Rattle.event_laws.specs.ByEvent.{one_if}
 use Rattle.event_laws.proofs.SetLaws.{rest_next, rest_bit}
 use Rattle.buffer_holds.specs.Changes.{Sets, Tidies}
-use Rattle.buffer_holds.specs.Counts.{Counts, of, moving, total, share}
+use Rattle.buffer_holds.specs.Counts.{Counts, of, moving_count, total, share}
 use Rattle.buffer_holds.specs.Kinds.{kind_of, hold_of, same_hold}
 use Rattle.buffer_holds.specs.Rows.{row_at}
 use Rattle.buffer_holds.proofs.KindLemmas.{same_hold-one, same_kind-one, same_hold-refl, same_kind-refl}
@@ -32,7 +32,7 @@ of-le-total holds client buffer strength =
 
 -- counts that agree everywhere are the same
 pub same_counts : (old new : Counts) → ((c : ℕ) (b : BufferName) (s : Strength) → of new c b s ≡ of old c b s) →
-    ((b : BufferName) (s : Strength) → moving new b s ≡ moving old b s) →
+    ((b : BufferName) (s : Strength) → moving_count new b s ≡ moving_count old b s) →
     ((b : BufferName) (s : Strength) → total new b s ≡ total old b s) → counts_of new ≡ counts_of old
 same_counts old new each in_parcels in_all = λ i. record {
   of = λ c b s. each c b s i;
@@ -72,24 +72,24 @@ module _ (client : ℕ) (buffer : BufferName) (strength : Strength) where
 
 -- one handle more
 pub opens_one : (old new : Counts) (client : ℕ) (buffer : BufferName) (strength : Strength) →
-    Sets old new client buffer strength (of old client buffer strength + 1) (moving old buffer strength) (total old buffer strength + 1) →
+    Sets old new client buffer strength (of old client buffer strength + 1) (moving_count old buffer strength) (total old buffer strength + 1) →
     Opens old new client (is_the buffer strength)
 opens_one old new client buffer strength sets = record {
   counts = λ c b s. up (client == c && is_the buffer strength b s) (sets.counts c b s) (one_hold client buffer strength (of old) c b s);
-  parcels = λ b s. still (is_the buffer strength b s) (sets.parcels b s) (one_kind client buffer strength (moving old) b s);
+  parcels = λ b s. still (is_the buffer strength b s) (sets.parcels b s) (one_kind client buffer strength (moving_count old) b s);
   totals = λ b s. up (is_the buffer strength b s) (sets.totals b s) (one_kind client buffer strength (total old) b s);
 }
 
 -- one handle less, where there was one
 pub closes_one : (old mid new : Counts) (client : ℕ) (buffer : BufferName) (strength : Strength) → 0 < of old client buffer strength →
-    Sets old mid client buffer strength (of old client buffer strength - 1) (moving old buffer strength) (total old buffer strength - 1) →
+    Sets old mid client buffer strength (of old client buffer strength - 1) (moving_count old buffer strength) (total old buffer strength - 1) →
     Tidies mid new client buffer strength →
     Opens new old client (is_the buffer strength)
 closes_one old mid new client buffer strength some sets tidies = record {
   counts = λ c b s. down (client == c && is_the buffer strength b s) some (tidies.counts c b s
       ∙ sets.counts c b s) (one_hold client buffer strength (of old) c b s);
   parcels = λ b s. sym (still (is_the buffer strength b s) (tidies.parcels b s
-      ∙ sets.parcels b s) (one_kind client buffer strength (moving old) b s));
+      ∙ sets.parcels b s) (one_kind client buffer strength (moving_count old) b s));
   totals = λ b s. down (is_the buffer strength b s) (omega (arith, of-le-total old client buffer strength)) (tidies.totals b s
       ∙ sets.totals b s) (one_kind client buffer strength (total old) b s);
 }

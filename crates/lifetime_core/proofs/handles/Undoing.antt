@@ -16,7 +16,7 @@ use Rattle.event_laws.specs.ByEvent.{GoesBy, one_if, anyone, only, is_about_hand
 use Rattle.event_laws.proofs.HandleEventLaws.{idle_gains, idle_loses, idle_opens, idle_drops, idle_lifts, idle_lands}
 use Rattle.buffer_holds.specs.Changes.{Sets}
 use Rattle.buffer_holds.specs.declared.fault.HoldFault.{HoldFault}
-use Rattle.buffer_holds.specs.Counts.{Counts, of, moving, total}
+use Rattle.buffer_holds.specs.Counts.{Counts, of, moving_count, total}
 use Rattle.lifetime_core.specs.Hands.{MovesHandles, Opens, collects_handle, is_the, is_below}
 use Rattle.lifetime_core.specs.State.{counts_of}
 use Rattle.lifetime_core.proofs.handles.Opening.{same_counts, up, down, still, one_hold, one_kind, of-le-total}
@@ -106,12 +106,12 @@ module _ (client : ℕ) (buffer : BufferName) (strength : Strength) where
 
   -- a DropHandle drops one
   pub moves_dropped : (old new : Counts) → 0 < of old client buffer strength →
-      Sets old new client buffer strength (of old client buffer strength - 1) (moving old buffer strength) (total old buffer strength - 1) →
+      Sets old new client buffer strength (of old client buffer strength - 1) (moving_count old buffer strength) (total old buffer strength - 1) →
       MovesHandles old new (Called client Reply.Done (Call.DropHandle buffer strength))
   moves_dropped old new some sets = record {
     each = λ c b s. goes_down (is_its c b s) _ (or_false _) (down (is_its c b s) some (sets.counts c b s) (one_hold client buffer strength
         (of old) c b s));
-    in_parcels = λ b s. goes_not (still (is_the buffer strength b s) (sets.parcels b s) (one_kind client buffer strength (moving old) b s));
+    in_parcels = λ b s. goes_not (still (is_the buffer strength b s) (sets.parcels b s) (one_kind client buffer strength (moving_count old) b s));
     in_all = λ b s. goes_down (is_the buffer strength b s) _ refl
         (down (is_the buffer strength b s) (omega (arith, of-le-total old client buffer strength)) (sets.totals b s)
         (one_kind client buffer strength (total old) b s));
@@ -119,51 +119,51 @@ module _ (client : ℕ) (buffer : BufferName) (strength : Strength) where
 
   -- and is undone by one more
   pub undrops : (before old new : Counts) → MovesHandles before old (Called client Reply.Done (Call.DropHandle buffer strength)) →
-      Sets old new client buffer strength (of old client buffer strength + 1) (moving old buffer strength) (total old buffer strength + 1) →
+      Sets old new client buffer strength (of old client buffer strength + 1) (moving_count old buffer strength) (total old buffer strength + 1) →
       counts_of new ≡ counts_of before
   undrops before old new moves sets = same_counts before new
       (λ c b s. up (is_its c b s) (sets.counts c b s) (one_hold client buffer strength (of old) c b s)
       ∙ sym (lost (is_its c b s) _ (or_false _) (moves.each c b s)))
-      (λ b s. still (is_the buffer strength b s) (sets.parcels b s) (one_kind client buffer strength (moving old) b s)
+      (λ b s. still (is_the buffer strength b s) (sets.parcels b s) (one_kind client buffer strength (moving_count old) b s)
       ∙ neither (moves.in_parcels b s))
       (λ b s. up (is_the buffer strength b s) (sets.totals b s) (one_kind client buffer strength (total old) b s)
       ∙ sym (lost (is_the buffer strength b s) _ refl (moves.in_all b s)))
 
   -- a GiveHandle puts one into a parcel
   pub moves_given : (to : ℕ) (old new : Counts) → 0 < of old client buffer strength →
-      Sets old new client buffer strength (of old client buffer strength - 1) (moving old buffer strength + 1) (total old buffer strength) →
+      Sets old new client buffer strength (of old client buffer strength - 1) (moving_count old buffer strength + 1) (total old buffer strength) →
       MovesHandles old new (Called client Reply.Done (Call.GiveHandle buffer strength to))
   moves_given to old new some sets = record {
     each = λ c b s. goes_down (is_its c b s) _ refl (down (is_its c b s) some (sets.counts c b s) (one_hold client buffer strength (of old)
         c b s));
     in_parcels =
         λ b s. goes_up (is_the buffer strength b s) _ refl (up (is_the buffer strength b s) (sets.parcels b s)
-        (one_kind client buffer strength (moving old) b s));
+        (one_kind client buffer strength (moving_count old) b s));
     in_all = λ b s. goes_not (still (is_the buffer strength b s) (sets.totals b s) (one_kind client buffer strength (total old) b s));
   }
 
   -- and is undone by taking one out
-  pub ungives : (to : ℕ) (before old new : Counts) → 0 < moving old buffer strength →
+  pub ungives : (to : ℕ) (before old new : Counts) → 0 < moving_count old buffer strength →
       MovesHandles before old (Called client Reply.Done (Call.GiveHandle buffer strength to)) →
-      Sets old new client buffer strength (of old client buffer strength + 1) (moving old buffer strength - 1) (total old buffer strength) →
+      Sets old new client buffer strength (of old client buffer strength + 1) (moving_count old buffer strength - 1) (total old buffer strength) →
       counts_of new ≡ counts_of before
   ungives to before old new some moves sets = same_counts before new
       (λ c b s. up (is_its c b s) (sets.counts c b s) (one_hold client buffer strength (of old) c b s)
       ∙ sym (lost (is_its c b s) _ refl (moves.each c b s)))
-      (λ b s. let e = down (is_the buffer strength b s) some (sets.parcels b s) (one_kind client buffer strength (moving old) b s) in
+      (λ b s. let e = down (is_the buffer strength b s) some (sets.parcels b s) (one_kind client buffer strength (moving_count old) b s) in
       let g = gained (is_the buffer strength b s) _ refl (moves.in_parcels b s) in
       omega arith)
       (λ b s. still (is_the buffer strength b s) (sets.totals b s) (one_kind client buffer strength (total old) b s)
       ∙ neither (moves.in_all b s))
 
   -- a Collect takes one out of a parcel
-  pub moves_collected : (old new : Counts) → 0 < moving old buffer strength →
-      Sets old new client buffer strength (of old client buffer strength + 1) (moving old buffer strength - 1) (total old buffer strength) →
+  pub moves_collected : (old new : Counts) → 0 < moving_count old buffer strength →
+      Sets old new client buffer strength (of old client buffer strength + 1) (moving_count old buffer strength - 1) (total old buffer strength) →
       MovesHandles old new (Called client (Reply.CollectedHandle buffer strength) Call.Collect)
   moves_collected old new some sets = record {
     each = λ c b s. goes_up (is_its c b s) _ refl (up (is_its c b s) (sets.counts c b s) (one_hold client buffer strength (of old) c b s));
     in_parcels = λ b s. goes_down (is_the buffer strength b s) _ refl (down (is_the buffer strength b s) some (sets.parcels b s)
-        (one_kind client buffer strength (moving old) b s));
+        (one_kind client buffer strength (moving_count old) b s));
     in_all = λ b s. goes_not (still (is_the buffer strength b s) (sets.totals b s) (one_kind client buffer strength (total old) b s));
   }
 

@@ -10,7 +10,7 @@ use Rattle.sm_names.specs.Marks.{Called}
 use Rattle.sm_names.proofs.AnswerLaws.{took_effect_all}
 use Rattle.sm_names.proofs.SettledLaws.{and_then-Some}
 use Rattle.trackers.specs.declared.waiting.Waiting.{Waiting}
-use Rattle.trackers.specs.Table.{Table}
+use Rattle.trackers.specs.Table.{TrackerTable}
 use Rattle.buffer_holds.specs.Counts.{total}
 use Rattle.buffer_pool.specs.Holdings.{Holdings}
 use Rattle.forest_store.specs.declared.change.Change.{Change}
@@ -218,7 +218,7 @@ module _ (s : State) (client : ℕ) (call : Call) (asked reply : Reply) (task : 
               takes.work).0 in
               (there.0.0, rw same there.0.1, there.0.2, there.1)
 
-      module _ (forest : Forest) (trackers : Table) (collections : forest.collections ≡ without_over (with_place (end_placed task carried)
+      module _ (forest : Forest) (trackers : TrackerTable) (collections : forest.collections ≡ without_over (with_place (end_placed task carried)
           parts.forest).collections) (keys : SameKeys parts.forest forest)
           (sweeps : trackers ≡ swept (world_in parts.forest (total parts.holds)) (s.events + 1) parts.trackers) where
         -- the state after the event

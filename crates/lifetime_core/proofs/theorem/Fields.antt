@@ -14,7 +14,7 @@ use Rattle.sm_names.specs.Words.{sorted_by}
 use Rattle.buffer_holds.specs.Counts.{Counts, total}
 use Rattle.buffer_pool.specs.Holdings.{Holdings}
 use Rattle.trackers.specs.declared.waiting.Waiting.{Waiting}
-use Rattle.trackers.specs.Table.{Cell, Table, is_due}
+use Rattle.trackers.specs.Table.{Cell, TrackerTable, is_due}
 use Rattle.forest_store.specs.Forest.{Forest, IsPoolOf, SameKeys, all_held}
 use Rattle.forest_store.specs.Settling.{Handles, no_key}
 use Rattle.lifetime_core.specs.declared.task.Place.{Place}
@@ -42,7 +42,7 @@ use Rattle.lifetime_core.proofs.joined.Numbers.{joined_number}
 
 -- fields that stayed are still whole
 pub whole_same : (pool now : Holdings) (limits : Bound) (events : ℕ) (clients clients_now : List Client) (forest forest_now : Forest)
-    (holds holds_now : Counts) (trackers trackers_now : Table) →
+    (holds holds_now : Counts) (trackers trackers_now : TrackerTable) →
     clients_now ≡ clients → forest_now ≡ forest → now ≡ pool → counts_of holds_now ≡ counts_of holds → trackers_now ≡ trackers →
     holds_now.limit ≡ holds.limit →
     IsWhole pool limits events clients forest holds trackers → IsWhole now limits events clients_now forest_now holds_now trackers_now
@@ -146,9 +146,9 @@ same_limit pool handles f worked task key done = by (work_in task) done
     by (Some w) settled = settled.limit
 
 -- and that of trackers
-attached_limit : (old new : Table) (tracker : Option Waiting) → GainsTracker old tracker new → new.limit ≡ old.limit
-attached_limit old new None gains = ap (λ (t : Table). t.limit) gains
-attached_limit old new (Some t) gains = ap (λ (x : Table). x.limit) gains.next
+attached_limit : (old new : TrackerTable) (tracker : Option Waiting) → GainsTracker old tracker new → new.limit ≡ old.limit
+attached_limit old new None gains = ap (λ (t : TrackerTable). t.limit) gains
+attached_limit old new (Some t) gains = ap (λ (x : TrackerTable). x.limit) gains.next
 
 -- ---- the event
 
@@ -187,7 +187,7 @@ module _ (s : State) (client : ℕ) (call : Call) (asked reply : Reply) (task : 
         (finishes s client call asked reply task tracking b parts takes) parts.trackers takes.trackers
 
     -- the fields are whole again
-    pub whole_then : (before pool : Holdings) (g : Forest) (place : Option Place) (trackers : Table) →
+    pub whole_then : (before pool : Holdings) (g : Forest) (place : Option Place) (trackers : TrackerTable) →
         IsWhole before s.limits s.events s.clients s.forest s.holds s.trackers → pool.size ≡ before.size →
         IsPoolOf pool parts.forest → all_held g ≡ all_held parts.forest → parts.holds.limit ≡ s.holds.limit → s.events < s.limits.events →
         s.events + 1 < 2 ^ 32 →

@@ -21,7 +21,7 @@ use Rattle.sm_names.proofs.RestLaws.{every_rests}
 use Rattle.sm_names.proofs.SamenessLaws.{or_cases, or_left, or_right}
 use Rattle.sm_names.proofs.StandingLaws.{In-any}
 use Rattle.buffer_holds.specs.Counts.{total}
-use Rattle.trackers.specs.Table.{empty, without}
+use Rattle.trackers.specs.Table.{empty, without_id}
 use Rattle.forest_store.specs.Forest.{Forest, given, empty_forest}
 use Rattle.forest_store.specs.Settling.{Handles}
 use Rattle.event_laws.proofs.MomentLaws.{events_after}
@@ -205,7 +205,7 @@ shows_nothing pool limits = record {
 
 -- and so does a state once a tracker was taken
 pub take_shows : (s : State) (id : ℕ) (history : List Entry) → Shows s history →
-    Shows (record s { trackers = record s.trackers { untaken = without s.trackers.untaken id } }) history
+    Shows (record s { trackers = record s.trackers { untaken = without_id s.trackers.untaken id } }) history
 take_shows s id history shows = record {
   legal = shows.legal;
   shown = record {
@@ -218,7 +218,7 @@ take_shows s id history shows = record {
       fired = shows.shown.trackers.fired;
       waiting = shows.shown.trackers.waiting;
       untaken = λ other on.
-          let left = In-list_any (λ i. i == other) (without s.trackers.untaken id) on in
+          let left = In-list_any (λ i. i == other) (without_id s.trackers.untaken id) on in
           let was = In-filter (λ i. not (i == id)) s.trackers.untaken left.0 left.1 in
           shows.shown.trackers.untaken other (In-any (λ i. i == other) s.trackers.untaken left.0 was.0 left.2);
     };

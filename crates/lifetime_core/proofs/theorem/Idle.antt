@@ -9,7 +9,7 @@ use Rattle.sm_names.specs.Ends.{joined_at, shuts, given_at, collects}
 use Rattle.sm_names.specs.Handles.{opens, drops, lifts, lands}
 use Rattle.sm_names.specs.Marks.{Called, Mark}
 use Rattle.event_laws.specs.ByEvent.{GoesBy, anyone, gains, loses, only}
-use Rattle.buffer_holds.specs.Counts.{Counts, moving, of, total}
+use Rattle.buffer_holds.specs.Counts.{Counts, moving_count, of, total}
 use Rattle.buffer_pool.specs.Holdings.{Holdings}
 use Rattle.forest_store.specs.Forest.{Forest}
 use Rattle.forest_store.specs.Settling.{no_key}
@@ -49,7 +49,7 @@ module _ (mark : Mark) (unseen : IsUnseen mark) where
     each = λ client b s. stays (of holds client b s) (gains (only client) b s mark) (loses (only client) b s mark)
         (rw (unseen.opened (only client) b s, unseen.landed (only client) b s) refl)
         (rw (unseen.dropped (only client) b s, unseen.lifted (only client) b s) refl);
-    in_parcels = λ b s. stays (moving holds b s) (lifts anyone b s mark) (lands anyone b s mark) (unseen.lifted anyone b s)
+    in_parcels = λ b s. stays (moving_count holds b s) (lifts anyone b s mark) (lands anyone b s mark) (unseen.lifted anyone b s)
         (unseen.landed anyone b s);
     in_all = λ b s. stays (total holds b s) (opens anyone b s mark) (drops anyone b s mark) (unseen.opened anyone b s)
         (unseen.dropped anyone b s);

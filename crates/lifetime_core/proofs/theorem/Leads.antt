@@ -11,7 +11,7 @@ use Rattle.sm_names.specs.Answers.{IsAnswer, key_told}
 use Rattle.sm_names.specs.Bounds.{Bound}
 use Rattle.sm_names.specs.Marks.{Entry}
 use Rattle.trackers.specs.declared.waiting.Waiting.{Waiting}
-use Rattle.trackers.specs.Table.{Table}
+use Rattle.trackers.specs.Table.{TrackerTable}
 use Rattle.forest_store.specs.Settling.{no_key}
 use Rattle.lifetime_core.specs.Kinds.{fits_call}
 use Rattle.lifetime_core.specs.Reads.{readings_of}
@@ -44,10 +44,10 @@ tracker_id limits s client call (Reply.Tracker id) answer fits = cc
 tracker_id limits s client call reply answer fits = refl
 
 -- what is gained is to be taken
-gained : (old new : Table) (o : Option Waiting) → GainsTracker old o new →
+gained : (old new : TrackerTable) (o : Option Waiting) → GainsTracker old o new →
     new.untaken ≡ old.untaken ++ cons_option (option_map (λ (w : Waiting). w.id) o) []
-gained old new None same = ap (λ (t : Table). t.untaken) same ∙ sym (append-nil old.untaken)
-gained old new (Some tracker) gains = ap (λ (t : Table). t.untaken) gains.next
+gained old new None same = ap (λ (t : TrackerTable). t.untaken) same ∙ sym (append-nil old.untaken)
+gained old new (Some tracker) gains = ap (λ (t : TrackerTable). t.untaken) gains.next
 
 -- the readers that are to be taken after an event are those before, and that of the tracker that its reply tells of
 pub untaken_after : (old new : State) (client : ℕ) (call : Call) (reply : Reply) → IsAnswer old.limits (readings_of old) client call reply →
@@ -55,7 +55,7 @@ pub untaken_after : (old new : State) (client : ℕ) (call : Call) (reply : Repl
     new.trackers.untaken ≡ old.trackers.untaken ++ cons_option (tracker_told reply) []
 untaken_after old new client call reply answer f =
     let fits : fits_call call reply ≡ true = reply-fits old.limits (readings_of old) client (key_told reply) call reply answer.told in
-    ap (λ (t : Table). t.untaken) f.trackers
+    ap (λ (t : TrackerTable). t.untaken) f.trackers
     ∙ (gained old.trackers f.attached (tracker_by old.forest call reply) f.gains
     ∙ ap (λ (o : Option ℕ). old.trackers.untaken ++ cons_option o []) (tracker_id old.limits old client call reply answer fits))
 

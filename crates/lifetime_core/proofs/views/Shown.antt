@@ -17,7 +17,7 @@ use Rattle.sm_names.specs.Marks.{Entry}
 use Rattle.sm_names.specs.Timelines.{timeline}
 use Rattle.sm_names.specs.Views.{live_nodes, held_by_page, free_pages}
 use Rattle.sm_names.proofs.GrowthLaws.{Grows, legal_grows}
-use Rattle.buffer_holds.specs.Counts.{of, moving, total}
+use Rattle.buffer_holds.specs.Counts.{of, moving_count, total}
 use Rattle.sm_names.specs.Births.{birth_of}
 use Rattle.forest_store.specs.Forest.{Collection, all_nodes, beside, collection_at, node_at, live_keys, held_by_page as held_in, pages_in}
 use Rattle.lifetime_core.specs.Reads.{buffers_in, is_live_in, fault_in, views_of}
@@ -132,7 +132,7 @@ module _ (s : State) (history : List Entry) (shows : Shows s history) where
 
   -- the handles that are in parcels
   pub moving_shown : (buffer : BufferName) (strength : Strength) →
-      moving s.holds buffer strength ≡ moving_of (timeline s.pool history) buffer strength
+      moving_count s.holds buffer strength ≡ moving_of (timeline s.pool history) buffer strength
   moving_shown buffer strength = ap (λ (h : HandleCounts). h.moving buffer strength) shows.shown.handles
 
   -- the handles that are open

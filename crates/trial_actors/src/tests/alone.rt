@@ -1,7 +1,7 @@
-//! One client that plays a script.
+//! One client that runs a script.
 use super::asking::{Silent, made, put};
 use actor_scripts::{ActorScript, Step, Verb};
-use client_actors::{ActorEnd, play};
+use client_actors::{ActorEnd, run_actor};
 use client_ends::join;
 use client_parting::{Holding, Wreck, end_service};
 use service_lock::{Service, Setup};
@@ -59,7 +59,7 @@ pub fn alone<E: Setup, S: Ledger, W: Ledger, R: Wait + Abort>(
     let client = made(rt, join(rt, alloc, &service));
     let ids = [client.id()];
     let script = script(rt, alloc);
-    let wreck = match play(rt, alloc, &service, &Silent, &ids, client, &script) {
+    let wreck = match run_actor(rt, alloc, &service, &Silent, &ids, client, &script) {
         ActorEnd::Wrecked(wreck) => wreck,
         ActorEnd::Stopped(_client, _held, _fault) => panic!(rt; "stopped"),
         ActorEnd::NotStarted(_client) => panic!(rt; "not started"),

@@ -1,6 +1,6 @@
 //! A service for each scene.
 ghost use Rattle.std.specs.Prelude.{◌≤◌};
-ghost use Rattle.service_lock.specs.States.{IsAsked};
+ghost use Rattle.service_lock.specs.States.{IsSetUpWith};
 ghost use Rattle.service_lock.specs.Units.{AreFor};
 
 use super::alone::alone;
@@ -8,7 +8,7 @@ use super::limits::one_event;
 use super::meeting::meeting;
 use super::memory::memory;
 use super::together::together;
-use service_lock::{Blanks, PARTS, Service, Setup};
+use service_lock::{BlankBooks, MAX_SHARES, Service, Setup};
 use sm_names::Limits;
 use std::alloc::Global;
 use std::marker::Brand;
@@ -58,10 +58,10 @@ pub fn stage<R: Threads + Wait + Clock + Abort + Sync>(rt: &R, alloc: Global, sc
 
 // The same, once: whether there was memory for a service.
 fn start<R: Threads + Wait + Clock + Abort + Sync>(rt: &R, alloc: Global, scene: Scene) -> bool {
-    let blanks = Blanks {
-        events: Blank::new(PARTS),
-        strong: Blank::new(PARTS),
-        weak: Blank::new(PARTS),
+    let blanks = BlankBooks {
+        events: Blank::new(MAX_SHARES),
+        strong: Blank::new(MAX_SHARES),
+        weak: Blank::new(MAX_SHARES),
     };
     let Some(limits) = limits(scene) else {
         panic!(rt; "no limits");
@@ -74,10 +74,10 @@ fn play<
     S: Ledger + Send + Sync,
     W: Ledger + Send + Sync,
     R: Threads + Wait + Clock + Abort + Sync,
->(rt: &R, alloc: Global, blanks: Blanks, scene: Scene, pages: u32, limits: Limits) -> bool
+>(rt: &R, alloc: Global, blanks: BlankBooks, scene: Scene, pages: u32, limits: Limits) -> bool
     requires pages { (1 ≤ pages) × (pages ≤ 1048576) }
     requires blanks { AreFor E.name E.parts S.name S.parts W.name W.parts blanks }
-    requires asked { IsAsked E.pages E.limits pages limits }
+    requires asked { IsSetUpWith E.pages E.limits pages limits }
 {
     let Ok(service) = Service::<E, S, W>::new(alloc, blanks, pages, limits) else {
         return false;

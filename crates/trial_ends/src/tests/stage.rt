@@ -1,6 +1,6 @@
 //! A service for each scene.
 ghost use Rattle.std.specs.Prelude.{◌≤◌};
-ghost use Rattle.service_lock.specs.States.{IsAsked};
+ghost use Rattle.service_lock.specs.States.{IsSetUpWith};
 ghost use Rattle.service_lock.specs.Units.{AreFor};
 
 use super::crowd::crowd;
@@ -10,7 +10,7 @@ use super::memory::again;
 use super::remains::remains;
 use super::typed::typed;
 use client_ends::{Client, end};
-use service_lock::{Blanks, PARTS, Service, Setup};
+use service_lock::{BlankBooks, MAX_SHARES, Service, Setup};
 use sm_names::Limits;
 use std::alloc::Global;
 use std::marker::Brand;
@@ -66,10 +66,10 @@ pub fn stage<R: Threads + Wait + Abort + Sync>(rt: &R, alloc: Global, scene: Sce
 
 // The same, once: `None` where there was no memory for a service.
 fn start<R: Threads + Wait + Abort + Sync>(rt: &R, alloc: Global, scene: Scene) -> Option<bool> {
-    let blanks = Blanks {
-        events: Blank::new(PARTS),
-        strong: Blank::new(PARTS),
-        weak: Blank::new(PARTS),
+    let blanks = BlankBooks {
+        events: Blank::new(MAX_SHARES),
+        strong: Blank::new(MAX_SHARES),
+        weak: Blank::new(MAX_SHARES),
     };
     let limits = match limits(scene) {
         Some(limits) => limits,
@@ -83,10 +83,17 @@ fn play<
     S: Ledger + Send + Sync,
     W: Ledger + Send + Sync,
     R: Threads + Wait + Abort + Sync,
->(rt: &R, alloc: Global, blanks: Blanks, scene: Scene, pages: u32, limits: Limits) -> Option<bool>
+>(
+    rt: &R,
+    alloc: Global,
+    blanks: BlankBooks,
+    scene: Scene,
+    pages: u32,
+    limits: Limits,
+) -> Option<bool>
     requires pages { (1 ≤ pages) × (pages ≤ 1048576) }
     requires blanks { AreFor E.name E.parts S.name S.parts W.name W.parts blanks }
-    requires asked { IsAsked E.pages E.limits pages limits }
+    requires asked { IsSetUpWith E.pages E.limits pages limits }
 {
     let service = Service::<E, S, W>::new(alloc, blanks, pages, limits).ok()?;
     match scene {

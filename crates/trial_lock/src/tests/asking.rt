@@ -1,6 +1,6 @@
 //! Calls that must be taken.
 ghost use Rattle.sm_names.specs.declared.messages.Reply.{Reply as Told};
-ghost use Rattle.service_lock.specs.Units.{Counts, HasUnitFor};
+ghost use Rattle.service_lock.specs.Units.{CountsEvent, HasUnitFor};
 
 use service_lock::{Setup, State, Units, apply, books, core, entries, units};
 use sm_names::{Call, ClientId, NodeKey, Reply};
@@ -16,7 +16,7 @@ pub fn ask<E: Setup, S: Ledger, W: Ledger, R: Abort>(
     call: Call,
 ) -> Reply
     requires { HasUnitFor call units.old }
-    ensures { Counts units.old units.new call result }
+    ensures { CountsEvent units.old units.new call result }
 {
     match apply(state, units, client, call) {
         Ok(reply) => reply,
@@ -33,7 +33,7 @@ pub fn ask_done<E: Setup, S: Ledger, W: Ledger, R: Abort>(
     call: Call,
 )
     requires { HasUnitFor call units.old }
-    ensures { Counts units.old units.new call Told.Done }
+    ensures { CountsEvent units.old units.new call Told.Done }
 {
     match ask(rt, state, units, client, call) {
         Reply::Done => {}

@@ -1,13 +1,13 @@
 //! A service for each scene.
 ghost use Rattle.std.specs.Prelude.{◌≤◌};
-ghost use Rattle.service_lock.specs.States.{IsAsked};
+ghost use Rattle.service_lock.specs.States.{IsSetUpWith};
 ghost use Rattle.service_lock.specs.Units.{AreFor};
 
 use super::crowd::crowd;
 use super::handles::handles;
 use super::limits::last_event;
 use super::tracking::tracker;
-use service_lock::{Blanks, PARTS, Service, Setup};
+use service_lock::{BlankBooks, MAX_SHARES, Service, Setup};
 use sm_names::Limits;
 use std::alloc::Global;
 use std::marker::Brand;
@@ -49,10 +49,10 @@ fn pages(scene: Scene) -> u32
 
 /// Plays the scene on a service that has seen nothing, and ends it.
 pub fn stage<R: Threads + Wait + Abort + Sync>(rt: &R, alloc: Global, scene: Scene) {
-    let blanks = Blanks {
-        events: Blank::new(PARTS),
-        strong: Blank::new(PARTS),
-        weak: Blank::new(PARTS),
+    let blanks = BlankBooks {
+        events: Blank::new(MAX_SHARES),
+        strong: Blank::new(MAX_SHARES),
+        weak: Blank::new(MAX_SHARES),
     };
     let limits = match limits(scene) {
         Some(limits) => limits,
@@ -66,10 +66,10 @@ fn play<
     S: Ledger + Send + Sync,
     W: Ledger + Send + Sync,
     R: Threads + Wait + Abort + Sync,
->(rt: &R, alloc: Global, blanks: Blanks, scene: Scene, pages: u32, limits: Limits)
+>(rt: &R, alloc: Global, blanks: BlankBooks, scene: Scene, pages: u32, limits: Limits)
     requires pages { (1 ≤ pages) × (pages ≤ 1048576) }
     requires blanks { AreFor E.name E.parts S.name S.parts W.name W.parts blanks }
-    requires asked { IsAsked E.pages E.limits pages limits }
+    requires asked { IsSetUpWith E.pages E.limits pages limits }
 {
     let service = match Service::<E, S, W>::with_seed(alloc, blanks, pages, limits, [3; 16]) {
         Ok(service) => service,

@@ -1,6 +1,6 @@
 //! Calls that must be made.
 ghost use Rattle.std.specs.Prelude.{◌≡◌, ◌++◌, ◌∷◌, [], ℕ, Ok};
-ghost use Rattle.client_parting.specs.Partings.{AreOf, held_in};
+ghost use Rattle.client_parting.specs.Partings.{AllHeldBy, held_in};
 
 use client_ends::{Client, Held};
 use client_parting::{GatherFault, Holding, Report, Wreck, compare, gather, vanish};
@@ -36,7 +36,7 @@ pub fn put<V, R: Abort>(rt: &R, parts: &mut Vec<V>, part: V)
 
 /// Nothing.
 pub fn nothing<E: Setup, S: Ledger, W: Ledger>(alloc: Global) -> Held<E, S, W>
-    ensures { (client : ℕ) → AreOf client (held_in result) }
+    ensures { (client : ℕ) → AllHeldBy client (held_in result) }
 {
     Held::new(alloc)
 }
@@ -49,7 +49,7 @@ pub fn gone<E: Setup, S: Ledger, W: Ledger, R: Wait + Abort>(
     client: Client<E, S, W>,
     held: Held<E, S, W>,
 ) -> Wreck<E, S, W>
-    requires { AreOf client.id (held_in held) }
+    requires { AllHeldBy client.id (held_in held) }
 {
     match vanish(rt, alloc, service, client, held) {
         Ok(wreck) => wreck,

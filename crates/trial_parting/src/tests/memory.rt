@@ -1,6 +1,6 @@
 //! A client that vanishes, and what is gathered, where memory is refused.
 ghost use Rattle.std.specs.Prelude.{◌≡◌};
-ghost use Rattle.client_parting.specs.Partings.{AreOf, held_in};
+ghost use Rattle.client_parting.specs.Partings.{AllHeldBy, held_in};
 
 use super::asking::{constraints, gone, made, nothing, put, report};
 use client_ends::{Client, CollectionEnd, EndOf, Handle, Held, Kept, Own, TokenEnd, Why, join};
@@ -155,7 +155,7 @@ fn token_alone<E: Setup, S: Ledger, W: Ledger, R: Abort>(
     alloc: Global,
     token: TokenEnd,
 ) -> Held<E, S, W>
-    ensures { AreOf token.client (held_in result) }
+    ensures { AllHeldBy token.client (held_in result) }
 {
     let mut held = nothing(alloc);
     put(rt, &mut held.tokens, token);
@@ -190,7 +190,7 @@ fn gone_again<E: Setup, S: Ledger, W: Ledger, R: Wait + Abort>(
     client: Client<E, S, W>,
     held: Held<E, S, W>,
 ) -> Wreck<E, S, W>
-    requires { AreOf client.id (held_in held) }
+    requires { AllHeldBy client.id (held_in held) }
 {
     match vanish(rt, alloc, service, client, held) {
         Ok(wreck) => wreck,

@@ -35,13 +35,13 @@ fn each_call_does_what_it_says(rt: HostRuntime) {
     assert_eq!(rt; holds.lift(1, FIRST, Strength::Strong), Ok(true));
     assert_eq!(rt; holds.lift(1, FIRST, Strength::Strong), Ok(false));
     assert_eq!(rt; holds.of(1, FIRST, Strength::Strong), 0);
-    assert_eq!(rt; holds.moving(FIRST, Strength::Strong), 1);
+    assert_eq!(rt; holds.moving_count(FIRST, Strength::Strong), 1);
     assert_eq!(rt; holds.total(FIRST, Strength::Strong), 2);
     assert_eq!(rt;
         holds.add(3, FIRST, Strength::Strong),
         Err(HoldFault::TooMany)
     );
-    if holds.moving(FIRST, Strength::Strong) > 0 {
+    if holds.moving_count(FIRST, Strength::Strong) > 0 {
         holds.land(3, FIRST, Strength::Strong);
     }
     assert_eq!(rt; holds.of(3, FIRST, Strength::Strong), 1);
@@ -83,7 +83,7 @@ fn what_is_undone_takes_no_memory(rt: HostRuntime) {
             continue;
         }
         let other = client.wrapping_add(40);
-        if holds.moving(FIRST, Strength::Weak) > 0 {
+        if holds.moving_count(FIRST, Strength::Weak) > 0 {
             holds.land(other, FIRST, Strength::Weak);
         }
         assert!(rt; holds.sub(other, FIRST, Strength::Weak));
@@ -127,7 +127,7 @@ fn acts_alike(
             if !strike(open, (0, buffer, strength)) {
                 return true;
             }
-            if open.push(handle).is_err() || holds.moving(buffer, strength) == 0 {
+            if open.push(handle).is_err() || holds.moving_count(buffer, strength) == 0 {
                 return false;
             }
             holds.land(client, buffer, strength);
@@ -154,7 +154,7 @@ fn counts_alike(
     near: &mut Spot,
 ) -> bool {
     let mut total = times(open, (0, buffer, strength));
-    if holds.moving(buffer, strength) as usize != total {
+    if holds.moving_count(buffer, strength) as usize != total {
         return false;
     }
     for client in 1..=3 {

@@ -4,7 +4,7 @@ use sm_script::run_to_exit;
 use std::alloc::Global;
 use std::process::{Abort, ExitCode};
 use std::test::Fail;
-use trial_streams::{Drip, Sink};
+use trial_streams::{FailingWriter, ShortReader};
 
 // Asserts the replies to a script, what is told of its fault, and the status.
 fn check_exit(
@@ -50,15 +50,15 @@ fn streams_that_fail_end_with_1(rt: HostRuntime) -> Result<(), Fail> {
         return Err(Fail::from("no pages"));
     };
     for (read_fails, write_fails, told) in [(1, 0, "read fault\n"), (0, 1, "write fault\n")] {
-        let mut reader = Drip {
+        let mut reader = ShortReader {
             bytes: b"a join\n".as_slice(),
             step: 7,
             reads: 0,
             fails: read_fails,
         };
-        let mut writer = Sink::new(alloc);
+        let mut writer = FailingWriter::new(alloc);
         writer.fails = write_fails;
-        let mut faults = Sink::new(alloc);
+        let mut faults = FailingWriter::new(alloc);
         let ended = run_to_exit(alloc, [3; 16], &mut reader, &mut writer, &mut faults, pages);
         assert!(rt; ended == ExitCode::from(1), "{told}");
         assert_eq!(rt; faults.bytes.as_slice(), told.as_bytes());
@@ -75,7 +75,7 @@ fn a_fault_that_nobody_hears_keeps_its_status(rt: HostRuntime) -> Result<(), Fai
     };
     let mut reader = b"a fly\n".as_slice();
     let mut out = Vec::new(alloc);
-    let mut faults = Sink::new(alloc);
+    let mut faults = FailingWriter::new(alloc);
     faults.fails = 4;
     let ended = run_to_exit(alloc, [3; 16], &mut reader, &mut out, &mut faults, pages);
     assert!(rt; ended == ExitCode::from(3));

@@ -5,7 +5,7 @@ use sm_script::{ScriptFault, run_script};
 use std::alloc::Global;
 use std::process::Abort;
 use std::test::Fail;
-use trial_streams::{Sink, Slate};
+use trial_streams::{FailingWriter, FixedWriter};
 
 #[test]
 fn labels_are_bound_once_and_where_something_was_made(rt: HostRuntime) -> Result<(), Fail> {
@@ -121,7 +121,7 @@ fn empty_lines_and_remarks_are_counted(rt: HostRuntime) -> Result<(), Fail> {
 #[test]
 fn a_last_line_without_its_end_is_bad(rt: HostRuntime) {
     for text in ["a join\na ope", "a join\na open r", "a join\n#"] {
-        let mut writer = Sink::new(rt.alloc());
+        let mut writer = FailingWriter::new(rt.alloc());
         let ended = play(rt.alloc(), text.as_bytes(), 3, 0, &mut writer);
         assert_eq!(rt; ended, Err(ScriptFault::BadLine(2)), "{text}");
         assert_eq!(rt; writer.bytes.as_slice(), b"joined\n".as_slice(), "{text}");
@@ -172,7 +172,7 @@ fn answered(read: usize) -> usize {
 #[test]
 fn whole_lines_are_answered_before_the_next_read(rt: HostRuntime) {
     for read in 0..SCRIPT.len() + 1 {
-        let mut writer = Sink::new(rt.alloc());
+        let mut writer = FailingWriter::new(rt.alloc());
         let ended = play(rt.alloc(), SCRIPT.as_bytes(), 1, read + 1, &mut writer);
         assert_eq!(rt; ended, Err(ScriptFault::ReadFault), "at read {read}");
         let out = answered(read).min(REPLIES.len());
@@ -183,7 +183,7 @@ fn whole_lines_are_answered_before_the_next_read(rt: HostRuntime) {
         );
     }
     for step in 1..SCRIPT.len() + 2 {
-        let mut writer = Sink::new(rt.alloc());
+        let mut writer = FailingWriter::new(rt.alloc());
         let ended = play(rt.alloc(), SCRIPT.as_bytes(), step, 0, &mut writer);
         assert_eq!(rt; ended, Ok(()), "{step} bytes a read");
         assert_eq!(rt;
@@ -198,7 +198,7 @@ fn whole_lines_are_answered_before_the_next_read(rt: HostRuntime) {
 fn a_part_is_out_where_a_write_fails(rt: HostRuntime) {
     for write in 0..REPLIES.len() {
         for takes_nothing in [false, true] {
-            let mut writer = Sink::new(rt.alloc());
+            let mut writer = FailingWriter::new(rt.alloc());
             writer.fails = write + 1;
             writer.takes_nothing = takes_nothing;
             let ended = play(rt.alloc(), SCRIPT.as_bytes(), 5, 0, &mut writer);
@@ -214,7 +214,7 @@ fn a_part_is_out_where_a_write_fails(rt: HostRuntime) {
 
 #[test]
 fn a_writer_is_flushed_at_the_end(rt: HostRuntime) {
-    let mut writer = Sink::new(rt.alloc());
+    let mut writer = FailingWriter::new(rt.alloc());
     writer.flushes = false;
     let ended = play(rt.alloc(), SCRIPT.as_bytes(), 5, 0, &mut writer);
     assert_eq!(rt; ended, Err(ScriptFault::WriteFault));
@@ -229,7 +229,7 @@ fn the_greatest_size_is_read(rt: HostRuntime) -> Result<(), Fail> {
         script.resize(script.len().saturating_add(remark - 1), b'#')?;
         script.push(b'\n')?;
     }
-    let mut writer = Sink::new(rt.alloc());
+    let mut writer = FailingWriter::new(rt.alloc());
     let ended = play(rt.alloc(), script.as_slice(), 65_536, 0, &mut writer);
     assert_eq!(rt; ended, Ok(()));
     script.push(b'\n')?;
@@ -246,7 +246,7 @@ const SHORT_REPLIES: &str = "joined\ntoken r\nlive r\n";
 // With memory refused at any growth, whole replies are out or the run ends well.
 #[test]
 fn refused_memory_leaves_the_text_of_the_first_lines(rt: HostRuntime) {
-    let mut writer = Slate {
+    let mut writer = FixedWriter {
         bytes: [0; 128],
         used: 0,
     };

@@ -6,7 +6,7 @@ use sm_script::{ScriptFault, run_script};
 use std::alloc::Global;
 use std::process::Abort;
 use std::test::Fail;
-use trial_streams::{Drip, Sink};
+use trial_streams::{FailingWriter, ShortReader};
 
 /// Runs a script with 16 pages, so many bytes a read.
 pub fn play(
@@ -14,9 +14,9 @@ pub fn play(
     script: &[u8],
     step: usize,
     read_fails: usize,
-    writer: &mut Sink,
+    writer: &mut FailingWriter,
 ) -> Result<(), ScriptFault> {
-    let mut reader = Drip {
+    let mut reader = ShortReader {
         bytes: script,
         step,
         reads: 0,

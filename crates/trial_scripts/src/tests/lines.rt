@@ -3,7 +3,7 @@ use crate::tests::fixture::play;
 use sm_script::ScriptFault;
 use std::alloc::Global;
 use std::test::Fail;
-use trial_streams::Sink;
+use trial_streams::FailingWriter;
 
 // A script whose second line is a remark with so many bytes behind its sign, none of them a letter.
 fn remark_of(alloc: Global, count: usize) -> Result<Vec<u8>, Fail> {
@@ -20,7 +20,7 @@ fn remark_of(alloc: Global, count: usize) -> Result<Vec<u8>, Fail> {
 fn a_line_of_more_than_256_bytes_is_bad(rt: HostRuntime) -> Result<(), Fail> {
     for (count, outcome) in [(255, Ok(())), (256, Err(ScriptFault::BadLine(2)))] {
         let script = remark_of(rt.alloc(), count)?;
-        let mut out = Sink::new(rt.alloc());
+        let mut out = FailingWriter::new(rt.alloc());
         assert_eq!(rt;
             play(rt.alloc(), script.as_slice(), 64, 0, &mut out),
             outcome

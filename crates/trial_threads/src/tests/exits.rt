@@ -8,7 +8,7 @@ use std::test::Fail;
 use std::thread::Threads;
 use std::time::Clock;
 use thread_runs::run_threads_to_exit;
-use trial_streams::{Drip, Sink};
+use trial_streams::{FailingWriter, ShortReader};
 
 // As many pages as a program has.
 fn pages<R: Abort>(rt: &R) -> Pages {
@@ -54,15 +54,15 @@ fn each_outcome_has_its_status(rt: HostRuntime) {
 #[test]
 fn streams_that_fail_end_with_1(rt: HostRuntime) {
     for (read_fails, write_fails, told) in [(1, 0, "read fault\n"), (0, 1, "write fault\n")] {
-        let mut reader = Drip {
+        let mut reader = ShortReader {
             bytes: TWO.as_bytes(),
             step: 64,
             reads: 0,
             fails: read_fails,
         };
-        let mut writer = Sink::new(rt.alloc());
+        let mut writer = FailingWriter::new(rt.alloc());
         writer.fails = write_fails;
-        let mut faults = Sink::new(rt.alloc());
+        let mut faults = FailingWriter::new(rt.alloc());
         let pages = pages(&rt);
         let ended = run_threads_to_exit(
             &rt,
@@ -83,7 +83,7 @@ fn streams_that_fail_end_with_1(rt: HostRuntime) {
 fn a_fault_that_nobody_hears_keeps_its_status(rt: HostRuntime) {
     let mut reader = b"a fly\n".as_slice();
     let mut out = Vec::new(rt.alloc());
-    let mut faults = Sink::new(rt.alloc());
+    let mut faults = FailingWriter::new(rt.alloc());
     faults.fails = 4;
     let pages = pages(&rt);
     let ended = run_threads_to_exit(

@@ -3,7 +3,7 @@ use crate::tests::fixture::{TWO, TWO_REPORT, check, events, run_two};
 use sm_names::Limits;
 use std::test::Fail;
 use thread_runs::{ThreadsFault, run_threads};
-use trial_streams::Sink;
+use trial_streams::FailingWriter;
 
 #[test]
 fn a_bad_line_keeps_all_actors_from_starting(rt: HostRuntime) -> Result<(), Fail> {
@@ -40,13 +40,13 @@ fn a_full_history_leaves_no_report(rt: HostRuntime) -> Result<(), Fail> {
 #[test]
 fn a_read_that_fails_leaves_no_report(rt: HostRuntime) {
     for read in 0..TWO.len() + 1 {
-        let mut writer = Sink::new(rt.alloc());
+        let mut writer = FailingWriter::new(rt.alloc());
         let ended = run_two(&rt, rt.alloc(), 1, read + 1, &mut writer);
         assert_eq!(rt; ended, Err(ThreadsFault::ReadFault), "at read {read}");
         assert_eq!(rt; writer.writes, 0, "at read {read}");
     }
     for step in 1..TWO.len() + 2 {
-        let mut writer = Sink::new(rt.alloc());
+        let mut writer = FailingWriter::new(rt.alloc());
         let ended = run_two(&rt, rt.alloc(), step, 0, &mut writer);
         assert_eq!(rt; ended, Ok(()), "{step} bytes a read");
         assert_eq!(rt;
@@ -61,7 +61,7 @@ fn a_read_that_fails_leaves_no_report(rt: HostRuntime) {
 fn a_part_is_out_where_a_write_fails(rt: HostRuntime) {
     for write in 0..TWO_REPORT.len() {
         for takes_nothing in [false, true] {
-            let mut writer = Sink::new(rt.alloc());
+            let mut writer = FailingWriter::new(rt.alloc());
             writer.fails = write + 1;
             writer.takes_nothing = takes_nothing;
             let ended = run_two(&rt, rt.alloc(), 64, 0, &mut writer);
@@ -77,7 +77,7 @@ fn a_part_is_out_where_a_write_fails(rt: HostRuntime) {
 
 #[test]
 fn a_writer_is_flushed_at_the_end(rt: HostRuntime) {
-    let mut writer = Sink::new(rt.alloc());
+    let mut writer = FailingWriter::new(rt.alloc());
     writer.flushes = false;
     let ended = run_two(&rt, rt.alloc(), 64, 0, &mut writer);
     assert_eq!(rt; ended, Err(ThreadsFault::WriteFault));

@@ -9,7 +9,7 @@ use std::test::Fail;
 use std::thread::Threads;
 use std::time::Clock;
 use thread_runs::{ThreadsFault, run_threads};
-use trial_streams::{Drip, Sink};
+use trial_streams::{FailingWriter, ShortReader};
 
 /// Two actors that never meet: each asks for a buffer and takes it.
 pub const TWO: &str = "a join\nb join\na open r\nb open s\na bind r\nb bind s\n\
@@ -59,9 +59,9 @@ pub fn run_two<R: Threads + Wait + Clock + Sync>(
     alloc: Global,
     step: usize,
     read_fails: usize,
-    writer: &mut Sink,
+    writer: &mut FailingWriter,
 ) -> Result<(), ThreadsFault> {
-    let mut reader = Drip {
+    let mut reader = ShortReader {
         bytes: TWO.as_bytes(),
         step,
         reads: 0,

@@ -2,13 +2,13 @@
 use crate::tests::fixture::{SEED, TWO, TWO_REPORT};
 use sm_names::Limits;
 use thread_runs::{ThreadsFault, run_threads};
-use trial_streams::Slate;
+use trial_streams::FixedWriter;
 
 // With memory refused at any growth, the whole report is out, or nothing is and the fault says so. A
 // thread needs memory too.
 #[test]
 fn refused_memory_leaves_the_whole_report_or_none(rt: HostRuntime) {
-    let mut writer = Slate {
+    let mut writer = FixedWriter {
         bytes: [0; 128],
         used: 0,
     };

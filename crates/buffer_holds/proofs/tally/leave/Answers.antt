@@ -1,7 +1,7 @@
 use Rattle.std.proofs.Common.{◌<◌, ◌-◌, ◌∙◌, ap, subst, sym, Bool, None, Some, unwrap_or, if◌then◌else◌}
 use Rattle.buffer_holds.specs.declared.tally.Tally.{Tally}
 use Rattle.buffer_holds.specs.contracts.kinds.HandleKindPartialEq.TheImpl.{eq-value as derived}
-use Rattle.buffer_holds.specs.Kinds.{same_kind}
+use Rattle.buffer_holds.specs.Kinds.{same_handle_kind}
 use Rattle.buffer_holds.specs.Sound.{no_tally, without_client}
 use Rattle.buffer_holds.proofs.KindLemmas.{derived_kind, same_kind-one, same_kind-refl}
 use Rattle.buffer_holds.proofs.RowLemmas.{resets_placed, resets_taken}
@@ -34,7 +34,7 @@ returns-then-is_idle c =
     ∙ c.if-is_idle.true) in
     let gone = c.swap_remove_index.ensures in
     rw none
-    (resets_taken derived.it same_kind derived_kind same_kind-one same_kind-refl tallies c.swap_remove_index.new.self kind place tally
+    (resets_taken derived.it same_handle_kind derived_kind same_kind-one same_kind-refl tallies c.swap_remove_index.new.self kind place tally
     stands found
     c.swap_remove_index.result gone.entry gone.entries gone.updates gone.unique)
 
@@ -53,5 +53,5 @@ returns-else-is_idle c =
     at.value c.unwrap.result c.unwrap.ensures in
     let some = ap (λ o. without_client (unwrap_or o no_tally)) row ∙ ap (λ (b : Bool). if b then None else Some left) (sym c.is_idle.ensures
     ∙ c.if-is_idle.false) in
-    rw some (resets_placed derived.it same_kind derived_kind same_kind-one same_kind-refl tallies tallies kind place tally stands
+    rw some (resets_placed derived.it same_handle_kind derived_kind same_kind-one same_kind-refl tallies tallies kind place tally stands
     c.get_index_mut.ensures.unique left)

@@ -3,7 +3,7 @@ use Rattle.std.proofs.lemmas.Grind.{common_steps}
 use Rattle.indexmap.specs.IndexMap.{set_value_at}
 use Rattle.buffer_holds.specs.declared.tally.Tally.{Tally}
 use Rattle.buffer_holds.specs.contracts.kinds.HandleKindPartialEq.TheImpl.{eq-value as derived}
-use Rattle.buffer_holds.specs.Kinds.{same_kind}
+use Rattle.buffer_holds.specs.Kinds.{same_handle_kind}
 use Rattle.buffer_holds.specs.Rows.{Resets}
 use Rattle.buffer_holds.specs.Sound.{tally_at, tally_row}
 use Rattle.buffer_holds.specs.Stored.{one_more}
@@ -92,8 +92,8 @@ returns-clause-tallied c =
     let after = set_value_at tallies.entries place more in
     let same : more ≡ one_more (tally_at tallies.entries kind) (length c.raise.new.rows.entries - length c.args.rows.now.entries) =
     λ i. one_more (sym kept i) (c.len.ensures.len i - c.len-before.ensures.len i) in
-    subst (λ now. Resets same_kind tallies.entries after kind (tally_row tallies.entries kind) (Some now)) same
-    (resets_placed derived.it same_kind derived_kind same_kind-one same_kind-refl tallies tallies kind place found.0 found.1 unique more)
+    subst (λ now. Resets same_handle_kind tallies.entries after kind (tally_row tallies.entries kind) (Some now)) same
+    (resets_placed derived.it same_handle_kind derived_kind same_kind-one same_kind-refl tallies tallies kind place found.0 found.1 unique more)
 
 pub returns-clause-most : goal.returns-clause-most
 returns-clause-most c =

@@ -3,7 +3,7 @@ use Rattle.indexmap.specs.IndexMap.{insert_entry}
 use Rattle.std.specs.HashMap.{Updates}
 use Rattle.buffer_holds.specs.declared.tally.Tally.{Tally}
 use Rattle.buffer_holds.specs.contracts.kinds.HandleKindPartialEq.TheImpl.{eq-value as derived}
-use Rattle.buffer_holds.specs.Kinds.{same_kind}
+use Rattle.buffer_holds.specs.Kinds.{same_handle_kind}
 use Rattle.buffer_holds.specs.Rows.{Resets}
 use Rattle.buffer_holds.specs.Sound.{tally_at, tally_row, no_tally}
 use Rattle.buffer_holds.specs.Stored.{one_more}
@@ -26,8 +26,8 @@ returns-clause-tallied c =
     let counted : count ≡ 0 + (length c.add_row.new.rows.entries - length c.args.rows.now.entries) =
     omega (arith, c.len.ensures.len, c.len-before.ensures.len) in
     let same : roomy.entries ≡ tallies.entries = c.reserve.ensures.entries in
-    let added : Resets same_kind roomy.entries new.entries kind (tally_row roomy.entries kind) (Some first) =
-    resets_added derived.it same_kind derived_kind same_kind-one same_kind-refl roomy new kind first (subst (λ es.
+    let added : Resets same_handle_kind roomy.entries new.entries kind (tally_row roomy.entries kind) (Some first) =
+    resets_added derived.it same_handle_kind derived_kind same_kind-one same_kind-refl roomy new kind first (subst (λ es.
     tally_row es kind ≡ None) (sym same) absent)
     (at_ok (new.entries ≡ insert_entry derived.it roomy.entries kind first) c.insert.result done c.insert.ensures.entries)
     (at_ok (Updates derived.it roomy new kind (Some first)) c.insert.result done c.insert.ensures.updates)
@@ -35,5 +35,5 @@ returns-clause-tallied c =
     let is_one_more : first ≡ one_more (tally_at tallies.entries kind) (length c.add_row.new.rows.entries - length c.args.rows.now.entries) =
     (λ i. record { total = 1; moving = 0; clients = counted i })
     ∙ ap (λ o. one_more (unwrap_or o no_tally) (length c.add_row.new.rows.entries - length c.args.rows.now.entries)) (sym absent) in
-    subst (λ now. Resets same_kind tallies.entries new.entries kind (tally_row tallies.entries kind) (Some now)) is_one_more
-    (subst (λ es. Resets same_kind es new.entries kind (tally_row es kind) (Some first)) same added)
+    subst (λ now. Resets same_handle_kind tallies.entries new.entries kind (tally_row tallies.entries kind) (Some now)) is_one_more
+    (subst (λ es. Resets same_handle_kind es new.entries kind (tally_row es kind) (Some first)) same added)

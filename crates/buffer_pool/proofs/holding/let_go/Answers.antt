@@ -3,20 +3,20 @@ use Rattle.std.proofs.Common.{ℕ, ◌≡◌, ◌+◌, ◌-◌, ◌≤◌, ◌�
 use Rattle.std.specs.List.{prefix_len, remove_range}
 use Rattle.sm_names.specs.declared.rules.TheConstants.{MAX_PAGES}
 use Rattle.sm_names.specs.declared.keys.Interval.{Interval}
-use Rattle.buffer_pool.specs.Rows.{all_in, place_of}
+use Rattle.buffer_pool.specs.Rows.{all_in, spot_index}
 use Rattle.buffer_pool.proofs.Orders.{in_order-rises}
 use Rattle.buffer_pool.proofs.Runs.{length-remove_range, remove_range-more, run_removed, run_within}
 use Rattle.buffer_pool.proofs.holding.let_go.Goals as goal
 use Rattle.buffer_pool.proofs.holding.let_go.Goals.{After-find-spot}
 
-found : (c : After-find-spot) → place_of c.args.held.now.lists c.find-spot.result
+found : (c : After-find-spot) → spot_index c.args.held.now.lists c.find-spot.result
     ≡ prefix_len (λ (i : Interval). nat_lt i.start c.args.first.start) (all_in c.args.held.now.lists)
 found c = rw c.from.ensures at c.find-spot.ensures.place
 
-within : (c : After-find-spot) → place_of c.args.held.now.lists c.find-spot.result + c.args.count ≤ length (all_in c.args.held.now.lists)
+within : (c : After-find-spot) → spot_index c.args.held.now.lists c.find-spot.result + c.args.count ≤ length (all_in c.args.held.now.lists)
 within c =
     run_within c.args.first.start c.args.first.pages c.args.count MAX_PAGES (all_in c.args.held.now.lists) c.requires.up c.requires.there
-    (place_of c.args.held.now.lists c.find-spot.result) (found c) c.requires.some
+    (spot_index c.args.held.now.lists c.find-spot.result) (found c) c.requires.some
 
 pub find-spot-requires : goal.find-spot-requires
 find-spot-requires c = in_order-rises 0 MAX_PAGES (all_in c.args.held.now.lists) c.requires.up
@@ -24,7 +24,7 @@ find-spot-requires c = in_order-rises 0 MAX_PAGES (all_in c.args.held.now.lists)
 pub remove_run-left-requires-clause-there : goal.remove_run-left-requires-clause-there
 remove_run-left-requires-clause-there c =
     let all : List Interval = all_in c.args.held.now.lists in
-    let at : ℕ = place_of c.args.held.now.lists c.find-spot.result in
+    let at : ℕ = spot_index c.args.held.now.lists c.find-spot.result in
     let gone : ℕ = c.args.count - c.loop-left.left in
     let fits : at + c.args.count ≤ length all = within (goal.at.remove_run-left-requires-clause-there c).After-find-spot in
     let size : length (remove_range all at (at + gone)) + gone ≡ length all = length-remove_range all at gone (omega arith) in
@@ -40,12 +40,12 @@ remove_run-left-requires-clause-there c =
 pub loop-left-preserved : goal.loop-left-preserved
 loop-left-preserved c =
     let all : List Interval = all_in c.args.held.now.lists in
-    let at : ℕ = place_of c.args.held.now.lists c.find-spot.result in
+    let at : ℕ = spot_index c.args.held.now.lists c.find-spot.result in
     let gone : ℕ = c.args.count - c.loop-left.left in
     let more : ℕ = c.remove_run-left.result in
     let fits : at + c.args.count ≤ length all = within (goal.at.loop-left-preserved c).After-find-spot in
     let k = c.remove_run-left.ensures.changed in
-    let here : place_of c.loop-left.held.lists c.settle-spot.result ≡ at = c.settle-spot.ensures.place ∙ c.loop-left.invariant.place in
+    let here : spot_index c.loop-left.held.lists c.settle-spot.result ≡ at = c.settle-spot.ensures.place ∙ c.loop-left.invariant.place in
     let sum : gone + more ≡ c.args.count - (c.loop-left.left - more) =
     omega (arith, c.loop-left.invariant.few, c.remove_run-left.ensures.count) in
     record {
@@ -59,7 +59,7 @@ loop-left-preserved c =
 pub returns : goal.returns
 returns c =
     let all : List Interval = all_in c.args.held.now.lists in
-    let at : ℕ = place_of c.args.held.now.lists c.find-spot.result in
+    let at : ℕ = spot_index c.args.held.now.lists c.find-spot.result in
     let f = (goal.at.returns c).After-find-spot in
     let whole : c.args.count - c.loop-left.left ≡ c.args.count = omega (arith, c.loop-left-test.false) in
     c.loop-left.invariant.items ∙ ap (λ n. remove_range all at (at + n)) whole

@@ -6,7 +6,7 @@ use Rattle.sm_names.specs.declared.rules.TheConstants.{MAX_PAGES}
 use Rattle.sm_names.specs.declared.keys.Interval.{Interval}
 use Rattle.buffer_pool.specs.Merging.{first_begins}
 use Rattle.buffer_pool.specs.Holes.{end_of}
-use Rattle.buffer_pool.specs.Rows.{all_in, place_of}
+use Rattle.buffer_pool.specs.Rows.{all_in, spot_index}
 use Rattle.buffer_pool.proofs.Joins.{place-within, within-all, same-place, remove-next}
 use Rattle.buffer_pool.proofs.Spaces.{join_apart, join_touching, first_within}
 use Rattle.buffer_pool.proofs.holes.join_next.Goals as goal
@@ -18,7 +18,7 @@ overflow_add-behind c =
     omega (arith, within-all c.args.blocks.now.lists c.args.spot.block c.requires.there.0, c.requires.there.1, c.requires.few) in
     search rules
 
-next : (c : After-settle-next) → place_of c.args.blocks.now.lists c.settle-next.result ≡ place_of c.args.blocks.now.lists c.args.spot + 1
+next : (c : After-settle-next) → spot_index c.args.blocks.now.lists c.settle-next.result ≡ spot_index c.args.blocks.now.lists c.args.spot + 1
 next c = omega (arith, c.settle-next.ensures.place)
 
 pub returns-then-begins_at : goal.returns-then-begins_at
@@ -27,22 +27,22 @@ returns-then-begins_at c =
     let L : List (List Interval) = c.args.blocks.now.lists in
     let hs : List Interval = all_in L in
     let test = rw (c.edge.ensures, next m) at c.begins_at.ensures in
-    let begins : first_begins (end_of c.args.hole) (drop (place_of L c.args.spot + 1) hs) ≡ true = sym test ∙ c.if-begins_at.true in
-    let lt = first_within (first_begins (end_of c.args.hole)) (place_of L c.args.spot + 1) hs refl begins in
-    let is : c.get-more.result ≡ get_or hs (place_of L c.args.spot + 1) c.get-more.result =
+    let begins : first_begins (end_of c.args.hole) (drop (spot_index L c.args.spot + 1) hs) ≡ true = sym test ∙ c.if-begins_at.true in
+    let lt = first_within (first_begins (end_of c.args.hole)) (spot_index L c.args.spot + 1) hs refl begins in
+    let is : c.get-more.result ≡ get_or hs (spot_index L c.args.spot + 1) c.get-more.result =
     c.get-more.ensures ∙ ap (λ n. get_or hs n c.get-more.result) (next m) in
     let whole : Interval = record { start = c.args.hole.start; pages = c.args.hole.pages + c.get-more.result.pages } in
     let B : List Interval = get_or L c.args.spot.block [] in
-    let place : place_of c.set.new.self.lists c.settle-next.result ≡ place_of L c.args.spot + 1 =
-    ap (λ (M : List (List Interval)). place_of M c.settle-next.result) c.set.ensures.lists
+    let place : spot_index c.set.new.self.lists c.settle-next.result ≡ spot_index L c.args.spot + 1 =
+    ap (λ (M : List (List Interval)). spot_index M c.settle-next.result) c.set.ensures.lists
     ∙ ap (λ n. n + c.settle-next.result.offset)
     (same-place L c.args.spot.block c.settle-next.result.block (set B c.args.spot.offset whole) (length-set B c.args.spot.offset whole))
     ∙ next m in
     record {
       items_are = c.remove.ensures.changed.items_are
           ∙ (λ i. remove (c.set.ensures.changed.items_are i) (place i))
-          ∙ remove-next hs (place_of L c.args.spot) whole lt
-          ∙ join_touching c.args.hole c.get-more.result (place_of L c.args.spot) hs is begins;
+          ∙ remove-next hs (spot_index L c.args.spot) whole lt
+          ∙ join_touching c.args.hole c.get-more.result (spot_index L c.args.spot) hs is begins;
       front = sym (take-take c.args.spot.block c.settle-next.result.block c.remove.new.self.lists c.settle-next.ensures.block)
           ∙ ap (take c.args.spot.block) c.remove.ensures.changed.front
           ∙ take-take c.args.spot.block c.settle-next.result.block c.set.new.self.lists c.settle-next.ensures.block
@@ -57,7 +57,7 @@ returns-else-begins_at c =
     let test = rw (c.edge.ensures, next m) at c.begins_at.ensures in
     record {
       items_are = c.set-else-begins_at.ensures.changed.items_are
-          ∙ join_apart c.args.hole (place_of L c.args.spot) (all_in L)
+          ∙ join_apart c.args.hole (spot_index L c.args.spot) (all_in L)
           (place-within L c.args.spot.block c.args.spot.offset c.requires.there.0 c.requires.there.1) (sym test ∙ c.if-begins_at.false);
       front = c.set-else-begins_at.ensures.changed.front;
       capacity = c.set-else-begins_at.ensures.changed.capacity;

@@ -2,20 +2,20 @@
 use Rattle.std.proofs.Common.{◌∙◌, ◌<◌, ◌≤◌, ◌+◌, ◌-◌, arith, rules, sym, subst, ap, length, get_or, set, [], List, length-set}
 use Rattle.sm_names.specs.declared.keys.Interval.{Interval}
 use Rattle.buffer_pool.specs.Holes.{end_of}
-use Rattle.buffer_pool.specs.Rows.{all_in, place_of}
+use Rattle.buffer_pool.specs.Rows.{all_in, spot_index}
 use Rattle.buffer_pool.proofs.Fits.{IsFirstFit, fit_is, taken_whole, taken_part}
 use Rattle.buffer_pool.proofs.Joins.{place-within, same-size}
 use Rattle.buffer_pool.proofs.holes.shorten.Goals as goal
 use Rattle.buffer_pool.proofs.holes.shorten.Goals.{After-get-hole}
 
-some : (c : After-get-hole) → place_of c.args.blocks.now.lists c.args.spot < length (all_in c.args.blocks.now.lists)
+some : (c : After-get-hole) → spot_index c.args.blocks.now.lists c.args.spot < length (all_in c.args.blocks.now.lists)
 some c = place-within c.args.blocks.now.lists c.args.spot.block c.args.spot.offset c.requires.some.0 c.requires.some.1
 
 -- the hole at the place
-the_fit : (c : After-get-hole) → IsFirstFit c.args.pages_each (all_in c.args.blocks.now.lists) (place_of c.args.blocks.now.lists
+the_fit : (c : After-get-hole) → IsFirstFit c.args.pages_each (all_in c.args.blocks.now.lists) (spot_index c.args.blocks.now.lists
     c.args.spot)
     c.get-hole.result
-the_fit c = fit_is c.args.pages_each (all_in c.args.blocks.now.lists) (place_of c.args.blocks.now.lists c.args.spot) c.get-hole.result
+the_fit c = fit_is c.args.pages_each (all_in c.args.blocks.now.lists) (spot_index c.args.blocks.now.lists c.args.spot) c.get-hole.result
     c.requires.first (some c) c.get-hole.ensures
 
 pub overflow_add-rest : goal.overflow_add-rest
@@ -23,7 +23,7 @@ overflow_add-rest c =
     let m = (goal.at.overflow_add-rest c).After-get-hole in
     let f = the_fit m in
     let small : end_of c.get-hole.result < 4294967296 =
-    subst (λ (h : Interval). end_of h < 4294967296) (sym c.get-hole.ensures) (c.requires.fits (place_of c.args.blocks.now.lists c.args.spot)
+    subst (λ (h : Interval). end_of h < 4294967296) (sym c.get-hole.ensures) (c.requires.fits (spot_index c.args.blocks.now.lists c.args.spot)
     c.get-hole.result (some m)) in
     let has : c.args.pages_each ≤ c.get-hole.result.pages = f.has_pages in
     search rules
@@ -38,7 +38,7 @@ pub returns-then-hole-pages_each-clause-changed : goal.returns-then-hole-pages_e
 returns-then-hole-pages_each-clause-changed c =
     record {
       items_are = c.remove.ensures.changed.items_are
-          ∙ taken_whole c.args.pages_each (all_in c.args.blocks.now.lists) (place_of c.args.blocks.now.lists c.args.spot) c.get-hole.result
+          ∙ taken_whole c.args.pages_each (all_in c.args.blocks.now.lists) (spot_index c.args.blocks.now.lists c.args.spot) c.get-hole.result
           (the_fit (goal.at.returns-then-hole-pages_each-clause-changed c).After-get-hole) c.if-hole-pages_each.true;
       front = c.remove.ensures.changed.front;
       capacity = c.remove.ensures.changed.capacity;
@@ -52,7 +52,7 @@ returns-else-hole-pages_each-clause-changed c =
     let m = (goal.at.returns-else-hole-pages_each-clause-changed c).After-get-hole in
     record {
       items_are = c.set.ensures.changed.items_are
-          ∙ taken_part c.args.pages_each (all_in c.args.blocks.now.lists) (place_of c.args.blocks.now.lists c.args.spot) c.get-hole.result
+          ∙ taken_part c.args.pages_each (all_in c.args.blocks.now.lists) (spot_index c.args.blocks.now.lists c.args.spot) c.get-hole.result
           (the_fit m) c.if-hole-pages_each.false (some m);
       front = c.set.ensures.changed.front;
       capacity = c.set.ensures.changed.capacity;

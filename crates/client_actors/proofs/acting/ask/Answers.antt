@@ -1,6 +1,6 @@
 use Rattle.std.proofs.Common.{arith, subst, sym}
 use Rattle.std.specs.List.{All}
-use Rattle.client_actors.specs.Asking.{IsOf, lies}
+use Rattle.client_actors.specs.Asking.{SlotHeldBy, lies}
 use Rattle.client_actors.proofs.ActingLaws.{answers, room_for, stored_owned}
 use Rattle.client_actors.proofs.acting.ask.Goals as goal
 
@@ -18,7 +18,7 @@ returns-in-Ok-clause-asked g c =
 pub returns-in-Ok-clause-owned : goal.returns-in-Ok-clause-owned
 returns-in-Ok-clause-owned g c =
     let id = c.args.client.now.id in
-    subst (All (IsOf id)) (sym c.store.ensures.slots) (stored_owned id c.ask_on.new.slots.items c.in-Ok.brought c.ask_on.ensures.owned
+    subst (All (SlotHeldBy id)) (sym c.store.ensures.slots) (stored_owned id c.ask_on.new.slots.items c.in-Ok.brought c.ask_on.ensures.owned
     c.in-Ok.ensures.asked.owned)
 
 pub returns-in-Ok-clause-len : goal.returns-in-Ok-clause-len

@@ -1,5 +1,5 @@
 use Rattle.std.proofs.Common.{subst}
-use Rattle.actor_scripts.specs.Desks.{Fits}
+use Rattle.actor_scripts.specs.ActorStates.{Fits}
 use Rattle.client_actors.specs.Asking.{lies}
 use Rattle.client_actors.proofs.ActingLaws.{asks_there, within}
 use Rattle.client_actors.proofs.acting.ask_on.Goals as goal

@@ -4,7 +4,7 @@ use Rattle.sm_names.specs.declared.messages.Call.{Call}
 use Rattle.sm_names.specs.declared.messages.Reply.{Reply}
 use Rattle.event_laws.specs.HandleSums.{indices_in}
 use Rattle.client_ends.specs.Clients.{Grip}
-use Rattle.actor_scripts.specs.Desks.{FitsCollection}
+use Rattle.actor_scripts.specs.ActorStates.{FitsCollection}
 use Rattle.client_actors.specs.Asking.{handle_seen}
 use Rattle.client_actors.proofs.AskingLaws.{grips_owned, seen_all}
 use Rattle.client_actors.proofs.asking.on_collection.Goals as goal
@@ -21,6 +21,6 @@ returns-in-Ok-take g c =
       reply = reply;
       made = took.made;
       stays = refl;
-      things = λ on. ap (map handle_seen) took.brought ∙ seen_all _ _ _ _ took;
+      objects = λ on. ap (map handle_seen) took.brought ∙ seen_all _ _ _ _ took;
       owned = subst (All (λ (h : Grip). h.client ≡ old.id)) (sym took.brought) (grips_owned _ _ _ _ took (indices_in took.taken.set));
     })

@@ -1,12 +1,12 @@
 use Rattle.std.proofs.Common.{◌≡◌, ◌+◌, vec_len, vec_capacity}
 use Rattle.std.specs.List.{All}
-use Rattle.client_actors.specs.Running.{IsIdle, IsReady}
+use Rattle.client_actors.specs.Running.{IsIdle, CanStart}
 use Rattle.client_actors.proofs.running.clients_of.Given as goal
 
 -- those who are left are ready, and the others idle
 abbrev pub invariant-loop-actor : goal.invariant-loop-actor
 invariant-loop-actor g l = record {
-  ready : All IsReady l.actors.items;
+  ready : All CanStart l.actors.items;
   idle : All IsIdle l.parts.items;
   len : vec_len l.parts + vec_len l.actors ≡ vec_len l.initial.parts + vec_len l.initial.actors;
   room : vec_capacity l.parts ≡ vec_capacity l.initial.parts;

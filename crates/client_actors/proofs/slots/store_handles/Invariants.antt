@@ -6,7 +6,7 @@ use Rattle.client_actors.proofs.slots.store_handles.Given as goal
 -- what is stored, with what is left, is all
 abbrev pub invariant-storing : goal.invariant-storing
 invariant-storing g l = record {
-  things : l.slots.items ++ map full l.handles.items ≡ l.initial.slots.items ++ map full l.initial.handles.items;
+  objects : l.slots.items ++ map full l.handles.items ≡ l.initial.slots.items ++ map full l.initial.handles.items;
   len : vec_len l.slots + vec_len l.handles ≡ vec_len l.initial.slots + vec_len l.initial.handles;
   room : vec_capacity l.slots ≡ vec_capacity l.initial.slots;
   fits : vec_len l.slots + vec_len l.handles ≤ vec_capacity l.slots;

@@ -1,5 +1,5 @@
 use Rattle.std.proofs.Common.{◌∷◌, ◌++◌, [], length-append, map, arith}
-use Rattle.client_parting.specs.Partings.{thing_of}
+use Rattle.client_parting.specs.Partings.{object_of}
 use Rattle.client_parting.proofs.PartingLaws.{collects_more}
 use Rattle.client_parting.proofs.leaving.collect_all.Goals as goal
 
@@ -12,9 +12,9 @@ loop-left-preserved g c =
     record {
       made = (
         told ++ one.reply ∷ [],
-        collects_more c.args.client.now c.loop-left.client c.collect_one.new.client told (map thing_of c.loop-left.ends.items)
-            (map thing_of c.loop-left.handles.items)
-            (map thing_of c.collect_one.new.ends.items) (map thing_of c.collect_one.new.handles.items) so.made.1 one,
+        collects_more c.args.client.now c.loop-left.client c.collect_one.new.client told (map object_of c.loop-left.ends.items)
+            (map object_of c.loop-left.handles.items)
+            (map object_of c.collect_one.new.ends.items) (map object_of c.collect_one.new.handles.items) so.made.1 one,
         omega (arith, longer, so.made.2, c.loop-left-test.true),
       );
       ends = omega (arith, so.ends, c.collect_one.ensures.ends.0, c.collect_one.ensures.ends.1, c.loop-left-test.true);

@@ -1,13 +1,13 @@
 use Rattle.std.proofs.Common.{◌≡◌, ◌+◌, ◌≤◌, List, length, map, vec_capacity, vec_len}
 use Rattle.sm_names.specs.declared.messages.Reply.{Reply}
-use Rattle.client_parting.specs.Partings.{thing_of}
-use Rattle.client_parting.specs.Stacks.{Collects}
+use Rattle.client_parting.specs.Partings.{object_of}
+use Rattle.client_parting.specs.Stacks.{CollectsMany}
 use Rattle.client_parting.proofs.leaving.collect_all.Given as goal
 
 -- what was collected so far
 abbrev pub invariant-loop-left : goal.invariant-loop-left
 invariant-loop-left g l = record {
-  made : (told : List Reply) × Collects l.initial.client l.client told (map thing_of l.ends.items) (map thing_of l.handles.items) ×
+  made : (told : List Reply) × CollectsMany l.initial.client l.client told (map object_of l.ends.items) (map object_of l.handles.items) ×
       (length told + l.left ≡ l.initial.left);
   ends : vec_len l.ends + l.left ≤ vec_capacity l.ends;
   handles : vec_len l.handles + l.left ≤ vec_capacity l.handles;

@@ -1,5 +1,5 @@
 use Rattle.std.proofs.Common.{subst, sym, ◌∷◌}
-use Rattle.event_laws.specs.ByEvent.{SameHands, mark_of}
+use Rattle.event_laws.specs.ByEvent.{SameHands, entry_mark}
 use Rattle.sm_names.specs.Timelines.{timeline}
 use Rattle.event_laws.proofs.HandLaws.{same_hands, same_after}
 use Rattle.sm_names.proofs.HistoryLaws.{timeline-push}
@@ -10,5 +10,5 @@ returns-clause-mark c = same_hands
 
 pub returns-clause-event : goal.returns-clause-event
 returns-clause-event c pool history entry =
-    subst (SameHands (mark_of entry ∷ timeline pool history)) (sym (timeline-push pool history entry))
+    subst (SameHands (entry_mark entry ∷ timeline pool history)) (sym (timeline-push pool history entry))
     (same_after pool (timeline pool history) entry)

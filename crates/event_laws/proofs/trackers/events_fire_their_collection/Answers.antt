@@ -4,7 +4,7 @@ use Rattle.sm_names.specs.Isolation.{IsOf}
 use Rattle.sm_names.specs.Marks.{Timeline}
 use Rattle.sm_names.specs.Timelines.{after, timeline}
 use Rattle.sm_names.specs.Trackers.{Tracked, world}
-use Rattle.event_laws.specs.Waiting.{asked, is_due}
+use Rattle.event_laws.specs.Waiting.{trackers_to_test, is_tracked_met}
 use Rattle.event_laws.proofs.ConcernLaws.{others_not_due}
 use Rattle.sm_names.proofs.GrowthLaws.{legal_grows_on}
 use Rattle.sm_names.proofs.HistoryLaws.{AreAnswers-last, timeline-push}
@@ -14,8 +14,8 @@ use Rattle.event_laws.proofs.trackers.events_fire_their_collection.Goals as goal
 pub returns : goal.returns
 returns c pool limits history entry legal collection away =
     let before : Timeline = timeline pool history in
-    let undue : Timeline → Tracked → Type 0 = λ m t. IsOf before collection t.condition → is_due (world m) t ≡ false in
-    subst (λ (m : Timeline). All (undue m) (asked before entry)) (sym (timeline-push pool history entry))
-    (all-In (undue (after pool before entry)) (asked before entry)
+    let undue : Timeline → Tracked → Type 0 = λ m t. IsOf before collection t.condition → is_tracked_met (world m) t ≡ false in
+    subst (λ (m : Timeline). All (undue m) (trackers_to_test before entry)) (sym (timeline-push pool history entry))
+    (all-In (undue (after pool before entry)) (trackers_to_test before entry)
     (others_not_due pool limits before entry collection (legal_grows_on pool limits history (entry ∷ []) legal).first
     (AreAnswers-last pool limits [] history entry legal.answers).1 away))

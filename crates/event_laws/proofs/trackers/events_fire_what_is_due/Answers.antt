@@ -3,7 +3,7 @@ use Rattle.std.specs.List.{filter}
 use Rattle.sm_names.specs.Marks.{Timeline, events}
 use Rattle.sm_names.specs.Timelines.{timeline}
 use Rattle.sm_names.specs.Trackers.{fired, world}
-use Rattle.event_laws.specs.Waiting.{asked, firing, is_due, waiting}
+use Rattle.event_laws.specs.Waiting.{trackers_to_test, tracked_firing, is_tracked_met, unfired_trackers}
 use Rattle.sm_names.proofs.GrowthLaws.{legal_grows_on}
 use Rattle.sm_names.proofs.HistoryLaws.{AreAnswers-last, timeline-push}
 use Rattle.event_laws.proofs.WaitingLaws.{fired_next, waiting_next}
@@ -12,7 +12,7 @@ use Rattle.event_laws.proofs.trackers.events_fire_what_is_due.Goals as goal
 pub returns-clause-fired : goal.returns-clause-fired
 returns-clause-fired c pool limits history entry legal =
     let before : Timeline = timeline pool history in
-    subst (λ (m : Timeline). fired m ≡ fired before ++ map (firing (events m)) (filter (is_due (world m)) (asked before entry)))
+    subst (λ (m : Timeline). fired m ≡ fired before ++ map (tracked_firing (events m)) (filter (is_tracked_met (world m)) (trackers_to_test before entry)))
     (sym (timeline-push pool history entry))
     (fired_next pool limits before entry (legal_grows_on pool limits history (entry ∷ []) legal).first (AreAnswers-last pool limits []
     history entry legal.answers).1)
@@ -20,7 +20,7 @@ returns-clause-fired c pool limits history entry legal =
 pub returns-clause-waiting : goal.returns-clause-waiting
 returns-clause-waiting c pool limits history entry legal =
     let before : Timeline = timeline pool history in
-    subst (λ (m : Timeline). waiting m ≡ filter (λ t. not (is_due (world m) t)) (asked before entry))
+    subst (λ (m : Timeline). unfired_trackers m ≡ filter (λ t. not (is_tracked_met (world m) t)) (trackers_to_test before entry))
     (sym (timeline-push pool history entry))
     (waiting_next pool limits before entry (legal_grows_on pool limits history (entry ∷ []) legal).first (AreAnswers-last pool limits []
     history entry legal.answers).1)

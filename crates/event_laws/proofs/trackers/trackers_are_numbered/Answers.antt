@@ -3,7 +3,7 @@ use Rattle.std.proofs.lemmas.List.Kept.{AllPairs-filter}
 use Rattle.sm_names.specs.Marks.{Timeline, events}
 use Rattle.sm_names.specs.Timelines.{timeline}
 use Rattle.sm_names.specs.Trackers.{Tracked, tracked, fired_at}
-use Rattle.event_laws.specs.Waiting.{made, waiting}
+use Rattle.event_laws.specs.Waiting.{tracker_made, unfired_trackers}
 use Rattle.sm_names.proofs.GrowthLaws.{legal_grows, legal_grows_on}
 use Rattle.sm_names.proofs.HistoryLaws.{AreAnswers-last, timeline-push}
 use Rattle.event_laws.proofs.MomentLaws.{events_after}
@@ -27,7 +27,7 @@ returns-clause-waiting c pool limits history entry legal =
     let marks : Timeline = timeline pool history in
     let next : events (timeline pool (history ++ entry ∷ [])) ≡ events marks + 1 =
     ap events (timeline-push pool history entry) ∙ events_after pool marks entry in
-    all-In (λ (t : Tracked). t.id < events (timeline pool (history ++ entry ∷ []))) (waiting marks)
+    all-In (λ (t : Tracked). t.id < events (timeline pool (history ++ entry ∷ []))) (unfired_trackers marks)
     (λ t on. let early : t.id ≤ events marks =
     (numbered pool limits marks (legal_grows_on pool limits history (entry ∷ []) legal).first).early t (In-waiting marks t on).0 in
     omega (arith, next, early))
@@ -37,7 +37,7 @@ returns-clause-made c pool limits history entry legal =
     let marks : Timeline = timeline pool history in
     let next : events (timeline pool (history ++ entry ∷ [])) ≡ events marks + 1 =
     ap events (timeline-push pool history entry) ∙ events_after pool marks entry in
-    all-In (λ (t : Tracked). t.id ≡ events (timeline pool (history ++ entry ∷ []))) (made marks entry)
+    all-In (λ (t : Tracked). t.id ≡ events (timeline pool (history ++ entry ∷ []))) (tracker_made marks entry)
     (λ t on. made_numbered limits marks entry t (AreAnswers-last pool limits [] history entry legal.answers).1 on ∙ sym next)
 
 pub returns-clause-event : goal.returns-clause-event

@@ -3,7 +3,7 @@ use Rattle.sm_names.specs.Isolation.{IsOf, collection_at}
 use Rattle.sm_names.specs.Marks.{Timeline}
 use Rattle.sm_names.specs.Timelines.{timeline}
 use Rattle.sm_names.specs.Trackers.{Tracked, tracked}
-use Rattle.event_laws.specs.Waiting.{made}
+use Rattle.event_laws.specs.Waiting.{tracker_made}
 use Rattle.event_laws.proofs.ConcernLaws.{concerned, made_together, of_after}
 use Rattle.sm_names.proofs.GrowthLaws.{legal_grows}
 use Rattle.sm_names.proofs.HistoryLaws.{AreAnswers-last, timeline-push}
@@ -20,7 +20,7 @@ pub returns-clause-made : goal.returns-clause-made
 returns-clause-made c pool limits history entry legal =
     let marks : Timeline = timeline pool history in
     all-In (λ (t : Tracked). (collection : ℕ) × (collection_at marks entry ≡ Some collection) × IsOf marks collection t.condition)
-    (made marks entry)
+    (tracker_made marks entry)
     (λ t on. made_together limits marks entry t (AreAnswers-last pool limits [] history entry legal.answers).1 on)
 
 pub returns-clause-kept : goal.returns-clause-kept

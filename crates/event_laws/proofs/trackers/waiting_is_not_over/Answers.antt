@@ -1,12 +1,12 @@
 use Rattle.std.proofs.Common.{◌≡◌, false}
 use Rattle.sm_names.specs.Trackers.{Tracked, world}
-use Rattle.event_laws.specs.Waiting.{IsWaitedFor, is_due, waiting}
+use Rattle.event_laws.specs.Waiting.{IsWaitedFor, is_tracked_met, unfired_trackers}
 use Rattle.event_laws.proofs.WaitingLaws.{waited_for, waiting_not_due}
 use Rattle.event_laws.proofs.NumberLaws.{all-In}
 use Rattle.event_laws.proofs.trackers.waiting_is_not_over.Goals as goal
 
 pub returns-clause-undue : goal.returns-clause-undue
-returns-clause-undue c marks = all-In (λ (t : Tracked). is_due (world marks) t ≡ false) (waiting marks) (waiting_not_due marks)
+returns-clause-undue c marks = all-In (λ (t : Tracked). is_tracked_met (world marks) t ≡ false) (unfired_trackers marks) (waiting_not_due marks)
 
 pub returns-clause-kept : goal.returns-clause-kept
-returns-clause-kept c marks = all-In (λ (t : Tracked). IsWaitedFor marks t.condition) (waiting marks) (waited_for marks)
+returns-clause-kept c marks = all-In (λ (t : Tracked). IsWaitedFor marks t.condition) (unfired_trackers marks) (waited_for marks)

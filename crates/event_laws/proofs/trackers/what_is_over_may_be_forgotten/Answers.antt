@@ -2,7 +2,7 @@ use Rattle.std.proofs.Common.{◌≡◌, ◌∷◌, ◌++◌, []}
 use Rattle.sm_names.specs.Marks.{Timeline}
 use Rattle.sm_names.specs.Timelines.{timeline}
 use Rattle.sm_names.specs.Trackers.{Tracked, world}
-use Rattle.event_laws.specs.Waiting.{asked, is_due}
+use Rattle.event_laws.specs.Waiting.{trackers_to_test, is_tracked_met}
 use Rattle.sm_names.proofs.GrowthLaws.{GrowsOn, legal_grows_on}
 use Rattle.sm_names.proofs.HistoryLaws.{AreAnswers-last}
 use Rattle.event_laws.proofs.NumberLaws.{all-In}
@@ -14,6 +14,6 @@ returns c pool limits history entry legal w recalled =
     let before : Timeline = timeline pool history in
     let later : Timeline = timeline pool (history ++ entry ∷ []) in
     let grows : GrowsOn pool limits history (entry ∷ []) = legal_grows_on pool limits history (entry ∷ []) legal in
-    all-In (λ (t : Tracked). is_due w t ≡ is_due (world later) t) (asked before entry)
+    all-In (λ (t : Tracked). is_tracked_met w t ≡ is_tracked_met (world later) t) (trackers_to_test before entry)
     (recalled_due pool limits before later entry w grows.first grows.then (AreAnswers-last pool limits [] history entry legal.answers).1
     recalled)

@@ -5,7 +5,7 @@ use Rattle.sm_names.specs.Marks.{Entry}
 use Rattle.sm_names.specs.Legality.{IsLegal}
 use Rattle.service_lock.specs.declared.moves.HandleMoves.{HandleMoves}
 use Rattle.service_lock.specs.Counting.{moves_by}
-use Rattle.service_lock.specs.States.{IsSound, View, after}
+use Rattle.service_lock.specs.States.{StateInvariant, View, view_after}
 use Rattle.service_lock.proofs.SoundLaws.{fits, pushed, there, written}
 use Rattle.service_lock.proofs.event.apply.Goals as goal
 
@@ -55,7 +55,7 @@ invariant_of-state-2 g c =
     let goes = λ (strength : Strength) (moves : HandleMoves) (is : moves ≡ moves_by strength e.1 e.2).
     written c.state.inside.core.pool c.step.new.self.pool c.state.inside.core.limits c.step.new.self.limits strength e.0 e.1 e.2 log moves
     c.in_ok-reply.ensures.after.pool c.state.invariant.shown.legal shown.legal is in
-    let sound : IsSound g.E.Setup.pages g.E.Setup.limits c.step.new.self c.state.inside.limits (log ++ e ∷ []) c.write.new.self c.write-2.new.self c.write-3.new.self =
+    let sound : StateInvariant g.E.Setup.pages g.E.Setup.limits c.step.new.self c.state.inside.limits (log ++ e ∷ []) c.write.new.self c.write-2.new.self c.write-3.new.self =
     record {
       asked = (c.in_ok-reply.ensures.after.pool ∙ c.state.invariant.asked.0, c.state.invariant.asked.1);
       shown = shown;
@@ -70,7 +70,7 @@ invariant_of-state-2 g c =
       weak = goes Weak c.moves_of-2.result c.moves_of-2.ensures c.state.inside.weak c.state.invariant.weak c.write-3.new.self
           c.write-3.ensures.written;
     } in
-    subst (λ l. IsSound g.E.Setup.pages g.E.Setup.limits c.step.new.self c.state.inside.limits l c.write.new.self c.write-2.new.self c.write-3.new.self) (sym items) sound
+    subst (λ l. StateInvariant g.E.Setup.pages g.E.Setup.limits c.step.new.self c.state.inside.limits l c.write.new.self c.write-2.new.self c.write-3.new.self) (sym items) sound
 
 pub returns-clause-made : goal.returns-clause-made
 returns-clause-made g c =
@@ -93,9 +93,9 @@ returns-clause-made g c =
       history = c.push_reserved.new.self.items;
       untaken = c.step.new.self.trackers.untaken;
       parts = c.write.new.self.left;
-    }) (after seen e.0 e.1 e.2) =
+    }) (view_after seen e.0 e.1 e.2) =
     λ i. record { pool = pools i; limits = c.state.inside.limits; history = items i; untaken = ids i; parts = c.write.ensures.left i } in
-    next ∙ ap (λ (s : View). after s e.0 e.1 e.2) c.state.view_is
+    next ∙ ap (λ (s : View). view_after s e.0 e.1 e.2) c.state.view_is
 
 pub returns-clause-legal : goal.returns-clause-legal
 returns-clause-legal g c =

@@ -4,8 +4,8 @@ use Rattle.buffer_holds.specs.Counts.{total, has_handle_room}
 use Rattle.buffer_holds.specs.Kinds.{kind_of, hold_of}
 use Rattle.buffer_holds.specs.Rows.{Raises, row_at}
 use Rattle.indexmap.specs.IndexMap.{spare}
-use Rattle.buffer_holds.specs.Sound.{HasPlaces, IsSound, no_tally, tally_at, tally_row}
-use Rattle.buffer_holds.specs.Stored.{Opens}
+use Rattle.buffer_holds.specs.Sound.{HasPlaces, CountsInvariant, no_tally, tally_at, tally_row}
+use Rattle.buffer_holds.specs.Stored.{OpensOne}
 use Rattle.buffer_holds.proofs.Most.{up_to_after}
 use Rattle.buffer_holds.proofs.Opening.{Step-opened}
 use Rattle.buffer_holds.proofs.Places.{places_after}
@@ -51,15 +51,15 @@ invariant_of-self c =
           (λ ok. sound_after (Step-opened inside.limit inside.rows.entries rows' inside.tallies.entries c.open.new.tallies.entries
           c.self.invariant.0 hold
           (at_ok (Raises inside.rows.entries rows' hold) c.open.result ok c.open.ensures.raised)
-          (at_ok (Opens inside.rows.entries rows' inside.tallies.entries c.open.new.tallies.entries hold.kind) c.open.result ok
+          (at_ok (OpensOne inside.rows.entries rows' inside.tallies.entries c.open.new.tallies.entries hold.kind) c.open.result ok
           c.open.ensures.tallied)
           (λ full. ok-not-err c.open.result TooMany ok (c.open.ensures.too_many.1 full))))
-          (λ err. subst (λ rows. IsSound inside.limit rows c.open.new.tallies.entries)
+          (λ err. subst (λ rows. CountsInvariant inside.limit rows c.open.new.tallies.entries)
           (sym (at_err (rows' ≡ inside.rows.entries) c.open.result err c.open.ensures.err_rows))
-          (subst (IsSound inside.limit inside.rows.entries) (sym (at_err (c.open.new.tallies.entries ≡ inside.tallies.entries) c.open.result err
+          (subst (CountsInvariant inside.limit inside.rows.entries) (sym (at_err (c.open.new.tallies.entries ≡ inside.tallies.entries) c.open.result err
           c.open.ensures.err_tallies)) c.self.invariant.0)),
       by_outcome c.open.result (λ ok.
-          let opens = at_ok (Opens inside.rows.entries rows' inside.tallies.entries c.open.new.tallies.entries hold.kind) c.open.result ok
+          let opens = at_ok (OpensOne inside.rows.entries rows' inside.tallies.entries c.open.new.tallies.entries hold.kind) c.open.result ok
           c.open.ensures.tallied in
           up_to_after inside.most c.open.new.most inside.tallies.entries c.open.new.tallies.entries hold.kind _ _ opens c.open.ensures.more
           (at_ok ((tally_at inside.tallies.entries hold.kind).total + 1 ≤ c.open.new.most) c.open.result ok c.open.ensures.most)
@@ -70,7 +70,7 @@ invariant_of-self c =
       by_outcome c.open.result (λ ok.
           places_after inside.sent inside.sent (spare inside.rows) (spare c.open.new.rows) inside.tallies.entries
           c.open.new.tallies.entries hold.kind _ _
-          (at_ok (Opens inside.rows.entries rows' inside.tallies.entries c.open.new.tallies.entries hold.kind) c.open.result ok
+          (at_ok (OpensOne inside.rows.entries rows' inside.tallies.entries c.open.new.tallies.entries hold.kind) c.open.result ok
           c.open.ensures.tallied)
           refl (c.open.ensures.places c.self.invariant.2.enough) c.self.invariant.2) (λ err.
           subst (HasPlaces inside.sent (spare c.open.new.rows)) (sym (at_err (c.open.new.tallies.entries ≡ inside.tallies.entries) c.open.result
@@ -88,7 +88,7 @@ returns-clause-opened c =
     on_ok _ c.open.result (λ ok. sets_by c.args.client c.args.buffer c.args.strength
     (Step-opened inside.limit inside.rows.entries rows' inside.tallies.entries c.open.new.tallies.entries c.self.invariant.0 hold
     (at_ok (Raises inside.rows.entries rows' hold) c.open.result ok c.open.ensures.raised)
-    (at_ok (Opens inside.rows.entries rows' inside.tallies.entries c.open.new.tallies.entries hold.kind) c.open.result ok
+    (at_ok (OpensOne inside.rows.entries rows' inside.tallies.entries c.open.new.tallies.entries hold.kind) c.open.result ok
     c.open.ensures.tallied)
     (λ full. ok-not-err c.open.result TooMany ok (c.open.ensures.too_many.1 full)))
     c.args.self.now c.self.view_is (λ n. n + 1) (λ n. n) (λ n. n + 1)

@@ -1,6 +1,6 @@
 use Rattle.std.proofs.Common.{◌-◌, ◌+◌, ◌<◌, refl, sym, ap, arith, Some}
 use Rattle.buffer_holds.specs.declared.tally.Tally.{Tally}
-use Rattle.buffer_holds.specs.Counts.{moving}
+use Rattle.buffer_holds.specs.Counts.{moving_count}
 use Rattle.buffer_holds.specs.Kinds.{kind_of, hold_of}
 use Rattle.buffer_holds.proofs.Most.{up_to_after}
 use Rattle.buffer_holds.proofs.Places.{moving-le-sent_in, places_after}
@@ -16,7 +16,7 @@ overflow_sub-sent c =
     omega (
       arith,
       c.requires,
-      ap (λ counts. moving counts c.args.buffer c.args.strength) c.self.view_is,
+      ap (λ counts. moving_count counts c.args.buffer c.args.strength) c.self.view_is,
       moving_is inside.limit inside.rows.entries inside.tallies.entries c.args.buffer c.args.strength,
       moving-le-sent_in inside.tallies.entries (kind_of c.args.buffer c.args.strength),
       c.self.invariant.2.counted,
@@ -29,7 +29,7 @@ unreachable-requires c =
     let done = c.in_default.ensures.roomy (omega (
       arith,
       c.requires,
-      ap (λ counts. moving counts c.args.buffer c.args.strength) c.self.view_is,
+      ap (λ counts. moving_count counts c.args.buffer c.args.strength) c.self.view_is,
       moving_is inside.limit inside.rows.entries inside.tallies.entries c.args.buffer c.args.strength,
       moving-le-sent_in inside.tallies.entries (kind_of c.args.buffer c.args.strength),
       c.self.invariant.2.counted,
@@ -45,7 +45,7 @@ raise-requires c =
     omega (
       arith,
       c.requires,
-      ap (λ counts. moving counts c.args.buffer c.args.strength) c.self.view_is,
+      ap (λ counts. moving_count counts c.args.buffer c.args.strength) c.self.view_is,
       moving_is inside.limit inside.rows.entries inside.tallies.entries c.args.buffer c.args.strength,
       count_at-le-total inside.limit inside.rows.entries inside.tallies.entries c.self.invariant.0 hold,
       (c.self.invariant.0.tallied hold.kind).within,
@@ -59,7 +59,7 @@ unwrap-place-requires c =
     (omega (
       arith,
       c.requires,
-      ap (λ counts. moving counts c.args.buffer c.args.strength) c.self.view_is,
+      ap (λ counts. moving_count counts c.args.buffer c.args.strength) c.self.view_is,
       moving_is inside.limit inside.rows.entries inside.tallies.entries c.args.buffer c.args.strength,
     ))
 
@@ -75,7 +75,7 @@ overflow_sub-tally c =
     omega (
       arith,
       c.requires,
-      ap (λ counts. moving counts c.args.buffer c.args.strength) c.self.view_is,
+      ap (λ counts. moving_count counts c.args.buffer c.args.strength) c.self.view_is,
       moving_is inside.limit inside.rows.entries inside.tallies.entries c.args.buffer c.args.strength,
       ap (λ (t : Tally). t.moving) (tally_lent inside.tallies kind c.tally_place.result c.tally_place.ensures.found c.unwrap-place.result c.unwrap-place.ensures
           c.get_index_mut.result c.get_index_mut.ensures.value c.get_index_mut.ensures.unique c.unwrap-tally.result c.unwrap-tally.ensures),
@@ -109,7 +109,7 @@ invariant_of-self c =
     let lies : 0 < tally.moving = omega (
       arith,
       c.requires,
-      ap (λ counts. moving counts c.args.buffer c.args.strength) c.self.view_is,
+      ap (λ counts. moving_count counts c.args.buffer c.args.strength) c.self.view_is,
       moving_is inside.limit inside.rows.entries inside.tallies.entries c.args.buffer c.args.strength,
       ap (λ (t : Tally). t.moving) kept,
     ) in
@@ -145,7 +145,7 @@ returns c =
     let lies : 0 < tally.moving = omega (
       arith,
       c.requires,
-      ap (λ counts. moving counts c.args.buffer c.args.strength) c.self.view_is,
+      ap (λ counts. moving_count counts c.args.buffer c.args.strength) c.self.view_is,
       moving_is inside.limit inside.rows.entries inside.tallies.entries c.args.buffer c.args.strength,
       ap (λ (t : Tally). t.moving) kept,
     ) in

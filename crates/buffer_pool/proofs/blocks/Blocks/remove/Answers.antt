@@ -1,10 +1,10 @@
 use Rattle.std.proofs.Common.{◌≡◌, ◌+◌, ◌∙◌, ap, suc, arith, take, drop, ◌++◌}
-use Rattle.buffer_pool.specs.Rows.{all_in, place_of}
+use Rattle.buffer_pool.specs.Rows.{all_in, spot_index}
 use Rattle.buffer_pool.proofs.blocks.Blocks.remove.Goals as goal
 
 pub returns-clause-changed : goal.returns-clause-changed
 returns-clause-changed c =
-    let at = place_of c.args.self.now.lists c.args.spot in
+    let at = spot_index c.args.self.now.lists c.args.spot in
     let one : at + c.remove_run.result ≡ suc at = omega (arith, c.remove_run.ensures.count) in
     let k = c.remove_run.ensures.changed in
     record {

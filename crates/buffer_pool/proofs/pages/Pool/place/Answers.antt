@@ -4,7 +4,7 @@ use Rattle.std.proofs.lemmas.Bool.{leb-true, leb-false}
 use Rattle.sm_names.specs.declared.rules.TheConstants.{MAX_PAGES}
 use Rattle.buffer_pool.specs.Fitting.{rooms, starts_in}
 use Rattle.buffer_pool.specs.Holdings.{with_buffers}
-use Rattle.buffer_pool.specs.Rows.{Listed}
+use Rattle.buffer_pool.specs.Rows.{BlockRows}
 use Rattle.buffer_pool.specs.Rows.{all_in}
 use Rattle.buffer_pool.proofs.Keeping.{KeepsRun, lists_of, keeps_run, places_buffers, not_full, is_full}
 use Rattle.buffer_pool.proofs.Orders.{length-le}
@@ -102,7 +102,7 @@ returns-in-Ok c =
     let p = places_buffers c.self.inside.size c.self.inside.free c.args.count c.args.pages_each c.self.inside.holes.items
     (all_in c.self.inside.held.lists) c.reserve.new.holes.items (all_in c.reserve.new.held.lists) (all_in c.fill-placed.new.held.lists)
     c.fill-placed.result.starts.items c.fill-placed.result.looks k
-    (c.reserve.ensures.holes ∙ ap (λ (l : Listed). l.items) c.has_rooms.ensures.same) c.reserve.ensures.held c.fill-placed.ensures.starts
+    (c.reserve.ensures.holes ∙ ap (λ (l : BlockRows). l.items) c.has_rooms.ensures.same) c.reserve.ensures.held c.fill-placed.ensures.starts
     c.fill-placed.ensures.looks c.fill-placed.ensures.held in
     rw (← c.self.view_is)
     (record {

@@ -1,5 +1,5 @@
 use Rattle.std.proofs.Common.{◌∙◌, sym}
-use Rattle.client_actors.proofs.PlayLaws.{faltered, on_err, skipped, stepped}
+use Rattle.client_actors.proofs.ScriptLaws.{faltered, on_err, skipped, stepped}
 use Rattle.client_actors.proofs.acting.Actor.step.Goals as goal
 
 pub returns-in_ok-reply-in-Some-clause-stepped : goal.returns-in_ok-reply-in-Some-clause-stepped

@@ -1,12 +1,12 @@
 use Rattle.std.proofs.Common.{◌≡◌, ◌++◌, ◌+◌, length, map}
-use Rattle.event_laws.specs.Lines.{line_of, lines_of}
+use Rattle.event_laws.specs.Lines.{client_line, lines_of}
 use Rattle.event_laws.specs.Members.{joined_from}
 use Rattle.event_laws.proofs.parts.Parts.lines.Given as goal
 
 -- the lines so far, and those that are left
 abbrev pub invariant-loop-entry : goal.invariant-loop-entry
 invariant-loop-entry l = record {
-  lines : l.lines.items ++ map (line_of l.self) (joined_from l.event l.rest) ≡ lines_of l.self;
+  lines : l.lines.items ++ map (client_line l.self) (joined_from l.event l.rest) ≡ lines_of l.self;
   event : l.event + length l.rest ≡ length l.self + 1;
 }
 

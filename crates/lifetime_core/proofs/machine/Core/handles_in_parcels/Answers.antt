@@ -1,10 +1,10 @@
 use Rattle.std.proofs.Common.{ap, ◌∙◌}
-use Rattle.buffer_holds.specs.Counts.{moving}
+use Rattle.buffer_holds.specs.Counts.{moving_count}
 use Rattle.lifetime_core.specs.State.{State}
 use Rattle.lifetime_core.proofs.views.Shown.{moving_shown}
 use Rattle.lifetime_core.proofs.machine.Core.handles_in_parcels.Goals as goal
 
 pub returns-clause-shown : goal.returns-clause-shown
 returns-clause-shown c history shows =
-    rw c.moving.ensures (ap (λ (s : State). moving s.holds c.args.buffer c.args.strength) c.self.view_is
+    rw c.moving_count.ensures (ap (λ (s : State). moving_count s.holds c.args.buffer c.args.strength) c.self.view_is
     ∙ moving_shown c.args.self.now history shows c.args.buffer c.args.strength)

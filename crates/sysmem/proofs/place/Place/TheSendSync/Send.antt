@@ -14,10 +14,10 @@ use Rattle.std_heap.proofs.Global.TheSendSync as handle
 use Rattle.lifetime_core.specs.State.{State}
 use Rattle.lifetime_core.specs.contracts.machine.Core as core
 use Rattle.lifetime_core.proofs.machine.Core.TheSendSync.{the_send as core_send}
-use Rattle.sysmem.specs.Keeping.{keeps}
+use Rattle.sysmem.specs.Ownership.{owns_core}
 use Rattle.sysmem.specs.contracts.place.Place.{the_row, the_type}
 
-keeps_keyless : (alloc : Global) (at : Ptr) (kept : Option State) → Keyless (keeps alloc at kept)
+keeps_keyless : (alloc : Global) (at : Ptr) (kept : Option State) → Keyless (owns_core alloc at kept)
 keeps_keyless alloc at None = tt
 keeps_keyless alloc at (Some state) = (lies core.the_row core_send at state, heap.frees.frees alloc (raw (lone core.the_row.mir)) at)
 

@@ -20,9 +20,9 @@ invariant_of-self c =
           (omega (arith, w.in-Ok.ensures.room, held.counted, c.len.ensures, c.len-2.ensures))
           (omega (arith, w.in-Ok.ensures.spare, held.counted, c.len.ensures, c.len-2.ensures))
           w.in-Ok.ensures.row.1
-          (rw (← long) w.in-Ok.ensures.filed)
+          (rw (← long) w.in-Ok.ensures.indexed)
       | in-Err w ↦ sound_grown _ _ _ _ _ _ _ _ _ _ _ c.self.invariant c.add.ensures.fired c.add.ensures.capacity c.add.ensures.more_spare
-          w.in-Err.ensures.rows_kept w.in-Err.ensures.piles_kept
+          w.in-Err.ensures.rows_kept w.in-Err.ensures.index_kept
     ]
 
 -- as many wait as may

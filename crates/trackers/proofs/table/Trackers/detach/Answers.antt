@@ -13,13 +13,13 @@ invariant_of-self c =
     (λ none. nil_from_length c.self.inside.rows.items (let empty = rw none at c.pop.ensures.cases in omega (arith, empty.0, long))) last.0
     last.1
     last.2
-    (rw (last.3, ← here) c.withdraw.ensures)
+    (rw (last.3, ← here) c.remove_row.ensures)
 
 -- the table is as it was
 pub returns : goal.returns
 returns c = λ before tracker attaches.
     let long : vec_len c.self.inside.rows ≡ length c.self.inside.rows.items = omega arith in
-    shown_again _ _ _ _ _ _ c.self.inside.piles c.self.inside.piles c.self.invariant c.pop.result c.pop.ensures.items
+    shown_again _ _ _ _ _ _ c.self.inside.index c.self.inside.index c.self.invariant c.pop.result c.pop.ensures.items
     (λ none. nil_from_length c.self.inside.rows.items (let empty = rw none at c.pop.ensures.cases in omega (arith, empty.0, long))) before
     tracker
     (rw (← c.self.view_is) at attaches)

@@ -1,6 +1,0 @@
-use Rattle.actor_scripts.specs.Tables.{known}
-use Rattle.actor_scripts.proofs.FitLaws.{fits_if}
-use Rattle.actor_scripts.proofs.desk.Desk.call.Goals as goal
-
-pub returns-clause-fits : goal.returns-clause-fits
-returns-clause-fits c = fits_if c.args.clients.now (known c.args.self.now) c.args.step c.call_at.result c.call_at.ensures

@@ -1,0 +1,28 @@
+use Rattle.std.proofs.Common.{◌+◌, Bool, if◌then◌else◌, length-drop, arith, sym, ap, ◌∙◌, subst, Ok, Err}
+use Rattle.std.proofs.lemmas.List.{take_rest}
+use Rattle.actor_scripts.specs.ActorLists.{script_actors_from, seen}
+use Rattle.actor_scripts.specs.Reads.{IsScriptFault}
+use Rattle.actor_scripts.proofs.Lines.{goes-on, goes-out, goes-no-further}
+use Rattle.actor_scripts.proofs.script.judge.Goals as goal
+
+pub loop-at-preserved : goal.loop-at-preserved
+loop-at-preserved c =
+    let (same, sound, few) = c.loop-at.invariant in
+    let behind = take_rest c.loop-at.rest.now (c.in-Some.at + 1) in (
+      same ∙ goes-on _ _ c.in-Some.at (sym c.line_end.ensures.value ∙ c.in-Some.is) _ c.in-Ok.ensures.says
+          ∙ ap (script_actors_from _) (sym behind),
+      c.in-Ok.ensures.sound,
+      rw behind (rw length-drop (omega (arith, few, c.in-Ok.ensures.counted, c.in-Some.ensures.within))),
+    )
+
+pub returns-in-Err : goal.returns-in-Err
+returns-in-Err c =
+    subst (λ judged. IsScriptFault judged c.fault_at.result) (sym c.loop-at.invariant.0)
+    (subst (IsScriptFault (script_actors_from (seen c.loop-at.builder) c.loop-at.rest.now)) (sym c.fault_at.ensures)
+    (goes-no-further _ _ c.in-Some.at (sym c.line_end.ensures.value ∙ c.in-Some.is) c.in-Err.halt c.in-Err.ensures.says))
+
+pub returns-else-is_ended : goal.returns-else-is_ended
+returns-else-is_ended c =
+    let now = seen c.loop-at.builder in
+    c.loop-at.invariant.0 ∙ goes-out now c.loop-at.rest.now (sym c.line_end.ensures.value ∙ c.in_default.is)
+    ∙ ap (λ (done : Bool). if done then Ok now.actors else Err (now.lines + 1)) (sym c.is_ended.ensures ∙ c.if-is_ended.false)

@@ -1,0 +1,371 @@
+-- What an actor knows by the replies that it got, and the calls that its steps make.
+use Rattle.std.specs.Prelude.{ℕ, zero, suc, ◌+◌, Bool, true, false, ◌==◌, if◌then◌else◌, List, [], ◌∷◌, ◌++◌, length, drop, set, slice_get, Option, Some, None, is_some, ⊤, ◌≡◌, map}
+use Rattle.std.specs.Int.{bit_at}
+use Rattle.std.specs.Option.{option_and_then, option_map}
+use Rattle.sm_names.specs.declared.rules.TheConstants.{MAX_BUFFERS}
+use Rattle.sm_names.specs.declared.keys.BufferName.{BufferName}
+use Rattle.sm_names.specs.declared.keys.Kind.{Kind}
+use Rattle.sm_names.specs.declared.keys.NodeKey.{NodeKey}
+use Rattle.sm_names.specs.declared.keys.Strength.{Strength}
+use Rattle.sm_names.specs.declared.messages.Call.{Call}
+use Rattle.sm_names.specs.declared.messages.Reply.{Reply}
+use Rattle.sm_names.specs.Sameness.{same_buffer, same_key}
+use Rattle.actor_scripts.specs.declared.step.BufferVerb.{BufferVerb}
+use Rattle.actor_scripts.specs.declared.step.Step.{Step}
+use Rattle.actor_scripts.specs.declared.step.Verb.{Verb}
+use Rattle.actor_scripts.specs.declared.object.StepCall.{StepCall}
+use Rattle.actor_scripts.specs.declared.object.Object.{Object}
+
+-- a node and its collection
+abbrev pub NodePlace : Type 0
+NodePlace = NodeKey × ℕ
+
+-- what an actor knows: the nodes and trackers that its labels stand for; all objects that replies gave it, each in a
+-- slot of its own, in the order in which they came, without those that are gone; the slot in which the newest object
+-- of each node lies or lay; and the slots of its handles of each strength and buffer, first come first
+pub record Known : Type 0 where
+  pub nodes : ℕ → Option NodePlace
+  pub trackers : ℕ → Option ℕ
+  pub objects : List (Option Object)
+  pub spots : NodeKey → Option ℕ
+  pub handles : Strength → BufferName → List ℕ
+
+-- at first it knows nothing
+abbrev pub nothing_known : Known
+nothing_known = record {
+  nodes = λ label. None;
+  trackers = λ label. None;
+  objects = [];
+  spots = λ key. None;
+  handles = λ strength buffer. [];
+}
+
+-- ---- what steps ask for
+
+-- what lies in a slot
+abbrev pub object_at : List (Option Object) → ℕ → Option Object
+object_at objects slot = option_and_then (λ (t : Option Object). t) (slice_get objects slot)
+
+-- what a call is made on
+abbrev pub on_of : List (Option Object) → Option ℕ → Option Object
+on_of objects None = None
+on_of objects (Some slot) = object_at objects slot
+
+-- the node, if the object is its token
+abbrev pub token_key : Object → Option NodeKey
+token_key (Object.Token key collection) = Some key
+token_key _ = None
+
+-- if it is its collection
+abbrev pub collection_key : Object → Option NodeKey
+collection_key (Object.Collection key collection) = Some key
+collection_key _ = None
+
+-- if it is its end of either kind
+abbrev pub end_key : Object → Option NodeKey
+end_key (Object.Token key collection) = Some key
+end_key (Object.Collection key collection) = Some key
+end_key (Object.Handle buffer strength) = None
+
+-- the call that the verb makes on the object, whatever labels it binds; a client's label is its place among all
+abbrev pub end_call : List ℕ → Verb → Object → Option Call
+end_call clients Verb.Sync object = option_map Call.Sync (end_key object)
+end_call clients Verb.Bind object = option_map Call.Bind (token_key object)
+end_call clients Verb.Dispensable object = option_map Call.SetDispensable (token_key object)
+end_call clients Verb.Weak object = option_map Call.SetWeak (end_key object)
+end_call clients (Verb.WeakOk children) object = option_map (λ key. Call.SetWeakOk key children) (end_key object)
+end_call clients Verb.Check object = option_map Call.Check (collection_key object)
+end_call clients Verb.Take object = option_map Call.Take (collection_key object)
+end_call clients Verb.Release object = option_map Call.Release (end_key object)
+end_call clients Verb.Close object = option_map Call.Close (end_key object)
+end_call clients (Verb.Duplicate child) object = option_map Call.Duplicate (token_key object)
+end_call clients (Verb.Attach child) object = option_map Call.AttachToken (collection_key object)
+end_call clients (Verb.Give to) object =
+    option_and_then (λ key. option_map (Call.Give key) (slice_get clients to)) (end_key object)
+end_call clients (Verb.Constrain constraints) object =
+    option_map (λ key. Call.SetConstraints key constraints) (collection_key object)
+end_call clients (Verb.TrackNode tracker) object = option_map Call.TrackNode (end_key object)
+end_call clients (Verb.TrackLifetime most tracker) object =
+    option_map (λ key. Call.TrackLifetime key most) (collection_key object)
+
+-- the same of a handle
+abbrev pub handle_call : List ℕ → BufferVerb → Object → Option Call
+handle_call clients (BufferVerb.Duplicate strength) (Object.Handle buffer held) = Some (Call.DupHandle buffer held)
+handle_call clients (BufferVerb.Drop strength) (Object.Handle buffer held) = Some (Call.DropHandle buffer held)
+handle_call clients (BufferVerb.Give strength to) (Object.Handle buffer held) =
+    option_map (Call.GiveHandle buffer held) (slice_get clients to)
+handle_call clients (BufferVerb.Track tracker) (Object.Handle buffer held) = Some (Call.TrackWeak buffer)
+handle_call clients _ _ = None
+
+-- the strength of the handle that the verb is for
+abbrev pub verb_strength : BufferVerb → Strength
+verb_strength (BufferVerb.Duplicate strength) = strength
+verb_strength (BufferVerb.Drop strength) = strength
+verb_strength (BufferVerb.Give strength to) = strength
+verb_strength (BufferVerb.Track tracker) = Strength.Weak
+
+-- the label that the step binds to a node
+abbrev pub node_label : Step → Option ℕ
+node_label (Step.Open root) = Some root
+node_label (Step.Collect node) = Some node
+node_label (Step.Ask (Verb.Duplicate child) node) = Some child
+node_label (Step.Ask (Verb.Attach child) node) = Some child
+node_label _ = None
+
+-- the label that it binds to a tracker
+abbrev pub tracker_label : Step → Option ℕ
+tracker_label (Step.Ask (Verb.TrackNode tracker) node) = Some tracker
+tracker_label (Step.Ask (Verb.TrackLifetime most tracker) node) = Some tracker
+tracker_label (Step.AskBuffer (BufferVerb.Track tracker) node index) = Some tracker
+tracker_label _ = None
+
+-- a label stands for something already
+abbrev pub is_bound : {A : Type 0} → (ℕ → Option A) → Option ℕ → Bool
+is_bound labels None = false
+is_bound labels (Some label) = is_some (labels label)
+
+-- the slot of the newest object of the node of this label
+abbrev pub end_slot : Known → ℕ → Option ℕ
+end_slot state label = option_and_then (λ (place : NodePlace). state.spots place.0) (state.nodes label)
+
+-- the slot of the first handle of this strength and index in the collection of the node of this label
+abbrev pub handle_slot : Known → Strength → ℕ → ℕ → Option ℕ
+handle_slot state strength label index =
+    option_and_then (λ (place : NodePlace). slice_get (state.handles strength (record { collection = place.1; index = index })) 0)
+    (state.nodes label)
+
+-- the call that is made on what lies in the slot
+abbrev pub slot_call : List (Option Object) → (Object → Option Call) → ℕ → Option StepCall
+slot_call objects call slot =
+    option_and_then (λ (object : Object). option_map (λ (c : Call). record { call = c; slot = Some slot }) (call object))
+    (object_at objects slot)
+
+-- the call of the step, whatever label it binds
+abbrev pub call_at : List ℕ → Known → Step → Option StepCall
+call_at clients state Step.Shut = Some (record { call = Call.Shut; slot = None })
+call_at clients state (Step.Open root) = Some (record { call = Call.OpenRoot; slot = None })
+call_at clients state (Step.Collect node) = Some (record { call = Call.Collect; slot = None })
+call_at clients state (Step.Ask verb node) =
+    option_and_then (slot_call state.objects (end_call clients verb)) (end_slot state node)
+call_at clients state (Step.AskBuffer verb node index) =
+    option_and_then (slot_call state.objects (handle_call clients verb)) (handle_slot state (verb_strength verb) node index)
+call_at clients state (Step.Poll tracker) = None
+
+-- the call that the step makes, or none where it is skipped: a label that it uses stands for nothing or for nothing of
+-- the kind, or one that it binds stands for something already
+abbrev pub step_call : List ℕ → Known → Step → Option StepCall
+step_call clients state step =
+    if is_bound state.nodes (node_label step) then None
+    else if is_bound state.trackers (tracker_label step) then None else call_at clients state step
+
+-- ---- what replies change
+
+-- the label stands for this from now on
+abbrev pub with_label : {A : Type 0} → (ℕ → Option A) → ℕ → A → ℕ → Option A
+with_label labels label value other = if label == other then Some value else labels other
+
+-- the newest object of the node lies in this slot
+abbrev pub with_spot : (NodeKey → Option ℕ) → NodeKey → ℕ → NodeKey → Option ℕ
+with_spot spots key slot other = if same_key key other then Some slot else spots other
+
+-- one more handle of the buffer, in this slot
+abbrev pub with_last : (BufferName → List ℕ) → BufferName → ℕ → BufferName → List ℕ
+with_last queues buffer slot other = if same_buffer buffer other then queues buffer ++ slot ∷ [] else queues other
+
+-- the first handle of the buffer is gone
+abbrev pub with_first_gone : (BufferName → List ℕ) → BufferName → BufferName → List ℕ
+with_first_gone queues buffer other = if same_buffer buffer other then drop 1 (queues buffer) else queues other
+
+-- the queues of one strength are these
+abbrev pub with_queues : (Strength → BufferName → List ℕ) → Strength → (BufferName → List ℕ) → Strength → BufferName → List ℕ
+with_queues handles Strength.Strong queues Strength.Strong = queues
+with_queues handles Strength.Strong queues Strength.Weak = handles Strength.Weak
+with_queues handles Strength.Weak queues Strength.Strong = handles Strength.Strong
+with_queues handles Strength.Weak queues Strength.Weak = queues
+
+-- one more object: it lies in the next slot
+abbrev pub with_object : Known → Object → Known
+with_object state (Object.Token key collection) = record state {
+  objects = state.objects ++ Some (Object.Token key collection) ∷ [];
+  spots = with_spot state.spots key (length state.objects);
+}
+with_object state (Object.Collection key collection) = record state {
+  objects = state.objects ++ Some (Object.Collection key collection) ∷ [];
+  spots = with_spot state.spots key (length state.objects);
+}
+with_object state (Object.Handle buffer strength) = record state {
+  objects = state.objects ++ Some (Object.Handle buffer strength) ∷ [];
+  handles = with_queues state.handles strength (with_last (state.handles strength) buffer (length state.objects));
+}
+
+-- more objects, one after another
+abbrev pub with_objects : Known → List Object → Known
+with_objects state [] = state
+with_objects state (object ∷ objects) = with_objects (with_object state object) objects
+
+-- the call was answered so that the object on which it was made is gone
+abbrev pub spends_object : Call → Reply → Bool
+spends_object (Call.Bind key) Reply.Done = true
+spends_object (Call.Give key to) Reply.Done = true
+spends_object (Call.Close key) Reply.Done = true
+spends_object (Call.Release key) Reply.Done = true
+spends_object (Call.Release key) (Reply.PeerClosed cause origin) = true
+spends_object (Call.DropHandle buffer strength) Reply.Done = true
+spends_object (Call.GiveHandle buffer strength to) Reply.Done = true
+spends_object _ _ = false
+
+-- the handle that the call lets go
+abbrev pub handle_of : Call → Option (BufferName × Strength)
+handle_of (Call.DropHandle buffer strength) = Some (buffer, strength)
+handle_of (Call.GiveHandle buffer strength to) = Some (buffer, strength)
+handle_of _ = None
+
+-- nothing lies in the slot any more
+abbrev pub emptied : List (Option Object) → Option ℕ → List (Option Object)
+emptied objects None = objects
+emptied objects (Some slot) = set objects slot None
+
+-- the object in it is gone
+abbrev pub without_object : Known → Option ℕ → Known
+without_object state slot = record state { objects = emptied state.objects slot }
+
+-- the first handle of this name is gone
+abbrev pub without_handle : Known → Option (BufferName × Strength) → Known
+without_handle state None = state
+without_handle state (Some name) = record state {
+  handles = with_queues state.handles name.1 (with_first_gone (state.handles name.1) name.0);
+}
+
+-- handles of so many buffers of a set, from this index on: bit i stands for buffer i
+unfoldable pub handles_from : ℕ → Strength → ℕ → ℕ → ℕ → List Object
+handles_from collection strength set index zero = []
+handles_from collection strength set index (suc count) =
+    let more = handles_from collection strength set (index + 1) count in
+    if bit_at set index == 1 then Object.Handle (record { collection = collection; index = index }) strength ∷ more else more
+
+-- handles of all of them, by rising index
+abbrev pub handles_of_set : ℕ → Strength → ℕ → List Object
+handles_of_set collection strength set = handles_from collection strength set 0 MAX_BUFFERS
+
+-- an end of this kind
+abbrev pub end_object : Kind → NodeKey → ℕ → Object
+end_object Kind.Token key collection = Object.Token key collection
+end_object Kind.Collection key collection = Object.Collection key collection
+
+-- a token that was bound
+abbrev pub bound : Option Object → List Object
+bound (Some (Object.Token key collection)) = Object.Collection key collection ∷ []
+bound _ = []
+
+-- the objects that the reply gives; `on` is what the call was made on
+abbrev pub new_objects : Option Object → Call → Reply → List Object
+new_objects on Call.OpenRoot (Reply.Token key collection) = Object.Token key collection ∷ []
+new_objects on (Call.Duplicate parent) (Reply.Token key collection) = Object.Token key collection ∷ []
+new_objects on (Call.AttachToken parent) (Reply.Token key collection) = Object.Token key collection ∷ []
+new_objects on Call.Collect (Reply.Collected key kind collection) = end_object kind key collection ∷ []
+new_objects on Call.Collect (Reply.CollectedHandle buffer strength) = Object.Handle buffer strength ∷ []
+new_objects on (Call.Take key) (Reply.Taken collection strength set) = handles_of_set collection strength set
+new_objects on (Call.DupHandle buffer strength) Reply.Done = Object.Handle buffer strength ∷ []
+new_objects on (Call.Bind key) Reply.Done = bound on
+new_objects on _ _ = []
+
+-- the node that the reply tells of
+abbrev pub new_place : Reply → Option NodePlace
+new_place (Reply.Token key collection) = Some (key, collection)
+new_place (Reply.Collected key kind collection) = Some (key, collection)
+new_place _ = None
+
+-- the tracker that it tells of
+abbrev pub new_tracker : Reply → Option ℕ
+new_tracker (Reply.Tracker id) = Some id
+new_tracker _ = None
+
+-- the label, if the step binds one, stands for this, if the reply tells of one
+abbrev pub with_new : {A : Type 0} → (ℕ → Option A) → Option ℕ → Option A → ℕ → Option A
+with_new labels (Some label) (Some value) = with_label labels label value
+with_new labels _ _ = labels
+
+-- the step's label of a node after the reply
+abbrev pub with_node_label : Known → Step → Reply → Known
+with_node_label state step reply = record state { nodes = with_new state.nodes (node_label step) (new_place reply) }
+
+-- its label of a tracker
+abbrev pub with_tracker_label : Known → Step → Reply → Known
+with_tracker_label state step reply = record state { trackers = with_new state.trackers (tracker_label step) (new_tracker reply) }
+
+-- the object is gone, if the reply says so
+abbrev pub without_spent : Known → StepCall → Reply → Known
+without_spent state asked reply =
+    if spends_object asked.call reply then without_handle (without_object state asked.slot) (handle_of asked.call) else state
+
+-- what the actor knows after the reply
+abbrev pub state_after : Known → Step → StepCall → Reply → Known
+state_after state step asked reply =
+    with_objects (without_spent (with_tracker_label (with_node_label state step reply) step reply) asked reply)
+    (new_objects (on_of state.objects asked.slot) asked.call reply)
+
+-- its objects alone
+abbrev pub objects_after : List (Option Object) → StepCall → Reply → List (Option Object)
+objects_after objects asked reply =
+    (if spends_object asked.call reply then emptied objects asked.slot else objects)
+    ++ map Some (new_objects (on_of objects asked.slot) asked.call reply)
+
+-- ---- which calls can be made on what
+
+-- an end of this node takes the call
+abbrev pub FitsEnd : NodeKey → Call → Type 0
+FitsEnd key (Call.Sync other) = other ≡ key
+FitsEnd key (Call.SetWeak other) = other ≡ key
+FitsEnd key (Call.SetWeakOk other children) = other ≡ key
+FitsEnd key (Call.TrackNode other) = other ≡ key
+FitsEnd key (Call.Give other to) = other ≡ key
+FitsEnd key (Call.Release other) = other ≡ key
+FitsEnd key (Call.Close other) = other ≡ key
+FitsEnd key _ = ⊥
+
+-- a token of it does
+abbrev pub FitsToken : NodeKey → Call → Type 0
+FitsToken key (Call.Bind other) = other ≡ key
+FitsToken key (Call.SetDispensable other) = other ≡ key
+FitsToken key (Call.Duplicate other) = other ≡ key
+FitsToken key call = FitsEnd key call
+
+-- a collection of it does
+abbrev pub FitsCollection : NodeKey → Call → Type 0
+FitsCollection key (Call.AttachToken other) = other ≡ key
+FitsCollection key (Call.SetConstraints other constraints) = other ≡ key
+FitsCollection key (Call.Check other) = other ≡ key
+FitsCollection key (Call.Take other) = other ≡ key
+FitsCollection key (Call.TrackLifetime other most) = other ≡ key
+FitsCollection key call = FitsEnd key call
+
+-- a handle of this name does
+abbrev pub FitsHandle : BufferName → Strength → Call → Type 0
+FitsHandle buffer strength (Call.DupHandle other held) = (other ≡ buffer) × (held ≡ strength)
+FitsHandle buffer strength (Call.DropHandle other held) = (other ≡ buffer) × (held ≡ strength)
+FitsHandle buffer strength (Call.GiveHandle other held to) = (other ≡ buffer) × (held ≡ strength)
+FitsHandle buffer strength (Call.TrackWeak other) = other ≡ buffer
+FitsHandle buffer strength _ = ⊥
+
+-- the object does
+abbrev pub FitsObject : Object → Call → Type 0
+FitsObject (Object.Token key collection) call = FitsToken key call
+FitsObject (Object.Collection key collection) call = FitsCollection key call
+FitsObject (Object.Handle buffer strength) call = FitsHandle buffer strength call
+
+-- the call is made on nothing
+abbrev pub FitsNone : Call → Type 0
+FitsNone Call.Shut = ⊤
+FitsNone Call.OpenRoot = ⊤
+FitsNone Call.Collect = ⊤
+FitsNone _ = ⊥
+
+-- something lies there that takes the call
+abbrev pub FitsThere : Option Object → Call → Type 0
+FitsThere None call = ⊥
+FitsThere (Some object) call = FitsObject object call
+
+-- what lies in the slot takes the call, and where no slot is told it is made on nothing
+abbrev pub Fits : List (Option Object) → Option ℕ → Call → Type 0
+Fits objects None call = FitsNone call
+Fits objects (Some slot) call = FitsThere (object_at objects slot) call

@@ -1,0 +1,359 @@
+//! What an actor knows by the replies that it got.
+ghost use Rattle.std.specs.Prelude.{◌≡◌, ◌||◌, IfSome, OnOk};
+ghost use Rattle.actor_scripts.specs.ActorStates.{state_after, new_objects, handle_of as handle_told, handles_of_set, without_spent, with_node_label, with_object, with_objects, with_tracker_label, without_handle, without_object, step_call, call_at as call_told, end_slot as slot_of_end, handle_slot as slot_of_handle, is_bound as bound_to, node_label as label_of_node, nothing_known, on_of as lies_in, object_at as lies_at, objects_after, Fits, tracker_label as label_of_tracker};
+ghost use Rattle.actor_scripts.specs.Tables.{known};
+
+use crate::calls::{end_call, handle_call, node_label, tracker_label, verb_strength};
+use crate::object::{Object, StepCall};
+use crate::queues::Queues;
+use crate::replies::{handle_of, new_place, new_tracker, spends_object};
+use crate::step::Step;
+use sm_names::{
+    BufferName, Call, ClientId, CollectionId, Kind, NodeKey, Reply, Strength, TrackerId, has_buffer,
+};
+use std::alloc::{AllocError, Global};
+use std::collections::HashMap;
+
+// How many bits the set of a Take has, one for each buffer.
+pub(crate) const SET_BITS: u8 = 64;
+
+/// What an actor knows by the replies that it got: what its labels stand for, and all objects that it
+/// was given, each in a slot of its own, in the order in which they came.
+///
+/// It takes memory for each object that was ever given.
+#[derive(Drop)]
+pub struct ActorState {
+    nodes: HashMap<u32, (NodeKey, CollectionId)>,
+    trackers: HashMap<u32, TrackerId>,
+    objects: Vec<Option<Object>>,
+    // The slot of the newest object of each node.
+    spots: HashMap<NodeKey, usize>,
+    strong: Queues,
+    weak: Queues,
+}
+
+impl ActorState {
+    /// Nothing is known. Takes no memory, and a constant time.
+    pub fn new(alloc: Global) -> ActorState
+        ensures { known result ≡ nothing_known }
+    {
+        ActorState {
+            nodes: HashMap::new(alloc),
+            trackers: HashMap::new(alloc),
+            objects: Vec::new(alloc),
+            spots: HashMap::new(alloc),
+            strong: Queues::new(alloc),
+            weak: Queues::new(alloc),
+        }
+    }
+
+    // What lies in the slot.
+    fn object_at(&self, slot: usize) -> Option<Object>
+        ensures { result ≡ lies_at (known self.now).objects slot }
+    {
+        match self.objects.get(slot) {
+            Some(object) => *object,
+            None => None,
+        }
+    }
+
+    /// The tracker of this label, if it stands for one. Costs one look-up.
+    pub fn tracker(&self, label: u32) -> Option<TrackerId>
+        ensures { result ≡ (known self.now).trackers label }
+    {
+        self.trackers.get(&label).copied()
+    }
+
+    // The slot of the newest object of the node of this label.
+    fn end_slot(&self, label: u32) -> Option<usize>
+        ensures { result ≡ slot_of_end (known self.now) label }
+    {
+        match self.nodes.get(&label) {
+            Some((key, _)) => self.spots.get(key).copied(),
+            None => None,
+        }
+    }
+
+    // The slot of the first handle of this strength and index in the collection of the node of this
+    // label.
+    fn handle_slot(&self, strength: Strength, label: u32, index: u8) -> Option<usize>
+        ensures { result ≡ slot_of_handle (known self.now) strength label index }
+    {
+        match self.nodes.get(&label) {
+            Some((_, collection)) => {
+                let buffer = BufferName {
+                    collection: *collection,
+                    index,
+                };
+                match strength {
+                    Strength::Strong => self.strong.first(buffer),
+                    Strength::Weak => self.weak.first(buffer),
+                }
+            }
+            None => None,
+        }
+    }
+
+    // Whether a label that the step binds stands for something already.
+    fn is_bound(&self, step: Step) -> bool
+        ensures { result ≡ bound_to (known self.now).nodes (label_of_node step)
+            || bound_to (known self.now).trackers (label_of_tracker step) }
+    {
+        let same = step;
+        let node = match node_label(step) {
+            Some(label) => self.nodes.contains_key(&label),
+            None => false,
+        };
+        let tracker = match tracker_label(same) {
+            Some(label) => self.trackers.contains_key(&label),
+            None => false,
+        };
+        node || tracker
+    }
+
+    // The call of the step, whatever label it binds.
+    fn call_at(&self, clients: &[ClientId], step: Step) -> Option<StepCall>
+        ensures { result ≡ call_told clients.now (known self.now) step }
+    {
+        match step {
+            Step::Shut => Some(StepCall {
+                call: Call::Shut,
+                slot: None,
+            }),
+            Step::Open { .. } => Some(StepCall {
+                call: Call::OpenRoot,
+                slot: None,
+            }),
+            Step::Collect { .. } => Some(StepCall {
+                call: Call::Collect,
+                slot: None,
+            }),
+            Step::Ask { verb, node } => {
+                let slot = self.end_slot(node)?;
+                let call = end_call(clients, verb, self.object_at(slot)?)?;
+                Some(StepCall {
+                    call,
+                    slot: Some(slot),
+                })
+            }
+            Step::AskBuffer { verb, node, index } => {
+                let slot = self.handle_slot(verb_strength(verb), node, index)?;
+                let call = handle_call(clients, verb, self.object_at(slot)?)?;
+                Some(StepCall {
+                    call,
+                    slot: Some(slot),
+                })
+            }
+            Step::Poll { .. } => None,
+        }
+    }
+
+    /// The call that the step makes, and the slot of what it is made on, or `None` where the step is
+    /// skipped: a label that it uses stands for nothing, or for nothing of the kind that the call
+    /// needs, or a label that it binds stands for something already. A client's label is its place in
+    /// `clients`. A look at a tracker makes no call.
+    ///
+    /// Costs a constant number of look-ups.
+    pub fn call(&self, clients: &[ClientId], step: Step) -> Option<StepCall>
+        ensures asked { result ≡ step_call clients.now (known self.now) step }
+        ensures fits { IfSome result (λ a. Fits (known self.now).objects a.slot a.call) }
+    {
+        let asked = step;
+        if self.is_bound(step) {
+            return None;
+        }
+        self.call_at(clients, asked)
+    }
+
+    // The label that the step binds to a node stands for what the reply tells of.
+    fn label_node(&mut self, step: Step, reply: &Reply) -> Result<(), AllocError>
+        ensures { OnOk result (known self.new ≡ with_node_label (known self.old) step reply.now) }
+    {
+        match node_label(step) {
+            Some(label) => match new_place(reply) {
+                Some(place) => {
+                    self.nodes.insert(label, place)?;
+                    Ok(())
+                }
+                None => Ok(()),
+            },
+            None => Ok(()),
+        }
+    }
+
+    // The same of a tracker.
+    fn label_tracker(&mut self, step: Step, reply: &Reply) -> Result<(), AllocError>
+        ensures { OnOk result
+            (known self.new ≡ with_tracker_label (known self.old) step reply.now) }
+    {
+        match tracker_label(step) {
+            Some(label) => match new_tracker(reply) {
+                Some(id) => {
+                    self.trackers.insert(label, id)?;
+                    Ok(())
+                }
+                None => Ok(()),
+            },
+            None => Ok(()),
+        }
+    }
+
+    // What the call is made on.
+    fn on(&self, slot: Option<usize>) -> Option<Object>
+        ensures { result ≡ lies_in (known self.now).objects slot }
+    {
+        match slot {
+            Some(slot) => self.object_at(slot),
+            None => None,
+        }
+    }
+
+    // The object in the slot is gone.
+    fn remove_object(&mut self, slot: Option<usize>)
+        ensures { known self.new ≡ without_object (known self.old) slot }
+    {
+        if let Some(slot) = slot {
+            if slot < self.objects.len() {
+                self.objects[slot] = None;
+            }
+        }
+    }
+
+    // A handle that is let go was the first of its name.
+    fn remove_handle(&mut self, call: &Call) -> Result<(), AllocError>
+        ensures { OnOk result
+            (known self.new ≡ without_handle (known self.old) (handle_told call.now)) }
+    {
+        match handle_of(call) {
+            Some((buffer, strength)) => match strength {
+                Strength::Strong => self.strong.pop(buffer),
+                Strength::Weak => self.weak.pop(buffer),
+            },
+            None => Ok(()),
+        }
+    }
+
+    // The object is gone, if the reply says so.
+    fn remove_spent(&mut self, asked: &StepCall, reply: &Reply) -> Result<(), AllocError>
+        ensures { OnOk result
+            (known self.new ≡ without_spent (known self.old) asked.now reply.now) }
+    {
+        if spends_object(&asked.call, reply) {
+            self.remove_object(asked.slot);
+            self.remove_handle(&asked.call)?;
+        }
+        Ok(())
+    }
+
+    // One more object, in the next slot.
+    fn push(&mut self, object: Object) -> Result<(), AllocError>
+        ensures { OnOk result (known self.new ≡ with_object (known self.old) object) }
+    {
+        let slot = self.objects.len();
+        self.objects.push(Some(object))?;
+        match object {
+            Object::Token { key, .. } | Object::Collection { key, .. } => {
+                self.spots.insert(key, slot)?;
+                Ok(())
+            }
+            Object::Handle { buffer, strength } => match strength {
+                Strength::Strong => self.strong.push(buffer, slot),
+                Strength::Weak => self.weak.push(buffer, slot),
+            },
+        }
+    }
+
+    // Handles of all buffers of the set, by rising index.
+    fn push_handles(
+        &mut self,
+        collection: CollectionId,
+        strength: Strength,
+        set: u64,
+    ) -> Result<(), AllocError>
+        ensures { OnOk result (known self.new
+            ≡ with_objects (known self.old) (handles_of_set collection strength set)) }
+    {
+        'pushing: for index in 0..SET_BITS {
+            if has_buffer(set, index) {
+                let buffer = BufferName { collection, index };
+                self.push(Object::Handle { buffer, strength })?;
+            }
+        }
+        Ok(())
+    }
+
+    // The objects that the reply gives.
+    fn add_new_objects(
+        &mut self,
+        on: Option<Object>,
+        call: &Call,
+        reply: &Reply,
+    ) -> Result<(), AllocError>
+        ensures { OnOk result (known self.new
+            ≡ with_objects (known self.old) (new_objects on call.now reply.now)) }
+    {
+        match (*call, *reply) {
+            (
+                Call::OpenRoot | Call::Duplicate(_) | Call::AttachToken(_),
+                Reply::Token { key, collection },
+            ) => self.push(Object::Token { key, collection }),
+            (
+                Call::Collect,
+                Reply::Collected {
+                    key,
+                    kind,
+                    collection,
+                },
+            ) => match kind {
+                Kind::Token => self.push(Object::Token { key, collection }),
+                Kind::Collection => self.push(Object::Collection { key, collection }),
+            },
+            (Call::Collect, Reply::CollectedHandle { buffer, strength }) => {
+                self.push(Object::Handle { buffer, strength })
+            }
+            (
+                Call::Take(_),
+                Reply::Taken {
+                    collection,
+                    strength,
+                    set,
+                },
+            ) => self.push_handles(collection, strength, set),
+            (Call::DupHandle(buffer, strength), Reply::Done) => {
+                self.push(Object::Handle { buffer, strength })
+            }
+            (Call::Bind(_), Reply::Done) => match on {
+                Some(Object::Token { key, collection }) => {
+                    self.push(Object::Collection { key, collection })
+                }
+                _ => Ok(()),
+            },
+            _ => Ok(()),
+        }
+    }
+
+    /// What the reply to the step's call tells: a new label, objects that are gone, and objects
+    /// that came. A reply that tells none of these changes nothing. Where memory is refused the
+    /// table is of no more use.
+    ///
+    /// Costs a constant number of look-ups for each object that came or went.
+    pub fn note_reply(
+        &mut self,
+        step: Step,
+        asked: &StepCall,
+        reply: &Reply,
+    ) -> Result<(), AllocError>
+        ensures known { OnOk result
+            (known self.new ≡ state_after (known self.old) step asked.now reply.now) }
+        ensures objects { OnOk result ((known self.new).objects
+            ≡ objects_after (known self.old).objects asked.now reply.now) }
+    {
+        let on = self.on(asked.slot);
+        let same = step;
+        self.label_node(step, reply)?;
+        self.label_tracker(same, reply)?;
+        self.remove_spent(asked, reply)?;
+        self.add_new_objects(on, &asked.call, reply)?;
+        Ok(())
+    }
+}

@@ -1,0 +1,16 @@
+use Rattle.std.proofs.Common.{rules, ◌≡◌, ◌∙◌, ◌∷◌}
+use Rattle.client_actors.proofs.ScriptLaws.{ran_more}
+use Rattle.client_actors.proofs.actor_run.run_steps.Goals as goal
+
+pub each_step-preserved : goal.each_step-preserved
+each_step-preserved g c =
+    let so = c.each_step.invariant in
+    let one = c.in_ok-reply.ensures.stepped in
+    let next : c.each_step.rest.now ≡ c.in-Some.step.now ∷ c.in-Some.more.now = search rules in
+    record {
+      ran = ran_more c.args.clients.now c.args.steps.now c.each_step.rest.now c.in-Some.more.now c.in-Some.step.now c.each_step.actor
+          c.step.new.self so.ran next one;
+      aware = one.aware;
+      sound = c.step.ensures.sound;
+      id = c.step.ensures.id ∙ so.id;
+    }

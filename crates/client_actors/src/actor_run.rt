@@ -1,0 +1,110 @@
+//! An actor runs its script, and vanishes.
+ghost use Rattle.std.specs.Prelude.{◌≡◌, [], OnErr, OnOk};
+ghost use Rattle.actor_scripts.specs.ScriptRuns.{RunsScript};
+ghost use Rattle.actor_scripts.specs.Tables.{known};
+ghost use Rattle.client_parting.specs.Partings.{AllHeldBy, held_in, sorted};
+ghost use Rattle.client_actors.specs.Acting.{EndsSo, HasRunSome, IsAware, ActorInvariant, objects_in_slots, pairs_of};
+ghost use Rattle.client_actors.specs.Asking.{lies};
+
+use crate::acting::Actor;
+use crate::gate::{ActorEnd, Gate};
+use crate::storing::unload;
+use actor_scripts::{ActorScript, Step};
+use client_ends::{Client, Held};
+use client_parting::vanish;
+use service_lock::{Service, Setup};
+use sm_names::{ClientId, StepFault};
+use std::alloc::Global;
+use std::sync::Wait;
+use std::sync::ledger::Ledger;
+
+// Makes the steps in order, until a fault.
+fn run_steps<E: Setup, S: Ledger, W: Ledger, G: Gate, R: Wait>(
+    rt: &R,
+    alloc: Global,
+    service: &Service<E, S, W>,
+    gate: &G,
+    clients: &[ClientId],
+    actor: &mut Actor<E, S, W>,
+    steps: &[Step],
+) -> Result<(), StepFault>
+    requires sound { ActorInvariant actor.old }
+    requires aware { IsAware actor.old }
+    requires none { RunsScript clients.now [] (pairs_of actor.old.client.own)
+        (known actor.old.state) }
+    ensures runs { OnOk result (RunsScript clients.now steps.now (pairs_of actor.new.client.own)
+        (known actor.new.state)) }
+    ensures aware { OnOk result (IsAware actor.new) }
+    ensures some { OnErr result (HasRunSome clients.now steps.now actor.new.client
+        (lies actor.new.slots.items)) }
+    ensures sound { ActorInvariant actor.new }
+    ensures id { actor.new.client.id ≡ actor.old.client.id }
+{
+    let mut number: u64 = 0;
+    let mut rest = steps;
+    'each_step: while let Some((step, more)) = rest.split_first() {
+        number = number.wrapping_add(1);
+        gate.before(actor.client.id(), number);
+        let reply = actor.step(rt, alloc, service, clients, *step)?;
+        gate.after(actor.client.id(), number, &reply);
+        rest = more;
+    }
+    Ok(())
+}
+
+// Takes the actor apart: what it holds, in the list of each kind in the order in which it came.
+fn leave<E: Setup, S: Ledger, W: Ledger>(actor: Actor<E, S, W>) -> (Client<E, S, W>, Held<E, S, W>)
+    requires { ActorInvariant actor }
+    ensures client { result.0 ≡ actor.client }
+    ensures held { held_in result.1 ≡ sorted (objects_in_slots actor.slots.items) }
+    ensures owned { AllHeldBy result.0.id (held_in result.1) }
+{
+    let Actor {
+        client,
+        mut slots,
+        mut held,
+        state: _,
+    } = actor;
+    slots.reverse();
+    unload(slots, &mut held);
+    (client, held)
+}
+
+/// Plays the script: makes its steps in order, with the calls that what it knows by then makes of
+/// them, and then vanishes, as by `vanish`, with all that it holds, in the list of each kind in the
+/// order in which it came: tokens as replies gave them, collections as they were bound or collected,
+/// handles as they were opened. The client is one that joined and has made no event since; `clients` are the
+/// ids of all actors, in the order of their scripts. The gate is told of each step.
+///
+/// Ended `Wrecked`, the client's own list is a run of the script, each step's call once, and then
+/// the events of its parting. On a fault it is `Stopped` at once: its own list is a run of the first
+/// steps, each with all that its reply gave, and then, if it made them all, the first events of its
+/// parting; it has all that it then holds.
+///
+/// Costs the events of its calls, a constant number of look-ups for each step and each object that
+/// came or went, and memory for each object that was ever given. A tracker is let go at once, and a
+/// look at one makes no call.
+pub fn run_actor<E: Setup, S: Ledger, W: Ledger, G: Gate, R: Wait>(
+    rt: &R,
+    alloc: Global,
+    service: &Service<E, S, W>,
+    gate: &G,
+    clients: &[ClientId],
+    client: Client<E, S, W>,
+    script: &ActorScript,
+) -> ActorEnd<E, S, W>
+    requires { client.own ≡ [] }
+    ensures { EndsSo clients.now script.now.steps.items client.id result }
+{
+    let mut actor = Actor::new(alloc, client);
+    let steps = script.steps.as_slice();
+    let ran = run_steps(rt, alloc, service, gate, clients, &mut actor, steps);
+    let (client, held) = leave(actor);
+    match ran {
+        Ok(()) => match vanish(rt, alloc, service, client, held) {
+            Ok(wreck) => ActorEnd::Wrecked(wreck),
+            Err((client, held, fault)) => ActorEnd::Stopped(client, held, fault),
+        },
+        Err(fault) => ActorEnd::Stopped(client, held, fault),
+    }
+}

@@ -1,5 +1,0 @@
-use Rattle.std.proofs.Common.{◌≡◌, ◌++◌, drop, map, take}
-use Rattle.sysmem.proofs.laying.lay.Given as goal
-
-abbrev pub invariant-loop-i : goal.invariant-loop-i
-invariant-loop-i g l = l.out ≡ take l.i (map g.W.Telling.telling l.items) ++ drop l.i l.initial.out

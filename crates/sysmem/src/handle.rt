@@ -1,0 +1,58 @@
+//! A core that C keeps between its calls.
+ghost use Rattle.std.specs.Prelude.{◌≡◌, true, false, is_some, option_map, Some, None};
+
+use crate::place::{Place, keep, nowhere, out_of};
+use crate::raw::{rebox, unbox};
+use lifetime_core::Core;
+use std::alloc::Global;
+use std::mem;
+
+/// A core that C keeps, or none, as a handle of zeros is.
+#[repr(C)]
+#[derive(Drop)]
+pub struct Handle {
+    is_open: bool,
+    place: Place,
+    ghost told: { is_open ≡ is_some place.core },
+}
+
+// Whether there is a core.
+pub(crate) fn is_open(handle: &Handle) -> bool
+    ensures { result ≡ is_some handle.now.place.core }
+{
+    handle.is_open
+}
+
+// Takes the core out, and leaves none.
+pub(crate) fn take(alloc: Global, handle: &mut Handle) -> Option<Box<Core>>
+    ensures core { handle.old.place.core ≡ option_map (λ b. b.value) result }
+    ensures left { handle.new.place.core ≡ None }
+{
+    let none = Handle {
+        is_open: false,
+        place: nowhere(alloc),
+    };
+    let Handle { is_open, place } = mem::replace(handle, none);
+    if is_open {
+        Some(rebox(out_of(place)))
+    } else {
+        None
+    }
+}
+
+// A value that may go to another thread.
+fn for_any_thread<T: Send>(value: T) -> T
+    ensures { result ≡ value }
+{
+    value
+}
+
+// Puts the core in. What was there is forgotten. The next call may be another thread's.
+pub(crate) fn put(handle: &mut Handle, core: Box<Core>)
+    ensures core { handle.new.place.core ≡ Some core.value }
+{
+    *handle = for_any_thread(Handle {
+        is_open: true,
+        place: keep(unbox(core)),
+    });
+}

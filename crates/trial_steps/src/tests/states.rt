@@ -1,0 +1,92 @@
+//! What an actor knows of what it was told.
+use actor_scripts::{ActorState, BufferVerb, Step, Verb};
+use sm_names::{Call, NodeKey, Reply, Strength};
+
+fn key() -> NodeKey {
+    NodeKey {
+        slot: 0,
+        generation: 1,
+    }
+}
+
+fn open() -> Step {
+    Step::Open { root: 7 }
+}
+
+fn ask(verb: Verb) -> Step {
+    Step::Ask { verb, node: 7 }
+}
+
+// The handle on buffer 2 is dropped.
+fn drop_third() -> Step {
+    Step::AskBuffer {
+        verb: BufferVerb::Drop {
+            strength: Strength::Strong,
+        },
+        node: 7,
+        index: 2,
+    }
+}
+
+fn token() -> Reply {
+    Reply::Token {
+        key: key(),
+        collection: 4,
+    }
+}
+
+// Handles on buffers 0 and 2.
+fn taken() -> Reply {
+    Reply::Taken {
+        collection: 4,
+        strength: Strength::Strong,
+        set: 5,
+    }
+}
+
+// Whether the call is on the one node that there is, and a gift for the second client.
+fn is_meant(call: &Call) -> bool {
+    match call {
+        Call::Bind(node) | Call::Check(node) | Call::Take(node) => *node == key(),
+        Call::Give(node, to) => *node == key() && *to == 9,
+        _ => true,
+    }
+}
+
+// The slot of what the step's call is made on, once its reply was noted.
+fn told(state: &mut ActorState, step: Step, reply: Reply) -> Option<Option<usize>> {
+    let same = step;
+    let asked = state.call(&[3, 9], step)?;
+    let slot = asked.slot;
+    if !is_meant(&asked.call) {
+        return None;
+    }
+    match state.note_reply(same, &asked, &reply) {
+        Ok(()) => Some(slot),
+        Err(_) => None,
+    }
+}
+
+// Whether the step is skipped.
+fn skips(state: &mut ActorState, step: Step) -> bool {
+    told(state, step, Reply::Done).is_none()
+}
+
+#[test]
+fn an_actor_knows_what_it_was_told(rt: HostRuntime) {
+    let mut state = ActorState::new(rt.alloc());
+    assert!(rt; told(&mut state, open(), token()).is_some());
+    assert!(rt; skips(&mut state, open()));
+    assert!(rt; told(&mut state, ask(Verb::Bind), Reply::Done) == Some(Some(0)));
+    assert!(rt; skips(&mut state, ask(Verb::Bind)));
+    assert!(rt; told(&mut state, ask(Verb::Check), Reply::Pending) == Some(Some(1)));
+    assert!(rt; told(&mut state, ask(Verb::Take), taken()) == Some(Some(1)));
+    assert!(rt; skips(&mut state, ask(Verb::Give { to: 2 })));
+    assert!(rt; told(&mut state, ask(Verb::Give { to: 1 }), Reply::Done) == Some(Some(1)));
+    assert!(rt; skips(&mut state, ask(Verb::Close)));
+    assert!(rt; skips(&mut state, Step::Poll { tracker: 1 }));
+    assert!(rt; told(&mut state, drop_third(), Reply::Done) == Some(Some(3)));
+    assert!(rt; skips(&mut state, drop_third()));
+    assert!(rt; skips(&mut state, ask(Verb::TrackNode { tracker: 1 })));
+    assert!(rt; state.tracker(1).is_none());
+}
