@@ -1,5 +1,5 @@
 //! One event: a call, its reply, and what it came to.
-ghost use Rattle.std.specs.Prelude.{◌≡◌, IfOk, Ok, drop, length, map};
+ghost use Rattle.std.specs.Prelude.{◌≡◌, ◌≤◌, IfErr, IfOk, Ok, drop, length, map};
 ghost use Rattle.lifetime_core.specs.Theorem.{Stepped};
 ghost use Rattle.event_marks.specs.Marks.{AreStages};
 ghost use Rattle.event_marks.specs.Moments.{stage_of};
@@ -43,6 +43,8 @@ pub fn take_event(
     ensures stages { IfOk result (λ event.
         AreStages core.old core.new client call event.reply (map stage_of event.moments.items)) }
     ensures fired { IfOk result (λ event. event.fired ≡ length core.old.trackers.fired) }
+    ensures full { IfErr result (λ fault. fault ≡ StepFault.HistoryFull →
+        core.old.limits.events ≤ core.old.events) }
 {
     let fired = core.fired().len();
     let before = before_of(core, client, &call)?;
@@ -63,7 +65,9 @@ pub fn take_event(
 }
 
 // The collection that the call concerns, as it stands.
-fn before_of(core: &Core, client: ClientId, call: &Call) -> Result<Option<Before>, StepFault> {
+fn before_of(core: &Core, client: ClientId, call: &Call) -> Result<Option<Before>, StepFault>
+    ensures { IfErr result (λ fault. fault ≡ StepFault.NoMemory) }
+{
     match look(core, client, call) {
         Ok(before) => Ok(before),
         Err(NoMemory) => Err(StepFault::NoMemory),
@@ -71,7 +75,9 @@ fn before_of(core: &Core, client: ClientId, call: &Call) -> Result<Option<Before
 }
 
 // The same collection, as it stands now.
-fn after_of(core: &Core, before: &Option<Before>) -> Result<Option<Snapshot>, StepFault> {
+fn after_of(core: &Core, before: &Option<Before>) -> Result<Option<Snapshot>, StepFault>
+    ensures { IfErr result (λ fault. fault ≡ StepFault.NoMemory) }
+{
     match before {
         Some(before) => match core.collection(before.copied.id) {
             Ok(after) => Ok(after),

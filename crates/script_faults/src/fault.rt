@@ -1,6 +1,6 @@
 //! Why a script was not reported on to its end.
 ghost use Rattle.std.specs.Prelude.{◌≡◌};
-ghost use Rattle.script_faults.specs.Faults.{fault_status};
+ghost use Rattle.script_faults.specs.Faults.{IsBadLine, IsFaultOf, fault_status};
 
 use crate::reasons::push_reason;
 use script_lines::push;
@@ -79,13 +79,9 @@ impl ReportFault {
 
 /// The fault of the line of this number, which was not answered, where the labels of those before it stand
 /// so. Takes a time in proportion to the line, and a look into a table for each label.
-pub fn fault_of(
-    alloc: Global,
-    stop: Stop,
-    tables: &Tables,
-    number: u64,
-    line: &[u8],
-) -> ReportFault {
+pub fn fault_of(alloc: Global, stop: Stop, tables: &Tables, number: u64, line: &[u8]) -> ReportFault
+    ensures { IsFaultOf number stop result }
+{
     match stop {
         Stop::BadLine => {
             let mut reason = Vec::new(alloc);
@@ -100,7 +96,9 @@ pub fn fault_of(
 }
 
 /// The fault of the line of this number, for this reason. Takes a time in proportion to the reason.
-pub fn bad_line(alloc: Global, number: u64, words: &str) -> ReportFault {
+pub fn bad_line(alloc: Global, number: u64, words: &str) -> ReportFault
+    ensures { IsBadLine number result }
+{
     let mut reason = Vec::new(alloc);
     match push(&mut reason, words) {
         Ok(()) => ReportFault::BadLine { number, reason },
@@ -109,17 +107,29 @@ pub fn bad_line(alloc: Global, number: u64, words: &str) -> ReportFault {
 }
 
 /// The fault that the last line, the one of this number, has no end. Takes a constant time.
-pub fn unended(alloc: Global, number: u64) -> ReportFault {
+pub fn unended(alloc: Global, number: u64) -> ReportFault
+    ensures { IsBadLine number result }
+{
     bad_line(alloc, number, "the last line has no end")
 }
 
 impl From<AllocError> for ReportFault {
+    ghost use Rattle.std.specs.Prelude.{◌≡◌};
+    ghost use Rattle.script_faults.specs.declared.fault.ReportFault.{ReportFault};
+
+    ghost from_gives = { λ refused fault. fault ≡ ReportFault.NoMemory };
+
     fn from(_refused: AllocError) -> ReportFault {
         ReportFault::NoMemory
     }
 }
 
 impl From<NoMemory> for ReportFault {
+    ghost use Rattle.std.specs.Prelude.{◌≡◌};
+    ghost use Rattle.script_faults.specs.declared.fault.ReportFault.{ReportFault};
+
+    ghost from_gives = { λ refused fault. fault ≡ ReportFault.NoMemory };
+
     fn from(_refused: NoMemory) -> ReportFault {
         ReportFault::NoMemory
     }

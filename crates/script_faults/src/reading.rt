@@ -1,5 +1,7 @@
 //! All bytes of a script come in.
-ghost use Rattle.std.specs.Prelude.{◌≡◌, ◌+◌, ◌<◌, drop, length};
+ghost use Rattle.std.specs.Prelude.{◌≡◌, ◌+◌, ◌<◌, ◌≤◌, drop, length, IfErr, IfOk, OnOk};
+ghost use Rattle.std.specs.Io.KnownBytes.{Consumes, IsAtEnd};
+ghost use Rattle.script_faults.specs.Streams.{IsUnread};
 
 use crate::fault::ReportFault;
 use script_lines::MOST_BYTES;
@@ -13,7 +15,13 @@ const BLOCK: usize = 65_536;
 ///
 /// `ReadFault` where the reader fails, `TooLong` where it gives more than `MOST_BYTES` bytes, `NoMemory`
 /// where memory is refused.
-pub fn read_script<R: Read>(alloc: Global, reader: &mut R) -> Result<Vec<u8>, ReportFault> {
+pub fn read_script<R: Read>(alloc: Global, reader: &mut R) -> Result<Vec<u8>, ReportFault>
+    ensures ok { IfOk result (λ script.
+        Consumes (R.remaining reader.old) (R.remaining reader.new) script.items) }
+    ensures end { OnOk result (IsAtEnd (R.remaining reader.new)) }
+    ensures within { IfOk result (λ script. length script.items ≤ MOST_BYTES) }
+    ensures err { IfErr result (IsUnread (R.remaining reader.old) (R.remaining reader.new)) }
+{
     match vec![in alloc; 0; BLOCK] {
         Ok(mut block) => read_on(alloc, reader, &mut block),
         Err(_) => Err(ReportFault::NoMemory),
@@ -23,6 +31,11 @@ pub fn read_script<R: Read>(alloc: Global, reader: &mut R) -> Result<Vec<u8>, Re
 // Reads on, block by block, from the first byte.
 fn read_on<R: Read>(alloc: Global, reader: &mut R, block: &mut [u8]) -> Result<Vec<u8>, ReportFault>
     requires { 0 < length block.old }
+    ensures ok { IfOk result (λ script.
+        Consumes (R.remaining reader.old) (R.remaining reader.new) script.items) }
+    ensures end { OnOk result (IsAtEnd (R.remaining reader.new)) }
+    ensures within { IfOk result (λ script. length script.items ≤ MOST_BYTES) }
+    ensures err { IfErr result (IsUnread (R.remaining reader.old) (R.remaining reader.new)) }
 {
     let mut script = Vec::new(alloc);
     let mut left = MOST_BYTES;
