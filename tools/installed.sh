@@ -115,10 +115,13 @@ mkdir "$room/dist"
 tar -C "$room/dist" -xzf bindings/build/sysmem-*.tar.gz
 cd "$room/dist"/sysmem-*
 sha256sum --quiet -c SHA256SUMS
+for crate in indexmap once_cell slab; do
+  ls share/doc/sysmem/licenses/"$crate"-LICENSE* >"$room/log" || exit 1
+done
 export PKG_CONFIG_PATH=$PWD/lib/pkgconfig
 c++ -std=c++17 "$room/app.cpp" $(pkg-config --cflags --libs sysmem) -Wl,-rpath,"$PWD/lib" -o "$room/app"
 expect "$lost" "$room/app"
 exported=$(nm -D --defined-only lib/libsysmem.so | awk '$2 == "T" { sub(/@.*/, "", $3); print $3 }' | sort)
 declared=$(grep -o '^uint32_t sysmem_[a-z_]*' "$top/include/sysmem.h" | cut -d ' ' -f 2 | sort)
 [ "$exported" = "$declared" ] || { diff <(echo "$exported") <(echo "$declared"); exit 1; }
-say "the archive that is passed on, and the names that the shared library exports"
+say "the archive that is passed on, its licences, and the names that the shared library exports"

@@ -1,4 +1,5 @@
-// Makes random calls and looks at every view after each; to be built with the sanitizers on.
+// Makes random calls and looks at every view after each; to be built with the sanitizers on. Most calls are such as their
+// client can make: on a node whose end it holds, or on a handle that it has.
 #include "sysmem.h"
 
 #include <cstdio>
@@ -16,21 +17,71 @@ static void expect(bool holds, const char *what) {
     }
 }
 
-static sysmem_call some_call(const std::vector<sysmem_key> &keys, uint64_t event) {
+// What calls are chosen among: the clients that joined, the nodes, and the buffers that hold pages.
+struct Seen {
+    std::vector<uint64_t> clients;
+    std::vector<sysmem_node> nodes;
+    std::vector<sysmem_held_buffer> held;
+};
+static uint64_t handles_seen = 0, parcels_seen = 0;
+
+template <class T> static T one_of(const std::vector<T> &all) {
+    return all.empty() ? T{} : all[upto(static_cast<uint32_t>(all.size()))];
+}
+
+static uint32_t some_kind() {
+    static const std::vector<uint32_t> likely = {
+        SYSMEM_JOIN, SYSMEM_OPEN_ROOT, SYSMEM_OPEN_ROOT, SYSMEM_DUPLICATE, SYSMEM_DUPLICATE, SYSMEM_DUPLICATE,
+        SYSMEM_ATTACH_TOKEN, SYSMEM_ATTACH_TOKEN, SYSMEM_SYNC, SYSMEM_GIVE, SYSMEM_GIVE, SYSMEM_COLLECT,
+        SYSMEM_COLLECT, SYSMEM_COLLECT, SYSMEM_BIND, SYSMEM_BIND, SYSMEM_BIND, SYSMEM_BIND, SYSMEM_SET_DISPENSABLE,
+        SYSMEM_SET_WEAK, SYSMEM_SET_WEAK_OK, SYSMEM_SET_WEAK_OK, SYSMEM_SET_CONSTRAINTS, SYSMEM_SET_CONSTRAINTS,
+        SYSMEM_SET_CONSTRAINTS, SYSMEM_SET_CONSTRAINTS, SYSMEM_CHECK, SYSMEM_TAKE, SYSMEM_TAKE, SYSMEM_TAKE,
+        SYSMEM_RELEASE, SYSMEM_CLOSE, SYSMEM_DUP_HANDLE, SYSMEM_DROP_HANDLE, SYSMEM_DROP_HANDLE, SYSMEM_DROP_HANDLE,
+        SYSMEM_GIVE_HANDLE, SYSMEM_GIVE_HANDLE, SYSMEM_TRACK_NODE, SYSMEM_TRACK_LIFETIME, SYSMEM_TRACK_WEAK};
+    if (upto(20) != 0) return one_of(likely);
+    return upto(3) == 0 ? dice() : upto(24);
+}
+
+// Names a handle in the call, and a client that has it, if that is found in a few looks.
+static void name_handle(sysmem_core &core, const Seen &seen, sysmem_call &call, uint64_t &client) {
+    sysmem_held_buffer buffer = one_of(seen.held);
+    call.collection = buffer.collection;
+    call.index = static_cast<uint8_t>(buffer.index);
+    for (int look = 0; look < 6; look++) {
+        uint32_t found = 0;
+        client = one_of(seen.clients);
+        call.strength = call.kind == SYSMEM_TRACK_WEAK || upto(3) == 0 ? SYSMEM_WEAK : SYSMEM_STRONG;
+        expect(sysmem_open_handles(&core, client, call.collection, call.index, call.strength, &found) == SYSMEM_DONE,
+               "open handles");
+        if (found > 0) return;
+    }
+}
+
+static sysmem_call some_call(sysmem_core &core, const Seen &seen, uint64_t &client) {
     sysmem_call call{};
-    call.kind = upto(50) == 0 ? dice() : upto(24);
-    sysmem_key key = keys[upto(static_cast<uint32_t>(keys.size()))];
-    call.slot = upto(20) == 0 ? dice() : key.slot;
-    call.generation = upto(20) == 0 ? dice() : key.generation;
-    call.strength = upto(3);
-    call.collection = 1 + upto(static_cast<uint32_t>(event + 2));
-    call.client = 1 + upto(8);
+    call.kind = some_kind();
+    if (call.kind == SYSMEM_JOIN && seen.clients.size() > 5 && upto(20) != 0) call.kind = SYSMEM_COLLECT;
+    sysmem_node node = one_of(seen.nodes);
+    bool is_on_node = !seen.nodes.empty() && call.kind != SYSMEM_OPEN_ROOT && call.kind != SYSMEM_COLLECT;
+    client = is_on_node && upto(10) != 0 ? node.holder : one_of(seen.clients);
+    call.slot = upto(20) == 0 ? dice() : node.key.slot;
+    call.generation = upto(20) == 0 ? dice() : node.key.generation;
+    call.client = upto(20) == 0 ? dice() : one_of(seen.clients);
     call.size = upto(20) == 0 ? dice() : 1 + upto(20000);
     call.left = upto(4);
-    call.index = static_cast<uint8_t>(upto(5));
     call.camping = static_cast<uint8_t>(upto(20) == 0 ? upto(256) : upto(4));
     call.at_least = static_cast<uint8_t>(upto(4));
     call.children = static_cast<uint8_t>(upto(3));
+    bool is_on_handle = (call.kind >= SYSMEM_DUP_HANDLE && call.kind <= SYSMEM_GIVE_HANDLE) ||
+                        call.kind == SYSMEM_TRACK_WEAK;
+    if (is_on_handle && upto(10) != 0) {
+        name_handle(core, seen, call, client);
+    } else {
+        call.strength = upto(3);
+        call.collection = node.collection;
+        call.index = static_cast<uint8_t>(upto(5));
+    }
+    if (call.kind == SYSMEM_JOIN) client = 0;
     return call;
 }
 
@@ -46,10 +97,10 @@ static uint32_t open_one(sysmem_core &core, uint32_t events) {
 
 // Reads the nodes, what their collections were given, and the handles on the buffers that hold
 // pages: they agree with the other views.
-static void look_at_nodes(sysmem_core &core) {
+static void look_at_nodes(sysmem_core &core, Seen &seen) {
     sysmem_node nodes[32];
     sysmem_key live[32];
-    sysmem_held_buffer held[8];
+    sysmem_held_buffer held[32];
     uint64_t count = 0, living = 0, holding = 0;
     expect(sysmem_nodes(&core, nodes, 32, &count) == SYSMEM_DONE, "nodes");
     expect(sysmem_live(&core, live, 32, &living) == SYSMEM_DONE, "live");
@@ -68,10 +119,12 @@ static void look_at_nodes(sysmem_core &core) {
         found += is;
     }
     expect(count > 32 || found == living, "each live node is told");
-    expect(sysmem_held(&core, held, 8, &holding) == SYSMEM_DONE, "held");
-    for (uint64_t i = 0; i < holding && i < 8; i++) {
+    expect(sysmem_held(&core, held, 32, &holding) == SYSMEM_DONE, "held");
+    seen.nodes.assign(nodes, nodes + (count < 32 ? count : 32));
+    seen.held.assign(held, held + (holding < 32 ? holding : 32));
+    for (uint64_t i = 0; i < holding && i < 32; i++) {
         uint32_t buffers = 0, size = 0, found = 0;
-        uint64_t id = held[i].collection, client = 1 + upto(8);
+        uint64_t id = held[i].collection, client = one_of(seen.clients);
         uint8_t index = static_cast<uint8_t>(held[i].index);
         expect(sysmem_given(&core, id, &buffers, &size) == SYSMEM_DONE, "given");
         expect(held[i].index < buffers, "a held buffer was given");
@@ -80,47 +133,50 @@ static void look_at_nodes(sysmem_core &core) {
             uint32_t wanted = strength < 2 ? SYSMEM_DONE : SYSMEM_BAD_CALL;
             expect(sysmem_open_handles(&core, client, id, index, strength, &found) == wanted,
                    "open handles");
+            handles_seen += found;
+            found = 0;
             expect(sysmem_handles_in_parcels(&core, id, index, strength, &found) == wanted,
                    "handles in parcels");
+            parcels_seen += found;
         }
     }
 }
 
-static void look(sysmem_core &core, std::vector<sysmem_key> &keys) {
-    sysmem_key live[5];
+static void look(sysmem_core &core, Seen &seen) {
+    sysmem_key live[5], key{upto(30), upto(3)};
     sysmem_held_buffer held[5];
     sysmem_fired_tracker fired[5];
     uint64_t count = 0, events = 0;
     uint32_t pages = 0, is = 0, cause = 0;
     expect(sysmem_live(&core, live, 5, &count) == SYSMEM_DONE, "live");
-    for (uint64_t i = 0; i < count && i < 5; i++) {
+    for (uint64_t i = 0; i < count && i < 5; i++)
         expect(sysmem_is_live(&core, &live[i], &is) == SYSMEM_DONE && is == 1, "is live");
-        keys[upto(static_cast<uint32_t>(keys.size()))] = live[i];
-    }
     expect(sysmem_held(&core, held, 5, &count) == SYSMEM_DONE, "held");
     expect(sysmem_free_pages(&core, &pages) == SYSMEM_DONE, "free pages");
-    uint32_t seen = 0;
-    for (uint64_t i = 0; i < count && i < 5; i++) seen += held[i].pages;
-    expect(seen + pages <= 64 && (count > 5 || seen + pages == 64), "pages");
+    uint32_t taken = 0;
+    for (uint64_t i = 0; i < count && i < 5; i++) taken += held[i].pages;
+    expect(taken + pages <= 64 && (count > 5 || taken + pages == 64), "pages");
     expect(sysmem_fired(&core, fired, upto(6), &count) == SYSMEM_DONE, "fired");
     uint64_t all = 0, from = upto(8);
     expect(sysmem_fired_from(&core, from, fired, 5, &all) == SYSMEM_DONE && all == count, "fired from");
     expect(sysmem_events(&core, &events) == SYSMEM_DONE, "events");
-    uint32_t code = sysmem_cause(&core, &keys[0], &cause, &live[0]);
+    uint32_t code = sysmem_cause(&core, &key, &cause, &live[0]);
     expect(code == SYSMEM_DONE || code == SYSMEM_NOT_FAILED, "cause");
-    look_at_nodes(core);
+    look_at_nodes(core, seen);
 }
 
-// Parts with each client that can have anything, unless the history is full before: nothing is left.
-static void part(sysmem_core &core) {
+// Parts with each client, unless the history is full before: nothing is left.
+static void part(sysmem_core &core, const Seen &seen) {
     sysmem_key live[1];
     sysmem_held_buffer held[1];
     uint64_t made = 0, count = 1;
     uint32_t pages = 0;
-    for (uint64_t client = 0; client <= 8; client++) {
+    uint32_t nobody = sysmem_vanish(&core, UINT64_MAX, &made);
+    expect(nobody == SYSMEM_HISTORY_FULL || (nobody == SYSMEM_NO_CLIENT && made == 1), "nobody vanishes");
+    for (uint64_t client : seen.clients) {
         uint32_t code = sysmem_vanish(&core, client, &made);
         if (code == SYSMEM_HISTORY_FULL) return;
-        expect(code == SYSMEM_DONE ? made > 0 : code == SYSMEM_NO_CLIENT && made == 1, "vanish");
+        expect(code == SYSMEM_DONE && made > 0, "vanish");
     }
     expect(sysmem_live(&core, live, 1, &count) == SYSMEM_DONE && count == 0, "nothing is live");
     expect(sysmem_held(&core, held, 1, &count) == SYSMEM_DONE && count == 0, "nothing is held");
@@ -128,33 +184,36 @@ static void part(sysmem_core &core) {
 }
 
 int main(int count, char **words) {
-    long left = count > 1 ? std::atol(words[1]) : 10000;
-    uint64_t told[9] = {};
-    while (left > 0) {
+    long calls = count > 1 ? std::atol(words[1]) : 10000;
+    uint64_t codes[SYSMEM_ERRORS] = {}, replies[SYSMEM_PEER_CLOSED + 1] = {};
+    for (long left = calls; left > 0;) {
         sysmem_core core{};
         uint64_t events = 200 + upto(2000);
         expect(open_one(core, static_cast<uint32_t>(events)) == SYSMEM_DONE, "open");
-        std::vector<sysmem_key> keys(6);
-        for (uint64_t event = 0; event <= events && left > 0; left--) {
-            sysmem_call call = some_call(keys, event);
+        Seen seen;
+        while (left > 0) {
+            left--;
+            uint64_t client = 0;
+            sysmem_call call = some_call(core, seen, client);
             sysmem_reply reply{};
-            uint64_t client = call.kind == SYSMEM_JOIN ? 0 : upto(8);
             uint32_t code = sysmem_step(&core, client, &call, &reply);
             expect(code == SYSMEM_DONE || code == SYSMEM_BAD_CALL || code == SYSMEM_HISTORY_FULL,
                    "code");
             expect(code != SYSMEM_BAD_CALL || call.kind > 22 || call.strength > 1 ||
                        call.kind == SYSMEM_SET_CONSTRAINTS, "a call that is one");
-            told[code]++;
+            codes[code]++;
             if (code == SYSMEM_HISTORY_FULL || upto(1000) == 0) break;
-            if (code == SYSMEM_DONE) event++;
-            if (reply.kind == SYSMEM_NEW_TOKEN || reply.kind == SYSMEM_COLLECTED)
-                keys[upto(6)] = {reply.slot, reply.generation};
-            look(core, keys);
+            if (code == SYSMEM_DONE) replies[reply.kind]++;
+            if (code == SYSMEM_DONE && reply.kind == SYSMEM_JOINED) seen.clients.push_back(reply.id);
+            look(core, seen);
         }
-        part(core);
+        part(core, seen);
         expect(sysmem_close(&core) == SYSMEM_DONE, "close");
         expect(sysmem_close(&core) == SYSMEM_NOT_OPEN, "close once more");
     }
-    expect(told[SYSMEM_DONE] > 0 && told[SYSMEM_BAD_CALL] > 0, "both codes are seen");
+    expect(codes[SYSMEM_DONE] > 0 && codes[SYSMEM_BAD_CALL] > 0, "both codes are seen");
+    if (calls < 20000) return 0;
+    for (uint64_t told : replies) expect(told > 0, "each kind of reply is seen");
+    expect(handles_seen > 0 && parcels_seen > 0, "handles are seen, open and in parcels");
     return 0;
 }
