@@ -117,20 +117,15 @@ fn play(
     let mut number: u64 = 0;
     let mut rest = script;
     'lines: while let Some(at) = line_end(rest) {
-        if until == Some(scroll.events) {
+        if scroll.is_at(until) {
             return Ok(());
         }
         number = number.saturating_add(1);
         let line = &rest[..at];
-        match scroll.take_line(alloc, line) {
-            Ok(()) => rest = behind(rest, at),
-            Err(stop) => {
-                let tables = &scroll.teller.session.tables;
-                return Err(fault_of(alloc, stop, tables, number, line));
-            }
-        }
+        rest = behind(rest, at);
+        scroll.play_line(alloc, number, line)?;
     }
-    if rest.is_empty() || until == Some(scroll.events) {
+    if rest.is_empty() || scroll.is_at(until) {
         Ok(())
     } else {
         Err(unended(alloc, number.saturating_add(1)))
@@ -138,6 +133,22 @@ fn play(
 }
 
 impl Scroll {
+    // Whether so many events were made.
+    fn is_at(&self, until: Option<u64>) -> bool {
+        until == Some(self.events)
+    }
+
+    // Plays one more line, which has this number.
+    fn play_line(&mut self, alloc: Global, number: u64, line: &[u8]) -> Result<(), ReportFault> {
+        match self.take_line(alloc, line) {
+            Ok(()) => Ok(()),
+            Err(stop) => {
+                let tables = &self.teller.session.tables;
+                Err(fault_of(alloc, stop, tables, number, line))
+            }
+        }
+    }
+
     // Plays one more line.
     fn take_line(&mut self, alloc: Global, line: &[u8]) -> Result<(), Stop> {
         if is_indented(line) {

@@ -7,6 +7,7 @@ use sm_names::{Constraints, NodeKey};
 use std::alloc::Global;
 use std::mem;
 use std::test::Fail;
+use trial_streams::decimal;
 
 /// A ground, and the keys of the nodes that were born on it; or what is left of its forest.
 #[derive(Drop)]
@@ -16,15 +17,30 @@ pub struct Player {
     keys: Vec<NodeKey>,
 }
 
+// The same, if the numbers are in range.
+fn demand_of(camping: &str, at_least: &str, size: &str) -> Option<Constraints> {
+    let camping = u8::try_from(decimal(camping)?).ok()?;
+    let at_least = u8::try_from(decimal(at_least)?).ok()?;
+    Constraints::new(camping, at_least, decimal(size)?)
+}
+
+// The number that a word is.
+fn number_of(word: &str) -> Result<usize, Fail> {
+    match decimal(word) {
+        Some(number) => Ok(number as usize),
+        None => Err(Fail::from("not a number")),
+    }
+}
+
 fn demand(camping: &str, at_least: &str, size: &str) -> Result<Constraints, Fail> {
-    match Constraints::new(camping.parse()?, at_least.parse()?, size.parse()?) {
+    match demand_of(camping, at_least, size) {
         Some(demand) => Ok(demand),
         None => Err(Fail::from("a number is out of its range")),
     }
 }
 
 fn key_of(keys: &[NodeKey], number: &str) -> Result<NodeKey, Fail> {
-    let at: usize = number.parse()?;
+    let at = number_of(number)?;
     match keys.get(at) {
         Some(key) => Ok(*key),
         None => Err(Fail::from("no such node")),
@@ -33,7 +49,7 @@ fn key_of(keys: &[NodeKey], number: &str) -> Result<NodeKey, Fail> {
 
 // The keys of the nodes from this number to that one, which may be the lesser.
 fn keys_of(alloc: Global, keys: &[NodeKey], first: &str, last: &str) -> Result<Vec<NodeKey>, Fail> {
-    let (first, last): (usize, usize) = (first.parse()?, last.parse()?);
+    let (first, last) = (number_of(first)?, number_of(last)?);
     let mut found = Vec::new(alloc);
     match keys.get(first.min(last)..=first.max(last)) {
         Some(some) => found.extend_from_slice(some)?,
@@ -54,7 +70,7 @@ fn bear_each(
     attached: bool,
     deep: bool,
 ) -> Result<(), Fail> {
-    let count: usize = count.parse()?;
+    let count = number_of(count)?;
     let mut above = parent;
     for _ in 0..count {
         let key = ground.bear(Some(above), attached)?;
@@ -73,7 +89,7 @@ fn bear_pairs(
     parent: NodeKey,
     count: &str,
 ) -> Result<(), Fail> {
-    let count: usize = count.parse()?;
+    let count = number_of(count)?;
     for _ in 0..count {
         let head = ground.bear(Some(parent), true)?;
         keys.push(head)?;
@@ -161,18 +177,26 @@ fn act_in_turn(
     turn_text(alloc, &changes)
 }
 
+// The index of a buffer that a word is.
+fn index_of(word: &str) -> Result<u8, Fail> {
+    match u8::try_from(number_of(word)?) {
+        Ok(index) => Ok(index),
+        Err(_) => Err(Fail::from("not an index")),
+    }
+}
+
 // A handle is opened or closed.
 fn handle(ground: &mut Ground, words: &[&str]) -> Result<(), Fail> {
     let is_there = match *words {
         ["open", index] => {
-            ground.open_at(index.parse()?)?;
+            ground.open_at(index_of(index)?)?;
             true
         }
         ["openweak"] => {
             ground.open_weak()?;
             true
         }
-        ["close", index] => ground.close_at(index.parse()?),
+        ["close", index] => ground.close_at(index_of(index)?),
         ["closeweak"] => ground.close_weak(),
         _ => return Err(Fail::from("a line that says nothing")),
     };

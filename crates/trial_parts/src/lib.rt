@@ -1,5 +1,5 @@
-//! Trials of the crates that alloc_event and lifetime_core stand on, all by their public calls: see
-//! docs/TESTING.md. A crate of their own, so that each of those is proved once.
+//! Trials of the crates that alloc_event and lifetime_core stand on, all by their public calls: those that need a
+//! thread, or memory that is refused. The others are text, which `trial_part_rows` plays: see docs/TESTING.md.
 #![tactic(auto)]
 
 #[cfg(test)]

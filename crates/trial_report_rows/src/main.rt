@@ -15,6 +15,7 @@ use std::io::{Read, Write};
 use std::test::Fail;
 use std::{io, str};
 use task::{Task, task_of};
+use trial_streams::decimal;
 
 // Appends what is told of the script.
 fn explain(
@@ -92,7 +93,7 @@ fn push_played(
 // The pages that the line says, if it says any.
 fn pages_of(line: &[u8]) -> Option<Pages> {
     let text = str::from_utf8(line).ok()?;
-    Pages::new(text.strip_prefix("@ pages ")?.parse::<u32>().ok()?)
+    Pages::new(decimal(text.strip_prefix("@ pages ")?)?)
 }
 
 // A script of the input, and what is done with it.

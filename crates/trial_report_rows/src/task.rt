@@ -1,5 +1,6 @@
 //! What is done with a script.
 use script_draw::{Format, View};
+use trial_streams::decimal;
 
 /// What is done with a script.
 #[derive(Clone, Copy)]
@@ -21,6 +22,6 @@ pub fn task_of(title: &str) -> Task {
     };
     Task::Draw(View {
         format,
-        at: rest.parse::<u64>().ok(),
+        at: decimal(rest).map(u64::from),
     })
 }

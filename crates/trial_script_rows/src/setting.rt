@@ -4,6 +4,7 @@ ghost use Rattle.std.specs.Prelude.{◌≤◌};
 use sm_names::Limits;
 use std::alloc::Global;
 use std::test::Fail;
+use trial_streams::decimal;
 
 /// Pages from 1 to 1,048,576, and limits.
 #[derive(Clone, Copy)]
@@ -11,6 +12,14 @@ pub struct Setting {
     pages: u32,
     limits: Limits,
     ghost in_range: { (1 ≤ pages) × (pages ≤ 1048576) },
+}
+
+// The number that a word is.
+fn number_of(word: &str) -> Result<u32, Fail> {
+    match decimal(word) {
+        Some(number) => Ok(number),
+        None => Err(Fail::from("not a number")),
+    }
 }
 
 impl Setting {
@@ -61,14 +70,14 @@ impl Setting {
         }
         let words: Vec<&str> = line.split_whitespace().collect(alloc)?;
         *self = match *words.as_slice() {
-            ["@", "pages", pages] => self.with_pages(pages.parse()?)?,
+            ["@", "pages", pages] => self.with_pages(number_of(pages)?)?,
             ["@", "limits", events, nodes, collections, trackers, handles] => {
                 self.with_limits(Limits::new(
-                    events.parse()?,
-                    nodes.parse()?,
-                    collections.parse()?,
-                    trackers.parse()?,
-                    handles.parse()?,
+                    number_of(events)?,
+                    number_of(nodes)?,
+                    number_of(collections)?,
+                    number_of(trackers)?,
+                    number_of(handles)?,
                 ))?
             }
             _ => return Err(Fail::from("a line that says nothing")),

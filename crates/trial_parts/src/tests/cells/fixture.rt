@@ -11,55 +11,36 @@ use trackers::{Condition, Fired, TrackFault, Tracker, Trackers, Waiting, World};
 /// The collection.
 pub const HERE: CollectionId = 1;
 
-/// Which node is gone, by its slot, whether the units were allocated, how many buffers are left,
-/// and which one is doomed.
+/// A world in which the node of one slot is gone, and nothing else has happened.
 #[derive(Clone, Copy)]
-pub struct Here {
-    pub gone: Option<u32>,
-    pub allocated: bool,
-    pub left: usize,
-    pub doomed: Option<u8>,
+pub struct Gone {
+    pub slot: u32,
 }
 
-/// A world in which nothing has happened.
-pub const QUIET: Here = Here {
-    gone: None,
-    allocated: false,
-    left: 0,
-    doomed: None,
-};
-
-impl World for Here {
+impl World for Gone {
     ghost use Rattle.std.specs.Prelude.{◌==◌, false};
-    ghost use Rattle.std.specs.Option.{option_map_or};
 
     ghost seen = { λ w. record {
-      gone = λ key. option_map_or (λ slot. slot == key.slot) w.gone false;
-      allocated = λ key. w.allocated;
-      left = λ collection. w.left;
-      doomed = λ buffer. option_map_or (λ index. index == buffer.index) w.doomed false;
+      gone = λ key. w.slot == key.slot;
+      allocated = λ key. false;
+      left = λ collection. 0;
+      doomed = λ buffer. false;
     } };
 
     fn gone(&self, key: NodeKey) -> bool {
-        match self.gone {
-            Some(slot) => slot == key.slot,
-            None => false,
-        }
+        self.slot == key.slot
     }
 
     fn allocated(&self, _key: NodeKey) -> bool {
-        self.allocated
+        false
     }
 
     fn left(&self, _collection: CollectionId) -> usize {
-        self.left
+        0
     }
 
-    fn doomed(&self, buffer: BufferName) -> bool {
-        match self.doomed {
-            Some(index) => index == buffer.index,
-            None => false,
-        }
+    fn doomed(&self, _buffer: BufferName) -> bool {
+        false
     }
 }
 
@@ -92,11 +73,6 @@ impl Line {
         }
     }
 
-    /// The next event.
-    pub fn pass(&mut self) {
-        self.event = self.event.saturating_add(1);
-    }
-
     /// Attaches a tracker at the next event.
     pub fn track(&mut self, condition: Condition) -> Result<TrackerId, TrackFault> {
         if self.event == u64::MAX {
@@ -109,7 +85,7 @@ impl Line {
     }
 
     /// Sweeps at this event.
-    pub fn sweep(&mut self, world: &Here) {
+    pub fn sweep(&mut self, world: &Gone) {
         self.trackers.sweep(self.event, HERE, world);
     }
 
@@ -123,12 +99,5 @@ impl Line {
         ensures own { IfSome result (λ t. cell_of self.new.trackers.cells t.tracker ≡ Some t.cell) }
     {
         self.trackers.take_tracker(id)
-    }
-
-    /// Whether the reader knows what set its cell.
-    pub fn agree(&mut self, tracker: &mut Tracker) -> bool
-        requires { cell_of self.old.trackers.cells tracker.old.tracker ≡ Some tracker.old.cell }
-    {
-        self.trackers.agree(tracker)
     }
 }

@@ -4,7 +4,7 @@ use Rattle.std.proofs.lemmas.List.{get_or_default}
 use Rattle.sm_names.specs.declared.keys.Interval.{Interval}
 use Rattle.buffer_pool.specs.Holdings.{in_run}
 use Rattle.buffer_pool.proofs.Runs.{HasRun-more}
-use Rattle.trial_parts.proofs.tests.pages.run_from.Goals as goal
+use Rattle.trial_part_rows.proofs.pages.run_from.Goals as goal
 
 pub loop-next-preserved : goal.loop-next-preserved
 loop-next-preserved c =

@@ -1,7 +1,7 @@
 -- The run lies in the list of held ones.
 use Rattle.std.proofs.Common.{◌∙◌, subst}
 use Rattle.buffer_pool.specs.Holdings.{HasRun}
-use Rattle.trial_parts.proofs.tests.pages.give_back_from.Goals as goal
+use Rattle.trial_part_rows.proofs.pages.give_back_from.Goals as goal
 
 pub give_back_run-requires-clause-held : goal.give_back_run-requires-clause-held
 give_back_run-requires-clause-held c =

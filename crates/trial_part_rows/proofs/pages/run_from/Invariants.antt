@@ -1,7 +1,7 @@
 -- So many are held so far that lie side by side.
 use Rattle.std.proofs.Common.{◌≤◌}
 use Rattle.buffer_pool.specs.Holdings.{HasRun}
-use Rattle.trial_parts.proofs.tests.pages.run_from.Given as goal
+use Rattle.trial_part_rows.proofs.pages.run_from.Given as goal
 
 abbrev pub invariant-loop-next : goal.invariant-loop-next
 invariant-loop-next l = record {

@@ -3,8 +3,8 @@ use Rattle.std.proofs.Common.{◌≡◌, ◌∙◌, arith, ap, get_or}
 use Rattle.std.proofs.lemmas.List.{get_or_default}
 use Rattle.sm_names.specs.declared.keys.Interval.{Interval}
 use Rattle.buffer_pool.specs.Holdings.{Holdings, without}
-use Rattle.trial_parts.proofs.Comings.{all_to_come, one_goes}
-use Rattle.trial_parts.proofs.tests.pages.give_back_every_second.Goals as goal
+use Rattle.trial_part_rows.proofs.Comings.{all_to_come, one_goes}
+use Rattle.trial_part_rows.proofs.pages.give_back.Goals as goal
 
 pub give_back-requires : goal.give_back-requires
 give_back-requires c = c.loop-back.invariant.there c.loop-back.back-index (record {

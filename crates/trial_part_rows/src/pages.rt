@@ -1,0 +1,193 @@
+//! A pool of pages. Buffers are called by their first page.
+ghost use Rattle.std.specs.Prelude.{◌≡◌, ◌≤◌, true};
+ghost use Rattle.buffer_pool.specs.Holdings.{in_run, HasRun};
+
+use crate::line::{Line, small};
+use crate::runs::push_runs;
+use buffer_pool::{Placed, Pool, PoolFault};
+use script_lines::push;
+use sm_names::{Interval, MAX_PAGES};
+use std::alloc::{AllocError, Global};
+use text_parts::{Part, push_parts};
+
+/// A pool.
+#[derive(Drop)]
+pub struct Pages {
+    alloc: Global,
+    pool: Pool,
+}
+
+// Which pages: from the first to the last, by this step.
+#[derive(Clone, Copy)]
+struct Range {
+    first: u32,
+    last: u32,
+    step: u32,
+}
+
+// The pages that a line names: all from one to another by a step of 1 or more, or one alone.
+fn range_of(line: &Line) -> Range {
+    let [first, last, step, _] = line.numbers;
+    Range {
+        first: small(first),
+        last: small(last.max(first)),
+        step: small(step.max(1)),
+    }
+}
+
+// Whether the page is one of these.
+fn is_among(range: Range, page: u32) -> bool {
+    let Some(past) = page.checked_sub(range.first) else {
+        return false;
+    };
+    page <= range.last && past.checked_rem(range.step) == Some(0)
+}
+
+// Gives back the buffers that begin at these pages, and answers how many those are.
+fn give_back(pool: &mut Pool, range: Range) -> u64 {
+    match pool.held() {
+        Ok(held) => {
+            let mut count: u64 = 0;
+            for back in &held {
+                if !is_among(range, back.start) {
+                    continue;
+                }
+                pool.give_back(back.start, back.pages);
+                count = count.wrapping_add(1);
+            }
+            count
+        }
+        Err(_) => 0,
+    }
+}
+
+// Whether the interval is of so many pages, and lies behind so many others of as many from this page on.
+fn is_next(next: Interval, start: u32, pages: u32, count: u32) -> bool
+    ensures { result ≡ true → next ≡ in_run start pages count }
+{
+    let end = u64::from(start) + u64::from(count) * u64::from(pages);
+    next.pages == pages && u64::from(next.start) == end
+}
+
+// How many of these are of so many pages and lie side by side from this page on.
+fn run_from(held: &[Interval], start: u32, pages: u32) -> u32
+    ensures { HasRun start pages result held.now }
+{
+    let mut count = 0;
+    for next in held {
+        if count == MAX_PAGES || !is_next(*next, start, pages, count) {
+            continue;
+        }
+        count += 1;
+    }
+    count
+}
+
+// Gives back at once all that are of so many pages and lie side by side from this page on, and answers
+// how many those are.
+fn give_back_from(pool: &mut Pool, start: u32, pages: u32) -> u64 {
+    match pool.held() {
+        Ok(held) => {
+            let count = run_from(&held, start, pages);
+            if count > 0 {
+                pool.give_back_run(start, pages, count);
+            }
+            u64::from(count)
+        }
+        Err(_) => 0,
+    }
+}
+
+impl Pages {
+    /// A pool of so many pages, if it may have so many and there is memory.
+    pub fn new(alloc: Global, pages: u32) -> Option<Pages> {
+        if pages == 0 || MAX_PAGES < pages {
+            return None;
+        }
+        match Pool::new(alloc, pages) {
+            Ok(pool) => Some(Pages { alloc, pool }),
+            Err(_) => None,
+        }
+    }
+
+    // Puts the pages of buffers that were placed behind what is there, and how many holes were looked at.
+    fn push_placed(
+        &self,
+        placed: &Placed,
+        pages_each: u32,
+        text: &mut Vec<u8>,
+    ) -> Result<(), AllocError> {
+        let mut starts = Vec::new(self.alloc);
+        for start in &placed.starts {
+            starts.push(u64::from(*start))?;
+        }
+        push(text, ":")?;
+        push_runs(text, &starts, u64::from(pages_each))?;
+        push_parts(
+            text,
+            &[Part::Word(" by "), Part::Counted(placed.looks, "look")],
+        )
+    }
+
+    // Places so many buffers of so many pages.
+    fn place(&mut self, count: u32, pages_each: u32, text: &mut Vec<u8>) -> Result<(), AllocError> {
+        if count == 0 || pages_each == 0 {
+            return push(text, ": not understood");
+        }
+        match self.pool.place(count, pages_each) {
+            Ok(placed) => self.push_placed(&placed, pages_each, text),
+            Err(PoolFault::PoolFull) => push(text, ": full"),
+            Err(PoolFault::NoMemory) => push(text, ": no memory"),
+        }
+    }
+
+    // Puts the pages of each buffer that is held behind what is there.
+    fn push_held(&self, text: &mut Vec<u8>) -> Result<(), AllocError> {
+        let Ok(held) = self.pool.held() else {
+            return push(text, ": no memory");
+        };
+        push(text, ":")?;
+        for one in &held {
+            let start = [u64::from(one.start)];
+            push_runs(text, &start, u64::from(one.pages))?;
+            push(text, ",")?;
+        }
+        self.push_free(" ", text)
+    }
+
+    // Puts how many pages are free behind what is there.
+    fn push_free(&self, before: &str, text: &mut Vec<u8>) -> Result<(), AllocError> {
+        let free = u64::from(self.pool.free_pages());
+        push_parts(
+            text,
+            &[Part::Word(before), Part::Number(free), Part::Word(" free")],
+        )
+    }
+
+    // Puts behind what is there that so many buffers went back.
+    fn push_back(&self, count: u64, text: &mut Vec<u8>) -> Result<(), AllocError> {
+        push_parts(text, &[Part::Word(": "), Part::Counted(count, "buffer")])?;
+        self.push_free(", ", text)
+    }
+
+    /// Takes a line, which places buffers, gives some back, or asks which are held.
+    pub fn take(&mut self, line: &Line, text: &mut Vec<u8>) -> Result<(), AllocError> {
+        let [first, second, ..] = line.numbers;
+        match line.verb {
+            "place" => {
+                self.place(small(first), small(second), text)?;
+                self.push_free(", ", text)
+            }
+            "back" => {
+                let count = give_back(&mut self.pool, range_of(line));
+                self.push_back(count, text)
+            }
+            "run" => {
+                let count = give_back_from(&mut self.pool, small(first), small(second));
+                self.push_back(count, text)
+            }
+            "held" => self.push_held(text),
+            _ => push(text, ": not understood"),
+        }
+    }
+}
