@@ -1,5 +1,7 @@
 //! A session whose events are told.
-ghost use Rattle.std.specs.Prelude.{◌≤◌};
+ghost use Rattle.std.specs.Prelude.{◌≡◌, ◌≢◌, ◌≤◌, [], IfErr, IfOk, OnOk};
+ghost use Rattle.sm_script.specs.Scenes.{Scene, first_scene};
+ghost use Rattle.sm_script.specs.Sessions.{Advances, Gains, IsAt, IsStopped};
 
 use crate::allocations::{push_initial, push_logical};
 use crate::keepers::{push_kept, push_kept_by_nodes};
@@ -49,6 +51,9 @@ impl Teller {
         limits: Limits,
     ) -> Result<Teller, NoMemory>
         requires { (1 ≤ pages) × (pages ≤ 1048576) }
+        ensures pool { IfOk result (λ teller. teller.session.core.pool ≡ pages) }
+        ensures limits { IfOk result (λ teller. teller.session.core.limits ≡ limits) }
+        ensures start { IfOk result (λ teller. IsAt teller.session first_scene) }
     {
         Ok(Teller {
             session: Session::new(alloc, seed, pages, limits)?,
@@ -57,8 +62,8 @@ impl Teller {
         })
     }
 
-    /// Answers the line of this number, without its end: what it is answered goes into `reply`, and what
-    /// its event came to into `facts`, both in place of what was there.
+    /// Answers the line of this number, without its end, as `Session::answer` does: what it is answered
+    /// goes into `reply`, and what its event came to into `facts`, both in place of what was there.
     ///
     /// On an error neither is to be read. Where memory was refused its call may have been made. Costs what
     /// the session's answer costs, and where a collection changes what `take_event` costs.
@@ -69,7 +74,12 @@ impl Teller {
         line: &[u8],
         reply: &mut Vec<u8>,
         facts: &mut Vec<u8>,
-    ) -> Result<(), Stop> {
+    ) -> Result<(), Stop>
+        ensures ok { OnOk result ((scene : Scene) → IsAt self.old.session scene →
+            Advances self.old.session self.new.session line.now reply.new.items scene) }
+        ensures err { IfErr result (λ stop. (scene : Scene) → IsAt self.old.session scene →
+            IsStopped self.old.session line.now scene stop) }
+    {
         facts.clear();
         match self.session.read(line) {
             Some(
@@ -78,19 +88,37 @@ impl Teller {
                     call,
                     binds,
                 },
-            ) => {
-                let event = self.take(alloc, client, call, binds, reply)?;
-                self.note_losses(alloc, number, line, &event.moments)?;
-                self.push_facts(&event, facts)
-            }
+            ) => match self.take(alloc, client, call, binds, reply) {
+                Ok(event) => match self.tell(alloc, number, line, &event, facts) {
+                    Ok(()) => Ok(()),
+                    Err(_) => Err(Stop::NoMemory),
+                },
+                Err(stop) => Err(stop),
+            },
             _ => self.session.answer(line, reply),
         }
+    }
+
+    // Keeps the line with each loss that its event made, and puts what the event came to behind what is
+    // there. It fails for want of memory alone.
+    fn tell(
+        &mut self,
+        alloc: Global,
+        number: u64,
+        line: &[u8],
+        event: &Event,
+        facts: &mut Vec<u8>,
+    ) -> Result<(), Stop>
+        ensures { self.new.session ≡ self.old.session }
+    {
+        self.note_losses(alloc, number, line, &event.moments)?;
+        self.push_facts(event, facts)
     }
 
     /// Makes the call of a line, and puts its reply in the place of what was there; what its label stands
     /// for is what the call made.
     ///
-    /// `HistoryFull` and `NoMemory` as `take_event` has them. Costs what that costs.
+    /// `HistoryFull` and `NoMemory` as `take_event` has them, and never `BadLine`. Costs what that costs.
     pub fn take(
         &mut self,
         alloc: Global,
@@ -98,7 +126,13 @@ impl Teller {
         call: Call,
         binds: Binds,
         reply: &mut Vec<u8>,
-    ) -> Result<Event, Stop> {
+    ) -> Result<Event, Stop>
+        ensures ok { OnOk result ((scene : Scene) → IsAt self.old.session scene →
+            Gains self.old.session self.new.session (Act.Ask client call binds)
+            [] reply.new.items scene) }
+        ensures err { IfErr result (λ stop. (stop ≢ Stop.BadLine) × (stop ≡ Stop.HistoryFull →
+            self.old.session.core.limits.events ≤ self.old.session.core.events)) }
+    {
         reply.clear();
         let event = taken(take_event(alloc, &mut self.session.core, client, call))?;
         self.session.note(binds, event.reply, reply)?;
@@ -113,7 +147,9 @@ impl Teller {
         number: u64,
         line: &[u8],
         moments: &[Moment],
-    ) -> Result<(), AllocError> {
+    ) -> Result<(), AllocError>
+        ensures { self.new.session ≡ self.old.session }
+    {
         for moment in moments {
             if let Forced::Loss(fault) = moment.mark {
                 let told = loss_line(alloc, number, line)?;
@@ -324,7 +360,11 @@ fn loss_line(alloc: Global, number: u64, line: &[u8]) -> Result<LossLine, AllocE
 }
 
 // The event, or why it stopped the script.
-fn taken(event: Result<Event, StepFault>) -> Result<Event, Stop> {
+fn taken(event: Result<Event, StepFault>) -> Result<Event, Stop>
+    ensures ok { IfOk result (λ made. event ≡ Ok made) }
+    ensures err { IfErr result (λ stop. (stop ≢ Stop.BadLine)
+        × (stop ≡ Stop.HistoryFull → event ≡ Err StepFault.HistoryFull)) }
+{
     match event {
         Ok(event) => Ok(event),
         Err(StepFault::HistoryFull) => Err(Stop::HistoryFull),
