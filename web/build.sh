@@ -31,14 +31,14 @@ cd "$out"
 "$clang" -x ir -S -emit-llvm -O0 -Xclang -disable-llvm-passes module.bc -o module.ll
 python3 ../narrow.py module.ll > narrow.ll
 wasm="--target=wasm32-unknown-unknown -mcpu=lime1 -mbulk-memory --no-default-config -ffunction-sections -fdata-sections"
-"$clang" $wasm -mllvm -no-trap-after-noreturn -mllvm -trap-unreachable -Os -c -x ir narrow.ll -o page.o
+"$clang" $wasm -mllvm -no-trap-after-noreturn -mllvm -trap-unreachable -Os -Xclang -fmerge-functions -c -x ir narrow.ll -o page.o
 "$clang" $wasm -ffreestanding -nostdinc -O2 -Wall -Wextra -Werror -c ../heap.c -o heap.o
 ln -sf "$kit/toolchain/bin/ld.lld" wasm-ld
 link() { # what is written, more words
     to=$1
     shift
     ./wasm-ld --no-entry --stack-first -z stack-size=1048576 --export=sysmem_explain --export=sysmem_draw \
-        --gc-sections --strip-all "$@" page.o heap.o -o "$to"
+        --gc-sections --strip-all --compress-relocations "$@" page.o heap.o -o "$to"
 }
 link sysmem.wasm
 # For the test of refused memory: the same with four MiB at most.

@@ -47,7 +47,7 @@ export async function start() {
       await say('Page.navigate', { url: `file://${resolve(file)}${hash}` });
       await until_ready(value, `${file}${hash}`);
     };
-    const codes = { ArrowRight: 39, ArrowUp: 38, Home: 36, Enter: 13 };
+    const codes = { ArrowRight: 39, ArrowUp: 38, Home: 36, End: 35, Enter: 13, Tab: 9 };
     const key = async (name, control = false) => {
       const stroke = { key: name, code: name, windowsVirtualKeyCode: codes[name], modifiers: control ? 2 : 0 };
       for (const type of ['rawKeyDown', 'keyUp']) await say('Input.dispatchKeyEvent', { type, ...stroke });

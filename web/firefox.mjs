@@ -57,7 +57,7 @@ export async function start() {
       await call('browsingContext.navigate', { context, url: `file://${resolve(file)}${hash}`, wait: 'complete' });
       await until_ready(value, `${file}${hash}`);
     };
-    const codes = { ArrowRight: '\uE014', ArrowUp: '\uE013', Home: '\uE011', Enter: '\uE007' };
+    const codes = { ArrowRight: '\uE014', ArrowUp: '\uE013', Home: '\uE011', End: '\uE010', Enter: '\uE007', Tab: '\uE004' };
     const key = async (name, control = false) => {
       const strokes = [...control ? ['\uE009'] : [], codes[name]];
       await call('input.performActions', { context, actions: [{ type: 'key', id: 'keys', actions: [

@@ -1,6 +1,6 @@
 // The module alone, without a browser: what it imports, and that it answers as the program does.
 //   node module_test.mjs MODULE.wasm EXAMPLES [PROGRAM SCRIPTS]
-// PROGRAM is a `sysmem` that was built; each file of the folder SCRIPTS is run by both.
+// PROGRAM is a `sysmem` that was built; each file of the folder SCRIPTS is explained and drawn by both.
 import { readFileSync, readdirSync } from 'node:fs';
 import { spawnSync } from 'node:child_process';
 import { join } from 'node:path';
@@ -32,11 +32,18 @@ for (const name of readdirSync(examples).filter((f) => f.endsWith('.script'))) {
 }
 assert.equal(ask('sysmem_explain', 0, Buffer.from('')).status, 2);
 assert.deepEqual(ask('sysmem_explain', 16, Buffer.from('a join\nhum\n')), { status: 3, line: 2, text: 'a join\n  joined\n' });
-for (const name of program ? readdirSync(scripts) : []) {
+
+// What the program and the module make of the script: its explanation, and the trees behind its last line.
+function compare(name) {
   const script = readFileSync(join(scripts, name));
-  const native = spawnSync(program, ['explain'], { input: script });
-  const told = ask('sysmem_explain', 16, script);
-  assert.deepEqual([told.status, told.text], [native.status, native.stdout.toString()], name);
+  for (const [words, told] of [[['explain'], ask('sysmem_explain', 16, script)], [['draw'], ask('sysmem_draw', 16, script, 0, 0)],
+    [['draw', '--format', 'svg'], ask('sysmem_draw', 16, script, 0, 2)]]) {
+    const native = spawnSync(program, words, { input: script, maxBuffer: 1 << 28 });
+    const line = /^bad line (\d+)/.exec(native.stderr.toString())?.[1] ?? '0';
+    assert.deepEqual([told.status, told.line, told.text], [native.status, Number(line), native.stdout.toString()], `${name}: ${words}`);
+  }
   count += 1;
 }
+
+if (program) readdirSync(scripts).forEach(compare);
 console.log(`module: ${count} scripts, no import`);

@@ -49,7 +49,7 @@ const isView = (line) => line.startsWith('show ') || line.split(' ')[1] === 'pol
 // The program's words for a run that stopped.
 function stopped(status, line) {
   if (status === 3) return `bad line ${line}`;
-  if (status === 4) return 'the history is full, or memory was refused';
+  if (status === 4) return 'no memory'; // a script has fewer lines than a core counts events
   return 'the script is longer than 16777216 bytes';
 }
 
@@ -86,16 +86,26 @@ function play(text) {
 
 // ---- the picture
 
+// The last text pictures, by event: what a step forward compares with was drawn by the step before.
+const drawn = new Map();
+function rows_of(event) {
+  if (!drawn.has(event)) {
+    if (drawn.size > 3) drawn.clear();
+    drawn.set(event, draw(script, event, 'text').text);
+  }
+  return drawn.get(event);
+}
+
 // The facts of a text picture: its nodes, buffers, pool and firings.
 function seen(text) {
   const found = { nodes: [], held: [], pool: '', fired: [] };
   for (const row of text.split('\n').slice(1)) {
     const buffer = /^(\S+\.\d+) +[✕·]?!? *(pages? [^;]*?)(?:; kept by (.*))?$/.exec(row);
-    const node = /^[│├└─╌ ]*([a-z][a-z0-9]*(?: \([a-z0-9]+\))?) +([✕·])?(!)? *(.*)$/.exec(row);
+    const node = /^([│├└─╌ ]*)([a-z][a-z0-9]*(?: \([a-z0-9]+\))?) +([✕·])?(!)? *(.*)$/.exec(row);
     if (row.startsWith('pool ')) found.pool = row.slice(5);
     else if (row.startsWith('fired ')) found.fired = pairs(row.slice(6).split(' '));
     else if (buffer) found.held.push(buffer.slice(1));
-    else if (node) found.nodes.push({ name: node[1], mark: node[2] ?? '', now: node[3] === '!', facts: node[4], row });
+    else if (node) found.nodes.push({ depth: node[1].length / 4, name: node[2], mark: node[3] ?? '', now: node[4] === '!', facts: node[5], row });
   }
   return found;
 }
@@ -107,17 +117,31 @@ function tell(node) {
   return `${node.name}: ${state}`;
 }
 
-// Draws the trees behind the event. Of more than MOST_NODES nodes only those are listed that the event changed.
+// The nodes that the event changed since the picture before it, and those on the way from each to its root.
+function changed(nodes, event) {
+  const told = (node) => `${node.name} ${node.mark} ${node.facts}`;
+  const before = new Set(seen(rows_of(event - 1)).nodes.map(told));
+  const way = [], kept = new Set();
+  for (const node of nodes) {
+    way.length = node.depth;
+    way.push(node);
+    const is_changed = node.now || !before.has(told(node));
+    for (let i = way.length - 1; is_changed && i >= 0 && !kept.has(way[i]); i--) kept.add(way[i]);
+  }
+  return nodes.filter((node) => kept.has(node));
+}
+
+// Draws the trees behind the event. Of more than MOST_NODES nodes only those are listed that the event changed, with
+// the way to their roots.
 function picture(event) {
-  const rows = draw(script, event, 'text');
-  const all = seen(rows.text);
-  $('rows').textContent = rows.text;
+  const rows = rows_of(event), all = seen(rows);
+  $('rows').textContent = rows;
   const name = all.nodes.length ? `Trees behind event ${event}. ${all.nodes.map(tell).join('; ')}` : 'No nodes yet';
   if (all.nodes.length > MOST_NODES) {
-    const changed = all.nodes.filter((n) => n.now);
-    const list = document.createElement('pre');
-    list.textContent = [...changed.map((n) => n.row), `${all.nodes.length - changed.length} more nodes, which this event did not change`].join('\n');
+    const listed = changed(all.nodes, event), list = document.createElement('pre');
+    list.textContent = [...listed.map((n) => n.row), `${all.nodes.length - listed.length} more nodes, which this event did not change`].join('\n');
     list.tabIndex = 0;
+    list.setAttribute('role', 'group');
     list.setAttribute('aria-label', `Nodes that event ${event} changed`);
     $('tree').replaceChildren(list);
     return all;
@@ -215,6 +239,7 @@ function run(line) {
   $('pages').value = pages;
   script = $('script').value;
   if (!script.endsWith('\n')) script += '\n';
+  drawn.clear();
   try {
     steps = play(script);
     $('lines').replaceChildren(...steps.map(listed));
@@ -267,7 +292,8 @@ async function begin() {
   pick();
   if (wanted.has('script')) $('script').value = decode(wanted.get('script'));
   if (wanted.has('pages')) $('pages').value = wanted.get('pages');
-  run(wanted.has('line') ? Number(wanted.get('line')) - 1 : undefined);
+  const line = Math.trunc(Number(wanted.get('line')));
+  run(line >= 1 ? line - 1 : undefined);
   document.documentElement.dataset.ready = 'yes';
 }
 begin();

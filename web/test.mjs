@@ -29,6 +29,9 @@ async function display_failure({ value }) {
   assert.deepEqual((await value("[...$('said').children].map((p) => p.textContent)")).slice(0, 3),
     ['Event 28: dis close display', 'Reply: done', 'fordis fails, lost: its end was closed without a release']);
   assert.match(await value("$('tree').firstChild.getAttribute('aria-label')"), /root: released, lost, origin fordis; .*fordis \(display\): lost/);
+  const seen = await value(`(() => { const box = [...document.querySelectorAll('#tree rect')].find((r) => getComputedStyle(r).fill === 'rgb(168, 67, 0)').getBoundingClientRect();
+    return [box.right <= $('tree').getBoundingClientRect().right, box.bottom <= innerHeight, $('tree').scrollWidth <= $('tree').clientWidth]; })()`);
+  assert.deepEqual(seen, [true, true, true], 'the origin stands on the first screen');
   assert.equal(await value("$('pool').textContent"), 'Pool: ████████░░░░░░░░ 8 of 16 free');
   assert.deepEqual(await value("[...$('held').rows].map((r) => [...r.cells].map((c) => c.textContent).join('|'))[0]"), 'root.0|pages 0 to 1|cam strong 1, dis strong 1');
   assert.deepEqual(await value("[...$('fired').rows].map((r) => r.textContent)"), ['goneat event 28']);
@@ -45,11 +48,20 @@ async function keyboard({ value, key }) {
   assert.equal(await value("$('at').textContent"), '35');
   await key('Home');
   assert.equal(await value("$('at').textContent"), '1');
+  await key('End');
+  assert.equal(await value("$('at').textContent"), await value('String(steps.length)'));
   await value("$('script').focus()");
   await key('Enter', true);
   assert.equal(await value('document.activeElement.id'), 'script');
   await value("$('run').focus(); $('run').click()");
   assert.equal(await value('document.activeElement.id'), 'run');
+  await value("$('pick').focus()");
+  for (const name of ['pages', 'run', 'script', 'lines', 'back', 'slide', 'on', 'tree', 'SUMMARY']) {
+    await key('Tab');
+    const [reached, width] = await value(`(() => { const e = document.activeElement; return [e.id || e.nodeName, getComputedStyle(e).outline]; })()`);
+    assert.equal(reached, name);
+    assert.match(width, /\b3px\b/, `${name}: the focus is not seen: ${width}`);
+  }
 }
 
 // What went wrong is named, and what was before it stands.
@@ -69,7 +81,7 @@ async function faults_told({ value, open }) {
   assert.match(await value("$('said').textContent"), /<script>.*bad line 2/);
   await open(small);
   assert.match(await value(`(() => { $('script').value = 'a join\\n' + Array.from({ length: 250 }, (_, i) => 'a open r' + i + '\\n').join('') .repeat(1) + '#' + ' '.repeat(200) + '\\n';
-    $('script').value += ('#' + 'z'.repeat(250) + '\\n').repeat(20000); $('run').click(); return steps.at(-1)?.bad ?? $('said').textContent; })()`), /memory was refused/);
+    $('script').value += ('#' + 'z'.repeat(250) + '\\n').repeat(20000); $('run').click(); return steps.at(-1)?.bad ?? $('said').textContent; })()`), /no memory/);
   await open(page);
 }
 
@@ -79,6 +91,10 @@ async function links({ value, open }) {
   assert.deepEqual(await value("[$('pick').value, $('at').textContent]"), ['weak', '24']);
   await value("$('script').value = 'a join\\n'; $('run').click()");
   assert.match(await value('location.hash'), /^#script=YSBqb2luCg&line=1$/);
+  for (const [line, shown] of [['2', '2'], ['999', '50'], ['1.5', '1'], ['0', '50'], ['x', '50']]) {
+    await open(page, `#example=camera&line=${line}`);
+    assert.equal(await value("$('at').textContent"), shown, `line=${line}`);
+  }
   await open(page);
 }
 
@@ -93,10 +109,17 @@ async function sizes({ value }) {
     assert.match(told, /0 more nodes/);
     console.log(`1,024 nodes, ${name}: ${Math.round(performance.now() - begun)} ms`);
   }
+  const beside = [...wide.slice(0, 302), 'a dup r7 x', 'a dup x y', 'a sync x', 'a bind r9'];
+  const listed = await value(`(() => { $('script').value = ${JSON.stringify(`${beside.join('\n')}\n`)}; $('run').click();
+    return [303, 304, 305].map((k) => { show(k); return $('tree').textContent.split('\\n').map((row) => row.replace(/^[│├└─╌ ]*/, '').split(' ')[0]); }); })()`);
+  assert.deepEqual(listed, [['r0', 'r7', 'x', 'y', '299'], ['303'], ['r0', 'r9', '301']]);
   const many = ['a join', 'a open r', ...Array.from({ length: 100 }, (_, i) => `a dup r n${i}`), ...Array.from({ length: 4900 }, (_, i) => `a sync n${i % 100}`)];
   const [run, step] = await value(`(() => { $('script').value = ${JSON.stringify(`${many.join('\n')}\n`)};
     const t = performance.now(); $('run').click(); const u = performance.now(); show(2500); return [u - t, performance.now() - u]; })()`);
   console.log(`5,002 lines: Run ${Math.round(run)} ms, a step ${Math.round(step)} ms`);
+  const most = ['a join', 'a open r', ...Array.from({ length: 1000 }, (_, i) => `a dup r n${i}`), ...Array.from({ length: 9000 }, (_, i) => `a sync n${i % 1000}`)];
+  const large = await value(`(() => { $('script').value = ${JSON.stringify(`${most.join('\n')}\n`)}; $('run').click(); show(5000); const t = performance.now(); show(5001); return performance.now() - t; })()`);
+  console.log(`10,002 lines, 1,001 nodes: a step ${Math.round(large)} ms`);
 }
 
 // Each control and the picture have a name, and texts stand out from what is behind them.
@@ -105,19 +128,25 @@ async function names_and_contrasts({ say, value }) {
   const { nodes } = await say('Accessibility.getFullAXTree');
   const roles = new Set(['button', 'slider', 'textbox', 'combobox', 'spinbutton', 'image', 'list', 'table']);
   for (const n of nodes.filter((m) => roles.has(m.role?.value) && !m.ignored)) assert.ok(n.name?.value, `${n.role.value} has no name`);
-  const contrast = `(() => {
+  assert.deepEqual(await value("[...document.querySelectorAll('[role=group]')].map((e) => !!e.getAttribute('aria-label'))"), [true, true]);
+  const contrasts = `(() => {
     const light = (c) => { const v = c.match(/\\d+/g).slice(0, 3).map((x) => { const s = x / 255; return s <= 0.03928 ? s / 12.92 : ((s + 0.055) / 1.055) ** 2.4; }); return 0.2126 * v[0] + 0.7152 * v[1] + 0.0722 * v[2]; };
     const behind = (e) => { for (; e; e = e.parentElement) { const c = getComputedStyle(e).backgroundColor; if (!/rgba\\(.*, 0\\)/.test(c) && c !== 'transparent') return c; } return 'rgb(255, 255, 255)'; };
-    let worst = 99;
-    for (const e of document.querySelectorAll('h1, h2, p, label, button, li, li span, td, th, caption, summary')) {
-      const [a, b] = [light(getComputedStyle(e).color), light(behind(e))].sort((x, y) => y - x);
-      worst = Math.min(worst, (a + 0.05) / (b + 0.05));
-    }
-    return worst; })()`;
+    const between = (c, d) => { const [a, b] = [light(c), light(d)].sort((x, y) => y - x); return (a + 0.05) / (b + 0.05); };
+    const all = (query) => [...document.querySelectorAll(query)];
+    const texts = all('h1, h2, p, label, button, select, input[type=number], textarea, li, li span, td, th, caption, summary').map((e) => between(getComputedStyle(e).color, behind(e)));
+    const borders = all('button, select, input[type=number], textarea, td, th, #lines, #tree').map((e) => between(getComputedStyle(e).borderTopColor, behind(e.parentElement)));
+    // In the picture: words beside the last box drawn around them, borders of boxes beside what is behind the picture.
+    const boxes = all('#tree svg rect').map((e) => [e.getBBox(), getComputedStyle(e)]);
+    const around = ({ x, y }) => boxes.filter(([b]) => b.x <= x && x <= b.x + b.width && b.y <= y && y <= b.y + b.height).at(-1)?.[1].fill ?? behind($('tree'));
+    const words = all('#tree svg text').map((e) => between(getComputedStyle(e).fill, around({ x: e.getBBox().x + 1, y: e.getBBox().y + e.getBBox().height / 2 })));
+    const edges = boxes.filter(([, s]) => s.stroke !== 'none').map(([, s]) => between(s.stroke, behind($('tree'))));
+    return [texts, words, borders, edges].map((list) => [list.length, Math.min(...list)]); })()`;
   for (const scheme of ['light', 'dark']) {
     await say('Emulation.setEmulatedMedia', { features: [{ name: 'prefers-color-scheme', value: scheme }] });
-    const worst = await value(contrast);
-    assert.ok(worst >= 4.5, `${scheme}: contrast ${worst}`);
+    const [texts, words, borders, edges] = await value(contrasts);
+    for (const [count, worst] of [texts, words]) assert.ok(count > 10 && worst >= 4.5, `${scheme}: contrast of text ${worst}`);
+    for (const [count, worst] of [borders, edges]) assert.ok(count > 3 && worst >= 3, `${scheme}: contrast of a border ${worst}`);
   }
   await say('Emulation.setEmulatedMedia', { features: [] });
   await say('Emulation.setDeviceMetricsOverride', { width: 320, height: 700, deviceScaleFactor: 1, mobile: false });
@@ -152,7 +181,8 @@ try {
     writeFileSync(join(pictures, 'firefox.png'), Buffer.from(await one.picture(), 'base64'));
   }
   assert.deepEqual(browser.faults, []);
-  assert.deepEqual(browser.requests.filter((url) => !url.startsWith('file:') && url !== 'about:blank'), []);
+  // Firefox counts a font of its own, in a `data:` address.
+  assert.deepEqual(browser.requests.filter((url) => !/^(file|data):|^about:blank$/.test(url)), []);
   console.log(`${kind}: all passed in ${Math.round(performance.now() - begun)} ms`);
 } finally {
   await browser.close();
