@@ -1,13 +1,19 @@
 //! The replies that a transcript has, compared with those of a machine.
-ghost use Rattle.std.specs.Prelude.{◌≤◌};
+ghost use Rattle.std.specs.Prelude.{◌≡◌, ◌≢◌, ◌↔◌, ◌^◌, ◌<◌, ◌≤◌, ◌+◌, [], ◌∷◌, ◌++◌, List, ℕ, IfErr, IfOk, IsTrue, OnOk, false, length};
+ghost use Rattle.script_faults.specs.IndentedLines.{indented, is_indented as is_indented_line};
+ghost use Rattle.script_lines.specs.Pieces.{last_part, whole_lines};
+ghost use Rattle.sm_script.specs.Scenes.{Scene, Setting, as_line};
+ghost use Rattle.sm_script.specs.Sessions.{Advances, IsAt, IsStopped};
+ghost use Rattle.script_explain.specs.Comparisons.{Checks, IsJudged, IsVerdict, LinesStop, Records, Stopped, agreement_text, legal_text, told_difference};
+ghost use Rattle.script_explain.specs.Progress.{CheckHalted, Compared, Ended, Judges, place_in};
 
 use script_faults::{
     ReportFault, bad_line, behind, behind_indent, fault_of, is_indented, push_indented, put_out,
     read_script, unended,
 };
-use script_lines::line_end;
+use script_lines::{MOST_BYTES, line_end};
 use script_tales::Teller;
-use sm_names::Limits;
+use sm_names::{Limits, NoMemory};
 use std::alloc::{AllocError, Global};
 use std::io::{Read, Write};
 use text_parts::{Part, push_parts};
@@ -33,6 +39,8 @@ struct Comparison {
     // How many lines were played, and how many replies compared.
     lines: u64,
     replies: u64,
+    // What is to be written.
+    text: Vec<u8>,
 }
 
 /// Plays the lines of the transcript that the reader holds against a new core with a pool of `pages`
@@ -53,65 +61,158 @@ pub fn check_script<R: Read, W: Write>(
     limits: Limits,
 ) -> Result<Verdict, ReportFault>
     requires { (1 ≤ pages) × (pages ≤ 1048576) }
+    ensures { Checks (record { pool = pages; limits = limits })
+        (R.remaining reader.old) (R.remaining reader.new)
+        (W.contents writer.old) (W.contents writer.new) result }
 {
-    let script = read_script(alloc, reader)?;
-    let mut comparison = Comparison {
-        teller: Teller::new(alloc, seed, pages, limits)?,
-        number: 0,
-        line: Vec::new(alloc),
-        reply: Vec::new(alloc),
-        facts: Vec::new(alloc),
-        lines: 0,
-        replies: 0,
+    let script = match read_script(alloc, reader) {
+        Ok(script) => script,
+        Err(fault) => return Err(fault),
     };
-    let mut text = Vec::new(alloc);
-    let verdict = compare(alloc, &mut comparison, &script, &mut text)?;
-    if let Verdict::Agrees = verdict {
-        comparison.push_agreement(&mut text)?;
+    match Comparison::new(alloc, seed, pages, limits) {
+        Ok(mut comparison) => check_all(alloc, &mut comparison, writer, &script),
+        Err(_) => Err(ReportFault::NoMemory),
     }
-    put_out(writer, &text)?;
-    Ok(verdict)
 }
 
-// Plays and compares the lines, one after another.
-fn compare(
+// Compares the lines, and writes what comes of it.
+fn check_all<W: Write>(
     alloc: Global,
     comparison: &mut Comparison,
+    writer: &mut W,
     script: &[u8],
-    text: &mut Vec<u8>,
-) -> Result<Verdict, ReportFault> {
-    let mut number: u64 = 0;
-    let mut rest = script;
-    'lines: while let Some(at) = line_end(rest) {
-        number = number.saturating_add(1);
-        let line = &rest[..at];
-        rest = behind(rest, at);
-        match behind_indent(line) {
-            None => comparison.play(alloc, number, line)?,
-            Some(recorded) => {
-                if !is_indented(recorded) && !comparison.take_reply(recorded) {
-                    if comparison.lines == 0 {
-                        return Err(bad_line(alloc, number, "a reply stands before the first line"));
-                    }
-                    comparison.push_difference(text, recorded)?;
-                    return Ok(Verdict::Differs);
-                }
-            }
-        }
-    }
-    if rest.is_empty() {
-        Ok(Verdict::Agrees)
-    } else {
-        Err(unended(alloc, number.saturating_add(1)))
+) -> Result<Verdict, ReportFault>
+    requires few { length script.now ≤ MOST_BYTES }
+    requires no_text { comparison.old.text.items ≡ [] }
+    ensures ok { IfOk result (λ verdict. (setting : Setting) → Compared setting comparison.old [] →
+        IsJudged setting (W.contents writer.old) (W.contents writer.new) script.now verdict) }
+    ensures err { IfErr result (λ fault. (setting : Setting) → Compared setting comparison.old [] →
+        Stopped setting (W.contents writer.old) (W.contents writer.new) script.now fault) }
+{
+    let verdict = match comparison.judge(alloc, script) {
+        Ok(verdict) => verdict,
+        Err(fault) => return Err(fault),
+    };
+    match put_out(writer, &comparison.text) {
+        Ok(()) => Ok(verdict),
+        Err(fault) => Err(fault),
     }
 }
 
 impl Comparison {
+    // No line was compared.
+    fn new(
+        alloc: Global,
+        seed: [u8; 16],
+        pages: u32,
+        limits: Limits,
+    ) -> Result<Comparison, NoMemory>
+        requires { (1 ≤ pages) × (pages ≤ 1048576) }
+        ensures start { IfOk result (λ c.
+            Compared (record { pool = pages; limits = limits }) c []) }
+        ensures no_text { IfOk result (λ c. c.text.items ≡ []) }
+    {
+        let teller = Teller::new(alloc, seed, pages, limits)?;
+        let line = Vec::new(alloc);
+        let reply = Vec::new(alloc);
+        Ok(Comparison {
+            teller,
+            number: 0,
+            line,
+            reply,
+            facts: Vec::new(alloc),
+            lines: 0,
+            replies: 0,
+            text: Vec::new(alloc),
+        })
+    }
+
+    // Finds the verdict, and its text.
+    fn judge(&mut self, alloc: Global, script: &[u8]) -> Result<Verdict, ReportFault>
+        requires few { length script.now ≤ MOST_BYTES }
+        requires no_text { self.old.text.items ≡ [] }
+        ensures ok { IfOk result (λ verdict. (setting : Setting) → Compared setting self.old [] →
+            IsVerdict setting script.now self.new.text.items verdict) }
+        ensures err { IfErr result (λ fault. (setting : Setting) → Compared setting self.old [] →
+            LinesStop setting script.now fault) }
+    {
+        match self.take_lines(alloc, script) {
+            Ok(Verdict::Agrees) => match self.push_agreement() {
+                Ok(()) => Ok(Verdict::Agrees),
+                Err(_) => Err(ReportFault::NoMemory),
+            },
+            Ok(Verdict::Differs) => Ok(Verdict::Differs),
+            Err(fault) => Err(fault),
+        }
+    }
+
+    // Plays and compares the lines, one after another, up to the first that differs.
+    fn take_lines(&mut self, alloc: Global, script: &[u8]) -> Result<Verdict, ReportFault>
+        requires few { length script.now ≤ MOST_BYTES }
+        requires no_text { self.old.text.items ≡ [] }
+        ensures ok { IfOk result (λ verdict. (setting : Setting) → Compared setting self.old [] →
+            Ended setting self.new script.now verdict) }
+        ensures err { IfErr result (λ fault. (setting : Setting) → Compared setting self.old [] →
+            LinesStop setting script.now fault) }
+    {
+        let mut number: u64 = 0;
+        let mut rest = script;
+        'lines: while let Some(at) = line_end(rest) {
+            number = number.saturating_add(1);
+            match self.take_line(alloc, number, &rest[..at]) {
+                Ok(Verdict::Agrees) => rest = behind(rest, at),
+                Ok(Verdict::Differs) => return Ok(Verdict::Differs),
+                Err(fault) => return Err(fault),
+            }
+        }
+        if rest.is_empty() {
+            Ok(Verdict::Agrees)
+        } else {
+            Err(unended(alloc, number.saturating_add(1)))
+        }
+    }
+
+    // Plays or compares the line of this number.
+    fn take_line(&mut self, alloc: Global, number: u64, line: &[u8]) -> Result<Verdict, ReportFault>
+        requires { number ≤ MOST_BYTES }
+        ensures ok { IfOk result (λ verdict. (setting : Setting) (lines : List (List ℕ)) →
+            Compared setting self.old lines → number ≡ length lines + 1 →
+            Judges setting self.old self.new lines line.now verdict) }
+        ensures err { IfErr result (λ fault. (setting : Setting) (lines : List (List ℕ)) →
+            Compared setting self.old lines → number ≡ length lines + 1 →
+            CheckHalted setting (lines ++ line.now ∷ []) fault) }
+    {
+        match behind_indent(line) {
+            None => match self.play(alloc, number, line) {
+                Ok(()) => Ok(Verdict::Agrees),
+                Err(fault) => Err(fault),
+            },
+            Some(recorded) => {
+                if is_indented(recorded) {
+                    return Ok(Verdict::Agrees);
+                }
+                self.compare(alloc, number, recorded)
+            }
+        }
+    }
+
     // Plays the line of this number.
-    fn play(&mut self, alloc: Global, number: u64, line: &[u8]) -> Result<(), ReportFault> {
+    fn play(&mut self, alloc: Global, number: u64, line: &[u8]) -> Result<(), ReportFault>
+        requires { number ≤ MOST_BYTES }
+        ensures ok { OnOk result ((setting : Setting) (lines : List (List ℕ)) →
+            is_indented_line line.now ≡ false → Compared setting self.old lines →
+            number ≡ length lines + 1 → Compared setting self.new (lines ++ line.now ∷ [])) }
+        ensures same { self.new.text ≡ self.old.text }
+        ensures err { IfErr result (λ fault. (setting : Setting) (lines : List (List ℕ)) →
+            is_indented_line line.now ≡ false → Compared setting self.old lines →
+            number ≡ length lines + 1 → CheckHalted setting (lines ++ line.now ∷ []) fault) }
+    {
         self.number = number;
         self.line.clear();
-        self.line.extend_from_slice(line)?;
+        match self.line.extend_from_slice(line) {
+            Ok(()) => {}
+            Err(_) => return Err(ReportFault::NoMemory),
+        }
         match self
             .teller
             .answer(alloc, number, line, &mut self.reply, &mut self.facts)
@@ -124,21 +225,43 @@ impl Comparison {
         }
     }
 
-    // Compares the reply with what the machine answered to the last line; counts it if it is the same.
-    fn take_reply(&mut self, recorded: &[u8]) -> bool {
-        match self.reply.split_last() {
-            Some((_, legal)) if legal == recorded => {
-                self.replies = self.replies.saturating_add(1);
-                true
-            }
-            _ => false,
+    // Compares the reply that the line of this number records with the machine's.
+    fn compare(
+        &mut self,
+        alloc: Global,
+        number: u64,
+        recorded: &[u8],
+    ) -> Result<Verdict, ReportFault>
+        requires { number ≤ MOST_BYTES }
+        ensures ok { IfOk result (λ verdict. (setting : Setting) (lines : List (List ℕ))
+            (line : List ℕ) → Records line recorded.now →
+            Compared setting self.old lines → number ≡ length lines + 1 →
+            Judges setting self.old self.new lines line verdict) }
+        ensures err { IfErr result (λ fault. (setting : Setting) (lines : List (List ℕ))
+            (line : List ℕ) → Records line recorded.now →
+            Compared setting self.old lines → number ≡ length lines + 1 →
+            CheckHalted setting (lines ++ line ∷ []) fault) }
+    {
+        if is_line_of(&self.reply, recorded) {
+            self.replies = self.replies.saturating_add(1);
+            return Ok(Verdict::Agrees);
+        }
+        if self.lines == 0 {
+            return Err(bad_line(alloc, number, "a reply stands before the first line"));
+        }
+        match self.tell_difference(recorded) {
+            Ok(()) => Ok(Verdict::Differs),
+            Err(_) => Err(ReportFault::NoMemory),
         }
     }
 
     // Puts behind what is there that all replies agree.
-    fn push_agreement(&self, text: &mut Vec<u8>) -> Result<(), AllocError> {
+    fn push_agreement(&mut self) -> Result<(), AllocError>
+        ensures { OnOk result ((scene : Scene) → self.new.text.items
+            ≡ self.old.text.items ++ agreement_text (place_in self.old scene)) }
+    {
         push_parts(
-            text,
+            &mut self.text,
             &[
                 Part::Word("agrees: "),
                 Part::Number(self.lines),
@@ -149,30 +272,67 @@ impl Comparison {
         )
     }
 
-    // Puts the last line behind what is there, with the reply that is recorded, and that of the machine.
-    fn push_difference<'a>(
-        &'a self,
-        text: &mut Vec<u8>,
-        recorded: &'a [u8],
-    ) -> Result<(), AllocError> {
-        let legal = if self.reply.is_empty() {
-            b"no reply\n".as_slice()
-        } else {
-            self.reply.as_slice()
-        };
-        push_parts(
-            text,
-            &[
-                Part::Word("line "),
-                Part::Number(self.number),
-                Part::Word(": "),
-                Part::Bytes(&self.line),
-                Part::Word("\n  recorded  "),
-                Part::Bytes(recorded),
-                Part::Word("\n  legal     "),
-                Part::Bytes(legal),
-            ],
+    // Puts the last line behind what is there, with the reply that is recorded, and that of the machine,
+    // and what its event came to.
+    fn tell_difference(&mut self, recorded: &[u8]) -> Result<(), AllocError>
+        ensures { OnOk result (self.new.text.items ≡ self.old.text.items
+            ++ told_difference self.old.number self.old.line.items self.old.reply.items recorded.now
+            ++ indented self.old.facts.items) }
+    {
+        push_difference(
+            &mut self.text,
+            self.number,
+            &self.line,
+            &self.reply,
+            recorded,
         )?;
-        push_indented(text, &self.facts)
+        push_indented(&mut self.text, &self.facts)
+    }
+}
+
+// Puts a line and its number behind what is there, the reply that is recorded, and that of the machine.
+fn push_difference<'a>(
+    text: &mut Vec<u8>,
+    number: u64,
+    line: &'a [u8],
+    reply: &'a [u8],
+    recorded: &'a [u8],
+) -> Result<(), AllocError>
+    ensures { OnOk result (text.new.items ≡ text.old.items
+        ++ told_difference number line.now reply.now recorded.now) }
+{
+    push_parts(
+        text,
+        &[
+            Part::Word("line "),
+            Part::Number(number),
+            Part::Word(": "),
+            Part::Bytes(line),
+            Part::Word("\n  recorded  "),
+            Part::Bytes(recorded),
+            Part::Word("\n  legal     "),
+            Part::Bytes(legal_reply(reply)),
+        ],
+    )
+}
+
+// What is told as the legal reply.
+fn legal_reply(reply: &[u8]) -> &[u8]
+    ensures { result.now ≡ legal_text reply.now }
+{
+    if reply.is_empty() {
+        b"no reply\n".as_slice()
+    } else {
+        reply
+    }
+}
+
+// Whether the reply is this text, as a line.
+fn is_line_of(reply: &[u8], text: &[u8]) -> bool
+    ensures { IsTrue result ↔ (reply.now ≡ as_line text.now) }
+{
+    match reply.split_last() {
+        Some((last, front)) => *last == b'\n' && front == text,
+        None => false,
     }
 }

@@ -1,13 +1,20 @@
 //! Each line of a script with its reply, and indented what its event came to.
-ghost use Rattle.std.specs.Prelude.{◌≡◌, ◌≤◌, ◌++◌, OnOk};
-ghost use Rattle.script_explain.specs.Tales.{indent, line_with_reply};
+ghost use Rattle.std.specs.Prelude.{◌≡◌, ◌^◌, ◌<◌, ◌≤◌, ◌+◌, [], ◌∷◌, ◌++◌, List, ℕ, Option, IfErr, IfOk, OnErr, OnOk, length};
+ghost use Rattle.std.specs.Io.KnownBytes.{Appends};
+ghost use Rattle.script_lines.specs.Pieces.{last_part, whole_lines};
+ghost use Rattle.script_lines.specs.Written.{WritesPart};
+ghost use Rattle.sm_script.specs.Scenes.{Scene, Setting, first_scene};
+ghost use Rattle.sm_script.specs.Sessions.{Advances, IsAt, IsStopped};
+ghost use Rattle.script_explain.specs.Explanations.{Explains, LinesTold};
+ghost use Rattle.script_explain.specs.Progress.{Explained, Halted, LinesHalted, SoFar};
+ghost use Rattle.script_explain.specs.Tales.{indent, line_with_reply, told_line};
 
 use script_faults::{
     ReportFault, behind, fault_of, is_indented, push_indented, put_out, read_script, unended,
 };
-use script_lines::{line_end, write_out};
+use script_lines::{MOST_BYTES, line_end, write_out};
 use script_tales::Teller;
-use sm_names::Limits;
+use sm_names::{Limits, NoMemory};
 use sm_script::Stop;
 use std::alloc::{AllocError, Global};
 use std::io::{Read, Write};
@@ -15,6 +22,17 @@ use text_parts::{Part, push_parts};
 
 // Text is written once there is so much of it.
 const ENOUGH: usize = 65_536;
+
+// A teller, and the text of the lines so far that is still to go out.
+#[derive(Drop)]
+struct Explainer {
+    teller: Teller,
+    text: Vec<u8>,
+    // Those of the line at hand: its reply, its facts, and its text.
+    reply: Vec<u8>,
+    facts: Vec<u8>,
+    piece: Vec<u8>,
+}
 
 /// Runs the script that the reader holds against a new core with a pool of `pages` pages, and writes each
 /// line as it is, two spaces and the line's reply, if it has one, and four spaces and each fact that its
@@ -43,42 +61,64 @@ pub fn explain_script<R: Read, W: Write>(
     limits: Limits,
 ) -> Result<(), ReportFault>
     requires { (1 ≤ pages) × (pages ≤ 1048576) }
+    ensures { Explains (record { pool = pages; limits = limits })
+        (R.remaining reader.old) (R.remaining reader.new)
+        (W.contents writer.old) (W.contents writer.new) result }
 {
-    let script = read_script(alloc, reader)?;
-    let mut teller = Teller::new(alloc, seed, pages, limits)?;
-    let mut text = Vec::new(alloc);
-    let told = explain_lines(alloc, &mut teller, &script, writer, &mut text);
-    put_out(writer, &text)?;
-    told
+    let script = match read_script(alloc, reader) {
+        Ok(script) => script,
+        Err(fault) => return Err(fault),
+    };
+    match Explainer::new(alloc, seed, pages, limits) {
+        Ok(mut explainer) => explain_all(alloc, &mut explainer, writer, &script),
+        Err(_) => Err(ReportFault::NoMemory),
+    }
+}
+
+// Explains the lines, and writes all of their text.
+fn explain_all<W: Write>(
+    alloc: Global,
+    explainer: &mut Explainer,
+    writer: &mut W,
+    script: &[u8],
+) -> Result<(), ReportFault>
+    requires { length script.now ≤ MOST_BYTES }
+    ensures { (setting : Setting) → SoFar setting explainer.old.teller.session
+        (W.contents writer.old) (W.contents writer.old) explainer.old.text.items [] →
+        LinesTold setting (W.contents writer.old) (W.contents writer.new) script.now result }
+{
+    let told = explain_lines(alloc, explainer, writer, script);
+    match put_out(writer, &explainer.text) {
+        Ok(()) => told,
+        Err(fault) => Err(fault),
+    }
 }
 
 // Explains the lines, one after another. What is not written yet is left in the text.
 fn explain_lines<W: Write>(
     alloc: Global,
-    teller: &mut Teller,
-    script: &[u8],
+    explainer: &mut Explainer,
     writer: &mut W,
-    text: &mut Vec<u8>,
-) -> Result<(), ReportFault> {
-    let mut reply = Vec::new(alloc);
-    let mut facts = Vec::new(alloc);
+    script: &[u8],
+) -> Result<(), ReportFault>
+    requires { length script.now ≤ MOST_BYTES }
+    ensures ok { OnOk result (Explained
+        explainer.old.teller.session (W.contents writer.old) explainer.old.text.items
+        explainer.new.teller.session (W.contents writer.new) explainer.new.text.items
+        (whole_lines script.now)) }
+    ensures whole { OnOk result (last_part script.now ≡ []) }
+    ensures err { IfErr result (λ fault. (setting : Setting) (old : Option (List ℕ)) →
+        SoFar setting explainer.old.teller.session
+        old (W.contents writer.old) explainer.old.text.items [] →
+        LinesHalted setting old (W.contents writer.new) explainer.new.text.items script.now fault) }
+{
     let mut number: u64 = 0;
     let mut rest = script;
     'lines: while let Some(at) = line_end(rest) {
         number = number.saturating_add(1);
-        let line = &rest[..at];
-        rest = behind(rest, at);
-        let mark = text.len();
-        match explain_line(alloc, teller, number, line, &mut reply, &mut facts, text) {
-            Ok(()) => {}
-            Err(stop) => {
-                text.truncate(mark);
-                let tables = &teller.session.tables;
-                return Err(fault_of(alloc, stop, tables, number, line));
-            }
-        }
-        if ENOUGH < text.len() {
-            write_so_far(writer, text)?;
+        match explainer.take_line(alloc, writer, number, &rest[..at]) {
+            Ok(()) => rest = behind(rest, at),
+            Err(fault) => return Err(fault),
         }
     }
     if rest.is_empty() {
@@ -88,33 +128,114 @@ fn explain_lines<W: Write>(
     }
 }
 
-// Writes the text, and leaves none.
-fn write_so_far<W: Write>(writer: &mut W, text: &mut Vec<u8>) -> Result<(), ReportFault> {
-    let written = write_out(writer, text);
-    text.clear();
-    match written {
-        Ok(()) => Ok(()),
-        Err(_) => Err(ReportFault::WriteFault),
+impl Explainer {
+    // No line was explained.
+    fn new(alloc: Global, seed: [u8; 16], pages: u32, limits: Limits) -> Result<Explainer, NoMemory>
+        requires { (1 ≤ pages) × (pages ≤ 1048576) }
+        ensures { IfOk result (λ explainer. (old : Option (List ℕ)) →
+            SoFar (record { pool = pages; limits = limits }) explainer.teller.session
+            old old explainer.text.items []) }
+    {
+        let teller = Teller::new(alloc, seed, pages, limits)?;
+        let text = Vec::new(alloc);
+        Ok(Explainer {
+            teller,
+            text,
+            reply: Vec::new(alloc),
+            facts: Vec::new(alloc),
+            piece: Vec::new(alloc),
+        })
+    }
+
+    // Explains one more line, the one of this number.
+    fn take_line<W: Write>(
+        &mut self,
+        alloc: Global,
+        writer: &mut W,
+        number: u64,
+        line: &[u8],
+    ) -> Result<(), ReportFault>
+        ensures ok { OnOk result (Explained
+            self.old.teller.session (W.contents writer.old) self.old.text.items
+            self.new.teller.session (W.contents writer.new) self.new.text.items
+            (line.now ∷ [])) }
+        ensures err { IfErr result (λ fault. (setting : Setting) (old : Option (List ℕ))
+            (lines : List (List ℕ)) →
+            SoFar setting self.old.teller.session
+            old (W.contents writer.old) self.old.text.items lines → number ≡ length lines + 1 →
+            Halted setting old (W.contents writer.new) self.new.text.items
+            (lines ++ line.now ∷ []) fault) }
+    {
+        if is_indented(line) {
+            return Ok(());
+        }
+        match self.explain(alloc, number, line) {
+            Ok(()) => {}
+            Err(stop) => {
+                return Err(fault_of(alloc, stop, &self.teller.session.tables, number, line));
+            }
+        }
+        if self.text.len() <= ENOUGH {
+            return Ok(());
+        }
+        self.write_so_far(writer)
+    }
+
+    // Puts the explanation of the line of this number behind what is there; nothing where it is stopped.
+    fn explain(&mut self, alloc: Global, number: u64, line: &[u8]) -> Result<(), Stop>
+        ensures text { OnOk result (self.new.text.items ≡ self.old.text.items
+            ++ told_line line.now self.new.reply.items self.new.facts.items) }
+        ensures ok { OnOk result ((scene : Scene) → IsAt self.old.teller.session scene →
+            Advances self.old.teller.session self.new.teller.session
+            line.now self.new.reply.items scene) }
+        ensures kept { OnErr result (self.new.text.items ≡ self.old.text.items) }
+        ensures err { IfErr result (λ stop. (scene : Scene) →
+            IsAt self.old.teller.session scene →
+            IsStopped self.old.teller.session line.now scene stop) }
+    {
+        match self
+            .teller
+            .answer(alloc, number, line, &mut self.reply, &mut self.facts)
+        {
+            Ok(()) => {}
+            Err(stop) => return Err(stop),
+        }
+        self.piece.clear();
+        match push_told(&mut self.piece, line, &self.reply, &self.facts) {
+            Ok(()) => {}
+            Err(_) => return Err(Stop::NoMemory),
+        }
+        match self.text.extend_from_slice(&self.piece) {
+            Ok(()) => Ok(()),
+            Err(_) => Err(Stop::NoMemory),
+        }
+    }
+
+    // Writes the text, and leaves none.
+    fn write_so_far<W: Write>(&mut self, writer: &mut W) -> Result<(), ReportFault>
+        ensures same { self.new.teller ≡ self.old.teller }
+        ensures empty { self.new.text.items ≡ [] }
+        ensures ok { OnOk result
+            (Appends (W.contents writer.old) (W.contents writer.new) self.old.text.items) }
+        ensures err { IfErr result (λ fault. (fault ≡ ReportFault.WriteFault)
+            × WritesPart (W.contents writer.old) (W.contents writer.new) self.old.text.items) }
+    {
+        let written = write_out(writer, &self.text);
+        self.text.clear();
+        match written {
+            Ok(()) => Ok(()),
+            Err(_) => Err(ReportFault::WriteFault),
+        }
     }
 }
 
-// Explains the line of this number behind what is there.
-fn explain_line(
-    alloc: Global,
-    teller: &mut Teller,
-    number: u64,
-    line: &[u8],
-    reply: &mut Vec<u8>,
-    facts: &mut Vec<u8>,
-    text: &mut Vec<u8>,
-) -> Result<(), Stop> {
-    if is_indented(line) {
-        return Ok(());
-    }
-    teller.answer(alloc, number, line, reply, facts)?;
+// Puts the line behind what is there, below it its reply, and then the facts.
+fn push_told(text: &mut Vec<u8>, line: &[u8], reply: &[u8], facts: &[u8]) -> Result<(), AllocError>
+    ensures { OnOk result
+        (text.new.items ≡ text.old.items ++ told_line line.now reply.now facts.now) }
+{
     push_line(text, line, reply)?;
-    push_indented(text, facts)?;
-    Ok(())
+    push_indented(text, facts)
 }
 
 // Puts the line behind what is there, and below it its reply, which is a line of its own, if it has one.

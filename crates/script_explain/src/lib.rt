@@ -3,6 +3,7 @@
 
 mod check;
 mod explain;
+pub mod laws;
 mod program;
 
 pub use check::{Verdict, check_script};

@@ -1,12 +1,14 @@
 //! Scripts explained and transcripts compared as a program does it: to an exit status.
 ghost use Rattle.std.specs.Prelude.{◌≤◌};
 ghost use Rattle.std.specs.Process.{exit_status};
+ghost use Rattle.script_explain.specs.Comparisons.{EndsChecked};
+ghost use Rattle.script_explain.specs.Explanations.{EndsExplained};
 
 use crate::check::{Verdict, check_script};
 use crate::explain::explain_script;
 use script_faults::end_with;
 use script_lines::Pages;
-use sm_names::Limits;
+use sm_names::{Limits, MAX_COLLECTIONS, MAX_EVENTS, MAX_HANDLES, MAX_NODES, MAX_TRACKERS};
 use std::alloc::Global;
 use std::io::{Read, Write};
 use std::process::ExitCode;
@@ -26,7 +28,19 @@ pub fn explain_to_exit<R: Read, W: Write, F: Write>(
     faults: &mut F,
     pages: Pages,
 ) -> ExitCode
-    ensures { exit_status result ≤ 4 }
+    ensures most { exit_status result ≤ 4 }
+    ensures ends { EndsExplained (record {
+      pool = pages.count;
+      limits = record {
+        events = MAX_EVENTS;
+        nodes = MAX_NODES;
+        collections = MAX_COLLECTIONS;
+        trackers = MAX_TRACKERS;
+        handles = MAX_HANDLES;
+      };
+    })
+        (R.remaining reader.old) (R.remaining reader.new)
+        (W.contents writer.old) (W.contents writer.new) (exit_status result) }
 {
     match explain_script(alloc, seed, reader, writer, pages.count, Limits::full()) {
         Ok(()) => ExitCode::SUCCESS,
@@ -45,7 +59,19 @@ pub fn check_to_exit<R: Read, W: Write, F: Write>(
     faults: &mut F,
     pages: Pages,
 ) -> ExitCode
-    ensures { exit_status result ≤ 6 }
+    ensures most { exit_status result ≤ 6 }
+    ensures ends { EndsChecked (record {
+      pool = pages.count;
+      limits = record {
+        events = MAX_EVENTS;
+        nodes = MAX_NODES;
+        collections = MAX_COLLECTIONS;
+        trackers = MAX_TRACKERS;
+        handles = MAX_HANDLES;
+      };
+    })
+        (R.remaining reader.old) (R.remaining reader.new)
+        (W.contents writer.old) (W.contents writer.new) (exit_status result) }
 {
     match check_script(alloc, seed, reader, writer, pages.count, Limits::full()) {
         Ok(Verdict::Agrees) => ExitCode::SUCCESS,

@@ -1,0 +1,347 @@
+-- The replies of a script's lines are lines, and begin with no space.
+use Rattle.std.proofs.Common.{◌≡◌, ℕ, zero, suc, ◌+◌, ◌/◌, ◌%◌, ◌==◌, ◌&&◌, nat_lt, not, if◌then◌else◌, Bool, true, false, List, [], ◌∷◌, ◌++◌, map, Option, Some, None, refl, sym, ap, ◌∙◌, subst, inl, inr, ◌⊎◌, arith}
+use Rattle.std.proofs.lemmas.Bool.Decides.{nat_tests}
+use Rattle.std.specs.Prelude.{IfSome, codes}
+use Rattle.std.specs.Fmt.{decimal, digits, digits_onto, digit_glyph}
+use Rattle.std.specs.List.{list_all, flat_map}
+use Rattle.std.specs.Option.{option_map, option_map_or, option_and_then}
+use Rattle.std.specs.Int.{bit_at}
+use Rattle.sm_names.specs.declared.rules.TheConstants.{MAX_BUFFERS}
+use Rattle.sm_names.specs.declared.keys.BufferName.{BufferName}
+use Rattle.sm_names.specs.declared.keys.HeldBuffer.{HeldBuffer}
+use Rattle.sm_names.specs.declared.keys.Kind.{Kind}
+use Rattle.sm_names.specs.declared.keys.NodeKey.{NodeKey}
+use Rattle.sm_names.specs.declared.keys.Strength.{Strength}
+use Rattle.sm_names.specs.declared.messages.Call.{Call}
+use Rattle.sm_names.specs.declared.messages.Reply.{Reply}
+use Rattle.sm_names.specs.declared.outcomes.Cause.{Cause}
+use Rattle.sm_names.specs.declared.outcomes.Failure.{Failure}
+use Rattle.sm_names.specs.declared.outcomes.Misuse.{Misuse}
+use Rattle.sm_names.specs.declared.outcomes.Refusal.{Refusal}
+use Rattle.sm_names.specs.declared.tracking.Fired.{Fired}
+use Rattle.sm_names.specs.Handles.{names as names_of}
+use Rattle.sm_names.specs.Marks.{Timeline}
+use Rattle.sm_names.specs.Numbers.{misuse_name, misuse_number, refusal_name, refusal_number}
+use Rattle.sm_names.specs.Sameness.{same_key}
+use Rattle.sm_names.specs.Timelines.{timeline}
+use Rattle.sm_names.specs.Trackers.{fired}
+use Rattle.sm_names.specs.Views.{live_nodes, held_by_page, free_pages}
+use Rattle.script_lines.specs.declared.label.Label.{Label}
+use Rattle.script_lines.specs.declared.line.BufferVerb.{BufferVerb}
+use Rattle.script_lines.specs.declared.line.Line.{Line}
+use Rattle.script_lines.specs.declared.line.Verb.{Verb}
+use Rattle.script_lines.specs.declared.line.View.{View}
+use Rattle.script_lines.specs.Labels.{label_text, text_of_label}
+use Rattle.script_lines.specs.Lines.{line_of}
+use Rattle.script_faults.specs.IndentedLines.{is_indented}
+use Rattle.sm_script.specs.declared.act.Act.{Act}
+use Rattle.sm_script.specs.declared.act.Binds.{Binds}
+use Rattle.sm_script.specs.Names.{Names, Place, act_in, act_of, act_on_buffer, act_on_node, buffer_of, client_of, first_label, for_new, for_tracker, label_of_node, label_of_root, label_of_tracker, names_after, node_of, place_of, plain, tracker_of, with_client, with_node, with_tracker}
+use Rattle.sm_script.specs.Scenes.{Answers, Gives, IsPolled, Scene, as_line, next_scene}
+use Rattle.sm_script.specs.Texts.{bound_text, buffer_text, cause_text, failure_name, fired_text, held_text, kind_name, member_text, node_text, numbered, poll_text, reply_text, strength_name, view_text}
+use Rattle.script_explain.proofs.CleanLabels.{IsClean, IsCleanBufferVerb, IsCleanLine, IsCleanVerb, and-left, and-right, inner-append, is_inner, line-clean, some-if, some-map, some-then, some-then-of}
+
+-- ---- numbers
+
+glyph-low : (d : ℕ) → not (48 + d == 10) ≡ true
+glyph-low d = grind (arith, nat_tests)
+
+glyph-high : (d : ℕ) → not (87 + d == 10) ≡ true
+glyph-high d = grind (arith, nat_tests)
+
+glyph-inner : (d : ℕ) → not (digit_glyph false d == 10) ≡ true
+glyph-inner d = elim (nat_lt d 10) as (λ t. not ((if t then 48 + d else 87 + d) == 10) ≡ true)
+    [ true ↦ glyph-low d | false ↦ glyph-high d ]
+
+digits-inner : (k n : ℕ) (behind : List ℕ) → is_inner behind ≡ true → is_inner (digits_onto k 10 false n behind) ≡ true
+digits-inner zero n behind inner = inner
+digits-inner (suc k) n behind inner =
+    let here : is_inner (digit_glyph false (n % 10) ∷ behind) ≡ true = rw (glyph-inner (n % 10)) inner in
+    elim (n / 10 == 0) as (λ t. is_inner (if t then digit_glyph false (n % 10) ∷ behind
+    else digits_onto k 10 false (n / 10) (digit_glyph false (n % 10) ∷ behind)) ≡ true) [
+      | true ↦ here
+      | false ↦ digits-inner k (n / 10) (digit_glyph false (n % 10) ∷ behind) here
+    ]
+
+decimal-inner : (n : ℕ) → is_inner (decimal n) ≡ true
+unfolding digits
+decimal-inner n = digits-inner 64 n [] refl
+
+numbered-inner : (n : ℕ) (name : List ℕ) → is_inner name ≡ true → is_inner (numbered n name) ≡ true
+numbered-inner n name inner = inner-append (decimal n) (32 ∷ name) (decimal-inner n) inner
+
+flat-inner : {A : Type 0} (f : A → List ℕ) (xs : List A) → ((x : A) → is_inner (f x) ≡ true) → is_inner (flat_map f xs) ≡ true
+flat-inner f [] inner = refl
+flat-inner f (x ∷ xs) inner = inner-append (f x) (flat_map f xs) (inner x) (flat-inner f xs inner)
+
+-- ---- names
+
+-- the labels of nodes and trackers are spelled within a line
+pub record AreClean (names : Names) : Type 0 where
+  pub nodes : list_all (λ (n : Label × Place). is_inner (text_of_label n.0)) names.nodes ≡ true
+  pub trackers : list_all (λ (t : Label × ℕ). is_inner (text_of_label t.0)) names.trackers ≡ true
+
+-- the first that is there
+or-clean : (first other : Option Label) → is_inner (label_text first) ≡ true → is_inner (label_text other) ≡ true →
+    is_inner (label_text (option_map_or Some first other)) ≡ true
+or-clean None other p q = q
+or-clean (Some label) other p q = p
+
+-- the first label of some that are clean
+first-clean : {A B : Type 0} (test : A → Bool) (given : List B) (key : B → A) (label : B → Label) →
+    list_all (λ g. is_inner (text_of_label (label g))) given ≡ true →
+    is_inner (label_text (first_label test (map (λ g. (key g, label g)) given))) ≡ true
+first-clean test [] key label clean = refl
+first-clean test (g ∷ older) key label clean =
+    let here : is_inner (text_of_label (label g)) ≡ true =
+    and-left (is_inner (text_of_label (label g))) (list_all (λ h. is_inner (text_of_label (label h))) older) clean in
+    let rest = first-clean test older key label
+    (and-right (is_inner (text_of_label (label g))) (list_all (λ h. is_inner (text_of_label (label h))) older) clean) in
+    or-clean (first_label test (map (λ h. (key h, label h)) older)) (if test (key g) then Some (label g) else None) rest
+    (elim (test (key g)) as (λ t. is_inner (label_text (if t then Some (label g) else None)) ≡ true) [ true ↦ here | false ↦ refl ])
+
+node-inner : (names : Names) → AreClean names → (node : NodeKey) → is_inner (label_text (label_of_node names node)) ≡ true
+node-inner names clean node =
+    first-clean (λ other. same_key other node) names.nodes (λ (n : Label × Place). n.1.0) (λ (n : Label × Place). n.0) clean.nodes
+
+root-inner : (names : Names) → AreClean names → (collection : ℕ) → is_inner (label_text (label_of_root names collection)) ≡ true
+root-inner names clean collection =
+    first-clean (λ other. other == collection) names.nodes (λ (n : Label × Place). n.1.1) (λ (n : Label × Place). n.0) clean.nodes
+
+tracker-inner : (names : Names) → AreClean names → (tracker : ℕ) → is_inner (label_text (label_of_tracker names tracker)) ≡ true
+tracker-inner names clean tracker =
+    first-clean (λ other. other == tracker) names.trackers (λ (t : Label × ℕ). t.1) (λ (t : Label × ℕ). t.0) clean.trackers
+
+-- what a line binds is spelled within a line
+abbrev pub IsCleanAct : Act → Type 0
+IsCleanAct (Act.Ask client call binds) = is_inner (bound_text binds) ≡ true
+IsCleanAct _ = Unit {0}
+
+names-clean : (names : Names) → AreClean names → (binds : Binds) → is_inner (bound_text binds) ≡ true → (reply : Reply) →
+    AreClean (names_after names binds reply)
+names-clean names clean Binds.Nothing inner reply = clean
+names-clean names clean (Binds.Client label) inner (Reply.Joined client) = record { nodes = clean.nodes; trackers = clean.trackers }
+names-clean names clean (Binds.Client label) inner reply = clean
+names-clean names clean (Binds.Node label) inner (Reply.Token key collection) =
+    record { nodes = rw inner clean.nodes; trackers = clean.trackers }
+names-clean names clean (Binds.Node label) inner (Reply.Collected key kind collection) =
+    record { nodes = rw inner clean.nodes; trackers = clean.trackers }
+names-clean names clean (Binds.Node label) inner reply = clean
+names-clean names clean (Binds.Tracker label) inner (Reply.Tracker tracker) =
+    record { nodes = clean.nodes; trackers = rw inner clean.trackers }
+names-clean names clean (Binds.Tracker label) inner reply = clean
+
+-- ---- acts
+
+new-clean : (names : Names) (label : Label) (act : Act) → IsCleanAct act → IfSome (for_new names label act) IsCleanAct
+new-clean names label act clean = some-if IsCleanAct _ None (Some act) tt clean
+
+track-clean : (names : Names) (label : Label) (act : Act) → IsCleanAct act → IfSome (for_tracker names label act) IsCleanAct
+track-clean names label act clean = some-if IsCleanAct _ None (Some act) tt clean
+
+verb-act : (names : Names) (client : ℕ) (node : NodeKey) (verb : Verb) → IsCleanVerb verb →
+    IfSome (act_on_node names client node verb) IsCleanAct
+verb-act names client node Verb.Sync clean = refl
+verb-act names client node Verb.Bind clean = refl
+verb-act names client node Verb.Dispensable clean = refl
+verb-act names client node Verb.Weak clean = refl
+verb-act names client node (Verb.WeakOk children) clean = refl
+verb-act names client node Verb.Check clean = refl
+verb-act names client node Verb.Take clean = refl
+verb-act names client node Verb.Release clean = refl
+verb-act names client node Verb.Close clean = refl
+verb-act names client node (Verb.Duplicate child) clean =
+    new-clean names child (Act.Ask client (Call.Duplicate node) (Binds.Node child)) clean
+verb-act names client node (Verb.Attach child) clean =
+    new-clean names child (Act.Ask client (Call.AttachToken node) (Binds.Node child)) clean
+verb-act names client node (Verb.Give to) clean =
+    some-map IsCleanAct (λ c. plain client (Call.Give node c)) (client_of names to) (λ c. refl)
+verb-act names client node (Verb.Constrain constraints) clean = refl
+verb-act names client node (Verb.TrackNode tracker) clean =
+    track-clean names tracker (Act.Ask client (Call.TrackNode node) (Binds.Tracker tracker)) clean
+verb-act names client node (Verb.TrackLifetime most tracker) clean =
+    track-clean names tracker (Act.Ask client (Call.TrackLifetime node most) (Binds.Tracker tracker)) clean
+
+buffer-act : (names : Names) (client : ℕ) (buffer : BufferName) (verb : BufferVerb) → IsCleanBufferVerb verb →
+    IfSome (act_on_buffer names client buffer verb) IsCleanAct
+buffer-act names client buffer (BufferVerb.Duplicate strength) clean = refl
+buffer-act names client buffer (BufferVerb.Drop strength) clean = refl
+buffer-act names client buffer (BufferVerb.Give strength to) clean =
+    some-map IsCleanAct (λ c. plain client (Call.GiveHandle buffer strength c)) (client_of names to) (λ c. refl)
+buffer-act names client buffer (BufferVerb.Track tracker) clean =
+    track-clean names tracker (Act.Ask client (Call.TrackWeak buffer) (Binds.Tracker tracker)) clean
+
+act-clean : (names : Names) (line : Line) → IsCleanLine line → IfSome (act_of names line) IsCleanAct
+act-clean names Line.Nothing clean = tt
+act-clean names (Line.Join client) clean = some-if IsCleanAct _ None (Some (Act.Ask 0 Call.Join (Binds.Client client))) tt clean
+act-clean names (Line.Shut client) clean = some-map IsCleanAct (λ c. plain c Call.Shut) (client_of names client) (λ c. refl)
+act-clean names (Line.Open client root) clean =
+    some-then IsCleanAct (λ c. for_new names root (Act.Ask c Call.OpenRoot (Binds.Node root))) (client_of names client)
+    (λ c. new-clean names root (Act.Ask c Call.OpenRoot (Binds.Node root)) clean)
+act-clean names (Line.Collect client node) clean =
+    some-then IsCleanAct (λ c. for_new names node (Act.Ask c Call.Collect (Binds.Node node))) (client_of names client)
+    (λ c. new-clean names node (Act.Ask c Call.Collect (Binds.Node node)) clean)
+act-clean names (Line.Ask client verb node) clean =
+    some-then IsCleanAct (λ c. option_and_then (λ n. act_on_node names c n verb) (node_of names node)) (client_of names client)
+    (λ c. some-then IsCleanAct (λ n. act_on_node names c n verb) (node_of names node) (λ n. verb-act names c n verb clean))
+act-clean names (Line.AskBuffer client verb buffer) clean =
+    some-then IsCleanAct (λ c. option_and_then (λ b. act_on_buffer names c b verb) (buffer_of names buffer)) (client_of names client)
+    (λ c. some-then IsCleanAct (λ b. act_on_buffer names c b verb) (buffer_of names buffer) (λ b. buffer-act names c b verb clean))
+act-clean names (Line.Poll client tracker) clean =
+    some-then IsCleanAct (λ c. option_map Act.Poll (tracker_of names tracker)) (client_of names client)
+    (λ c. some-map IsCleanAct Act.Poll (tracker_of names tracker) (λ t. tt))
+act-clean names (Line.Show view) clean = tt
+
+-- what a line asks for
+pub act_in-clean : (names : Names) (bytes : List ℕ) → IfSome (act_in names bytes) IsCleanAct
+act_in-clean names bytes = some-then-of IsCleanAct IsCleanLine (act_of names) (line_of bytes) (line-clean bytes) (act-clean names)
+
+-- ---- texts
+
+-- a text that stands in one line, and begins with no two spaces
+pub record IsPlain (text : List ℕ) : Type 0 where
+  pub inner : is_inner text ≡ true
+  pub whole : is_indented text ≡ false
+
+buffer-inner : (names : Names) → AreClean names → (buffer : BufferName) → is_inner (buffer_text names buffer) ≡ true
+buffer-inner names clean buffer =
+    inner-append (label_text (label_of_root names buffer.collection)) (46 ∷ decimal buffer.index)
+    (root-inner names clean buffer.collection) (decimal-inner buffer.index)
+
+member-inner : (names : Names) → AreClean names → (set : ℕ) (buffer : BufferName) → is_inner (member_text names set buffer) ≡ true
+member-inner names clean set buffer =
+    elim (bit_at set buffer.index == 1) as (λ t. is_inner (if t then buffer_text names buffer else []) ≡ true)
+    [ true ↦ buffer-inner names clean buffer | false ↦ refl ]
+
+held-inner : (names : Names) → AreClean names → (held : HeldBuffer) → is_inner (held_text names held) ≡ true
+held-inner names clean held =
+    inner-append (buffer_text names held.buffer) (32 ∷ numbered held.pages.start (decimal held.pages.pages))
+    (buffer-inner names clean held.buffer)
+    (numbered-inner held.pages.start (decimal held.pages.pages) (decimal-inner held.pages.pages))
+
+fired-inner : (names : Names) → AreClean names → (firing : Fired) → is_inner (fired_text names firing) ≡ true
+fired-inner names clean firing =
+    inner-append (label_text (label_of_tracker names firing.tracker)) (32 ∷ decimal firing.event)
+    (tracker-inner names clean firing.tracker) (decimal-inner firing.event)
+
+misuse-inner : (misuse : Misuse) → is_inner (misuse_name misuse) ≡ true
+misuse-inner Misuse.SecondConstraints = refl
+misuse-inner Misuse.LateWeak = refl
+misuse-inner Misuse.LateWeakOk = refl
+misuse-inner Misuse.WeakNotOk = refl
+misuse-inner Misuse.TooManyNodeTrackers = refl
+
+refusal-inner : (refusal : Refusal) → is_inner (refusal_name refusal) ≡ true
+refusal-inner Refusal.NoSuchClient = refl
+refusal-inner Refusal.ClientShut = refl
+refusal-inner Refusal.NoSuchEnd = refl
+refusal-inner Refusal.InTransit = refl
+refusal-inner Refusal.WrongKind = refl
+refusal-inner Refusal.TooManyNodes = refl
+refusal-inner Refusal.TooManyCollections = refl
+refusal-inner Refusal.TrackersFull = refl
+refusal-inner Refusal.NoSuchHandle = refl
+refusal-inner Refusal.TooManyHandles = refl
+
+failure-inner : (failure : Failure) → is_inner (failure_name failure) ≡ true
+failure-inner Failure.NoStrong = refl
+failure-inner Failure.NoBuffers = refl
+failure-inner Failure.TooManyBuffers = refl
+failure-inner Failure.PoolFull = refl
+failure-inner Failure.TooFew = refl
+failure-inner Failure.TooSmall = refl
+
+cause-inner : (cause : Cause) → is_inner (cause_text cause) ≡ true
+cause-inner Cause.Lost = refl
+cause-inner (Cause.Misused misuse) = misuse-inner misuse
+cause-inner (Cause.Failed failure) = failure-inner failure
+cause-inner Cause.NoStrong = refl
+
+strength-inner : (strength : Strength) → is_inner (strength_name strength) ≡ true
+strength-inner Strength.Strong = refl
+strength-inner Strength.Weak = refl
+
+reply-plain : (names : Names) → AreClean names → (binds : Binds) → is_inner (bound_text binds) ≡ true → (reply : Reply) →
+    IsPlain (reply_text names binds reply)
+reply-plain names clean binds inner Reply.Done = record { inner = refl; whole = refl }
+reply-plain names clean binds inner (Reply.Joined client) = record { inner = refl; whole = refl }
+reply-plain names clean binds inner (Reply.Shut waiting) = record { inner = decimal-inner waiting; whole = refl }
+reply-plain names clean binds inner (Reply.Token key collection) = record { inner = inner; whole = refl }
+reply-plain names clean binds inner (Reply.Collected key Kind.Token collection) = record { inner = inner; whole = refl }
+reply-plain names clean binds inner (Reply.Collected key Kind.Collection collection) = record { inner = inner; whole = refl }
+reply-plain names clean binds inner (Reply.CollectedHandle buffer strength) = record {
+  inner = inner-append (buffer_text names buffer) (32 ∷ strength_name strength) (buffer-inner names clean buffer) (strength-inner strength);
+  whole = refl;
+}
+reply-plain names clean binds inner Reply.Empty = record { inner = refl; whole = refl }
+reply-plain names clean binds inner Reply.Pending = record { inner = refl; whole = refl }
+reply-plain names clean binds inner (Reply.Allocated count size) =
+    record { inner = numbered-inner count (decimal size) (decimal-inner size); whole = refl }
+reply-plain names clean binds inner (Reply.Taken collection strength set) = record {
+  inner = inner-append (strength_name strength) (flat_map (member_text names set) (names_of collection MAX_BUFFERS)) (strength-inner strength)
+      (flat-inner (member_text names set) (names_of collection MAX_BUFFERS) (member-inner names clean set));
+  whole = refl;
+}
+reply-plain names clean binds inner (Reply.Tracker id) = record { inner = inner; whole = refl }
+reply-plain names clean binds inner (Reply.Refused refusal) =
+    record { inner = numbered-inner (refusal_number refusal) (refusal_name refusal) (refusal-inner refusal); whole = refl }
+reply-plain names clean binds inner (Reply.Misused misuse) =
+    record { inner = numbered-inner (misuse_number misuse) (misuse_name misuse) (misuse-inner misuse); whole = refl }
+reply-plain names clean binds inner (Reply.PeerClosed cause origin) = record {
+  inner = inner-append (cause_text cause) (32 ∷ label_text (label_of_node names origin)) (cause-inner cause) (node-inner names clean origin);
+  whole = refl;
+}
+
+view-plain : (pool : ℕ) (marks : Timeline) (names : Names) → AreClean names → (view : View) → IsPlain (view_text pool marks names view)
+view-plain pool marks names clean View.Live =
+    record { inner = flat-inner (node_text names) (live_nodes marks) (node-inner names clean); whole = refl }
+view-plain pool marks names clean View.Held =
+    record { inner = flat-inner (held_text names) (held_by_page pool marks) (held-inner names clean); whole = refl }
+view-plain pool marks names clean View.Fired =
+    record { inner = flat-inner (fired_text names) (fired marks) (fired-inner names clean); whole = refl }
+view-plain pool marks names clean View.Free = record { inner = decimal-inner (free_pages pool marks); whole = refl }
+
+poll-plain : (marks : Timeline) (tracker : ℕ) (text : List ℕ) → IsPolled marks tracker text → IsPlain text
+poll-plain marks tracker text (inl quiet) = subst IsPlain (sym quiet) (record { inner = refl; whole = refl })
+poll-plain marks tracker text (inr told) =
+    subst IsPlain (sym told.2) (record { inner = decimal-inner told.0; whole = refl })
+
+-- ---- lines
+
+-- the text is nothing, or a line that is plain
+pub data IsReply : List ℕ → Type 0 where
+  NoReply : IsReply []
+  OneReply : (text : List ℕ) → IsPlain text → IsReply (as_line text)
+
+-- what a line gives, and where it leads
+pub record Cleanly (text : List ℕ) (next : Scene) : Type 0 where
+  pub reply : IsReply text
+  pub clean : AreClean next.names
+
+gives-clean : (pool : ℕ) (scene : Scene) → AreClean scene.names → (act : Act) → IsCleanAct act → (text : List ℕ) (next : Scene) →
+    Gives pool scene act text next → Cleanly text next
+gives-clean pool scene clean Act.Nothing inner text next gives = record {
+  reply = subst IsReply (sym gives.0) NoReply;
+  clean = subst (λ (s : Scene). AreClean s.names) (sym gives.1) clean;
+}
+gives-clean pool scene clean (Act.Ask client call binds) inner text next gives = record {
+  reply = subst IsReply (sym gives.1)
+      (OneReply (reply_text scene.names binds gives.0) (reply-plain scene.names clean binds inner gives.0));
+  clean = subst (λ (s : Scene). AreClean s.names) (sym gives.2) (names-clean scene.names clean binds inner gives.0);
+}
+gives-clean pool scene clean (Act.Poll tracker) inner text next gives = record {
+  reply = subst IsReply (sym gives.2) (OneReply gives.0 (poll-plain (timeline pool scene.history) tracker gives.0 gives.1));
+  clean = subst (λ (s : Scene). AreClean s.names) (sym gives.3) clean;
+}
+gives-clean pool scene clean (Act.Show view) inner text next gives = record {
+  reply = subst IsReply (sym gives.0) (OneReply (view_text pool (timeline pool scene.history) scene.names view)
+      (view-plain pool (timeline pool scene.history) scene.names clean view));
+  clean = subst (λ (s : Scene). AreClean s.names) (sym gives.1) clean;
+}
+
+-- a line's reply
+pub answers-clean : (pool : ℕ) (scene : Scene) → AreClean scene.names → (line text : List ℕ) (next : Scene) →
+    Answers pool scene line text next → Cleanly text next
+answers-clean pool scene clean line text next answers =
+    gives-clean pool scene clean answers.act
+    (subst (λ (o : Option Act). IfSome o IsCleanAct) answers.good (act_in-clean scene.names line)) text next answers.gives

@@ -1,0 +1,387 @@
+-- A comparison that goes on by one line, or stops at it.
+use Rattle.std.proofs.Common.{◌≡◌, ◌≢◌, ℕ, ◌+◌, ◌-◌, ◌^◌, ◌<◌, ◌≤◌, min, Bool, true, false, if◌then◌else◌, List, [], ◌∷◌, ◌++◌, drop, length, length-append, append_assoc, append-nil, refl, sym, ap, ◌∙◌, subst, Option, Some, None, inl, inr, arith}
+use Rattle.std.proofs.KnownBytes.{Keeps-refl}
+use Rattle.std.specs.Prelude.{Ok, Err, Result, IfOk, IfErr}
+use Rattle.std.specs.Io.KnownBytes.{Consumes, IsAtEnd, Keeps}
+use Rattle.script_lines.specs.declared.TheConstants.{MOST_BYTES}
+use Rattle.script_lines.specs.Pieces.{whole_lines, last_part}
+use Rattle.script_faults.specs.declared.fault.ReportFault.{ReportFault}
+use Rattle.script_faults.specs.Faults.{IsBadLine, IsFaultOf}
+use Rattle.script_faults.specs.IndentedLines.{behind_indent, indented, is_indented, unindented}
+use Rattle.script_faults.specs.Streams.{IsUnread}
+use Rattle.sm_script.specs.declared.session.Session.{Session}
+use Rattle.sm_script.specs.declared.stop.Stop.{Stop}
+use Rattle.sm_script.specs.Scenes.{Answers, Plays as PlaysLines, Rests, Scene, Setting, as_line, first_scene}
+use Rattle.sm_script.specs.Sessions.{Advances, IsAt, IsStopped}
+use Rattle.sm_script.proofs.Playing.{plays-more}
+use Rattle.script_explain.specs.declared.check.Comparison.{Comparison}
+use Rattle.script_explain.specs.declared.check.Verdict.{Verdict}
+use Rattle.script_explain.specs.Comparisons.{Agreement, Agrees, Begins, Remarks, Replies, Plays, CheckStops, Checks, Difference, EndsChecked, FullAgreement, IsJudged, IsRemark, IsUnchecked, LinesStop, Place, Records, Stopped, agreement_text, checking_status, compared, played, told_difference}
+use Rattle.script_explain.specs.Progress.{CheckHalted, Compared, Ended, Judges, place_in}
+use Rattle.script_explain.proofs.Telling.{legal-in, over-in, unindented-more, unindented-skip}
+
+-- the lines that are not indented are played, one after another
+pub agrees-plays : (pool : ℕ) (lines : List (List ℕ)) (at : Place) → Agrees pool lines at →
+    (texts : List ℕ) × PlaysLines pool first_scene (unindented lines) texts at.scene
+agrees-plays pool lines at Begins = ([], Rests first_scene)
+agrees-plays pool lines at (Remarks before line there so_far remark) =
+    let rest = agrees-plays pool before there so_far in (
+      rest.0,
+      subst (λ (ls : List (List ℕ)). PlaysLines pool first_scene ls rest.0 there.scene)
+          (sym (unindented-skip before line remark.0)) rest.1,
+    )
+agrees-plays pool lines at (Replies before line reply there so_far records same) =
+    let rest = agrees-plays pool before there so_far in (
+      rest.0,
+      subst (λ (ls : List (List ℕ)). PlaysLines pool first_scene ls rest.0 there.scene)
+          (sym (unindented-skip before line records.0)) rest.1,
+    )
+agrees-plays pool lines at (Plays before line reply there next so_far whole answers) =
+    let rest = agrees-plays pool before there so_far in (
+      rest.0 ++ reply,
+      subst (λ (ls : List (List ℕ)). PlaysLines pool first_scene ls (rest.0 ++ reply) next)
+          (sym (unindented-more before line whole))
+          (plays-more pool first_scene there.scene next (unindented before) rest.0 line reply rest.1 answers),
+    )
+
+-- no more lines were played than there are, and no more replies compared
+record AreFew (lines : List (List ℕ)) (at : Place) : Type 0 where
+  lines_few : at.lines ≤ length lines
+  replies_few : at.replies ≤ length lines
+
+agrees-few : (pool : ℕ) (lines : List (List ℕ)) (at : Place) → Agrees pool lines at → AreFew lines at
+agrees-few pool lines at Begins = record { lines_few = omega arith; replies_few = omega arith }
+agrees-few pool lines at (Remarks before line there so_far remark) =
+    let few = agrees-few pool before there so_far in
+    let count = length-append before (line ∷ []) in
+    record { lines_few = omega (arith, few.lines_few, count); replies_few = omega (arith, few.replies_few, count) }
+agrees-few pool lines at (Replies before line reply there so_far records same) =
+    let few = agrees-few pool before there so_far in
+    let count = length-append before (line ∷ []) in
+    record { lines_few = omega (arith, few.lines_few, count); replies_few = omega (arith, few.replies_few, count) }
+agrees-few pool lines at (Plays before line reply there next so_far whole answers) =
+    let few = agrees-few pool before there so_far in
+    let count = length-append before (line ∷ []) in
+    record { lines_few = omega (arith, few.lines_few, count); replies_few = omega (arith, few.replies_few, count) }
+
+-- a small number is counted up
+count-up : (count most : ℕ) → count ≤ most → most + 1 ≤ MOST_BYTES → (next : ℕ) → next ≡ min (count + 1) (2 ^ 64 - 1) → next ≡ count + 1
+count-up count most small few next is = omega (arith, is, small, few)
+
+-- the place of these parts
+abbrev place : Scene → ℕ → List ℕ → List ℕ → ℕ → ℕ → Place
+place scene number line reply lines replies =
+    record { scene = scene; number = number; line = line; reply = reply; lines = lines; replies = replies }
+
+-- two places whose parts are the same
+same-place : (scene : Scene) (n m : ℕ) (l k r s : List ℕ) (a b c d : ℕ) → n ≡ m → l ≡ k → r ≡ s → a ≡ b → c ≡ d →
+    place scene n l r a c ≡ place scene m k s b d
+same-place scene n m l k r s a b c d p q t u v =
+    λ i. record { scene = scene; number = p i; line = q i; reply = t i; lines = u i; replies = v i }
+
+module _ (setting : Setting) (c : Comparison) (lines : List (List ℕ)) (far : Compared setting c lines) where
+  -- the lines so far agree
+  abbrev pub far-agreed : Agreement setting lines (place_in c far.scene)
+  far-agreed = record {
+    agrees = far.agrees;
+    texts = (agrees-plays setting.pool lines (place_in c far.scene) far.agrees).0;
+    leads = record {
+      plays = (agrees-plays setting.pool lines (place_in c far.scene) far.agrees).1;
+      legal = legal-in setting c.teller.session far.scene far.pool far.limits far.is_at;
+    };
+  }
+
+  few : AreFew lines (place_in c far.scene)
+  few = agrees-few setting.pool lines (place_in c far.scene) far.agrees
+
+  -- a remark is passed over
+  pub far-remark : (line : List ℕ) → IsRemark line → Compared setting c (lines ++ line ∷ [])
+  far-remark line remark = record {
+    pool = far.pool;
+    limits = far.limits;
+    scene = far.scene;
+    agrees = Remarks lines line (place_in c far.scene) far.agrees remark;
+    is_at = far.is_at;
+  }
+
+  -- one more line was played
+  pub far-play : (next : Comparison) (line : List ℕ) (number : ℕ) → is_indented line ≡ false → number ≡ length lines + 1 →
+      number ≤ MOST_BYTES → ((scene : Scene) → IsAt c.teller.session scene →
+      Advances c.teller.session next.teller.session line next.reply.items scene) → next.number ≡ number → next.line.items ≡ line →
+      next.lines ≡ min (c.lines + 1) (2 ^ 64 - 1) → next.replies ≡ c.replies → Compared setting next (lines ++ line ∷ [])
+  far-play next line number whole numbered small advances its_number its_line its_lines its_replies =
+      let step = advances far.scene far.is_at in
+      let count : next.lines ≡ c.lines + 1 =
+      count-up c.lines (length lines) few.lines_few (omega (arith, numbered, small)) next.lines its_lines in
+      record {
+        pool = step.setting.pool ∙ far.pool;
+        limits = step.setting.limits ∙ far.limits;
+        scene = step.next;
+        agrees = subst (Agrees setting.pool (lines ++ line ∷ []))
+            (sym (same-place step.next next.number (length lines + 1) next.line.items line next.reply.items next.reply.items
+            next.lines (c.lines + 1) next.replies c.replies (its_number ∙ numbered) its_line refl count its_replies))
+            (Plays lines line next.reply.items (place_in c far.scene) step.next far.agrees whole
+            (subst (λ (pool : ℕ). Answers pool far.scene line next.reply.items step.next) far.pool step.answers));
+        is_at = step.is_at;
+      }
+
+  -- one more reply was compared, and is the machine's
+  pub far-reply : (next : Comparison) (line reply : List ℕ) (number : ℕ) → Records line reply → number ≡ length lines + 1 →
+      number ≤ MOST_BYTES → c.reply.items ≡ as_line reply → next.teller.session ≡ c.teller.session → next.number ≡ c.number →
+      next.line.items ≡ c.line.items → next.reply.items ≡ c.reply.items → next.lines ≡ c.lines →
+      next.replies ≡ min (c.replies + 1) (2 ^ 64 - 1) → Compared setting next (lines ++ line ∷ [])
+  far-reply next line reply number records numbered small same its_session its_number its_line its_reply its_lines its_replies =
+      let count : next.replies ≡ c.replies + 1 =
+      count-up c.replies (length lines) few.replies_few (omega (arith, numbered, small)) next.replies its_replies in
+      record {
+        pool = ap (λ (s : Session). s.core.pool) its_session ∙ far.pool;
+        limits = ap (λ (s : Session). s.core.limits) its_session ∙ far.limits;
+        scene = far.scene;
+        agrees = subst (Agrees setting.pool (lines ++ line ∷ []))
+            (sym (same-place far.scene next.number c.number next.line.items c.line.items next.reply.items c.reply.items
+            next.lines c.lines next.replies (c.replies + 1) its_number its_line its_reply its_lines count))
+            (Replies lines line reply (place_in c far.scene) far.agrees records same);
+        is_at = subst (λ (s : Session). IsAt s far.scene) (sym its_session) far.is_at;
+      }
+
+  -- one more reply was compared, and is another
+  pub far-differs : (line reply text : List ℕ) → Records line reply → c.reply.items ≢ as_line reply → 0 < c.lines →
+      text ≡ told_difference c.number c.line.items c.reply.items reply ++ indented c.facts.items → Difference setting (lines ++ line ∷ []) text
+  far-differs line reply text records other some said = record {
+    before = lines;
+    line = line;
+    after = [];
+    split = refl;
+    at = place_in c far.scene;
+    agreed = far-agreed;
+    some_played = some;
+    reply = reply;
+    records = records;
+    differs = other;
+    facts = c.facts.items;
+    said = said;
+  }
+
+  -- a line was not played
+  pub far-unplayed : (line : List ℕ) (stop : Stop) (number : ℕ) (fault : ReportFault) → is_indented line ≡ false →
+      ((scene : Scene) → IsAt c.teller.session scene → IsStopped c.teller.session line scene stop) → IsFaultOf number stop fault →
+      number ≡ length lines + 1 → CheckHalted setting (lines ++ line ∷ []) fault
+  far-unplayed line stop number ReportFault.ReadFault whole why is numbered = absurd is
+  far-unplayed line stop number ReportFault.TooLong whole why is numbered = absurd is
+  far-unplayed line stop number ReportFault.WriteFault whole why is numbered = absurd is
+  far-unplayed line stop number (ReportFault.NoEvent event) whole why is numbered = absurd is
+  far-unplayed line stop number (ReportFault.BadLine n reason) whole why is numbered = record {
+    before = lines;
+    line = line;
+    after = [];
+    split = refl;
+    at = place_in c far.scene;
+    agreed = far-agreed;
+    why = (is.1 ∙ numbered, inl (whole, subst (IsStopped c.teller.session line far.scene) is.0 (why far.scene far.is_at)));
+  }
+  far-unplayed line stop number ReportFault.HistoryFull whole why is numbered = record {
+    before = lines;
+    line = line;
+    after = [];
+    split = refl;
+    at = place_in c far.scene;
+    agreed = far-agreed;
+    why = (
+      whole,
+      over-in setting c.teller.session far.scene line far.pool far.limits
+          (subst (IsStopped c.teller.session line far.scene) is (why far.scene far.is_at)),
+    );
+  }
+  far-unplayed line stop number ReportFault.NoMemory whole why is numbered = tt
+
+  -- a reply stands before the first line that is played
+  pub far-unasked : (line reply : List ℕ) (number : ℕ) (fault : ReportFault) → Records line reply → c.lines ≡ 0 →
+      IsBadLine number fault → number ≡ length lines + 1 → CheckHalted setting (lines ++ line ∷ []) fault
+  far-unasked line reply number ReportFault.ReadFault records none is numbered = absurd is
+  far-unasked line reply number ReportFault.TooLong records none is numbered = absurd is
+  far-unasked line reply number ReportFault.WriteFault records none is numbered = absurd is
+  far-unasked line reply number ReportFault.HistoryFull records none is numbered = absurd is
+  far-unasked line reply number (ReportFault.NoEvent event) records none is numbered = absurd is
+  far-unasked line reply number (ReportFault.BadLine n reason) records none is numbered = record {
+    before = lines;
+    line = line;
+    after = [];
+    split = refl;
+    at = place_in c far.scene;
+    agreed = far-agreed;
+    why = (is ∙ numbered, inr (reply, records, none));
+  }
+  far-unasked line reply number ReportFault.NoMemory records none is numbered = tt
+
+module _ (setting : Setting) (lines all more : List (List ℕ)) (is : all ≡ lines ++ more) where
+  unchecked-on : (fault : ReportFault) → IsUnchecked setting lines fault → IsUnchecked setting all fault
+  unchecked-on fault stop = record {
+    before = stop.before;
+    line = stop.line;
+    after = stop.after ++ more;
+    split = is ∙ ap (λ front. front ++ more) stop.split ∙ append_assoc stop.before (stop.line ∷ stop.after) more;
+    at = stop.at;
+    agreed = stop.agreed;
+    why = stop.why;
+  }
+
+  -- a stop among the first lines is one among all
+  pub unchecked-more : (fault : ReportFault) → CheckHalted setting lines fault → CheckHalted setting all fault
+  unchecked-more ReportFault.ReadFault stop = stop
+  unchecked-more ReportFault.TooLong stop = stop
+  unchecked-more ReportFault.WriteFault stop = stop
+  unchecked-more (ReportFault.NoEvent event) stop = stop
+  unchecked-more (ReportFault.BadLine n reason) stop = unchecked-on (ReportFault.BadLine n reason) stop
+  unchecked-more ReportFault.HistoryFull stop = unchecked-on ReportFault.HistoryFull stop
+  unchecked-more ReportFault.NoMemory stop = stop
+
+  -- a difference among the first lines is one among all
+  pub difference-more : (text : List ℕ) → Difference setting lines text → Difference setting all text
+  difference-more text other = record {
+    before = other.before;
+    line = other.line;
+    after = other.after ++ more;
+    split = is ∙ ap (λ front. front ++ more) other.split ∙ append_assoc other.before (other.line ∷ other.after) more;
+    at = other.at;
+    agreed = other.agreed;
+    some_played = other.some_played;
+    reply = other.reply;
+    records = other.records;
+    differs = other.differs;
+    facts = other.facts;
+    said = other.said;
+  }
+
+-- a stop at one of the lines
+pub unchecked-lines : (setting : Setting) (script : List ℕ) (fault : ReportFault) →
+    CheckHalted setting (whole_lines script) fault → LinesStop setting script fault
+unchecked-lines setting script ReportFault.ReadFault stop = stop
+unchecked-lines setting script ReportFault.TooLong stop = stop
+unchecked-lines setting script ReportFault.WriteFault stop = stop
+unchecked-lines setting script (ReportFault.NoEvent event) stop = stop
+unchecked-lines setting script (ReportFault.BadLine n reason) stop = inl stop
+unchecked-lines setting script ReportFault.HistoryFull stop = stop
+unchecked-lines setting script ReportFault.NoMemory stop = stop
+
+-- the last line has no end
+pub unchecked-at-end : (setting : Setting) (c : Comparison) (script : List ℕ) (number : ℕ) (fault : ReportFault) →
+    Compared setting c (whole_lines script) → last_part script ≢ [] → number ≡ length (whole_lines script) + 1 →
+    IsBadLine number fault → LinesStop setting script fault
+unchecked-at-end setting c script number ReportFault.ReadFault far some numbered is = absurd is
+unchecked-at-end setting c script number ReportFault.TooLong far some numbered is = absurd is
+unchecked-at-end setting c script number ReportFault.WriteFault far some numbered is = absurd is
+unchecked-at-end setting c script number ReportFault.HistoryFull far some numbered is = absurd is
+unchecked-at-end setting c script number (ReportFault.NoEvent event) far some numbered is = absurd is
+unchecked-at-end setting c script number (ReportFault.BadLine n reason) far some numbered is = inr (record {
+  unended = some;
+  numbered = is ∙ numbered;
+  at = place_in c far.scene;
+  agreed = far-agreed setting c (whole_lines script) far;
+})
+unchecked-at-end setting c script number ReportFault.NoMemory far some numbered is = tt
+
+-- nothing was written where no verdict was found
+pub stopped-same : (setting : Setting) (old : Option (List ℕ)) (script : List ℕ) (fault : ReportFault) →
+    LinesStop setting script fault → Stopped setting old old script fault
+stopped-same setting old script ReportFault.ReadFault stop = absurd stop
+stopped-same setting old script ReportFault.TooLong stop = absurd stop
+stopped-same setting old script ReportFault.WriteFault stop = absurd stop
+stopped-same setting old script (ReportFault.NoEvent event) stop = absurd stop
+stopped-same setting old script (ReportFault.BadLine n reason) stop = (stop, Keeps-refl old)
+stopped-same setting old script ReportFault.HistoryFull stop = (stop, Keeps-refl old)
+stopped-same setting old script ReportFault.NoMemory stop = (stop, Keeps-refl old)
+
+module _ (setting : Setting) (left_before left old : Option (List ℕ)) where
+  -- memory was refused before any line was played
+  pub checks-refused : (script : List ℕ) (fault : ReportFault) → fault ≡ ReportFault.NoMemory → Consumes left_before left script →
+      Checks setting left_before left old old (Err fault)
+  checks-refused script fault is taken = rw is (record { script = script; taken = taken; outcome = Keeps-refl old })
+
+  -- the transcript did not come in
+  pub checks-unread : (fault : ReportFault) → IsUnread left_before left fault → Checks setting left_before left old old (Err fault)
+  checks-unread ReportFault.ReadFault came =
+      record { script = came.bytes; taken = came.taken; outcome = (came.within, Keeps-refl old) }
+  checks-unread ReportFault.TooLong came =
+      record { script = came.bytes; taken = came.taken; outcome = (came.beyond, Keeps-refl old) }
+  checks-unread ReportFault.NoMemory came =
+      record { script = came.bytes; taken = came.taken; outcome = Keeps-refl old }
+  checks-unread ReportFault.WriteFault came = absurd came
+  checks-unread (ReportFault.BadLine n reason) came = absurd came
+  checks-unread ReportFault.HistoryFull came = absurd came
+  checks-unread (ReportFault.NoEvent event) came = absurd came
+
+  module _ (new : Option (List ℕ)) (script : List ℕ) (taken : Consumes left_before left script) (end : IsAtEnd left)
+      (within : length script ≤ MOST_BYTES) where
+    checks-stopped : (fault : ReportFault) → Stopped setting old new script fault → Checks setting left_before left old new (Err fault)
+    checks-stopped ReportFault.ReadFault stop = absurd stop.0
+    checks-stopped ReportFault.TooLong stop = absurd stop.0
+    checks-stopped (ReportFault.NoEvent event) stop = absurd stop.0
+    checks-stopped ReportFault.WriteFault stop = record { script = script; taken = taken; outcome = (end, stop) }
+    checks-stopped (ReportFault.BadLine n reason) stop = record { script = script; taken = taken; outcome = (end, stop) }
+    checks-stopped ReportFault.HistoryFull stop = record { script = script; taken = taken; outcome = (end, stop) }
+    checks-stopped ReportFault.NoMemory stop = record { script = script; taken = taken; outcome = stop.1 }
+
+    -- the transcript came in, and its lines were compared
+    pub checks-told : (result : Result Verdict ReportFault) → IfOk result (IsJudged setting old new script) →
+        IfErr result (Stopped setting old new script) → Checks setting left_before left old new result
+    checks-told (Ok verdict) judged stop = record { script = script; taken = taken; outcome = (end, within, judged) }
+    checks-told (Err fault) judged stop = checks-stopped fault stop
+
+-- a status that tells the outcome
+pub ends_checked : (setting : Setting) (left_before left old new : Option (List ℕ)) (outcome : Result Verdict ReportFault)
+    (status : ℕ) → Checks setting left_before left old new outcome → status ≡ checking_status outcome →
+    EndsChecked setting left_before left old new status
+ends_checked setting left_before left old new outcome status checks is =
+    record { outcome = outcome; checks = checks; status_is = is }
+
+-- no line was compared
+pub compared-none : (setting : Setting) (c : Comparison) → c.teller.session.core.pool ≡ setting.pool →
+    c.teller.session.core.limits ≡ setting.limits → IsAt c.teller.session first_scene → c.number ≡ 0 → c.line.items ≡ [] →
+    c.reply.items ≡ [] → c.lines ≡ 0 → c.replies ≡ 0 → Compared setting c []
+compared-none setting c pool limits at its_number its_line its_reply its_lines its_replies = record {
+  pool = pool;
+  limits = limits;
+  scene = first_scene;
+  agrees = subst (Agrees setting.pool [])
+      (sym (same-place first_scene c.number 0 c.line.items [] c.reply.items [] c.lines 0 c.replies 0 its_number its_line its_reply
+      its_lines its_replies)) Begins;
+  is_at = at;
+}
+
+-- all agrees, and the text of that was put
+pub agreed-fully : (setting : Setting) (c : Comparison) (script text : List ℕ) → Ended setting c script Verdict.Agrees →
+    ((scene : Scene) → text ≡ c.text.items ++ agreement_text (place_in c scene)) → FullAgreement setting script text
+agreed-fully setting c script text ended said = record {
+  ended = ended.1;
+  at = place_in c ended.0.scene;
+  agreed = far-agreed setting c (whole_lines script) ended.0;
+  said = said ended.0.scene ∙ ap (λ front. front ++ agreement_text (place_in c ended.0.scene)) ended.2;
+}
+
+-- a line that nothing is behind two spaces of
+pub behind-none : (line : List ℕ) → None ≡ behind_indent line → is_indented line ≡ false
+behind-none line is = by (is_indented line) is
+  where
+    by : (t : Bool) → None ≡ (if t then Some (drop 2 line) else None) → t ≡ false
+    by true e = absurd (cc)
+    by false e = refl
+
+-- what stands behind the two spaces of a line
+pub behind-some : (line text : List ℕ) → Some text ≡ behind_indent line → (is_indented line ≡ true) × (text ≡ drop 2 line)
+behind-some line text is = by (is_indented line) is
+  where
+    by : (t : Bool) → Some text ≡ (if t then Some (drop 2 line) else None) → (t ≡ true) × (text ≡ drop 2 line)
+    by true e = (refl, cc)
+    by false e = absurd (cc)
+
+-- a line that is a remark
+pub remark-from : (line text : List ℕ) → Some text ≡ behind_indent line → is_indented text ≡ true → IsRemark line
+remark-from line text is more =
+    let both = behind-some line text is in
+    (both.0, subst (λ (t : List ℕ). is_indented t ≡ true) both.1 more)
+
+-- a line that records a reply
+pub records-from : (line text : List ℕ) → Some text ≡ behind_indent line → is_indented text ≡ false → Records line text
+records-from line text is bare =
+    let both = behind-some line text is in
+    (both.0, subst (λ (t : List ℕ). is_indented t ≡ false) both.1 bare, both.1)

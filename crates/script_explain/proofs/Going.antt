@@ -1,0 +1,201 @@
+-- Loops over the lines of a script.
+use Rattle.std.proofs.Common.{◌≡◌, ℕ, suc, ◌+◌, ◌-◌, ◌^◌, ◌<◌, ◌≤◌, min, ◌==◌, true, false, List, [], ◌∷◌, ◌++◌, length, length-append, take, drop, append_assoc, append-nil, refl, sym, ap, ◌∙◌, subst, Option, Some, None, arith}
+use Rattle.std.proofs.lemmas.Bool.Decides.{nat_tests}
+use Rattle.std.specs.List.{position}
+use Rattle.script_lines.specs.declared.TheConstants.{MOST_BYTES}
+use Rattle.script_lines.specs.Pieces.{whole_lines, last_part}
+use Rattle.script_lines.proofs.Piecing.{is_end}
+use Rattle.script_faults.specs.declared.fault.ReportFault.{ReportFault}
+use Rattle.script_faults.specs.Faults.{IsBadLine}
+use Rattle.sm_script.specs.declared.session.Session.{Session}
+use Rattle.sm_script.specs.Scenes.{Setting}
+use Rattle.sm_script.proofs.Taking.{some_behind}
+use Rattle.script_explain.specs.declared.check.Comparison.{Comparison}
+use Rattle.script_explain.specs.declared.check.Verdict.{Verdict}
+use Rattle.script_explain.specs.Comparisons.{Difference, LinesStop}
+use Rattle.script_explain.specs.Progress.{CheckHalted, Compared, Ended, Explained, Halted, Judges, LinesHalted, SoFar}
+use Rattle.script_explain.proofs.Comparing.{difference-more, unchecked-at-end, unchecked-lines, unchecked-more}
+use Rattle.script_explain.proofs.LinesTaken.{AreTaken, rest-all, taken-all, taken-at, taken-more, taken-none, taken-room}
+use Rattle.script_explain.proofs.Outcomes.{halted-at-end, halted-lines, halted-more}
+
+-- the number of the next line
+pub next-number : (count room number next : ℕ) → number ≡ count → count + 1 ≤ room → room ≤ MOST_BYTES →
+    next ≡ min (number + 1) (2 ^ 64 - 1) → next ≡ count + 1
+next-number count room number next counted within small is = omega (arith, is, counted, within, small)
+
+-- one more than a number is not 0
+some-more : (n : ℕ) → (suc n == 0) ≡ true → ⊥
+some-more n test = grind (arith, nat_tests)
+
+-- nothing is left
+none-left : (rest : List ℕ) → (length rest == 0) ≡ true → rest ≡ []
+none-left [] empty = refl
+none-left (byte ∷ more) empty = absurd (some-more (length more) empty)
+
+-- the number of the line that has no end
+last-number : (script rest : List ℕ) (taken : List (List ℕ)) (takes : AreTaken script rest taken) → length script ≤ MOST_BYTES →
+    position is_end rest ≡ None → (number count : ℕ) → number ≡ length taken → count ≡ min (number + 1) (2 ^ 64 - 1) →
+    count ≡ length (whole_lines script) + 1
+last-number script rest taken takes small none number count counted is =
+    let all : length (whole_lines script) ≡ length taken = ap length (taken-all script rest taken takes none) in
+    omega (arith, is, counted, takes.few, small, all)
+
+-- some lines were explained, and their number is this
+pub record Along (script rest : List ℕ) (number : ℕ) (first : Session) (mid : Option (List ℕ)) (before : List ℕ) (now : Session)
+    (new : Option (List ℕ)) (after : List ℕ) : Type 0 where
+  pub taken : List (List ℕ)
+  pub takes : AreTaken script rest taken
+  pub numbered : number ≡ length taken
+  pub explained : Explained first mid before now new after taken
+
+-- none was
+pub along-none : (script : List ℕ) (first : Session) (mid : Option (List ℕ)) (before : List ℕ) →
+    Along script script 0 first mid before first mid before
+along-none script first mid before = record {
+  taken = [];
+  takes = taken-none script;
+  numbered = refl;
+  explained = λ setting old lines far. subst (SoFar setting first old mid before) (sym (append-nil lines)) far;
+}
+
+module _ (script rest : List ℕ) (number : ℕ) (first : Session) (mid : Option (List ℕ)) (before : List ℕ) (now : Session)
+    (new : Option (List ℕ)) (after : List ℕ) (along : Along script rest number first mid before now new after)
+    (small : length script ≤ MOST_BYTES) where
+  module _ (at : ℕ) (found : position is_end rest ≡ Some at) (within : at < length rest) (count : ℕ)
+      (counted : count ≡ min (number + 1) (2 ^ 64 - 1)) where
+    along-number : count ≡ length along.taken + 1
+    along-number = next-number (length along.taken) (length script) number count along.numbered
+        (taken-room script rest along.taken along.takes at within) small counted
+
+    -- one more was
+    pub along-more : (next : Session) (newer : Option (List ℕ)) (later left : List ℕ) → left ≡ drop (at + 1) rest →
+        Explained now new after next newer later (take at rest ∷ []) → Along script left count first mid before next newer later
+    along-more next newer later left is step = record {
+      taken = along.taken ++ take at rest ∷ [];
+      takes = subst (λ (r : List ℕ). AreTaken script r (along.taken ++ take at rest ∷ [])) (sym is)
+          (taken-more script rest along.taken along.takes at found within);
+      numbered = let more = length-append along.taken (take at rest ∷ []) in omega (arith, along-number, more);
+      explained = λ setting old lines far.
+          subst (SoFar setting next old newer later) (append_assoc lines along.taken (take at rest ∷ []))
+          (step setting old (lines ++ along.taken) (along.explained setting old lines far));
+    }
+
+    -- the next was not
+    pub along-stop : (newer : Option (List ℕ)) (later : List ℕ) (fault : ReportFault) →
+        ((setting : Setting) (old : Option (List ℕ)) (lines : List (List ℕ)) → SoFar setting now old new after lines →
+        count ≡ length lines + 1 → Halted setting old newer later (lines ++ take at rest ∷ []) fault) →
+        (setting : Setting) (old : Option (List ℕ)) → SoFar setting first old mid before [] →
+        LinesHalted setting old newer later script fault
+    along-stop newer later fault stops setting old far =
+        halted-lines setting old newer later script fault
+        (halted-more setting old newer later (along.taken ++ take at rest ∷ []) (whole_lines script) (whole_lines (drop (at + 1) rest))
+        (taken-at script rest along.taken along.takes at found) fault
+        (stops setting old along.taken (along.explained setting old [] far) along-number))
+
+  module _ (none : position is_end rest ≡ None) where
+    -- no line is left
+    pub along-all : Explained first mid before now new after (whole_lines script)
+    along-all = subst (Explained first mid before now new after) (sym (taken-all script rest along.taken along.takes none))
+        along.explained
+
+    -- the last line has an end
+    pub along-empty : (length rest == 0) ≡ true → last_part script ≡ []
+    along-empty empty = rest-all script rest along.taken along.takes none ∙ none-left rest empty
+
+    -- the last line has no end
+    pub along-unended : (length rest == 0) ≡ false → (count : ℕ) → count ≡ min (number + 1) (2 ^ 64 - 1) →
+        (fault : ReportFault) → IsBadLine count fault → (setting : Setting) (old : Option (List ℕ)) →
+        SoFar setting first old mid before [] → LinesHalted setting old new after script fault
+    along-unended some count counted fault is setting old far =
+        halted-at-end setting now old new after script count fault (along-all setting old [] far)
+        (λ e. some_behind [] rest some (sym (rest-all script rest along.taken along.takes none) ∙ e))
+        (last-number script rest along.taken along.takes small none number count along.numbered counted) is
+
+-- some lines were compared, and agree
+pub record Agreeing (script rest : List ℕ) (number : ℕ) (first now : Comparison) : Type 0 where
+  pub taken : List (List ℕ)
+  pub takes : AreTaken script rest taken
+  pub numbered : number ≡ length taken
+  pub agreeing : (setting : Setting) → Compared setting first [] → Compared setting now taken × (now.text.items ≡ first.text.items)
+
+-- none was
+pub agreeing-none : (script : List ℕ) (first : Comparison) → Agreeing script script 0 first first
+agreeing-none script first = record {
+  taken = [];
+  takes = taken-none script;
+  numbered = refl;
+  agreeing = λ setting far. (far, refl);
+}
+
+module _ (script rest : List ℕ) (number : ℕ) (first now : Comparison) (along : Agreeing script rest number first now)
+    (small : length script ≤ MOST_BYTES) where
+  module _ (at : ℕ) (found : position is_end rest ≡ Some at) (within : at < length rest) (count : ℕ)
+      (counted : count ≡ min (number + 1) (2 ^ 64 - 1)) where
+    agreeing-number : count ≡ length along.taken + 1
+    agreeing-number = next-number (length along.taken) (length script) number count along.numbered
+        (taken-room script rest along.taken along.takes at within) small counted
+
+    -- a line has a small number
+    pub agreeing-small : count ≤ MOST_BYTES
+    agreeing-small =
+        let room = taken-room script rest along.taken along.takes at within in omega (arith, agreeing-number, room, small)
+
+    -- one more was
+    pub agreeing-more : (next : Comparison) (left : List ℕ) → left ≡ drop (at + 1) rest →
+        ((setting : Setting) (lines : List (List ℕ)) → Compared setting now lines → count ≡ length lines + 1 →
+        Judges setting now next lines (take at rest) Verdict.Agrees) → Agreeing script left count first next
+    agreeing-more next left is step = record {
+      taken = along.taken ++ take at rest ∷ [];
+      takes = subst (λ (r : List ℕ). AreTaken script r (along.taken ++ take at rest ∷ [])) (sym is)
+          (taken-more script rest along.taken along.takes at found within);
+      numbered = let more = length-append along.taken (take at rest ∷ []) in omega (arith, agreeing-number, more);
+      agreeing = λ setting far.
+          let so_far = along.agreeing setting far in
+          let now_far = step setting along.taken so_far.0 agreeing-number in
+          (now_far.0, now_far.1 ∙ so_far.1);
+    }
+
+    -- the next is the first that does not agree
+    pub agreeing-differs : (next : Comparison) → first.text.items ≡ [] →
+        ((setting : Setting) (lines : List (List ℕ)) → Compared setting now lines → count ≡ length lines + 1 →
+        Judges setting now next lines (take at rest) Verdict.Differs) → (setting : Setting) → Compared setting first [] →
+        Difference setting (whole_lines script) next.text.items
+    agreeing-differs next empty step setting far =
+        let so_far = along.agreeing setting far in
+        difference-more setting (along.taken ++ take at rest ∷ []) (whole_lines script) (whole_lines (drop (at + 1) rest))
+        (taken-at script rest along.taken along.takes at found) next.text.items
+        (step setting along.taken so_far.0 agreeing-number (so_far.1 ∙ empty))
+
+    -- the next was neither played nor compared
+    pub agreeing-stop : (fault : ReportFault) →
+        ((setting : Setting) (lines : List (List ℕ)) → Compared setting now lines → count ≡ length lines + 1 →
+        CheckHalted setting (lines ++ take at rest ∷ []) fault) → (setting : Setting) → Compared setting first [] →
+        LinesStop setting script fault
+    agreeing-stop fault stops setting far =
+        unchecked-lines setting script fault
+        (unchecked-more setting (along.taken ++ take at rest ∷ []) (whole_lines script) (whole_lines (drop (at + 1) rest))
+        (taken-at script rest along.taken along.takes at found) fault
+        (stops setting along.taken (along.agreeing setting far).0 agreeing-number))
+
+  module _ (none : position is_end rest ≡ None) where
+    all-agree : (setting : Setting) → Compared setting first [] → Compared setting now (whole_lines script)
+    all-agree setting far = subst (Compared setting now) (sym (taken-all script rest along.taken along.takes none))
+        (along.agreeing setting far).0
+
+    -- no line is left, and the last one has an end
+    pub agreeing-ended : (length rest == 0) ≡ true → first.text.items ≡ [] → (setting : Setting) → Compared setting first [] →
+        Ended setting now script Verdict.Agrees
+    agreeing-ended empty blank setting far = (
+      all-agree setting far,
+      rest-all script rest along.taken along.takes none ∙ none-left rest empty,
+      (along.agreeing setting far).1 ∙ blank,
+    )
+
+    -- the last line has no end
+    pub agreeing-unended : (length rest == 0) ≡ false → (count : ℕ) → count ≡ min (number + 1) (2 ^ 64 - 1) →
+        (fault : ReportFault) → IsBadLine count fault → (setting : Setting) → Compared setting first [] →
+        LinesStop setting script fault
+    agreeing-unended some count counted fault is setting far =
+        unchecked-at-end setting now script count fault (all-agree setting far)
+        (λ e. some_behind [] rest some (sym (rest-all script rest along.taken along.takes none) ∙ e))
+        (last-number script rest along.taken along.takes small none number count along.numbered counted) is

@@ -1,0 +1,9 @@
+pub mod Answering
+pub mod CleanLabels
+pub mod CleanScenes
+pub mod Comparing
+pub mod Going
+pub mod LinesTaken
+pub mod Outcomes
+pub mod Telling
+pub mod ToldLines

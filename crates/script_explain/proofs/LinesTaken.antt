@@ -1,0 +1,47 @@
+-- The lines of a script that are taken one after another.
+use Rattle.std.proofs.Common.{◌≡◌, ℕ, ◌+◌, ◌<◌, ◌≤◌, List, [], ◌∷◌, ◌++◌, length, length-append, length-drop, take, drop, append_assoc, append-nil, refl, sym, ap, ◌∙◌, Some, None, arith}
+use Rattle.std.specs.List.{position}
+use Rattle.script_lines.specs.Pieces.{whole_lines, last_part}
+use Rattle.script_lines.proofs.Piecing.{is_end, ends_found, unended_none}
+
+-- these lines of the script were taken, and the rest is left
+pub record AreTaken (script rest : List ℕ) (taken : List (List ℕ)) : Type 0 where
+  pub lines : whole_lines script ≡ taken ++ whole_lines rest
+  pub ends : last_part script ≡ last_part rest
+  pub few : length taken + length rest ≤ length script
+
+-- none was taken
+pub taken-none : (script : List ℕ) → AreTaken script script []
+taken-none script = record { lines = refl; ends = refl; few = omega arith }
+
+module _ (script rest : List ℕ) (taken : List (List ℕ)) (takes : AreTaken script rest taken) where
+  -- one more line was taken
+  pub taken-more : (at : ℕ) → position is_end rest ≡ Some at → at < length rest →
+      AreTaken script (drop (at + 1) rest) (taken ++ take at rest ∷ [])
+  taken-more at found within =
+      let ends = ends_found [] rest at found in
+      let count = length-append taken (take at rest ∷ []) in
+      let left = length-drop (at + 1) rest in
+      record {
+        lines = takes.lines ∙ ap (λ ls. taken ++ ls) ends.lines
+            ∙ sym (append_assoc taken (take at rest ∷ []) (whole_lines (drop (at + 1) rest)));
+        ends = takes.ends ∙ ends.rest;
+        few = omega (arith, takes.few, within, count, left);
+      }
+
+  -- one line at least is left
+  pub taken-room : (at : ℕ) → at < length rest → length taken + 1 ≤ length script
+  taken-room at within = omega (arith, takes.few, within)
+
+  -- the line at hand, and what stands behind it
+  pub taken-at : (at : ℕ) → position is_end rest ≡ Some at →
+      whole_lines script ≡ (taken ++ take at rest ∷ []) ++ whole_lines (drop (at + 1) rest)
+  taken-at at found = takes.lines ∙ ap (λ ls. taken ++ ls) (ends_found [] rest at found).lines
+      ∙ sym (append_assoc taken (take at rest ∷ []) (whole_lines (drop (at + 1) rest)))
+
+  -- no line is left
+  pub taken-all : position is_end rest ≡ None → whole_lines script ≡ taken
+  taken-all none = takes.lines ∙ ap (λ ls. taken ++ ls) (unended_none [] rest none).lines ∙ append-nil taken
+
+  pub rest-all : position is_end rest ≡ None → last_part script ≡ rest
+  rest-all none = takes.ends ∙ (unended_none [] rest none).rest

@@ -1,0 +1,255 @@
+-- What comes of an explanation once its text goes out.
+use Rattle.std.proofs.Common.{◌≡◌, ◌≢◌, ℕ, ◌+◌, ◌≤◌, List, [], ◌∷◌, ◌++◌, length, append_assoc, append-nil, refl, sym, ap, ◌∙◌, subst, Option, inl, inr, arith}
+use Rattle.std.proofs.KnownBytes.{Appends-nil, Appends-trans, Keeps-refl}
+use Rattle.std.specs.Prelude.{Ok, Err, Result, OnOk, IfErr}
+use Rattle.std.specs.Io.KnownBytes.{Appends, Consumes, IsAtEnd, Keeps}
+use Rattle.script_lines.specs.declared.TheConstants.{MOST_BYTES}
+use Rattle.script_lines.specs.Pieces.{whole_lines, last_part}
+use Rattle.script_lines.specs.Written.{WritesPart}
+use Rattle.script_faults.specs.declared.fault.ReportFault.{ReportFault}
+use Rattle.script_faults.specs.Faults.{IsBadLine, fault_status}
+use Rattle.script_faults.specs.Streams.{Came, IsUnread}
+use Rattle.sm_script.specs.declared.session.Session.{Session}
+use Rattle.sm_script.specs.Scenes.{Rests, Setting, first_scene}
+use Rattle.script_explain.specs.Explanations.{EndsExplained, Explains, Explanation, ExplanationStops, IsCutOff, IsExplained, IsUnexplained, LinesStop, LinesTold, explaining_status}
+use Rattle.script_explain.specs.Progress.{Explained, Halted, IsHalted, LinesHalted, SoFar}
+use Rattle.script_explain.specs.Tales.{Begins}
+use Rattle.script_explain.proofs.LinesTaken.{AreTaken, taken-all, taken-at, rest-all}
+use Rattle.script_explain.proofs.Telling.{far-pending, pending-cut, pending-told}
+
+-- nothing in front of nothing
+nil-front : (a b : List ℕ) → [] ≡ a ++ b → a ≡ []
+nil-front [] b e = refl
+nil-front (x ∷ a) b e = absurd (cc)
+
+-- a part of nothing is nothing
+part-none : (old new : Option (List ℕ)) (text : List ℕ) → text ≡ [] → WritesPart old new text → Appends old new []
+part-none old new text none part =
+    subst (Appends old new) (nil-front part.done part.rest (sym none ∙ part.split)) part.written
+
+-- nothing more went out
+cut-same : (setting : Setting) (old mid new : Option (List ℕ)) (lines : List (List ℕ)) → IsCutOff setting old mid lines →
+    Appends mid new [] → IsCutOff setting old new lines
+cut-same setting old mid new lines cut out = record {
+  before = cut.before;
+  after = cut.after;
+  split = cut.split;
+  text = cut.text;
+  explains = cut.explains;
+  written = record {
+    done = cut.written.done;
+    rest = cut.written.rest;
+    split = cut.written.split;
+    written = subst (Appends old new) (append-nil cut.written.done)
+        (Appends-trans old mid new cut.written.done [] cut.written.written out);
+  };
+}
+
+-- what is cut off among the first lines is cut off among all
+cut-more : (setting : Setting) (old new : Option (List ℕ)) (lines all more : List (List ℕ)) → all ≡ lines ++ more →
+    IsCutOff setting old new lines → IsCutOff setting old new all
+cut-more setting old new lines all more is cut = record {
+  before = cut.before;
+  after = cut.after ++ more;
+  split = is ∙ ap (λ front. front ++ more) cut.split ∙ append_assoc cut.before cut.after more;
+  text = cut.text;
+  explains = cut.explains;
+  written = cut.written;
+}
+
+module _ (setting : Setting) (old new : Option (List ℕ)) (pending : List ℕ) (lines all more : List (List ℕ)) (is : all ≡ lines ++ more) where
+  halted-on : (fault : ReportFault) → IsHalted setting old new pending lines fault → IsHalted setting old new pending all fault
+  halted-on fault stop = record {
+    before = stop.before;
+    line = stop.line;
+    after = stop.after ++ more;
+    split = is ∙ ap (λ front. front ++ more) stop.split ∙ append_assoc stop.before (stop.line ∷ stop.after) more;
+    whole = stop.whole;
+    so_far = stop.so_far;
+    why = stop.why;
+  }
+
+  -- a stop among the first lines is one among all
+  pub halted-more : (fault : ReportFault) → Halted setting old new pending lines fault → Halted setting old new pending all fault
+  halted-more ReportFault.ReadFault stop = absurd stop
+  halted-more ReportFault.TooLong stop = absurd stop
+  halted-more (ReportFault.NoEvent event) stop = absurd stop
+  halted-more ReportFault.WriteFault stop = (stop.0, cut-more setting old new lines all more is stop.1)
+  halted-more (ReportFault.BadLine n reason) stop = halted-on (ReportFault.BadLine n reason) stop
+  halted-more ReportFault.HistoryFull stop = halted-on ReportFault.HistoryFull stop
+  halted-more ReportFault.NoMemory stop = record {
+    before = stop.before;
+    after = stop.after ++ more;
+    split = is ∙ ap (λ front. front ++ more) stop.split ∙ append_assoc stop.before stop.after more;
+    so_far = stop.so_far;
+  }
+
+-- a stop at one of the lines
+pub halted-lines : (setting : Setting) (old new : Option (List ℕ)) (pending script : List ℕ) (fault : ReportFault) →
+    Halted setting old new pending (whole_lines script) fault → LinesHalted setting old new pending script fault
+halted-lines setting old new pending script ReportFault.ReadFault stop = stop
+halted-lines setting old new pending script ReportFault.TooLong stop = stop
+halted-lines setting old new pending script (ReportFault.NoEvent event) stop = stop
+halted-lines setting old new pending script ReportFault.WriteFault stop = stop
+halted-lines setting old new pending script (ReportFault.BadLine n reason) stop = inl stop
+halted-lines setting old new pending script ReportFault.HistoryFull stop = stop
+halted-lines setting old new pending script ReportFault.NoMemory stop = stop
+
+-- the last line has no end
+pub halted-at-end : (setting : Setting) (session : Session) (old new : Option (List ℕ)) (pending script : List ℕ) (number : ℕ)
+    (fault : ReportFault) → SoFar setting session old new pending (whole_lines script) → last_part script ≢ [] →
+    number ≡ length (whole_lines script) + 1 → IsBadLine number fault → LinesHalted setting old new pending script fault
+halted-at-end setting session old new pending script number ReportFault.ReadFault far some numbered is = absurd is
+halted-at-end setting session old new pending script number ReportFault.TooLong far some numbered is = absurd is
+halted-at-end setting session old new pending script number ReportFault.WriteFault far some numbered is = absurd is
+halted-at-end setting session old new pending script number ReportFault.HistoryFull far some numbered is = absurd is
+halted-at-end setting session old new pending script number (ReportFault.NoEvent event) far some numbered is = absurd is
+halted-at-end setting session old new pending script number (ReportFault.BadLine n reason) far some numbered is = inr (record {
+  unended = some;
+  numbered = is ∙ numbered;
+  so_far = far-pending setting session old new pending (whole_lines script) far;
+})
+halted-at-end setting session old new pending script number ReportFault.NoMemory far some numbered is = record {
+  before = whole_lines script;
+  after = [];
+  split = sym (append-nil (whole_lines script));
+  so_far = far-pending setting session old new pending (whole_lines script) far;
+}
+
+module _ (setting : Setting) (old mid new : Option (List ℕ)) (pending script : List ℕ) where
+  stop-told : (fault : ReportFault) (stop : IsHalted setting old mid pending (whole_lines script) fault) → Appends mid new pending →
+      IsUnexplained setting old new (whole_lines script) fault
+  stop-told fault stop out = record {
+    before = stop.before;
+    line = stop.line;
+    after = stop.after;
+    split = stop.split;
+    whole = stop.whole;
+    told = pending-told setting old mid pending stop.before stop.so_far new out;
+    why = stop.why;
+  }
+
+  -- all of the text went out behind a stop
+  pub lines-stop : (fault : ReportFault) → LinesHalted setting old mid pending script fault → Appends mid new pending →
+      LinesStop setting old new script fault
+  lines-stop ReportFault.ReadFault stop out = absurd stop
+  lines-stop ReportFault.TooLong stop out = absurd stop
+  lines-stop (ReportFault.NoEvent event) stop out = absurd stop
+  lines-stop ReportFault.WriteFault stop out =
+      cut-same setting old mid new (whole_lines script) stop.1 (subst (Appends mid new) stop.0 out)
+  lines-stop (ReportFault.BadLine n reason) (inl stop) out = inl (stop-told (ReportFault.BadLine n reason) stop out)
+  lines-stop (ReportFault.BadLine n reason) (inr stop) out = inr (record {
+    unended = stop.unended;
+    numbered = stop.numbered;
+    told = pending-told setting old mid pending (whole_lines script) stop.so_far new out;
+  })
+  lines-stop ReportFault.HistoryFull stop out = stop-told ReportFault.HistoryFull stop out
+  lines-stop ReportFault.NoMemory stop out = record {
+    before = stop.before;
+    after = stop.after;
+    split = stop.split;
+    told = pending-told setting old mid pending stop.before stop.so_far new out;
+  }
+
+  stop-cut : (fault : ReportFault) (stop : IsHalted setting old mid pending (whole_lines script) fault) → WritesPart mid new pending →
+      IsCutOff setting old new (whole_lines script)
+  stop-cut fault stop part = subst (IsCutOff setting old new) (sym stop.split)
+      (pending-cut setting old mid pending stop.before stop.so_far new (stop.line ∷ stop.after) part)
+
+  -- a part of the text went out behind a stop
+  pub lines-cut : (fault : ReportFault) → LinesHalted setting old mid pending script fault → WritesPart mid new pending →
+      IsCutOff setting old new (whole_lines script)
+  lines-cut ReportFault.ReadFault stop part = absurd stop
+  lines-cut ReportFault.TooLong stop part = absurd stop
+  lines-cut (ReportFault.NoEvent event) stop part = absurd stop
+  lines-cut ReportFault.WriteFault stop part =
+      cut-same setting old mid new (whole_lines script) stop.1 (part-none mid new pending stop.0 part)
+  lines-cut (ReportFault.BadLine n reason) (inl stop) part = stop-cut (ReportFault.BadLine n reason) stop part
+  lines-cut (ReportFault.BadLine n reason) (inr stop) part = subst (IsCutOff setting old new) (append-nil (whole_lines script))
+      (pending-cut setting old mid pending (whole_lines script) stop.so_far new [] part)
+  lines-cut ReportFault.HistoryFull stop part = stop-cut ReportFault.HistoryFull stop part
+  lines-cut ReportFault.NoMemory stop part = subst (IsCutOff setting old new) (sym stop.split)
+      (pending-cut setting old mid pending stop.before stop.so_far new stop.after part)
+
+  module _ (session : Session) (result : Result (Unit {0}) ReportFault)
+      (ok : OnOk result (SoFar setting session old mid pending (whole_lines script)))
+      (whole : OnOk result (last_part script ≡ [])) (err : IfErr result (LinesHalted setting old mid pending script)) where
+    -- all of the text went out
+    pub told-out : Appends mid new pending → LinesTold setting old new script result
+    told-out out = by result ok whole err
+      where
+        by : (r : Result (Unit {0}) ReportFault) → OnOk r (SoFar setting session old mid pending (whole_lines script)) →
+            OnOk r (last_part script ≡ []) → IfErr r (LinesHalted setting old mid pending script) → LinesTold setting old new script r
+        by (Ok done) far end stop = (
+          end,
+          pending-told setting old mid pending (whole_lines script)
+              (far-pending setting session old mid pending (whole_lines script) far) new out,
+        )
+        by (Err fault) far end stop = lines-stop fault stop out
+
+    -- a part of the text went out
+    pub told-cut : WritesPart mid new pending → IsCutOff setting old new (whole_lines script)
+    told-cut part = by result ok err
+      where
+        by : (r : Result (Unit {0}) ReportFault) → OnOk r (SoFar setting session old mid pending (whole_lines script)) →
+            IfErr r (LinesHalted setting old mid pending script) → IsCutOff setting old new (whole_lines script)
+        by (Ok done) far stop = subst (IsCutOff setting old new) (append-nil (whole_lines script))
+            (pending-cut setting old mid pending (whole_lines script)
+            (far-pending setting session old mid pending (whole_lines script) far) new [] part)
+        by (Err fault) far stop = lines-cut fault stop part
+
+-- nothing is explained by nothing
+abbrev pub told-none : (setting : Setting) (old : Option (List ℕ)) → IsExplained setting old old []
+told-none setting old = record {
+  text = [];
+  explains = record {
+    replies = [];
+    scene = first_scene;
+    tells = Begins;
+    leads = record { plays = Rests first_scene; legal = record { answers = tt; within = omega arith } };
+  };
+  written = Appends-nil old;
+}
+
+module _ (setting : Setting) (left_before left old : Option (List ℕ)) where
+  -- memory was refused before any line was explained
+  pub explains-refused : (script : List ℕ) (fault : ReportFault) → fault ≡ ReportFault.NoMemory → Consumes left_before left script →
+      Explains setting left_before left old old (Err fault)
+  explains-refused script fault is taken = rw is (record {
+    script = script;
+    taken = taken;
+    outcome = record { before = []; after = whole_lines script; split = refl; told = told-none setting old };
+  })
+
+  -- the script did not come in
+  pub explains-unread : (fault : ReportFault) → IsUnread left_before left fault → Explains setting left_before left old old (Err fault)
+  explains-unread ReportFault.ReadFault came =
+      record { script = came.bytes; taken = came.taken; outcome = (came.within, Keeps-refl old) }
+  explains-unread ReportFault.TooLong came =
+      record { script = came.bytes; taken = came.taken; outcome = (came.beyond, Keeps-refl old) }
+  explains-unread ReportFault.NoMemory came = explains-refused came.bytes ReportFault.NoMemory refl came.taken
+  explains-unread ReportFault.WriteFault came = absurd came
+  explains-unread (ReportFault.BadLine n reason) came = absurd came
+  explains-unread ReportFault.HistoryFull came = absurd came
+  explains-unread (ReportFault.NoEvent event) came = absurd came
+
+  module _ (new : Option (List ℕ)) (script : List ℕ) (taken : Consumes left_before left script) (end : IsAtEnd left)
+      (within : length script ≤ MOST_BYTES) where
+    -- the script came in, and its lines were explained
+    pub explains-told : (result : Result (Unit {0}) ReportFault) → LinesTold setting old new script result →
+        Explains setting left_before left old new result
+    explains-told (Ok done) told = record { script = script; taken = taken; outcome = (end, within, told.0, told.1) }
+    explains-told (Err ReportFault.ReadFault) told = absurd told
+    explains-told (Err ReportFault.TooLong) told = absurd told
+    explains-told (Err (ReportFault.NoEvent event)) told = absurd told
+    explains-told (Err ReportFault.WriteFault) told = record { script = script; taken = taken; outcome = (end, told) }
+    explains-told (Err (ReportFault.BadLine n reason)) told = record { script = script; taken = taken; outcome = (end, told) }
+    explains-told (Err ReportFault.HistoryFull) told = record { script = script; taken = taken; outcome = (end, told) }
+    explains-told (Err ReportFault.NoMemory) told = record { script = script; taken = taken; outcome = told }
+
+-- a status that tells the outcome
+pub ends_explained : (setting : Setting) (left_before left old new : Option (List ℕ)) (outcome : Result (Unit {0}) ReportFault)
+    (status : ℕ) → Explains setting left_before left old new outcome → status ≡ explaining_status outcome →
+    EndsExplained setting left_before left old new status
+ends_explained setting left_before left old new outcome status explains is =
+    record { outcome = outcome; explains = explains; status_is = is }

@@ -1,0 +1,221 @@
+-- An explanation that goes on by one line, or stops at it.
+use Rattle.std.proofs.Common.{◌≡◌, ◌≢◌, ℕ, ◌+◌, ◌≤◌, true, false, List, [], ◌∷◌, ◌++◌, length, append_assoc, append-nil, refl, sym, ap, ◌∙◌, subst, Option, Some, None, inl, inr, not}
+use Rattle.std.proofs.KnownBytes.{Appends-nil, Appends-trans}
+use Rattle.std.proofs.lemmas.List.Elements.{filter-append}
+use Rattle.std.specs.Io.KnownBytes.{Appends}
+use Rattle.sm_names.specs.Bounds.{Bound}
+use Rattle.sm_names.specs.Legality.{IsLegal}
+use Rattle.sm_names.specs.Marks.{events}
+use Rattle.sm_names.specs.Timelines.{timeline}
+use Rattle.script_lines.specs.Written.{WritesPart}
+use Rattle.script_faults.specs.declared.fault.ReportFault.{ReportFault}
+use Rattle.script_faults.specs.Faults.{IsFaultOf}
+use Rattle.script_faults.specs.IndentedLines.{is_indented, unindented}
+use Rattle.sm_script.specs.declared.session.Session.{Session}
+use Rattle.sm_script.specs.declared.stop.Stop.{Stop}
+use Rattle.sm_script.specs.Runs.{IsOver}
+use Rattle.sm_script.specs.Scenes.{Answers, LeadsTo, Plays, Rests, Scene, Setting, first_scene}
+use Rattle.sm_script.specs.Sessions.{Advances, IsAt, IsStopped}
+use Rattle.sm_script.proofs.Playing.{plays-more}
+use Rattle.script_explain.specs.Explanations.{Explanation, IsCutOff, IsExplained}
+use Rattle.script_explain.specs.Progress.{Halted, IsPending, SoFar}
+use Rattle.script_explain.specs.Tales.{Tells, Begins, Passes, Goes, told_line}
+
+-- an indented line is none of the script
+pub unindented-skip : (lines : List (List ℕ)) (line : List ℕ) → is_indented line ≡ true → unindented (lines ++ line ∷ []) ≡ unindented lines
+unindented-skip lines line skip =
+    filter-append (λ l. not (is_indented l)) lines (line ∷ []) ∙ rw skip (append-nil (unindented lines))
+
+-- any other is the next of it
+pub unindented-more : (lines : List (List ℕ)) (line : List ℕ) → is_indented line ≡ false →
+    unindented (lines ++ line ∷ []) ≡ unindented lines ++ line ∷ []
+unindented-more lines line whole = filter-append (λ l. not (is_indented l)) lines (line ∷ []) ∙ rw whole refl
+
+-- the lines that are not indented are played, one after another
+pub tells-plays : (pool : ℕ) (first : Scene) (lines : List (List ℕ)) (text replies : List ℕ) (scene : Scene) →
+    Tells pool first lines text replies scene → Plays pool first (unindented lines) replies scene
+tells-plays pool first lines text replies scene Begins = Rests first
+tells-plays pool first lines text replies scene (Passes before line said given there so_far skip) =
+    subst (λ (ls : List (List ℕ)). Plays pool first ls given there) (sym (unindented-skip before line skip))
+    (tells-plays pool first before said given there so_far)
+tells-plays pool first lines text replies scene (Goes before line said given reply facts there next so_far whole answers) =
+    subst (λ (ls : List (List ℕ)). Plays pool first ls (given ++ reply) next) (sym (unindented-more before line whole))
+    (plays-more pool first there next (unindented before) given line reply (tells-plays pool first before said given there so_far)
+    answers)
+
+-- what is over in the session is over in the setting
+pub over-in : (setting : Setting) (session : Session) (scene : Scene) (line : List ℕ) → session.core.pool ≡ setting.pool →
+    session.core.limits ≡ setting.limits → IsStopped session line scene Stop.HistoryFull → IsOver setting scene line
+over-in setting session scene line pool limits why = record {
+  client = why.0;
+  call = why.1;
+  binds = why.2;
+  asks = why.3;
+  full =
+      subst (λ (p : ℕ). setting.limits.events ≤ events (timeline p scene.history)) pool
+      (subst (λ (l : Bound). l.events ≤ events (timeline session.core.pool scene.history)) limits why.4);
+}
+
+-- the history that the session shows is legal in the setting
+pub legal-in : (setting : Setting) (session : Session) (scene : Scene) → session.core.pool ≡ setting.pool →
+    session.core.limits ≡ setting.limits → IsAt session scene → IsLegal setting.pool setting.limits scene.history
+legal-in setting session scene pool limits at =
+    subst (λ (l : Bound). IsLegal setting.pool l scene.history) limits
+    (subst (λ (p : ℕ). IsLegal p session.core.limits scene.history) pool at.shows.legal)
+
+module _ (setting : Setting) (old mid : Option (List ℕ)) (pending : List ℕ) (lines : List (List ℕ))
+    (held : IsPending setting old mid pending lines) where
+  -- all of the text was written
+  abbrev pub pending-told : (new : Option (List ℕ)) → Appends mid new pending → IsExplained setting old new lines
+  pending-told new out = record {
+    text = held.text;
+    explains = held.explains;
+    written = subst (Appends old new) (sym held.split) (Appends-trans old mid new held.done pending held.written out);
+  }
+
+  -- a part of the text was written
+  pub pending-cut : (new : Option (List ℕ)) (more : List (List ℕ)) → WritesPart mid new pending → IsCutOff setting old new (lines ++ more)
+  pending-cut new more part = record {
+    before = lines;
+    after = more;
+    split = refl;
+    text = held.text;
+    explains = held.explains;
+    written = record {
+      done = held.done ++ part.done;
+      rest = part.rest;
+      split = held.split ∙ ap (λ back. held.done ++ back) part.split ∙ sym (append_assoc held.done part.done part.rest);
+      written = Appends-trans old mid new held.done part.done held.written part.written;
+    };
+  }
+
+module _ (setting : Setting) (session : Session) (old mid : Option (List ℕ)) (pending : List ℕ) (lines : List (List ℕ))
+    (far : SoFar setting session old mid pending lines) where
+  -- the lines so far are explained
+  abbrev pub far-pending : IsPending setting old mid pending lines
+  far-pending = record {
+    text = far.text;
+    explains = record {
+      replies = far.replies;
+      scene = far.scene;
+      tells = far.tells;
+      leads = record {
+        plays = tells-plays setting.pool first_scene lines far.text far.replies far.scene far.tells;
+        legal = legal-in setting session far.scene far.pool far.limits far.is_at;
+      };
+    };
+    done = far.done;
+    split = far.split;
+    written = far.written;
+  }
+
+  -- an indented line is passed over
+  pub far-pass : (line : List ℕ) → is_indented line ≡ true → SoFar setting session old mid pending (lines ++ line ∷ [])
+  far-pass line skip = record {
+    pool = far.pool;
+    limits = far.limits;
+    text = far.text;
+    replies = far.replies;
+    scene = far.scene;
+    tells = Passes lines line far.text far.replies far.scene far.tells skip;
+    is_at = far.is_at;
+    done = far.done;
+    split = far.split;
+    written = far.written;
+  }
+
+  -- one more line was explained
+  pub far-more : (next : Session) (after line reply facts : List ℕ) → is_indented line ≡ false →
+      ((scene : Scene) → IsAt session scene → Advances session next line reply scene) →
+      after ≡ pending ++ told_line line reply facts → SoFar setting next old mid after (lines ++ line ∷ [])
+  far-more next after line reply facts whole advances grown =
+      let step = advances far.scene far.is_at in
+      record {
+        pool = step.setting.pool ∙ far.pool;
+        limits = step.setting.limits ∙ far.limits;
+        text = far.text ++ told_line line reply facts;
+        replies = far.replies ++ reply;
+        scene = step.next;
+        tells = Goes lines line far.text far.replies reply facts far.scene step.next far.tells whole
+            (subst (λ (pool : ℕ). Answers pool far.scene line reply step.next) far.pool step.answers);
+        is_at = step.is_at;
+        done = far.done;
+        split = ap (λ front. front ++ told_line line reply facts) far.split
+            ∙ append_assoc far.done pending (told_line line reply facts) ∙ ap (λ back. far.done ++ back) (sym grown);
+        written = far.written;
+      }
+
+  -- all of the text was written
+  pub far-written : (new : Option (List ℕ)) (none : List ℕ) → Appends mid new pending → none ≡ [] → SoFar setting session old new none lines
+  far-written new none out empty = record {
+    pool = far.pool;
+    limits = far.limits;
+    text = far.text;
+    replies = far.replies;
+    scene = far.scene;
+    tells = far.tells;
+    is_at = far.is_at;
+    done = far.text;
+    split = sym (ap (λ back. far.text ++ back) empty ∙ append-nil far.text);
+    written = subst (Appends old new) (sym far.split) (Appends-trans old mid new far.done pending far.written out);
+  }
+
+  -- a part of the text was written, and the rest is given up
+  pub far-refused : (new : Option (List ℕ)) (none : List ℕ) (fault : ReportFault) → none ≡ [] →
+      (fault ≡ ReportFault.WriteFault) × WritesPart mid new pending → Halted setting old new none lines fault
+  far-refused new none fault empty refused = subst (Halted setting old new none lines) (sym refused.0) (
+    empty,
+    subst (IsCutOff setting old new) (append-nil lines)
+        (pending-cut setting old mid pending lines far-pending new [] refused.1),
+  )
+
+  -- a line was not explained
+  pub far-stop : (line : List ℕ) (stop : Stop) (number : ℕ) (fault : ReportFault) → is_indented line ≡ false →
+      ((scene : Scene) → IsAt session scene → IsStopped session line scene stop) → IsFaultOf number stop fault →
+      number ≡ length lines + 1 → Halted setting old mid pending (lines ++ line ∷ []) fault
+  far-stop line stop number ReportFault.ReadFault whole why is numbered = absurd is
+  far-stop line stop number ReportFault.TooLong whole why is numbered = absurd is
+  far-stop line stop number ReportFault.WriteFault whole why is numbered = absurd is
+  far-stop line stop number (ReportFault.NoEvent event) whole why is numbered = absurd is
+  far-stop line stop number (ReportFault.BadLine n reason) whole why is numbered = record {
+    before = lines;
+    line = line;
+    after = [];
+    split = refl;
+    whole = whole;
+    so_far = far-pending;
+    why = (subst (IsStopped session line far.scene) is.0 (why far.scene far.is_at), is.1 ∙ numbered);
+  }
+  far-stop line stop number ReportFault.HistoryFull whole why is numbered = record {
+    before = lines;
+    line = line;
+    after = [];
+    split = refl;
+    whole = whole;
+    so_far = far-pending;
+    why = over-in setting session far.scene line far.pool far.limits
+        (subst (IsStopped session line far.scene) is (why far.scene far.is_at));
+  }
+  far-stop line stop number ReportFault.NoMemory whole why is numbered = record {
+    before = lines;
+    after = line ∷ [];
+    split = refl;
+    so_far = far-pending;
+  }
+
+-- no line was explained
+pub far-none : (setting : Setting) (session : Session) (old : Option (List ℕ)) (pending : List ℕ) →
+    session.core.pool ≡ setting.pool → session.core.limits ≡ setting.limits → IsAt session first_scene → pending ≡ [] →
+    SoFar setting session old old pending []
+far-none setting session old pending pool limits at none = record {
+  pool = pool;
+  limits = limits;
+  text = [];
+  replies = [];
+  scene = first_scene;
+  tells = Begins;
+  is_at = at;
+  done = [];
+  split = sym none;
+  written = Appends-nil old;
+}

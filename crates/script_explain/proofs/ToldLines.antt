@@ -1,0 +1,217 @@
+-- The lines of a text that explains lines.
+use Rattle.std.proofs.Common.{◌≡◌, ℕ, ◌+◌, ◌==◌, ◌&&◌, not, if◌then◌else◌, Bool, true, false, List, [], ◌∷◌, ◌++◌, map, drop, append_assoc, append-nil, refl, sym, ap, ◌∙◌, subst}
+use Rattle.std.proofs.lemmas.Grind.{flat_map-append}
+use Rattle.std.proofs.lemmas.List.Elements.{filter-append}
+use Rattle.std.proofs.lemmas.List.Folds.{list_all-append}
+use Rattle.std.specs.Prelude.{codes}
+use Rattle.std.specs.List.{flat_map, list_all}
+use Rattle.script_lines.specs.Pieces.{lines_from, rest_from, whole_lines, last_part}
+use Rattle.script_lines.proofs.Piecing.{lines-append, rest-append}
+use Rattle.script_faults.specs.IndentedLines.{fact_line, indented, is_indented, unindented}
+use Rattle.sm_script.specs.Names.{no_names}
+use Rattle.sm_script.specs.Scenes.{Scene, as_line, first_scene}
+use Rattle.script_explain.specs.Tales.{Tells, Begins, Passes, Goes, indent, replies_in, told_line}
+use Rattle.script_explain.proofs.CleanLabels.{and-left, and-right, inner-append, is_inner}
+use Rattle.script_explain.proofs.CleanScenes.{AreClean, Cleanly, IsReply, NoReply, OneReply, answers-clean}
+use Rattle.script_explain.proofs.Telling.{unindented-more, unindented-skip}
+
+-- the text consists of these whole lines
+record IsWhole (text : List ℕ) (lines : List (List ℕ)) : Type 0 where
+  pub lines_are : whole_lines text ≡ lines
+  pub ends : last_part text ≡ []
+
+whole-nil : IsWhole [] []
+whole-nil = record { lines_are = refl; ends = refl }
+
+not-false : (t : Bool) → not t ≡ true → t ≡ false
+not-false true e = absurd (cc)
+not-false false e = refl
+
+first-line : (front text rest : List ℕ) → is_inner text ≡ true →
+    lines_from front (text ++ 10 ∷ rest) ≡ (front ++ text) ∷ lines_from [] rest
+first-line front [] rest inner = ap (λ line. line ∷ lines_from [] rest) (sym (append-nil front))
+first-line front (x ∷ text) rest inner =
+    let other : (x == 10) ≡ false = not-false (x == 10) (and-left (not (x == 10)) (is_inner text) inner) in
+    rw other (first-line (front ++ x ∷ []) text rest (and-right (not (x == 10)) (is_inner text) inner)
+    ∙ ap (λ line. line ∷ lines_from [] rest) (append_assoc front (x ∷ []) text))
+
+first-rest : (front text rest : List ℕ) → is_inner text ≡ true → rest_from front (text ++ 10 ∷ rest) ≡ rest_from [] rest
+first-rest front [] rest inner = refl
+first-rest front (x ∷ text) rest inner =
+    let other : (x == 10) ≡ false = not-false (x == 10) (and-left (not (x == 10)) (is_inner text) inner) in
+    rw other (first-rest (front ++ x ∷ []) text rest (and-right (not (x == 10)) (is_inner text) inner))
+
+-- a line in front
+whole-line : (text rest : List ℕ) (lines : List (List ℕ)) → is_inner text ≡ true → IsWhole rest lines →
+    IsWhole (text ++ 10 ∷ rest) (text ∷ lines)
+whole-line text rest lines inner whole = record {
+  lines_are = first-line [] text rest inner ∙ ap (λ ls. text ∷ ls) whole.lines_are;
+  ends = first-rest [] text rest inner ∙ whole.ends;
+}
+
+-- whole lines behind whole lines
+whole-append : (a b : List ℕ) (ls ms : List (List ℕ)) → IsWhole a ls → IsWhole b ms → IsWhole (a ++ b) (ls ++ ms)
+whole-append a b ls ms p q = record {
+  lines_are = lines-append [] a b ∙ ap (λ front. whole_lines a ++ lines_from front b) p.ends
+      ∙ ap (λ front. front ++ whole_lines b) p.lines_are ∙ ap (λ back. ls ++ back) q.lines_are;
+  ends = rest-append [] a b ∙ ap (λ front. rest_from front b) p.ends ∙ q.ends;
+}
+
+-- the whole lines of a text are lines
+lines-inner : (front text : List ℕ) → is_inner front ≡ true → list_all is_inner (lines_from front text) ≡ true
+lines-inner front [] inner = refl
+lines-inner front (x ∷ text) inner = by (λ other ok. lines-inner other text ok) (x == 10) refl
+  where
+    by : ((other : List ℕ) → is_inner other ≡ true → list_all is_inner (lines_from other text) ≡ true) →
+        (t : Bool) → (x == 10) ≡ t → list_all is_inner (if t then front ∷ lines_from [] text else lines_from (front ++ x ∷ []) text) ≡ true
+    by rest true is = rw inner (rest [] refl)
+    by rest false is =
+        let one : is_inner (x ∷ []) ≡ true = rw is refl in
+        rest (front ++ x ∷ []) (inner-append front (x ∷ []) inner one)
+
+-- a fact, as a line
+abbrev shown : List ℕ → List ℕ
+shown line = codes "    " ++ line
+
+whole-facts : (lines : List (List ℕ)) → list_all is_inner lines ≡ true → IsWhole (flat_map fact_line lines) (map shown lines)
+whole-facts [] inner = whole-nil
+whole-facts (line ∷ lines) inner =
+    let here : is_inner (shown line) ≡ true = and-left (is_inner line) (list_all is_inner lines) inner in
+    let rest = whole-facts lines (and-right (is_inner line) (list_all is_inner lines) inner) in
+    subst (λ text. IsWhole text (map shown (line ∷ lines)))
+    (sym (append_assoc (shown line) (10 ∷ []) (flat_map fact_line lines)))
+    (whole-line (shown line) (flat_map fact_line lines) (map shown lines) here rest)
+
+-- what stands before a reply
+indent-some : (text : List ℕ) → indent (as_line text) ≡ codes "  "
+indent-some [] = refl
+indent-some (x ∷ text) = refl
+
+-- the lines that an explanation of a line has behind it
+data Behind : List ℕ → List (List ℕ) → Type 0 where
+  NothingBehind : Behind [] []
+  ReplyBehind : (text : List ℕ) → is_indented text ≡ false → Behind (as_line text) ((codes "  " ++ text) ∷ [])
+
+-- the lines of a told line
+record IsToldIn (line reply facts : List ℕ) (text : List ℕ) : Type 0 where
+  pub replies : List (List ℕ)
+  pub behind : Behind reply replies
+  pub whole : IsWhole text (line ∷ (replies ++ map shown (whole_lines facts)))
+
+whole-told : (line reply facts : List ℕ) → is_inner line ≡ true → IsReply reply → IsToldIn line reply facts (told_line line reply facts)
+whole-told line reply facts inner NoReply = record {
+  replies = [];
+  behind = NothingBehind;
+  whole = subst (λ text. IsWhole text (line ∷ map shown (whole_lines facts)))
+      (sym (ap (λ front. (front ++ []) ++ indented facts) (append-nil (line ++ codes "\n"))
+      ∙ ap (λ front. front ++ indented facts) (append-nil (line ++ codes "\n")) ∙ append_assoc line (codes "\n") (indented facts)))
+      (whole-line line (indented facts) (map shown (whole_lines facts)) inner
+      (whole-facts (whole_lines facts) (lines-inner [] facts refl)));
+}
+whole-told line reply facts inner (OneReply text plain) = record {
+  replies = (codes "  " ++ text) ∷ [];
+  behind = ReplyBehind text plain.whole;
+  whole = subst (λ told. IsWhole told (line ∷ ((codes "  " ++ text) ∷ map shown (whole_lines facts))))
+      (sym (ap (λ spaces. (((line ++ codes "\n") ++ spaces) ++ as_line text) ++ indented facts) (indent-some text)
+      ∙ append_assoc ((line ++ codes "\n") ++ codes "  ") (as_line text) (indented facts)
+      ∙ append_assoc (line ++ codes "\n") (codes "  ") (as_line text ++ indented facts)
+      ∙ append_assoc line (codes "\n") (codes "  " ++ (as_line text ++ indented facts))
+      ∙ ap (λ back. line ++ 10 ∷ (codes "  " ++ back)) (append_assoc text (10 ∷ []) (indented facts))))
+      (whole-line line (codes "  " ++ (text ++ 10 ∷ indented facts)) ((codes "  " ++ text) ∷ map shown (whole_lines facts)) inner
+      (whole-line (codes "  " ++ text) (indented facts) (map shown (whole_lines facts)) plain.inner
+      (whole-facts (whole_lines facts) (lines-inner [] facts refl))));
+}
+
+-- facts are no lines of a script
+facts-indented : (lines : List (List ℕ)) → unindented (map shown lines) ≡ []
+facts-indented [] = refl
+facts-indented (line ∷ lines) = facts-indented lines
+
+-- facts are no replies
+facts-silent : (lines : List (List ℕ)) → replies_in (map shown lines) ≡ []
+facts-silent [] = refl
+facts-silent (line ∷ lines) = facts-silent lines
+
+behind-indented : (reply : List ℕ) (lines : List (List ℕ)) → Behind reply lines → unindented lines ≡ []
+behind-indented reply lines NothingBehind = refl
+behind-indented reply lines (ReplyBehind text whole) = refl
+
+behind-replies : (reply : List ℕ) (lines : List (List ℕ)) → Behind reply lines → replies_in lines ≡ reply
+behind-replies reply lines NothingBehind = refl
+behind-replies reply lines (ReplyBehind text whole) = rw whole (append-nil (as_line text))
+
+-- what an explanation of lines has
+record Has (lines : List (List ℕ)) (text replies : List ℕ) (scene : Scene) : Type 0 where
+  pub all : List (List ℕ)
+  pub whole : IsWhole text all
+  pub script : unindented all ≡ unindented lines
+  pub answers : replies_in all ≡ replies
+  pub clean : AreClean scene.names
+
+replies-append : (a b : List (List ℕ)) → replies_in (a ++ b) ≡ replies_in a ++ replies_in b
+replies-append a b =
+    flat_map-append (λ line. if is_indented line && not (is_indented (drop 2 line)) then as_line (drop 2 line) else []) a b
+
+told-has : (pool : ℕ) (lines : List (List ℕ)) (text replies : List ℕ) (scene : Scene) → Tells pool first_scene lines text replies scene →
+    list_all is_inner lines ≡ true → Has lines text replies scene
+told-has pool lines text replies scene Begins inner =
+    record { all = []; whole = whole-nil; script = refl; answers = refl; clean = record { nodes = refl; trackers = refl } }
+told-has pool lines text replies scene (Passes before line said given there so_far skip) inner =
+    let both : (list_all is_inner before && list_all is_inner (line ∷ [])) ≡ true = sym (list_all-append is_inner before (line ∷ [])) ∙ inner in
+    let rest = told-has pool before said given there so_far (and-left (list_all is_inner before) (list_all is_inner (line ∷ [])) both) in
+    record {
+      all = rest.all;
+      whole = rest.whole;
+      script = rest.script ∙ sym (unindented-skip before line skip);
+      answers = rest.answers;
+      clean = rest.clean;
+    }
+told-has pool lines text replies scene (Goes before line said given reply facts there next so_far bare answers) inner =
+    let both : (list_all is_inner before && list_all is_inner (line ∷ [])) ≡ true = sym (list_all-append is_inner before (line ∷ [])) ∙ inner in
+    let rest = told-has pool before said given there so_far (and-left (list_all is_inner before) (list_all is_inner (line ∷ [])) both) in
+    let last : is_inner line ≡ true = and-left (is_inner line) true
+    (and-right (list_all is_inner before) (list_all is_inner (line ∷ [])) both) in
+    let cleanly = answers-clean pool there rest.clean line reply next answers in
+    let told = whole-told line reply facts last cleanly.reply in
+    let shown_facts : List (List ℕ) = map shown (whole_lines facts) in
+    let behind : List (List ℕ) = told.replies ++ shown_facts in
+    let bare_behind : unindented behind ≡ [] =
+    filter-append (λ l. not (is_indented l)) told.replies shown_facts
+    ∙ ap (λ front. front ++ unindented shown_facts) (behind-indented reply told.replies told.behind)
+    ∙ facts-indented (whole_lines facts) in
+    let replies_behind : replies_in behind ≡ reply =
+    replies-append told.replies shown_facts
+    ∙ ap (λ front. front ++ replies_in shown_facts) (behind-replies reply told.replies told.behind)
+    ∙ ap (λ back. reply ++ back) (facts-silent (whole_lines facts)) ∙ append-nil reply in
+    let one_line : unindented (line ∷ behind) ≡ line ∷ [] = rw bare (ap (λ ls. line ∷ ls) bare_behind) in
+    let one_reply : replies_in (line ∷ behind) ≡ reply = rw bare replies_behind in
+    record {
+      all = rest.all ++ line ∷ behind;
+      whole = whole-append said (told_line line reply facts) rest.all (line ∷ behind) rest.whole told.whole;
+      script = filter-append (λ l. not (is_indented l)) rest.all (line ∷ behind)
+          ∙ ap (λ front. front ++ unindented (line ∷ behind)) rest.script
+          ∙ ap (λ back. unindented before ++ back) one_line
+          ∙ sym (unindented-more before line bare);
+      answers = replies-append rest.all (line ∷ behind)
+          ∙ ap (λ front. front ++ replies_in (line ∷ behind)) rest.answers
+          ∙ ap (λ back. given ++ back) one_reply;
+      clean = cleanly.clean;
+    }
+
+-- the lines of the script are those that are not indented, and the replies those that are indented by two spaces
+pub script-told : (pool : ℕ) (script text replies : List ℕ) (scene : Scene) →
+    Tells pool first_scene (whole_lines script) text replies scene → unindented (whole_lines text) ≡ unindented (whole_lines script)
+script-told pool script text replies scene tells =
+    let has = told-has pool (whole_lines script) text replies scene tells (lines-inner [] script refl) in
+    ap unindented has.whole.lines_are ∙ has.script
+
+pub replies-told : (pool : ℕ) (script text replies : List ℕ) (scene : Scene) →
+    Tells pool first_scene (whole_lines script) text replies scene → replies_in (whole_lines text) ≡ replies
+replies-told pool script text replies scene tells =
+    let has = told-has pool (whole_lines script) text replies scene tells (lines-inner [] script refl) in
+    ap replies_in has.whole.lines_are ∙ has.answers
+
+pub text-whole : (pool : ℕ) (script text replies : List ℕ) (scene : Scene) →
+    Tells pool first_scene (whole_lines script) text replies scene → last_part text ≡ []
+text-whole pool script text replies scene tells =
+    (told-has pool (whole_lines script) text replies scene tells (lines-inner [] script refl)).whole.ends

@@ -1,0 +1,31 @@
+use Rattle.std.proofs.Common.{[]}
+use Rattle.std.proofs.lemmas.Result.{on_ok_weaker, IfErr-weaker}
+use Rattle.script_explain.specs.Progress.{LinesHalted}
+use Rattle.script_explain.proofs.Outcomes.{told-cut, told-out}
+use Rattle.script_explain.proofs.explain.explain_all.Goals as goal
+
+pub returns-in-Ok : goal.returns-in-Ok
+returns-in-Ok g c = λ setting start.
+    let before = g.W.Write.contents c.args.writer.now in
+    let mid = g.W.Write.contents c.explain_lines-told.new.writer in
+    let pending = c.explain_lines-told.new.explainer.text.items in
+    told-out setting before mid (g.W.Write.contents c.put_out.new.writer) pending c.args.script.now
+    c.explain_lines-told.new.explainer.teller.session c.explain_lines-told.result
+    (on_ok_weaker c.explain_lines-told.result (λ explained. explained setting before [] start) c.explain_lines-told.ensures.ok)
+    c.explain_lines-told.ensures.whole
+    (IfErr-weaker c.explain_lines-told.result _ (LinesHalted setting before mid pending c.args.script.now)
+    (λ fault halted. halted setting before start) c.explain_lines-told.ensures.err)
+    (rw c.deref.ensures.value at c.in-Ok.ensures.ok)
+
+pub returns-in-Err : goal.returns-in-Err
+returns-in-Err g c = λ setting start.
+    let before = g.W.Write.contents c.args.writer.now in
+    let mid = g.W.Write.contents c.explain_lines-told.new.writer in
+    let pending = c.explain_lines-told.new.explainer.text.items in
+    rw c.in-Err.ensures.err.0 (told-cut setting before mid (g.W.Write.contents c.put_out.new.writer) pending c.args.script.now
+    c.explain_lines-told.new.explainer.teller.session c.explain_lines-told.result
+    (on_ok_weaker c.explain_lines-told.result (λ explained. explained setting before [] start) c.explain_lines-told.ensures.ok)
+    c.explain_lines-told.ensures.whole
+    (IfErr-weaker c.explain_lines-told.result _ (LinesHalted setting before mid pending c.args.script.now)
+    (λ fault halted. halted setting before start) c.explain_lines-told.ensures.err)
+    (rw c.deref.ensures.value at c.in-Err.ensures.err.1))

@@ -1,0 +1,108 @@
+-- What an explanation of a script leaves.
+use Rattle.std.specs.Prelude.{◌≡◌, ◌≢◌, ◌⊎◌, ℕ, ◌+◌, ◌<◌, ◌≤◌, false, List, [], ◌∷◌, ◌++◌, length, None, Ok, Err, Option, Result, MatchResult}
+use Rattle.std.specs.Io.KnownBytes.{Appends, Consumes, IsAtEnd, Keeps}
+use Rattle.script_lines.specs.declared.TheConstants.{MOST_BYTES}
+use Rattle.script_lines.specs.Pieces.{whole_lines, last_part}
+use Rattle.script_lines.specs.Written.{WritesPart}
+use Rattle.script_faults.specs.declared.fault.ReportFault.{ReportFault}
+use Rattle.script_faults.specs.Faults.{fault_status}
+use Rattle.script_faults.specs.IndentedLines.{is_indented, unindented}
+use Rattle.sm_script.specs.Names.{act_in}
+use Rattle.sm_script.specs.Runs.{IsOver}
+use Rattle.sm_script.specs.Scenes.{LeadsTo, Scene, Setting, first_scene}
+use Rattle.script_explain.specs.Tales.{Tells}
+
+-- the text explains these lines: their replies are those of a legal history whose calls are those of the lines that are not
+-- indented
+pub record Explanation (setting : Setting) (lines : List (List ℕ)) (text : List ℕ) : Type 0 where
+  pub replies : List ℕ
+  pub scene : Scene
+  pub tells : Tells setting.pool first_scene lines text replies scene
+  pub leads : LeadsTo setting (unindented lines) replies scene
+
+-- what was written explains exactly these lines
+pub record IsExplained (setting : Setting) (old new : Option (List ℕ)) (lines : List (List ℕ)) : Type 0 where
+  pub text : List ℕ
+  pub explains : Explanation setting lines text
+  pub written : Appends old new text
+
+-- what was written is a first part of what explains some first lines
+pub record IsCutOff (setting : Setting) (old new : Option (List ℕ)) (lines : List (List ℕ)) : Type 0 where
+  pub before : List (List ℕ)
+  pub after : List (List ℕ)
+  pub split : lines ≡ before ++ after
+  pub text : List ℕ
+  pub explains : Explanation setting before text
+  pub written : WritesPart old new text
+
+-- why the line of this number was not explained
+abbrev pub IsWhy : Setting → Scene → List ℕ → ℕ → ReportFault → Type 0
+IsWhy setting scene line number (ReportFault.BadLine n reason) = (act_in scene.names line ≡ None) × (n ≡ number)
+IsWhy setting scene line number ReportFault.HistoryFull = IsOver setting scene line
+IsWhy setting scene line number _ = ⊥
+
+-- a line was not explained, and what was written explains exactly the lines before it
+pub record IsUnexplained (setting : Setting) (old new : Option (List ℕ)) (lines : List (List ℕ)) (fault : ReportFault) : Type 0 where
+  pub before : List (List ℕ)
+  pub line : List ℕ
+  pub after : List (List ℕ)
+  pub split : lines ≡ before ++ line ∷ after
+  pub whole : is_indented line ≡ false
+  pub told : IsExplained setting old new before
+  pub why : IsWhy setting told.explains.scene line (length before + 1) fault
+
+-- the last line has no end, and all others were explained
+pub record IsUnended (setting : Setting) (old new : Option (List ℕ)) (script : List ℕ) (number : ℕ) : Type 0 where
+  pub unended : last_part script ≢ []
+  pub numbered : number ≡ length (whole_lines script) + 1
+  pub told : IsExplained setting old new (whole_lines script)
+
+-- memory was refused, and what was written explains exactly some first lines
+pub record IsRefused (setting : Setting) (old new : Option (List ℕ)) (lines : List (List ℕ)) : Type 0 where
+  pub before : List (List ℕ)
+  pub after : List (List ℕ)
+  pub split : lines ≡ before ++ after
+  pub told : IsExplained setting old new before
+
+-- why an explanation of a script that was read stopped
+abbrev pub LinesStop : Setting → Option (List ℕ) → Option (List ℕ) → List ℕ → ReportFault → Type 0
+LinesStop setting old new script ReportFault.WriteFault = IsCutOff setting old new (whole_lines script)
+LinesStop setting old new script (ReportFault.BadLine n reason) =
+    IsUnexplained setting old new (whole_lines script) (ReportFault.BadLine n reason) ⊎ IsUnended setting old new script n
+LinesStop setting old new script ReportFault.HistoryFull =
+    IsUnexplained setting old new (whole_lines script) ReportFault.HistoryFull
+LinesStop setting old new script ReportFault.NoMemory = IsRefused setting old new (whole_lines script)
+LinesStop setting old new script _ = ⊥
+
+-- what came of explaining a script that was read: without a fault what was written explains all lines
+abbrev pub LinesTold : Setting → Option (List ℕ) → Option (List ℕ) → List ℕ → Result (Unit {0}) ReportFault → Type 0
+LinesTold setting old new script result = MatchResult result
+    (λ _. (last_part script ≡ []) × IsExplained setting old new (whole_lines script))
+    (LinesStop setting old new script)
+
+-- why an explanation stopped, where these bytes were read: no line is explained before all are read
+abbrev pub ExplanationStops : Setting → Option (List ℕ) → Option (List ℕ) → Option (List ℕ) → List ℕ → ReportFault → Type 0
+ExplanationStops setting left old new script ReportFault.ReadFault = (length script ≤ MOST_BYTES) × Keeps old new
+ExplanationStops setting left old new script ReportFault.TooLong = (MOST_BYTES < length script) × Keeps old new
+ExplanationStops setting left old new script ReportFault.NoMemory =
+    LinesStop setting old new script ReportFault.NoMemory
+ExplanationStops setting left old new script fault = IsAtEnd left × LinesStop setting old new script fault
+
+-- these bytes were read, and their lines were explained. Without a fault they are all that there is
+pub record Explains (setting : Setting) (left_before left old new : Option (List ℕ)) (result : Result (Unit {0}) ReportFault) : Type 0 where
+  pub script : List ℕ
+  pub taken : Consumes left_before left script
+  pub outcome : MatchResult result
+      (λ _. IsAtEnd left × (length script ≤ MOST_BYTES) × (last_part script ≡ []) × IsExplained setting old new (whole_lines script))
+      (ExplanationStops setting left old new script)
+
+-- the status that the program ends with: 0 where all of the script was explained
+abbrev pub explaining_status : Result (Unit {0}) ReportFault → ℕ
+explaining_status (Ok done) = 0
+explaining_status (Err fault) = fault_status fault
+
+-- a script was explained, with this outcome, whose status is told
+pub record EndsExplained (setting : Setting) (left_before left old new : Option (List ℕ)) (status : ℕ) : Type 0 where
+  pub outcome : Result (Unit {0}) ReportFault
+  pub explains : Explains setting left_before left old new outcome
+  pub status_is : status ≡ explaining_status outcome
