@@ -22,4 +22,6 @@ pub use script_lines::MOST_BYTES;
 pub use session::Session;
 pub use stop::Stop;
 pub use tables::Tables;
-pub use texts::{push_buffer, push_cause, push_firing, push_held, push_node, strength_name};
+pub use texts::{
+    push_buffer, push_cause, push_firing, push_held, push_node, push_reply, strength_name,
+};

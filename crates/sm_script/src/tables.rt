@@ -26,8 +26,8 @@ pub struct Tables {
 }
 
 impl Tables {
-    // No label stands for anything.
-    pub(crate) fn new(alloc: Global, labels: LabelHash) -> Tables
+    /// No label stands for anything. Takes a constant time.
+    pub fn new(alloc: Global, labels: LabelHash) -> Tables
         ensures { Keeps result no_names }
     {
         Tables {
@@ -136,8 +136,11 @@ impl Tables {
         Ok(())
     }
 
-    // Binds what the reply made, or told of for the first time.
-    pub(crate) fn bind(&mut self, binds: Binds, reply: Reply) -> Result<(), AllocError>
+    /// Binds what the reply made, or told of for the first time.
+    ///
+    /// `AllocError` where memory is refused: then some of this may be left out. Takes a look into a table
+    /// for each label.
+    pub fn bind(&mut self, binds: Binds, reply: Reply) -> Result<(), AllocError>
         ensures { OnOk result ((names : Names) → Keeps self.old names →
             Keeps self.new (names_after names binds reply)) }
     {

@@ -81,8 +81,10 @@ pub fn push_cause(text: &mut Vec<u8>, cause: Cause) -> Result<(), AllocError>
     }
 }
 
-// Puts the reply to a call that was to bind this behind it.
-pub(crate) fn push_reply(
+/// Puts the reply to a call that was to bind this behind what is there, without the end of its line; a part
+/// of it where memory is refused. Takes a time in proportion to the text, and a look into a table for each
+/// label.
+pub fn push_reply(
     text: &mut Vec<u8>,
     tables: &Tables,
     binds: Binds,
