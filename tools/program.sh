@@ -94,6 +94,12 @@ two='a join\nb join\na open r\nb open s\na bind r\nb bind s\na constrain r 1 0 4
 try 0 'events 16\na events 7 strong 0 weak 0\nb events 7 strong 0 weak 0\ngather ok\n' '' "$two" threads
 try 0 'events 4\na events 3 strong 0 weak 0\ngather ok\n' '' 'a join\na open r\na close r\na sync r\na open r\n' threads
 try 0 'events 5\na events 4 strong 0 weak 0\ngather ok\n' '' 'a join\na open r\na bind r\n' threads --pages 1
+told='a join\n  joined\na open n2\n  token n2\na close n2\n  done\na shut\n  shut 0\n'
+report='# events 4\n# a events 3 strong 0 weak 0\n# gather ok\n'
+try 0 "$told$report" '' 'a join\na open r\na close r\na sync r\na open r\n' threads --record
+try 3 '' 'bad line 2' 'a join\nshow live\n' threads --record
+try 2 '' '*' 'a join\n' threads --record --record
+try 2 '' '*' 'a join\n' run --record
 try 3 '' 'bad line 1' '' threads
 try 3 '' 'bad line 1' 'a open r\n' threads
 try 3 '' 'bad line 2' 'a join\nshow live\n' threads
@@ -260,6 +266,55 @@ all_is_gathered() {
 }
 count is_reported
 for _ in 1 2 3 4 5 6 7 8 9 10; do count all_is_gathered; done
+
+# The record of one actor is known. Of actors that never meet it is known but for its order: each one's entries, without
+# the numbers of its nodes and trackers. It ends in the report, each line behind `# `.
+is_recorded() {
+  "$program" threads --record <examples/alone.actors 2>"$room/told" | cmp -s - examples/alone.record && hears ''
+}
+parts_are_recorded() {
+  "$program" threads --record <examples/apart.actors >"$room/record" 2>"$room/told" && hears '' &&
+    for actor in camera encoder display; do grep -A 1 --no-group-separator "^$actor " "$room/record"; done |
+    sed -E 's/\b([nt])[0-9]+\b/\1/g' | cmp -s - examples/apart.record &&
+    sed -n 's/^# //p' "$room/record" | cmp -s - examples/apart.out
+}
+# Its lines are good and its replies are the machine's, one for each event.
+agrees() {
+  "$program" check --pages 64 "$room/record" >"$room/out" 2>"$room/told" && hears '' &&
+    [ "$(cat "$room/out")" = "agrees: $(wc -l <"$room/lines") lines, $(sed -n 's/^# events //p' "$room/record") replies" ]
+}
+record_agrees() {
+  "$program" threads --pages 64 --record <"$1" >"$room/record" 2>"$room/told" && hears '' &&
+    grep -v '^  ' "$room/record" >"$room/lines" && agrees
+}
+count is_recorded
+count parts_are_recorded
+for script in examples/*.actors; do count record_agrees "$script"; done
+
+# Actors that share a tree wait for each other: in nearly every run two of them take buffers.
+takers=0
+for _ in 1 2 3 4 5 6 7 8 9 10; do
+  count record_agrees examples/shared.actors
+  [ "$(grep -B 1 '^  taken ' "$room/record" | grep -o '^[a-z]* take ' | sort -u | wc -l)" -ge 2 ] && takers=$((takers + 1))
+done
+count test "$takers" -ge 8
+
+# A crowd: 64 actors open trees, give children and handles to the next one, and use what comes, 50 times.
+awk 'BEGIN {
+  for (actor = 0; actor < 64; actor++) print "c" actor " join"
+  count = split("open r#;dup r# k#;give k# c%;bind r#;constrain r# 1 0 4096;take r#;duph r#.0 strong;" \
+    "giveh r#.0 strong c%;collect m#;bind m#;constrain m# 0 0 1;take m#;tracknode r# t#;collect n#;collect o#;" \
+    "droph r#.0 strong;close m#;release r#;check r#", steps, ";")
+  for (round = 0; round < 50; round++)
+    for (actor = 0; actor < 64; actor++)
+      for (i = 1; i <= count; i++) {
+        step = steps[i]
+        gsub(/#/, round, step)
+        gsub(/%/, (actor + 1) % 64, step)
+        print "c" actor " " step
+      }
+}' >"$room/crowd"
+count record_agrees "$room/crowd"
 
 # Version and help.
 try 0 'sysmem 0.1.0\n' '' '' --version

@@ -61,6 +61,7 @@ try_program() {
       add_case "camera_$event" examples/camera.script "draw --at $event" "examples/camera.$event.txt"
     done
     add_case apart examples/apart.actors threads examples/apart.out
+    add_case alone examples/alone.actors 'threads --record' examples/alone.record
     add_case shared examples/shared.actors threads
   fi
   (cd "$crate" && rt try --cases "$room/$item.cases")

@@ -11,6 +11,7 @@ _sysmem() {
   elif [ "${word:0:1}" = - ]; then
     local options='--pages --help'
     [ "$command" = draw ] && options+=' --format --at'
+    [ "$command" = threads ] && options+=' --record'
     mapfile -t COMPREPLY < <(compgen -W "$options" -- "$word")
   elif [[ $command = explain || $command = draw || $command = check ]]; then
     mapfile -t COMPREPLY < <(compgen -f -- "$word")

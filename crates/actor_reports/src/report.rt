@@ -8,31 +8,39 @@ use std::alloc::AllocError;
 
 /// Puts behind the text how many events there were, then for each client, in this order, how many
 /// it made after its join, and how many handles of each strength it has open, and at last that all
-/// was gathered. Each of these is a line with its end. Where there are more labels than clients, or
-/// more clients than labels, those behind are left out.
+/// was gathered. Each of these is a line with its end, and begins with `front`. Where there are more
+/// labels than clients, or more clients than labels, those behind are left out.
 ///
 /// Where memory is refused a part may stand behind the text. Takes a time in proportion to what is
 /// put there.
 pub fn push_report(
     text: &mut Vec<u8>,
+    front: &str,
     labels: &[Label],
     events: u64,
     lines: &[ClientLine],
 ) -> Result<(), AllocError>
     ensures { OnOk result (text.new.items
-        ≡ text.old.items ++ report_text labels.now events lines.now) }
+        ≡ text.old.items ++ report_text front.now labels.now events lines.now) }
 {
+    push(text, front)?;
     push(text, "events ")?;
     push_number(text, events)?;
     push(text, "\n")?;
-    push_lines(text, labels, lines)?;
+    push_lines(text, front, labels, lines)?;
+    push(text, front)?;
     push(text, "gather ok\n")
 }
 
 // Puts a line for each client behind the text.
-fn push_lines(text: &mut Vec<u8>, labels: &[Label], lines: &[ClientLine]) -> Result<(), AllocError>
+fn push_lines(
+    text: &mut Vec<u8>,
+    front: &str,
+    labels: &[Label],
+    lines: &[ClientLine],
+) -> Result<(), AllocError>
     ensures { OnOk result (text.new.items
-        ≡ text.old.items ++ lines_text labels.now lines.now) }
+        ≡ text.old.items ++ lines_text front.now labels.now lines.now) }
 {
     let mut labels = labels;
     let mut lines = lines;
@@ -40,7 +48,7 @@ fn push_lines(text: &mut Vec<u8>, labels: &[Label], lines: &[ClientLine]) -> Res
         labels.split_first(),
         lines.split_first(),
     ) {
-        push_line(text, *label, *line)?;
+        push_line(text, front, *label, *line)?;
         labels = more;
         lines = others;
     }
@@ -48,9 +56,16 @@ fn push_lines(text: &mut Vec<u8>, labels: &[Label], lines: &[ClientLine]) -> Res
 }
 
 // Puts the line of a client behind the text.
-fn push_line(text: &mut Vec<u8>, label: Label, line: ClientLine) -> Result<(), AllocError>
-    ensures { OnOk result (text.new.items ≡ text.old.items ++ client_line_text label line) }
+fn push_line(
+    text: &mut Vec<u8>,
+    front: &str,
+    label: Label,
+    line: ClientLine,
+) -> Result<(), AllocError>
+    ensures { OnOk result (text.new.items
+        ≡ text.old.items ++ client_line_text front.now label line) }
 {
+    push(text, front)?;
     push_label(text, Some(label))?;
     push(text, " events ")?;
     push_number(text, line.events)?;

@@ -20,8 +20,8 @@ use std::io::Read;
 use std::process::ExitCode;
 use std::random::RandomSource;
 use std::{env, fs, io};
-use thread_runs::run_threads_to_exit;
-use words::{Task, asks_for_threads, command, file_of, pages_of, task_of};
+use thread_runs::{Job, run_threads_to_exit};
+use words::{Task, asks_for_threads, command, file_of, output_of, pages_of, task_of};
 
 // The status of what clap says of the words.
 fn status_of(kind: ErrorKind) -> u8
@@ -105,7 +105,10 @@ fn main(rt: HostRuntime) -> ExitCode {
             &mut rt.reader(),
             &mut io::writer(&rt),
             &mut io::writer(&rt.stderr()),
-            pages,
+            Job {
+                pages,
+                output: output_of(&matches),
+            },
         );
     }
     match file_of(&matches) {

@@ -7,6 +7,7 @@ use clap::{Arg, ArgAction, ArgMatches, Command, value_parser};
 use script_draw::{Format, View};
 use script_lines::Pages;
 use std::alloc::{AllocError, Global};
+use thread_runs::Output;
 
 const ABOUT: &str = "\
 Answers scripts of clients that share buffers: who has failed, whom a failure
@@ -116,6 +117,18 @@ drops its handles. Then all is gathered, and the report tells how many events
 there were, and for each actor how many it made after its join and how many
 handles of each strength it has open.
 
+With --record all that happened is written before it, in the order in which it
+did, as a transcript: each call with its reply. The lines of the report then
+begin with #, and a node is called n and the number of the event of its birth:
+
+    a open n3
+      token n3
+    b open n4
+      token n4
+
+So `sysmem threads --record < x.actors | sysmem explain` tells what came of it,
+where --pages is the same.
+
 Status: 0 the report was written; 1 read or write fault; 2 the command line was
 refused; 3 a bad line: a show, a join behind a step or of a client that joined,
 a step of one that did not or for one, or no client at all; 4 no memory, no
@@ -132,6 +145,17 @@ fn pages_word<'a>(alloc: Global) -> Arg<'a> {
         .default_value("16")
         .help("How many pages of 4096 bytes the pool has, from 1 to 1048576")
 }
+
+// The option `--record`.
+fn record_word<'a>(alloc: Global) -> Arg<'a> {
+    Arg::new(alloc, RECORD)
+        .long(RECORD)
+        .action(ArgAction::SetTrue)
+        .help("Writes all events as a transcript, and the report behind # below it")
+}
+
+// The name of the option `--record`.
+const RECORD: &str = "record";
 
 // The commands behind the first.
 const THREADS: &str = "threads";
@@ -288,7 +312,8 @@ pub fn command<'a>(alloc: Global) -> Result<Command<'a>, AllocError> {
         .about(THREADS_ABOUT)
         .long_about(LINES)
         .after_help(THREADS_HELP)
-        .arg(pages_word(alloc))?;
+        .arg(pages_word(alloc))?
+        .arg(record_word(alloc))?;
     Command::new(alloc, "sysmem")
         .bin_name("sysmem")?
         .version(VERSION)
@@ -320,6 +345,15 @@ pub fn asks_for_threads(matches: &ArgMatches<'_>) -> bool
     match matches.subcommand_name() {
         Some(name) => name == THREADS,
         None => false,
+    }
+}
+
+/// What a run of actors is to write: the record too where the subcommand's `--record` was given. Takes a
+/// constant time.
+pub fn output_of(matches: &ArgMatches<'_>) -> Output {
+    match matches.subcommand() {
+        Some((_, inner)) if inner.get_flag(RECORD) => Output::Transcript,
+        _ => Output::Report,
     }
 }
 

@@ -1,4 +1,4 @@
--- Why a run of actors has no report.
+-- Why nothing is told of a run of actors.
 use Rattle.std.proofs.Common.{ℕ, List, Option, refl}
 use Rattle.sm_names.specs.Bounds.{Bound}
 use Rattle.client_parting.specs.declared.fault.GatherFault.{GatherFault}
@@ -6,10 +6,11 @@ use Rattle.actor_scripts.specs.declared.actor_list.ActorList.{ActorList}
 use Rattle.actor_scripts.specs.ActorLists.{actors_of}
 use Rattle.actor_scripts.specs.Reads.{ReadsActors as IsReadAs}
 use Rattle.thread_runs.specs.declared.fault.ThreadsFault.{ThreadsFault}
+use Rattle.thread_runs.specs.declared.job.Output.{Output}
 use Rattle.thread_runs.specs.Gathered.{IsLate}
 use Rattle.thread_runs.specs.Runs.{HasNoReport, IsRead, RunFails}
 
-module _ (pages : ℕ) (limits : Bound) (before after old : Option (List ℕ)) where
+module _ (output : Output) (pages : ℕ) (limits : Bound) (before after old : Option (List ℕ)) where
   module _ (cast : ActorList) (so : IsReadAs before after cast) where
     pub read-as : IsRead before after (actors_of cast)
     read-as = record { script = so.script; whole = so.whole; is_cast = so.is_list }
@@ -17,8 +18,8 @@ module _ (pages : ℕ) (limits : Bound) (before after old : Option (List ℕ)) w
     none : HasNoReport before after old old
     none = record { company = actors_of cast; read = read-as; silent = refl }
 
-    -- the actors have no report
-    pub fails-late : (told : ThreadsFault) → IsLate told → RunFails pages limits before after old old told
+    -- nothing is told of the actors
+    pub fails-late : (told : ThreadsFault) → IsLate told → RunFails output pages limits before after old old told
     fails-late ThreadsFault.ReadFault late = absurd late
     fails-late ThreadsFault.WriteFault late = absurd late
     fails-late (ThreadsFault.BadLine number) late = absurd late

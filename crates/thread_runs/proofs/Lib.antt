@@ -1,4 +1,3 @@
 pub mod EndLaws
-pub mod Ending
 pub mod Failing
 pub mod ReportLaws

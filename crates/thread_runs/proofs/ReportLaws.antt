@@ -1,6 +1,5 @@
--- What was gathered of actors that all vanished is their report.
+-- What was gathered of actors that all vanished is what is told of them.
 use Rattle.std.proofs.Common.{◌≡◌, ℕ, List, [], ◌∷◌, None, refl, sym, ap, ◌∙◌, subst, map, length}
-use Rattle.std.specs.Prelude.{Ok, Err, Result, IfOk, OnOk}
 use Rattle.std.specs.List.{AllZip, AllByRecursion}
 use Rattle.std.proofs.lemmas.List.Elements.{recursion_from_All}
 use Rattle.sm_names.specs.Bounds.{Bound}
@@ -17,13 +16,13 @@ use Rattle.client_parting.specs.Partings.{Remains}
 use Rattle.actor_scripts.specs.declared.step.ActorScript.{ActorScript}
 use Rattle.actor_scripts.specs.declared.actor_list.ActorList.{ActorList}
 use Rattle.actor_scripts.specs.ActorLists.{actors_of, steps_of}
-use Rattle.actor_reports.specs.Reports.{report_text}
 use Rattle.script_lines.specs.declared.label.Label.{Label}
 use Rattle.client_actors.specs.declared.gate.ActorEnd.{ActorEnd}
 use Rattle.client_actors.specs.Acting.{HasFinished}
 use Rattle.client_actors.specs.Running.{HaveRun, IsEndOf, end_id}
 use Rattle.thread_runs.specs.Gathered.{IsLeft, Tells, client_of, first_fault}
-use Rattle.thread_runs.specs.Runs.{IsPlayed, IsReport}
+use Rattle.thread_runs.specs.declared.job.Output.{Output}
+use Rattle.thread_runs.specs.Runs.{IsPlayed, IsTold, told_text}
 use Rattle.thread_runs.proofs.EndLaws.{ids-left}
 
 -- each line is that of its client
@@ -44,28 +43,16 @@ was-played history clients script wreck remains played is own = record {
 
 module _ {E S W : Type 0} where
   -- what was gathered is told
-  pub tells : (pages : ℕ) (limits : Bound) (s : View) (labels : List Label) (parts : List (Holding E S W)) (report : Report) (text : List ℕ) →
-      IsSetUpWith pages limits s.pool s.limits → IsGatherReport s parts report →
-      map client_of report.lines.items ≡ ids_of parts → text ≡ report_text labels report.events report.lines.items →
-      Tells pages limits s labels parts text
-  tells pages limits s labels parts report text asked so ordered told = record {
+  pub tells : (output : Output) (pages : ℕ) (limits : Bound) (s : View) (labels : List Label) (parts : List (Holding E S W)) (report : Report)
+      (text : List ℕ) → IsSetUpWith pages limits s.pool s.limits → IsGatherReport s parts report →
+      map client_of report.lines.items ≡ ids_of parts → text ≡ told_text output labels s.history →
+      Tells output pages limits s labels parts text
+  tells output pages limits s labels parts report text asked so ordered told = record {
     legal = subst (λ (p : ℕ). IsLegal p limits s.history) asked.0 (subst (λ (b : Bound). IsLegal s.pool b s.history) asked.1 so.legal);
     ordered = sym (clients-of s.history (joined s.history)) ∙ ap (map client_of) (sym so.lines) ∙ ordered;
     own_lists = so.own_lists;
-    told =
-        told ∙ ap (λ (n : ℕ). report_text labels n report.lines.items) so.events
-        ∙ ap (report_text labels (length s.history)) so.lines;
+    told = told;
   }
-
-  pub told-ok : {T F : Type 0} (items : T → List ℕ) (result : Result T F) (pages : ℕ) (limits : Bound) (labels : List Label) (parts : List (Holding E S W))
-      (report : Report) →
-      OnOk result (map client_of report.lines.items ≡ ids_of parts) →
-      IfOk result (λ text. items text ≡ report_text labels report.events report.lines.items) →
-      ((s : View) × IsSetUpWith pages limits s.pool s.limits × IsGatherReport s parts report) →
-      IfOk result (λ text. (s : View) × Tells pages limits s labels parts (items text))
-  told-ok items (Err fault) pages limits labels parts report ordered told so = tt
-  told-ok items (Ok text) pages limits labels parts report ordered told (s, asked, so) =
-      (s, tells pages limits s labels parts report (items text) asked so ordered told)
 
   module _ (history : List Entry) (clients : List ℕ) where
     -- each of the actors is such a one
@@ -84,11 +71,11 @@ module _ {E S W : Type 0} where
     were-played (script ∷ scripts) (ActorEnd.Stopped client held fault ∷ ends) (part ∷ parts) ran left well own = cc
     were-played (script ∷ scripts) (ActorEnd.NotStarted client ∷ ends) (part ∷ parts) ran left well own = cc
 
-  -- it is the report of the cast
-  pub is-report : (pages : ℕ) (limits : Bound) (cast : ActorList) (ends : List (ActorEnd E S W)) (parts : List (Holding E S W)) → HaveRun cast.scripts.items ends →
-      AllZip IsLeft ends parts → first_fault ends ≡ None → (text : List ℕ) → ((s : View) × Tells pages limits s cast.labels.items parts text) →
-      IsReport pages limits (actors_of cast) text
-  is-report pages limits cast ends parts ran left well text (s, so) = record {
+  -- it is told of the cast
+  pub is-told : (output : Output) (pages : ℕ) (limits : Bound) (cast : ActorList) (ends : List (ActorEnd E S W)) (parts : List (Holding E S W)) → HaveRun cast.scripts.items ends →
+      AllZip IsLeft ends parts → first_fault ends ≡ None → (text : List ℕ) → ((s : View) × Tells output pages limits s cast.labels.items parts text) →
+      IsTold output pages limits (actors_of cast) text
+  is-told output pages limits cast ends parts ran left well text (s, so) = record {
     history = s.history;
     legal = so.legal;
     played =

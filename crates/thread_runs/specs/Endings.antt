@@ -4,10 +4,11 @@ use Rattle.sm_names.specs.declared.rules.TheConstants.{MAX_COLLECTIONS, MAX_EVEN
 use Rattle.sm_names.specs.Bounds.{Bound}
 use Rattle.script_lines.specs.Written.{WritesPart}
 use Rattle.thread_runs.specs.declared.fault.ThreadsFault.{ThreadsFault}
+use Rattle.thread_runs.specs.declared.job.Output.{Output}
 use Rattle.thread_runs.specs.Faults.{fault_status, fault_text}
 use Rattle.thread_runs.specs.Runs.{Runs}
 
--- the status that the program ends with: 0 where the report was written
+-- the status that the program ends with: 0 where all was written
 abbrev pub ending_status : Result (Unit {0}) ThreadsFault → ℕ
 ending_status (Ok done) = 0
 ending_status (Err fault) = fault_status fault
@@ -22,8 +23,8 @@ abbrev pub program_limits : Bound
 program_limits = record { events = MAX_EVENTS; nodes = MAX_NODES; collections = MAX_COLLECTIONS; trackers = MAX_TRACKERS; handles = MAX_HANDLES }
 
 -- actors were run with a pool of so many pages: the outcome is that of the status, and was told as far as it could be
-pub record Ends (pages : ℕ) (left_before left old new faults_before faults : Option (List ℕ)) (status : ℕ) : Type 0 where
+pub record Ends (output : Output) (pages : ℕ) (left_before left old new faults_before faults : Option (List ℕ)) (status : ℕ) : Type 0 where
   pub outcome : Result (Unit {0}) ThreadsFault
-  pub runs : Runs pages program_limits left_before left old new outcome
+  pub runs : Runs output pages program_limits left_before left old new outcome
   pub status_is : status ≡ ending_status outcome
   pub told : WritesPart faults_before faults (ending_line outcome)

@@ -6,17 +6,17 @@ use Rattle.sm_names.specs.declared.outcomes.StepFault.{StepFault}
 use Rattle.sm_names.specs.Bounds.{Bound}
 use Rattle.sm_names.specs.Legality.{IsLegal}
 use Rattle.event_laws.specs.declared.line.ClientLine.{ClientLine}
-use Rattle.event_laws.specs.Lines.{lines_of}
 use Rattle.event_laws.specs.Members.{joined}
 use Rattle.service_lock.specs.States.{View}
 use Rattle.script_lines.specs.declared.label.Label.{Label}
-use Rattle.actor_reports.specs.Reports.{report_text}
 use Rattle.client_parting.specs.declared.fault.GatherFault.{GatherFault}
 use Rattle.client_parting.specs.declared.gathering.Holding.{Holding}
 use Rattle.client_parting.specs.Gatherings.{Matches, ids_of}
 use Rattle.client_parting.specs.Partings.{held_in, sorted}
 use Rattle.client_actors.specs.declared.gate.ActorEnd.{ActorEnd}
 use Rattle.thread_runs.specs.declared.fault.ThreadsFault.{ThreadsFault}
+use Rattle.thread_runs.specs.declared.job.Output.{Output}
+use Rattle.thread_runs.specs.Runs.{told_text}
 
 -- why a call was not made, as a fault of the run
 abbrev pub step_fault : StepFault → ThreadsFault
@@ -54,13 +54,13 @@ abbrev pub client_of : ClientLine → ℕ
 client_of line = line.client
 
 -- the record is a legal history with this pool and these limits, those who joined are just those of the parts, in order, each own list is its client's part, and
--- the text is the report
-pub record Tells {E S W : Type 0} (pages : ℕ) (limits : Bound) (s : View) (labels : List Label) (parts : List (Holding E S W))
-    (text : List ℕ) : Type 0 where
+-- the text is what is told of it
+pub record Tells {E S W : Type 0} (output : Output) (pages : ℕ) (limits : Bound) (s : View) (labels : List Label)
+    (parts : List (Holding E S W)) (text : List ℕ) : Type 0 where
   pub legal : IsLegal pages limits s.history
   pub ordered : joined s.history ≡ ids_of parts
   pub own_lists : All (Matches s.history) parts
-  pub told : text ≡ report_text labels (length s.history) (lines_of s.history)
+  pub told : text ≡ told_text output labels s.history
 
 -- a fault of a run whose script was read
 abbrev pub IsLate : ThreadsFault → Type 0

@@ -1,9 +1,13 @@
 //! A script of actors as a program runs it: to an exit status.
+ghost use Rattle.std.specs.Prelude.{◌≡◌};
 ghost use Rattle.std.specs.Process.{exit_status};
-ghost use Rattle.thread_runs.specs.Endings.{Ends};
+ghost use Rattle.script_lines.specs.Written.{WritesPart};
+ghost use Rattle.thread_runs.specs.Endings.{Ends, ending_line, ending_status};
 
+use crate::fault::ThreadsFault;
+use crate::job::Job;
 use crate::run::run_threads;
-use script_lines::{Pages, write_line};
+use script_lines::write_line;
 use sm_names::Limits;
 use std::alloc::Global;
 use std::io::{Read, Write};
@@ -12,9 +16,8 @@ use std::sync::Wait;
 use std::thread::Threads;
 use std::time::Clock;
 
-/// Runs the script of actors that the reader holds, with these pages and the greatest limits, as
-/// `run_threads` does, and answers the status that a program is to end with: 0 where the report was
-/// written, and else the status of the fault, which is told in one line on `faults`, as far as that
+/// Runs the script of actors that the reader holds, with the greatest limits, as `run_threads` does, and
+/// answers the status that a program is to end with: 0 where all that the job asks for was written, and else the status of the fault, which is told in one line on `faults`, as far as that
 /// takes it. Costs what `run_threads` costs.
 pub fn run_threads_to_exit<I: Read, O: Write, F: Write, R: Threads + Wait + Clock + Sync>(
     rt: &R,
@@ -23,13 +26,24 @@ pub fn run_threads_to_exit<I: Read, O: Write, F: Write, R: Threads + Wait + Cloc
     reader: &mut I,
     writer: &mut O,
     faults: &mut F,
-    pages: Pages,
+    job: Job,
 ) -> ExitCode
-    ensures { Ends pages.count (I.remaining reader.old) (I.remaining reader.new)
+    ensures { Ends job.output job.pages.count (I.remaining reader.old) (I.remaining reader.new)
         (O.contents writer.old) (O.contents writer.new)
         (F.contents faults.old) (F.contents faults.new) (exit_status result) }
 {
-    match run_threads(rt, alloc, seed, reader, writer, pages.count, Limits::full()) {
+    exit_of(
+        run_threads(rt, alloc, seed, reader, writer, job, Limits::full()),
+        faults,
+    )
+}
+
+// The status of an outcome, whose fault is told in one line, as far as the writer takes it.
+fn exit_of<F: Write>(ended: Result<(), ThreadsFault>, faults: &mut F) -> ExitCode
+    ensures status { exit_status result ≡ ending_status ended }
+    ensures told { WritesPart (F.contents faults.old) (F.contents faults.new) (ending_line ended) }
+{
+    match ended {
         Ok(()) => ExitCode::SUCCESS,
         Err(fault) => {
             let _ = write_line(faults, fault);

@@ -1,14 +1,15 @@
 //! A script of actors from its first byte to the last of its report.
-ghost use Rattle.std.specs.Prelude.{◌≡◌, ◌≤◌, IfErr, OnErr, OnOk};
+ghost use Rattle.std.specs.Prelude.{◌≡◌, IfErr, OnErr, OnOk};
 ghost use Rattle.std.specs.Io.KnownBytes.{Appends};
 ghost use Rattle.script_lines.specs.Written.{WritesPart};
 ghost use Rattle.thread_runs.specs.Runs.{Runs};
 
 use crate::fault::ThreadsFault;
-use crate::telling::report;
+use crate::job::Job;
+use crate::telling::tell_all;
 use actor_scripts::read_actors;
 use script_lines::{LabelHash, write_out};
-use sm_names::{Limits, MAX_PAGES};
+use sm_names::Limits;
 use std::alloc::Global;
 use std::io::{Read, Write};
 use std::sync::Wait;
@@ -16,7 +17,7 @@ use std::thread::Threads;
 use std::time::Clock;
 
 /// Runs the script of actors that the reader holds, each actor in a thread of its own, against a new
-/// service with a pool of `pages` pages, and writes the report of what they leave.
+/// service with a pool of so many pages, and writes the report of what they leave, or also their record.
 ///
 /// The whole script is read before any line is judged, and all lines are judged before any actor
 /// starts. Nothing is written before all actors have ended and all that they left was gathered. The
@@ -24,7 +25,9 @@ use std::time::Clock;
 ///
 /// Answered Ok, what was written is the report of a legal history, with this pool and these limits, in
 /// which the clients of the script joined in their order, and nobody else, and in which each of them
-/// played its script. Else, where nothing was written but for `WriteFault`:
+/// played its script. Where the job asks for a transcript, all events of this history stand before it, in
+/// their order, as `push_record` writes them with the actors' labels, and each line of the report is behind
+/// `# `. Else, where nothing was written but for `WriteFault`:
 /// - `ReadFault`: the reader failed, or the script has more than `MOST_BYTES` bytes.
 /// - `BadLine`: this line is the first bad one.
 /// - `NoMemory`: memory was refused, at any time.
@@ -34,9 +37,9 @@ use std::time::Clock;
 /// - `Gather`: what the actors left is not all that there is, or not what is on record; or those who
 ///   joined are not just the actors in their order, told as the first client that is elsewhere.
 /// - `WriteFault`: the writer failed, or took nothing, or could not be flushed. What went out is a
-///   first part of the report.
+///   first part of that.
 ///
-/// Costs what `read_actors`, `run_actors`, `gather` and `push_report` do. Labels and the
+/// Costs what `read_actors`, `run_actors`, `compare`, `push_report` and, if it is asked for, `push_record` do. Labels and the
 /// service's counts are hashed from the seed, best of random bytes: it changes what the run costs,
 /// and nothing that is written.
 pub fn run_threads<I: Read, O: Write, R: Threads + Wait + Clock + Sync>(
@@ -45,18 +48,17 @@ pub fn run_threads<I: Read, O: Write, R: Threads + Wait + Clock + Sync>(
     seed: [u8; 16],
     reader: &mut I,
     writer: &mut O,
-    pages: u32,
+    job: Job,
     limits: Limits,
 ) -> Result<(), ThreadsFault>
-    requires { (1 ≤ pages) × (pages ≤ MAX_PAGES) }
-    ensures { Runs pages limits (I.remaining reader.old) (I.remaining reader.new)
-        (O.contents writer.old) (O.contents writer.new) result }
+    ensures { Runs job.output job.pages.count limits (I.remaining reader.old)
+        (I.remaining reader.new) (O.contents writer.old) (O.contents writer.new) result }
 {
     let cast = match read_actors(alloc, LabelHash::new(seed), reader) {
         Ok(cast) => cast,
         Err(fault) => return Err(ThreadsFault::from(fault)),
     };
-    match report(rt, alloc, seed, &cast, pages, limits) {
+    match tell_all(rt, alloc, seed, &cast, job, limits) {
         Ok(text) => put_out(writer, text.as_slice()),
         Err(fault) => Err(fault),
     }

@@ -23,7 +23,7 @@ fn each_client_has_its_line(rt: HostRuntime) -> Result<(), Fail> {
     let camera = Label::new(b"camera").ok_or("no label")?;
     let b = Label::new(b"b2").ok_or("no label")?;
     let mut text = Vec::new(rt.alloc());
-    push_report(&mut text, &[camera, b], 5, &lines)?;
+    push_report(&mut text, "", &[camera, b], 5, &lines)?;
     let expected = "events 5\ncamera events 3 strong 0 weak 12\n\
 b2 events 0 strong 4 weak 0\ngather ok\n";
     assert_eq!(rt; text.as_slice(), expected.as_bytes());

@@ -1,6 +1,5 @@
 //! The status that a program ends with, and what it tells.
-use crate::tests::fixture::{SEED, TWO, TWO_REPORT};
-use script_lines::Pages;
+use crate::tests::fixture::{SEED, TWO, TWO_REPORT, report_of};
 use std::alloc::Global;
 use std::process::{Abort, ExitCode};
 use std::sync::Wait;
@@ -9,14 +8,6 @@ use std::thread::Threads;
 use std::time::Clock;
 use thread_runs::run_threads_to_exit;
 use trial_streams::{FailingWriter, ShortReader};
-
-// As many pages as a program has.
-fn pages<R: Abort>(rt: &R) -> Pages {
-    match Pages::new(8) {
-        Some(pages) => pages,
-        None => panic!(rt; "no pages"),
-    }
-}
 
 // Asserts the report of a script, what is told of its fault, and the status.
 fn check_exit<R: Threads + Wait + Clock + Abort + Sync>(
@@ -30,8 +21,8 @@ fn check_exit<R: Threads + Wait + Clock + Abort + Sync>(
     let mut reader = script.as_bytes();
     let mut out = Vec::new(alloc);
     let mut faults = Vec::new(alloc);
-    let pages = pages(rt);
-    let ended = run_threads_to_exit(rt, alloc, SEED, &mut reader, &mut out, &mut faults, pages);
+    let job = report_of(rt, 8);
+    let ended = run_threads_to_exit(rt, alloc, SEED, &mut reader, &mut out, &mut faults, job);
     assert!(rt; ended == ExitCode::from(status), "{script}");
     assert_eq!(rt; out.as_slice(), report.as_bytes(), "{script}");
     assert_eq!(rt; faults.as_slice(), told.as_bytes(), "{script}");
@@ -63,7 +54,7 @@ fn streams_that_fail_end_with_1(rt: HostRuntime) {
         let mut writer = FailingWriter::new(rt.alloc());
         writer.fails = write_fails;
         let mut faults = FailingWriter::new(rt.alloc());
-        let pages = pages(&rt);
+        let job = report_of(&rt, 8);
         let ended = run_threads_to_exit(
             &rt,
             rt.alloc(),
@@ -71,7 +62,7 @@ fn streams_that_fail_end_with_1(rt: HostRuntime) {
             &mut reader,
             &mut writer,
             &mut faults,
-            pages,
+            job,
         );
         assert!(rt; ended == ExitCode::from(1), "{told}");
         assert_eq!(rt; faults.bytes.as_slice(), told.as_bytes());
@@ -85,7 +76,7 @@ fn a_fault_that_nobody_hears_keeps_its_status(rt: HostRuntime) {
     let mut out = Vec::new(rt.alloc());
     let mut faults = FailingWriter::new(rt.alloc());
     faults.fails = 4;
-    let pages = pages(&rt);
+    let job = report_of(&rt, 8);
     let ended = run_threads_to_exit(
         &rt,
         rt.alloc(),
@@ -93,7 +84,7 @@ fn a_fault_that_nobody_hears_keeps_its_status(rt: HostRuntime) {
         &mut reader,
         &mut out,
         &mut faults,
-        pages,
+        job,
     );
     assert!(rt; ended == ExitCode::from(3));
     assert_eq!(rt; faults.bytes.as_slice(), b"bad".as_slice());

@@ -1,6 +1,5 @@
 //! Runs of actors.
-ghost use Rattle.std.specs.Prelude.{◌≤◌};
-
+use script_lines::Pages;
 use sm_names::Limits;
 use std::alloc::Global;
 use std::process::Abort;
@@ -8,8 +7,8 @@ use std::sync::Wait;
 use std::test::Fail;
 use std::thread::Threads;
 use std::time::Clock;
-use thread_runs::{ThreadsFault, run_threads};
-use trial_streams::{FailingWriter, ShortReader};
+use thread_runs::{Job, Output, ThreadsFault, run_threads};
+use trial_streams::{ShortReader, FailingWriter};
 
 /// Two actors that never meet: each asks for a buffer and takes it.
 pub const TWO: &str = "a join\nb join\na open r\nb open s\na bind r\nb bind s\n\
@@ -30,6 +29,17 @@ pub fn events<R: Abort>(rt: &R, most: u32) -> Limits {
     }
 }
 
+/// A report on a pool of so many pages.
+pub fn report_of<R: Abort>(rt: &R, pages: u32) -> Job {
+    match Pages::new(pages) {
+        Some(pages) => Job {
+            pages,
+            output: Output::Report,
+        },
+        None => panic!(rt; "no pages"),
+    }
+}
+
 /// Asserts what a run of actors with a pool of so many pages writes, whose lines and whose script's lines
 /// end in `; `, and how it ends.
 pub fn check<R: Threads + Wait + Clock + Abort + Sync>(
@@ -40,21 +50,20 @@ pub fn check<R: Threads + Wait + Clock + Abort + Sync>(
     script: &str,
     report: &str,
     outcome: Result<(), ThreadsFault>,
-) -> Result<(), Fail>
-    requires { (1 ≤ pages) × (pages ≤ 1048576) }
-{
+) -> Result<(), Fail> {
     let script = script.replace(alloc, "; ", "\n")?;
     let report = report.replace(alloc, "; ", "\n")?;
     let mut reader = script.as_bytes();
     let mut out = Vec::new(alloc);
-    let ended = run_threads(rt, alloc, SEED, &mut reader, &mut out, pages, limits);
+    let job = report_of(rt, pages);
+    let ended = run_threads(rt, alloc, SEED, &mut reader, &mut out, job, limits);
     assert_eq!(rt; ended, outcome, "{script}");
     assert_eq!(rt; out.as_slice(), report.as_bytes(), "{script}");
     Ok(())
 }
 
 /// Runs both actors, so many bytes a read.
-pub fn run_two<R: Threads + Wait + Clock + Sync>(
+pub fn run_two<R: Threads + Wait + Clock + Abort + Sync>(
     rt: &R,
     alloc: Global,
     step: usize,
@@ -67,7 +76,8 @@ pub fn run_two<R: Threads + Wait + Clock + Sync>(
         reads: 0,
         fails: read_fails,
     };
-    run_threads(rt, alloc, SEED, &mut reader, writer, 2, Limits::full())
+    let job = report_of(rt, 2);
+    run_threads(rt, alloc, SEED, &mut reader, writer, job, Limits::full())
 }
 
 // Whether the line is that of an actor that has no handle open.
@@ -85,7 +95,8 @@ pub fn check_gathered<R: Threads + Wait + Clock + Abort + Sync>(
 ) {
     let mut reader = script;
     let mut out = Vec::new(alloc);
-    let ended = run_threads(rt, alloc, SEED, &mut reader, &mut out, 16, Limits::full());
+    let job = report_of(rt, 16);
+    let ended = run_threads(rt, alloc, SEED, &mut reader, &mut out, job, Limits::full());
     assert_eq!(rt; ended, Ok(()));
     let report = out.as_slice();
     let lines = report.split(|byte| *byte == b'\n');

@@ -1,5 +1,5 @@
 //! Two actors where memory is refused.
-use crate::tests::fixture::{SEED, TWO, TWO_REPORT};
+use crate::tests::fixture::{SEED, TWO, TWO_REPORT, report_of};
 use sm_names::Limits;
 use thread_runs::{ThreadsFault, run_threads};
 use trial_streams::FixedWriter;
@@ -19,7 +19,7 @@ fn refused_memory_leaves_the_whole_report_or_none(rt: HostRuntime) {
         SEED,
         &mut reader,
         &mut writer,
-        4,
+        report_of(&rt, 4),
         Limits::full(),
     );
     let out = writer.used.min(128);

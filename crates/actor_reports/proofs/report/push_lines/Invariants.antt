@@ -4,7 +4,7 @@ use Rattle.actor_reports.proofs.report.push_lines.Given as goal
 
 abbrev pub invariant-loop-label : goal.invariant-loop-label
 invariant-loop-label l =
-    l.initial.text.items ++ lines_text l.initial.labels l.initial.lines ≡ l.text.items ++ lines_text l.labels l.lines
+    l.initial.text.items ++ lines_text l.front l.initial.labels l.initial.lines ≡ l.text.items ++ lines_text l.front l.labels l.lines
 
 abbrev pub decreases-loop-label : goal.decreases-loop-label
 decreases-loop-label l = length l.labels

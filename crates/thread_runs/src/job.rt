@@ -1,0 +1,18 @@
+//! What a run of actors is asked for.
+use script_lines::Pages;
+
+/// What a run of actors writes at its end.
+#[derive(Clone, Copy, Debug)]
+pub enum Output {
+    /// The report.
+    Report,
+    /// The record as a transcript, and then the lines of the report, each behind `# `.
+    Transcript,
+}
+
+/// The pages of the pool, and what is written.
+#[derive(Clone, Copy, Debug)]
+pub struct Job {
+    pub pages: Pages,
+    pub output: Output,
+}
