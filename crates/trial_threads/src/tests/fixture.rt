@@ -8,7 +8,7 @@ use std::test::Fail;
 use std::thread::Threads;
 use std::time::Clock;
 use thread_runs::{Job, Output, ThreadsFault, run_threads};
-use trial_streams::{ShortReader, FailingWriter};
+use trial_streams::{FailingWriter, ShortReader};
 
 /// Two actors that never meet: each asks for a buffer and takes it.
 pub const TWO: &str = "a join\nb join\na open r\nb open s\na bind r\nb bind s\n\
