@@ -316,7 +316,7 @@ fn push_difference<'a>(
     )
 }
 
-// What is told as the legal reply.
+// The text that a difference shows as the legal reply: `no reply` if the line has none.
 fn legal_reply(reply: &[u8]) -> &[u8]
     ensures { result.now ≡ legal_text reply.now }
 {

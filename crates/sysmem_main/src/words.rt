@@ -126,8 +126,8 @@ begin with #, and a node is called n and the number of the event of its birth:
     b open n4
       token n4
 
-So `sysmem threads --record < x.actors | sysmem explain` tells what came of it,
-where --pages is the same.
+`sysmem threads --record < x.actors | sysmem explain` explains these events, if
+both commands have the same --pages.
 
 Status: 0 the report was written; 1 read or write fault; 2 the command line was
 refused; 3 a bad line: a show, a join behind a step or of a client that joined,

@@ -13,6 +13,8 @@ pub enum Output {
 /// The pages of the pool, and what is written.
 #[derive(Clone, Copy, Debug)]
 pub struct Job {
+    /// The size of the pool.
     pub pages: Pages,
+    /// What is written once all actors have ended.
     pub output: Output,
 }

@@ -17,7 +17,8 @@ use std::thread::Threads;
 use std::time::Clock;
 
 /// Runs the script of actors that the reader holds, with the greatest limits, as `run_threads` does, and
-/// answers the status that a program is to end with: 0 where all that the job asks for was written, and else the status of the fault, which is told in one line on `faults`, as far as that
+/// answers the status that a program is to end with: 0 if all that the job asks for was written, else the
+/// status of the fault, whose text is written in one line on `faults`, as far as that
 /// takes it. Costs what `run_threads` costs.
 pub fn run_threads_to_exit<I: Read, O: Write, F: Write, R: Threads + Wait + Clock + Sync>(
     rt: &R,

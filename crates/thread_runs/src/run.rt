@@ -39,7 +39,8 @@ use std::time::Clock;
 /// - `WriteFault`: the writer failed, or took nothing, or could not be flushed. What went out is a
 ///   first part of that.
 ///
-/// Costs what `read_actors`, `run_actors`, `compare`, `push_report` and, if it is asked for, `push_record` do. Labels and the
+/// Costs what `read_actors`, `run_actors`, `compare`, `push_report` and, for a transcript, `push_record`
+/// do. Labels and the
 /// service's counts are hashed from the seed, best of random bytes: it changes what the run costs,
 /// and nothing that is written.
 pub fn run_threads<I: Read, O: Write, R: Threads + Wait + Clock + Sync>(
