@@ -4,7 +4,5 @@
 
 mod exit;
 pub mod laws;
-#[cfg(test)]
-mod tests;
 
 pub use exit::{PartFault, Parted, part_with};

@@ -1,6 +1,7 @@
 //! What no contract says: that calls succeed, and how events follow on one another.
 mod acts;
 mod dropping;
+mod exit;
 mod failing;
 mod first;
 mod forgetting;

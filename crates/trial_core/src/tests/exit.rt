@@ -1,5 +1,5 @@
 //! Clients with ends, handles and parcels are parted with, and nothing is left.
-use crate::exit::{PartFault, Parted, part_with};
+use client_exit::{PartFault, Parted, part_with};
 use lifetime_core::Core;
 use sm_names::{BufferName, Call, ClientId, Constraints, Limits, NodeKey, Strength};
 use std::alloc::Global;
