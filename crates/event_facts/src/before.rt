@@ -1,4 +1,10 @@
 //! How a collection stood before an event, as far as facts are told of it.
+ghost use Rattle.std.specs.Prelude.{◌≡◌, Some, IfOk, IfSome};
+ghost use Rattle.sm_names.specs.Answers.{IsAnswer};
+ghost use Rattle.sm_names.specs.declared.messages.Reply.{Reply};
+ghost use Rattle.lifetime_core.specs.Reads.{readings_of};
+ghost use Rattle.event_facts.specs.Events.{IsCopied, IsSetOf, changed_on, concerned_by, is_doomed};
+
 use crate::pages::doomed_of;
 use alloc_event::Snapshot;
 use lifetime_core::Core;
@@ -13,7 +19,10 @@ pub struct Before {
 }
 
 // The collection of which the call would change a node, or drop a handle, if it were made now.
-fn concerned(core: &Core, client: ClientId, call: &Call) -> Option<CollectionId> {
+fn concerned(core: &Core, client: ClientId, call: &Call) -> Option<CollectionId>
+    ensures { (reply : Reply) → IsAnswer core.now.limits (readings_of core.now) client call.now reply →
+        result ≡ concerned_by core.now client call.now reply }
+{
     if let Call::DropHandle(buffer, strength) = *call {
         if 0 < core.open_handles(client, buffer, strength) {
             return Some(buffer.collection);
@@ -23,7 +32,10 @@ fn concerned(core: &Core, client: ClientId, call: &Call) -> Option<CollectionId>
 }
 
 // The collection of which the call would change a node.
-fn changed(core: &Core, client: ClientId, call: &Call) -> Option<CollectionId> {
+fn changed(core: &Core, client: ClientId, call: &Call) -> Option<CollectionId>
+    ensures { (reply : Reply) → IsAnswer core.now.limits (readings_of core.now) client call.now reply →
+        result ≡ changed_on core.now client call.now reply }
+{
     match core.change_of(client, call) {
         Some((id, _)) => Some(id),
         None => None,
@@ -31,7 +43,13 @@ fn changed(core: &Core, client: ClientId, call: &Call) -> Option<CollectionId> {
 }
 
 // That collection as it stands; `None` where there is none. It costs a copy.
-pub(crate) fn look(core: &Core, client: ClientId, call: &Call) -> Result<Option<Before>, NoMemory> {
+pub(crate) fn look(core: &Core, client: ClientId, call: &Call) -> Result<Option<Before>, NoMemory>
+    ensures copied { IfOk result (λ before. (reply : Reply) →
+        IsAnswer core.now.limits (readings_of core.now) client call.now reply →
+        IsCopied core.now (concerned_by core.now client call.now reply) before) }
+    ensures doomed { IfOk result (λ before. IfSome before (λ b. IsSetOf
+        (is_doomed core.now.holds b.copied.id b.copied.nodes.items b.copied.buffers) b.doomed)) }
+{
     match concerned(core, client, call) {
         Some(id) => look_at(core, id),
         None => Ok(None),
@@ -39,10 +57,14 @@ pub(crate) fn look(core: &Core, client: ClientId, call: &Call) -> Result<Option<
 }
 
 // The collection as it stands, if it is kept.
-fn look_at(core: &Core, id: CollectionId) -> Result<Option<Before>, NoMemory> {
+fn look_at(core: &Core, id: CollectionId) -> Result<Option<Before>, NoMemory>
+    ensures copied { IfOk result (λ before. IsCopied core.now (Some id) before) }
+    ensures doomed { IfOk result (λ before. IfSome before (λ b. IsSetOf
+        (is_doomed core.now.holds b.copied.id b.copied.nodes.items b.copied.buffers) b.doomed)) }
+{
     match core.collection(id)? {
         Some(copied) => {
-            let doomed = doomed_of(core, id, &copied.nodes, copied.buffers);
+            let doomed = doomed_of(core, copied.id, &copied.nodes, copied.buffers);
             Ok(Some(Before { copied, doomed }))
         }
         None => Ok(None),

@@ -1,15 +1,22 @@
 //! One event: a call, its reply, and what it came to.
-ghost use Rattle.std.specs.Prelude.{◌≡◌, ◌≤◌, IfErr, IfOk, Ok, drop, length, map};
+ghost use Rattle.std.specs.Prelude.{◌≡◌, ◌≤◌, IfErr, IfOk, IfSome, Ok, drop, length, map};
+ghost use Rattle.std.specs.List.{list_any};
+ghost use Rattle.std.specs.Option.{option_and_then, option_map};
+ghost use Rattle.sm_names.specs.Answers.{IsAnswer};
+ghost use Rattle.sm_names.specs.declared.messages.Reply.{Reply as Answer};
+ghost use Rattle.forest_store.specs.declared.snapshot.Snapshot.{Snapshot as Copy};
+ghost use Rattle.lifetime_core.specs.Reads.{readings_of};
 ghost use Rattle.lifetime_core.specs.Theorem.{Stepped};
 ghost use Rattle.event_marks.specs.Marks.{AreStages};
 ghost use Rattle.event_marks.specs.Moments.{stage_of};
+ghost use Rattle.event_facts.specs.Events.{IsCopied, IsCopiedAfter, IsSetOf, concerned_by, given_in, has_left, held_in, is_doomed, is_newly_doomed, nodes_in, scene_after, some_left_in};
 
 use crate::before::{Before, look};
-use crate::pages::doomed_of;
+use crate::pages::{doomed_of, without};
 use alloc_event::{Node, Snapshot};
 use event_marks::{Moment, take_told};
 use lifetime_core::Core;
-use sm_names::{Buffers, Call, ClientId, Fired, HeldBuffer, NoMemory, NodeKey, Reply, StepFault};
+use sm_names::{Buffers, Call, ClientId, Fired, HeldBuffer, NoMemory, Reply, StepFault};
 use std::alloc::Global;
 
 /// A call and its reply, and what it came to in the collection that it changed, if it changed one.
@@ -42,6 +49,12 @@ pub fn take_event(
     ensures stepped { IfOk result (λ event. Stepped core.old core.new client call (Ok event.reply)) }
     ensures stages { IfOk result (λ event.
         AreStages core.old core.new client call event.reply (map stage_of event.moments.items)) }
+    // The copies are of the one collection that the event concerns.
+    ensures before { IfOk result (λ event.
+        IsCopied core.old (concerned_by core.old client call event.reply) event.before) }
+    ensures doomed { IfOk result (λ event. IfSome event.before (λ b. IsSetOf
+        (is_doomed core.old.holds b.copied.id b.copied.nodes.items b.copied.buffers) b.doomed)) }
+    ensures after { IfOk result (λ event. IsCopiedAfter core.new event.before event.after) }
     ensures fired { IfOk result (λ event. event.fired ≡ length core.old.trackers.fired) }
     ensures full { IfErr result (λ fault. fault ≡ StepFault.HistoryFull →
         core.old.limits.events ≤ core.old.events) }
@@ -66,7 +79,12 @@ pub fn take_event(
 
 // The collection that the call concerns, as it stands.
 fn before_of(core: &Core, client: ClientId, call: &Call) -> Result<Option<Before>, StepFault>
-    ensures { IfErr result (λ fault. fault ≡ StepFault.NoMemory) }
+    ensures copied { IfOk result (λ before. (reply : Answer) →
+        IsAnswer core.now.limits (readings_of core.now) client call.now reply →
+        IsCopied core.now (concerned_by core.now client call.now reply) before) }
+    ensures doomed { IfOk result (λ before. IfSome before (λ b. IsSetOf
+        (is_doomed core.now.holds b.copied.id b.copied.nodes.items b.copied.buffers) b.doomed)) }
+    ensures fault { IfErr result (λ fault. fault ≡ StepFault.NoMemory) }
 {
     match look(core, client, call) {
         Ok(before) => Ok(before),
@@ -76,7 +94,8 @@ fn before_of(core: &Core, client: ClientId, call: &Call) -> Result<Option<Before
 
 // The same collection, as it stands now.
 fn after_of(core: &Core, before: &Option<Before>) -> Result<Option<Snapshot>, StepFault>
-    ensures { IfErr result (λ fault. fault ≡ StepFault.NoMemory) }
+    ensures copied { IfOk result (λ after. IsCopiedAfter core.now before.now after) }
+    ensures fault { IfErr result (λ fault. fault ≡ StepFault.NoMemory) }
 {
     match before {
         Some(before) => match core.collection(before.copied.id) {
@@ -101,7 +120,9 @@ pub fn fired_since(core: &Core, before: usize) -> &[Fired]
 
 impl Event {
     /// What the collection has been given by now, if it was given buffers. Takes a constant time.
-    pub fn given(&self) -> Option<Buffers> {
+    pub fn given(&self) -> Option<Buffers>
+        ensures { result ≡ given_in self.now.after self.now.before }
+    {
         match (&self.after, &self.before) {
             (Some(after), _) => after.buffers,
             (None, Some(before)) => before.copied.buffers,
@@ -111,19 +132,32 @@ impl Event {
 
     /// The buffers of the collection that nothing strong keeps since the event, as a set. Costs what
     /// `doomed_of` costs.
-    pub fn newly_doomed(&self, core: &Core) -> u64 {
-        let Some(before) = &self.before else {
-            return 0;
-        };
-        let nodes: &[Node] = match &self.after {
+    pub fn newly_doomed(&self, core: &Core) -> u64
+        ensures { IsSetOf (is_newly_doomed core.now.holds self.now.after self.now.before) result }
+    {
+        match &self.before {
+            Some(before) => {
+                let doomed = doomed_of(core, before.copied.id, self.nodes_after(), self.given());
+                without(doomed, before.doomed)
+            }
+            None => 0,
+        }
+    }
+
+    // The kept nodes of the collection after the event.
+    fn nodes_after(&self) -> &[Node]
+        ensures { result.now ≡ nodes_in self.now.after }
+    {
+        match &self.after {
             Some(after) => &after.nodes,
             None => &[],
-        };
-        doomed_of(core, before.copied.id, nodes, self.given()) & !before.doomed
+        }
     }
 
     /// The collection's buffers with pages after the event. Takes a constant time.
-    pub fn held_after(&self) -> &[HeldBuffer] {
+    pub fn held_after(&self) -> &[HeldBuffer]
+        ensures { result.now ≡ held_in self.now.after }
+    {
         match &self.after {
             Some(after) => &after.held,
             None => &[],
@@ -132,26 +166,37 @@ impl Event {
 
     /// Whether a node of the collection was live before the event and is not any more. Costs a look-up
     /// for each node.
-    pub fn some_left(&self, core: &Core) -> bool {
+    pub fn some_left(&self, core: &Core) -> bool
+        ensures { result ≡ some_left_in core.now self.now.before }
+    {
         match &self.before {
-            Some(before) => before
-                .copied
-                .nodes
-                .iter()
-                .any(|node| left(core, node.key, node.gone || node.released)),
+            Some(before) => some_of(core, &before.copied.nodes),
             None => false,
         }
     }
 }
 
-// Whether the node is not live, and was not before either if it had left.
-fn left(core: &Core, node: NodeKey, had_left: bool) -> bool {
-    !had_left && !core.is_live(node)
+// Whether one of the nodes was live when it was copied, and is not any more.
+fn some_of(core: &Core, nodes: &[Node]) -> bool
+    ensures { result ≡ list_any (has_left core.now) nodes.now }
+{
+    nodes.iter().any(|node| left(core, node))
+}
+
+// Whether the node was live when it was copied, and is not any more.
+fn left(core: &Core, node: &Node) -> bool
+    ensures { result ≡ has_left core.now node.now }
+{
+    !(node.gone || node.released) && !core.is_live(node.key)
 }
 
 /// The collection's buffers with their pages after a mark, where these moments follow it. Takes a
 /// constant time.
-pub fn placed_by<'a>(later: &'a [Moment], event: &'a Event) -> Option<(Buffers, &'a [HeldBuffer])> {
+pub fn placed_by<'a>(later: &'a [Moment], event: &'a Event) -> Option<(Buffers, &'a [HeldBuffer])>
+    ensures buffers { option_map (λ placed. placed.0) result
+        ≡ option_and_then (λ (s : Copy). s.buffers) (scene_after later.now event.now.after) }
+    ensures held { IfSome result (λ placed. placed.1.now ≡ held_in (scene_after later.now event.now.after)) }
+{
     match (later.first(), &event.after) {
         (Some(next), _) => Some((next.before.buffers?, &next.before.held)),
         (None, Some(after)) => Some((after.buffers?, &after.held)),

@@ -1,6 +1,8 @@
 //! What became of the buffers of a collection at an event.
-ghost use Rattle.std.specs.Prelude.{◌≡◌, IfOk};
+ghost use Rattle.std.specs.Prelude.{ℕ, ◌≡◌, ◌≢◌, ◌<◌, ◌-◌, min, if◌then◌else◌, IfOk};
+ghost use Rattle.std.specs.Int.{bit_at};
 ghost use Rattle.std.specs.List.{filter, list_any};
+ghost use Rattle.event_facts.specs.Events.{IsSetOf, is_doomed};
 ghost use Rattle.event_facts.specs.Facts.{is_back, is_on_buffer};
 
 use alloc_event::Node;
@@ -48,19 +50,37 @@ pub fn doomed_of(
     collection: CollectionId,
     nodes: &[Node],
     given: Option<Buffers>,
-) -> u64 {
+) -> u64
+    ensures { IsSetOf (is_doomed core.now.holds collection nodes.now given) result }
+{
     let mut set = 0;
-    let Some(given) = given else {
+    let Some(buffers) = given else {
         return 0;
     };
     if some_strong_live(nodes) {
         return 0;
     }
     for index in 0..64u8 {
+        let is_given = (index as u32) < buffers.count;
         let buffer = BufferName { collection, index };
-        if (index as u32) < given.count && core.total_handles(buffer, Strength::Strong) == 0 {
-            set = set | 1u64 << index;
-        }
+        let open = core.total_handles(buffer, Strength::Strong);
+        set = add_if(set, index, is_given && open == 0);
     }
     set
+}
+
+// The set, and this index too if it is to be in it.
+fn add_if(set: u64, index: u8, is_in: bool) -> u64
+    requires { index < 64 }
+    ensures same { bit_at result index ≡ (if is_in then 1 else bit_at set index) }
+    ensures other { (i : ℕ) → i ≢ index → bit_at result i ≡ bit_at set i }
+{
+    if is_in { set | 1u64 << index } else { set }
+}
+
+// Those of the set that are not in the other.
+pub(crate) fn without(set: u64, other: u64) -> u64
+    ensures { (i : ℕ) → i < 64 → bit_at result i ≡ min (bit_at set i) (1 - bit_at other i) }
+{
+    set & !other
 }
