@@ -9,38 +9,24 @@ ghost use Rattle.forest_store.specs.Forest.{IsPoolOf, collection_at};
 ghost use Rattle.forest_store.specs.Insertion.{birth_change};
 ghost use Rattle.forest_store.specs.Settling.{MayChange, is_birth};
 ghost use Rattle.forest_store.specs.Stores.{IsResting, forest_in};
-ghost use Rattle.forest_steps.specs.StoreSteps.{BornIn, OutcomeOf, ReadyAt, ReadyFor, UnbornIn, UnforcedAt};
+ghost use Rattle.forest_steps.specs.StoreSteps.{BornIn, OutcomeOf, ReadyFor, UnbornIn};
 
-use crate::forced_steps::settle_steps;
+use crate::forced_steps::{settle_effect, settle_loss, settle_nothing};
 use buffer_holds::Holds;
 use buffer_pool::Pool;
 use forest_steps::dropped::drop_in_place;
-use forest_steps::event_end::finish_event;
+use forest_steps::event_end::{finish_event, is_finished};
 use forest_steps::scratch::Scratch;
-use forest_steps::unforced::apply_unforced;
 use forest_store::change::Change;
 use forest_store::entry::place_of;
 use forest_store::insertion::{Birth, insert_counted};
 use forest_store::store::Store;
 use forest_store::unit_counts::{bound, reach};
-use sm_names::{BufferName, CollectionId, NoMemory, NodeKey};
+use sm_names::{BufferName, CollectionId, Fault, NoMemory, NodeKey};
 
-/// Makes a change in its place, if it is no loss, and nothing is forced by it, as `apply_unforced` does.
-#[inline(always)]
-fn settle_unforced(store: &mut Store, at: usize, holds: &Holds, change: &Change) -> bool
-    requires { ReadyAt store.old at change.now }
-    ensures { UnforcedAt result (total holds.now) store.old store.new at change.now }
-{
-    match *change {
-        Change::Loss(..) => false,
-        _ => apply_unforced(store, at, holds, change),
-    }
-}
-
-/// Makes a change that is no birth to a collection that is there, and all that it forces, in its place:
-/// where the counts tell that nothing is forced, at once, and else one step after another. `NoMemory`
-/// leaves the table, the entries and the pool as they were. The collection is looked up once, by a
-/// binary search.
+/// Makes a change that is no birth to a collection that is there, and all that it forces, in its place.
+/// `NoMemory` leaves the table, the entries and the pool as they were. The collection is looked up once,
+/// by a binary search.
 #[inline(always)]
 pub(crate) fn settle_change(
     store: &mut Store,
@@ -59,10 +45,15 @@ pub(crate) fn settle_change(
     let Some(at) = place_of(&store.entries, id) else {
         unreachable!();
     };
-    if settle_unforced(store, at, holds, change) {
-        return Ok(());
+    match *change {
+        Change::Effect(key, effect) => settle_effect(store, at, pool, holds, key, effect, room),
+        Change::Loss(origin, cause) => {
+            let fault = Fault { cause, origin };
+            settle_loss(store, at, pool, holds, fault, room)
+        }
+        Change::Nothing => settle_nothing(store, at, pool, holds, room),
+        Change::Birth { .. } => unreachable!(),
     }
-    settle_steps(store, at, pool, holds, change, room)
 }
 
 /// The birth of a node, and all that it forces: where no strong node of the collection is live then, its
@@ -92,6 +83,9 @@ pub(crate) fn settle_birth(
     let Some(at) = place_of(&store.entries, id) else {
         unreachable!();
     };
+    if is_finished(store, at, pool, holds) {
+        return Ok(key);
+    }
     finish_event(store, at, pool, holds, keys);
     Ok(key)
 }

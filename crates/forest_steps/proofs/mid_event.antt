@@ -3,6 +3,7 @@ pub mod Affecting
 pub mod Changing
 pub mod Climbs
 pub mod Closing
+pub mod Counted
 pub mod Crossed
 pub mod Deciding
 pub mod Emptied

@@ -5,6 +5,7 @@ pub mod InTurn
 pub mod InitialAllocation
 pub mod LogicalAllocation
 pub mod MidEvent
+pub mod NodeEffects
 pub mod Refusing
 pub mod Removal
 pub mod Runs

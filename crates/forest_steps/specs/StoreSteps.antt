@@ -20,7 +20,7 @@ use Rattle.forest_store.specs.Insertion.{IsBorn, IsUnborn}
 use Rattle.forest_steps.specs.InitialAllocation.{IsRooted}
 use Rattle.forest_steps.specs.MidEvent.{AfterLoss, AfterPropagation, AfterRemoval, AfterSteps, EffectMade, MidEvent, PropagatedFrom, are_held_except}
 use Rattle.forest_store.specs.Nodes.{after_effect}
-use Rattle.forest_store.specs.Outcomes.{IsOutcome, IsOutcomeIn, IsReady}
+use Rattle.forest_store.specs.Outcomes.{IsOutcomeIn, IsReady}
 use Rattle.forest_store.specs.Settling.{Handles}
 use Rattle.forest_store.specs.Shelves.{Shelf, nodes_with, place_in}
 use Rattle.forest_store.specs.Stores.{nodes_in}
@@ -33,13 +33,7 @@ pub record IsReadyAt (t : Table Node) (es : List Entry) (us : List Unit) (at : �
   pub place : place_in id es ≡ Some at
   pub ready : IsReady t es us id change
 
--- it was made to that collection, or nothing changed, and the units are counted
-pub record IsUnforcedAt (made : Bool) (handles : Handles) (t now : Table Node) (es behind : List Entry) (us : List Unit) (at : ℕ)
-    (change : Change) : Type 0 where
-  pub outcome : (id : ℕ) → place_in id es ≡ Some at → IsOutcome made handles t now es behind id change
-  pub units : HaveUnits us now behind
-
--- so it was with all that it forces, or nothing changed, nor did the pool
+-- it was made to that collection with all that it forces, or nothing changed, nor did the pool, and the units are counted
 pub record IsOutcomeAt (made : Bool) (handles : Handles) (pool after : Holdings) (t now : Table Node) (es behind : List Entry)
     (us : List Unit) (at : ℕ) (change : Change) : Type 0 where
   pub outcome : (id : ℕ) → place_in id es ≡ Some at → IsOutcomeIn made handles pool after t now es behind id change
@@ -61,12 +55,7 @@ ReadyAt s at change = IsReadyAt s.nodes.table s.entries.items s.nodes.units.item
 abbrev pub ReadyFor : Store → ℕ → Change → Type 0
 ReadyFor s id change = IsReady s.nodes.table s.entries.items s.nodes.units.items id change
 
--- what comes of it at that place, where nothing is forced
-abbrev pub UnforcedAt : Bool → Handles → Store → Store → ℕ → Change → Type 0
-UnforcedAt made handles old new at change =
-    IsUnforcedAt made handles old.nodes.table new.nodes.table old.entries.items new.entries.items new.nodes.units.items at change
-
--- and else
+-- what comes of it at that place
 abbrev pub OutcomeAt : Bool → Handles → Holdings → Holdings → Store → Store → ℕ → Change → Type 0
 OutcomeAt made handles pool after old new at change =
     IsOutcomeAt made handles pool after old.nodes.table new.nodes.table old.entries.items new.entries.items new.nodes.units.items at change

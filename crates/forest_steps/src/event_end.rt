@@ -12,6 +12,7 @@ ghost use Rattle.forest_steps.specs.MidEvent.{is_abandoned_in};
 ghost use Rattle.forest_store.specs.Stores.{AreNamed, forest_in};
 ghost use Rattle.forest_steps.specs.StoreSteps.{FinishedOf, IsClosedIn, MayFinish, MidEventIn};
 
+use crate::at_rest::is_kept_by;
 use crate::dropped::is_abandoned;
 use crate::placement::assert_disjoint;
 use crate::removal::remove_subtree;
@@ -21,6 +22,20 @@ use buffer_pool::Pool;
 use forest_store::entry::Entry;
 use forest_store::store::{NodeStore, Store};
 use sm_names::{Cause, Fault, NodeKey};
+
+/// Whether nothing is left to be done in the collection at this place: a strong node of it is live, or it
+/// rests without one. It costs a look at the handles of each buffer where no strong node is live.
+#[inline(always)]
+pub fn is_finished(store: &Store, at: usize, pool: &Pool, holds: &Holds) -> bool
+    requires may { MayFinish (total holds.now) store.now at }
+    requires pool { IsPoolOf pool.now (forest_in store.now) }
+    ensures { result ≡ true → (id : ℕ) → place_in id store.now.entries.items ≡ Some at →
+        FinishedOf (total holds.now) pool.now pool.now store.now store.now id }
+{
+    assert_disjoint(pool);
+    let entry = &store.entries[at];
+    is_kept_by(&store.nodes.table, entry, holds, entry.strong)
+}
 
 /// Where no strong node is live and the buffers of the collection at this place are abandoned, its root
 /// is lost, and all that is left of it; then the pages of the buffers that are home go back. Nothing is

@@ -15,6 +15,8 @@ ghost use Rattle.forest_store.specs.Shelves.{Shelf};
 ghost use Rattle.forest_store.specs.Nodes.{after_allocation};
 ghost use Rattle.forest_store.specs.Outcomes.{was_made};
 ghost use Rattle.forest_store.specs.Reserved.{reserved_count};
+ghost use Rattle.forest_steps.specs.LogicalAllocation.{IsUnitListed};
+ghost use Rattle.forest_steps.specs.NodeEffects.{AreCountsThen, IsWorkedOutAt};
 ghost use Rattle.forest_steps.specs.InitialAllocation.{AreSome, IsComing, IsPlanned, IsReservedThen, IsAllocationOutcome, comes_first, gives_few, is_bare_root, is_held_ready, has_buffers_then, allocated_at, allocated_with, wants_of};
 ghost use Rattle.forest_store.specs.Scenes.{given_few, has_tracker_room};
 ghost use Rattle.forest_store.specs.UnitAllocation.{asked_with};
@@ -25,21 +27,18 @@ ghost use Rattle.forest_steps.specs.StoreSteps.{IsRootedIn, MidEventIn, OutcomeA
 use crate::demand::TotalDemand;
 use crate::event_end::finish_event;
 use crate::logical_allocation::list_unit;
-use crate::node_effect::affect_here;
+use crate::node_effect::{EffectCounts, NodeEffect, affected_by, make_effect};
 use crate::pending_units::{allocate_all_pending, list_pending};
 use crate::placement::{assert_disjoint, place_buffers};
 use crate::removal::remove_subtree;
 use crate::scratch::Scratch;
-use crate::unforced::affected_by;
 use crate::unit_allocation::{asked_at, mark_allocated};
 use buffer_holds::Holds;
 use buffer_pool::Pool;
-use forest_store::change::Effect;
 use forest_store::entry::Entry;
-use forest_store::lookup::is_strong;
 use forest_store::node::Node;
 use forest_store::store::{NodeStore, Store};
-use forest_store::unit_counts::{Unit, decrement_if, is_held_by, unit_then};
+use forest_store::unit_counts::{Unit, is_held_by};
 use node_table::NodeTable;
 use sm_names::{
     Buffers, Cause, CollectionId, Constraints, Failure, Fault, HeldBuffer, MAX_BUFFERS, MAX_SIZE,
@@ -203,39 +202,43 @@ fn reserved_with(
     }
 }
 
-/// What the first allocation comes to before the pool is asked, if the effect makes the root's unit ready
-/// while it has no buffers, and something holds it then: by the counts, and where they tell so, by a walk
-/// over the unit. It takes no memory.
+/// What the first allocation comes to before the pool is asked, if the effect, with these counts, makes
+/// the root's unit ready while it has no buffers, and something holds it then. The keys of the unit, and
+/// of the attached nodes right below it, are listed for it. It takes no memory.
 fn planned(
-    table: &NodeTable<Node>,
-    units: &[Unit],
+    nodes: &NodeStore,
     entry: &Entry,
-    key: NodeKey,
-    effect: &Effect,
+    made: &NodeEffect,
+    counts: &EffectCounts,
     keys: &mut Vec<NodeKey>,
 ) -> Option<Plan>
-    requires tracked { (at : Key) (n : NodeValue) → node_at table.now at ≡ Some n →
-        has_tracker_room key effect.now n ≡ true }
-    requires room { table_len table.now ≤ vec_capacity keys.old }
-    ensures some { IfSome result (IsPlanned table.now units.now entry.now key effect.now) }
-    ensures comes { IfSome result (λ plan. comes_first table.now units.now key effect.now ≡ true) }
-    ensures none { result ≡ None → comes_first table.now units.now key effect.now ≡ false }
+    requires tracked { (at : Key) (n : NodeValue) → node_at nodes.now.table at ≡ Some n →
+        has_tracker_room made.now.key made.now.effect n ≡ true }
+    requires worked { AreCountsThen nodes.now.table nodes.now.units.items entry.now made.now.key
+        made.now.effect (Some counts.now) }
+    requires room { table_len nodes.now.table ≤ vec_capacity keys.old }
+    ensures some { IfSome result (IsPlanned nodes.now.table nodes.now.units.items entry.now
+        made.now.key made.now.effect) }
+    ensures comes { IfSome result (λ plan. comes_first nodes.now.table nodes.now.units.items
+        made.now.key made.now.effect ≡ true) }
+    ensures listed { IfSome result (λ plan. IsUnitListed nodes.now.table plan.head keys.new.items) }
+    ensures none { result ≡ None → comes_first nodes.now.table nodes.now.units.items
+        made.now.key made.now.effect ≡ false }
     ensures room { vec_capacity keys.old ≤ vec_capacity keys.new }
 {
-    let Some(node) = table.get(key).copied() else {
+    let Some(node) = nodes.table.get(made.key).copied() else {
         return None;
     };
-    let after = affected_by(&node, key, effect);
-    if !is_bare_root(table, node.head) || !is_held_ready(&unit_then(units, &node, &after)) {
+    if !is_bare_root(&nodes.table, node.head) || !is_held_ready(&counts.unit) {
         return None;
     }
-    list_unit(table, node.head, keys);
-    let asks = root_total(table, keys, node.head, &after);
-    let strong = decrement_if(entry.strong, is_strong(&node), is_strong(&after));
+    let after = affected_by(&node, made.key, &made.effect);
+    list_unit(&nodes.table, node.head, keys);
+    let asks = root_total(&nodes.table, keys, node.head, &after);
     Some(Plan {
         head: node.head,
-        wants: wanted(&asks, strong),
-        reserved: reserved_with(table, entry, node.head, &after, asks.camping),
+        wants: wanted(&asks, counts.strong),
+        reserved: reserved_with(&nodes.table, entry, node.head, &after, asks.camping),
     })
 }
 
@@ -289,8 +292,8 @@ fn lose_first(
     remove_subtree(nodes, entry, head, Some(fault), keys);
 }
 
-/// The unit of the root, with this head, is allocated with these buffers, and the attached units that
-/// are ready below it have their turns.
+/// The unit of the root, with this head, whose keys are listed, is allocated with these buffers, and the
+/// attached units that are ready below it have their turns.
 fn allocate_root_unit(
     nodes: &mut NodeStore,
     entry: &mut Entry,
@@ -302,7 +305,7 @@ fn allocate_root_unit(
 )
     requires few { given_few (Some buffers) ≡ true }
     requires going { table_len nodes.old.table ≤ vec_capacity room.old.removed }
-    requires unit { table_len nodes.old.table ≤ vec_capacity room.old.unit }
+    requires listed { IsUnitListed nodes.old.table plan.now.head room.old.unit.items }
     requires turns { table_len nodes.old.table ≤ vec_capacity room.old.pending }
     requires named { AreNamed nodes.old.table }
     requires there { IsSome (row_at nodes.old.table plan.now.head) }
@@ -325,7 +328,6 @@ fn allocate_root_unit(
         &mut room.removed,
         &mut room.pending,
     );
-    list_unit(&nodes.table, head, &mut room.unit);
     let one = [head];
     mark_allocated(&mut nodes.table, &room.unit, &one);
     entry.reserved = plan.reserved;
@@ -349,7 +351,7 @@ fn settle_first(
 )
     requires few { gives_few verdict ≡ true }
     requires going { table_len nodes.old.table ≤ vec_capacity room.old.removed }
-    requires unit { table_len nodes.old.table ≤ vec_capacity room.old.unit }
+    requires listed { IsUnitListed nodes.old.table plan.now.head room.old.unit.items }
     requires turns { table_len nodes.old.table ≤ vec_capacity room.old.pending }
     requires named { AreNamed nodes.old.table }
     requires there { IsSome (row_at nodes.old.table plan.now.head) }
@@ -390,39 +392,35 @@ pub fn allocate_root(
     at: usize,
     pool: &mut Pool,
     holds: &Holds,
-    key: NodeKey,
-    effect: &Effect,
+    made: &NodeEffect,
     room: &mut Scratch,
 ) -> Result<bool, NoMemory>
-    requires ready { ReadyAt store.old at (Changed.Effect key effect.now) }
+    requires ready { ReadyAt store.old at (Changed.Effect made.now.key made.now.effect) }
+    requires worked { IsWorkedOutAt store.old at made.now }
     requires pool { IsPoolOf pool.old (forest_in store.old) }
     requires going { table_len store.old.nodes.table ≤ vec_capacity room.old.removed }
     requires unit { table_len store.old.nodes.table ≤ vec_capacity room.old.unit }
     requires turns { table_len store.old.nodes.table ≤ vec_capacity room.old.pending }
     ensures outcome { OutcomeAt (was_made result) (total holds.now) pool.old pool.new store.old
-        store.new at
-        (Changed.Effect key effect.now) }
+        store.new at (Changed.Effect made.now.key made.now.effect) }
+    ensures same { result ≡ Ok false → (store.new ≡ store.old) × (pool.new ≡ pool.old) }
     ensures room { result ≡ Ok false →
         (vec_capacity room.old.removed ≤ vec_capacity room.new.removed)
         × (vec_capacity room.old.pending ≤ vec_capacity room.new.pending) }
-    ensures waits { result ≡ Ok false → WaitsNot store.old at key effect.now }
+    ensures waits { result ≡ Ok false → WaitsNot store.old at made.now.key made.now.effect }
 {
+    let Some(counts) = &made.counts else {
+        return Ok(false);
+    };
     let entry = &store.entries[at];
-    let Some(plan) = planned(
-        &store.nodes.table,
-        &store.nodes.units,
-        entry,
-        key,
-        effect,
-        &mut room.unit,
-    ) else {
+    let Some(plan) = planned(&store.nodes, entry, made, counts, &mut room.unit) else {
         return Ok(false);
     };
     assert_disjoint(pool);
     let verdict = place_wanted(pool, entry.id, plan.wants, &entry.held)?;
     assert_disjoint(pool);
     let entry = &mut store.entries[at];
-    affect_here(&mut store.nodes, entry, key, effect);
+    make_effect(&mut store.nodes, entry, made);
     settle_first(&mut store.nodes, entry, holds, &plan, verdict, room);
     finish_event(store, at, pool, holds, &mut room.removed);
     Ok(true)

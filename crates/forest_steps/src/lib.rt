@@ -8,7 +8,7 @@ pub mod event_end;
 mod home_buffers;
 pub mod initial_allocation;
 mod logical_allocation;
-mod node_effect;
+pub mod node_effect;
 mod page_ranges;
 pub mod pending_units;
 pub mod placement;

@@ -7,18 +7,18 @@ ghost use Rattle.forest_store.specs.declared.node.Node.{Node as NodeValue};
 ghost use Rattle.forest_store.specs.Decisions.{is_left_of};
 ghost use Rattle.forest_store.specs.Shelves.{Shelf};
 ghost use Rattle.forest_store.specs.Nodes.{after_effect, after_loss, is_of};
-ghost use Rattle.forest_store.specs.Scenes.{given_few, has_tracker_room};
+ghost use Rattle.forest_store.specs.Scenes.{given_few};
 ghost use Rattle.forest_steps.specs.MidEvent.{waits_among};
+ghost use Rattle.forest_steps.specs.NodeEffects.{MayMake};
 ghost use Rattle.forest_store.specs.Stores.{AreNamed, nodes_in};
 ghost use Rattle.forest_steps.specs.StoreSteps.{AfterPropagationIn, IsRootAsleep, MidEventIn, PropagatedIn};
 
 use crate::logical_allocation::is_next;
-use crate::node_effect::affect_here;
+use crate::node_effect::{NodeEffect, make_effect};
 use crate::pending_units::{allocate_all_pending, list_pending};
 use crate::scratch::Scratch;
 use crate::subtree_end::{end_above, fall_by};
 use buffer_holds::Holds;
-use forest_store::change::Effect;
 use forest_store::entry::Entry;
 use forest_store::store::NodeStore;
 use sm_names::{Buffers, Fault, NodeKey};
@@ -96,38 +96,37 @@ pub fn apply_effect(
     nodes: &mut NodeStore,
     entry: &mut Entry,
     holds: &Holds,
-    key: NodeKey,
-    effect: &Effect,
+    made: &NodeEffect,
     room: &mut Scratch,
 )
     requires few { given_few entry.old.buffers ≡ true }
     requires named { AreNamed nodes.old.table }
-    requires tracked { (n : NodeValue) → node_at nodes.old.table key ≡ Some n →
-        has_tracker_room key effect.now n ≡ true }
+    requires may { MayMake nodes.old entry.old made.now }
     requires going { table_len nodes.old.table ≤ vec_capacity room.old.removed }
     requires turns { table_len nodes.old.table ≤ vec_capacity room.old.pending }
-    ensures out { (ss : List Shelf) (n : NodeValue) → node_at nodes.old.table key ≡ Some n →
+    ensures out { (ss : List Shelf) (n : NodeValue) →
+        node_at nodes.old.table made.now.key ≡ Some n →
         n.gone ≡ false → n.collection ≡ entry.old.id →
         MidEventIn nodes.old ss entry.old [] [] →
-        IsRootAsleep nodes.old entry.old key effect.now →
-        PropagatedIn (total holds.now) (after_effect key effect.now (nodes_in nodes.old entry.old))
+        IsRootAsleep nodes.old entry.old made.now.key made.now.effect →
+        PropagatedIn (total holds.now)
+        (after_effect made.now.key made.now.effect (nodes_in nodes.old entry.old))
         nodes.old nodes.new ss entry.old entry.new }
     ensures named { AreNamed nodes.new.table }
     ensures room { vec_capacity room.old.removed ≤ vec_capacity room.new.removed }
     ensures len { table_len nodes.new.table ≡ table_len nodes.old.table }
 {
-    let Some(node) = nodes.table.get(key) else {
+    let given = entry.buffers;
+    make_effect(nodes, entry, made);
+    let Some(counts) = &made.counts else {
         return;
     };
-    let head = node.head;
-    let given = entry.buffers;
-    affect_here(nodes, entry, key, effect);
     // The head of the unit is there, since the node is not gone.
-    if nodes.table.get(head).is_none() {
+    if nodes.table.get(counts.head).is_none() {
         return;
     }
-    end_above(nodes, entry, head, &mut room.removed);
+    end_above(nodes, entry, counts.head, &mut room.removed);
     if let Some(buffers) = given {
-        allocate_ready(nodes, entry, holds, buffers, head, room);
+        allocate_ready(nodes, entry, holds, buffers, counts.head, room);
     }
 }

@@ -1,21 +1,24 @@
 -- An effect on one node: the store agrees again, and only the node's unit may be held by nothing then, or come to its turn.
-use Rattle.forest_steps.proofs.Common.{◌≡◌, ℕ, ◌+◌, ◌<◌, ◌==◌, is_none, refl, ap, sym, ◌∙◌, subst, true, false, not, ◌&&◌, ◌||◌, inl, inr, List, [], ◌∷◌, map, length, set, Option, Some, None, eq-eqb, find, list_all, list_any, option_map_or, NodeKey, same_key, times, In, In-map-back, and_both, false_if, same_key-refl, same_key-true, In-any, Table, node_at, Effect, Entry, Node, Unit, over_except, strong_count, lives_in, unit_at, waits_in, IsWhole, Shelf, collection_in, is_filed, nodes_with, shelf_of, affected, is_of, reserved_count, is_head}
+use Rattle.forest_steps.proofs.Common.{arith, ◌≡◌, ℕ, ◌+◌, ◌<◌, ◌==◌, is_none, refl, ap, sym, ◌∙◌, subst, true, false, not, ◌&&◌, ◌||◌, inl, inr, List, [], ◌∷◌, map, length, set, Option, Some, None, eq-eqb, find, list_all, list_any, option_map_or, NodeKey, same_key, times, In, In-map-back, and_both, false_if, same_key-refl, same_key-true, In-any, Table, node_at, Effect, Entry, Node, Unit, over_except, strong_count, lives_in, unit_at, waits_in, IsWhole, Shelf, collection_in, is_filed, nodes_with, shelf_of, affected, is_live_node, is_of, reserved_count, is_head}
 use Rattle.std.proofs.Common.{IsSome}
-use Rattle.std.proofs.lemmas.List.{length-set}
+use Rattle.std.proofs.lemmas.List.{length-set, set-get_or}
 use Rattle.std.specs.Option.{option_map}
 use Rattle.node_table.specs.Changes.{Writes, with_node}
 use Rattle.node_table.specs.Lending.{table_with_node}
 use Rattle.node_table.proofs.Keys.{key_cases}
 use Rattle.node_table.specs.Table.{Row, row_at}
-use Rattle.forest_store.specs.Unforced.{MayAffect}
+use Rattle.forest_store.specs.Counts.{is_unready, no_unit}
+use Rattle.forest_store.specs.Unforced.{MayAffect, bit, is_plain}
+use Rattle.forest_store.specs.Shelves.{is_strong}
 use Rattle.forest_store.specs.Questions.{has_buffers}
-use Rattle.forest_store.specs.Reserved.{camped}
+use Rattle.forest_store.specs.Reserved.{asked_by, camped}
 use Rattle.forest_steps.specs.MidEvent.{EffectMade, AfterEffect, MidEvent, are_held_except, is_head_left, is_next_except, waits_among}
 use Rattle.forest_store.specs.Stores.{StoreAgrees}
 use Rattle.forest_store.proofs.quiescence.Calming.{any_map}
 use Rattle.forest_store.proofs.quiescence.Steps.{all-In}
 use Rattle.forest_store.proofs.changes.Altering.{found_whole, same_affected}
-use Rattle.forest_store.proofs.changes.Effecting.{alone, alone_affected, at_key, beside_same, has_one, head, kept_now, look, nodes_now, on, remains_affected, same, stays_one, units_join}
+use Rattle.forest_store.proofs.changes.Effecting.{alone, alone_affected, at_key, beside_same, has_one, head, kept_now, live_is, look, nodes_now, on, plain_affected, remains_affected, same, stays_one, strong_is, units_join, unready_is}
+use Rattle.forest_store.proofs.changes.Reserving.{camped_same}
 use Rattle.forest_store.proofs.shelves.Showing.{node_is}
 use Rattle.forest_store.proofs.tables.LeftParents.{in_shelf}
 use Rattle.forest_store.proofs.tables.Rooted.{distinct_one}
@@ -28,7 +31,7 @@ use Rattle.forest_steps.proofs.mid_event.Changing.{held_but, next_but, waits_but
 module _ (t now : Table Node) (key : NodeKey) (effect : Effect) (n : Node) (was : node_at t key ≡ Some n)
     (named : (k : NodeKey) (m : Node) → node_at t k ≡ Some m → m.key ≡ k) (writes : Writes t now key (affected key effect n)) where
   -- the effect changes the node with its key, and no other one
-  look_here : (k : NodeKey) → node_at now k ≡ option_map (affected key effect) (node_at t k)
+  pub look_here : (k : NodeKey) → node_at now k ≡ option_map (affected key effect) (node_at t k)
   look_here = look-changed t now (affected key effect) key n (affected key effect n) writes was refl named
       (λ m differ. alone_affected key effect m (false_if (same_key key m.key) (λ h. absurd (differ (sym (same_key-true key m.key h))))))
 
@@ -54,6 +57,32 @@ module _ (t now : Table Node) (key : NodeKey) (effect : Effect) (n : Node) (was 
       map_some : (o : Option (Row Node)) → IsSome o → IsSome (option_map (with_node (affected key effect n)) o)
       map_some None h = h
       map_some (Some r) h = h
+
+-- an effect that sets no constraints asks for nothing
+plain_asks : (effect : Effect) → is_plain effect ≡ true → asked_by effect ≡ None
+plain_asks Effect.Bound is = refl
+plain_asks Effect.Dispensable is = refl
+plain_asks Effect.Weak is = refl
+plain_asks (Effect.WeakOk children) is = refl
+plain_asks (Effect.Constrained demand) is = cc
+plain_asks Effect.Taken is = refl
+plain_asks Effect.Released is = cc
+plain_asks Effect.Tracked is = refl
+
+-- the table has the node under its own key, and no other changes
+module _ (t now : Table Node) (key : NodeKey) (effect : Effect) (n : Node) (was : node_at t key ≡ Some n)
+    (named : (k : NodeKey) (m : Node) → node_at t k ≡ Some m → m.key ≡ k) where
+  -- an effect keeps the key
+  own_key_is : key ≡ (affected key effect n).key
+  own_key_is = sym ((same_affected key effect n).key ∙ named key n was)
+
+  -- what was written under the key was written under the node's
+  pub becomes_there : now ≡ table_with_node t key (affected key effect n) →
+      now ≡ table_with_node t (affected key effect n).key (affected key effect n)
+  becomes_there = subst (λ (k : NodeKey). now ≡ table_with_node t k (affected key effect n)) own_key_is
+
+  pub writes_there : Writes t now key (affected key effect n) → Writes t now (affected key effect n).key (affected key effect n)
+  writes_there = subst (λ (k : NodeKey). Writes t now k (affected key effect n)) own_key_is
 
 -- ---- the store then
 
@@ -185,6 +214,25 @@ module _ (t : Table Node) (us : List Unit) (ss : List Shelf) (e : Entry) (store 
         };
       }
 
+    -- an effect that changes no count: the unit and the entry are counted as they were
+    pub plain_here : is_plain effect ≡ true → is_strong (affected key effect n) ≡ is_strong n → EffectMade t now us ss e e key effect n.head
+    plain_here plain strong_same =
+        let p = plain_affected key effect plain n in
+        let live_same : bit (is_live_node (made n)) ≡ bit (is_live_node n) = λ i. bit (not (p.gone i) && not (p.released i)) in
+        let unready_same : bit (is_unready (made n)) ≡ bit (is_unready n) =
+        λ i. bit (not (p.gone i) && (not (p.released i) && not (p.asks i))) in
+        let strong_bit : bit (is_strong (made n)) ≡ bit (is_strong n) = ap bit strong_same in
+        let camps : camped (made n) ≡ camped n = camped_same key effect (plain_asks effect plain) n in
+        let lives = live_is t now us key effect n was becomes writes ss s e.strong may_here within_here in
+        let waits = unready_is t now us key effect n was becomes writes ss s e.strong may_here within_here in
+        let strongs = strong_is t now us key effect n was becomes writes ss s e.strong may_here in
+        let live : (unit_at us n.head.slot).live ≡ times (lives_in n.head) (map made members) = omega (arith, lives, live_same) in
+        let unready : (unit_at us n.head.slot).unready ≡ times (waits_in n.head) (map made members) = omega (arith, waits, unready_same) in
+        let strong : e.strong ≡ strong_count (map made members) = omega (arith, strongs, strong_bit) in
+        let reserved : e.reserved ≡ reserved_count (map made members) = omega (arith, reserved_here, camps, store.reserved) in
+        subst (λ (xs : List Unit). EffectMade t now xs ss e e key effect n.head) (set-get_or us n.head.slot no_unit)
+        (affected_here (unit_at us n.head.slot) live unready refl e refl refl refl strong reserved)
+
 -- ---- what may be forced then
 
 module _ (t now : Table Node) (us after : List Unit) (ss : List Shelf) (e new : Entry) (key : NodeKey) (effect : Effect) (n : Node)
@@ -201,29 +249,29 @@ module _ (t now : Table Node) (us after : List Unit) (ss : List Shelf) (e new : 
   own_key = under.store.kept.named key n was
 
   -- the table has it, and it is of the collection
-  on_nodes : In n nodes
+  pub on_nodes : In n nodes
   on_nodes = in_shelf t ss under.store.kept e.id (shelf_of e) under.store.found n.key n (ap (node_at t) own_key ∙ was) own
 
   -- no other node changes
-  alone_on : (m : Node) → In m nodes → same_key n.key m.key ≡ false → f m ≡ m
-  alone_on m on other = alone_affected key effect m (subst (λ (k : NodeKey). same_key k m.key ≡ false) own_key other)
+  pub alone_on : (m : Node) → In m nodes → same_key n.key m.key ≡ false → f m ≡ m
+  alone_on m there other = alone_affected key effect m (subst (λ (k : NodeKey). same_key k m.key ≡ false) own_key other)
 
   -- no two nodes have one key
-  one_on : (m : Node) → In m nodes → same_key n.key m.key ≡ true → m ≡ n
-  one_on m on h =
-      distinct_one nodes (found_whole t e.id ss (shelf_of e) under.store.kept.whole under.store.found).sound.distinct m n on on_nodes
+  pub one_on : (m : Node) → In m nodes → same_key n.key m.key ≡ true → m ≡ n
+  one_on m there h =
+      distinct_one nodes (found_whole t e.id ss (shelf_of e) under.store.kept.whole under.store.found).sound.distinct m n there on_nodes
       (sym (same_key-true n.key m.key h))
 
   -- no effect ends a node
-  gone_same : (m : Node) → (f m).gone ≡ m.gone
+  pub gone_same : (m : Node) → (f m).gone ≡ m.gone
   gone_same m = (remains_affected key effect m).gone
 
   -- no effect allocates a unit
-  alloc_same : (m : Node) → (f m).allocated ≡ m.allocated
+  pub alloc_same : (m : Node) → (f m).allocated ≡ m.allocated
   alloc_same m = (remains_affected key effect m).allocated
 
   -- the same nodes, by the same keys
-  nodes_are : nodes_with now new.keys.items ≡ map f nodes
+  pub nodes_are : nodes_with now new.keys.items ≡ map f nodes
   nodes_are = ap (λ (x : Shelf). nodes_with now x.keys) made.shelf ∙ made.nodes
 
   -- only the unit of the node may be held by nothing then, or come to its turn: of the others no node changed

@@ -1,7 +1,7 @@
 -- The last steps: the root of buffers that are abandoned is lost, and the pages of buffers that are home go back.
-use Rattle.forest_steps.proofs.Common.{◌≡◌, ◌<◌, ℕ, ◌==◌, ◌⊎◌, inl, inr, refl, ap, sym, ◌∙◌, subst, Bool, true, false, not, nat_lt, ◌&&◌, ◌++◌, List, [], ◌∷◌, map, get_or, set, Option, Some, None, option_map, arith, eqb-true, lt-ltb, not-true, filter, find, list_all, option_map_or, HeldBuffer, Interval, NodeKey, Cause, forced, and_both, and_left, and_right, either_way, some-injective, Table, Change, Entry, Node, Unit, AreUnits, has_strong, Collection, with_nodes, IsStored, IsWhole, Shelf, collection_in, forest_of, nodes_with, place_in, shelf_of, shelves_of, is_root_left, Handles, Settles, standing}
+use Rattle.forest_steps.proofs.Common.{◌≡◌, ◌<◌, ℕ, ◌==◌, ◌⊎◌, inl, inr, refl, ap, sym, ◌∙◌, subst, Bool, true, false, not, nat_lt, ◌&&◌, ◌++◌, List, [], ◌∷◌, map, get_or, set, Option, Some, None, option_map, arith, eqb-true, lt-ltb, not-true, filter, find, list_all, option_map_or, HeldBuffer, Interval, NodeKey, Cause, forced, and_both, and_left, and_right, both_ways, either_way, or_cases, some-injective, Table, Change, Entry, Node, Unit, AreUnits, has_strong, Collection, with_nodes, IsStored, IsWhole, Shelf, collection_in, forest_of, nodes_with, place_in, shelf_of, shelves_of, is_root_left, Handles, Settles, standing}
 use Rattle.std.proofs.Common.{slice_get}
-use Rattle.std.proofs.lemmas.Bool.{le-ltb}
+use Rattle.std.proofs.lemmas.Bool.{le-ltb, ltb-true}
 use Rattle.std.proofs.lemmas.List.{get_or-set_same, get_or_default, set-set}
 use Rattle.sm_names.specs.declared.keys.Strength.{Strength}
 use Rattle.sm_names.specs.declared.outcomes.Fault.{Fault}
@@ -17,6 +17,7 @@ use Rattle.forest_store.specs.Dropped.{has_given_root}
 use Rattle.forest_store.specs.Forest.{all_held, beside, pages_in}
 use Rattle.forest_store.specs.Nodes.{after_loss}
 use Rattle.forest_store.specs.Outcomes.{IsSettledIn}
+use Rattle.forest_store.specs.Resting.{is_at_rest, is_kept_by}
 use Rattle.forest_store.specs.Starts.{starts_differ}
 use Rattle.forest_store.specs.Scenes.{by_page, is_held_strongly, is_out, pages_held}
 use Rattle.forest_store.specs.Settling.{Forces}
@@ -326,6 +327,42 @@ module _ (handles : Handles) (t : Table Node) (us : List Unit) (es : List Entry)
           and_both (is_out handles (nat_lt 0 old.strong) h) (list_all (is_out handles (nat_lt 0 old.strong)) hs)
           (ap not (strong_keeps (handles h.buffer Strength.Strong) (handles h.buffer Strength.Weak) (nat_lt 0 old.strong) live))
           (all_out live hs)
+
+  -- where none does, but the collection rests without one, nothing is either
+  closes_resting : nat_lt 0 old.strong ≡ false → is_at_rest handles t (shelf_of old) ≡ true → (pool : Holdings) →
+      starts_differ pool.held ≡ true →
+      pool.held ≡ sorted_by start_of (map (λ (h : HeldBuffer). h.pages) (all_held (forest_of t (shelves_of es)))) →
+      Closes handles pool pool t t es (set es at old) us id
+  closes_resting weak rests pool parted of =
+      let kept : (has_given_root t old.keys.items && not (is_held_strongly handles old.id old.buffers)) ≡ false =
+      not-true left (and_left (not left) (list_all (is_out handles false) old.held.items) rests) in
+      let none : may.pending ≡ [] = elim out_is [
+        | inl e ↦ e
+        | inr gone ↦ both_ways left (and_right (old.strong == 0) left gone) kept
+      ] in
+      let closed : IsClosed handles t t us (shelves_of es) old old =
+      closed_still handles t us (shelves_of es) old
+      (subst (λ (pending : List NodeKey). MidEvent t us (shelves_of es) old [] pending) none under_is) (inr kept) in
+      closes t us old closed old refl
+      (sym (filter-list_all (is_out handles (nat_lt 0 old.strong)) old.held.items
+      (ap (λ (b : Bool). list_all (is_out handles b) old.held.items) weak
+      ∙ and_right (not left) (list_all (is_out handles false) old.held.items) rests))) pool pool parted
+      (pages_mid t us old closed pool.held parted of)
+    where
+      left : Bool
+      left = has_given_root t old.keys.items && not (is_held_strongly handles old.id old.buffers)
+
+  -- so where one of the two holds
+  pub closes_kept : is_kept_by handles t (shelf_of old) old.strong ≡ true → (pool : Holdings) → starts_differ pool.held ≡ true →
+      pool.held ≡ sorted_by start_of (map (λ (h : HeldBuffer). h.pages) (all_held (forest_of t (shelves_of es)))) →
+      Closes handles pool pool t t es (set es at old) us id
+  closes_kept kept pool parted of = elim (either_way (nat_lt 0 old.strong)) [
+    | inl live ↦ closes_strong (ltb-true 0 old.strong live) pool parted of
+    | inr weak ↦ elim (or_cases (nat_lt 0 old.strong) (is_at_rest handles t (shelf_of old)) kept) [
+      | inl live ↦ closes_strong (ltb-true 0 old.strong live) pool parted of
+      | inr rests ↦ closes_resting weak rests pool parted of
+    ]
+  ]
 
   -- where none does, those that are home go back
   module _ (now : Table Node) (after : List Unit) (new : Entry) (closed : IsClosed handles t now after (shelves_of es) old new)

@@ -1,5 +1,5 @@
 -- What a walk over one unit finds: each of its nodes, so that what these ask for is what the unit asks for.
-use Rattle.forest_steps.proofs.Common.{◌≡◌, ℕ, zero, suc, ◌+◌, ◌<◌, ◌≤◌, ◌==◌, nat_lt, refl, ap, sym, ◌∙◌, subst, Bool, true, false, not, ◌&&◌, ◌||◌, if◌then◌else◌, inl, inr, length, List, [], ◌∷◌, Option, Some, None, arith, eqb-true, not-true, cons_option, find, list_any, sum_by, option_and_then, option_map_or, NodeKey, Buffers, Demand, same_key, when, In, and_left, and_right, both_ways, either_way, false_if, same_key-refl, same_key-true, Table, node_at, parent_at, Node, is_left_of, IsStored, IsWhole, Shelf, collection_in, nodes_with, reserved_count, is_head}
+use Rattle.forest_steps.proofs.Common.{◌≡◌, ℕ, zero, suc, ◌+◌, ◌<◌, ◌≤◌, ◌==◌, nat_lt, refl, ap, sym, ◌∙◌, subst, Bool, true, false, not, ◌&&◌, ◌||◌, if◌then◌else◌, inl, inr, length, List, [], ◌∷◌, Option, Some, None, arith, eqb-true, not-true, cons_option, find, list_any, sum_by, option_and_then, option_map_or, NodeKey, Buffers, Demand, same_key, when, In, and_left, and_right, both_ways, either_way, false_if, same_key-refl, same_key-true, Table, node_at, parent_at, Effect, Node, affected, is_left_of, IsStored, IsWhole, Shelf, collection_in, nodes_with, reserved_count, is_head}
 use Rattle.std.proofs.lemmas.Bool.{le-ltb, ltb-false}
 use Rattle.std.proofs.lemmas.Map.Views.{Contains-from_any, list_any-from_Contains}
 use Rattle.std.specs.List.{filter_map}
@@ -7,6 +7,8 @@ use Rattle.std.specs.Option.{option_map}
 use Rattle.sm_names.specs.declared.outcomes.Failure.{Failure}
 use Rattle.sm_names.specs.Members.{greatest}
 use Rattle.sm_names.specs.Words.{first_some}
+use Rattle.std.proofs.Common.{◌↔◌, Contains}
+use Rattle.node_table.specs.Changes.{Writes}
 use Rattle.node_table.specs.Table.{Row, parent_in, row_at}
 use Rattle.failure_domains.specs.Falls.{Below, Top, Within, stopped_at}
 use Rattle.forest_store.specs.declared.loss_marks.Going.{Going}
@@ -16,7 +18,7 @@ use Rattle.forest_steps.specs.Refusing.{refusal}
 use Rattle.forest_steps.specs.LogicalAllocation.{IsUnitListed, asked_there}
 use Rattle.forest_steps.specs.InTurn.{asked_in}
 use Rattle.forest_store.proofs.quiescence.Steps.{all-In}
-use Rattle.forest_store.proofs.changes.Altering.{found_filed, looked-of}
+use Rattle.forest_store.proofs.changes.Altering.{found_filed, looked-of, same_affected}
 use Rattle.forest_store.proofs.failures.GoneNodes.{in_looked}
 use Rattle.forest_steps.proofs.failures.Ties.{key_equivalence}
 use Rattle.forest_store.proofs.allocation.Before.{IsBareHead, at_key, key_listed, whole_before}
@@ -25,8 +27,10 @@ use Rattle.forest_steps.proofs.allocation.Sums.{asked_back, asked_of, asks_passe
 use Rattle.forest_store.proofs.tables.Hanging.{in_all, looked_there}
 use Rattle.forest_store.proofs.tables.LeftParents.{in_shelf}
 use Rattle.forest_store.proofs.tables.Rooted.{left_parent}
+use Rattle.forest_store.proofs.tables.Writing.{parents-written}
 use Rattle.forest_store.proofs.tallies.Holding.{has_parent, line, own_head, shared, step, still_here}
 use Rattle.forest_store.proofs.tallies.Reserved.{amount_within, camped_if, camped_sum}
+use Rattle.forest_steps.proofs.mid_event.Affecting.{look_here}
 
 -- what is made of what the keys find
 joined : (look : NodeKey → Option Node) (f : Node → Option Demand) (keys : List NodeKey) →
@@ -212,3 +216,27 @@ module _ (t : Table Node) (ss : List Shelf) (kept : IsStored t ss) (s : Shelf) (
       when (nat_lt b.count (er i + (ec ∙ sum_is) i) || nat_lt b.count ((ea ∙ greatest_is (λ d. d.at_least)) i)) Failure.TooFew
       ∷ when (nat_lt b.size ((es ∙ greatest_is (λ d. d.size)) i)) Failure.TooSmall
       ∷ [])
+
+-- ---- an effect
+
+-- the walk over a unit is the same once an effect is made on a node, which writes neither links nor what stops the walk
+pub listed_written : (t now : Table Node) (key : NodeKey) (effect : Effect) (n : Node) → node_at t key ≡ Some n →
+    ((k : NodeKey) (m : Node) → node_at t k ≡ Some m → m.key ≡ k) → Writes t now key (affected key effect n) → (head : NodeKey)
+    (keys : List NodeKey) → IsUnitListed t head keys → IsUnitListed now head keys
+listed_written t now key effect n was named writes head keys listed = record {
+  within = λ k. subst (λ (stops : NodeKey → Bool). Contains keys k ↔ Within (parent_at now) stops head k) (λ i x. sym (stopped x) i)
+      (subst (λ (up : NodeKey → Option NodeKey). Contains keys k ↔ Within up (stopped_at (λ (m : Node). m.attached) t head) head k)
+      (λ i x. sym (parents-written t now key (affected key effect n) writes x) i) (listed.within k));
+  once = listed.once;
+}
+  where
+    attached : (o : Option Node) → option_map_or (λ (m : Node). m.attached) (option_map (affected key effect) o) false
+        ≡ option_map_or (λ (m : Node). m.attached) o false
+    attached None = refl
+    attached (Some m) = (same_affected key effect m).attached
+
+    stopped : (x : NodeKey) → stopped_at (λ (m : Node). m.attached) now head x ≡ stopped_at (λ (m : Node). m.attached) t head x
+    stopped x =
+        ap (λ (b : Bool). not (same_key x head) && b)
+        (ap (λ (o : Option Node). option_map_or (λ (m : Node). m.attached) o false) (look_here t now key effect n was named writes x)
+        ∙ attached (node_at t x))

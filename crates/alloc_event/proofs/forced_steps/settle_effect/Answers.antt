@@ -1,56 +1,52 @@
--- The root's unit waits for its buffers only where it is allocated or refused first.
-use Rattle.alloc_event.proofs.Common.{◌≡◌, true, [], ap, subst, ◌∙◌, List, get_or, arith, Table, Entry, Node, waiting, nodes_with}
-use Rattle.std.proofs.Common.{Ok}
-use Rattle.node_table.specs.Table.{table_len}
-use Rattle.forest_store.specs.Nodes.{after_effect}
-use Rattle.forest_store.specs.Outcomes.{was_made}
-use Rattle.forest_steps.specs.MidEvent.{are_held_except}
-use Rattle.alloc_event.proofs.Outcomes.{later_at, still_ready}
+-- The effect is worked out; nothing is forced by it, or what is forced is made.
+use Rattle.alloc_event.proofs.Common.{◌≡◌, ◌∙◌, true, subst, sym, refl, arith, total, Change, Entry, shelves_of}
+use Rattle.forest_steps.specs.NodeEffects.{IsWorkedOut, is_unforced}
+use Rattle.forest_store.proofs.shelves.Entries.{place_is}
+use Rattle.forest_steps.proofs.changes.Dropped.{one_entry}
+use Rattle.forest_steps.proofs.mid_event.Stepping.{few_there, row_there}
 use Rattle.alloc_event.proofs.forced_steps.settle_effect.Goals as goal
 
-pub settle_applied-requires-clause-ready : goal.settle_applied-requires-clause-ready
-settle_applied-requires-clause-ready c =
-    let may = c.requires.ready in
-    let none = c.in_ok-allocate_root.was ∙ ap Ok c.if-branch.false in
-    let outcome = c.allocate_root.ensures.outcome in
-    let same = (outcome.outcome may.id may.place).unchanged (ap was_made none) in
-    record { id = may.id; place = rw same.entries may.place; ready = still_ready same may.ready outcome.units }
+pub index-entry-requires : goal.index-entry-requires
+index-entry-requires c =
+    omega (arith, (place_is c.requires.ready.id c.args.store.now.entries.items c.args.at c.requires.ready.place).within)
 
-pub settle_applied-requires-clause-waits : goal.settle_applied-requires-clause-waits
-settle_applied-requires-clause-waits c e is held =
-    let may = c.requires.ready in
-    let none = c.in_ok-allocate_root.was ∙ ap Ok c.if-branch.false in
-    let same = (c.allocate_root.ensures.outcome.outcome may.id may.place).unchanged (ap was_made none) in
-    let nodes = ap (λ (t : Table Node). after_effect c.args.key c.args.effect.now (nodes_with t e.keys.items)) same.table in
-    ap waiting nodes
-    ∙ c.allocate_root.ensures.waits none e (subst (λ (es : List Entry). e ≡ get_or es c.args.at e) same.entries is)
-    (subst (λ (ns : List Node). are_held_except [] ns ≡ true) nodes held)
+pub work_out-made-requires : goal.work_out-made-requires
+work_out-made-requires c =
+    row_there c.args.store.now.nodes.table (shelves_of c.args.store.now.entries.items) c.requires.ready.ready.kept c.requires.ready.id
+    c.args.key c.requires.ready.ready.change.named
 
-pub settle_applied-requires-clause-pool : goal.settle_applied-requires-clause-pool
-settle_applied-requires-clause-pool c =
-    let may = c.requires.ready in
-    let none = c.in_ok-allocate_root.was ∙ ap Ok c.if-branch.false in
-    let outcome = c.allocate_root.ensures.outcome.outcome may.id may.place in
-    let same = outcome.unchanged (ap was_made none) in
-    rw (outcome.same_pool (ap was_made none), same.table, same.entries) c.requires.pool
+pub is_unforced-requires : goal.is_unforced-requires
+is_unforced-requires c =
+    few_there (total c.args.holds.now) c.args.store.now.nodes.table c.args.store.now.nodes.units.items c.args.store.now.entries.items
+    c.requires.ready.id c.args.at c.index-entry.result.now c.requires.ready.place c.index-entry.ensures
+    (Change.Effect c.args.key c.args.effect) c.requires.ready.ready refl
 
-pub settle_applied-requires-clause-going : goal.settle_applied-requires-clause-going
-settle_applied-requires-clause-going c =
-    let may = c.requires.ready in
-    let none = c.in_ok-allocate_root.was ∙ ap Ok c.if-branch.false in
-    let same = (c.allocate_root.ensures.outcome.outcome may.id may.place).unchanged (ap was_made none) in
-    omega (arith, (c.allocate_root.ensures.room none).0, c.requires.going, ap table_len same.table)
+pub apply_unforced-requires-clause-ready : goal.apply_unforced-requires-clause-ready
+apply_unforced-requires-clause-ready c = rw (c.work_out-made.ensures.key, c.work_out-made.ensures.effect) c.requires.ready
 
-pub settle_applied-requires-clause-turns : goal.settle_applied-requires-clause-turns
-settle_applied-requires-clause-turns c =
-    let may = c.requires.ready in
-    let none = c.in_ok-allocate_root.was ∙ ap Ok c.if-branch.false in
-    let same = (c.allocate_root.ensures.outcome.outcome may.id may.place).unchanged (ap was_made none) in
-    omega (arith, (c.allocate_root.ensures.room none).1, c.requires.turns, ap table_len same.table)
+pub apply_unforced-requires-clause-worked : goal.apply_unforced-requires-clause-worked
+apply_unforced-requires-clause-worked c e is =
+    subst (λ (x : Entry). IsWorkedOut c.args.store.now.nodes x c.work_out-made.result)
+    (one_entry c.args.store.now.entries.items c.requires.ready.id c.args.at c.index-entry.result.now e c.requires.ready.place c.index-entry.ensures
+    is) c.work_out-made.ensures.worked
+
+pub apply_unforced-requires-clause-unforced : goal.apply_unforced-requires-clause-unforced
+apply_unforced-requires-clause-unforced c e is =
+    subst (λ (x : Entry). is_unforced (total c.args.holds.now) c.args.store.now.nodes.table x c.work_out-made.result ≡ true)
+    (one_entry c.args.store.now.entries.items c.requires.ready.id c.args.at c.index-entry.result.now e c.requires.ready.place c.index-entry.ensures
+    is) (sym c.is_unforced.ensures ∙ c.if-is_unforced.true)
+
+pub returns-then-is_unforced : goal.returns-then-is_unforced
+returns-then-is_unforced c = rw (c.work_out-made.ensures.key, c.work_out-made.ensures.effect) at c.apply_unforced.ensures
+
+pub settle_forced-requires-clause-ready : goal.settle_forced-requires-clause-ready
+settle_forced-requires-clause-ready c = rw (c.work_out-made.ensures.key, c.work_out-made.ensures.effect) c.requires.ready
+
+pub settle_forced-requires-clause-worked : goal.settle_forced-requires-clause-worked
+settle_forced-requires-clause-worked c e is =
+    subst (λ (x : Entry). IsWorkedOut c.args.store.now.nodes x c.work_out-made.result)
+    (one_entry c.args.store.now.entries.items c.requires.ready.id c.args.at c.index-entry.result.now e c.requires.ready.place c.index-entry.ensures
+    is) c.work_out-made.ensures.worked
 
 pub returns : goal.returns
-returns c =
-    let may = c.requires.ready in
-    let none = c.in_ok-allocate_root.was ∙ ap Ok c.if-branch.false in
-    let outcome = c.allocate_root.ensures.outcome.outcome may.id may.place in
-    later_at (outcome.unchanged (ap was_made none)) (outcome.same_pool (ap was_made none)) c.settle_applied.ensures
+returns c = rw (c.work_out-made.ensures.key, c.work_out-made.ensures.effect) at c.settle_forced.ensures

@@ -1,5 +1,5 @@
 -- The loss is made, and what is forced by it, and then the collection is closed.
-use Rattle.alloc_event.proofs.Common.{◌≡◌, List, refl, arith, total, Change, Entry, nodes_with, shelf_of, shelves_of}
+use Rattle.alloc_event.proofs.Common.{List, refl, arith, total, Change, Entry, nodes_with, shelf_of, shelves_of}
 use Rattle.forest_store.specs.Nodes.{after_loss}
 use Rattle.forest_steps.specs.MidEvent.{PropagatedFrom}
 use Rattle.forest_store.proofs.shelves.Entries.{place_is}

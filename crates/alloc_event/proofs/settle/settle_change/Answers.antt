@@ -1,51 +1,45 @@
--- Where nothing was done at once, the steps begin as it did.
-use Rattle.alloc_event.proofs.Common.{◌≡◌, ◌∙◌, Some, refl, sym, place_in}
-use Rattle.alloc_event.proofs.Outcomes.{made_in_pool, later_in, still_ready}
+-- The collection is looked up, and the change is made at its place.
+use Rattle.alloc_event.proofs.Common.{◌≡◌, ◌∙◌, ℕ, Bool, List, Some, subst, sym, Change, Entry, Table, Node, Unit, Handles, place_in}
+use Rattle.buffer_pool.specs.Holdings.{Holdings}
+use Rattle.forest_store.specs.Outcomes.{IsOutcomeIn, IsReady}
+use Rattle.forest_steps.specs.StoreSteps.{IsOutcomeAt, IsOutcomeOf, IsReadyAt}
 use Rattle.forest_steps.proofs.mid_event.Stepping.{is_there}
 use Rattle.alloc_event.proofs.settle.settle_change.Goals as goal
+
+-- the change is of this kind, and may be made at the place
+at_place : (t : Table Node) (es : List Entry) (us : List Unit) (id at : ℕ) (change kind : Change) → place_in id es ≡ Some at →
+    change ≡ kind → IsReady t es us id change → IsReadyAt t es us at kind
+at_place t es us id at change kind told is ready =
+    record { id = id; place = told; ready = subst (λ (x : Change). IsReady t es us id x) is ready }
+
+-- what came of it there came of it
+of_place : {made : Bool} {handles : Handles} {pool after : Holdings} {t now : Table Node} {es behind : List Entry} {us : List Unit}
+    (id at : ℕ) (change kind : Change) → place_in id es ≡ Some at → change ≡ kind →
+    IsOutcomeAt made handles pool after t now es behind us at kind → IsOutcomeOf made handles pool after t now es behind us id change
+of_place {made} {handles} {pool} {after} {t} {now} {es} {behind} id at change kind told is outcome = record {
+  outcome = subst (λ (x : Change). IsOutcomeIn made handles pool after t now es behind id x) (sym is) (outcome.outcome id told);
+  units = outcome.units;
+}
 
 pub unreachable-requires : goal.unreachable-requires
 unreachable-requires c =
     is_there c.args.store.now.nodes.table c.args.store.now.nodes.units.items c.args.store.now.entries.items c.args.id c.args.change.now
     c.requires.birth c.requires.ready (sym (rw c.deref.ensures.value at c.place_of.ensures) ∙ c.in_default.is)
 
-pub settle_unforced-requires : goal.settle_unforced-requires
-settle_unforced-requires c = record {
-  id = c.args.id;
-  place = sym (rw c.deref.ensures.value at c.place_of.ensures) ∙ c.in-Some.is;
-  ready = c.requires.ready;
-}
+pub settle_effect-requires-clause-ready : goal.settle_effect-requires-clause-ready
+settle_effect-requires-clause-ready c = at_place _ _ _ _ _ _ _ (sym (rw c.deref.ensures.value at c.place_of.ensures) ∙ c.in-Some.is) c.in-Effect.is c.requires.ready
 
-pub settle_steps-requires : goal.settle_steps-requires
-settle_steps-requires c =
-    let told : place_in c.args.id c.args.store.now.entries.items ≡ Some c.in-Some.at =
-    sym (rw c.deref.ensures.value at c.place_of.ensures) ∙ c.in-Some.is in
-    let same = (c.settle_unforced.ensures.outcome c.args.id told).unchanged c.if-settle_unforced.false in
-    record {
-      ready = record {
-        id = c.args.id;
-        place = rw same.entries told;
-        ready = still_ready same c.requires.ready c.settle_unforced.ensures.units;
-      };
-      birth = c.requires.birth;
-      pool = rw (same.table, same.entries) c.requires.pool;
-    }
+pub settle_loss-requires-clause-ready : goal.settle_loss-requires-clause-ready
+settle_loss-requires-clause-ready c = at_place _ _ _ _ _ _ _ (sym (rw c.deref.ensures.value at c.place_of.ensures) ∙ c.in-Some.is) c.in-Loss.is c.requires.ready
 
-pub returns : goal.returns
-returns c =
-    let told : place_in c.args.id c.args.store.now.entries.items ≡ Some c.in-Some.at =
-    sym (rw c.deref.ensures.value at c.place_of.ensures) ∙ c.in-Some.is in
-    let same = (c.settle_unforced.ensures.outcome c.args.id told).unchanged c.if-settle_unforced.false in
-    record {
-      outcome = later_in same refl (c.settle_steps.ensures.outcome c.args.id (rw same.entries told));
-      units = c.settle_steps.ensures.units;
-    }
+pub settle_nothing-requires-clause-ready : goal.settle_nothing-requires-clause-ready
+settle_nothing-requires-clause-ready c = at_place _ _ _ _ _ _ _ (sym (rw c.deref.ensures.value at c.place_of.ensures) ∙ c.in-Some.is) c.in-Nothing.is c.requires.ready
 
-pub returns-then-settle_unforced : goal.returns-then-settle_unforced
-returns-then-settle_unforced c =
-    let told : place_in c.args.id c.args.store.now.entries.items ≡ Some c.in-Some.at =
-    sym (rw c.deref.ensures.value at c.place_of.ensures) ∙ c.in-Some.is in
-    record {
-      outcome = made_in_pool c.if-settle_unforced.true c.requires.pool (c.settle_unforced.ensures.outcome c.args.id told);
-      units = c.settle_unforced.ensures.units;
-    }
+pub returns-in-Effect : goal.returns-in-Effect
+returns-in-Effect c = of_place _ _ _ _ (sym (rw c.deref.ensures.value at c.place_of.ensures) ∙ c.in-Some.is) c.in-Effect.is c.settle_effect.ensures
+
+pub returns-in-Loss : goal.returns-in-Loss
+returns-in-Loss c = of_place _ _ _ _ (sym (rw c.deref.ensures.value at c.place_of.ensures) ∙ c.in-Some.is) c.in-Loss.is c.settle_loss.ensures
+
+pub returns-in-Nothing : goal.returns-in-Nothing
+returns-in-Nothing c = of_place _ _ _ _ (sym (rw c.deref.ensures.value at c.place_of.ensures) ∙ c.in-Some.is) c.in-Nothing.is c.settle_nothing.ensures

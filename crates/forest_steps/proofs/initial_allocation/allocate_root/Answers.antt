@@ -1,15 +1,21 @@
 -- The root's unit comes to its allocation, and what is forced is made in its place.
-use Rattle.forest_steps.proofs.Common.{◌≡◌, ◌∙◌, ℕ, true, false, List, [], Some, refl, set, get_or, sym, ap, subst, arith, some-injective, total, Table, Change, Entry, Node, Unit, place_in, shelves_of}
+use Rattle.forest_steps.proofs.Common.{◌≡◌, ◌∙◌, ℕ, true, false, List, [], Option, None, Some, refl, set, sym, ap, subst, arith, total, NodeKey, not, ◌&&◌, and_left, option_map, option_map_or, affected, is_root_left, node_at, Table, Change, Effect, Entry, Node, Unit, place_in, shelves_of}
+use Rattle.std.proofs.Common.{IsSome}
 use Rattle.std.proofs.lemmas.List.{get_or_default}
+use Rattle.node_table.specs.Table.{Row, row_at}
+use Rattle.forest_store.specs.Counts.{unit_then}
 use Rattle.buffer_pool.specs.Holdings.{Holdings}
 use Rattle.forest_steps.specs.declared.initial_allocation.Plan.{Plan}
 use Rattle.forest_steps.specs.EventEnd.{Closes}
 use Rattle.forest_store.specs.Outcomes.{IsOutcomeIn}
-use Rattle.forest_steps.specs.InitialAllocation.{IsPlanned, IsRooted, IsAllocationOutcome, comes_first}
+use Rattle.forest_steps.specs.InitialAllocation.{IsPlanned, IsRooted, IsAllocationOutcome, comes_first, is_bare_root, is_held_ready}
 use Rattle.forest_steps.specs.MidEvent.{EffectMade, AfterEffect, MidEvent}
+use Rattle.forest_steps.specs.NodeEffects.{KeepsCounts}
 use Rattle.forest_store.specs.Stores.{StoreAgrees}
 use Rattle.forest_store.proofs.changes.Altering.{tracker_room}
 use Rattle.forest_steps.proofs.mid_event.Affecting.{affected_on}
+use Rattle.forest_steps.proofs.mid_event.Counted.{may_make, waits_plain}
+use Rattle.forest_steps.proofs.mid_event.Listed.{listed_written}
 use Rattle.forest_store.proofs.shelves.Entries.{IsPlace, place_is}
 use Rattle.forest_steps.proofs.mid_event.Places.{begins_at, one_id}
 use Rattle.forest_steps.proofs.mid_event.Stepping.{node_there}
@@ -26,22 +32,66 @@ index_mut-entry-requires c =
 
 pub planned-requires-clause-tracked : goal.planned-requires-clause-tracked
 planned-requires-clause-tracked c at n found =
-    tracker_room c.args.store.now.nodes.table (shelves_of c.args.store.now.entries.items) c.requires.ready.ready.kept c.args.key
-    c.args.effect.now (λ m e there. c.requires.ready.ready.change.trackers c.args.key m (ap (Change.Effect c.args.key) e) there) at n found
+    tracker_room c.args.store.now.nodes.table (shelves_of c.args.store.now.entries.items) c.requires.ready.ready.kept c.args.made.now.key
+    c.args.made.now.effect (λ m e there. c.requires.ready.ready.change.trackers c.args.made.now.key m (ap (Change.Effect c.args.made.now.key) e) there) at n found
 
-pub affect_here-requires-clause-room : goal.affect_here-requires-clause-room
-affect_here-requires-clause-room c n found =
-    tracker_room c.args.store.now.nodes.table (shelves_of c.args.store.now.entries.items) c.requires.ready.ready.kept c.args.key
-    c.args.effect.now (λ m e there. c.requires.ready.ready.change.trackers c.args.key m (ap (Change.Effect c.args.key) e) there) c.args.key n
-    found
+pub make_effect-requires-clause-may : goal.make_effect-requires-clause-may
+make_effect-requires-clause-may c =
+    may_make c.args.store.now.nodes c.args.store.now.entries.items c.args.at c.args.made.now c.index_mut-entry.result.now c.requires.ready
+    (c.requires.worked c.index_mut-entry.result.now c.index_mut-entry.ensures.value)
 
--- the unit does not come to its allocation
+pub planned-requires-clause-worked : goal.planned-requires-clause-worked
+planned-requires-clause-worked c = rw c.in-Some.is at (c.requires.worked c.index-entry.result.now c.index-entry.ensures)
+
+-- an effect that changes no count makes no unit ready
 pub returns-in_default-clause-waits : goal.returns-in_default-clause-waits
 returns-in_default-clause-waits c told e is held =
-    let none : comes_first c.args.store.now.nodes.table c.args.store.now.nodes.units.items c.args.key c.args.effect.now ≡ false =
-    rw c.deref.ensures.value at (c.planned.ensures.none c.in_default.is) in
+    let t = c.args.store.now.nodes.table in
+    let us = c.args.store.now.nodes.units.items in
+    let es = c.args.store.now.entries.items in
+    let effect = c.args.made.now.effect in
+    let keeps : KeepsCounts effect = rw c.in_default.is at (c.requires.worked e is) in
+    waits_plain t us (shelves_of es) e
+    (begins_at (total c.args.holds.now) t us es c.args.at e is (Change.Effect c.args.made.now.key effect) c.requires.ready refl)
+    c.args.made.now.key effect keeps.plain
+
+-- the unit does not come to its allocation
+pub returns-in_default-planned-clause-waits : goal.returns-in_default-planned-clause-waits
+returns-in_default-planned-clause-waits c told e is held =
     waits_not c.args.store.now.nodes.table c.args.store.now.entries.items c.requires.ready.id c.args.at e c.requires.ready.place is
-    c.args.store.now.nodes.units.items c.args.key c.args.effect.now c.requires.ready.ready none held
+    c.args.store.now.nodes.units.items c.args.made.now.key c.args.made.now.effect c.requires.ready.ready
+    (c.planned.ensures.none c.in_default-planned.is) held
+
+-- a node that comes to its allocation has a head
+bare_row : (t : Table Node) (us : List Unit) (key : NodeKey) (effect : Effect) (n : Node) → node_at t key ≡ Some n →
+    comes_first t us key effect ≡ true → IsSome (row_at t n.head)
+bare_row t us key effect n was comes =
+    from (row_at t n.head)
+    (and_left (is_bare_root t n.head) _
+    (sym (ap (λ (o : Option Node). option_map_or
+    (λ (m : Node). is_bare_root t m.head && is_held_ready (unit_then us m (affected key effect m))) o false) was) ∙ comes))
+  where
+    from : (o : Option (Row Node)) →
+        option_map_or (λ (m : Node). is_root_left m && not m.allocated) (option_map (λ (r : Row Node). r.node) o) false ≡ true → IsSome o
+    from None h = let no : false ≡ true = h in absurd (cc)
+    from (Some r) h = refl
+
+pub settle_first-requires-clause-there : goal.settle_first-requires-clause-there
+settle_first-requires-clause-there c =
+    let p = c.in-Some-planned.ensures.some in
+    c.make_effect.ensures.there c.in-Some-planned.plan.head
+    (subst (λ (k : NodeKey). IsSome (row_at c.args.store.now.nodes.table k)) (sym p.head_is)
+    (bare_row c.args.store.now.nodes.table c.args.store.now.nodes.units.items c.args.made.now.key c.args.made.now.effect p.node p.was
+    c.in-Some-planned.ensures.comes))
+
+-- the walk is the same with the effect
+pub settle_first-requires-clause-listed : goal.settle_first-requires-clause-listed
+settle_first-requires-clause-listed c =
+    let x = node_there c.args.store.now.nodes.table (shelves_of c.args.store.now.entries.items) c.requires.ready.ready.kept c.requires.ready.id
+    c.args.made.now.key c.requires.ready.ready.change.named in
+    listed_written c.args.store.now.nodes.table c.make_effect.new.nodes.table c.args.made.now.key c.args.made.now.effect x.0 x.1
+    c.requires.ready.ready.kept.named (c.make_effect.ensures.writes x.0 x.1) c.in-Some-planned.plan.head c.planned.new.keys.items
+    c.in-Some-planned.ensures.listed
 
 -- the entry at its place
 module _ (c : goal.After-finish_event-arg-3-1) where
@@ -58,7 +108,7 @@ module _ (c : goal.After-finish_event-arg-3-1) where
   old = c.index-entry.result.now
 
   abbrev plan : Plan
-  plan = c.in-Some.plan
+  plan = c.in-Some-planned.plan
 
   -- the place that was told
   told : place_in c.requires.ready.id c.args.store.now.entries.items ≡ Some c.args.at
@@ -75,64 +125,64 @@ module _ (c : goal.After-finish_event-arg-3-1) where
 
   -- the collection is under way, with nothing loose and nothing due
   under : MidEvent c.args.store.now.nodes.table c.args.store.now.nodes.units.items (shelves_of c.args.store.now.entries.items) c.index-entry.result.now [] []
-  under = begins_at (total c.args.holds.now) t us es c.args.at old c.index-entry.ensures (Change.Effect c.args.key c.args.effect.now)
+  under = begins_at (total c.args.holds.now) t us es c.args.at old c.index-entry.ensures (Change.Effect c.args.made.now.key c.args.made.now.effect)
       c.requires.ready refl
 
   -- the contract of the plan, read at the units
-  planned : IsPlanned c.args.store.now.nodes.table c.args.store.now.nodes.units.items c.index-entry.result.now c.args.key c.args.effect.now c.in-Some.plan
-  planned = rw c.deref.ensures.value at c.in-Some.ensures.some
+  planned : IsPlanned c.args.store.now.nodes.table c.args.store.now.nodes.units.items c.index-entry.result.now c.args.made.now.key c.args.made.now.effect c.in-Some-planned.plan
+  planned = c.in-Some-planned.ensures.some
 
   -- the contract of the plan, read at the units
-  comes : comes_first c.args.store.now.nodes.table c.args.store.now.nodes.units.items c.args.key c.args.effect.now ≡ true
-  comes = rw c.deref.ensures.value at c.in-Some.ensures.comes
+  comes : comes_first c.args.store.now.nodes.table c.args.store.now.nodes.units.items c.args.made.now.key c.args.made.now.effect ≡ true
+  comes = c.in-Some-planned.ensures.comes
 
   -- the effect was made on the node of the plan, which alone concerns its unit
-  affects : AfterEffect c.args.store.now.nodes.table c.affect_here.new.nodes.table c.affect_here.new.nodes.units.items (shelves_of c.args.store.now.entries.items)
-      c.index-entry.result.now c.affect_here.new.entry c.args.key c.args.effect.now planned.node.head
+  affects : AfterEffect c.args.store.now.nodes.table c.make_effect.new.nodes.table c.make_effect.new.nodes.units.items (shelves_of c.args.store.now.entries.items)
+      c.index-entry.result.now c.make_effect.new.entry c.args.made.now.key c.args.made.now.effect planned.node.head
   affects =
-      let x = node_there t (shelves_of es) c.requires.ready.ready.kept c.requires.ready.id c.args.key c.requires.ready.ready.change.named in
+      let x = node_there t (shelves_of es) c.requires.ready.ready.kept c.requires.ready.id c.args.made.now.key c.requires.ready.ready.change.named in
       let both : Some planned.node ≡ Some x.0 = sym planned.was ∙ x.1 in
       let one : planned.node ≡ x.0 = cc in
       let own : planned.node.collection ≡ old.id =
       ap (λ (m : Node). m.collection) one ∙ (x.3 ∙ sym (ap (λ (e : Entry). e.id) c.index-entry.ensures ∙ place.id_is old)) in
-      affected_on t c.affect_here.new.nodes.table us c.affect_here.new.nodes.units.items (shelves_of es) old c.affect_here.new.entry c.args.key
-      c.args.effect.now planned.node planned.was own under
-      (subst (λ (e : Entry). EffectMade t c.affect_here.new.nodes.table c.affect_here.new.nodes.units.items (shelves_of es) e c.affect_here.new.entry
-      c.args.key c.args.effect.now planned.node.head) again
-      (c.affect_here.ensures.affected (shelves_of es) planned.node planned.was (ap (λ (m : Node). m.gone) one ∙ x.2)
+      affected_on t c.make_effect.new.nodes.table us c.make_effect.new.nodes.units.items (shelves_of es) old c.make_effect.new.entry c.args.made.now.key
+      c.args.made.now.effect planned.node planned.was own under
+      (subst (λ (e : Entry). EffectMade t c.make_effect.new.nodes.table c.make_effect.new.nodes.units.items (shelves_of es) e c.make_effect.new.entry
+      c.args.made.now.key c.args.made.now.effect planned.node.head) again
+      (c.make_effect.ensures.affected (shelves_of es) planned.node planned.was (ap (λ (m : Node). m.gone) one ∙ x.2)
       (own ∙ sym (ap (λ (e : Entry). e.id) again))
       (subst (λ (e : Entry). StoreAgrees t us (shelves_of es) e) (sym again) under.store)))
 
   -- the contract of the placing
-  found : IsAllocationOutcome c.args.pool.now c.place_wanted.new.pool c.requires.ready.id c.index-entry.result.now.held.items c.in-Some.plan.wants
+  found : IsAllocationOutcome c.args.pool.now c.place_wanted.new.pool c.requires.ready.id c.index-entry.result.now.held.items c.in-Some-planned.plan.wants
       c.in_ok-verdict.verdict
   found = subst (λ (i : ℕ). IsAllocationOutcome c.args.pool.now c.place_wanted.new.pool i c.index-entry.result.now.held.items
-      c.in-Some.plan.wants c.in_ok-verdict.verdict)
+      c.in-Some-planned.plan.wants c.in_ok-verdict.verdict)
       (ap (λ (e : Entry). e.id) c.index-entry.ensures ∙ place.id_is old) c.in_ok-verdict.ensures.verdict
 
   -- the contract of the allocation, from the collection with the effect
-  rooted : IsRooted (total c.args.holds.now) c.affect_here.new.nodes.table c.settle_first.new.nodes.table c.settle_first.new.nodes.units.items
-      (shelves_of c.args.store.now.entries.items) c.affect_here.new.entry c.settle_first.new.entry c.in-Some.plan.head
+  rooted : IsRooted (total c.args.holds.now) c.make_effect.new.nodes.table c.settle_first.new.nodes.table c.settle_first.new.nodes.units.items
+      (shelves_of c.args.store.now.entries.items) c.make_effect.new.entry c.settle_first.new.entry c.in-Some-planned.plan.head
       c.in_ok-verdict.verdict
   rooted =
       let h = total c.args.holds.now in
       let r = c.requires.ready.ready in
-      let t1 = c.affect_here.new.nodes.table in
-      let us1 = c.affect_here.new.nodes.units.items in
-      let e1 = c.affect_here.new.entry in
+      let t1 = c.make_effect.new.nodes.table in
+      let us1 = c.make_effect.new.nodes.units.items in
+      let e1 = c.make_effect.new.entry in
       c.settle_first.ensures.rooted (shelves_of es)
-      (under_mid h t es c.requires.ready.id c.args.at old told c.index-entry.ensures us c.args.key c.args.effect.now r under plan planned comes t1
+      (under_mid h t es c.requires.ready.id c.args.at old told c.index-entry.ensures us c.args.made.now.key c.args.made.now.effect r under plan planned comes t1
       us1 e1 affects)
-      (coming_mid h t es c.requires.ready.id c.args.at old told c.index-entry.ensures us c.args.key c.args.effect.now r under plan planned comes t1
+      (coming_mid h t es c.requires.ready.id c.args.at old told c.index-entry.ensures us c.args.made.now.key c.args.made.now.effect r under plan planned comes t1
       us1 e1 affects)
-      (reserved_mid h t es c.requires.ready.id c.args.at old told c.index-entry.ensures us c.args.key c.args.effect.now r under plan planned comes
+      (reserved_mid h t es c.requires.ready.id c.args.at old told c.index-entry.ensures us c.args.made.now.key c.args.made.now.effect r under plan planned comes
       t1 us1 e1 affects)
 
   -- it is found at the same place then
   told_then : place_in c.requires.ready.id (set c.args.store.now.entries.items c.args.at c.settle_first.new.entry) ≡ Some c.args.at
   told_then =
-      told_new (total c.args.holds.now) t es c.requires.ready.id c.args.at old told c.index-entry.ensures us c.args.key c.args.effect.now
-      c.requires.ready.ready under plan planned comes c.affect_here.new.nodes.table c.affect_here.new.nodes.units.items c.affect_here.new.entry affects
+      told_new (total c.args.holds.now) t es c.requires.ready.id c.args.at old told c.index-entry.ensures us c.args.made.now.key c.args.made.now.effect
+      c.requires.ready.ready under plan planned comes c.make_effect.new.nodes.table c.make_effect.new.nodes.units.items c.make_effect.new.entry affects
       c.args.pool.now c.place_wanted.new.pool c.in_ok-verdict.verdict found c.assert_disjoint.ensures c.requires.pool c.settle_first.new.nodes.table
       c.settle_first.new.nodes.units.items c.settle_first.new.entry rooted
 
@@ -142,25 +192,25 @@ module _ (c : goal.After-finish_event-arg-3-1) where
       (set c.args.store.now.entries.items c.args.at c.settle_first.new.entry) behind left c.requires.ready.id →
       pool.size ≡ c.place_wanted.new.pool.size →
       IsOutcomeIn true (total c.args.holds.now) c.args.pool.now pool c.args.store.now.nodes.table last c.args.store.now.entries.items behind c.requires.ready.id
-      (Change.Effect c.args.key c.args.effect.now)
+      (Change.Effect c.args.made.now.key c.args.made.now.effect)
   outcome_then last behind left pool closes size =
-      outcome_root (total c.args.holds.now) t es c.requires.ready.id c.args.at old told c.index-entry.ensures us c.args.key c.args.effect.now
-      c.requires.ready.ready under plan planned comes c.affect_here.new.nodes.table c.affect_here.new.nodes.units.items c.affect_here.new.entry affects
+      outcome_root (total c.args.holds.now) t es c.requires.ready.id c.args.at old told c.index-entry.ensures us c.args.made.now.key c.args.made.now.effect
+      c.requires.ready.ready under plan planned comes c.make_effect.new.nodes.table c.make_effect.new.nodes.units.items c.make_effect.new.entry affects
       c.args.pool.now c.place_wanted.new.pool c.in_ok-verdict.verdict found c.assert_disjoint.ensures c.requires.pool c.settle_first.new.nodes.table
       c.settle_first.new.nodes.units.items c.settle_first.new.entry rooted last behind left pool closes c.in_ok-verdict.ensures.size size
 
 pub finish_event-requires-clause-may : goal.finish_event-requires-clause-may
 finish_event-requires-clause-may c =
-    may_close (total c.args.holds.now) (t c) (es c) c.requires.ready.id c.args.at (old c) (told c) c.index-entry.ensures (us c) c.args.key
-    c.args.effect.now c.requires.ready.ready (under c) (plan c) (planned c) (comes c) c.affect_here.new.nodes.table c.affect_here.new.nodes.units.items
-    c.affect_here.new.entry (affects c) c.args.pool.now c.place_wanted.new.pool c.in_ok-verdict.verdict (found c) c.assert_disjoint.ensures
+    may_close (total c.args.holds.now) (t c) (es c) c.requires.ready.id c.args.at (old c) (told c) c.index-entry.ensures (us c) c.args.made.now.key
+    c.args.made.now.effect c.requires.ready.ready (under c) (plan c) (planned c) (comes c) c.make_effect.new.nodes.table c.make_effect.new.nodes.units.items
+    c.make_effect.new.entry (affects c) c.args.pool.now c.place_wanted.new.pool c.in_ok-verdict.verdict (found c) c.assert_disjoint.ensures
     c.requires.pool c.settle_first.new.nodes.table c.settle_first.new.nodes.units.items c.settle_first.new.entry (rooted c)
 
 pub finish_event-requires-clause-pool : goal.finish_event-requires-clause-pool
 finish_event-requires-clause-pool c =
-    pool_then (total c.args.holds.now) (t c) (es c) c.requires.ready.id c.args.at (old c) (told c) c.index-entry.ensures (us c) c.args.key
-    c.args.effect.now c.requires.ready.ready (under c) (plan c) (planned c) (comes c) c.affect_here.new.nodes.table c.affect_here.new.nodes.units.items
-    c.affect_here.new.entry (affects c) c.args.pool.now c.place_wanted.new.pool c.in_ok-verdict.verdict (found c) c.assert_disjoint.ensures
+    pool_then (total c.args.holds.now) (t c) (es c) c.requires.ready.id c.args.at (old c) (told c) c.index-entry.ensures (us c) c.args.made.now.key
+    c.args.made.now.effect c.requires.ready.ready (under c) (plan c) (planned c) (comes c) c.make_effect.new.nodes.table c.make_effect.new.nodes.units.items
+    c.make_effect.new.entry (affects c) c.args.pool.now c.place_wanted.new.pool c.in_ok-verdict.verdict (found c) c.assert_disjoint.ensures
     c.requires.pool c.settle_first.new.nodes.table c.settle_first.new.nodes.units.items c.settle_first.new.entry (rooted c) c.assert_disjoint-2.ensures
 
 -- what came last was made
@@ -174,7 +224,7 @@ returns-clause-outcome c = record {
   outcome = λ id told.
       subst (λ (i : ℕ). IsOutcomeIn true (total c.args.holds.now) c.args.pool.now c.finish_event.new.pool c.args.store.now.nodes.table
       c.finish_event.new.store.nodes.table c.args.store.now.entries.items c.finish_event.new.store.entries.items i
-      (Change.Effect c.args.key c.args.effect.now))
+      (Change.Effect c.args.made.now.key c.args.made.now.effect))
       (one_id c.args.store.now.entries.items c.args.at c.requires.ready.id id c.requires.ready.place told)
       (outcome_then c.before c.finish_event.new.store.nodes.table c.finish_event.new.store.entries.items
       c.finish_event.new.store.nodes.units.items c.finish_event.new.pool (closed c) c.finish_event.ensures.size);

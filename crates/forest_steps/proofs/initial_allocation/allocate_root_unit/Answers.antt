@@ -44,9 +44,9 @@ module _ (c : goal.After-allocate_all_pending) (ss : List Shelf)
     new = record (c.args.entry.now) { reserved = c.args.plan.now.reserved; buffers = Some c.args.buffers; held = c.args.held }
 
     abbrev ks : List NodeKey
-    ks = c.list_unit.new.keys.items
+    ks = c.args.room.now.unit.items
 
-    given : IsGivenAt c.args.nodes.now.table c.mark_allocated.new.table (c.args.plan.now.head ∷ []) c.list_unit.new.keys.items
+    given : IsGivenAt c.args.nodes.now.table c.mark_allocated.new.table (c.args.plan.now.head ∷ []) c.args.room.now.unit.items
     given = rw c.deref-2.ensures.value at c.mark_allocated.ensures
 
     listed : AreTurns c.args.nodes.now.table c.args.entry.now.keys.items c.list_pending.new.turns.items
@@ -71,14 +71,14 @@ module _ (c : goal.After-allocate_all_pending) (ss : List Shelf)
     rooted_so =
         let now = c.mark_allocated.new.table in
         let few = c.requires.few in
-        rooted_given t now us ss e c.args.plan.now.head under coming ks c.list_unit.ensures.listed given c.args.buffers few held ws listed.1.0
+        rooted_given t now us ss e c.args.plan.now.head under coming ks c.requires.listed given c.args.buffers few held ws listed.1.0
         turns new refl refl refl refl reserved
         (total c.args.holds.now) c.allocate_all_pending.new.nodes.table c.allocate_all_pending.new.nodes.units.items c.allocate_all_pending.new.entry
         (c.allocate_all_pending.ensures.out (put_shelf (shelf_of new) ss)
-        (under_then t now us ss e c.args.plan.now.head under coming ks c.list_unit.ensures.listed given c.args.buffers few held ws listed.1.0
+        (under_then t now us ss e c.args.plan.now.head under coming ks c.requires.listed given c.args.buffers few held ws listed.1.0
         turns new refl refl refl refl reserved)
-        (turns_then t now us ss e c.args.plan.now.head under coming ks c.list_unit.ensures.listed given c.args.buffers few held ws listed.1.0 turns)
-        (waits_no_more t now us ss e c.args.plan.now.head under coming ks c.list_unit.ensures.listed given c.args.buffers few held) refl)
+        (turns_then t now us ss e c.args.plan.now.head under coming ks c.requires.listed given c.args.buffers few held ws listed.1.0 turns)
+        (waits_no_more t now us ss e c.args.plan.now.head under coming ks c.requires.listed given c.args.buffers few held) refl)
         (AllocationOutcome.Given c.args.buffers c.args.held) (λ d. refl) refl
 
 pub returns-clause-rooted : goal.returns-clause-rooted

@@ -1,77 +1,93 @@
 -- The effect is made, what nothing holds then ends, and what is due has its turn.
-use Rattle.forest_steps.proofs.Common.{◌≡◌, ◌∙◌, ap, subst, not, List, [], ◌∷◌, Option, Some, None, NodeKey, total, Table, Effect, Entry, Node, Unit, Shelf}
-use Rattle.std.proofs.Common.{Bor, option_copied}
-use Rattle.forest_steps.specs.MidEvent.{AfterEffect}
-use Rattle.forest_steps.proofs.mid_event.Affecting.{affected_on}
+use Rattle.forest_steps.proofs.Common.{◌≡◌, ◌∙◌, sym, ap, subst, not, refl, List, [], ◌∷◌, Option, Some, None, NodeKey, total, Table, node_at, Effect, Entry, Node, Unit, Shelf}
+use Rattle.forest_steps.specs.declared.node_effect.EffectCounts.{EffectCounts}
+use Rattle.forest_steps.specs.MidEvent.{AfterEffect, EffectMade, MidEvent}
+use Rattle.forest_steps.specs.NodeEffects.{AreCountsThen, KeepsCounts}
+use Rattle.forest_steps.proofs.mid_event.Affecting.{affected_on, becomes_there, writes_there}
+use Rattle.forest_steps.proofs.mid_event.Counted.{still_played}
 use Rattle.forest_steps.proofs.mid_event.Felled.{head_row, lent_there}
 use Rattle.forest_steps.proofs.mid_event.NextThere.{none_bare}
 use Rattle.forest_steps.proofs.mid_event.Playing.{played_affected, played_none, still_left}
 use Rattle.forest_steps.proofs.propagation.apply_effect.Goals as goal
 
--- what is lent is the node
-lent_is : (o : Option (Bor Node)) (b : Bor Node) (n : Node) → o ≡ Some b → option_copied o ≡ Some n → n ≡ b.now
-lent_is None b n is h = cc
-lent_is (Some x) b n is h = cc
+-- an effect that changes no count is all that is made
+pub returns-in_default-clause-out : goal.returns-in_default-clause-out
+returns-in_default-clause-out c ss n at here own under waits =
+    let t = c.args.nodes.now.table in
+    let now = c.make_effect.new.nodes.table in
+    let key = c.args.made.now.key in
+    let effect = c.args.made.now.effect in
+    let keeps : KeepsCounts effect = rw c.in_default.is at c.requires.may.worked in
+    still_played t c.args.nodes.now.units.items ss c.args.entry.now under key effect n at here own now
+    (becomes_there t now key effect n at c.requires.named (c.make_effect.ensures.becomes n at))
+    (writes_there t now key effect n at c.requires.named (c.make_effect.ensures.writes n at))
+    c.make_effect.new.nodes.units.items c.make_effect.new.entry (c.make_effect.ensures.affected ss n at here own under.store)
+    (total c.args.holds.now) None keeps refl
 
--- so the effect was made on the one that was looked up
-affected : (t now : Table Node) (us : List Unit) (ss : List Shelf) (old new : Entry) (key : NodeKey) (effect : Effect)
-    (o : Option (Bor Node)) (b : Bor Node) (n : Node) → o ≡ Some b → option_copied o ≡ Some n →
-    AfterEffect t now us ss old new key effect n.head → AfterEffect t now us ss old new key effect b.now.head
-affected t now us ss old new key effect o b n is h made =
-    subst (λ (m : Node). AfterEffect t now us ss old new key effect m.head) (lent_is o b n is h) made
+-- the effect was made on the node of the unit that was counted
+counted_on : (t mid : Table Node) (us after : List Unit) (ss : List Shelf) (e e1 : Entry) (key : NodeKey) (effect : Effect)
+    (counts : Option EffectCounts) (c : EffectCounts) → counts ≡ Some c → AreCountsThen t us e key effect counts → (n : Node) →
+    node_at t key ≡ Some n → n.collection ≡ e.id → MidEvent t us ss e [] [] → EffectMade t mid after ss e e1 key effect n.head →
+    AfterEffect t mid after ss e e1 key effect c.head
+counted_on t mid us after ss e e1 key effect counts c is worked n at own under made =
+    let told : AreCountsThen t us e key effect (Some c) = subst (AreCountsThen t us e key effect) is worked in
+    subst (AfterEffect t mid after ss e e1 key effect) (sym (told n at).head)
+    (affected_on t mid us after ss e e1 key effect n at own under made)
 
 pub returns-then-is_none-clause-out : goal.returns-then-is_none-clause-out
 returns-then-is_none-clause-out c ss n at here own under waits =
-    let t = c.args.nodes.now.table in
-    let mid = c.affect_here.new.nodes.table in
+    let mid = c.make_effect.new.nodes.table in
     let e = c.args.entry.now in
-    let head = c.in-Some.node.now.head in
-    let made = affected t mid c.affect_here.new.nodes.units.items ss e c.affect_here.new.entry c.args.key c.args.effect.now c.get.result
-    c.in-Some.node n c.in-Some.is (c.get.ensures ∙ at) (affected_on t mid c.args.nodes.now.units.items c.affect_here.new.nodes.units.items ss e
-    c.affect_here.new.entry c.args.key c.args.effect.now n at own under
-    (c.affect_here.ensures.affected ss n at here own under.store)) in
-    let row = head_row mid c.affect_here.ensures.named e.keys.items head made.left in
-    absurd (lent_there c.get-2.result row.0 (c.get-2.ensures ∙ row.1) (c.is_none.ensures ∙ ap not c.if-is_none.true))
+    let head = c.in-Some.counts.head in
+    let done = counted_on c.args.nodes.now.table c.make_effect.new.nodes.table c.args.nodes.now.units.items
+    c.make_effect.new.nodes.units.items ss c.args.entry.now c.make_effect.new.entry c.args.made.now.key c.args.made.now.effect
+    c.args.made.now.counts c.in-Some.counts c.in-Some.is c.requires.may.worked n at own under
+    (c.make_effect.ensures.affected ss n at here own under.store) in
+    let row = head_row mid c.make_effect.ensures.named e.keys.items head done.left in
+    absurd (lent_there c.get.result row.0 (c.get.ensures ∙ row.1) (c.is_none.ensures ∙ ap not c.if-is_none.true))
 
 pub returns-in-Some-given-clause-out : goal.returns-in-Some-given-clause-out
 returns-in-Some-given-clause-out c ss n at here own under waits =
     let t = c.args.nodes.now.table in
-    let mid = c.affect_here.new.nodes.table in
-    let us = c.affect_here.new.nodes.units.items in
+    let mid = c.make_effect.new.nodes.table in
+    let us = c.make_effect.new.nodes.units.items in
     let e = c.args.entry.now in
-    let e1 = c.affect_here.new.entry in
-    let key = c.args.key in
-    let effect = c.args.effect.now in
-    let head = c.in-Some.node.now.head in
+    let e1 = c.make_effect.new.entry in
+    let key = c.args.made.now.key in
+    let effect = c.args.made.now.effect in
+    let head = c.in-Some.counts.head in
     let handles = total c.args.holds.now in
-    let made = affected t mid us ss e e1 key effect c.get.result c.in-Some.node n c.in-Some.is (c.get.ensures ∙ at)
-    (affected_on t mid c.args.nodes.now.units.items c.affect_here.new.nodes.units.items ss e c.affect_here.new.entry c.args.key c.args.effect.now n at own under
-    (c.affect_here.ensures.affected ss n at here own under.store)) in
-    let left = still_left t mid us ss e e1 key effect head made in
-    played_affected t mid us ss e e1 key effect head made handles c.end_above.new.nodes.table c.end_above.new.nodes.units.items c.end_above.new.entry
-    (c.end_above.ensures.led handles ss (head ∷ []) made.under left) (c.end_above.ensures.ended ss (head ∷ []) made.under left) waits
-    c.allocate_ready.new.nodes.table c.allocate_ready.new.nodes.units.items c.allocate_ready.new.entry
+    let done = counted_on c.args.nodes.now.table c.make_effect.new.nodes.table c.args.nodes.now.units.items
+    c.make_effect.new.nodes.units.items ss c.args.entry.now c.make_effect.new.entry c.args.made.now.key c.args.made.now.effect
+    c.args.made.now.counts c.in-Some.counts c.in-Some.is c.requires.may.worked n at own under
+    (c.make_effect.ensures.affected ss n at here own under.store) in
+    let left = still_left t mid us ss e e1 key effect head done in
+    played_affected t mid us ss e e1 key effect head done handles c.end_above.new.nodes.table c.end_above.new.nodes.units.items
+    c.end_above.new.entry (c.end_above.ensures.led handles ss (head ∷ []) done.under left)
+    (c.end_above.ensures.ended ss (head ∷ []) done.under left) waits c.allocate_ready.new.nodes.table
+    c.allocate_ready.new.nodes.units.items c.allocate_ready.new.entry
     (λ pending there no_wait same. c.allocate_ready.ensures.out ss pending there no_wait (same ∙ c.in-Some-given.is))
 
 pub returns-in_default-given-clause-out : goal.returns-in_default-given-clause-out
 returns-in_default-given-clause-out c ss n at here own under waits =
     let t = c.args.nodes.now.table in
-    let mid = c.affect_here.new.nodes.table in
-    let us = c.affect_here.new.nodes.units.items in
+    let mid = c.make_effect.new.nodes.table in
+    let us = c.make_effect.new.nodes.units.items in
     let e = c.args.entry.now in
-    let e1 = c.affect_here.new.entry in
-    let key = c.args.key in
-    let effect = c.args.effect.now in
-    let head = c.in-Some.node.now.head in
+    let e1 = c.make_effect.new.entry in
+    let key = c.args.made.now.key in
+    let effect = c.args.made.now.effect in
+    let head = c.in-Some.counts.head in
     let handles = total c.args.holds.now in
     let then = c.end_above.new.nodes.table in
     let vs = c.end_above.new.nodes.units.items in
     let e2 = c.end_above.new.entry in
-    let made = affected t mid us ss e e1 key effect c.get.result c.in-Some.node n c.in-Some.is (c.get.ensures ∙ at)
-    (affected_on t mid c.args.nodes.now.units.items c.affect_here.new.nodes.units.items ss e c.affect_here.new.entry c.args.key c.args.effect.now n at own under
-    (c.affect_here.ensures.affected ss n at here own under.store)) in
-    let left = still_left t mid us ss e e1 key effect head made in
-    played_affected t mid us ss e e1 key effect head made handles then vs e2
-    (c.end_above.ensures.led handles ss (head ∷ []) made.under left) (c.end_above.ensures.ended ss (head ∷ []) made.under left) waits
+    let done = counted_on c.args.nodes.now.table c.make_effect.new.nodes.table c.args.nodes.now.units.items
+    c.make_effect.new.nodes.units.items ss c.args.entry.now c.make_effect.new.entry c.args.made.now.key c.args.made.now.effect
+    c.args.made.now.counts c.in-Some.counts c.in-Some.is c.requires.may.worked n at own under
+    (c.make_effect.ensures.affected ss n at here own under.store) in
+    let left = still_left t mid us ss e e1 key effect head done in
+    played_affected t mid us ss e e1 key effect head done handles then vs e2
+    (c.end_above.ensures.led handles ss (head ∷ []) done.under left) (c.end_above.ensures.ended ss (head ∷ []) done.under left) waits
     then vs e2
     (λ pending there no_wait same. played_none handles then vs ss e2 (none_bare then vs ss e2 head pending no_wait (same ∙ c.in_default-given.is)))
