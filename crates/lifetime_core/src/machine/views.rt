@@ -1,0 +1,238 @@
+//! What is seen of a core: the fired trackers, nodes, buffers and pages, collections, clients and handles.
+ghost use Rattle.std.specs.Prelude.{◌≡◌, ◌+◌, ◌≤◌, List, map, reverse, option_map, if◌then◌else◌};
+ghost use Rattle.std.specs.Prelude.{AllPairs, IfOk, IfSome, None, Some};
+ghost use Rattle.sm_names.specs.declared.outcomes.Fault.{Fault};
+ghost use Rattle.sm_names.specs.declared.keys.HeldBuffer.{HeldBuffer as Held};
+ghost use Rattle.sm_names.specs.Births.{birth_of};
+ghost use Rattle.sm_names.specs.Ends.{clients as clients_after};
+ghost use Rattle.sm_names.specs.Handles.{buffers_of as given_after, moving as moving_after, open_of as open_after, open_total as total_after};
+ghost use Rattle.sm_names.specs.Kept.{is_kept, is_kept_collection};
+ghost use Rattle.sm_names.specs.Losses.{live as is_live_after, fault as fault_after};
+ghost use Rattle.sm_names.specs.Marks.{Entry};
+ghost use Rattle.sm_names.specs.Timelines.{timeline};
+ghost use Rattle.sm_names.specs.Trackers.{fired as fired_after};
+ghost use Rattle.sm_names.specs.Views.{live_nodes, held_by_page as held_after};
+ghost use Rattle.sm_names.specs.Views.{free_pages as free_after};
+ghost use Rattle.forest_store.specs.Forest.{all_nodes, beside, live_keys, node_at, held_by_page};
+ghost use Rattle.forest_store.specs.Forest.{Collection as Shelved, collection_at as shelved_at};
+ghost use Rattle.forest_store.specs.Scenes.{IsSound as IsSoundCollection};
+ghost use Rattle.forest_store.specs.Snapshots.{collection_of};
+ghost use Rattle.buffer_holds.specs.Counts.{moving_count, of, total};
+ghost use Rattle.lifetime_core.specs.Reads.{buffers_in, fault_in, is_live_in, views_of};
+ghost use Rattle.lifetime_core.specs.Shown.{Shows, collection_after, kept_ids, kept_nodes, node_after, pages_beside_after};
+ghost use Rattle.lifetime_core.specs.State.{Client as ClientRow};
+
+use super::Core;
+use crate::clients::ids_of;
+use crate::reading::{cause, is_live};
+use alloc_event::{Node, Snapshot};
+use sm_names::{
+    BufferName, Buffers, Cause, ClientId, CollectionId, Fired, HeldBuffer, Interval, NoMemory,
+    NodeKey, Strength,
+};
+
+impl Core {
+    /// The trackers that fired, by event, and by rising id within one. It costs a constant and takes
+    /// no memory.
+    pub fn fired(&self) -> &[Fired]
+        ensures value { result.now ≡ self.now.trackers.fired }
+        ensures shown { (history : List Entry) → Shows self.now history →
+            result.now ≡ fired_after (timeline self.now.pool history) }
+    {
+        self.contents.trackers.fired()
+    }
+
+    /// Whether the node is live: neither gone nor released. A key that was given to no node, or to
+    /// one that was forgotten, is that of none. It costs one look-up.
+    pub fn is_live(&self, key: NodeKey) -> bool
+        ensures value { result ≡ is_live_in self.now key }
+        ensures shown { (history : List Entry) → Shows self.now history →
+            result ≡ is_live_after (timeline self.now.pool history) key }
+    {
+        is_live(self.contents.forest.node(key))
+    }
+
+    /// Why the node failed, and the node whose failure took it. `None` where it did not fail, and
+    /// where it is gone and its end spent, so that it was forgotten. It costs one look-up.
+    pub fn cause(&self, key: NodeKey) -> Option<(Cause, NodeKey)>
+        ensures value { result
+            ≡ option_map (λ (f : Fault). (f.cause, f.origin)) (fault_in self.now key) }
+        ensures shown { (history : List Entry) → Shows self.now history →
+            let marks = timeline self.now.pool history in
+            result ≡ (if is_kept marks key
+            then option_map (λ (f : Fault). (f.cause, f.origin)) (fault_after marks key)
+            else None) }
+    {
+        cause(self.contents.forest.node(key))
+    }
+
+    /// The live nodes of all collections, by birth.
+    ///
+    /// `NoMemory` where the list is refused. It costs a walk over the kept nodes and a sort of
+    /// those that are live.
+    pub fn live(&self) -> Result<Vec<NodeKey>, NoMemory>
+        ensures value { IfOk result (λ keys. keys.items ≡ live_keys self.now.forest) }
+        ensures shown { IfOk result (λ keys. (history : List Entry) → Shows self.now history →
+            keys.items ≡ live_nodes (timeline self.now.pool history)) }
+    {
+        self.contents.forest.live()
+    }
+
+    /// The buffers of all collections whose pages were not given back, with those pages, by page.
+    ///
+    /// `NoMemory` where the list is refused. It costs a sort of these buffers.
+    pub fn held(&self) -> Result<Vec<HeldBuffer>, NoMemory>
+        ensures value { IfOk result (λ held.
+            held.items ≡ held_by_page self.now.forest) }
+        ensures shown { IfOk result (λ held. (history : List Entry) → Shows self.now history →
+            let marks = timeline self.now.pool history in
+            held.items ≡ held_after self.now.pool marks) }
+        // Each ends before the next begins.
+        ensures apart { IfOk result (λ held.
+            AllPairs (λ (a b : Held).
+            a.pages.start + a.pages.pages ≤ b.pages.start) held.items) }
+    {
+        // The pool tells that each buffer has a page, so that no two start at the same one.
+        let _free = self.contents.pool.free_pages();
+        self.contents.forest.held()
+    }
+
+    /// How many pages of the pool no buffer holds. It costs a constant.
+    pub fn free_pages(&self) -> u32
+        ensures value { result ≡ (views_of self.now).free }
+        ensures shown { (history : List Entry) → Shows self.now history →
+            result ≡ free_after self.now.pool (timeline self.now.pool history) }
+    {
+        self.contents.pool.free_pages()
+    }
+
+    /// The kept nodes of all collections with their ends, as they stand: collection by collection, the
+    /// earliest first, and by birth within each. A node is kept while it is not gone or its end is not
+    /// spent.
+    ///
+    /// `NoMemory` where the list is refused. It costs a copy of these nodes.
+    pub fn nodes(&self) -> Result<Vec<Node>, NoMemory>
+        ensures value { IfOk result (λ nodes. nodes.items ≡ all_nodes self.now.forest) }
+        ensures shown { IfOk result (λ nodes. (history : List Entry) → Shows self.now history →
+            nodes.items ≡ kept_nodes (timeline self.now.pool history)) }
+    {
+        self.contents.forest.nodes()
+    }
+
+    /// The ids of the collections that are kept, rising, which is the order in which their roots were
+    /// born: each has a kept node, or a buffer that is not home.
+    ///
+    /// `NoMemory` where the list is refused. It costs their number.
+    pub fn kept_collections(&self) -> Result<Vec<CollectionId>, NoMemory>
+        ensures value { IfOk result (λ ids. ids.items
+            ≡ map (λ (c : Shelved). c.id) self.now.forest.collections) }
+        ensures shown { IfOk result (λ ids. (history : List Entry) → Shows self.now history →
+            ids.items ≡ kept_ids (timeline self.now.pool history)) }
+    {
+        self.contents.forest.ids()
+    }
+
+    /// The pages of the buffers of all kept collections but this one: collection by collection, by
+    /// rising id, and by index within each.
+    ///
+    /// `NoMemory` where the list is refused. It costs the number of collections and of their buffers.
+    pub fn pages_beside(&self, collection: CollectionId) -> Result<Vec<Interval>, NoMemory>
+        ensures value { IfOk result (λ pages. pages.items ≡ beside self.now.forest collection) }
+        ensures shown { IfOk result (λ pages. (history : List Entry) → Shows self.now history →
+            let marks = timeline self.now.pool history in
+            pages.items ≡ pages_beside_after self.now.pool marks collection) }
+    {
+        self.contents.forest.pages_beside(collection)
+    }
+
+    /// How many pages the pool has, held or free. It costs a constant.
+    pub fn pages(&self) -> u32
+        ensures { result ≡ self.now.pool }
+    {
+        self.contents.pool.pages()
+    }
+
+    /// What the collection was given. `None` where it was given no buffers, and where it is not kept:
+    /// it has no kept node, and no buffer that is not home. It costs a binary search.
+    pub fn given(&self, collection: CollectionId) -> Option<Buffers>
+        ensures value { result ≡ buffers_in self.now collection }
+        ensures shown { (history : List Entry) → Shows self.now history →
+            let marks = timeline self.now.pool history in
+            result ≡ (if is_kept_collection marks collection
+            then given_after marks collection else None) }
+    {
+        self.buffers_of(collection)
+    }
+
+    /// The clients that joined, the earliest first. `NoMemory` where the list is refused. It costs
+    /// their number.
+    pub fn clients(&self) -> Result<Vec<ClientId>, NoMemory>
+        ensures value { IfOk result (λ ids. ids.items
+            ≡ map (λ (c : ClientRow). c.id) self.now.clients) }
+        ensures shown { IfOk result (λ ids. (history : List Entry) → Shows self.now history →
+            ids.items ≡ reverse (clients_after (timeline self.now.pool history))) }
+    {
+        match ids_of(*self.contents.clients.allocator(), &self.contents.clients) {
+            Ok(ids) => Ok(ids),
+            Err(_) => Err(NoMemory),
+        }
+    }
+
+    /// How many handles of this buffer and strength the client has open: those in parcels are
+    /// nobody's. It costs one look-up.
+    pub fn open_handles(&self, client: ClientId, buffer: BufferName, strength: Strength) -> u32
+        ensures value { result ≡ of self.now.holds client buffer strength }
+        ensures shown { (history : List Entry) → Shows self.now history →
+            result ≡ open_after (timeline self.now.pool history) client buffer strength }
+    {
+        self.contents.holds.of(client, buffer, strength)
+    }
+
+    /// How many handles of this buffer and strength are in parcels. It costs one look-up.
+    pub fn handles_in_parcels(&self, buffer: BufferName, strength: Strength) -> u32
+        ensures value { result ≡ moving_count self.now.holds buffer strength }
+        ensures shown { (history : List Entry) → Shows self.now history →
+            result ≡ moving_after (timeline self.now.pool history) buffer strength }
+    {
+        self.contents.holds.moving_count(buffer, strength)
+    }
+
+    /// How many handles of this buffer and strength are open, those in parcels among them. It costs a
+    /// look at the clients that have some.
+    pub fn total_handles(&self, buffer: BufferName, strength: Strength) -> u32
+        ensures value { result ≡ total self.now.holds buffer strength }
+        ensures shown { (history : List Entry) → Shows self.now history →
+            result ≡ total_after (timeline self.now.pool history) buffer strength }
+    {
+        self.open_total(buffer, strength)
+    }
+
+    /// The collection as it stands: its kept nodes by birth, what it was given, and those of its
+    /// buffers, by index, whose pages were not given back. `None` where it is not kept.
+    ///
+    /// `NoMemory` where the lists are refused. It costs a binary search, and a copy.
+    pub fn collection(&self, id: CollectionId) -> Result<Option<Snapshot>, NoMemory>
+        ensures value { IfOk result (λ copied. option_map collection_of copied
+            ≡ shelved_at self.now.forest id) }
+        ensures sound { IfOk result (λ copied.
+            IfSome copied (λ s. IsSoundCollection (collection_of s))) }
+        ensures shown { IfOk result (λ copied. (history : List Entry) → Shows self.now history →
+            let marks = timeline self.now.pool history in
+            option_map collection_of copied ≡ (if is_kept_collection marks id
+            then Some (collection_after self.now.pool marks id) else None)) }
+    {
+        self.contents.forest.snapshot(id)
+    }
+
+    /// The node as it stands, with its end. `None` where no kept node has the key: it was given to
+    /// none, or to one that is gone and whose end is spent. It costs one look-up.
+    pub fn node(&self, key: NodeKey) -> Option<Node>
+        ensures value { result ≡ node_at self.now.forest key }
+        ensures shown { (history : List Entry) → Shows self.now history →
+            let marks = timeline self.now.pool history in
+            result ≡ (if is_kept marks key
+            then option_map (node_after marks) (birth_of marks key) else None) }
+    {
+        self.contents.forest.node(key).copied()
+    }
+}
