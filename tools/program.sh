@@ -121,9 +121,8 @@ done
 
 # Words that ask for no run.
 try 2 '' '*' '' fly
-try 2 '' '*' '' run fly
+try 2 '' '*' '' run examples/first.script examples/first.script
 try 2 '' '*' '' run --fly
-try 2 '' '*' '' threads fly
 try 2 '' '*' '' threads --fly
 try 2 '' '*' ''
 
@@ -193,7 +192,8 @@ count no_thread
 
 # Each example.
 is_answered() {
-  "$program" run <"$1" 2>"$room/told" | cmp -s - "${1%.script}.out" && hears ''
+  "$program" run <"$1" 2>"$room/told" | cmp -s - "${1%.script}.out" && hears '' &&
+    "$program" run "$1" 2>"$room/told" | cmp -s - "${1%.script}.out" && hears ''
 }
 for script in examples/*.script; do count is_answered "$script"; done
 
@@ -216,10 +216,10 @@ for script in examples/*.script; do
 done
 for event in 27 28; do count is_drawn examples/camera.script "$event"; done
 no_file() {
-  "$program" explain examples/none.script >"$room/out" 2>"$room/told"
-  [ $? = 1 ] && [ ! -s "$room/out" ] && hears 'read fault'
+  "$program" "$1" examples/none.script >"$room/out" 2>"$room/told"
+  [ $? = 1 ] && [ ! -s "$room/out" ] && hears "the file can't be opened"
 }
-count no_file
+for command in run threads explain draw check; do count no_file "$command"; done
 
 # Large scripts are explained, drawn and checked.
 is_transcript_of() {
@@ -236,7 +236,7 @@ large_tree_fails() {
 # Below a root hang 300 attached nodes, each below the one before. All but the last are released, and then it too.
 chain_ends() {
   {
-    printf 'a join\na open n0\na bind n0\n'
+    printf 'a join\na open n0\na bind n0\na constrain n0 1 0 4096\n'
     for ((node = 1; node <= 300; node++)); do printf 'a attach n%d n%d\na bind n%d\n' $((node - 1)) "$node" "$node"; done
     for ((node = 0; node < 300; node++)); do printf 'a release n%d\n' "$node"; done
     printf 'show live\na release n300\nshow live\nshow free\n'
@@ -258,7 +258,8 @@ for case in large_tree_fails chain_ends empty_lines long_labels; do count "$case
 
 # Actors that never meet have one report. Of those that share a tree the number of events is open.
 is_reported() {
-  "$program" threads <examples/apart.actors 2>"$room/told" | cmp -s - examples/apart.out && hears ''
+  "$program" threads <examples/apart.actors 2>"$room/told" | cmp -s - examples/apart.out && hears '' &&
+    "$program" threads examples/apart.actors 2>"$room/told" | cmp -s - examples/apart.out && hears ''
 }
 all_is_gathered() {
   "$program" threads <examples/shared.actors >"$room/out" 2>"$room/told"

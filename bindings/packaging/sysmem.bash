@@ -13,7 +13,7 @@ _sysmem() {
     [ "$command" = draw ] && options+=' --format --at'
     [ "$command" = threads ] && options+=' --record'
     mapfile -t COMPREPLY < <(compgen -W "$options" -- "$word")
-  elif [[ $command = explain || $command = draw || $command = check ]]; then
+  elif [[ $command != help ]]; then
     mapfile -t COMPREPLY < <(compgen -f -- "$word")
     compopt -o filenames 2>/dev/null
   fi

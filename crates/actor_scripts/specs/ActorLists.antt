@@ -27,8 +27,8 @@ pub record Reading : Type 0 where
   pub lines : ℕ
 
 -- nothing was read
-abbrev pub start : Reading
-start = record { actors = record { labels = []; scripts = [] }; named = []; begun = false; lines = 0 }
+abbrev pub first_reading : Reading
+first_reading = record { actors = record { labels = []; scripts = [] }; named = []; begun = false; lines = 0 }
 
 -- one more client, without steps
 abbrev pub with_actor : Actors → Label → Actors
@@ -98,7 +98,7 @@ script_actors_from so_far script = actors_after (last_part script) (after_lines 
 
 -- the actors of a script: all clients with their steps, or the number of its first bad line
 abbrev pub script_actors : List ℕ → Result Actors ℕ
-script_actors script = script_actors_from start script
+script_actors script = script_actors_from first_reading script
 
 -- the steps of a script
 abbrev pub steps_of : ActorScript → List Step

@@ -169,8 +169,8 @@ abbrev pub with_spot : (NodeKey → Option ℕ) → NodeKey → ℕ → NodeKey 
 with_spot spots key slot other = if same_key key other then Some slot else spots other
 
 -- one more handle of the buffer, in this slot
-abbrev pub with_last : (BufferName → List ℕ) → BufferName → ℕ → BufferName → List ℕ
-with_last queues buffer slot other = if same_buffer buffer other then queues buffer ++ slot ∷ [] else queues other
+abbrev pub with_slot_last : (BufferName → List ℕ) → BufferName → ℕ → BufferName → List ℕ
+with_slot_last queues buffer slot other = if same_buffer buffer other then queues buffer ++ slot ∷ [] else queues other
 
 -- the first handle of the buffer is gone
 abbrev pub with_first_gone : (BufferName → List ℕ) → BufferName → BufferName → List ℕ
@@ -195,7 +195,7 @@ with_object state (Object.Collection key collection) = record state {
 }
 with_object state (Object.Handle buffer strength) = record state {
   objects = state.objects ++ Some (Object.Handle buffer strength) ∷ [];
-  handles = with_queues state.handles strength (with_last (state.handles strength) buffer (length state.objects));
+  handles = with_queues state.handles strength (with_slot_last (state.handles strength) buffer (length state.objects));
 }
 
 -- more objects, one after another

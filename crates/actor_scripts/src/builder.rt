@@ -1,6 +1,6 @@
 //! A script of actors, line by line.
 ghost use Rattle.std.specs.Prelude.{◌≡◌, ◌+◌, ◌^◌, ◌<◌, MatchResult, OnOk, Some};
-ghost use Rattle.actor_scripts.specs.ActorLists.{after_line, is_ended, join_effect, line_effect, seen, start, step_effect, Halts, BuilderInvariant};
+ghost use Rattle.actor_scripts.specs.ActorLists.{after_line, is_ended, join_effect, first_reading, line_effect, seen, step_effect, Halts, BuilderInvariant};
 
 use crate::ActorScript;
 use crate::halt::Halt;
@@ -25,7 +25,7 @@ pub(crate) struct ActorListBuilder {
 impl ActorListBuilder {
     // No line was read.
     pub(crate) fn new(alloc: Global, labels: LabelHash) -> ActorListBuilder
-        ensures start { seen result ≡ start }
+        ensures start { seen result ≡ first_reading }
         ensures sound { BuilderInvariant result 0 }
     {
         ActorListBuilder {

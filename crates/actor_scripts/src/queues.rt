@@ -1,6 +1,6 @@
 //! The handles of one strength: for each buffer a queue of their slots.
 ghost use Rattle.std.specs.Prelude.{◌≡◌, [], OnOk, slice_get};
-ghost use Rattle.actor_scripts.specs.ActorStates.{with_first_gone, with_last};
+ghost use Rattle.actor_scripts.specs.ActorStates.{with_first_gone, with_slot_last};
 ghost use Rattle.actor_scripts.specs.Tables.{queues_of};
 
 use sm_names::BufferName;
@@ -37,7 +37,7 @@ impl Queues {
 
     // One more handle of this buffer.
     pub(crate) fn push(&mut self, buffer: BufferName, slot: usize) -> Result<(), AllocError>
-        ensures { OnOk result (queues_of self.new ≡ with_last (queues_of self.old) buffer slot) }
+        ensures { OnOk result (queues_of self.new ≡ with_slot_last (queues_of self.old) buffer slot) }
     {
         let mut queue = match self.slots.remove(&buffer) {
             Some(queue) => queue,

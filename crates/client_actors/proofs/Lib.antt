@@ -1,4 +1,4 @@
-pub mod ActingLaws
-pub mod AskingLaws
+pub mod ActorStepLaws
+pub mod ObjectCallLaws
 pub mod ScriptLaws
 pub mod RunLaws

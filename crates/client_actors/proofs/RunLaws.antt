@@ -6,7 +6,7 @@ use Rattle.std.proofs.lemmas.List.{map-append, reverse-append}
 use Rattle.std.proofs.lemmas.List.Elements.{All-cons, All-nil}
 use Rattle.actor_scripts.specs.declared.step.ActorScript.{ActorScript}
 use Rattle.client_actors.specs.declared.gate.ActorEnd.{ActorEnd}
-use Rattle.client_actors.specs.Running.{HaveRun, IsEndOf, IsEndThere, end_id, id_there}
+use Rattle.client_actors.specs.ActorEnds.{HaveRun, IsEndOf, IsEndThere, end_id, id_there}
 
 -- a relation that holds at each place
 pub zip_each : {A B : Type 0} (R : A → B → Type 0) (xs : List A) (ys : List B) → length xs ≡ length ys →

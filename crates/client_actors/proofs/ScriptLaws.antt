@@ -12,10 +12,10 @@ use Rattle.actor_scripts.specs.ActorStates.{Known, step_call, state_after, nothi
 use Rattle.actor_scripts.specs.ScriptRuns.{RunsScript}
 use Rattle.actor_scripts.specs.Tables.{known}
 use Rattle.actor_scripts.proofs.TableLaws.{objects_noted}
-use Rattle.client_actors.specs.declared.acting.Actor.{Actor}
-use Rattle.client_actors.specs.Acting.{MakesCall, Falters, HasFaltered, HasMade, HasFinished, HasRunSome, HasRunTo, HasStepped, HasStopped, IsAware, ActorInvariant, holds_by_state, objects_in_slots, pairs_of, part_of}
-use Rattle.client_actors.specs.Asking.{SlotHeldBy, lies}
-use Rattle.client_actors.proofs.ActingLaws.{last_is, pairs_more, parts_left}
+use Rattle.client_actors.specs.declared.actor.Actor.{Actor}
+use Rattle.client_actors.specs.ActorSteps.{MakesCall, Falters, HasFaltered, HasMade, HasFinished, HasRunSome, HasRunTo, HasStepped, HasStopped, IsAware, ActorInvariant, holds_by_state, objects_in_slots, pairs_of, part_of}
+use Rattle.client_actors.specs.ObjectCalls.{SlotHeldBy, lies}
+use Rattle.client_actors.proofs.ActorStepLaws.{last_is, pairs_more, parts_left}
 
 -- what is ensured of a success
 pub on_ok : {A B : Type 0} (r : Result A B) (P : Type 0) → is_err r ≡ false → OnOk r P → P

@@ -1,3 +1,3 @@
-pub mod Asking
-pub mod Acting
-pub mod Running
+pub mod ObjectCalls
+pub mod ActorSteps
+pub mod ActorEnds

@@ -3,12 +3,12 @@ ghost use Rattle.std.specs.Prelude.{◌≡◌, [], OnErr, OnOk};
 ghost use Rattle.actor_scripts.specs.ScriptRuns.{RunsScript};
 ghost use Rattle.actor_scripts.specs.Tables.{known};
 ghost use Rattle.client_parting.specs.Partings.{AllHeldBy, held_in, sorted};
-ghost use Rattle.client_actors.specs.Acting.{EndsSo, HasRunSome, IsAware, ActorInvariant, objects_in_slots, pairs_of};
-ghost use Rattle.client_actors.specs.Asking.{lies};
+ghost use Rattle.client_actors.specs.ActorSteps.{EndsSo, HasRunSome, IsAware, ActorInvariant, objects_in_slots, pairs_of};
+ghost use Rattle.client_actors.specs.ObjectCalls.{lies};
 
-use crate::acting::Actor;
+use crate::actor::Actor;
 use crate::gate::{ActorEnd, Gate};
-use crate::storing::unload;
+use crate::stored_objects::unload;
 use actor_scripts::{ActorScript, Step};
 use client_ends::{Client, Held};
 use client_parting::vanish;

@@ -2,18 +2,18 @@
 //! end, each in a thread of its own.
 #![tactic(auto)]
 
-mod acting;
+mod actor;
 mod actor_run;
-mod asking;
+mod actor_threads;
 mod gate;
+mod lent_objects;
 mod new_objects;
-mod running;
 mod slots;
-mod spending;
+mod spent_objects;
 mod start;
-mod storing;
+mod stored_objects;
 
 pub use actor_run::run_actor;
 pub use actor_scripts::{ActorScript, Step};
+pub use actor_threads::run_actors;
 pub use gate::{ActorEnd, Gate};
-pub use running::run_actors;

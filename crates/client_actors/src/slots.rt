@@ -2,11 +2,11 @@
 ghost use Rattle.std.specs.Prelude.{◌≡◌, ◌+◌, ◌≤◌, ◌++◌, Some, None, false, true, map, MatchResult, vec_len, vec_capacity};
 ghost use Rattle.actor_scripts.specs.ActorStates.{FitsThere, FitsObject};
 ghost use Rattle.client_ends.specs.Collecting.{end_client};
-ghost use Rattle.client_actors.specs.Asking.{Did, SlotHeldBy, Lent, full, may_spend, there, object_seen};
+ghost use Rattle.client_actors.specs.ObjectCalls.{Did, SlotHeldBy, Lent, full, may_spend, there, object_seen};
 
-use crate::asking::{on_collection, on_handle, on_token};
+use crate::lent_objects::{on_collection, on_handle, on_token};
 use crate::new_objects::NewObjects;
-use crate::spending::spend;
+use crate::spent_objects::spend;
 use client_ends::{Client, End, Handle, Kept, Why};
 use service_lock::{Service, Setup};
 use sm_names::{Call, StepFault};

@@ -7,7 +7,7 @@ use Rattle.sm_names.specs.declared.rules.TheConstants.{MAX_PAGES}
 use Rattle.clap.specs.Words.{Row, ReadsOne, Text, found_of, one_of, one_text, rows_of, subcommand_rows_of}
 use Rattle.clap.specs.declared.parser.matches.ArgMatches.{ArgMatches}
 use Rattle.clap.proofs.WalkLemmas.{one_text-rows}
-use Rattle.sysmem_main.specs.Asked.{AreAsked, IsCount, number_of, pages_text}
+use Rattle.sysmem_main.specs.Asked.{AreAsked, IsCount, written_number, pages_text}
 
 -- the text is that of the subcommand's own matches
 pub its_text : (matches inner : ArgMatches) (o : Option (Text × List Row)) → Some (rows_of (found_of inner)) ≡ option_map (λ p. p.1) o →
@@ -30,11 +30,11 @@ module _ {E : Type 0} (gives : List ℕ → Result ℕ E → Type 0) (only : (t 
       let h = value t refl in
       λ count. only t (Err h.0) h.1 (count.numeral, below count.in_range.1)
     where
-      below : (number_of t ≤ MAX_PAGES) → number_of t < 2 ^ 32
+      below : (written_number t ≤ MAX_PAGES) → written_number t < 2 ^ 32
       below le = omega (arith, ints, le)
 
   in_range : (t : List ℕ) (n : ℕ) (count : Option ℕ) → gives t (Ok n) → SomeIff count ((1 ≤ n) × (n ≤ MAX_PAGES)) n →
-      SomeIff count (IsCount t) (number_of t)
+      SomeIff count (IsCount t) (written_number t)
   in_range t n (Some k) read some =
       let p = only t (Ok n) read in
       (record { numeral = p.0.0; in_range = subst (λ (v : ℕ). (1 ≤ v) × (v ≤ MAX_PAGES)) p.1 some.0 }, some.1 ∙ p.1)

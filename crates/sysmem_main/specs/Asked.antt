@@ -10,15 +10,15 @@ abbrev pub pages_text : ArgMatches → Option (List ℕ)
 pages_text matches = option_and_then (λ sub. one_of (codes "pages") sub.1) (subcommand_rows_of matches)
 
 -- the number that decimal digits write, where a plus may stand first
-abbrev pub number_of : List ℕ → ℕ
-number_of text = digits_value 10 (without_leading_plus text)
+abbrev pub written_number : List ℕ → ℕ
+written_number text = digits_value 10 (without_leading_plus text)
 
 -- the text is such a number, and a pool may have as many pages
 pub record IsCount (text : List ℕ) : Type 0 where
   pub numeral : IsNumeral 10 (without_leading_plus text)
-  pub in_range : (1 ≤ number_of text) × (number_of text ≤ MAX_PAGES)
+  pub in_range : (1 ≤ written_number text) × (written_number text ≤ MAX_PAGES)
 
 -- so many pages are asked for, or none where there is no such text or it is no such number
 abbrev pub AreAsked : Option (List ℕ) → Option ℕ → Type 0
 AreAsked None count = count ≡ None
-AreAsked (Some text) count = SomeIff count (IsCount text) (number_of text)
+AreAsked (Some text) count = SomeIff count (IsCount text) (written_number text)

@@ -10,8 +10,8 @@ ghost use Rattle.sysmem_main.specs.Statuses.{refusal_status, unread_status};
 
 mod words;
 
-use clap::Error;
 use clap::error::ErrorKind;
+use clap::{ArgMatches, Error};
 use script_draw::draw_to_exit;
 use script_explain::{check_to_exit, explain_to_exit};
 use script_lines::Pages;
@@ -19,6 +19,9 @@ use sm_script::run_to_exit;
 use std::io::Read;
 use std::process::ExitCode;
 use std::random::RandomSource;
+use std::sync::Wait;
+use std::thread::Threads;
+use std::time::Clock;
 use std::{env, fs, io};
 use thread_runs::{Job, run_threads_to_exit};
 use words::{Task, asks_for_threads, command, file_of, output_of, pages_of, task_of};
@@ -97,45 +100,37 @@ fn main(rt: HostRuntime) -> ExitCode {
         return ExitCode::from(2);
     };
     let seed = random_seed(&rt);
-    if asks_for_threads(&matches) {
-        return run_threads_to_exit(
-            &rt,
-            alloc,
-            seed,
-            &mut rt.reader(),
-            &mut io::writer(&rt),
-            &mut io::writer(&rt.stderr()),
-            Job {
-                pages,
-                output: output_of(&matches),
-            },
-        );
-    }
     match file_of(&matches) {
-        None => play(&rt, seed, &mut rt.reader(), pages, task_of(&matches)),
+        None => play(&rt, &rt, seed, &mut rt.reader(), pages, &matches),
         Some(name) => match fs::open(&rt, name) {
-            Ok(mut file) => play(&rt, seed, &mut file, pages, task_of(&matches)),
+            Ok(mut file) => play(&rt, &rt, seed, &mut file, pages, &matches),
             Err(_) => {
-                let _ = rt.eprintln("read fault");
+                let _ = rt.eprintln("the file can't be opened");
                 ExitCode::from(1)
             }
         },
     }
 }
 
-// Does with the script that the reader holds what the command asks for.
-fn play<R: Read>(
+// Does with the script that the reader holds what the command asks for. Actors get their threads from the host.
+fn play<R: Read, H: Threads + Wait + Clock + Sync>(
     rt: &HostRuntime,
+    host: &H,
     seed: [u8; 16],
     reader: &mut R,
     pages: Pages,
-    task: Task,
+    matches: &ArgMatches<'_>,
 ) -> ExitCode {
     let alloc = rt.alloc();
     let writer = &mut io::writer(rt);
     let stderr = rt.stderr();
     let faults = &mut io::writer(&stderr);
-    match task {
+    if asks_for_threads(matches) {
+        let output = output_of(matches);
+        let job = Job { pages, output };
+        return run_threads_to_exit(host, alloc, seed, reader, writer, faults, job);
+    }
+    match task_of(matches) {
         Task::Run => run_to_exit(alloc, seed, reader, writer, faults, pages),
         Task::Explain => explain_to_exit(alloc, seed, reader, writer, faults, pages),
         Task::Draw(view) => draw_to_exit(alloc, seed, reader, writer, faults, pages, view),

@@ -13,12 +13,20 @@ const ABOUT: &str = "\
 Answers scripts of clients that share buffers: who has failed, whom a failure
 takes along, and when a buffer's pages are free again.";
 
+const EXAMPLES: &str = "\
+Each command reads a script from FILE, or else from standard input:
+
+    sysmem run camera.script
+    sysmem draw --at 28 camera.script
+    sysmem explain < camera.script
+
+'sysmem run --help' lists the lines of a script.";
+
 const VERSION: &str = "0.1.0";
 
-const RUN_ABOUT: &str = "Answers the script on standard input, on standard output";
+const RUN_ABOUT: &str = "Answers each line of a script";
 
-const THREADS_ABOUT: &str = "\
-Runs the clients of the script on standard input side by side, and reports on them";
+const THREADS_ABOUT: &str = "Runs the clients of a script side by side, and reports on them";
 
 // It stands in the help of each command.
 const LINES: &str = "\
@@ -66,7 +74,9 @@ if a label has more than 16 letters and digits, a number is out of its range, or
 an index is over 63. docs/SCRIPT.md has the whole language, examples/ scripts.";
 
 const RUN_HELP: &str = "\
-Each line is answered by one line. So
+    sysmem run first.script
+
+answers each line of first.script by one line. So
 
     a join
     a open r
@@ -92,9 +102,11 @@ refused; 3 a bad line; 4 no memory, or history full. A fault is one line on
 standard error, after the answers to the lines before it.";
 
 const THREADS_HELP: &str = "\
-Each client is an actor in a thread of its own, and the lines that it begins are
-its steps, in their order; how the steps of different actors interleave is not
-determined. So
+    sysmem threads shared.actors
+
+runs each client as an actor in a thread of its own. The lines that begin with
+its label are its steps, in their order; how the steps of different actors
+interleave is not determined. So
 
     a join
     b join
@@ -126,8 +138,8 @@ begin with #, and a node is called n and the number of the event of its birth:
     b open n4
       token n4
 
-`sysmem threads --record < x.actors | sysmem explain` explains these events, if
-both commands have the same --pages.
+`sysmem threads --record shared.actors | sysmem explain` explains these events,
+if both commands have the same --pages.
 
 Status: 0 the report was written; 1 read or write fault; 2 the command line was
 refused; 3 a bad line: a show, a join behind a step or of a client that joined,
@@ -178,8 +190,9 @@ const FORMATS: &[&str] = &[TEXT, DOT, SVG];
 const EXPLAIN_ABOUT: &str = "Repeats each line with its reply, what its event forced, and why";
 
 const EXPLAIN_HELP: &str = "\
-Repeats each line of the script on standard input with its reply, what its event
-forced, and why
+Repeats each line of a script with its reply, what its event forced, and why
+
+    sysmem explain camera.script
 
 Lines without an indent are the script, those indented by two spaces are the
 replies of `sysmem run`, and below them stands what the event did:
@@ -206,7 +219,9 @@ standard error, after the lines before it; a bad line has its reason.";
 const DRAW_ABOUT: &str = "Draws the trees after the last line or an event";
 
 const DRAW_HELP: &str = "\
-Draws the trees of the script on standard input, after its last line or an event";
+Draws the trees of a script, after its last line or an event
+
+    sysmem draw --at 28 camera.script";
 
 const DRAW_STATUS: &str = "\
 Lines that begin with two spaces are skipped, and those after the event that is
@@ -223,7 +238,9 @@ A fault is one line on standard error; a bad line has its reason.";
 const CHECK_ABOUT: &str = "Compares the replies of a transcript with the machine's";
 
 const CHECK_HELP: &str = "\
-Compares the replies of the transcript on standard input with the machine's
+Compares the replies of a transcript with the machine's
+
+    sysmem explain camera.script | sysmem check
 
 A transcript is a script in which a line may be followed by its reply, indented
 by two spaces, and by lines indented by four or more, which are ignored. What
@@ -307,18 +324,20 @@ pub fn command<'a>(alloc: Global) -> Result<Command<'a>, AllocError> {
         .about(RUN_ABOUT)
         .long_about(LINES)
         .after_help(RUN_HELP)
-        .arg(pages_word(alloc))?;
+        .arg(pages_word(alloc))?
+        .arg(file_word(alloc))?;
     let threads = Command::new(alloc, THREADS)
         .about(THREADS_ABOUT)
         .long_about(LINES)
         .after_help(THREADS_HELP)
         .arg(pages_word(alloc))?
-        .arg(record_word(alloc))?;
+        .arg(record_word(alloc))?
+        .arg(file_word(alloc))?;
     Command::new(alloc, "sysmem")
         .bin_name("sysmem")?
         .version(VERSION)
         .about(ABOUT)
-        .after_help("'sysmem run --help' lists the lines of a script: sysmem run < FILE")
+        .after_help(EXAMPLES)
         .subcommand_required(true)
         .subcommand(run)?
         .subcommand(threads)?

@@ -8,7 +8,7 @@ use Rattle.client_parting.specs.Gatherings.{ids_of}
 use Rattle.client_parting.specs.Partings.{Remains}
 use Rattle.client_ends.specs.Clients.{Seen}
 use Rattle.client_actors.specs.declared.gate.ActorEnd.{ActorEnd}
-use Rattle.client_actors.specs.Running.{end_id}
+use Rattle.client_actors.specs.ActorEnds.{end_id}
 use Rattle.sm_names.specs.declared.outcomes.StepFault.{StepFault}
 use Rattle.thread_runs.specs.declared.fault.ThreadsFault.{ThreadsFault}
 use Rattle.thread_runs.specs.Gathered.{IsLate, IsLeft, PartedTo, end_fault, first_fault, step_fault}

@@ -18,15 +18,15 @@ use Rattle.actor_scripts.specs.declared.actor_list.ActorList.{ActorList}
 use Rattle.actor_scripts.specs.ActorLists.{actors_of, steps_of}
 use Rattle.script_lines.specs.declared.label.Label.{Label}
 use Rattle.client_actors.specs.declared.gate.ActorEnd.{ActorEnd}
-use Rattle.client_actors.specs.Acting.{HasFinished}
-use Rattle.client_actors.specs.Running.{HaveRun, IsEndOf, end_id}
-use Rattle.thread_runs.specs.Gathered.{IsLeft, Tells, client_of, first_fault}
+use Rattle.client_actors.specs.ActorSteps.{HasFinished}
+use Rattle.client_actors.specs.ActorEnds.{HaveRun, IsEndOf, end_id}
+use Rattle.thread_runs.specs.Gathered.{IsLeft, TellsRecord, line_client, first_fault}
 use Rattle.thread_runs.specs.declared.job.Output.{Output}
-use Rattle.thread_runs.specs.Runs.{IsPlayed, IsTold, told_text}
+use Rattle.thread_runs.specs.Runs.{IsPlayed, IsRunText, told_text}
 use Rattle.thread_runs.proofs.EndLaws.{ids-left}
 
 -- each line is that of its client
-clients-of : (history : List Entry) (clients : List ℕ) → map client_of (map (client_line history) clients) ≡ clients
+clients-of : (history : List Entry) (clients : List ℕ) → map line_client (map (client_line history) clients) ≡ clients
 clients-of history [] = refl
 clients-of history (client ∷ clients) = ap (λ (l : List ℕ). client ∷ l) (clients-of history clients)
 
@@ -45,11 +45,11 @@ module _ {E S W : Type 0} where
   -- what was gathered is told
   pub tells : (output : Output) (pages : ℕ) (limits : Bound) (s : View) (labels : List Label) (parts : List (Holding E S W)) (report : Report)
       (text : List ℕ) → IsSetUpWith pages limits s.pool s.limits → IsGatherReport s parts report →
-      map client_of report.lines.items ≡ ids_of parts → text ≡ told_text output labels s.history →
-      Tells output pages limits s labels parts text
+      map line_client report.lines.items ≡ ids_of parts → text ≡ told_text output labels s.history →
+      TellsRecord output pages limits s labels parts text
   tells output pages limits s labels parts report text asked so ordered told = record {
     legal = subst (λ (p : ℕ). IsLegal p limits s.history) asked.0 (subst (λ (b : Bound). IsLegal s.pool b s.history) asked.1 so.legal);
-    ordered = sym (clients-of s.history (joined s.history)) ∙ ap (map client_of) (sym so.lines) ∙ ordered;
+    ordered = sym (clients-of s.history (joined s.history)) ∙ ap (map line_client) (sym so.lines) ∙ ordered;
     own_lists = so.own_lists;
     told = told;
   }
@@ -73,8 +73,8 @@ module _ {E S W : Type 0} where
 
   -- it is told of the cast
   pub is-told : (output : Output) (pages : ℕ) (limits : Bound) (cast : ActorList) (ends : List (ActorEnd E S W)) (parts : List (Holding E S W)) → HaveRun cast.scripts.items ends →
-      AllZip IsLeft ends parts → first_fault ends ≡ None → (text : List ℕ) → ((s : View) × Tells output pages limits s cast.labels.items parts text) →
-      IsTold output pages limits (actors_of cast) text
+      AllZip IsLeft ends parts → first_fault ends ≡ None → (text : List ℕ) → ((s : View) × TellsRecord output pages limits s cast.labels.items parts text) →
+      IsRunText output pages limits (actors_of cast) text
   is-told output pages limits cast ends parts ran left well text (s, so) = record {
     history = s.history;
     legal = so.legal;

@@ -50,12 +50,12 @@ pub record PartedTo {E S W : Type 0} (all rest : List (ActorEnd E S W)) (parts :
   pub first : found ≡ first_fault done
 
 -- the client of a line
-abbrev pub client_of : ClientLine → ℕ
-client_of line = line.client
+abbrev pub line_client : ClientLine → ℕ
+line_client line = line.client
 
 -- the record is a legal history with this pool and these limits, those who joined are just those of the parts, in order, each own list is its client's part, and
 -- the text is what is told of it
-pub record Tells {E S W : Type 0} (output : Output) (pages : ℕ) (limits : Bound) (s : View) (labels : List Label)
+pub record TellsRecord {E S W : Type 0} (output : Output) (pages : ℕ) (limits : Bound) (s : View) (labels : List Label)
     (parts : List (Holding E S W)) (text : List ℕ) : Type 0 where
   pub legal : IsLegal pages limits s.history
   pub ordered : joined s.history ≡ ids_of parts

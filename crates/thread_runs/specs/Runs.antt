@@ -13,7 +13,7 @@ use Rattle.client_parting.specs.Partings.{Remains}
 use Rattle.actor_scripts.specs.declared.step.Step.{Step}
 use Rattle.actor_scripts.specs.ActorLists.{Actors, script_actors}
 use Rattle.actor_scripts.specs.Reads.{IsBad, ReadsPart, ReadsWhole}
-use Rattle.client_actors.specs.Acting.{HasFinished}
+use Rattle.client_actors.specs.ActorSteps.{HasFinished}
 use Rattle.actor_reports.specs.Reports.{report_text}
 use Rattle.record_texts.specs.Records.{record_text}
 use Rattle.script_lines.specs.declared.label.Label.{Label}
@@ -40,7 +40,7 @@ told_text Output.Transcript labels history = record_text labels history ++ repor
 
 -- the text is what is told of a legal history, with a pool of so many pages and these limits, in which the actors of the company
 -- joined in their order, and nobody else, and each of them played its script
-pub record IsTold (output : Output) (pages : ℕ) (limits : Bound) (company : Actors) (text : List ℕ) : Type 0 where
+pub record IsRunText (output : Output) (pages : ℕ) (limits : Bound) (company : Actors) (text : List ℕ) : Type 0 where
   pub history : List Entry
   pub legal : IsLegal pages limits history
   pub played : AllZip (IsPlayed history (joined history)) company.scripts (joined history)
@@ -53,11 +53,11 @@ pub record IsRead (before after : Option (List ℕ)) (company : Actors) : Type 0
   pub is_cast : script_actors script ≡ Ok company
 
 -- all of a script was read, its actors ran, and what was written is said of what is told of them
-pub record HasRun (output : Output) (pages : ℕ) (limits : Bound) (before after : Option (List ℕ)) (Written : List ℕ → Type 0) : Type 0 where
+pub record HasRunActors (output : Output) (pages : ℕ) (limits : Bound) (before after : Option (List ℕ)) (Written : List ℕ → Type 0) : Type 0 where
   pub company : Actors
   pub read : IsRead before after company
   pub text : List ℕ
-  pub is_told : IsTold output pages limits company text
+  pub is_told : IsRunText output pages limits company text
   pub written : Written text
 
 -- all of a script was read, and its actors may have run, but nothing was written
@@ -69,7 +69,7 @@ pub record HasNoReport (before after old new : Option (List ℕ)) : Type 0 where
 -- why there was no run, or nothing was told of it, or not all of that was written
 abbrev pub RunFails : Output → ℕ → Bound → Option (List ℕ) → Option (List ℕ) → Option (List ℕ) → Option (List ℕ) → ThreadsFault → Type 0
 RunFails output pages limits before after old new ThreadsFault.ReadFault = ReadsPart before after × (new ≡ old)
-RunFails output pages limits before after old new ThreadsFault.WriteFault = HasRun output pages limits before after (WritesPart old new)
+RunFails output pages limits before after old new ThreadsFault.WriteFault = HasRunActors output pages limits before after (WritesPart old new)
 RunFails output pages limits before after old new (ThreadsFault.BadLine number) = IsBad before after number × (new ≡ old)
 RunFails output pages limits before after old new ThreadsFault.HistoryFull = HasNoReport before after old new
 RunFails output pages limits before after old new ThreadsFault.NoMemory = ReadsPart before after × (new ≡ old)
@@ -79,6 +79,6 @@ RunFails output pages limits before after old new (ThreadsFault.Gather fault) = 
 
 -- a run of actors: what is to be told of them was written, or there is a fault. Where the script could not be read or has a bad line, that
 -- is the fault, unless memory was refused before
-abbrev pub Runs : Output → ℕ → Bound → Option (List ℕ) → Option (List ℕ) → Option (List ℕ) → Option (List ℕ) → Result (Unit {0}) ThreadsFault → Type 0
-Runs output pages limits before after old new result =
-    MatchResult result (λ _. HasRun output pages limits before after (Appends old new)) (RunFails output pages limits before after old new)
+abbrev pub RunsThreads : Output → ℕ → Bound → Option (List ℕ) → Option (List ℕ) → Option (List ℕ) → Option (List ℕ) → Result (Unit {0}) ThreadsFault → Type 0
+RunsThreads output pages limits before after old new result =
+    MatchResult result (λ _. HasRunActors output pages limits before after (Appends old new)) (RunFails output pages limits before after old new)

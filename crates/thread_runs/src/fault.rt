@@ -1,6 +1,6 @@
 //! Why a run of actors has no report.
 ghost use Rattle.std.specs.Prelude.{◌≡◌};
-ghost use Rattle.thread_runs.specs.Faults.{fault_status};
+ghost use Rattle.thread_runs.specs.Faults.{threads_fault_status};
 
 use actor_scripts::ActorScriptFault;
 use client_parting::GatherFault;
@@ -31,7 +31,7 @@ impl ThreadsFault {
     /// bad line, 4 where the history is full, memory was refused or there was no thread, 5 where what
     /// was gathered is not the record's.
     pub fn status(self) -> u8
-        ensures { result ≡ fault_status self }
+        ensures { result ≡ threads_fault_status self }
     {
         match self {
             ThreadsFault::ReadFault | ThreadsFault::WriteFault => 1,
@@ -85,9 +85,9 @@ impl From<GatherFault> for ThreadsFault {
 
 impl fmt::Display for ThreadsFault {
     ghost use Rattle.std.specs.Prelude.{Some};
-    ghost use Rattle.thread_runs.specs.Faults.{fault_text};
+    ghost use Rattle.thread_runs.specs.Faults.{threads_fault_text};
 
-    ghost output = { λ fault. Some (fault_text fault) };
+    ghost output = { λ fault. Some (threads_fault_text fault) };
 
     fn fmt<W: fmt::Write>(&self, f: &mut fmt::Formatter<W>) -> fmt::Result {
         match self {

@@ -1,12 +1,12 @@
 //! Scripts of actors, run in threads.
 #![tactic(auto)]
 
+mod actor_parts;
 mod fault;
 mod job;
-mod parting;
 mod program;
+mod report;
 mod run;
-mod telling;
 
 pub use fault::ThreadsFault;
 pub use job::{Job, Output};

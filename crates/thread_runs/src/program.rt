@@ -2,7 +2,7 @@
 ghost use Rattle.std.specs.Prelude.{◌≡◌};
 ghost use Rattle.std.specs.Process.{exit_status};
 ghost use Rattle.script_lines.specs.Written.{WritesPart};
-ghost use Rattle.thread_runs.specs.Endings.{Ends, ending_line, ending_status};
+ghost use Rattle.thread_runs.specs.Endings.{EndsThreads, outcome_line, outcome_status};
 
 use crate::fault::ThreadsFault;
 use crate::job::Job;
@@ -29,7 +29,7 @@ pub fn run_threads_to_exit<I: Read, O: Write, F: Write, R: Threads + Wait + Cloc
     faults: &mut F,
     job: Job,
 ) -> ExitCode
-    ensures { Ends job.output job.pages.count (I.remaining reader.old) (I.remaining reader.new)
+    ensures { EndsThreads job.output job.pages.count (I.remaining reader.old) (I.remaining reader.new)
         (O.contents writer.old) (O.contents writer.new)
         (F.contents faults.old) (F.contents faults.new) (exit_status result) }
 {
@@ -41,8 +41,8 @@ pub fn run_threads_to_exit<I: Read, O: Write, F: Write, R: Threads + Wait + Cloc
 
 // The status of an outcome, whose fault is told in one line, as far as the writer takes it.
 fn exit_of<F: Write>(ended: Result<(), ThreadsFault>, faults: &mut F) -> ExitCode
-    ensures status { exit_status result ≡ ending_status ended }
-    ensures told { WritesPart (F.contents faults.old) (F.contents faults.new) (ending_line ended) }
+    ensures status { exit_status result ≡ outcome_status ended }
+    ensures told { WritesPart (F.contents faults.old) (F.contents faults.new) (outcome_line ended) }
 {
     match ended {
         Ok(()) => ExitCode::SUCCESS,

@@ -2,11 +2,11 @@
 ghost use Rattle.std.specs.Prelude.{◌≡◌, IfErr, OnErr, OnOk};
 ghost use Rattle.std.specs.Io.KnownBytes.{Appends};
 ghost use Rattle.script_lines.specs.Written.{WritesPart};
-ghost use Rattle.thread_runs.specs.Runs.{Runs};
+ghost use Rattle.thread_runs.specs.Runs.{RunsThreads};
 
 use crate::fault::ThreadsFault;
 use crate::job::Job;
-use crate::telling::tell_all;
+use crate::report::tell_all;
 use actor_scripts::read_actors;
 use script_lines::{LabelHash, write_out};
 use sm_names::Limits;
@@ -52,7 +52,7 @@ pub fn run_threads<I: Read, O: Write, R: Threads + Wait + Clock + Sync>(
     job: Job,
     limits: Limits,
 ) -> Result<(), ThreadsFault>
-    ensures { Runs job.output job.pages.count limits (I.remaining reader.old)
+    ensures { RunsThreads job.output job.pages.count limits (I.remaining reader.old)
         (I.remaining reader.new) (O.contents writer.old) (O.contents writer.new) result }
 {
     let cast = match read_actors(alloc, LabelHash::new(seed), reader) {

@@ -1,6 +1,10 @@
-//! Explains, draws or checks the scripts of its input, and writes what each gives: `stdout` has what that
-//! is to be. A line that begins with `= ` begins a script, and says what is done with it; `@ pages ` below
-//! it says how many pages its pool has.
+//! Explains, draws or checks each script of its input, and writes what it gives: `stdout` has what that is to be, with `! `
+//! before a fault.
+//!
+//!     = explain WORDS, = check WORDS    begins a script that is explained; a transcript that is checked
+//!     = text EVENT, = dot EVENT, = svg EVENT
+//!                                       begins a script whose trees are drawn after this event, or after its last line
+//!     @ pages N                         sets the pages of its pool, 16 by default
 #![tactic(auto)]
 
 mod task;

@@ -1,5 +1,10 @@
-//! Runs the scripts of its input, and writes what each gives: `stdout` has what that is to be. A line that begins
-//! with `= ` begins a script, and lines with `@ ` say its pages and limits.
+//! Runs each script of its input with two seeds of its tables, and writes what it gives: `stdout` has what that is to be, with
+//! `! ` before a fault.
+//!
+//!     = TITLE                           begins a script
+//!     @ pages N                         sets the pages of its pool, 16 by default
+//!     @ limits EVENTS NODES COLLECTIONS TRACKERS HANDLES
+//!                                       sets its limits, the greatest by default
 #![tactic(auto)]
 
 ghost use Rattle.std.specs.Prelude.{◌≤◌};

@@ -1,4 +1,4 @@
-//! The lines that README.md shows.
+//! A first program on a core.
 use super::lending::on_core;
 use lifetime_core::Core;
 use sm_names::{Call, Constraints, Limits, Reply};
@@ -32,7 +32,7 @@ fn a_new_core_tells(alloc: Global) -> bool {
 }
 
 #[test]
-fn what_the_readme_shows_is_answered(rt: HostRuntime) {
+fn a_new_core_answers_a_first_program(rt: HostRuntime) {
     // Once more where memory was refused.
     assert!(rt; a_new_core_tells(rt.alloc()) || a_new_core_tells(rt.alloc()));
 }

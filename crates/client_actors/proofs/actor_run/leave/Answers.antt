@@ -1,8 +1,8 @@
 use Rattle.std.proofs.Common.{◌∙◌, ap, subst, sym}
 use Rattle.client_parting.specs.Partings.{AllHeldBy, sorted}
 use Rattle.client_parting.specs.Stacks.{both}
-use Rattle.client_actors.specs.Acting.{last_objects_first}
-use Rattle.client_actors.proofs.ActingLaws.{left_owned, left_turned}
+use Rattle.client_actors.specs.ActorSteps.{last_objects_first}
+use Rattle.client_actors.proofs.ActorStepLaws.{left_owned, left_turned}
 use Rattle.client_actors.proofs.actor_run.leave.Goals as goal
 
 pub returns-clause-held : goal.returns-clause-held

@@ -3,8 +3,8 @@ use Rattle.client_ends.specs.Clients.{Seen}
 use Rattle.client_parting.specs.Partings.{held_in}
 use Rattle.actor_scripts.specs.ScriptRuns.{RunsScript}
 use Rattle.actor_scripts.specs.Tables.{known}
-use Rattle.client_actors.specs.Acting.{HasRunSome, pairs_of}
-use Rattle.client_actors.specs.Asking.{lies}
+use Rattle.client_actors.specs.ActorSteps.{HasRunSome, pairs_of}
+use Rattle.client_actors.specs.ObjectCalls.{lies}
 use Rattle.client_actors.proofs.ScriptLaws.{broken_id, has_broken, has_finished, has_stopped, runs_none}
 use Rattle.client_actors.proofs.actor_run.run_actor.Goals as goal
 

@@ -1,5 +1,5 @@
 use Rattle.std.proofs.Common.{◌≡◌, length}
-use Rattle.client_actors.specs.Acting.{HasRunTo, IsAware, ActorInvariant}
+use Rattle.client_actors.specs.ActorSteps.{HasRunTo, IsAware, ActorInvariant}
 use Rattle.client_actors.proofs.actor_run.run_steps.Given as goal
 
 -- some steps are made, and the others are left

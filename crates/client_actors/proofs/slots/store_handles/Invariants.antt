@@ -1,6 +1,6 @@
 use Rattle.std.proofs.Common.{◌≡◌, ◌++◌, ◌+◌, ◌≤◌, map, vec_len}
 use Rattle.std.specs.Prelude.{vec_capacity}
-use Rattle.client_actors.specs.Asking.{full}
+use Rattle.client_actors.specs.ObjectCalls.{full}
 use Rattle.client_actors.proofs.slots.store_handles.Given as goal
 
 -- what is stored, with what is left, is all

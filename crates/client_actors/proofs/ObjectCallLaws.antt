@@ -1,0 +1,74 @@
+-- What calls do to what an actor holds.
+use Rattle.std.proofs.Common.{ℕ, zero, suc, ◌≡◌, ◌+◌, ◌∙◌, refl, sym, ap, Bool, true, false, if◌then◌else◌, ◌==◌, List, [], ◌∷◌, map, Option, None}
+use Rattle.std.specs.Int.{bit_at}
+use Rattle.std.specs.List.{All, filter, range_with_len}
+use Rattle.std.proofs.lemmas.List.Elements.{All-cons, All-nil}
+use Rattle.sm_names.specs.declared.rules.TheConstants.{MAX_BUFFERS}
+use Rattle.sm_names.specs.declared.keys.NodeKey.{NodeKey}
+use Rattle.sm_names.specs.declared.messages.Call.{Call}
+use Rattle.sm_names.specs.declared.messages.Reply.{Reply}
+use Rattle.event_laws.specs.HandleSums.{indices_in}
+use Rattle.client_ends.specs.declared.held.End.{End}
+use Rattle.client_ends.specs.declared.why.Why.{Why}
+use Rattle.client_ends.specs.Clients.{Grip, MadeOr, Seen}
+use Rattle.client_ends.specs.Taking.{Took, grip_at, grips_at}
+use Rattle.actor_scripts.specs.declared.object.Object.{Object}
+use Rattle.actor_scripts.specs.ActorStates.{new_objects, handles_from, handles_of_set, spends_object}
+use Rattle.client_actors.specs.declared.new_objects.NewObjects.{NewObjects}
+use Rattle.client_actors.specs.ObjectCalls.{Did, handle_seen, may_spend, there}
+
+module _ (old new : Seen) (key : NodeKey) (handles : List Grip) (took : Took old new key handles) where
+  -- the handles that a Take opens from this index on
+  abbrev pub seen_at : ℕ → ℕ → List Object
+  seen_at index count =
+      map handle_seen (map (grip_at old.id took.taken) (filter (λ i. bit_at took.taken.set i == 1) (range_with_len index count)))
+
+  -- one more
+  pub seen_more : (index count : ℕ) (bit : Bool) → (bit_at took.taken.set index == 1) ≡ bit →
+      seen_at (index + 1) count ≡ handles_from took.taken.collection took.taken.strength took.taken.set (index + 1) count →
+      seen_at index (suc count) ≡ handles_from took.taken.collection took.taken.strength took.taken.set index (suc count)
+  unfolding handles_from
+  seen_more index count true is so = rw is (ap (λ l. handle_seen (grip_at old.id took.taken index) ∷ l) so)
+  seen_more index count false is so = rw is so
+
+  -- they are those that its reply gives
+  pub seen_from : (index count : ℕ) → seen_at index count ≡ handles_from took.taken.collection took.taken.strength took.taken.set index
+      count
+  unfolding handles_from
+  seen_from index zero = refl
+  seen_from index (suc count) = seen_more index count (bit_at took.taken.set index == 1) refl (seen_from (index + 1) count)
+
+  -- all of them
+  pub seen_all : map handle_seen (grips_at old.id took.taken (indices_in took.taken.set)) ≡ handles_of_set took.taken.collection
+      took.taken.strength took.taken.set
+  unfolding indices_in
+  seen_all = seen_from 0 MAX_BUFFERS
+
+  -- and they are the client's
+  pub grips_owned : (indices : List ℕ) → All (λ (h : Grip). h.client ≡ old.id) (grips_at old.id took.taken indices)
+  grips_owned [] = All-nil (λ (h : Grip). h.client ≡ old.id)
+  grips_owned (i ∷ is) = All-cons (λ (h : Grip). h.client ≡ old.id) (grip_at old.id took.taken i) (grips_at old.id took.taken is) refl
+      (grips_owned is)
+
+-- a call that did not spend what it might have spent gives nothing
+unspent : (on : Option Object) (call : Call) (reply : Reply) → may_spend call ≡ true → spends_object call reply ≡ false → new_objects on call reply ≡ []
+unspent on (Call.Bind key) Reply.Done may not = cc
+unspent on (Call.Bind key) _ may not = refl
+unspent on (Call.Give key to) reply may not = refl
+unspent on (Call.Close key) reply may not = refl
+unspent on (Call.Release key) reply may not = refl
+unspent on (Call.DropHandle buffer strength) reply may not = refl
+unspent on (Call.GiveHandle buffer strength to) reply may not = refl
+unspent on _ reply may not = cc
+
+-- what was not spent is where it was
+pub kept_back : {E S W : Type 0} (old new : Seen) (call : Call) (on on' : Option (End E S W)) (reply : Reply) → may_spend call ≡ true →
+    MadeOr (spends_object call) old new call (Why.Reply reply) → on' ≡ on →
+    Did {E = E} {S = S} {W = W} old new call (there on) (there on') NewObjects.Nothing
+kept_back old new call on on' reply may so same = record {
+  reply = reply;
+  made = so.0;
+  left = ap there same ∙ ap (λ (b : Bool). if b then None else there on) (sym so.1);
+  objects = sym (unspent (there on) call reply may so.1);
+  owned = tt;
+}

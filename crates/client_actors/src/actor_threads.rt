@@ -1,0 +1,297 @@
+//! A thread for each actor.
+ghost use Rattle.std.specs.Prelude.{◌≡◌, ◌<◌, ◌≤◌, ◌↔◌, [], Some, map, length, IfOk, IfErr, OnOk, IsSome, vec_len, vec_capacity};
+ghost use Rattle.std.specs.List.{All, AllZip};
+ghost use Rattle.sm_names.specs.declared.outcomes.StepFault.{StepFault as Fault};
+ghost use Rattle.client_actors.specs.ActorEnds.{HaveRun, IsEndAt, IsEndThere, IsIdle, CanStart, id_there};
+
+use crate::actor_run::run_actor;
+use crate::gate::{ActorEnd, Gate};
+use crate::start::Start;
+use actor_scripts::ActorScript;
+use client_ends::{Held, join, memory_fault};
+use client_parting::Holding;
+use service_lock::{Service, Setup, State};
+use sm_names::{ClientId, StepFault};
+use std::alloc::Global;
+use std::sync::Wait;
+use std::sync::ledger::Ledger;
+use std::thread::Threads;
+use std::time::Clock;
+use std::{mem, thread};
+
+// Plays the script of that number with the client that lies there, if its thread comes to the start
+// in time.
+fn run_there<E: Setup, S: Ledger, W: Ledger, G: Gate, R: Wait + Clock>(
+    rt: &R,
+    alloc: Global,
+    service: &Service<E, S, W>,
+    gate: &G,
+    clients: &[ClientId],
+    start: &Start,
+    scripts: &[ActorScript],
+    number: usize,
+    on: &mut Option<ActorEnd<E, S, W>>,
+)
+    requires ready { CanStart on.old }
+    requires number { number < length scripts.now }
+    ensures end { IsEndAt clients.now scripts.now number on.new }
+    ensures id { id_there on.new ≡ id_there on.old }
+{
+    if !start.come(rt) {
+        return;
+    }
+    match mem::replace(on, None) {
+        Some(ActorEnd::NotStarted(client)) => {
+            let end = run_actor(rt, alloc, service, gate, clients, client, &scripts[number]);
+            match mem::replace(on, Some(end)) {
+                None => {}
+                Some(_) => unreachable!(),
+            }
+        }
+        _ => unreachable!(),
+    }
+}
+
+// Plays each script in a thread of its own.
+fn run_all<
+    E: Setup + Send + Sync,
+    S: Ledger + Send + Sync,
+    W: Ledger + Send + Sync,
+    G: Gate + Sync,
+    R: Threads + Wait + Clock + Sync,
+>(
+    rt: &R,
+    alloc: Global,
+    service: &Service<E, S, W>,
+    gate: &G,
+    clients: &[ClientId],
+    scripts: &[ActorScript],
+    actors: &mut [Option<ActorEnd<E, S, W>>],
+)
+    requires ready { All CanStart actors.old }
+    requires len { length scripts.now ≡ length actors.old }
+    ensures ends { AllZip (IsEndThere clients.now) scripts.now actors.new }
+    ensures ids { map id_there actors.new ≡ map id_there actors.old }
+{
+    let count = actors.len();
+    if count == 0 {
+        return;
+    }
+    let start = Start::new(count);
+    thread::for_each_mut(
+        rt,
+        actors,
+        count,
+        &|i, on| run_there(rt, alloc, service, gate, clients, &start, scripts, i, on),
+    );
+}
+
+// Makes room in empty lists for so many actors.
+fn make_room<E: Setup, S: Ledger, W: Ledger>(
+    state: &State<E, S, W>,
+    count: usize,
+    clients: &mut Vec<ClientId>,
+    actors: &mut Vec<Option<ActorEnd<E, S, W>>>,
+    ends: &mut Vec<ActorEnd<E, S, W>>,
+    parts: &mut Vec<Holding<E, S, W>>,
+) -> Result<(), StepFault>
+    requires none { (clients.old.items ≡ []) × (actors.old.items ≡ []) × (ends.old.items ≡ [])
+        × (parts.old.items ≡ []) }
+    ensures none { (clients.new.items ≡ []) × (actors.new.items ≡ []) × (ends.new.items ≡ [])
+        × (parts.new.items ≡ []) }
+    ensures clients { OnOk result (count ≤ vec_capacity clients.new) }
+    ensures actors { OnOk result (count ≤ vec_capacity actors.new) }
+    ensures ends { OnOk result (count ≤ vec_capacity ends.new) }
+    ensures parts { OnOk result (count ≤ vec_capacity parts.new) }
+    ensures full { IfErr result (λ f. (f ≡ Fault.HistoryFull)
+        ↔ (state.now.limits.events ≤ length state.now.history)) }
+{
+    if clients.reserve(count).is_err()
+        || actors.reserve(count).is_err()
+        || ends.reserve(count).is_err()
+        || parts.reserve(count).is_err()
+    {
+        return Err(memory_fault(state));
+    }
+    Ok(())
+}
+
+// The same, which takes the lock.
+fn room_for<E: Setup, S: Ledger, W: Ledger, R: Wait>(
+    rt: &R,
+    service: &Service<E, S, W>,
+    count: usize,
+    clients: &mut Vec<ClientId>,
+    actors: &mut Vec<Option<ActorEnd<E, S, W>>>,
+    ends: &mut Vec<ActorEnd<E, S, W>>,
+    parts: &mut Vec<Holding<E, S, W>>,
+) -> Result<(), StepFault>
+    requires none { (clients.old.items ≡ []) × (actors.old.items ≡ []) × (ends.old.items ≡ [])
+        × (parts.old.items ≡ []) }
+    ensures none { (clients.new.items ≡ []) × (actors.new.items ≡ []) × (ends.new.items ≡ [])
+        × (parts.new.items ≡ []) }
+    ensures clients { OnOk result (count ≤ vec_capacity clients.new) }
+    ensures actors { OnOk result (count ≤ vec_capacity actors.new) }
+    ensures ends { OnOk result (count ≤ vec_capacity ends.new) }
+    ensures parts { OnOk result (count ≤ vec_capacity parts.new) }
+{
+    let guard = service.lock(rt);
+    make_room(guard.state(), count, clients, actors, ends, parts)
+}
+
+// Joins so many clients, in order.
+fn join_all<E: Setup, S: Ledger, W: Ledger, R: Wait>(
+    rt: &R,
+    alloc: Global,
+    service: &Service<E, S, W>,
+    count: usize,
+    clients: &mut Vec<ClientId>,
+    actors: &mut Vec<Option<ActorEnd<E, S, W>>>,
+) -> Result<(), StepFault>
+    requires none { (clients.old.items ≡ []) × (actors.old.items ≡ []) }
+    requires clients { count ≤ vec_capacity clients.old }
+    requires actors { count ≤ vec_capacity actors.old }
+    ensures all { IfOk result (λ _. vec_len actors.new ≡ count) }
+    ensures few { vec_len actors.new ≤ count }
+    ensures ready { All CanStart actors.new.items }
+    ensures ids { clients.new.items ≡ map id_there actors.new.items }
+{
+    for _ in 0..count {
+        let client = join(rt, alloc, service)?;
+        clients.push_reserved(client.id());
+        actors.push_reserved(Some(ActorEnd::NotStarted(client)));
+    }
+    Ok(())
+}
+
+// Takes the ends out of their places, in order.
+fn ends_of<E: Setup, S: Ledger, W: Ledger>(
+    actors: Vec<Option<ActorEnd<E, S, W>>>,
+    ends: Vec<ActorEnd<E, S, W>>,
+) -> Vec<ActorEnd<E, S, W>>
+    requires none { ends.items ≡ [] }
+    requires room { vec_len actors ≤ vec_capacity ends }
+    requires some { All (λ a. IsSome a) actors.items }
+    ensures { map Some result.items ≡ actors.items }
+{
+    let mut actors = actors;
+    let mut ends = ends;
+    actors.reverse();
+    while let Some(actor) = actors.pop() {
+        match actor {
+            Some(end) => ends.push_reserved(end),
+            None => unreachable!(),
+        }
+    }
+    actors.destroy_empty();
+    ends
+}
+
+// A client that joined and did not start.
+fn idle<E: Setup, S: Ledger, W: Ledger>(
+    alloc: Global,
+    actor: Option<ActorEnd<E, S, W>>,
+) -> Holding<E, S, W>
+    requires { CanStart actor }
+    ensures { IsIdle result }
+{
+    match actor {
+        Some(ActorEnd::NotStarted(client)) => Holding::Present(client, Held::new(alloc)),
+        _ => unreachable!(),
+    }
+}
+
+// The clients that joined, none of which started.
+fn clients_of<E: Setup, S: Ledger, W: Ledger>(
+    alloc: Global,
+    actors: Vec<Option<ActorEnd<E, S, W>>>,
+    parts: Vec<Holding<E, S, W>>,
+) -> Vec<Holding<E, S, W>>
+    requires none { parts.items ≡ [] }
+    requires room { vec_len actors ≤ vec_capacity parts }
+    requires ready { All CanStart actors.items }
+    ensures idle { All IsIdle result.items }
+    ensures len { vec_len result ≡ vec_len actors }
+{
+    let mut actors = actors;
+    let mut parts = parts;
+    actors.reverse();
+    while let Some(actor) = actors.pop() {
+        parts.push_reserved(idle(alloc, actor));
+    }
+    actors.destroy_empty();
+    parts
+}
+
+/// Runs all scripts side by side: a client for each joins, in order, and then each runs its script,
+/// as by `run_actor`, in a thread of its own. All threads wait until all are there, so that each
+/// actor may wait for any other; all have ended when it returns. The gate is told of each step of
+/// each actor, outside the lock.
+///
+/// One end for each script, in order; labels of clients stand for the clients of these ends. An
+/// actor that is stopped by a fault leaves the others as they are. Where the system gives no more
+/// threads, those who have one begin after ten to twenty seconds in which none was added, and the
+/// others end `NotStarted`.
+///
+/// Where a client can't join, or memory for the lists is refused before the first does, nobody
+/// starts: the fault, `HistoryFull` or `NoMemory`, and the clients that joined, who hold nothing.
+///
+/// Costs an event for each client, a thread for each but one, a constant number of words for each
+/// script, and what `run_actor` does.
+pub fn run_actors<
+    E: Setup + Send + Sync,
+    S: Ledger + Send + Sync,
+    W: Ledger + Send + Sync,
+    G: Gate + Sync,
+    R: Threads + Wait + Clock + Sync,
+>(
+    rt: &R,
+    alloc: Global,
+    service: &Service<E, S, W>,
+    gate: &G,
+    scripts: &[ActorScript],
+) -> Result<Vec<ActorEnd<E, S, W>>, (Vec<Holding<E, S, W>>, StepFault)>
+    ensures ran { IfOk result (λ ends. HaveRun scripts.now ends.items) }
+    ensures idle { IfErr result (λ e. All IsIdle e.0.items) }
+    ensures few { IfErr result (λ e. vec_len e.0 ≤ length scripts.now) }
+{
+    let count = scripts.len();
+    let mut clients = Vec::new(alloc);
+    let mut actors = Vec::new(alloc);
+    let mut ends = Vec::new(alloc);
+    let mut parts = Vec::new(alloc);
+    let made = room_for(
+        rt,
+        service,
+        count,
+        &mut clients,
+        &mut actors,
+        &mut ends,
+        &mut parts,
+    );
+    if let Err(fault) = made {
+        actors.destroy_empty();
+        ends.destroy_empty();
+        return Err((parts, fault));
+    }
+    match join_all(rt, alloc, service, count, &mut clients, &mut actors) {
+        Ok(()) => {
+            parts.destroy_empty();
+            let ids = clients.as_slice();
+            run_all(
+                rt,
+                alloc,
+                service,
+                gate,
+                ids,
+                scripts,
+                actors.as_mut_slice(),
+            );
+            Ok(ends_of(actors, ends))
+        }
+        Err(fault) => {
+            ends.destroy_empty();
+            Err((clients_of(alloc, actors, parts), fault))
+        }
+    }
+}

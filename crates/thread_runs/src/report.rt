@@ -1,0 +1,238 @@
+//! The actors run, and what they leave is told.
+ghost use Rattle.std.specs.Prelude.{◌≡◌, ◌++◌, IfErr, IfOk, IfNone, OnOk, length, map};
+ghost use Rattle.actor_scripts.specs.ActorLists.{actors_of};
+ghost use Rattle.client_parting.specs.Gatherings.{ids_of};
+ghost use Rattle.event_laws.specs.Lines.{lines_of};
+ghost use Rattle.service_lock.specs.States.{IsSetUpWith, View};
+ghost use Rattle.service_lock.specs.Units.{AreFor};
+ghost use Rattle.thread_runs.specs.Gathered.{IsLate, TellsRecord, line_client};
+ghost use Rattle.thread_runs.specs.Runs.{IsRunText, told_text};
+
+use crate::actor_parts::{fault_of, part_all};
+use crate::fault::ThreadsFault;
+use crate::job::{Job, Output};
+use actor_reports::push_report;
+use actor_scripts::ActorList;
+use client_actors::{Gate, run_actors};
+use client_parting::{GatherFault, Holding, Report, compare, end_service};
+use event_laws::ClientLine;
+use record_texts::push_record;
+use script_lines::{Label, LabelHash};
+use service_lock::{BlankBooks, MAX_SHARES, Service, Setup, State, entries};
+use sm_names::{Call, ClientId, Limits, Reply};
+use std::alloc::{AllocError, Global};
+use std::marker::Brand;
+use std::sync::Wait;
+use std::sync::ledger::{Blank, Ledger};
+use std::thread::Threads;
+use std::time::Clock;
+
+// Tells nobody of steps.
+struct Silent;
+
+impl Gate for Silent {
+    fn before(&self, _client: ClientId, _step: u64) {}
+
+    fn after(&self, _client: ClientId, _step: u64, _reply: &Option<Reply>) {}
+}
+
+// The first client that has a line where it has no part, or a part where it has no line.
+fn first_stray<E: Setup, S: Ledger, W: Ledger>(
+    lines: &[ClientLine],
+    parts: &[Holding<E, S, W>],
+) -> Option<ClientId>
+    ensures { IfNone result (map line_client lines.now ≡ ids_of parts.now) }
+{
+    let mut left = lines;
+    let mut rest = parts;
+    'comparing: while let Some((part, others)) = rest.split_first() {
+        match left.split_first() {
+            Some((line, more)) if line.client == part.id() => {
+                left = more;
+                rest = others;
+            }
+            _ => return Some(part.id()),
+        }
+    }
+    match left.first() {
+        Some(line) => Some(line.client),
+        None => None,
+    }
+}
+
+// Puts what is to be told of the record, whose report this is, behind what is there.
+fn push_output(
+    alloc: Global,
+    hash: LabelHash,
+    output: Output,
+    text: &mut Vec<u8>,
+    labels: &[Label],
+    entries: &[(ClientId, Call, Reply)],
+    report: &Report,
+) -> Result<(), AllocError>
+    requires events { report.now.events ≡ length entries.now }
+    requires lines { report.now.lines.items ≡ lines_of entries.now }
+    ensures { OnOk result (text.new.items
+        ≡ text.old.items ++ told_text output labels.now entries.now) }
+{
+    let lines = report.lines.as_slice();
+    match output {
+        Output::Report => push_report(text, "", labels, report.events, lines),
+        Output::Transcript => {
+            push_record(alloc, hash, text, labels, entries)?;
+            push_report(text, "# ", labels, report.events, lines)
+        }
+    }
+}
+
+// What is to be told of what lies under the lock, if the parts are all that there is, and those of the
+// clients that joined, in order.
+fn text_of<E: Setup, S: Ledger, W: Ledger>(
+    alloc: Global,
+    hash: LabelHash,
+    output: Output,
+    labels: &[Label],
+    state: &State<E, S, W>,
+    parts: &[Holding<E, S, W>],
+) -> Result<Vec<u8>, ThreadsFault>
+    ensures ok { IfOk result (λ text. TellsRecord output E.pages E.limits state.now labels.now
+        parts.now text.items) }
+    ensures late { IfErr result IsLate }
+{
+    let report = match compare(alloc, state, parts) {
+        Ok(report) => report,
+        Err(fault) => return Err(ThreadsFault::from(fault)),
+    };
+    if let Some(client) = first_stray(report.lines.as_slice(), parts) {
+        return Err(ThreadsFault::Gather(GatherFault::MissingClient(client)));
+    }
+    let mut text = Vec::new(alloc);
+    match push_output(
+        alloc,
+        hash,
+        output,
+        &mut text,
+        labels,
+        entries(state),
+        &report,
+    ) {
+        Ok(()) => Ok(text),
+        Err(_) => Err(ThreadsFault::NoMemory),
+    }
+}
+
+// What is to be told of all parts, which come back. The lock is held all the time, so that all of it is
+// of one record.
+fn tell<E: Setup, S: Ledger, W: Ledger, R: Wait>(
+    rt: &R,
+    alloc: Global,
+    service: &Service<E, S, W>,
+    hash: LabelHash,
+    output: Output,
+    labels: &[Label],
+    parts: Vec<Holding<E, S, W>>,
+) -> (Vec<Holding<E, S, W>>, Result<Vec<u8>, ThreadsFault>)
+    ensures parts { result.0 ≡ parts }
+    ensures ok { IfOk result.1 (λ text. (s : View)
+        × TellsRecord output E.pages E.limits s labels.now parts.items text.items) }
+    ensures late { IfErr result.1 IsLate }
+{
+    let guard = service.lock(rt);
+    let told = text_of(alloc, hash, output, labels, guard.state(), parts.as_slice());
+    (parts, told)
+}
+
+// What is to be told of the actors, and what is left of them.
+fn run_all<
+    E: Setup + Send + Sync,
+    S: Ledger + Send + Sync,
+    W: Ledger + Send + Sync,
+    R: Threads + Wait + Clock + Sync,
+>(
+    rt: &R,
+    alloc: Global,
+    service: &Service<E, S, W>,
+    hash: LabelHash,
+    output: Output,
+    cast: &ActorList,
+) -> (Vec<Holding<E, S, W>>, Result<Vec<u8>, ThreadsFault>)
+    ensures ok { IfOk result.1 (λ text.
+        IsRunText output E.pages E.limits (actors_of cast.now) text.items) }
+    ensures late { IfErr result.1 IsLate }
+{
+    let mut parts = match Vec::with_capacity(alloc, cast.scripts.len()) {
+        Ok(parts) => parts,
+        Err(_) => return (Vec::new(alloc), Err(ThreadsFault::NoMemory)),
+    };
+    match run_actors(rt, alloc, service, &Silent, cast.scripts.as_slice()) {
+        Ok(ends) => match part_all(alloc, ends, &mut parts) {
+            Some(fault) => (parts, Err(fault)),
+            None => tell(
+                rt,
+                alloc,
+                service,
+                hash,
+                output,
+                cast.labels.as_slice(),
+                parts,
+            ),
+        },
+        Err((left, fault)) => {
+            parts.destroy_empty();
+            (left, Err(fault_of(fault)))
+        }
+    }
+}
+
+// What is to be told of the actors on a service that has seen nothing, which is ended.
+fn run_on<
+    E: Setup + Send + Sync,
+    S: Ledger + Send + Sync,
+    W: Ledger + Send + Sync,
+    R: Threads + Wait + Clock + Sync,
+>(
+    rt: &R,
+    alloc: Global,
+    blanks: BlankBooks,
+    seed: [u8; 16],
+    cast: &ActorList,
+    job: Job,
+    limits: Limits,
+) -> Result<Vec<u8>, ThreadsFault>
+    requires blanks { AreFor E.name E.parts S.name S.parts W.name W.parts blanks }
+    requires asked { IsSetUpWith E.pages E.limits job.pages.count limits }
+    ensures ok { IfOk result (λ text.
+        IsRunText job.output job.pages.count limits (actors_of cast.now) text.items) }
+    ensures late { IfErr result IsLate }
+{
+    match Service::<E, S, W>::with_seed(alloc, blanks, job.pages.count, limits, seed) {
+        Ok(service) => {
+            let hash = LabelHash::new(seed);
+            let (parts, told) = run_all(rt, alloc, &service, hash, job.output, cast);
+            end_service(service, parts);
+            told
+        }
+        Err(_) => Err(ThreadsFault::NoMemory),
+    }
+}
+
+// What is to be told of the actors.
+pub(crate) fn tell_all<R: Threads + Wait + Clock + Sync>(
+    rt: &R,
+    alloc: Global,
+    seed: [u8; 16],
+    cast: &ActorList,
+    job: Job,
+    limits: Limits,
+) -> Result<Vec<u8>, ThreadsFault>
+    ensures ok { IfOk result (λ text.
+        IsRunText job.output job.pages.count limits (actors_of cast.now) text.items) }
+    ensures late { IfErr result IsLate }
+{
+    let blanks = BlankBooks {
+        events: Blank::new(MAX_SHARES),
+        strong: Blank::new(MAX_SHARES),
+        weak: Blank::new(MAX_SHARES),
+    };
+    run_on::<Brand, Brand, Brand, _>(rt, alloc, blanks, seed, cast, job, limits)
+}
