@@ -25,6 +25,11 @@ uses_of() { # name
     sed -n "s/^$1\( [^:]*\)\{0,1\}://p" "$(git rev-parse --show-toplevel)/crates.txt"
 }
 
+# Those of `below`, one or more words, and the crates that they use, each once.
+all_of() { # crates below
+    for upper in $1; do echo "$upper $(uses_of "$upper")"; done | tr ' ' '\n' | sort -u
+}
+
 # Proves the crate in the folder and lowers it, over libraries that stand in out/ or in the toolchain's folder.
 lower() { # folder, name, libraries, toolchain, root file, what is written, more words
     folder=$1 name=$2 libraries=$3 toolchain=$4 root=$5 to=$6
@@ -45,18 +50,16 @@ lower() { # folder, name, libraries, toolchain, root file, what is written, more
     tail -1 "$out/$name.log"
 }
 
-# Makes a crate of the folder, proves it and lowers it, over the crates of `below`, one or more words, and those that they use.
+# Makes a crate of the folder, proves it and lowers it, over the crates of `below` and those that they use.
 build() { # name, crates below, toolchain, root file, what is written, more words
     made=$1 below=$2 kept=$3 first=$4 written=$5
     shift 5
-    libraries=$below
     for upper in $below; do
         (cd "$(git rev-parse --show-toplevel)/crates/$upper" && rt lib --jobs 2) > "$out/$made.log" 2>&1 ||
             { tail -40 "$out/$made.log"; exit 1; }
-        libraries="$libraries $(uses_of "$upper")"
     done
     crate_of "$made"
-    lower "$room" "$made" "$(echo "$libraries" | tr ' ' '\n' | sort -u)" "$kept" "$first" "$written" "$@"
+    lower "$room" "$made" "$(all_of "$below")" "$kept" "$first" "$written" "$@"
     rm -r "$room"
     room=
 }

@@ -1,6 +1,6 @@
 #!/bin/sh
-# Builds the page, tests it in Chromium and, where it is there, in Firefox, and prints sizes and times. Where the program is
-# built, the module is compared with it on 1,000 random scripts.
+# Builds the page, compares its module with the program on 1,000 random scripts, tests it in Chromium and, where it is there, in
+# Firefox, and prints sizes and times. The program is built first if `rt run` has not left it.
 # Ends with the status of what failed.
 #   tools/web.sh [SCREENSHOTS]     needs rt, python3, node and chromium
 set -eu
@@ -11,14 +11,12 @@ done
 ./build.sh
 python3 narrow_test.py out
 program=../crates/sysmem_main/out/sysmem_main
-if [ -x "$program" ]; then
-    rm -rf out/scripts
-    ../tools/random_scripts.py "$program" out/scripts 1000
-    node module_test.mjs out/sysmem.wasm ../examples "$program" out/scripts
-else
-    node module_test.mjs out/sysmem.wasm ../examples
-    echo "no program (\`rt run\` in crates/sysmem_main builds it): the module was not compared with it"
+if [ ! -x "$program" ]; then
+    (cd ../crates/sysmem_main && rt run -- run) < /dev/null > out/program.log 2>&1 || { tail -40 out/program.log; exit 1; }
 fi
+rm -rf out/scripts
+../tools/random_scripts.py "$program" out/scripts 1000
+node module_test.mjs out/sysmem.wasm ../examples "$program" out/scripts
 node test.mjs chromium out/sysmem.html out/small.html ../examples "$@"
 if command -v "${FIREFOX:-firefox-esr}" > /dev/null; then
     node --experimental-websocket test.mjs firefox out/sysmem.html out/small.html ../examples "$@"

@@ -32,6 +32,10 @@ for wanted, cases in ((False, REFUSED), (True, PASSED)):
         file.write_text(line)
         ran = subprocess.run([sys.executable, narrow, file], capture_output=True, text=True)
         assert (ran.returncode == 0) == wanted, f'{name}: {ran.stdout}{ran.stderr}'
+attributes = 'attributes #2 = { alwaysinline nounwind "probe-stack"="inline-asm" "target-cpu"="x86-64-v2" }\n'
+file.write_text(attributes)
+said = subprocess.run([sys.executable, narrow, file], capture_output=True, text=True).stdout
+assert said == 'attributes #2 = { nounwind }\n', said
 # Four zeroes stand behind each pointer of a constant, and nothing else changes.
 constant = ('@x = private constant <{ [8 x i8], ptr, [4 x i8], i64, ptr, [4 x i8] }> <{ [8 x i8] c"ptr @y, \\22", ptr @y, '
             '[4 x i8] zeroinitializer, i64 1, ptr getelementptr (i8, ptr @x, i64 24), [4 x i8] zeroinitializer }>, align 16\n')

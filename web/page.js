@@ -4,8 +4,9 @@ const $ = (id) => document.getElementById(id);
 const FORMAT = { text: 0, svg: 2 };
 const MOST_NODES = 200;
 const MOST_LINK = 8192;
-// `compiled` is the module; `script` the text of the last run; `steps` its lines, as far as they were played.
-let compiled, script = '', steps = [], at = 0, pages = 16;
+// `compiled` is the module; `script` the text of the last run; `steps` its lines, as far as they were played, of which one is
+// shown; `pictured` the event whose picture is.
+let compiled, examples = {}, script = '', steps = [], at = 0, pages = 16, pictured;
 
 // ---- the core
 
@@ -20,24 +21,21 @@ async function load() {
 // Makes one call in a new instance, so that nothing is left of the call before. Asks again where the text
 // needs more room than there was.
 function ask(name, text, ...more) {
-  for (let room = 1 << 18; ;) {
+  const bytes = new TextEncoder().encode(text);
+  for (let room = Math.max(1 << 18, Math.min(1 << 24, 8 * bytes.length)); ;) {
     const core = new WebAssembly.Instance(compiled, {}).exports;
-    const bytes = new TextEncoder().encode(text);
     const [from, out, words] = [bytes.length + 1, room, 16].map((n) => core.page_alloc(BigInt(n)) >>> 0);
     if (!from || !out || !words) return { status: 4, line: 0, text: '' };
     new Uint8Array(core.memory.buffer, from, bytes.length).set(bytes);
     const status = core[name](pages, from, BigInt(bytes.length), ...more, out, BigInt(room), words);
     const told = new DataView(core.memory.buffer, words, 16);
     const length = Number(told.getBigUint64(0, true));
-    if (length <= room) {
-      const line = Number(told.getBigUint64(8, true));
-      return { status, line, text: new TextDecoder().decode(new Uint8Array(core.memory.buffer, out, length)) };
-    }
+    const answer = new Uint8Array(core.memory.buffer, out, Math.min(length, room));
+    if (length <= room) return { status, line: Number(told.getBigUint64(8, true)), text: new TextDecoder().decode(answer) };
     room = length;
   }
 }
 
-const explain = (text) => ask('sysmem_explain', text);
 // The picture behind the event; behind event 0 nothing was made yet.
 const draw = (text, event, format) => ask('sysmem_draw', event === 0 ? '' : text, event, FORMAT[format]);
 
@@ -55,7 +53,7 @@ function stopped(status, line) {
 
 // The lines of the script, each with its reply, its facts and its event, and the line at which the run stopped.
 function play(text) {
-  const { status, line, text: told } = explain(text);
+  const { status, line, text: told } = ask('sysmem_explain', text);
   const answers = told.split('\n');
   answers.pop();
   const lines = (text.endsWith('\n') ? text.slice(0, -1) : text).split('\n'), done = [];
@@ -90,7 +88,7 @@ function play(text) {
 const drawn = new Map();
 function rows_of(event) {
   if (!drawn.has(event)) {
-    if (drawn.size > 3) drawn.clear();
+    if (drawn.size > 3) drawn.delete(drawn.keys().next().value);
     drawn.set(event, draw(script, event, 'text').text);
   }
   return drawn.get(event);
@@ -112,10 +110,7 @@ function seen(text) {
 
 const pairs = (words) => words.filter((_, i) => i % 2 === 0).map((w, i) => [w, words[2 * i + 1]]);
 
-function tell(node) {
-  const state = node.facts.split('; ').slice(0, 2).join(', ');
-  return `${node.name}: ${state}`;
-}
+const tell = (node) => `${node.name}: ${node.facts.split('; ').slice(0, 2).join(', ')}`;
 
 // The nodes that the event changed since the picture before it, and those on the way from each to its root.
 function changed(nodes, event) {
@@ -147,10 +142,7 @@ function picture(event) {
     return all;
   }
   const parsed = new DOMParser().parseFromString(draw(script, event, 'svg').text, 'image/svg+xml').documentElement;
-  if (parsed.nodeName !== 'svg') {
-    $('tree').textContent = 'The picture could not be drawn.';
-    return all;
-  }
+  if (parsed.nodeName !== 'svg') throw new Error('the picture was not drawn');
   const svg = document.importNode(parsed, true);
   svg.setAttribute('role', 'img');
   svg.setAttribute('aria-label', name);
@@ -174,6 +166,15 @@ function tables(all) {
   all.fired.forEach(([tracker, event]) => row($('fired'), [tracker, `at event ${event}`]));
 }
 
+// Does what asks the core, or tells in one line why that stopped.
+function with_core(act) {
+  try {
+    act();
+  } catch (error) {
+    $('said').textContent = `The core stopped: ${error.message}. The next run begins anew.`;
+  }
+}
+
 function sentences(k) {
   const step = steps[k];
   if (step.bad) return [`Line ${k + 1}: ${step.text}`, `The run stops here: ${step.bad}.`];
@@ -187,7 +188,7 @@ function show(k) {
   if (!steps.length) return;
   const lines = $('lines').children;
   lines[at]?.removeAttribute('aria-current');
-  at = Math.max(0, Math.min(k, steps.length - 1));
+  at = Math.max(0, Math.min(k, last()));
   const step = steps[at];
   $('slide').value = at;
   $('at').textContent = at + 1;
@@ -195,7 +196,10 @@ function show(k) {
   lines[at].setAttribute('aria-current', 'step');
   $('lines').scrollTop = lines[at].offsetTop - $('lines').offsetTop - 160;
   $('said').replaceChildren(...sentences(at).map((w) => Object.assign(document.createElement('p'), { textContent: w })));
-  tables(picture(step.event));
+  with_core(() => {
+    if (pictured !== step.event) tables(picture(step.event));
+    pictured = step.event;
+  });
   link();
 }
 
@@ -232,31 +236,30 @@ function listed(step, i) {
   return li;
 }
 
-// Plays the script, and shows the line, or the last one. Tells what went wrong in one line.
-function run(line) {
+const last = () => steps.length - 1;
+const fails = (step) => step.facts?.some((fact) => / fails, /.test(fact));
+// The first line at which something failed, or the last one.
+const first_failure = () => (steps.some(fails) ? steps.findIndex(fails) : last());
+
+// Plays the script, and shows this line of it.
+function run(line = last) {
   const begun = performance.now();
-  pages = Math.min(1048576, Math.max(1, Math.trunc(Number($('pages').value)) || 16));
-  $('pages').value = pages;
-  script = $('script').value;
-  if (!script.endsWith('\n')) script += '\n';
+  pages = $('pages').value = Math.min(1048576, Math.max(1, Math.trunc(Number($('pages').value)) || 16));
+  script = $('script').value.replace(/\n?$/, '\n');
   drawn.clear();
-  try {
+  pictured = undefined;
+  with_core(() => {
     steps = play(script);
     $('lines').replaceChildren(...steps.map(listed));
-    $('slide').max = Math.max(0, steps.length - 1);
-    at = 0;
-    show(line ?? steps.length - 1);
+    $('slide').max = Math.max(0, last());
+    show(line());
     $('time').textContent = `${steps.length} lines in ${(performance.now() - begun).toFixed(0)} ms`;
-  } catch (error) {
-    $('said').textContent = `The core stopped: ${error.message}. The next run begins anew.`;
-  }
+  });
 }
-
-let examples = {};
 
 function begin_controls() {
   const pick = () => { $('script').value = examples[$('pick').value] ?? ''; };
-  $('pick').addEventListener('change', () => { pick(); run(); });
+  $('pick').addEventListener('change', () => { pick(); run(first_failure); });
   $('run').addEventListener('click', () => run());
   $('script').addEventListener('keydown', (e) => { if (e.key === 'Enter' && (e.ctrlKey || e.metaKey)) { e.preventDefault(); run(); } });
   $('slide').addEventListener('input', () => show(Number($('slide').value)));
@@ -267,18 +270,15 @@ function begin_controls() {
     if (li) show([...$('lines').children].indexOf(li));
   });
   $('lines').addEventListener('keydown', (e) => {
-    const to = { ArrowUp: at - 1, ArrowDown: at + 1, Home: 0, End: steps.length - 1 }[e.key];
+    const to = { ArrowUp: at - 1, ArrowDown: at + 1, Home: 0, End: last() }[e.key];
     if (to !== undefined) { e.preventDefault(); show(to); }
   });
   return pick;
 }
 
 async function begin() {
-  if (typeof WebAssembly !== 'object' || typeof BigInt !== 'function') {
-    $('said').textContent = 'This browser has no WebAssembly. `sysmem explain` and `sysmem draw` tell the same.';
-    return;
-  }
   try {
+    if (typeof BigInt !== 'function') throw new Error('BigInt is missing');
     compiled = await load();
   } catch (error) {
     $('said').textContent = `This browser can't run the core: ${error.message}. \`sysmem explain\` and \`sysmem draw\` tell the same.`;
@@ -293,7 +293,7 @@ async function begin() {
   if (wanted.has('script')) $('script').value = decode(wanted.get('script'));
   if (wanted.has('pages')) $('pages').value = wanted.get('pages');
   const line = Math.trunc(Number(wanted.get('line')));
-  run(line >= 1 ? line - 1 : undefined);
+  run(line >= 1 ? () => line - 1 : wanted.has('line') || wanted.has('script') ? last : first_failure);
   document.documentElement.dataset.ready = 'yes';
 }
 begin();
