@@ -294,6 +294,17 @@ for script in examples/*.actors; do count record_agrees "$script"; done
 
 for _ in 1 2 3 4 5 6 7 8 9; do count record_agrees examples/shared.actors; done
 
+# In most runs two of these actors or more take the buffers.
+are_shared() {
+  local shared=0
+  for _ in 1 2 3 4 5 6 7 8 9 10; do
+    "$program" threads --record <examples/shared.actors >"$room/record" 2>"$room/told" && hears '' || return 1
+    [ "$(grep -c '^  taken strong ' "$room/record")" -ge 2 ] && shared=$((shared + 1))
+  done
+  [ "$shared" -ge 6 ]
+}
+count are_shared
+
 # A crowd: 64 actors open trees, give children and handles to the next one, and use what comes, 50 times.
 awk 'BEGIN {
   for (actor = 0; actor < 64; actor++) print "c" actor " join"

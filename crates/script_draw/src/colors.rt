@@ -1,4 +1,7 @@
 //! Colours that colour-blind readers tell apart, and that differ in grey.
+ghost use Rattle.std.specs.Prelude.{◌≡◌};
+ghost use Rattle.script_draw.specs.DotPictures.{edge_text, fill_text, ink_text};
+
 use script_pictures::Class;
 
 pub(crate) const BLUE: &str = "#0072B2";
@@ -18,7 +21,9 @@ pub(crate) const EARTH: &str = "#7A6A00";
 pub(crate) const WHITE: &str = "#FFFFFF";
 
 // The colour that a node is filled with.
-pub(crate) fn fill_color(class: Class) -> &'static str {
+pub(crate) fn fill_color(class: Class) -> &'static str
+    ensures { result.now ≡ fill_text class }
+{
     match class {
         Class::Live => "#D6E9F5",
         Class::Orphan => WHITE,
@@ -29,7 +34,9 @@ pub(crate) fn fill_color(class: Class) -> &'static str {
 }
 
 // The colour of a node's border.
-pub(crate) fn edge_color(class: Class) -> &'static str {
+pub(crate) fn edge_color(class: Class) -> &'static str
+    ensures { result.now ≡ edge_text class }
+{
     match class {
         Class::Live | Class::Orphan => BLUE,
         Class::Origin => DEEP,
@@ -39,9 +46,11 @@ pub(crate) fn edge_color(class: Class) -> &'static str {
 }
 
 // The colour of a node's words.
-pub(crate) fn ink_color(class: Class) -> &'static str {
+pub(crate) fn ink_color(class: Class) -> &'static str
+    ensures { result.now ≡ ink_text class }
+{
     match class {
         Class::Origin => WHITE,
-        _ => INK,
+        Class::Live | Class::Orphan | Class::Taken | Class::Ended => INK,
     }
 }

@@ -1,15 +1,25 @@
 //! The trees of a script behind an event, drawn.
-ghost use Rattle.std.specs.Prelude.{◌≤◌};
+ghost use Rattle.std.specs.Prelude.{◌≡◌, ◌≢◌, ◌≤◌, ◌+◌, [], ◌∷◌, ◌++◌, All, List, ℕ, Option, None, true, IfErr, IfOk, OnOk, length, nat_le};
+ghost use Rattle.sm_names.specs.declared.messages.Reply.{Reply};
+ghost use Rattle.sm_script.specs.Names.{Names};
+ghost use Rattle.sm_script.specs.Scenes.{Scene, Setting, next_scene};
+ghost use Rattle.sm_script.specs.Sessions.{IsAt, IsSameSetting};
+ghost use Rattle.sm_script.specs.Tables.{Keeps};
+ghost use Rattle.script_tales.specs.Called.{Calls, Knows};
+ghost use Rattle.script_pictures.specs.Seen.{IsTree};
+ghost use Rattle.script_draw.specs.Draws.{Draws, IsPicture, IsPictured, IsUnwritten, LinesDrawn};
+ghost use Rattle.script_draw.specs.Played.{IsBefore, is_reached};
+ghost use Rattle.script_draw.specs.Reached.{Asks, Goes, Halted, IsHeldUp, IsPlayedOn, LinesHalted, MakesCall, Reached, stops_at_line};
 
 use crate::dot_picture::push_dot;
 use crate::svg_picture::push_svg;
 use crate::text_picture::push_text;
 use event_facts::Event;
 use script_faults::{ReportFault, behind, fault_of, is_indented, put_out, read_script, unended};
-use script_lines::line_end;
-use script_pictures::{Album, named_collection, picture_of};
+use script_lines::{MOST_BYTES, line_end};
+use script_pictures::{Album, Picture, named_collection, picture_of};
 use script_tales::Teller;
-use sm_names::{Call, ClientId, Limits};
+use sm_names::{Call, ClientId, Limits, NoMemory};
 use sm_script::{Act, Binds, Stop};
 use std::alloc::Global;
 use std::io::{Read, Write};
@@ -38,8 +48,8 @@ pub struct View {
 struct Scroll {
     teller: Teller,
     album: Album,
-    // How many events were made, the last of them, and its line.
-    events: u64,
+    limits: Limits,
+    // The last event, its line and its reply.
     event: Option<Event>,
     line: Vec<u8>,
     reply: Vec<u8>,
@@ -51,8 +61,8 @@ struct Scroll {
 /// before any line is judged.
 ///
 /// On a fault nothing was written, but for these: `WriteFault`, where a first part of the picture was;
-/// and `BadLine`, `HistoryFull` and `NoMemory` at a line, where no event is asked for: then the picture
-/// is that behind the line before.
+/// and `BadLine` and `HistoryFull`, where no event is asked for: then the picture is that behind the line
+/// before.
 ///
 /// Costs what `explain_script` costs, O(n^2) for the n nodes that were ever born in each collection that is
 /// drawn, and for each buffer a look-up for each client and strength.
@@ -66,29 +76,128 @@ pub fn draw_script<R: Read, W: Write>(
     view: View,
 ) -> Result<(), ReportFault>
     requires { (1 ≤ pages) × (pages ≤ 1048576) }
+    ensures { Draws (record { pool = pages; limits = limits }) view
+        (R.remaining reader.old) (R.remaining reader.new)
+        (W.contents writer.old) (W.contents writer.new) result }
 {
-    let script = read_script(alloc, reader)?;
-    let mut scroll = Scroll {
-        teller: Teller::new(alloc, seed, pages, limits)?,
-        album: Album::new(alloc),
-        events: 0,
-        event: None,
-        line: Vec::new(alloc),
-        reply: Vec::new(alloc),
+    let script = match read_script(alloc, reader) {
+        Ok(script) => script,
+        Err(fault) => return Err(fault),
     };
-    let played = play(alloc, &mut scroll, &script, view.at);
+    match Scroll::new(alloc, seed, pages, limits) {
+        Ok(mut scroll) => draw_all(alloc, &mut scroll, writer, &script, view),
+        Err(_) => Err(ReportFault::NoMemory),
+    }
+}
+
+// Plays the lines, and writes the picture.
+fn draw_all<W: Write>(
+    alloc: Global,
+    scroll: &mut Scroll,
+    writer: &mut W,
+    script: &[u8],
+    view: View,
+) -> Result<(), ReportFault>
+    requires { length script.now ≤ MOST_BYTES }
+    ensures { (setting : Setting) → Reached setting view.at scroll.old [] → LinesDrawn setting view
+        (W.contents writer.old) (W.contents writer.new) script.now result }
+{
+    match play(alloc, scroll, script, view.at) {
+        Ok(()) => draw_asked(alloc, scroll, writer, view),
+        Err(fault) => draw_so_far(alloc, scroll, writer, view, fault),
+    }
+}
+
+// Writes the picture, if the event that is asked for was made.
+fn draw_asked<W: Write>(
+    alloc: Global,
+    scroll: &Scroll,
+    writer: &mut W,
+    view: View,
+) -> Result<(), ReportFault>
+    ensures { (setting : Setting) (script : List ℕ) → IsPlayedOn setting view.at scroll.now script →
+        LinesDrawn setting view (W.contents writer.old) (W.contents writer.new) script result }
+{
     match view.at {
         Some(at) => {
-            played?;
-            if at == 0 || scroll.events < at {
+            if at == 0 {
                 return Err(ReportFault::NoEvent(at));
             }
-            write_picture(alloc, writer, &scroll, pages, view.format)
+            if scroll.is_at(view.at) {
+                write_picture(alloc, writer, scroll, view.format)
+            } else {
+                Err(ReportFault::NoEvent(at))
+            }
         }
-        None => {
-            write_picture(alloc, writer, &scroll, pages, view.format)?;
-            played
-        }
+        None => write_picture(alloc, writer, scroll, view.format),
+    }
+}
+
+// Whether the fault is one of a line, which changed nothing.
+fn is_line_fault(fault: &ReportFault) -> bool
+    ensures { result ≡ stops_at_line fault.now }
+{
+    match fault {
+        ReportFault::BadLine { .. } | ReportFault::HistoryFull => true,
+        ReportFault::ReadFault
+        | ReportFault::TooLong
+        | ReportFault::WriteFault
+        | ReportFault::NoMemory
+        | ReportFault::NoEvent(_) => false,
+    }
+}
+
+// Writes the picture of what was there before the fault of a line, unless an event was asked for.
+fn draw_so_far<W: Write>(
+    alloc: Global,
+    scroll: &Scroll,
+    writer: &mut W,
+    view: View,
+    fault: ReportFault,
+) -> Result<(), ReportFault>
+    ensures { (setting : Setting) (script : List ℕ) → LinesHalted setting view.at scroll.now script fault →
+        LinesDrawn setting view (W.contents writer.old) (W.contents writer.new) script result }
+{
+    if is_line_fault(&fault) {
+        draw_before(alloc, scroll, writer, view, fault)
+    } else {
+        Err(fault)
+    }
+}
+
+// Writes the picture of what was there before the fault of a line, unless an event was asked for.
+fn draw_before<W: Write>(
+    alloc: Global,
+    scroll: &Scroll,
+    writer: &mut W,
+    view: View,
+    fault: ReportFault,
+) -> Result<(), ReportFault>
+    ensures { (setting : Setting) (script : List ℕ) → stops_at_line fault ≡ true →
+        LinesHalted setting view.at scroll.now script fault →
+        LinesDrawn setting view (W.contents writer.old) (W.contents writer.new) script result }
+{
+    match view.at {
+        Some(_) => Err(fault),
+        None => draw_last(alloc, scroll, writer, view, fault),
+    }
+}
+
+// Writes the picture of what was there before the fault of a line, where no event was asked for.
+fn draw_last<W: Write>(
+    alloc: Global,
+    scroll: &Scroll,
+    writer: &mut W,
+    view: View,
+    fault: ReportFault,
+) -> Result<(), ReportFault>
+    ensures { (setting : Setting) (script : List ℕ) → view.at ≡ None → stops_at_line fault ≡ true →
+        LinesHalted setting view.at scroll.now script fault →
+        LinesDrawn setting view (W.contents writer.old) (W.contents writer.new) script result }
+{
+    match write_picture(alloc, writer, scroll, view.format) {
+        Ok(()) => Err(fault),
+        Err(other) => Err(other),
     }
 }
 
@@ -97,13 +206,57 @@ fn write_picture<W: Write>(
     alloc: Global,
     writer: &mut W,
     scroll: &Scroll,
-    pages: u32,
     format: Format,
-) -> Result<(), ReportFault> {
+) -> Result<(), ReportFault>
+    ensures ok { OnOk result ((setting : Setting) (until : Option ℕ) (lines : List (List ℕ))
+        (far : Reached setting until scroll.now lines) →
+        IsPictured format setting far.scene scroll.now.line.items
+        (W.contents writer.old) (W.contents writer.new)) }
+    ensures err { IfErr result (λ fault. (setting : Setting) (until : Option ℕ)
+        (lines : List (List ℕ)) (far : Reached setting until scroll.now lines) →
+        IsUnwritten format setting far.scene scroll.now.line.items
+        (W.contents writer.old) (W.contents writer.new) fault) }
+{
     let mut text = Vec::new(alloc);
-    match push_picture(alloc, &mut text, scroll, pages, format) {
+    match push_picture(alloc, &mut text, scroll, format) {
         Ok(()) => put_out(writer, &text),
         Err(_) => Err(ReportFault::NoMemory),
+    }
+}
+
+// Puts the picture into the empty text.
+fn push_picture(
+    alloc: Global,
+    text: &mut Vec<u8>,
+    scroll: &Scroll,
+    format: Format,
+) -> Result<(), Stop>
+    ensures { OnOk result ((names : Names) → Keeps scroll.now.teller.session.tables names →
+        Calls scroll.now.teller.labels names → text.old.items ≡ [] →
+        IsPicture format scroll.now.teller.session.core names scroll.now.line.items text.new.items) }
+{
+    let event = scroll.event.as_ref();
+    let picture = picture_of(alloc, &scroll.teller, &scroll.album, event)?;
+    push_format(text, &scroll.teller, &picture, &scroll.line, format)
+}
+
+// Puts the picture into the empty text, where the last event has this line.
+fn push_format(
+    text: &mut Vec<u8>,
+    teller: &Teller,
+    picture: &Picture,
+    line: &[u8],
+    format: Format,
+) -> Result<(), Stop>
+    ensures { OnOk result ((names : Names) → Keeps teller.now.session.tables names →
+        Calls teller.now.labels names → text.old.items ≡ [] →
+        All (IsTree teller.now.session.core) picture.now.trees.items →
+        IsPicture format teller.now.session.core names line.now text.new.items) }
+{
+    match format {
+        Format::Text => push_text(text, teller, picture, line),
+        Format::Dot => push_dot(text, teller, picture, line),
+        Format::Svg => push_svg(text, teller, picture, line),
     }
 }
 
@@ -113,7 +266,13 @@ fn play(
     scroll: &mut Scroll,
     script: &[u8],
     until: Option<u64>,
-) -> Result<(), ReportFault> {
+) -> Result<(), ReportFault>
+    requires { length script.now ≤ MOST_BYTES }
+    ensures ok { OnOk result ((setting : Setting) → Reached setting until scroll.old [] →
+        IsPlayedOn setting until scroll.new script.now) }
+    ensures err { IfErr result (λ fault. (setting : Setting) → Reached setting until scroll.old [] →
+        LinesHalted setting until scroll.new script.now fault) }
+{
     let mut number: u64 = 0;
     let mut rest = script;
     'lines: while let Some(at) = line_end(rest) {
@@ -121,11 +280,15 @@ fn play(
             return Ok(());
         }
         number = number.saturating_add(1);
-        let line = &rest[..at];
-        rest = behind(rest, at);
-        scroll.play_line(alloc, number, line)?;
+        match scroll.play_line(alloc, number, &rest[..at]) {
+            Ok(()) => rest = behind(rest, at),
+            Err(fault) => return Err(fault),
+        }
     }
-    if rest.is_empty() || scroll.is_at(until) {
+    if scroll.is_at(until) {
+        return Ok(());
+    }
+    if rest.is_empty() {
         Ok(())
     } else {
         Err(unended(alloc, number.saturating_add(1)))
@@ -133,78 +296,146 @@ fn play(
 }
 
 impl Scroll {
-    // Whether so many events were made.
-    fn is_at(&self, until: Option<u64>) -> bool {
-        until == Some(self.events)
+    // No line was played.
+    fn new(alloc: Global, seed: [u8; 16], pages: u32, limits: Limits) -> Result<Scroll, NoMemory>
+        requires { (1 ≤ pages) × (pages ≤ 1048576) }
+        ensures { IfOk result (λ scroll. (until : Option ℕ) →
+            Reached (record { pool = pages; limits = limits }) until scroll []) }
+    {
+        let teller = Teller::new(alloc, seed, pages, limits)?;
+        let line = Vec::new(alloc);
+        Ok(Scroll {
+            teller,
+            album: Album::new(alloc),
+            limits,
+            event: None,
+            line,
+            reply: Vec::new(alloc),
+        })
     }
 
-    // Plays one more line, which has this number.
-    fn play_line(&mut self, alloc: Global, number: u64, line: &[u8]) -> Result<(), ReportFault> {
-        match self.take_line(alloc, line) {
-            Ok(()) => Ok(()),
-            Err(stop) => {
-                let tables = &self.teller.session.tables;
-                Err(fault_of(alloc, stop, tables, number, line))
-            }
+    // Whether so many events were made.
+    fn is_at(&self, until: Option<u64>) -> bool
+        ensures { (scene : Scene) → Knows self.now.teller scene →
+            result ≡ is_reached until (length scene.history) }
+    {
+        match until {
+            Some(at) => at == self.teller.session.core.events(),
+            None => false,
         }
     }
 
-    // Plays one more line.
-    fn take_line(&mut self, alloc: Global, line: &[u8]) -> Result<(), Stop> {
+    // Plays one more line, the one of this number.
+    fn play_line(&mut self, alloc: Global, number: u64, line: &[u8]) -> Result<(), ReportFault>
+        ensures ok { OnOk result (Goes self.old self.new line.now) }
+        ensures err { IfErr result (λ fault. (setting : Setting) (until : Option ℕ)
+            (lines : List (List ℕ)) (far : Reached setting until self.old lines) →
+            IsBefore until (length far.scene.history) → number ≡ length lines + 1 →
+            Halted setting until self.new (lines ++ line.now ∷ []) fault) }
+    {
+        match self.take_line(alloc, line) {
+            Ok(()) => Ok(()),
+            Err(stop) => Err(fault_of(alloc, stop, &self.teller.session.tables, number, line)),
+        }
+    }
+
+    // Plays one more line. Where it can't, but for want of memory, nothing changes.
+    fn take_line(&mut self, alloc: Global, line: &[u8]) -> Result<(), Stop>
+        ensures ok { OnOk result (Goes self.old self.new line.now) }
+        ensures same { IfErr result (λ stop. stop ≢ Stop.NoMemory → self.new ≡ self.old) }
+        ensures err { IfErr result (λ stop. (setting : Setting) (until : Option ℕ)
+            (lines : List (List ℕ)) (far : Reached setting until self.old lines) →
+            IsHeldUp setting far.scene line.now stop) }
+    {
         if is_indented(line) {
             return Ok(());
         }
         match self.teller.session.read(line) {
+            Some(act) => self.take_act(alloc, act, line),
             None => Err(Stop::BadLine),
-            Some(
-                Act::Ask {
-                    client,
-                    call,
-                    binds,
-                },
-            ) => {
-                self.take_call(alloc, client, call, binds)?;
-                self.line.clear();
-                self.line.extend_from_slice(line)?;
-                Ok(())
-            }
-            Some(_) => Ok(()),
         }
     }
 
-    // Makes one more call.
+    // Makes one more call, if the line asks for one, which is not indented. Where it can't, but for want of
+    // memory, nothing changes.
+    fn take_act(&mut self, alloc: Global, act: Act, line: &[u8]) -> Result<(), Stop>
+        ensures ok { OnOk result ((setting : Setting) (until : Option ℕ) (lines : List (List ℕ))
+            (far : Reached setting until self.old lines) → Asks far.scene line.now act →
+            IsBefore until (length far.scene.history) →
+            Reached setting until self.new (lines ++ line.now ∷ [])) }
+        ensures same { IfErr result (λ stop. stop ≢ Stop.NoMemory → self.new ≡ self.old) }
+        ensures err { IfErr result (λ stop. (setting : Setting) (until : Option ℕ)
+            (lines : List (List ℕ)) (far : Reached setting until self.old lines) →
+            Asks far.scene line.now act → IsHeldUp setting far.scene line.now stop) }
+    {
+        match act {
+            Act::Ask {
+                client,
+                call,
+                binds,
+            } => {
+                if self.is_full() {
+                    return Err(Stop::HistoryFull);
+                }
+                self.make(alloc, client, call, binds, line)
+            }
+            Act::Nothing => Ok(()),
+            Act::Poll(_) => Ok(()),
+            Act::Show(_) => Ok(()),
+        }
+    }
+
+    // Whether as many events were made as may be.
+    fn is_full(&self) -> bool
+        ensures { result ≡ nat_le self.now.limits.events self.now.teller.session.core.events }
+    {
+        self.limits.events() as u64 <= self.teller.session.core.events()
+    }
+
+    // Makes one more call, that of this line. It fails for want of memory alone.
+    fn make(
+        &mut self,
+        alloc: Global,
+        client: ClientId,
+        call: Call,
+        binds: Binds,
+        line: &[u8],
+    ) -> Result<(), Stop>
+        ensures ok { OnOk result (MakesCall self.old self.new client call binds line.now) }
+        ensures err { IfErr result (λ stop. stop ≡ Stop.NoMemory) }
+    {
+        match self.take_call(alloc, client, call, binds) {
+            Ok(()) => {}
+            Err(_) => return Err(Stop::NoMemory),
+        }
+        self.line.clear();
+        match self.line.extend_from_slice(line) {
+            Ok(()) => Ok(()),
+            Err(_) => Err(Stop::NoMemory),
+        }
+    }
+
+    // Makes one more call, and keeps its event.
     fn take_call(
         &mut self,
         alloc: Global,
         client: ClientId,
         call: Call,
         binds: Binds,
-    ) -> Result<(), Stop> {
+    ) -> Result<(), Stop>
+        ensures setting { OnOk result ((scene : Scene) → IsAt self.old.teller.session scene →
+            IsSameSetting self.old.teller.session self.new.teller.session) }
+        ensures limits { OnOk result (self.new.limits ≡ self.old.limits) }
+        ensures knows { OnOk result ((scene : Scene) → Knows self.old.teller scene → (reply : Reply)
+            × Knows self.new.teller (next_scene scene client call binds reply)) }
+    {
         let named = named_collection(&self.teller.session.core, &call);
         let event = self
             .teller
             .take(alloc, client, call, binds, &mut self.reply)?;
         self.album
             .update(alloc, &self.teller.session.core, named, &event)?;
-        self.events = self.events.saturating_add(1);
         self.event = Some(event);
         Ok(())
-    }
-}
-
-// Puts the picture behind what is there.
-fn push_picture(
-    alloc: Global,
-    text: &mut Vec<u8>,
-    scroll: &Scroll,
-    pages: u32,
-    format: Format,
-) -> Result<(), Stop> {
-    let picture = picture_of(alloc, &scroll.teller, &scroll.album, scroll.event.as_ref())?;
-    let (teller, events, line) = (&scroll.teller, scroll.events, &scroll.line);
-    match format {
-        Format::Text => push_text(text, teller, pages, &picture, events, line),
-        Format::Dot => push_dot(text, teller, pages, &picture, events, line),
-        Format::Svg => push_svg(text, teller, pages, &picture, events, line),
     }
 }

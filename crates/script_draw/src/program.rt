@@ -1,11 +1,12 @@
 //! Scripts drawn as a program does it: to an exit status.
 ghost use Rattle.std.specs.Prelude.{◌≤◌};
 ghost use Rattle.std.specs.Process.{exit_status};
+ghost use Rattle.script_draw.specs.Draws.{EndsDrawn};
 
 use crate::draw::{View, draw_script};
 use script_faults::end_with;
 use script_lines::Pages;
-use sm_names::Limits;
+use sm_names::{Limits, MAX_COLLECTIONS, MAX_EVENTS, MAX_HANDLES, MAX_NODES, MAX_TRACKERS};
 use std::alloc::Global;
 use std::io::{Read, Write};
 use std::process::ExitCode;
@@ -23,7 +24,19 @@ pub fn draw_to_exit<R: Read, W: Write, F: Write>(
     pages: Pages,
     view: View,
 ) -> ExitCode
-    ensures { exit_status result ≤ 4 }
+    ensures most { exit_status result ≤ 4 }
+    ensures ends { EndsDrawn (record {
+      pool = pages.count;
+      limits = record {
+        events = MAX_EVENTS;
+        nodes = MAX_NODES;
+        collections = MAX_COLLECTIONS;
+        trackers = MAX_TRACKERS;
+        handles = MAX_HANDLES;
+      };
+    }) view
+        (R.remaining reader.old) (R.remaining reader.new)
+        (W.contents writer.old) (W.contents writer.new) (exit_status result) }
 {
     match draw_script(
         alloc,

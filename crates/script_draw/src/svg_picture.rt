@@ -37,13 +37,11 @@ impl Canvas {
     }
 }
 
-// Puts the picture behind what is there, of the event of this number and line.
+// Puts the picture behind what is there, where the last event has this line.
 pub(crate) fn push_svg(
     text: &mut Vec<u8>,
     teller: &Teller,
-    pages: u32,
     picture: &Picture,
-    event: u64,
     line: &[u8],
 ) -> Result<(), Stop> {
     let mut canvas = Canvas {
@@ -52,21 +50,21 @@ pub(crate) fn push_svg(
         right: 0,
         width: box_width(teller, picture)?,
     };
-    push_title(&mut canvas.body, event, line)?;
-    draw(&mut canvas, teller, pages, picture)?;
+    push_title(&mut canvas.body, teller.session.core.events(), line)?;
+    draw(&mut canvas, teller, picture)?;
     push_frame(text, plus(canvas.right, MARGIN), canvas.y)?;
     push_parts(text, &[Part::Bytes(&canvas.body), Part::Word("</svg>\n")])?;
     Ok(())
 }
 
 // Draws all below the title.
-fn draw(canvas: &mut Canvas, teller: &Teller, pages: u32, picture: &Picture) -> Result<(), Stop> {
+fn draw(canvas: &mut Canvas, teller: &Teller, picture: &Picture) -> Result<(), Stop> {
     push_told(canvas, teller, picture)?;
     let clients = teller.session.core.clients()?;
     for tree in &picture.trees {
         push_tree(canvas, teller, &clients, tree, &picture.travels)?;
     }
-    push_pool(canvas, teller, pages)?;
+    push_pool(canvas, teller, teller.session.core.pages())?;
     push_legend(canvas)?;
     Ok(())
 }

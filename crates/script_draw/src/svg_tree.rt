@@ -7,10 +7,10 @@ use alloc_event::Node;
 use script_lines::push;
 use script_pictures::{
     Class, Corner, GAP_X, HEIGHT, Layout, Travel, Tree, class_of, lay_out, minus, node_lines, plus,
-    push_handles, push_pages, times,
+    push_pages, times,
 };
-use script_tales::Teller;
 use script_tales::words::push_nodes;
+use script_tales::{Teller, push_holders};
 use sm_names::{ClientId, HeldBuffer};
 use std::alloc::AllocError;
 use text_parts::{Part, push_parts};
@@ -189,7 +189,7 @@ fn push_kept(
         before = "; handles: ";
     }
     let core = &teller.session.core;
-    push_handles(line, core, &teller.labels, clients, held.buffer, before)
+    push_holders(line, core, &teller.labels, clients, held.buffer, before)
 }
 
 // Draws a buffer, and the name and pages in it.

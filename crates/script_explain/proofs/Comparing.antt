@@ -9,6 +9,8 @@ use Rattle.script_faults.specs.declared.fault.ReportFault.{ReportFault}
 use Rattle.script_faults.specs.Faults.{IsBadLine, IsFaultOf}
 use Rattle.script_faults.specs.IndentedLines.{behind_indent, indented, is_indented, unindented}
 use Rattle.script_faults.specs.Streams.{IsUnread}
+use Rattle.script_faults.proofs.Settings.{legal-in, over-in}
+use Rattle.script_faults.proofs.Unindented.{unindented-more, unindented-skip}
 use Rattle.sm_script.specs.declared.session.Session.{Session}
 use Rattle.sm_script.specs.declared.stop.Stop.{Stop}
 use Rattle.sm_script.specs.Scenes.{Answers, Plays as PlaysLines, Rests, Scene, Setting, as_line, first_scene}
@@ -18,7 +20,6 @@ use Rattle.script_explain.specs.declared.check.Comparison.{Comparison}
 use Rattle.script_explain.specs.declared.check.Verdict.{Verdict}
 use Rattle.script_explain.specs.Comparisons.{Agreement, Agrees, Begins, Remarks, Replies, Plays, CheckStops, Checks, Difference, EndsChecked, FullAgreement, IsJudged, IsRemark, IsUnchecked, LinesStop, Place, Records, Stopped, agreement_text, checking_status, compared, played, told_difference}
 use Rattle.script_explain.specs.Progress.{CheckHalted, Compared, Ended, Judges, place_in}
-use Rattle.script_explain.proofs.Telling.{legal-in, over-in, unindented-more, unindented-skip}
 
 -- the lines that are not indented are played, one after another
 pub agrees-plays : (pool : ℕ) (lines : List (List ℕ)) (at : Place) → Agrees pool lines at →

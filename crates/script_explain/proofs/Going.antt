@@ -1,12 +1,12 @@
 -- Loops over the lines of a script.
-use Rattle.std.proofs.Common.{◌≡◌, ℕ, suc, ◌+◌, ◌-◌, ◌^◌, ◌<◌, ◌≤◌, min, ◌==◌, true, false, List, [], ◌∷◌, ◌++◌, length, length-append, take, drop, append_assoc, append-nil, refl, sym, ap, ◌∙◌, subst, Option, Some, None, arith}
-use Rattle.std.proofs.lemmas.Bool.Decides.{nat_tests}
+use Rattle.std.proofs.Common.{◌≡◌, ℕ, ◌+◌, ◌-◌, ◌^◌, ◌<◌, ◌≤◌, min, ◌==◌, true, false, List, [], ◌∷◌, ◌++◌, length, length-append, take, drop, append_assoc, append-nil, refl, sym, ap, ◌∙◌, subst, Option, Some, None, arith}
 use Rattle.std.specs.List.{position}
 use Rattle.script_lines.specs.declared.TheConstants.{MOST_BYTES}
 use Rattle.script_lines.specs.Pieces.{whole_lines, last_part}
 use Rattle.script_lines.proofs.Piecing.{is_end}
 use Rattle.script_faults.specs.declared.fault.ReportFault.{ReportFault}
 use Rattle.script_faults.specs.Faults.{IsBadLine}
+use Rattle.script_faults.proofs.LinesTaken.{AreTaken, last-number, next-number, none-left, rest-all, taken-all, taken-at, taken-more, taken-none, taken-room}
 use Rattle.sm_script.specs.declared.session.Session.{Session}
 use Rattle.sm_script.specs.Scenes.{Setting}
 use Rattle.sm_script.proofs.Taking.{some_behind}
@@ -15,30 +15,7 @@ use Rattle.script_explain.specs.declared.check.Verdict.{Verdict}
 use Rattle.script_explain.specs.Comparisons.{Difference, LinesStop}
 use Rattle.script_explain.specs.Progress.{CheckHalted, Compared, Ended, Explained, Halted, Judges, LinesHalted, SoFar}
 use Rattle.script_explain.proofs.Comparing.{difference-more, unchecked-at-end, unchecked-lines, unchecked-more}
-use Rattle.script_explain.proofs.LinesTaken.{AreTaken, rest-all, taken-all, taken-at, taken-more, taken-none, taken-room}
 use Rattle.script_explain.proofs.Outcomes.{halted-at-end, halted-lines, halted-more}
-
--- the number of the next line
-pub next-number : (count room number next : ℕ) → number ≡ count → count + 1 ≤ room → room ≤ MOST_BYTES →
-    next ≡ min (number + 1) (2 ^ 64 - 1) → next ≡ count + 1
-next-number count room number next counted within small is = omega (arith, is, counted, within, small)
-
--- one more than a number is not 0
-some-more : (n : ℕ) → (suc n == 0) ≡ true → ⊥
-some-more n test = grind (arith, nat_tests)
-
--- nothing is left
-none-left : (rest : List ℕ) → (length rest == 0) ≡ true → rest ≡ []
-none-left [] empty = refl
-none-left (byte ∷ more) empty = absurd (some-more (length more) empty)
-
--- the number of the line that has no end
-last-number : (script rest : List ℕ) (taken : List (List ℕ)) (takes : AreTaken script rest taken) → length script ≤ MOST_BYTES →
-    position is_end rest ≡ None → (number count : ℕ) → number ≡ length taken → count ≡ min (number + 1) (2 ^ 64 - 1) →
-    count ≡ length (whole_lines script) + 1
-last-number script rest taken takes small none number count counted is =
-    let all : length (whole_lines script) ≡ length taken = ap length (taken-all script rest taken takes none) in
-    omega (arith, is, counted, takes.few, small, all)
 
 -- some lines were explained, and their number is this
 pub record Along (script rest : List ℕ) (number : ℕ) (first : Session) (mid : Option (List ℕ)) (before : List ℕ) (now : Session)

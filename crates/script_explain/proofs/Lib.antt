@@ -3,7 +3,6 @@ pub mod CleanLabels
 pub mod CleanScenes
 pub mod Comparing
 pub mod Going
-pub mod LinesTaken
 pub mod Outcomes
 pub mod Telling
 pub mod ToldLines

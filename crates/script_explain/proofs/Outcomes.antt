@@ -14,7 +14,6 @@ use Rattle.sm_script.specs.Scenes.{Rests, Setting, first_scene}
 use Rattle.script_explain.specs.Explanations.{EndsExplained, Explains, Explanation, ExplanationStops, IsCutOff, IsExplained, IsUnexplained, LinesStop, LinesTold, explaining_status}
 use Rattle.script_explain.specs.Progress.{Explained, Halted, IsHalted, LinesHalted, SoFar}
 use Rattle.script_explain.specs.Tales.{Begins}
-use Rattle.script_explain.proofs.LinesTaken.{AreTaken, taken-all, taken-at, rest-all}
 use Rattle.script_explain.proofs.Telling.{far-pending, pending-cut, pending-told}
 
 -- nothing in front of nothing

@@ -1,35 +1,21 @@
 -- An explanation that goes on by one line, or stops at it.
-use Rattle.std.proofs.Common.{◌≡◌, ◌≢◌, ℕ, ◌+◌, ◌≤◌, true, false, List, [], ◌∷◌, ◌++◌, length, append_assoc, append-nil, refl, sym, ap, ◌∙◌, subst, Option, Some, None, inl, inr, not}
+use Rattle.std.proofs.Common.{◌≡◌, ℕ, ◌+◌, true, false, List, [], ◌∷◌, ◌++◌, length, append_assoc, append-nil, refl, sym, ap, ◌∙◌, subst, Option}
 use Rattle.std.proofs.KnownBytes.{Appends-nil, Appends-trans}
-use Rattle.std.proofs.lemmas.List.Elements.{filter-append}
 use Rattle.std.specs.Io.KnownBytes.{Appends}
-use Rattle.sm_names.specs.Bounds.{Bound}
-use Rattle.sm_names.specs.Legality.{IsLegal}
-use Rattle.sm_names.specs.Marks.{events}
-use Rattle.sm_names.specs.Timelines.{timeline}
 use Rattle.script_lines.specs.Written.{WritesPart}
 use Rattle.script_faults.specs.declared.fault.ReportFault.{ReportFault}
 use Rattle.script_faults.specs.Faults.{IsFaultOf}
 use Rattle.script_faults.specs.IndentedLines.{is_indented, unindented}
+use Rattle.script_faults.proofs.Settings.{legal-in, over-in}
+use Rattle.script_faults.proofs.Unindented.{unindented-more, unindented-skip}
 use Rattle.sm_script.specs.declared.session.Session.{Session}
 use Rattle.sm_script.specs.declared.stop.Stop.{Stop}
-use Rattle.sm_script.specs.Runs.{IsOver}
 use Rattle.sm_script.specs.Scenes.{Answers, LeadsTo, Plays, Rests, Scene, Setting, first_scene}
 use Rattle.sm_script.specs.Sessions.{Advances, IsAt, IsStopped}
 use Rattle.sm_script.proofs.Playing.{plays-more}
 use Rattle.script_explain.specs.Explanations.{Explanation, IsCutOff, IsExplained}
 use Rattle.script_explain.specs.Progress.{Halted, IsPending, SoFar}
 use Rattle.script_explain.specs.Tales.{Tells, Begins, Passes, Goes, told_line}
-
--- an indented line is none of the script
-pub unindented-skip : (lines : List (List ℕ)) (line : List ℕ) → is_indented line ≡ true → unindented (lines ++ line ∷ []) ≡ unindented lines
-unindented-skip lines line skip =
-    filter-append (λ l. not (is_indented l)) lines (line ∷ []) ∙ rw skip (append-nil (unindented lines))
-
--- any other is the next of it
-pub unindented-more : (lines : List (List ℕ)) (line : List ℕ) → is_indented line ≡ false →
-    unindented (lines ++ line ∷ []) ≡ unindented lines ++ line ∷ []
-unindented-more lines line whole = filter-append (λ l. not (is_indented l)) lines (line ∷ []) ∙ rw whole refl
 
 -- the lines that are not indented are played, one after another
 pub tells-plays : (pool : ℕ) (first : Scene) (lines : List (List ℕ)) (text replies : List ℕ) (scene : Scene) →
@@ -42,26 +28,6 @@ tells-plays pool first lines text replies scene (Goes before line said given rep
     subst (λ (ls : List (List ℕ)). Plays pool first ls (given ++ reply) next) (sym (unindented-more before line whole))
     (plays-more pool first there next (unindented before) given line reply (tells-plays pool first before said given there so_far)
     answers)
-
--- what is over in the session is over in the setting
-pub over-in : (setting : Setting) (session : Session) (scene : Scene) (line : List ℕ) → session.core.pool ≡ setting.pool →
-    session.core.limits ≡ setting.limits → IsStopped session line scene Stop.HistoryFull → IsOver setting scene line
-over-in setting session scene line pool limits why = record {
-  client = why.0;
-  call = why.1;
-  binds = why.2;
-  asks = why.3;
-  full =
-      subst (λ (p : ℕ). setting.limits.events ≤ events (timeline p scene.history)) pool
-      (subst (λ (l : Bound). l.events ≤ events (timeline session.core.pool scene.history)) limits why.4);
-}
-
--- the history that the session shows is legal in the setting
-pub legal-in : (setting : Setting) (session : Session) (scene : Scene) → session.core.pool ≡ setting.pool →
-    session.core.limits ≡ setting.limits → IsAt session scene → IsLegal setting.pool setting.limits scene.history
-legal-in setting session scene pool limits at =
-    subst (λ (l : Bound). IsLegal setting.pool l scene.history) limits
-    (subst (λ (p : ℕ). IsLegal p session.core.limits scene.history) pool at.shows.legal)
 
 module _ (setting : Setting) (old mid : Option (List ℕ)) (pending : List ℕ) (lines : List (List ℕ))
     (held : IsPending setting old mid pending lines) where

@@ -13,7 +13,7 @@ use Rattle.sm_script.specs.Scenes.{Scene, as_line, first_scene}
 use Rattle.script_explain.specs.Tales.{Tells, Begins, Passes, Goes, indent, replies_in, told_line}
 use Rattle.script_explain.proofs.CleanLabels.{and-left, and-right, inner-append, is_inner}
 use Rattle.script_explain.proofs.CleanScenes.{AreClean, Cleanly, IsReply, NoReply, OneReply, answers-clean}
-use Rattle.script_explain.proofs.Telling.{unindented-more, unindented-skip}
+use Rattle.script_faults.proofs.Unindented.{unindented-more, unindented-skip}
 
 -- the text consists of these whole lines
 record IsWhole (text : List ℕ) (lines : List (List ℕ)) : Type 0 where

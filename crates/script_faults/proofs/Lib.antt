@@ -1,2 +1,5 @@
 pub mod Incoming
 pub mod Indenting
+pub mod LinesTaken
+pub mod Settings
+pub mod Unindented

@@ -1,9 +1,13 @@
 //! What pictures say of a node and of a buffer, whatever their format.
+ghost use Rattle.std.specs.Prelude.{◌≡◌, ◌++◌, OnOk};
+ghost use Rattle.sm_script.specs.Names.{Names};
+ghost use Rattle.script_tales.specs.Called.{Calls};
+ghost use Rattle.script_pictures.specs.Features.{class_of as class_in, kind_text, pages_text, place_text};
+
 use alloc_event::{End, Node};
-use lifetime_core::Core;
-use script_lines::{Label, push};
-use script_tales::{Labels, push_holders};
-use sm_names::{BufferName, ClientId, Interval};
+use script_lines::push;
+use script_tales::Labels;
+use sm_names::Interval;
 use std::alloc::AllocError;
 use text_parts::{Part, push_parts};
 
@@ -23,7 +27,9 @@ pub enum Class {
 }
 
 /// What the node is drawn as. Takes a constant time.
-pub fn class_of(node: &Node) -> Class {
+pub fn class_of(node: &Node) -> Class
+    ensures { result ≡ class_in node.now }
+{
     if !node.gone {
         return if node.released {
             Class::Orphan
@@ -44,27 +50,31 @@ pub fn class_of(node: &Node) -> Class {
 }
 
 /// The name of what the node's end is. Takes a constant time.
-pub fn kind_name(node: &Node) -> &'static str {
+pub fn kind_name(node: &Node) -> &'static str
+    ensures { result.now ≡ kind_text node.now }
+{
     if node.bound { "collection" } else { "token" }
 }
 
 /// Puts where the node's end is behind what is there. Takes a time in proportion to the text.
-pub fn push_place(text: &mut Vec<u8>, labels: &Labels, node: &Node) -> Result<(), AllocError> {
-    let (words, label) = place_of(labels, node.end);
-    push_parts(text, &[Part::Word(words), Part::Name(label)])
-}
-
-// Where the end is, in words, and the label of who has it.
-fn place_of(labels: &Labels, end: End) -> (&'static str, Option<Label>) {
-    match end {
-        End::Held(client) => ("held by ", labels.client(client)),
-        End::InTransit(_) => ("end in a parcel", None),
-        End::Spent => ("end spent", None),
+pub fn push_place(text: &mut Vec<u8>, labels: &Labels, node: &Node) -> Result<(), AllocError>
+    ensures { OnOk result ((names : Names) → Calls labels.now names →
+        text.new.items ≡ text.old.items ++ place_text names node.now.end) }
+{
+    match node.end {
+        End::Held(client) => push_parts(
+            text,
+            &[Part::Word("held by "), Part::Name(labels.client(client))],
+        ),
+        End::InTransit(_) => push(text, "end in a parcel"),
+        End::Spent => push(text, "end spent"),
     }
 }
 
 /// Puts the pages behind what is there. Takes a time in proportion to the text.
-pub fn push_pages(text: &mut Vec<u8>, pages: Interval) -> Result<(), AllocError> {
+pub fn push_pages(text: &mut Vec<u8>, pages: Interval) -> Result<(), AllocError>
+    ensures { OnOk result (text.new.items ≡ text.old.items ++ pages_text pages) }
+{
     let start = pages.start as u64;
     if pages.pages == 1 {
         return push_parts(text, &[Part::Word("page "), Part::Number(start)]);
@@ -79,23 +89,4 @@ pub fn push_pages(text: &mut Vec<u8>, pages: Interval) -> Result<(), AllocError>
             Part::Number(last),
         ],
     )
-}
-
-/// Puts the holders of the buffer behind what is there, and these words before them, if there are some.
-/// Costs a look-up for each client and strength.
-pub fn push_handles(
-    text: &mut Vec<u8>,
-    core: &Core,
-    labels: &Labels,
-    clients: &Vec<ClientId>,
-    buffer: BufferName,
-    before: &str,
-) -> Result<(), AllocError> {
-    let mut who = Vec::new(*text.allocator());
-    push_holders(&mut who, core, labels, clients, buffer)?;
-    if who.is_empty() {
-        return Ok(());
-    }
-    push(text, before)?;
-    text.extend_from_slice(&who)
 }

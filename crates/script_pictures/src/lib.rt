@@ -11,9 +11,9 @@ mod rows;
 mod travel;
 
 pub use album::{Album, named_collection};
-pub use features::{Class, class_of, kind_name, push_handles, push_pages, push_place};
+pub use features::{Class, class_of, kind_name, push_pages, push_place};
 pub use layout::{Corner, GAP_X, GAP_Y, HEIGHT, Layout, lay_out, minus, parent_place, plus, times};
-pub use lines::{node_lines, push_header};
+pub use lines::{node_lines, push_asked_line, push_header, push_kind_line, push_state_line};
 pub use picture::{Picture, ToldMark, Tree, picture_of};
-pub use rows::{Row, children_of, rows_of};
+pub use rows::{Row, rows_of};
 pub use travel::{Travel, Way, way_of};

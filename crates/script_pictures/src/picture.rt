@@ -1,7 +1,15 @@
 //! What a picture shows: the trees behind an event, and what that event did.
+ghost use Rattle.std.specs.Prelude.{◌≡◌, [], All, IfOk, OnOk, map, option_map};
+ghost use Rattle.std.specs.Option.{option_map_or};
+ghost use Rattle.forest_store.specs.Forest.{Collection};
+ghost use Rattle.forest_store.specs.Snapshots.{collection_of};
+ghost use Rattle.lifetime_core.specs.State.{State};
+ghost use Rattle.script_pictures.specs.Seen.{IsTree, held_in, seen_in};
+
 use crate::album::{Album, Family};
+use crate::rows::{Row, rows_of};
 use crate::travel::{Travel, travels};
-use alloc_event::{Node, Snapshot};
+use alloc_event::{End, Node, Snapshot};
 use event_facts::keepers::strong_live;
 use event_facts::pages::given_back;
 use event_facts::{Before, Event, placed_by};
@@ -19,6 +27,8 @@ pub struct Tree {
     pub id: CollectionId,
     /// All nodes that were ever born in it, by birth.
     pub nodes: Vec<Node>,
+    /// The same as rows: the root first, and behind each node those below it.
+    pub rows: Vec<Row>,
     /// Those that left at the event.
     pub left: Vec<NodeKey>,
     /// Its buffers with pages.
@@ -55,7 +65,10 @@ pub fn picture_of(
     teller: &Teller,
     album: &Album,
     event: Option<&Event>,
-) -> Result<Picture, Stop> {
+) -> Result<Picture, Stop>
+    ensures { IfOk result (λ picture.
+        All (IsTree teller.now.session.core) picture.trees.items) }
+{
     let trees = trees_of(alloc, &teller.session.core, album, event)?;
     match event {
         Some(event) => Ok(Picture {
@@ -79,19 +92,23 @@ fn trees_of(
     core: &Core,
     album: &Album,
     event: Option<&Event>,
-) -> Result<Vec<Tree>, Stop> {
+) -> Result<Vec<Tree>, Stop>
+    ensures { IfOk result (λ trees. All (IsTree core.now) trees.items) }
+{
     let mut trees = Vec::new(alloc);
     for family in &album.families {
-        let tree = tree_of(alloc, core, family, event)?;
-        add_shown(&mut trees, tree)?;
+        let (kept, tree) = tree_of(alloc, core, family, event)?;
+        add_shown(&mut trees, kept, tree)?;
     }
     Ok(trees)
 }
 
 // Puts the tree behind the others, if it is shown: its collection is kept, or the event took a node of it
 // or gave pages of it back.
-fn add_shown(trees: &mut Vec<Tree>, tree: (bool, Tree)) -> Result<(), AllocError> {
-    let (kept, tree) = tree;
+fn add_shown(trees: &mut Vec<Tree>, kept: bool, tree: Tree) -> Result<(), AllocError>
+    ensures { OnOk result ((s : State) → All (IsTree s) trees.old.items → IsTree s tree →
+        All (IsTree s) trees.new.items) }
+{
     if kept || !tree.left.is_empty() || !tree.freed.is_empty() {
         trees.push(tree)?;
     }
@@ -134,20 +151,65 @@ fn tree_of(
     core: &Core,
     family: &Family,
     event: Option<&Event>,
-) -> Result<(bool, Tree), Stop> {
+) -> Result<(bool, Tree), Stop>
+    ensures { IfOk result (λ told. IsTree core.now told.1) }
+{
     let copied = core.collection(family.id)?;
     let kept = copied.is_some();
-    let held = held_of(alloc, copied);
+    let tree = grow(alloc, core, family, held_of(alloc, copied), event)?;
+    Ok((kept, tree))
+}
+
+// The tree of the family, with these buffers.
+fn grow(
+    alloc: Global,
+    core: &Core,
+    family: &Family,
+    held: Vec<HeldBuffer>,
+    event: Option<&Event>,
+) -> Result<Tree, AllocError>
+    ensures { IfOk result (λ tree. held.items ≡ held_in core.now family.now.id →
+        IsTree core.now tree) }
+{
     let (left, freed) = changed(alloc, family, &held, event)?;
-    let tree = Tree {
+    let nodes = seen_now(core, &family.nodes)?;
+    let strong = strong_live(&nodes)?;
+    let rows = rows_of(&nodes)?;
+    Ok(Tree {
         id: family.id,
-        nodes: family.nodes.clone()?,
+        nodes,
+        rows,
         left,
         held,
         freed,
-        strong: strong_live(&family.nodes)?,
-    };
-    Ok((kept, tree))
+        strong,
+    })
+}
+
+// The nodes as the core has them.
+fn seen_now(core: &Core, nodes: &Vec<Node>) -> Result<Vec<Node>, AllocError>
+    ensures { IfOk result (λ seen. seen.items ≡ map (seen_in core.now) nodes.now.items) }
+{
+    let mut seen = Vec::new(*nodes.allocator());
+    for node in nodes {
+        seen.push(at_present(core, node))?;
+    }
+    Ok(seen)
+}
+
+// The node as the core has it. One that the core forgot stands as it did, gone, and its end spent.
+fn at_present(core: &Core, node: &Node) -> Node
+    ensures { result ≡ seen_in core.now node.now }
+{
+    match core.node(node.key) {
+        Some(present) => present,
+        None => {
+            let mut forgotten = *node;
+            forgotten.gone = true;
+            forgotten.end = End::Spent;
+            forgotten
+        }
+    }
 }
 
 // The nodes of the family that left at the event, and the buffers that gave their pages back.
@@ -177,7 +239,10 @@ fn before_of(event: Option<&Event>, id: CollectionId) -> Option<&Before> {
 }
 
 // The buffers of the copy, if there is one.
-fn held_of(alloc: Global, copied: Option<Snapshot>) -> Vec<HeldBuffer> {
+fn held_of(alloc: Global, copied: Option<Snapshot>) -> Vec<HeldBuffer>
+    ensures { result.items
+        ≡ option_map_or (λ (c : Collection). c.held) (option_map collection_of copied) [] }
+{
     match copied {
         Some(copied) => copied.held,
         None => Vec::new(alloc),

@@ -4,16 +4,16 @@ use script_lines::push;
 use sm_names::NodeKey;
 use std::alloc::AllocError;
 
-/// A node by its place among all, the lines that lead to it, and how many columns they take.
+/// A node, the lines that lead to it, and how many columns they take.
 #[derive(Drop)]
 pub struct Row {
-    pub at: usize,
+    pub node: Node,
     pub lines: Vec<u8>,
     pub columns: u64,
 }
 
-/// The places of the children of the node with this key, by birth. Costs O(n) for n nodes.
-pub fn children_of(nodes: &Vec<Node>, parent: NodeKey) -> Result<Vec<usize>, AllocError> {
+// The places of the children of the node with this key, by birth.
+fn children_of(nodes: &Vec<Node>, parent: NodeKey) -> Result<Vec<usize>, AllocError> {
     let mut places = Vec::new(*nodes.allocator());
     for at in 0..nodes.len() {
         if nodes[at].parent == Some(parent) {
@@ -62,17 +62,17 @@ pub fn rows_of(nodes: &Vec<Node>) -> Result<Vec<Row>, AllocError> {
 // The row of the node.
 fn row_of(node: &Node, next: Pending) -> Result<Row, AllocError> {
     let Pending {
-        at,
         stem,
         depth,
         last,
+        ..
     } = next;
     let mut lines = stem;
     if 0 < depth {
         push(&mut lines, branch(last, node.attached))?;
     }
     Ok(Row {
-        at,
+        node: *node,
         lines,
         columns: depth.saturating_mul(4),
     })

@@ -1,4 +1,8 @@
 //! The links along which failures went at one event.
+ghost use Rattle.std.specs.Prelude.{◌≡◌};
+ghost use Rattle.std.specs.List.{find as find_in};
+ghost use Rattle.script_pictures.specs.Travels.{is_link_of, way_in};
+
 use alloc_event::{Node, Snapshot};
 use event_facts::takings::taken_under;
 use event_facts::ways::{find, way_up};
@@ -25,11 +29,20 @@ pub struct Travel {
 }
 
 /// How a failure went along the link of this node. Costs O(n) for n links.
-pub fn way_of(travels: &[Travel], node: NodeKey) -> Option<Way> {
-    match travels.iter().find(|travel| travel.node == node) {
+pub fn way_of(travels: &[Travel], node: NodeKey) -> Option<Way>
+    ensures { result ≡ way_in travels.now node }
+{
+    match travel_of(travels, node) {
         Some(travel) => Some(travel.way),
         None => None,
     }
+}
+
+// The link of this node, if a failure went along it.
+fn travel_of(travels: &[Travel], node: NodeKey) -> Option<Travel>
+    ensures { result ≡ find_in (is_link_of node) travels.now }
+{
+    travels.iter().find(|travel| travel.node == node).copied()
 }
 
 // The links along which the failures among these marks went.

@@ -1,4 +1,11 @@
 //! What is told of an allocation.
+ghost use Rattle.std.specs.Prelude.{◌≡◌, ◌++◌, OnOk};
+ghost use Rattle.std.specs.List.{flat_map};
+ghost use Rattle.sm_script.specs.Names.{Names};
+ghost use Rattle.sm_script.specs.Tables.{Keeps};
+ghost use Rattle.sm_script.specs.Texts.{held_text};
+ghost use Rattle.script_tales.specs.EventTexts.{at_least_text, camp_text, camped_in, camping_in, camps_text, given_text, initial_text, logical_text, nobody_text, pages_line, reserved_text, shared_text};
+
 use crate::words::shown;
 use alloc_event::{Node, Snapshot};
 use event_marks::demand::reserved;
@@ -17,12 +24,13 @@ pub(crate) fn push_initial(
     head: NodeKey,
     given: Buffers,
     held: &[HeldBuffer],
-) -> Result<(), AllocError> {
+) -> Result<(), AllocError>
+    ensures { OnOk result ((names : Names) → Keeps tables.now names →
+        text.new.items ≡ text.old.items ++ initial_text names scene.now.nodes.items head given held.now) }
+{
     push_given(text, tables, head, given)?;
-    let camped = push_camps(text, tables, &scene.nodes, head)?;
-    if camped < given.count as u64 {
-        push_at_least(text, given.count as u64)?;
-    }
+    push_camps(text, tables, &scene.nodes, head)?;
+    push_at_least(text, camped(&scene.nodes, head), given.count as u64)?;
     push_pages(text, tables, held)
 }
 
@@ -32,7 +40,10 @@ fn push_given(
     tables: &Tables,
     head: NodeKey,
     given: Buffers,
-) -> Result<(), AllocError> {
+) -> Result<(), AllocError>
+    ensures { OnOk result ((names : Names) → Keeps tables.now names →
+        text.new.items ≡ text.old.items ++ given_text names head given) }
+{
     push_parts(
         text,
         &[
@@ -46,18 +57,40 @@ fn push_given(
     )
 }
 
-// Puts behind what is there that so many buffers were asked for at least.
-fn push_at_least(text: &mut Vec<u8>, count: u64) -> Result<(), AllocError> {
-    push_parts(text, &[Part::Word("; at least "), Part::Number(count)])
+// Puts behind what is there that so many buffers were asked for at least, where fewer are camped on.
+fn push_at_least(text: &mut Vec<u8>, camped: u64, count: u64) -> Result<(), AllocError>
+    ensures { OnOk result (text.new.items ≡ text.old.items ++ at_least_text camped count) }
+{
+    if camped < count {
+        push_parts(text, &[Part::Word("; at least "), Part::Number(count)])
+    } else {
+        Ok(())
+    }
 }
 
 // Puts the line of the pages behind what is there.
-fn push_pages(text: &mut Vec<u8>, tables: &Tables, held: &[HeldBuffer]) -> Result<(), AllocError> {
+fn push_pages(text: &mut Vec<u8>, tables: &Tables, held: &[HeldBuffer]) -> Result<(), AllocError>
+    ensures { OnOk result ((names : Names) → Keeps tables.now names →
+        text.new.items ≡ text.old.items ++ pages_line names held.now) }
+{
     push(text, "\n  pages  ")?;
+    push_each_held(text, tables, held)?;
+    push(text, "\n")
+}
+
+// Puts a space and each of the buffers behind what is there, with its pages.
+pub(crate) fn push_each_held(
+    text: &mut Vec<u8>,
+    tables: &Tables,
+    held: &[HeldBuffer],
+) -> Result<(), AllocError>
+    ensures { OnOk result ((names : Names) → Keeps tables.now names →
+        text.new.items ≡ text.old.items ++ flat_map (held_text names) held.now) }
+{
     for buffer in held {
         push_held(text, tables, *buffer)?;
     }
-    push(text, "\n")
+    Ok(())
 }
 
 // Puts behind what is there that the unit of an attached head shares the collection's buffers, where
@@ -68,29 +101,49 @@ pub(crate) fn push_logical(
     scene: &Snapshot,
     head: NodeKey,
     given: Buffers,
-) -> Result<(), AllocError> {
+) -> Result<(), AllocError>
+    ensures { OnOk result ((names : Names) → Keeps tables.now names →
+        text.new.items ≡ text.old.items ++ logical_text names scene.now.nodes.items head given) }
+{
+    push_shared(text, tables, head)?;
+    push_camps(text, tables, &scene.nodes, head)?;
+    push_reserved(text, &scene.nodes, given.count as u64)
+}
+
+// Puts behind what is there that the unit of an attached head is allocated.
+fn push_shared(text: &mut Vec<u8>, tables: &Tables, head: NodeKey) -> Result<(), AllocError>
+    ensures { OnOk result ((names : Names) → Keeps tables.now names →
+        text.new.items ≡ text.old.items ++ shared_text names head) }
+{
     push_parts(
         text,
         &[
             Part::Name(tables.birth_label(head)),
             Part::Word(" is allocated out of the buffers that there are\n"),
         ],
-    )?;
-    push_camps(text, tables, &scene.nodes, head)?;
+    )
+}
+
+// Puts behind what is there how many of so many buffers were reserved before.
+fn push_reserved(text: &mut Vec<u8>, nodes: &[Node], count: u64) -> Result<(), AllocError>
+    ensures { OnOk result (text.new.items ≡ text.old.items ++ reserved_text nodes.now count) }
+{
     push_parts(
         text,
         &[
             Part::Word("; "),
-            Part::Number(shown(reserved(&scene.nodes))),
+            Part::Number(shown(reserved(nodes))),
             Part::Word(" of "),
-            Part::Number(given.count as u64),
+            Part::Number(count),
             Part::Word(" were reserved\n"),
         ],
     )
 }
 
 // On how many buffers the node camps, if it is in the unit with this head and not gone.
-fn camping(node: &Node, head: NodeKey) -> u8 {
+fn camping(node: &Node, head: NodeKey) -> u8
+    ensures { result ≡ camping_in head node.now }
+{
     match node.constraints {
         Some(asked) => {
             if node.head == head && !node.gone {
@@ -103,42 +156,76 @@ fn camping(node: &Node, head: NodeKey) -> u8 {
     }
 }
 
-// Puts who of the unit camps on how many buffers behind what is there, and answers their sum.
+// On how many buffers the unit with this head camps, or the greatest number.
+fn camped(nodes: &[Node], head: NodeKey) -> u64
+    ensures { result ≡ camped_in head nodes.now }
+{
+    let mut sum: u64 = 0;
+    for node in nodes {
+        sum = sum.saturating_add(camping(node, head) as u64);
+    }
+    sum
+}
+
+// Puts who of the unit camps on how many buffers behind what is there.
 fn push_camps(
     text: &mut Vec<u8>,
     tables: &Tables,
     nodes: &[Node],
     head: NodeKey,
-) -> Result<u64, AllocError> {
-    let mut sum: u64 = 0;
+) -> Result<(), AllocError>
+    ensures { OnOk result ((names : Names) → Keeps tables.now names →
+        text.new.items ≡ text.old.items ++ camps_text names head nodes.now) }
+{
     push(text, "  camps  ")?;
-    for node in nodes {
-        let count = camping(node, head) as u64;
-        if 0 < count {
-            push_camp(text, tables, node.key, count)?;
-            sum = sum.saturating_add(count);
-        }
-    }
-    if sum == 0 {
-        push(text, " nobody")?;
-    }
-    Ok(sum)
+    push_each_camp(text, tables, nodes, head)?;
+    push(text, nobody_of(camped(nodes, head)))
 }
 
-// Puts the node behind what is there, and on how many buffers it camps.
+// That nobody camps, where the sum is 0.
+fn nobody_of(sum: u64) -> &'static str
+    ensures { result.now ≡ nobody_text sum }
+{
+    if sum == 0 { " nobody" } else { "" }
+}
+
+// Puts each node of the unit that camps behind what is there.
+fn push_each_camp(
+    text: &mut Vec<u8>,
+    tables: &Tables,
+    nodes: &[Node],
+    head: NodeKey,
+) -> Result<(), AllocError>
+    ensures { OnOk result ((names : Names) → Keeps tables.now names →
+        text.new.items ≡ text.old.items ++ flat_map (camp_text names head) nodes.now) }
+{
+    for node in nodes {
+        push_camp(text, tables, node, head)?;
+    }
+    Ok(())
+}
+
+// Puts the node behind what is there, and on how many buffers it camps, if it does.
 fn push_camp(
     text: &mut Vec<u8>,
     tables: &Tables,
-    node: NodeKey,
-    count: u64,
-) -> Result<(), AllocError> {
+    node: &Node,
+    head: NodeKey,
+) -> Result<(), AllocError>
+    ensures { OnOk result ((names : Names) → Keeps tables.now names →
+        text.new.items ≡ text.old.items ++ camp_text names head node.now) }
+{
+    let count = camping(node, head);
+    if count == 0 {
+        return Ok(());
+    }
     push_parts(
         text,
         &[
             Part::Word(" "),
-            Part::Name(tables.birth_label(node)),
+            Part::Name(tables.birth_label(node.key)),
             Part::Word(" "),
-            Part::Number(count),
+            Part::Number(count as u64),
         ],
     )
 }

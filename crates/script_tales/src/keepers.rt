@@ -1,9 +1,18 @@
 //! What is told of who keeps the pages of a buffer.
+ghost use Rattle.std.specs.Prelude.{◌≡◌, ◌++◌, [], OnOk};
+ghost use Rattle.std.specs.List.{flat_map};
+ghost use Rattle.event_facts.specs.Facts.{holders_in};
+ghost use Rattle.sm_script.specs.Names.{Names};
+ghost use Rattle.script_tales.specs.Called.{Calls};
+ghost use Rattle.sm_script.specs.Tables.{Keeps};
+ghost use Rattle.script_tales.specs.EventTexts.{kept_by_nodes, live_words as words_for_live};
+ghost use Rattle.script_tales.specs.FactTexts.{holder_text, holders_text, next_holder};
+
 use crate::labels::Labels;
 use crate::words::push_nodes;
 use event_facts::keepers::{Holder, holders};
 use lifetime_core::Core;
-use script_lines::{Label, push};
+use script_lines::push;
 use sm_names::{BufferName, ClientId, HeldBuffer, NodeKey};
 use sm_script::{Stop, Tables, push_buffer, strength_name};
 use std::alloc::AllocError;
@@ -15,7 +24,10 @@ pub(crate) fn push_kept_by_nodes(
     tables: &Tables,
     buffer: BufferName,
     nodes: &[NodeKey],
-) -> Result<(), AllocError> {
+) -> Result<(), AllocError>
+    ensures { OnOk result ((names : Names) → Keeps tables.now names →
+        text.new.items ≡ text.old.items ++ kept_by_nodes names buffer nodes.now) }
+{
     push(text, "kept   ")?;
     push_buffer(text, tables, buffer)?;
     push(text, live_words(nodes))?;
@@ -24,7 +36,9 @@ pub(crate) fn push_kept_by_nodes(
 }
 
 // That one node keeps a buffer, or more.
-fn live_words(nodes: &[NodeKey]) -> &'static str {
+fn live_words(nodes: &[NodeKey]) -> &'static str
+    ensures { result.now ≡ words_for_live nodes.now }
+{
     if nodes.len() == 1 {
         " by the live node"
     } else {
@@ -85,55 +99,94 @@ fn holder_words(
     buffer: BufferName,
 ) -> Result<Vec<u8>, AllocError> {
     let mut words = Vec::new(*clients.allocator());
-    push_holders(&mut words, core, labels, clients, buffer)?;
+    push_holders(&mut words, core, labels, clients, buffer, "")?;
     Ok(words)
 }
 
 /// Puts behind what is there who has handles on the buffer open, and how many: these clients in their
-/// order, strong before weak, and the parcels last. Costs a look-up for each client and strength, and the
-/// text.
+/// order, strong before weak, and the parcels last. These words stand before them, if there are some.
+/// Costs a look-up for each client and strength, and the text.
 pub fn push_holders(
     text: &mut Vec<u8>,
     core: &Core,
     labels: &Labels,
     clients: &Vec<ClientId>,
     buffer: BufferName,
-) -> Result<(), AllocError> {
+    before: &str,
+) -> Result<(), AllocError>
+    ensures { OnOk result ((names : Names) → Calls labels.now names →
+        text.new.items ≡ text.old.items ++ holders_text names before.now
+        (holders_in core.now.holds clients.now.items buffer)) }
+{
     let found = holders(core, clients, buffer)?;
-    let mut before = "";
-    for holder in &found {
-        push_holder(text, labels, before, holder)?;
-        before = ", ";
+    push_found(text, labels, &found, before)
+}
+
+// Puts these holders behind what is there, and these words before them, if there are some.
+fn push_found(
+    text: &mut Vec<u8>,
+    labels: &Labels,
+    found: &[Holder],
+    before: &str,
+) -> Result<(), AllocError>
+    ensures { OnOk result ((names : Names) → Calls labels.now names →
+        text.new.items ≡ text.old.items ++ holders_text names before.now found.now) }
+{
+    match found.split_first() {
+        Some((first, others)) => {
+            push(text, before)?;
+            push_holder(text, labels, first)?;
+            push_others(text, labels, others)
+        }
+        None => Ok(()),
+    }
+}
+
+// Puts these holders behind what is there, each behind a comma.
+fn push_others(text: &mut Vec<u8>, labels: &Labels, others: &[Holder]) -> Result<(), AllocError>
+    ensures { OnOk result ((names : Names) → Calls labels.now names →
+        text.new.items ≡ text.old.items ++ flat_map (next_holder names) others.now) }
+{
+    for holder in others {
+        push_next(text, labels, holder)?;
     }
     Ok(())
 }
 
-// Puts the holder behind what is there, behind these words.
-fn push_holder(
-    text: &mut Vec<u8>,
-    labels: &Labels,
-    before: &str,
-    holder: &Holder,
-) -> Result<(), AllocError> {
-    let (label, parcels) = called(labels, holder);
-    push_parts(
-        text,
-        &[
-            Part::Word(before),
-            Part::Name(label),
-            Part::Word(parcels),
-            Part::Word(" "),
-            Part::Word(strength_name(holder.strength)),
-            Part::Word(" "),
-            Part::Number(holder.count as u64),
-        ],
-    )
+// Puts the holder behind what is there, behind a comma.
+fn push_next(text: &mut Vec<u8>, labels: &Labels, holder: &Holder) -> Result<(), AllocError>
+    ensures { OnOk result ((names : Names) → Calls labels.now names →
+        text.new.items ≡ text.old.items ++ next_holder names holder.now) }
+{
+    push(text, ", ")?;
+    push_holder(text, labels, holder)
 }
 
-// The label of the client, or the word for parcels.
-fn called(labels: &Labels, holder: &Holder) -> (Option<Label>, &'static str) {
+// Puts the holder behind what is there.
+fn push_holder(text: &mut Vec<u8>, labels: &Labels, holder: &Holder) -> Result<(), AllocError>
+    ensures { OnOk result ((names : Names) → Calls labels.now names →
+        text.new.items ≡ text.old.items ++ holder_text names holder.now) }
+{
     match holder.client {
-        Some(client) => (labels.client(client), ""),
-        None => (None, "parcels"),
+        Some(client) => push_parts(
+            text,
+            &[
+                Part::Name(labels.client(client)),
+                Part::Word(" "),
+                Part::Word(strength_name(holder.strength)),
+                Part::Word(" "),
+                Part::Number(holder.count as u64),
+            ],
+        ),
+        None => push_parts(
+            text,
+            &[
+                Part::Word("parcels"),
+                Part::Word(" "),
+                Part::Word(strength_name(holder.strength)),
+                Part::Word(" "),
+                Part::Number(holder.count as u64),
+            ],
+        ),
     }
 }

@@ -1,11 +1,17 @@
 //! What is told of a failure, and of an end: where it went, and where it stopped.
-use crate::words::{PAGE, misuse_words, push_nodes, shown};
+ghost use Rattle.std.specs.Prelude.{◌≡◌, ◌++◌, [], OnOk};
+ghost use Rattle.std.specs.List.{flat_map};
+ghost use Rattle.sm_script.specs.Names.{Names};
+ghost use Rattle.sm_script.specs.Tables.{Keeps};
+ghost use Rattle.script_tales.specs.LossTexts.{below_text, camped_text, down_text, end_text, failed_text, failure_text, fault_text, few_text, full_text, handed_text, handing_text, last_of, least_text, loss_text, many_text, next_above, size_in, small_text, stop_text, up_text, way_text, why_text};
+
+use crate::words::{PAGE, misuse_words, push_name, push_nodes, shown};
 use alloc_event::{Node, Snapshot};
 use event_facts::takings::{handed_on, taken_under};
 use event_facts::ways::{Stop, stop_at, way_up};
 use event_marks::demand::{TotalDemand, reserved, total_demand};
 use script_lines::push;
-use sm_names::{Cause, Failure, Fault, NodeKey};
+use sm_names::{Buffers, Cause, Failure, Fault, NodeKey};
 use sm_script::{Tables, push_cause};
 use std::alloc::AllocError;
 use text_parts::{Part, push_parts};
@@ -18,17 +24,41 @@ pub(crate) fn push_loss(
     scene: &Snapshot,
     free: u32,
     fault: Fault,
-) -> Result<(), AllocError> {
-    push_fault(text, tables, scene, free, fault)?;
+) -> Result<(), AllocError>
+    ensures { OnOk result ((names : Names) → Keeps tables.now names →
+        text.new.items ≡ text.old.items ++ loss_text names scene.now.nodes.items
+        scene.now.buffers free fault) }
+{
     let way = way_up(&scene.nodes, fault.origin)?;
+    push_fault(text, tables, scene, free, fault)?;
     push_way(text, tables, &way)?;
-    match way.last() {
+    push_below(text, tables, &scene.nodes, &way)
+}
+
+// Puts behind what is there why a failure that came up this way goes no further, and the way down.
+fn push_below(
+    text: &mut Vec<u8>,
+    tables: &Tables,
+    nodes: &Vec<Node>,
+    way: &[NodeKey],
+) -> Result<(), AllocError>
+    ensures { OnOk result ((names : Names) → Keeps tables.now names →
+        text.new.items ≡ text.old.items ++ below_text names nodes.now.items way.now) }
+{
+    match top_of(way) {
         Some(top) => {
-            push_stop(text, tables, stop_at(&scene.nodes, *top), *top)?;
-            push_down(text, tables, &scene.nodes, *top, &way)
+            push_stop(text, tables, stop_at(nodes, top), top)?;
+            push_down(text, tables, nodes, top, way)
         }
         None => Ok(()),
     }
+}
+
+// The last node of the way.
+fn top_of(way: &[NodeKey]) -> Option<NodeKey>
+    ensures { result ≡ last_of way.now }
+{
+    way.get(way.len().saturating_sub(1)).copied()
 }
 
 // Puts behind what is there that the node where the fault began fails, and why.
@@ -38,7 +68,11 @@ fn push_fault(
     scene: &Snapshot,
     free: u32,
     fault: Fault,
-) -> Result<(), AllocError> {
+) -> Result<(), AllocError>
+    ensures { OnOk result ((names : Names) → Keeps tables.now names →
+        text.new.items ≡ text.old.items ++ fault_text names scene.now.nodes.items
+        scene.now.buffers free fault) }
+{
     push_parts(
         text,
         &[
@@ -58,7 +92,10 @@ pub(crate) fn push_end(
     tables: &Tables,
     scene: &Snapshot,
     top: NodeKey,
-) -> Result<(), AllocError> {
+) -> Result<(), AllocError>
+    ensures { OnOk result ((names : Names) → Keeps tables.now names →
+        text.new.items ≡ text.old.items ++ end_text names scene.now.nodes.items top) }
+{
     push_parts(
         text,
         &[
@@ -70,21 +107,31 @@ pub(crate) fn push_end(
 }
 
 // Puts why the node where the fault began fails behind what is there.
-fn push_why(
-    text: &mut Vec<u8>,
-    scene: &Snapshot,
-    free: u32,
-    fault: Fault,
-) -> Result<(), AllocError> {
+fn push_why(text: &mut Vec<u8>, scene: &Snapshot, free: u32, fault: Fault) -> Result<(), AllocError>
+    ensures { OnOk result (text.new.items ≡ text.old.items
+        ++ why_text scene.now.nodes.items scene.now.buffers free fault.origin fault.cause) }
+{
     match fault.cause {
         Cause::Lost => push(text, "its end was closed without a release"),
         Cause::Misused(misuse) => push(text, misuse_words(misuse)),
         Cause::NoStrong => push(text, "no strong node is live and no strong handle is open"),
-        Cause::Failed(failure) => {
-            let asks = total_demand(&scene.nodes, fault.origin);
-            push_failure(text, scene, free, asks, failure)
-        }
+        Cause::Failed(failure) => push_failed(text, scene, free, fault.origin, failure),
     }
+}
+
+// Puts why the allocation of the unit with this head fails behind what is there.
+fn push_failed(
+    text: &mut Vec<u8>,
+    scene: &Snapshot,
+    free: u32,
+    head: NodeKey,
+    failure: Failure,
+) -> Result<(), AllocError>
+    ensures { OnOk result (text.new.items ≡ text.old.items
+        ++ failed_text scene.now.nodes.items scene.now.buffers free head failure) }
+{
+    let asks = total_demand(&scene.nodes, head);
+    push_failure(text, scene, free, asks, failure)
 }
 
 // Puts why the allocation of a unit that asks so fails behind what is there.
@@ -94,7 +141,11 @@ fn push_failure(
     free: u32,
     asks: TotalDemand,
     failure: Failure,
-) -> Result<(), AllocError> {
+) -> Result<(), AllocError>
+    ensures { OnOk result (text.new.items ≡ text.old.items
+        ++ failure_text scene.now.nodes.items scene.now.buffers free
+        asks.camping asks.at_least asks.size failure) }
+{
     let count = shown(asks.camping.max(asks.at_least as u128));
     match failure {
         Failure::NoStrong => push(text, "no strong node is live"),
@@ -107,7 +158,9 @@ fn push_failure(
 }
 
 // Puts behind what is there that too many buffers are asked for.
-fn push_many(text: &mut Vec<u8>, count: u64) -> Result<(), AllocError> {
+fn push_many(text: &mut Vec<u8>, count: u64) -> Result<(), AllocError>
+    ensures { OnOk result (text.new.items ≡ text.old.items ++ many_text count) }
+{
     push_parts(
         text,
         &[
@@ -119,7 +172,9 @@ fn push_many(text: &mut Vec<u8>, count: u64) -> Result<(), AllocError> {
 }
 
 // Puts behind what is there that the pool has no room.
-fn push_full(text: &mut Vec<u8>, count: u64, size: u32, free: u32) -> Result<(), AllocError> {
+fn push_full(text: &mut Vec<u8>, count: u64, size: u32, free: u32) -> Result<(), AllocError>
+    ensures { OnOk result (text.new.items ≡ text.old.items ++ full_text count size free) }
+{
     push_parts(
         text,
         &[
@@ -135,24 +190,35 @@ fn push_full(text: &mut Vec<u8>, count: u64, size: u32, free: u32) -> Result<(),
 }
 
 // Puts behind what is there that the buffers of the collection are smaller than is asked for.
-fn push_small(text: &mut Vec<u8>, scene: &Snapshot, size: u32) -> Result<(), AllocError> {
-    let has = match scene.buffers {
-        Some(given) => given.size,
-        None => 0,
-    };
+fn push_small(text: &mut Vec<u8>, scene: &Snapshot, size: u32) -> Result<(), AllocError>
+    ensures { OnOk result (text.new.items ≡ text.old.items ++ small_text scene.now.buffers size) }
+{
     push_parts(
         text,
         &[
             Part::Word("it asks for "),
             Part::Number(size as u64),
             Part::Word(" bytes, and each buffer has "),
-            Part::Number(has as u64),
+            Part::Number(size_of(scene.buffers) as u64),
         ],
     )
 }
 
+// How many bytes each of the buffers has.
+fn size_of(given: Option<Buffers>) -> u32
+    ensures { result ≡ size_in given }
+{
+    match given {
+        Some(given) => given.size,
+        None => 0,
+    }
+}
+
 // Puts behind what is there that the collection was given too few buffers.
-fn push_few(text: &mut Vec<u8>, scene: &Snapshot, asks: TotalDemand) -> Result<(), AllocError> {
+fn push_few(text: &mut Vec<u8>, scene: &Snapshot, asks: TotalDemand) -> Result<(), AllocError>
+    ensures { OnOk result (text.new.items ≡ text.old.items
+        ++ few_text scene.now.nodes.items scene.now.buffers asks.camping asks.at_least) }
+{
     let count = match scene.buffers {
         Some(given) => given.count,
         None => 0,
@@ -166,7 +232,9 @@ fn push_few(text: &mut Vec<u8>, scene: &Snapshot, asks: TotalDemand) -> Result<(
 }
 
 // Puts behind what is there that the unit camps on so many of the buffers, of which so many are taken.
-fn push_camped(text: &mut Vec<u8>, camping: u64, taken: u64, count: u64) -> Result<(), AllocError> {
+fn push_camped(text: &mut Vec<u8>, camping: u64, taken: u64, count: u64) -> Result<(), AllocError>
+    ensures { OnOk result (text.new.items ≡ text.old.items ++ camped_text camping taken count) }
+{
     push_parts(
         text,
         &[
@@ -182,7 +250,9 @@ fn push_camped(text: &mut Vec<u8>, camping: u64, taken: u64, count: u64) -> Resu
 }
 
 // Puts behind what is there that the unit asks for so many buffers at least, and there are so many.
-fn push_least(text: &mut Vec<u8>, at_least: u64, count: u64) -> Result<(), AllocError> {
+fn push_least(text: &mut Vec<u8>, at_least: u64, count: u64) -> Result<(), AllocError>
+    ensures { OnOk result (text.new.items ≡ text.old.items ++ least_text at_least count) }
+{
     push_parts(
         text,
         &[
@@ -195,19 +265,52 @@ fn push_least(text: &mut Vec<u8>, at_least: u64, count: u64) -> Result<(), Alloc
 }
 
 // Puts the way up behind what is there, if it has a link.
-fn push_way(text: &mut Vec<u8>, tables: &Tables, way: &[NodeKey]) -> Result<(), AllocError> {
+fn push_way(text: &mut Vec<u8>, tables: &Tables, way: &[NodeKey]) -> Result<(), AllocError>
+    ensures { OnOk result ((names : Names) → Keeps tables.now names →
+        text.new.items ≡ text.old.items ++ way_text names way.now) }
+{
     if way.len() < 2 {
         return Ok(());
     }
-    let mut before = "  up      ";
-    for node in way {
-        push_parts(
-            text,
-            &[Part::Word(before), Part::Name(tables.birth_label(*node))],
-        )?;
-        before = " > ";
+    push_up(text, tables, way)
+}
+
+// Puts the way up behind what is there.
+fn push_up(text: &mut Vec<u8>, tables: &Tables, way: &[NodeKey]) -> Result<(), AllocError>
+    ensures { OnOk result ((names : Names) → Keeps tables.now names →
+        text.new.items ≡ text.old.items ++ up_text names way.now) }
+{
+    match way.split_first() {
+        Some((first, others)) => {
+            push(text, "  up      ")?;
+            push_name(text, tables, *first)?;
+            push_above(text, tables, others)?;
+            push(text, "\n")
+        }
+        None => Ok(()),
     }
-    push(text, "\n")
+}
+
+// Puts the nodes further up behind what is there.
+fn push_above(text: &mut Vec<u8>, tables: &Tables, others: &[NodeKey]) -> Result<(), AllocError>
+    ensures { OnOk result ((names : Names) → Keeps tables.now names →
+        text.new.items ≡ text.old.items ++ flat_map (next_above names) others.now) }
+{
+    for node in others {
+        push_next(text, tables, *node)?;
+    }
+    Ok(())
+}
+
+// Puts a node further up behind what is there.
+fn push_next(text: &mut Vec<u8>, tables: &Tables, node: NodeKey) -> Result<(), AllocError>
+    ensures { OnOk result ((names : Names) → Keeps tables.now names →
+        text.new.items ≡ text.old.items ++ next_above names node) }
+{
+    push_parts(
+        text,
+        &[Part::Word(" > "), Part::Name(tables.birth_label(node))],
+    )
 }
 
 // Puts behind what is there why the failure goes no further than this node, if it is no root.
@@ -216,22 +319,37 @@ fn push_stop(
     tables: &Tables,
     stop: Stop,
     top: NodeKey,
-) -> Result<(), AllocError> {
-    let (parent, why) = match stop {
-        Stop::AtRoot => return Ok(()),
-        Stop::AtAttached(parent) => (parent, ", which is attached: "),
-        Stop::AtDispensable(parent) => (parent, ", which is dispensable and has its buffers: "),
-    };
-    push_parts(
-        text,
-        &[
-            Part::Word("  stops   at "),
-            Part::Name(tables.birth_label(top)),
-            Part::Word(why),
-            Part::Name(tables.birth_label(parent)),
-            Part::Word(" stays\n"),
-        ],
-    )
+) -> Result<(), AllocError>
+    ensures { OnOk result ((names : Names) → Keeps tables.now names →
+        text.new.items ≡ text.old.items ++ stop_text names stop top) }
+{
+    match stop {
+        Stop::AtRoot => Ok(()),
+        Stop::AtAttached(parent) => {
+            push_parts(
+                text,
+                &[
+                    Part::Word("  stops   at "),
+                    Part::Name(tables.birth_label(top)),
+                    Part::Word(", which is attached: "),
+                    Part::Name(tables.birth_label(parent)),
+                    Part::Word(" stays\n"),
+                ],
+            )
+        }
+        Stop::AtDispensable(parent) => {
+            push_parts(
+                text,
+                &[
+                    Part::Word("  stops   at "),
+                    Part::Name(tables.birth_label(top)),
+                    Part::Word(", which is dispensable and has its buffers: "),
+                    Part::Name(tables.birth_label(parent)),
+                    Part::Word(" stays\n"),
+                ],
+            )
+        }
+    }
 }
 
 // Puts a line behind what is there for each node that hands on to children what takes it.
@@ -241,13 +359,43 @@ fn push_down(
     nodes: &Vec<Node>,
     top: NodeKey,
     way: &[NodeKey],
-) -> Result<(), AllocError> {
+) -> Result<(), AllocError>
+    ensures { OnOk result ((names : Names) → Keeps tables.now names →
+        text.new.items ≡ text.old.items ++ down_text names nodes.now.items top way.now) }
+{
     let taken = taken_under(nodes, top)?;
-    for above in &taken {
-        let below = handed_on(&taken, above.key, way)?;
-        push_handing(text, tables, above.key, &below)?;
+    push_handings(text, tables, &taken, way)
+}
+
+// Puts a line behind what is there for each of the nodes that are taken and hand it on.
+fn push_handings(
+    text: &mut Vec<u8>,
+    tables: &Tables,
+    taken: &Vec<Node>,
+    way: &[NodeKey],
+) -> Result<(), AllocError>
+    ensures { OnOk result ((names : Names) → Keeps tables.now names → text.new.items
+        ≡ text.old.items ++ flat_map (handed_text names way.now taken.now.items) taken.now.items) }
+{
+    for above in taken {
+        push_handed(text, tables, taken, way, above)?;
     }
     Ok(())
+}
+
+// Puts a line behind what is there of what this node hands on to, of those that are taken.
+fn push_handed(
+    text: &mut Vec<u8>,
+    tables: &Tables,
+    taken: &Vec<Node>,
+    way: &[NodeKey],
+    above: &Node,
+) -> Result<(), AllocError>
+    ensures { OnOk result ((names : Names) → Keeps tables.now names → text.new.items
+        ≡ text.old.items ++ handed_text names way.now taken.now.items above.now) }
+{
+    let below = handed_on(taken, above.key, way)?;
+    push_handing(text, tables, above.key, &below)
 }
 
 // Puts a line behind what is there of a node and those that it hands on to, if there are some.
@@ -256,7 +404,10 @@ fn push_handing(
     tables: &Tables,
     above: NodeKey,
     below: &[NodeKey],
-) -> Result<(), AllocError> {
+) -> Result<(), AllocError>
+    ensures { OnOk result ((names : Names) → Keeps tables.now names →
+        text.new.items ≡ text.old.items ++ handing_text names above below.now) }
+{
     if below.is_empty() {
         return Ok(());
     }

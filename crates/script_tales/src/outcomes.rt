@@ -1,12 +1,20 @@
 //! What is told of what an event left: who is waited for, and what became of buffers.
+ghost use Rattle.std.specs.Prelude.{◌≡◌, ◌++◌, OnOk};
+ghost use Rattle.std.specs.List.{flat_map};
+ghost use Rattle.sm_script.specs.Names.{Names};
+ghost use Rattle.sm_script.specs.Tables.{Keeps};
+ghost use Rattle.script_tales.specs.Called.{Calls};
+ghost use Rattle.script_tales.specs.EventTexts.{doomed_text, end_holder, fires_text, freed_text, listed_text, next_waited, some_doomed, tracker_text, waited_text, waits_text, want_text};
+
+use crate::allocations::push_each_held;
 use crate::labels::Labels;
-use crate::words::push_set;
+use crate::words::{push_client, push_set};
 use alloc_event::{End, Node};
 use event_facts::waits::awaited;
 use event_facts::ways::find;
-use script_lines::{Label, push};
+use script_lines::push;
 use sm_names::{CollectionId, Fired, HeldBuffer, NodeKey};
-use sm_script::{Tables, push_held};
+use sm_script::Tables;
 use std::alloc::AllocError;
 use text_parts::{Part, push_parts};
 
@@ -36,39 +44,98 @@ fn push_awaited(
     if found.is_empty() {
         return push_unit_above(text, tables, nodes, head);
     }
-    let mut before = "waits   for";
-    for node in &found {
-        push_waited(text, tables, labels, before, node)?;
-        before = ",";
+    push_found(text, tables, labels, &found)
+}
+
+// Puts the nodes that are waited for behind what is there.
+fn push_found(
+    text: &mut Vec<u8>,
+    tables: &Tables,
+    labels: &Labels,
+    found: &[Node],
+) -> Result<(), AllocError>
+    ensures { OnOk result ((names : Names) → Keeps tables.now names → Calls labels.now names →
+        text.new.items ≡ text.old.items ++ waits_text names found.now) }
+{
+    match found.split_first() {
+        Some((first, others)) => push_listed(text, tables, labels, first, others),
+        None => Ok(()),
     }
+}
+
+// Puts a node that is waited for behind what is there, and others.
+fn push_listed(
+    text: &mut Vec<u8>,
+    tables: &Tables,
+    labels: &Labels,
+    first: &Node,
+    others: &[Node],
+) -> Result<(), AllocError>
+    ensures { OnOk result ((names : Names) → Keeps tables.now names → Calls labels.now names →
+        text.new.items ≡ text.old.items ++ listed_text names first.now others.now) }
+{
+    push(text, "waits   for")?;
+    push_waited(text, tables, labels, first)?;
+    push_others(text, tables, labels, others)?;
     push(text, "\n")
 }
 
-// Puts a node that is waited for behind what is there, behind these words, and who has its end.
+// Puts more nodes that are waited for behind what is there.
+fn push_others(
+    text: &mut Vec<u8>,
+    tables: &Tables,
+    labels: &Labels,
+    others: &[Node],
+) -> Result<(), AllocError>
+    ensures { OnOk result ((names : Names) → Keeps tables.now names → Calls labels.now names →
+        text.new.items ≡ text.old.items ++ flat_map (next_waited names) others.now) }
+{
+    for node in others {
+        push_next(text, tables, labels, node)?;
+    }
+    Ok(())
+}
+
+// Puts one more node that is waited for behind what is there.
+fn push_next(
+    text: &mut Vec<u8>,
+    tables: &Tables,
+    labels: &Labels,
+    node: &Node,
+) -> Result<(), AllocError>
+    ensures { OnOk result ((names : Names) → Keeps tables.now names → Calls labels.now names →
+        text.new.items ≡ text.old.items ++ next_waited names node.now) }
+{
+    push(text, ",")?;
+    push_waited(text, tables, labels, node)
+}
+
+// Puts a node that is waited for behind what is there, and who has its end.
 fn push_waited(
     text: &mut Vec<u8>,
     tables: &Tables,
     labels: &Labels,
-    before: &str,
     node: &Node,
-) -> Result<(), AllocError> {
-    let (label, parcel) = end_of(labels, node.end);
+) -> Result<(), AllocError>
+    ensures { OnOk result ((names : Names) → Keeps tables.now names → Calls labels.now names →
+        text.new.items ≡ text.old.items ++ waited_text names node.now) }
+{
     push_parts(
         text,
         &[
-            Part::Word(before),
             Part::Word(" "),
             Part::Name(tables.birth_label(node.key)),
             Part::Word(want_of(node)),
-            Part::Name(label),
-            Part::Word(parcel),
-            Part::Word(")"),
         ],
-    )
+    )?;
+    push_end_holder(text, labels, node.end)?;
+    push(text, ")")
 }
 
 // What the node lacks.
-fn want_of(node: &Node) -> &'static str {
+fn want_of(node: &Node) -> &'static str
+    ensures { result.now ≡ want_text node.now }
+{
     if node.bound {
         " (no constraints, held by "
     } else {
@@ -76,11 +143,15 @@ fn want_of(node: &Node) -> &'static str {
     }
 }
 
-// The label of the client that has the end, or words for a parcel.
-fn end_of(labels: &Labels, end: End) -> (Option<Label>, &'static str) {
+// Puts the label of the client that has the end behind what is there, or words for a parcel.
+fn push_end_holder(text: &mut Vec<u8>, labels: &Labels, end: End) -> Result<(), AllocError>
+    ensures { OnOk result ((names : Names) → Calls labels.now names →
+        text.new.items ≡ text.old.items ++ end_holder names end) }
+{
     match end {
-        End::Held(client) => (labels.client(client), ""),
-        _ => (None, "a parcel"),
+        End::Held(client) => push_client(text, labels, client),
+        End::InTransit(_) => push(text, "a parcel"),
+        End::Spent => push(text, "a parcel"),
     }
 }
 
@@ -117,10 +188,26 @@ pub(crate) fn push_doomed(
     tables: &Tables,
     collection: CollectionId,
     set: u64,
-) -> Result<(), AllocError> {
+) -> Result<(), AllocError>
+    ensures { OnOk result ((names : Names) → Keeps tables.now names →
+        text.new.items ≡ text.old.items ++ doomed_text names collection set) }
+{
     if set == 0 {
         return Ok(());
     }
+    push_some_doomed(text, tables, collection, set)
+}
+
+// Puts the buffers of the set behind what is there, as doomed.
+fn push_some_doomed(
+    text: &mut Vec<u8>,
+    tables: &Tables,
+    collection: CollectionId,
+    set: u64,
+) -> Result<(), AllocError>
+    ensures { OnOk result ((names : Names) → Keeps tables.now names →
+        text.new.items ≡ text.old.items ++ some_doomed names collection set) }
+{
     push(text, "doomed ")?;
     push_set(text, tables, collection, set)?;
     push(text, "\n")
@@ -131,14 +218,15 @@ pub(crate) fn push_free(
     text: &mut Vec<u8>,
     tables: &Tables,
     freed: &[HeldBuffer],
-) -> Result<(), AllocError> {
+) -> Result<(), AllocError>
+    ensures { OnOk result ((names : Names) → Keeps tables.now names →
+        text.new.items ≡ text.old.items ++ freed_text names freed.now) }
+{
     if freed.is_empty() {
         return Ok(());
     }
     push(text, "free   ")?;
-    for buffer in freed {
-        push_held(text, tables, *buffer)?;
-    }
+    push_each_held(text, tables, freed)?;
     push(text, "\n")
 }
 
@@ -147,19 +235,34 @@ pub(crate) fn push_fires(
     text: &mut Vec<u8>,
     tables: &Tables,
     fired: &[Fired],
-) -> Result<(), AllocError> {
+) -> Result<(), AllocError>
+    ensures { OnOk result ((names : Names) → Keeps tables.now names →
+        text.new.items ≡ text.old.items ++ fires_text names fired.now) }
+{
     if fired.is_empty() {
         return Ok(());
     }
     push(text, "fires  ")?;
-    for firing in fired {
-        push_fired(text, tables, *firing)?;
-    }
+    push_trackers(text, tables, fired)?;
     push(text, "\n")
 }
 
+// Puts a space and each of the trackers behind what is there.
+fn push_trackers(text: &mut Vec<u8>, tables: &Tables, fired: &[Fired]) -> Result<(), AllocError>
+    ensures { OnOk result ((names : Names) → Keeps tables.now names →
+        text.new.items ≡ text.old.items ++ flat_map (tracker_text names) fired.now) }
+{
+    for firing in fired {
+        push_fired(text, tables, *firing)?;
+    }
+    Ok(())
+}
+
 // Puts a space and the tracker that fired behind what is there.
-fn push_fired(text: &mut Vec<u8>, tables: &Tables, firing: Fired) -> Result<(), AllocError> {
+fn push_fired(text: &mut Vec<u8>, tables: &Tables, firing: Fired) -> Result<(), AllocError>
+    ensures { OnOk result ((names : Names) → Keeps tables.now names →
+        text.new.items ≡ text.old.items ++ tracker_text names firing) }
+{
     push_parts(
         text,
         &[

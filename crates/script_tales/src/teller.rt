@@ -1,7 +1,11 @@
 //! A session whose events are told.
-ghost use Rattle.std.specs.Prelude.{◌≡◌, ◌≢◌, ◌≤◌, [], IfErr, IfOk, OnOk};
-ghost use Rattle.sm_script.specs.Scenes.{Scene, first_scene};
+ghost use Rattle.std.specs.Prelude.{◌≡◌, ◌≢◌, ◌≤◌, ◌++◌, [], IfErr, IfOk, OnOk};
+ghost use Rattle.sm_script.specs.Names.{Names, label_of_node};
+ghost use Rattle.sm_script.specs.Scenes.{Scene, first_scene, next_scene};
 ghost use Rattle.sm_script.specs.Sessions.{Advances, Gains, IsAt, IsStopped};
+ghost use Rattle.sm_script.specs.Tables.{Keeps};
+ghost use Rattle.script_tales.specs.Called.{Calls, Knows, last_label, other_text};
+ghost use Rattle.script_tales.specs.FactTexts.{buffer_name};
 
 use crate::allocations::{push_initial, push_logical};
 use crate::keepers::{push_kept, push_kept_by_nodes};
@@ -13,7 +17,7 @@ use event_facts::keepers::strong_live;
 use event_facts::pages::given_back;
 use event_facts::{Before, Event, fired_since, placed_by, take_event};
 use event_marks::{Forced, Moment};
-use script_lines::push_label;
+use script_lines::{Label, push_label};
 use sm_names::{
     BufferName, Buffers, Call, ClientId, HeldBuffer, Limits, NoMemory, NodeKey, Reply, StepFault,
 };
@@ -54,6 +58,7 @@ impl Teller {
         ensures pool { IfOk result (λ teller. teller.session.core.pool ≡ pages) }
         ensures limits { IfOk result (λ teller. teller.session.core.limits ≡ limits) }
         ensures start { IfOk result (λ teller. IsAt teller.session first_scene) }
+        ensures knows { IfOk result (λ teller. Knows teller first_scene) }
     {
         Ok(Teller {
             session: Session::new(alloc, seed, pages, limits)?,
@@ -130,6 +135,8 @@ impl Teller {
         ensures ok { OnOk result ((scene : Scene) → IsAt self.old.session scene →
             Gains self.old.session self.new.session (Act.Ask client call binds)
             [] reply.new.items scene) }
+        ensures knows { IfOk result (λ event. (scene : Scene) → Knows self.old scene →
+            Knows self.new (next_scene scene client call binds event.reply)) }
         ensures err { IfErr result (λ stop. (stop ≢ Stop.BadLine) × (stop ≡ Stop.HistoryFull →
             self.old.session.core.limits.events ≤ self.old.session.core.events)) }
     {
@@ -320,21 +327,23 @@ impl Teller {
 
     /// Puts the label under which the end of the node was collected last behind what is there, if it is
     /// another than that of its birth. Costs a look into two tables.
-    pub fn push_other_name(&self, text: &mut Vec<u8>, node: NodeKey) -> Result<(), AllocError> {
-        let label = self.labels.collected(node);
-        if label == self.session.tables.birth_label(node) {
-            Ok(())
-        } else {
-            push_label(text, label)
-        }
+    pub fn push_other_name(&self, text: &mut Vec<u8>, node: NodeKey) -> Result<(), AllocError>
+        ensures { OnOk result ((names : Names) → Keeps self.now.session.tables names →
+            Calls self.now.labels names → text.new.items ≡ text.old.items
+            ++ other_text (last_label names node) (label_of_node names node)) }
+    {
+        push_other(
+            text,
+            self.labels.last(node),
+            self.session.tables.birth_label(node),
+        )
     }
 
     /// Puts the name of the buffer behind what is there. Costs a look into a table, and the text.
-    pub fn push_buffer_name(
-        &self,
-        text: &mut Vec<u8>,
-        buffer: BufferName,
-    ) -> Result<(), AllocError> {
+    pub fn push_buffer_name(&self, text: &mut Vec<u8>, buffer: BufferName) -> Result<(), AllocError>
+        ensures { OnOk result ((names : Names) → Keeps self.now.session.tables names →
+            text.new.items ≡ text.old.items ++ buffer_name names buffer) }
+    {
         push_parts(
             text,
             &[
@@ -349,6 +358,27 @@ impl Teller {
     fn push_kept_all(&self, held: &[HeldBuffer], facts: &mut Vec<u8>) -> Result<(), Stop> {
         let session = &self.session;
         push_kept(facts, &session.core, &session.tables, &self.labels, held)
+    }
+}
+
+// Puts the last label behind what is there, where it is another than the first.
+fn push_other(
+    text: &mut Vec<u8>,
+    last: Option<Label>,
+    first: Option<Label>,
+) -> Result<(), AllocError>
+    ensures { OnOk result (text.new.items ≡ text.old.items ++ other_text last first) }
+{
+    match (last, first) {
+        (None, _) => Ok(()),
+        (Some(last), None) => push_label(text, Some(last)),
+        (Some(last), Some(first)) => {
+            if last == first {
+                Ok(())
+            } else {
+                push_label(text, Some(last))
+            }
+        }
     }
 }
 

@@ -1,25 +1,40 @@
 //! The words of facts.
+ghost use Rattle.std.specs.Prelude.{◌≡◌, ◌++◌, ◌<◌, OnOk};
+ghost use Rattle.std.specs.List.{flat_map};
+ghost use Rattle.script_lines.specs.Labels.{label_text};
+ghost use Rattle.sm_script.specs.Names.{Names, label_of_node};
+ghost use Rattle.sm_script.specs.Tables.{Keeps};
+ghost use Rattle.sm_names.specs.Handles.{names as names_of};
+ghost use Rattle.sm_script.specs.Texts.{member_text, node_text};
+ghost use Rattle.script_tales.specs.Called.{Calls, client_label};
+ghost use Rattle.script_tales.specs.LossTexts.{misuse_text, shown as shown_number};
+
 use crate::labels::Labels;
 use script_lines::push_label;
-use sm_names::{BufferName, ClientId, CollectionId, Misuse, NodeKey, has_buffer};
+use sm_names::{BufferName, ClientId, CollectionId, MAX_BUFFERS, Misuse, NodeKey, has_buffer};
 use sm_script::{Tables, push_buffer, push_node};
 use std::alloc::AllocError;
 
 // How many bytes a page has.
 pub(crate) const PAGE: u64 = 4096;
 
+// How many bits a set has, one for each buffer.
+const SET_BITS: u8 = 64;
+
 /// Puts the node's label behind what is there. Takes a time in proportion to it, and a look into a table.
-pub fn push_name(text: &mut Vec<u8>, tables: &Tables, node: NodeKey) -> Result<(), AllocError> {
+pub fn push_name(text: &mut Vec<u8>, tables: &Tables, node: NodeKey) -> Result<(), AllocError>
+    ensures { OnOk result ((names : Names) → Keeps tables.now names →
+        text.new.items ≡ text.old.items ++ label_text (label_of_node names node)) }
+{
     push_label(text, tables.birth_label(node))
 }
 
 /// Puts a space and the label of each node behind what is there. Takes a time in proportion to them, and a
 /// look into a table for each.
-pub fn push_nodes(
-    text: &mut Vec<u8>,
-    tables: &Tables,
-    nodes: &[NodeKey],
-) -> Result<(), AllocError> {
+pub fn push_nodes(text: &mut Vec<u8>, tables: &Tables, nodes: &[NodeKey]) -> Result<(), AllocError>
+    ensures { OnOk result ((names : Names) → Keeps tables.now names →
+        text.new.items ≡ text.old.items ++ flat_map (node_text names) nodes.now) }
+{
     for node in nodes {
         push_node(text, tables, *node)?;
     }
@@ -28,11 +43,10 @@ pub fn push_nodes(
 
 /// Puts the client's label behind what is there. Takes a time in proportion to it, and a look into a
 /// table.
-pub fn push_client(
-    text: &mut Vec<u8>,
-    labels: &Labels,
-    client: ClientId,
-) -> Result<(), AllocError> {
+pub fn push_client(text: &mut Vec<u8>, labels: &Labels, client: ClientId) -> Result<(), AllocError>
+    ensures { OnOk result ((names : Names) → Calls labels.now names →
+        text.new.items ≡ text.old.items ++ label_text (client_label names client)) }
+{
     push_label(text, labels.client(client))
 }
 
@@ -42,17 +56,38 @@ pub(crate) fn push_set(
     tables: &Tables,
     collection: CollectionId,
     set: u64,
-) -> Result<(), AllocError> {
-    for index in 0..64u8 {
-        if has_buffer(set, index) {
-            push_buffer(text, tables, BufferName { collection, index })?;
-        }
+) -> Result<(), AllocError>
+    ensures { OnOk result ((names : Names) → Keeps tables.now names →
+        text.new.items ≡ text.old.items
+        ++ flat_map (member_text names set) (names_of collection MAX_BUFFERS)) }
+{
+    for index in 0..SET_BITS {
+        push_member(text, tables, set, BufferName { collection, index })?;
+    }
+    Ok(())
+}
+
+// Puts a space and the buffer behind what is there, if it is in the set.
+fn push_member(
+    text: &mut Vec<u8>,
+    tables: &Tables,
+    set: u64,
+    buffer: BufferName,
+) -> Result<(), AllocError>
+    requires { buffer.index < MAX_BUFFERS }
+    ensures { OnOk result ((names : Names) → Keeps tables.now names →
+        text.new.items ≡ text.old.items ++ member_text names set buffer) }
+{
+    if has_buffer(set, buffer.index) {
+        return push_buffer(text, tables, buffer);
     }
     Ok(())
 }
 
 // The number, or the greatest that a text is made of.
-pub(crate) fn shown(number: u128) -> u64 {
+pub(crate) fn shown(number: u128) -> u64
+    ensures { result ≡ shown_number number }
+{
     match u64::try_from(number) {
         Ok(number) => number,
         Err(_) => u64::MAX,
@@ -60,7 +95,9 @@ pub(crate) fn shown(number: u128) -> u64 {
 }
 
 // Why a misuse makes a node fail.
-pub(crate) fn misuse_words(misuse: Misuse) -> &'static str {
+pub(crate) fn misuse_words(misuse: Misuse) -> &'static str
+    ensures { result.now ≡ misuse_text misuse }
+{
     match misuse {
         Misuse::SecondConstraints => "its constraints were set before",
         Misuse::LateWeak => "weak after constraints",

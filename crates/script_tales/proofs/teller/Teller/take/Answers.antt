@@ -29,3 +29,18 @@ returns-clause-ok c = λ scene at.
         keeps = c.in_ok-note.ensures.names scene.names at.keeps;
       };
     }
+
+pub returns-clause-knows : goal.returns-clause-knows
+returns-clause-knows c = λ scene knows.
+    let reply = c.in_ok-event.event.reply in
+    let step = subst
+    (λ (r : Result Event StepFault). IfOk r (λ e. Stepped c.args.self.now.session.core c.take_event.new.core c.args.client
+    c.args.call (Ok e.reply))) c.in_ok-event.ensures.ok c.take_event.ensures.stepped in
+    record {
+      is_at = record {
+        shows = c.in_ok-note.ensures.shows (next_scene scene c.args.client c.args.call c.args.binds reply).history
+            (step.goes_on scene.history knows.is_at.shows);
+        keeps = c.in_ok-note.ensures.names scene.names knows.is_at.keeps;
+      };
+      calls = c.in_ok-note-2.ensures scene.names knows.calls;
+    }

@@ -1,6 +1,8 @@
 -- The lines of a script that are taken one after another.
-use Rattle.std.proofs.Common.{◌≡◌, ℕ, ◌+◌, ◌<◌, ◌≤◌, List, [], ◌∷◌, ◌++◌, length, length-append, length-drop, take, drop, append_assoc, append-nil, refl, sym, ap, ◌∙◌, Some, None, arith}
+use Rattle.std.proofs.Common.{◌≡◌, ℕ, suc, ◌+◌, ◌-◌, ◌^◌, ◌<◌, ◌≤◌, min, ◌==◌, true, List, [], ◌∷◌, ◌++◌, length, length-append, length-drop, take, drop, append_assoc, append-nil, refl, sym, ap, ◌∙◌, Some, None, arith}
+use Rattle.std.proofs.lemmas.Bool.Decides.{nat_tests}
 use Rattle.std.specs.List.{position}
+use Rattle.script_lines.specs.declared.TheConstants.{MOST_BYTES}
 use Rattle.script_lines.specs.Pieces.{whole_lines, last_part}
 use Rattle.script_lines.proofs.Piecing.{is_end, ends_found, unended_none}
 
@@ -45,3 +47,25 @@ module _ (script rest : List ℕ) (taken : List (List ℕ)) (takes : AreTaken sc
 
   pub rest-all : position is_end rest ≡ None → last_part script ≡ rest
   rest-all none = takes.ends ∙ (unended_none [] rest none).rest
+
+-- the number of the next line
+pub next-number : (count room number next : ℕ) → number ≡ count → count + 1 ≤ room → room ≤ MOST_BYTES →
+    next ≡ min (number + 1) (2 ^ 64 - 1) → next ≡ count + 1
+next-number count room number next counted within small is = omega (arith, is, counted, within, small)
+
+-- one more than a number is not 0
+some-more : (n : ℕ) → (suc n == 0) ≡ true → ⊥
+some-more n test = grind (arith, nat_tests)
+
+-- nothing is left
+pub none-left : (rest : List ℕ) → (length rest == 0) ≡ true → rest ≡ []
+none-left [] empty = refl
+none-left (byte ∷ more) empty = absurd (some-more (length more) empty)
+
+-- the number of the line that has no end
+pub last-number : (script rest : List ℕ) (taken : List (List ℕ)) (takes : AreTaken script rest taken) → length script ≤ MOST_BYTES →
+    position is_end rest ≡ None → (number count : ℕ) → number ≡ length taken → count ≡ min (number + 1) (2 ^ 64 - 1) →
+    count ≡ length (whole_lines script) + 1
+last-number script rest taken takes small none number count counted is =
+    let all : length (whole_lines script) ≡ length taken = ap length (taken-all script rest taken takes none) in
+    omega (arith, is, counted, takes.few, small, all)

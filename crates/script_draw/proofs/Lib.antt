@@ -1,0 +1,5 @@
+pub mod Going
+pub mod Outcomes
+pub mod Playing
+pub mod Rows
+pub mod Signs

@@ -1,0 +1,238 @@
+-- A script that is played on by one line, or stops at it.
+use Rattle.std.proofs.Common.{◌≡◌, ◌≢◌, ℕ, ◌+◌, ◌≤◌, true, false, List, [], ◌∷◌, ◌++◌, length, length-append, refl, sym, ◌∙◌, subst, Option, Some, None, inl, arith}
+use Rattle.std.proofs.lemmas.Bool.Decides.{nat_tests}
+use Rattle.std.specs.Prelude.{Ok, Err, Result, IfErr, codes, nat_le}
+use Rattle.sm_names.specs.declared.messages.Call.{Call}
+use Rattle.sm_names.specs.Bounds.{Bound}
+use Rattle.sm_names.specs.Marks.{events}
+use Rattle.sm_names.specs.Timelines.{timeline}
+use Rattle.script_faults.specs.declared.fault.ReportFault.{ReportFault}
+use Rattle.script_faults.specs.Faults.{IsFaultOf}
+use Rattle.script_faults.specs.IndentedLines.{is_indented, unindented}
+use Rattle.script_faults.proofs.Settings.{legal-in}
+use Rattle.script_faults.proofs.Unindented.{unindented-more, unindented-skip}
+use Rattle.sm_script.specs.declared.act.Act.{Act}
+use Rattle.sm_script.specs.declared.act.Binds.{Binds}
+use Rattle.sm_script.specs.declared.stop.Stop.{Stop}
+use Rattle.sm_script.specs.Names.{act_in}
+use Rattle.sm_script.specs.Scenes.{Answers, Plays, Rests, Scene, Setting, as_line, first_scene, next_scene}
+use Rattle.sm_script.specs.Texts.{reply_text, view_text}
+use Rattle.sm_script.proofs.Playing.{plays-more}
+use Rattle.script_tales.specs.Called.{Knows}
+use Rattle.script_draw.specs.declared.draw.Scroll.{Scroll}
+use Rattle.script_draw.specs.Played.{IsBefore, IsWithin, Played, Begins, Passes, Looks, Makes, Reaches, is_call, is_reached}
+use Rattle.script_draw.specs.Reached.{Asks, Halted, IsHalted, IsHeldUp, MakesCall, Reached}
+
+-- a line that makes no event gives some text, and changes nothing
+looked : (pool : ℕ) (scene : Scene) (line : List ℕ) (act : Act) → act_in scene.names line ≡ Some act → is_call act ≡ false →
+    (text : List ℕ) × Answers pool scene line text scene
+looked pool scene line Act.Nothing good is = ([], record { act = Act.Nothing; good = good; gives = (refl, refl) })
+looked pool scene line (Act.Ask client call binds) good is = absurd (cc)
+looked pool scene line (Act.Poll tracker) good is = (
+  as_line (codes "quiet"),
+  record { act = Act.Poll tracker; good = good; gives = (codes "quiet", inl refl, refl, refl) },
+)
+looked pool scene line (Act.Show view) good is = (
+  as_line (view_text pool (timeline pool scene.history) scene.names view),
+  record { act = Act.Show view; good = good; gives = (refl, refl) },
+)
+
+-- the lines that are not indented are played, one after another
+pub played-plays : (pool : ℕ) (lines : List (List ℕ)) (scene : Scene) (last : List ℕ) → Played lines scene last →
+    (texts : List ℕ) × Plays pool first_scene (unindented lines) texts scene
+played-plays pool lines scene last Begins = ([], Rests first_scene)
+played-plays pool lines scene last (Passes before line before_last there so_far skip) =
+    let rest = played-plays pool before there before_last so_far in (
+      rest.0,
+      subst (λ (ls : List (List ℕ)). Plays pool first_scene ls rest.0 there) (sym (unindented-skip before line skip)) rest.1,
+    )
+played-plays pool lines scene last (Looks before line before_last there act so_far whole good is) =
+    let rest = played-plays pool before there before_last so_far in
+    let look = looked pool there line act good is in (
+      rest.0 ++ look.0,
+      subst (λ (ls : List (List ℕ)). Plays pool first_scene ls (rest.0 ++ look.0) there) (sym (unindented-more before line whole))
+          (plays-more pool first_scene there there (unindented before) rest.0 line look.0 rest.1 look.1),
+    )
+played-plays pool lines scene last (Makes before line before_last there client call binds reply so_far whole good) =
+    let rest = played-plays pool before there before_last so_far in
+    let text = as_line (reply_text there.names binds reply) in
+    let next = next_scene there client call binds reply in (
+      rest.0 ++ text,
+      subst (λ (ls : List (List ℕ)). Plays pool first_scene ls (rest.0 ++ text) next) (sym (unindented-more before line whole))
+          (plays-more pool first_scene there next (unindented before) rest.0 line text rest.1
+          (record { act = Act.Ask client call binds; good = good; gives = (reply, refl, refl) })),
+    )
+
+-- 0 events are no more than are asked for
+within-none : (until : Option ℕ) → IsWithin until 0
+within-none None = tt
+within-none (Some at) = omega arith
+
+-- one more event is made where fewer were than are asked for
+within-more : (until : Option ℕ) (n m : ℕ) → m ≡ n + 1 → IsBefore until n → IsWithin until m
+within-more None n m is before = tt
+within-more (Some at) n m is before = omega (arith, is, before)
+
+-- it is not as many that were made
+pub ahead-of : (until : Option ℕ) (n : ℕ) → IsWithin until n → is_reached until n ≡ false → IsBefore until n
+ahead-of None n within test = tt
+ahead-of (Some at) n within test = grind (arith, nat_tests)
+
+-- as many were made as are asked for
+pub reached-is : (at n : ℕ) → is_reached (Some at) n ≡ true → n ≡ at
+reached-is at n test = grind (arith, nat_tests)
+
+-- no line was played
+pub far-none : (setting : Setting) (until : Option ℕ) (scroll : Scroll) → scroll.teller.session.core.pool ≡ setting.pool →
+    scroll.teller.session.core.limits ≡ setting.limits → scroll.limits ≡ setting.limits → Knows scroll.teller first_scene →
+    scroll.line.items ≡ [] → Reached setting until scroll []
+far-none setting until scroll pool limits bound knows none = record {
+  pool = pool;
+  limits = limits;
+  bound = bound;
+  scene = first_scene;
+  played = subst (Played [] first_scene) (sym none) Begins;
+  knows = knows;
+  within = within-none until;
+}
+
+module _ (setting : Setting) (until : Option ℕ) (scroll : Scroll) (lines : List (List ℕ)) (far : Reached setting until scroll lines) where
+  -- the lines so far lead to the scene
+  abbrev pub far-reaches : Reaches setting lines far.scene scroll.line.items
+  far-reaches = record {
+    played = far.played;
+    texts = (played-plays setting.pool lines far.scene scroll.line.items far.played).0;
+    leads = record {
+      plays = (played-plays setting.pool lines far.scene scroll.line.items far.played).1;
+      legal = legal-in setting scroll.teller.session far.scene far.pool far.limits far.knows.is_at;
+    };
+  }
+
+  -- an indented line is passed over
+  pub far-pass : (line : List ℕ) → is_indented line ≡ true → Reached setting until scroll (lines ++ line ∷ [])
+  far-pass line skip = record {
+    pool = far.pool;
+    limits = far.limits;
+    bound = far.bound;
+    scene = far.scene;
+    played = Passes lines line scroll.line.items far.scene far.played skip;
+    knows = far.knows;
+    within = far.within;
+  }
+
+  -- a line that makes no event changes nothing
+  pub far-look : (line : List ℕ) (act : Act) → is_indented line ≡ false → act_in far.scene.names line ≡ Some act → is_call act ≡ false →
+      Reached setting until scroll (lines ++ line ∷ [])
+  far-look line act whole good is = record {
+    pool = far.pool;
+    limits = far.limits;
+    bound = far.bound;
+    scene = far.scene;
+    played = Looks lines line scroll.line.items far.scene act far.played whole good is;
+    knows = far.knows;
+    within = far.within;
+  }
+
+  -- one more line made an event
+  pub far-make : (next : Scroll) (line : List ℕ) (client : ℕ) (call : Call) (binds : Binds) → is_indented line ≡ false →
+      act_in far.scene.names line ≡ Some (Act.Ask client call binds) → MakesCall scroll next client call binds line →
+      IsBefore until (length far.scene.history) → Reached setting until next (lines ++ line ∷ [])
+  far-make next line client call binds whole good made before =
+      let told = made.knows far.scene far.knows in
+      let scene = next_scene far.scene client call binds told.0 in
+      let same = made.setting far.scene far.knows.is_at in
+      record {
+        pool = same.pool ∙ far.pool;
+        limits = same.limits ∙ far.limits;
+        bound = made.limits ∙ far.bound;
+        scene = scene;
+        played = subst (Played (lines ++ line ∷ []) scene) (sym made.line_is)
+            (Makes lines line scroll.line.items far.scene client call binds told.0 far.played whole good);
+        knows = told.1;
+        within = within-more until (length far.scene.history) (length scene.history)
+            (length-append far.scene.history ((client, call, told.0) ∷ [])) before;
+      }
+
+bad-memory : Stop.BadLine ≡ Stop.NoMemory → ⊥
+bad-memory e = cc
+
+full-memory : Stop.HistoryFull ≡ Stop.NoMemory → ⊥
+full-memory e = cc
+
+module _ (setting : Setting) (until : Option ℕ) (old new : Scroll) (lines : List (List ℕ)) (far : Reached setting until old lines)
+    (before : IsBefore until (length far.scene.history)) (line : List ℕ) (stop : Stop)
+    (same : stop ≢ Stop.NoMemory → new ≡ old) (why : IsHeldUp setting far.scene line stop) (number : ℕ)
+    (numbered : number ≡ length lines + 1) where
+  -- the line was not played
+  pub far-stop : (fault : ReportFault) → IsFaultOf number stop fault → Halted setting until new (lines ++ line ∷ []) fault
+  far-stop ReportFault.ReadFault is = absurd is
+  far-stop ReportFault.TooLong is = absurd is
+  far-stop ReportFault.WriteFault is = absurd is
+  far-stop (ReportFault.NoEvent event) is = absurd is
+  far-stop (ReportFault.BadLine n reason) is =
+      let held = subst (IsHeldUp setting far.scene line) is.0 why in
+      subst (λ (s : Scroll). IsHalted setting until s (lines ++ line ∷ []) (ReportFault.BadLine n reason))
+      (sym (same (λ e. bad-memory (sym is.0 ∙ e)))) (record {
+        before = lines;
+        line = line;
+        after = [];
+        split = refl;
+        whole = held.0;
+        reached = far;
+        ahead = before;
+        why = (held.1, is.1 ∙ numbered);
+      })
+  far-stop ReportFault.HistoryFull is =
+      let held = subst (IsHeldUp setting far.scene line) is why in
+      subst (λ (s : Scroll). IsHalted setting until s (lines ++ line ∷ []) ReportFault.HistoryFull)
+      (sym (same (λ e. full-memory (sym is ∙ e)))) (record {
+        before = lines;
+        line = line;
+        after = [];
+        split = refl;
+        whole = held.0;
+        reached = far;
+        ahead = before;
+        why = held.1;
+      })
+  far-stop ReportFault.NoMemory is = tt
+
+-- why a line that asks for the act was not played
+abbrev pub HeldUp : Scroll → List ℕ → Act → Stop → Type 0
+HeldUp scroll line act stop = (setting : Setting) (until : Option ℕ) (lines : List (List ℕ)) (far : Reached setting until scroll lines) →
+    Asks far.scene line act → IsHeldUp setting far.scene line stop
+
+-- what fails for want of memory alone says nothing of the line
+pub held-made : (result : Result (Unit {0}) Stop) (scroll : Scroll) (line : List ℕ) (act : Act) →
+    IfErr result (λ stop. stop ≡ Stop.NoMemory) → IfErr result (HeldUp scroll line act)
+held-made (Ok done) scroll line act is = tt
+held-made (Err stop) scroll line act is = λ setting until lines far asks. subst (IsHeldUp setting far.scene line) (sym is) tt
+
+-- the line asks for the act
+pub held-on : (result : Result (Unit {0}) Stop) (scroll : Scroll) (line : List ℕ) (act : Act) →
+    ((setting : Setting) (until : Option ℕ) (lines : List (List ℕ)) (far : Reached setting until scroll lines) → Asks far.scene line act) →
+    IfErr result (HeldUp scroll line act) →
+    IfErr result (λ stop. (setting : Setting) (until : Option ℕ) (lines : List (List ℕ)) (far : Reached setting until scroll lines) →
+    IsHeldUp setting far.scene line stop)
+held-on (Ok done) scroll line act asks held = tt
+held-on (Err stop) scroll line act asks held = λ setting until lines far. held setting until lines far (asks setting until lines far)
+
+-- as many events were made as may be
+pub held-full : (setting : Setting) (until : Option ℕ) (scroll : Scroll) (lines : List (List ℕ)) (far : Reached setting until scroll lines)
+    (line : List ℕ) (client : ℕ) (call : Call) (binds : Binds) → is_indented line ≡ false →
+    act_in far.scene.names line ≡ Some (Act.Ask client call binds) →
+    nat_le scroll.limits.events scroll.teller.session.core.events ≡ true → IsHeldUp setting far.scene line Stop.HistoryFull
+held-full setting until scroll lines far line client call binds whole good full =
+    let most : scroll.limits.events ≤ scroll.teller.session.core.events = grind (arith, nat_tests) in (
+      whole,
+      record {
+        client = client;
+        call = call;
+        binds = binds;
+        asks = good;
+        full =
+            subst (λ (p : ℕ). setting.limits.events ≤ events (timeline p far.scene.history)) far.pool
+            (subst (λ (n : ℕ). setting.limits.events ≤ n) far.knows.is_at.shows.shown.events
+            (subst (λ (l : Bound). l.events ≤ scroll.teller.session.core.events) far.bound most));
+      },
+    )

@@ -1,0 +1,11 @@
+use Rattle.std.proofs.Common.{◌≡◌, ◌++◌, take}
+use Rattle.std.specs.List.{flat_map}
+use Rattle.sm_script.specs.Names.{Names}
+use Rattle.sm_script.specs.Tables.{Keeps}
+use Rattle.sm_script.specs.Texts.{fired_text}
+use Rattle.script_draw.proofs.text_picture.push_firings.Given as goal
+
+-- those so far
+abbrev pub invariant-loop-firing : goal.invariant-loop-firing
+invariant-loop-firing l = (names : Names) → Keeps l.tables names →
+    l.text.items ≡ l.initial.text.items ++ flat_map (fired_text names) (take l.firing-index l.fired)

@@ -1,0 +1,170 @@
+-- What comes of drawing a script.
+use Rattle.std.specs.Prelude.{ℕ, ◌≡◌, ◌≢◌, ◌⊎◌, ◌+◌, ◌<◌, ◌≤◌, All, false, List, [], ◌∷◌, ◌++◌, length, Option, Some, None, Result, Ok, Err, MatchResult}
+use Rattle.std.specs.Io.KnownBytes.{Appends, Consumes, IsAtEnd, Keeps}
+use Rattle.lifetime_core.specs.Shown.{Shows}
+use Rattle.lifetime_core.specs.State.{State}
+use Rattle.script_lines.specs.declared.TheConstants.{MOST_BYTES}
+use Rattle.script_lines.specs.Pieces.{whole_lines, last_part}
+use Rattle.script_lines.specs.Written.{WritesPart}
+use Rattle.script_faults.specs.declared.fault.ReportFault.{ReportFault}
+use Rattle.script_faults.specs.Faults.{fault_status}
+use Rattle.script_faults.specs.IndentedLines.{is_indented}
+use Rattle.sm_script.specs.Names.{Names, act_in}
+use Rattle.sm_script.specs.Runs.{IsOver}
+use Rattle.sm_script.specs.Scenes.{Scene, Setting}
+use Rattle.script_pictures.specs.declared.picture.Tree.{Tree}
+use Rattle.script_pictures.specs.declared.travel.Travel.{Travel}
+use Rattle.script_pictures.specs.Seen.{IsTree}
+use Rattle.script_draw.specs.declared.draw.Format.{Format}
+use Rattle.script_draw.specs.declared.draw.View.{View}
+use Rattle.script_draw.specs.Played.{Reaches}
+use Rattle.script_draw.specs.DotPictures.{dot_text}
+use Rattle.script_draw.specs.TextPictures.{picture_text}
+
+-- the text is a picture, in this format, of a core in this state, where labels stand for this and the last event has this line: that of
+-- some trees, each of which shows what the core has, and of some links along which failures went. Of a vector graphic nothing is said
+abbrev pub IsPicture : Format → State → Names → List ℕ → List ℕ → Type 0
+IsPicture Format.Text s names last text = (trees : List Tree) × All (IsTree s) trees × (text ≡ picture_text s names last trees)
+IsPicture Format.Dot s names last text =
+    (trees : List Tree) × (travels : List Travel) × All (IsTree s) trees × (text ≡ dot_text s names last trees travels)
+IsPicture Format.Svg s names last text = Unit {0}
+
+-- the text is a picture of what happened so far: that of a core that shows this history
+pub record Pictures (format : Format) (setting : Setting) (scene : Scene) (last text : List ℕ) : Type 0 where
+  pub core : State
+  pub shows : Shows core scene.history
+  pub pool : core.pool ≡ setting.pool
+  pub picture : IsPicture format core scene.names last text
+
+-- a picture of what happened so far was written
+pub record IsPictured (format : Format) (setting : Setting) (scene : Scene) (last : List ℕ) (old new : Option (List ℕ)) : Type 0 where
+  pub text : List ℕ
+  pub pictures : Pictures format setting scene last text
+  pub written : Appends old new text
+
+-- a first part of one was
+pub record IsPicturedInPart (format : Format) (setting : Setting) (scene : Scene) (last : List ℕ) (old new : Option (List ℕ)) : Type 0 where
+  pub text : List ℕ
+  pub pictures : Pictures format setting scene last text
+  pub written : WritesPart old new text
+
+-- why no picture was written
+abbrev pub IsUnwritten : Format → Setting → Scene → List ℕ → Option (List ℕ) → Option (List ℕ) → ReportFault → Type 0
+IsUnwritten format setting scene last old new ReportFault.WriteFault = IsPicturedInPart format setting scene last old new
+IsUnwritten format setting scene last old new ReportFault.NoMemory = Keeps old new
+IsUnwritten format setting scene last old new _ = ⊥
+
+-- these are all lines of the script, or those up to the event that is asked for
+abbrev pub AreAll : Option ℕ → List ℕ → List (List ℕ) → ℕ → Type 0
+AreAll None script lines events = (lines ≡ whole_lines script) × (last_part script ≡ [])
+AreAll (Some at) script lines events = (events ≡ at) × (0 < at)
+
+-- these lines were played, and a picture of what they lead to was written
+pub record IsDrawn (setting : Setting) (view : View) (old new : Option (List ℕ)) (script : List ℕ) : Type 0 where
+  pub lines : List (List ℕ)
+  pub after : List (List ℕ)
+  pub split : whole_lines script ≡ lines ++ after
+  pub scene : Scene
+  pub last : List ℕ
+  pub reaches : Reaches setting lines scene last
+  pub all : AreAll view.at script lines (length scene.history)
+  pub pictured : IsPictured view.format setting scene last old new
+
+-- a first part of a picture of what some first lines lead to was written
+pub record IsCutOff (setting : Setting) (view : View) (old new : Option (List ℕ)) (script : List ℕ) : Type 0 where
+  pub lines : List (List ℕ)
+  pub after : List (List ℕ)
+  pub split : whole_lines script ≡ lines ++ after
+  pub scene : Scene
+  pub last : List ℕ
+  pub reaches : Reaches setting lines scene last
+  pub pictured : IsPicturedInPart view.format setting scene last old new
+
+-- what is written where a line could not be played: the picture of what the lines before it lead to; nothing where an event is
+-- asked for, which those lines did not make
+abbrev pub IsLeft : Option ℕ → Format → Setting → Scene → List ℕ → Option (List ℕ) → Option (List ℕ) → Type 0
+IsLeft None format setting scene last old new = IsPictured format setting scene last old new
+IsLeft (Some at) format setting scene last old new = (length scene.history < at) × Keeps old new
+
+-- why the line of this number was not played
+abbrev pub IsWhy : Setting → Scene → List ℕ → ℕ → ReportFault → Type 0
+IsWhy setting scene line number (ReportFault.BadLine n reason) = (act_in scene.names line ≡ None) × (n ≡ number)
+IsWhy setting scene line number ReportFault.HistoryFull = IsOver setting scene line
+IsWhy setting scene line number _ = ⊥
+
+-- a line was not played, and all before it were
+pub record IsUnplayed (setting : Setting) (view : View) (old new : Option (List ℕ)) (script : List ℕ) (fault : ReportFault) : Type 0 where
+  pub before : List (List ℕ)
+  pub line : List ℕ
+  pub after : List (List ℕ)
+  pub split : whole_lines script ≡ before ++ line ∷ after
+  pub whole : is_indented line ≡ false
+  pub scene : Scene
+  pub last : List ℕ
+  pub reaches : Reaches setting before scene last
+  pub why : IsWhy setting scene line (length before + 1) fault
+  pub left : IsLeft view.at view.format setting scene last old new
+
+-- the last line has no end, and all others were played
+pub record IsUnended (setting : Setting) (view : View) (old new : Option (List ℕ)) (script : List ℕ) (number : ℕ) : Type 0 where
+  pub unended : last_part script ≢ []
+  pub numbered : number ≡ length (whole_lines script) + 1
+  pub scene : Scene
+  pub last : List ℕ
+  pub reaches : Reaches setting (whole_lines script) scene last
+  pub left : IsLeft view.at view.format setting scene last old new
+
+-- the lines make fewer events than this
+pub record IsBehind (setting : Setting) (script : List ℕ) (event : ℕ) : Type 0 where
+  pub ended : last_part script ≡ []
+  pub scene : Scene
+  pub last : List ℕ
+  pub reaches : Reaches setting (whole_lines script) scene last
+  pub fewer : length scene.history < event
+
+-- an event is asked for that there is not: event 0, or one behind the last
+pub record IsNoEvent (setting : Setting) (view : View) (old new : Option (List ℕ)) (script : List ℕ) (event : ℕ) : Type 0 where
+  pub asked : view.at ≡ Some event
+  pub none : (event ≡ 0) ⊎ IsBehind setting script event
+  pub kept : Keeps old new
+
+-- why no picture was drawn, or one of some first lines
+abbrev pub LinesStop : Setting → View → Option (List ℕ) → Option (List ℕ) → List ℕ → ReportFault → Type 0
+LinesStop setting view old new script ReportFault.WriteFault = IsCutOff setting view old new script
+LinesStop setting view old new script (ReportFault.BadLine n reason) =
+    IsUnplayed setting view old new script (ReportFault.BadLine n reason) ⊎ IsUnended setting view old new script n
+LinesStop setting view old new script ReportFault.HistoryFull = IsUnplayed setting view old new script ReportFault.HistoryFull
+LinesStop setting view old new script ReportFault.NoMemory = Keeps old new
+LinesStop setting view old new script (ReportFault.NoEvent event) = IsNoEvent setting view old new script event
+LinesStop setting view old new script _ = ⊥
+
+-- what came of a script that was read
+abbrev pub LinesDrawn : Setting → View → Option (List ℕ) → Option (List ℕ) → List ℕ → Result (Unit {0}) ReportFault → Type 0
+LinesDrawn setting view old new script result =
+    MatchResult result (λ _. IsDrawn setting view old new script) (LinesStop setting view old new script)
+
+-- why a drawing stopped, where these bytes were read: no line is played before all are read
+abbrev pub DrawStops : Setting → View → Option (List ℕ) → Option (List ℕ) → Option (List ℕ) → List ℕ → ReportFault → Type 0
+DrawStops setting view left old new script ReportFault.ReadFault = (length script ≤ MOST_BYTES) × Keeps old new
+DrawStops setting view left old new script ReportFault.TooLong = (MOST_BYTES < length script) × Keeps old new
+DrawStops setting view left old new script ReportFault.NoMemory = Keeps old new
+DrawStops setting view left old new script fault = IsAtEnd left × LinesStop setting view old new script fault
+
+-- these bytes were read, and a picture was drawn. Without a fault they are all that there is
+pub record Draws (setting : Setting) (view : View) (left_before left old new : Option (List ℕ)) (result : Result (Unit {0}) ReportFault) : Type 0 where
+  pub script : List ℕ
+  pub taken : Consumes left_before left script
+  pub outcome : MatchResult result
+      (λ _. IsAtEnd left × (length script ≤ MOST_BYTES) × IsDrawn setting view old new script)
+      (DrawStops setting view left old new script)
+
+-- the status that the program ends with: 0 where a picture was drawn
+abbrev pub drawing_status : Result (Unit {0}) ReportFault → ℕ
+drawing_status (Ok done) = 0
+drawing_status (Err fault) = fault_status fault
+
+-- a script was drawn, with this outcome, whose status is told
+pub record EndsDrawn (setting : Setting) (view : View) (left_before left old new : Option (List ℕ)) (status : ℕ) : Type 0 where
+  pub outcome : Result (Unit {0}) ReportFault
+  pub draws : Draws setting view left_before left old new outcome
+  pub status_is : status ≡ drawing_status outcome

@@ -1,0 +1,5 @@
+pub mod DotPictures
+pub mod Draws
+pub mod Played
+pub mod Reached
+pub mod TextPictures

@@ -1,0 +1,7 @@
+use Rattle.std.proofs.Common.{All}
+use Rattle.script_pictures.specs.Seen.{IsTree}
+use Rattle.script_pictures.proofs.picture.trees_of.Given as goal
+
+-- those so far
+abbrev pub invariant-loop-family : goal.invariant-loop-family
+invariant-loop-family l = All (IsTree l.core) l.trees.items

@@ -1,0 +1,80 @@
+-- The lines of a node's box.
+use Rattle.std.specs.Prelude.{ℕ, ◌==◌, ◌&&◌, if◌then◌else◌, List, [], ◌∷◌, ◌++◌, codes, decimal, length, Option, Some, None}
+use Rattle.sm_names.specs.declared.outcomes.Cause.{Cause}
+use Rattle.sm_names.specs.declared.outcomes.Fault.{Fault}
+use Rattle.sm_names.specs.Demands.{Demand}
+use Rattle.forest_store.specs.declared.node.Node.{Node}
+use Rattle.script_lines.specs.Labels.{label_text}
+use Rattle.sm_script.specs.Names.{Names, label_of_node}
+use Rattle.sm_script.specs.Texts.{cause_text}
+use Rattle.script_tales.specs.Called.{last_label, other_text}
+use Rattle.script_tales.specs.FactTexts.{joined}
+use Rattle.script_pictures.specs.declared.features.Class.{Class}
+use Rattle.script_pictures.specs.Features.{class_of, kind_text}
+
+-- the number of the event and its line
+abbrev pub header_text : ℕ → List ℕ → List ℕ
+header_text event line =
+    let said = joined (codes "event " ∷ decimal event ∷ []) in
+    let more = joined (said ∷ codes ":  " ∷ line ∷ []) in
+    if event == 0 then said else more
+
+-- that the node was released before it left
+abbrev pub released_words : Node → List ℕ
+released_words n = if n.released && n.gone then codes "released; " else []
+
+-- why the node itself failed
+abbrev pub own_cause : Cause → List ℕ
+own_cause Cause.Lost = codes "closed, not released"
+own_cause (Cause.Misused misuse) = cause_text (Cause.Misused misuse)
+own_cause (Cause.Failed failure) = cause_text (Cause.Failed failure)
+own_cause Cause.NoStrong = cause_text Cause.NoStrong
+
+-- with whom the node fell
+abbrev pub fallen_words : Names → Fault → List ℕ
+fallen_words names fault = joined (codes "fell with " ∷ label_text (label_of_node names fault.origin) ∷ [])
+
+-- the state of a node of this class that failed so, if it failed
+abbrev pub words_of_class : Names → Class → Option Fault → List ℕ
+words_of_class names Class.Live fault = codes "live"
+words_of_class names Class.Orphan fault = codes "released"
+words_of_class names Class.Ended fault = codes "ended"
+words_of_class names Class.Origin None = codes "ended"
+words_of_class names Class.Origin (Some fault) = own_cause fault.cause
+words_of_class names Class.Taken None = codes "ended"
+words_of_class names Class.Taken (Some fault) = fallen_words names fault
+
+-- the state of the node
+abbrev pub state_words : Names → Node → List ℕ
+state_words names n = joined (released_words n ∷ words_of_class names (class_of n) n.fault ∷ [])
+
+-- that the node is dispensable
+abbrev pub dispensable_words : Node → List ℕ
+dispensable_words n = if n.dispensable then codes ", dispensable" else []
+
+-- that the node is weak
+abbrev pub weak_words : Node → List ℕ
+weak_words n = if n.weak then codes ", weak" else []
+
+-- another name, if there is one
+abbrev pub also_text : List ℕ → List ℕ
+also_text name = if length name == 0 then [] else joined (codes " as " ∷ name ∷ [])
+
+-- what the node is, and what it was collected as
+abbrev pub kind_words : Names → Node → List ℕ
+kind_words names n = joined (
+    kind_text n
+    ∷ dispensable_words n
+    ∷ weak_words n
+    ∷ also_text (other_text (last_label names n.key) (label_of_node names n.key))
+    ∷ []
+    )
+
+-- how many buffers there are to be at least, if some are
+abbrev pub least_text : ℕ → List ℕ
+least_text at_least = if at_least == 0 then [] else joined (codes " of " ∷ decimal at_least ∷ [])
+
+-- what is asked for
+abbrev pub asked_words : Demand → List ℕ
+asked_words asked = joined
+    (codes "camps on " ∷ decimal asked.camping ∷ least_text asked.at_least ∷ codes ", " ∷ decimal asked.size ∷ codes " bytes" ∷ [])

@@ -1,0 +1,37 @@
+-- What pictures say of a node and of a buffer.
+use Rattle.std.specs.Prelude.{ℕ, ◌+◌, ◌-◌, ◌==◌, if◌then◌else◌, List, [], ◌∷◌, ◌++◌, codes, decimal, Option, Some, None}
+use Rattle.std.specs.Option.{option_map_or}
+use Rattle.sm_names.specs.declared.keys.Interval.{Interval}
+use Rattle.sm_names.specs.declared.outcomes.Fault.{Fault}
+use Rattle.sm_names.specs.Sameness.{same_key}
+use Rattle.forest_store.specs.declared.node.End.{End}
+use Rattle.forest_store.specs.declared.node.Node.{Node}
+use Rattle.script_lines.specs.Labels.{label_text}
+use Rattle.sm_script.specs.Names.{Names}
+use Rattle.script_tales.specs.Called.{client_label}
+use Rattle.script_tales.specs.FactTexts.{joined}
+use Rattle.script_pictures.specs.declared.features.Class.{Class}
+
+-- what the node is drawn as
+abbrev pub class_of : Node → Class
+class_of n =
+    let left = option_map_or (λ (f : Fault). if same_key f.origin n.key then Class.Origin else Class.Taken) n.fault Class.Ended in
+    let stays = if n.released then Class.Orphan else Class.Live in
+    if n.gone then left else stays
+
+-- what the node's end is
+abbrev pub kind_text : Node → List ℕ
+kind_text n = if n.bound then codes "collection" else codes "token"
+
+-- where the end is
+abbrev pub place_text : Names → End → List ℕ
+place_text names (End.Held client) = joined (codes "held by " ∷ label_text (client_label names client) ∷ [])
+place_text names (End.InTransit client) = codes "end in a parcel"
+place_text names End.Spent = codes "end spent"
+
+-- the pages
+abbrev pub pages_text : Interval → List ℕ
+pages_text i =
+    let one = joined (codes "page " ∷ decimal i.start ∷ []) in
+    let more = joined (codes "pages " ∷ decimal i.start ∷ codes " to " ∷ decimal (i.start + i.pages - 1) ∷ []) in
+    if i.pages == 1 then one else more

@@ -1,0 +1,4 @@
+pub mod BoxLines
+pub mod Features
+pub mod Seen
+pub mod Travels

@@ -1,0 +1,21 @@
+-- The links of a tree, and how failures went along them.
+use Rattle.std.specs.Prelude.{ℕ, Bool, false, List, Option}
+use Rattle.std.specs.List.{find}
+use Rattle.std.specs.Option.{option_map, option_map_or}
+use Rattle.sm_names.specs.declared.keys.NodeKey.{NodeKey}
+use Rattle.sm_names.specs.Sameness.{same_key}
+use Rattle.forest_store.specs.declared.node.Node.{Node}
+use Rattle.script_pictures.specs.declared.travel.Travel.{Travel}
+use Rattle.script_pictures.specs.declared.travel.Way.{Way}
+
+-- it is the link of this node
+abbrev pub is_link_of : NodeKey → Travel → Bool
+is_link_of key t = same_key t.node key
+
+-- how a failure went along the link of the node
+abbrev pub way_in : List Travel → NodeKey → Option Way
+way_in travels key = option_map (λ (t : Travel). t.way) (find (is_link_of key) travels)
+
+-- the node hangs on this one
+abbrev pub hangs_on : NodeKey → Node → Bool
+hangs_on above n = option_map_or (same_key above) n.parent false

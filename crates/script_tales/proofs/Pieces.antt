@@ -1,0 +1,30 @@
+-- Texts that are put one behind the other.
+use Rattle.std.proofs.Common.{◌≡◌, ◌∙◌, ap, sym, append_assoc, append-nil, List, ℕ, [], ◌++◌}
+
+-- the last of some texts, which nothing follows
+one-more : (old a t u : List ℕ) → t ≡ old ++ a → (b : List ℕ) → u ≡ t ++ b → u ≡ old ++ (a ++ b)
+one-more old a t u is b more = more ∙ ap (λ (front : List ℕ). front ++ b) is ∙ append_assoc old a b
+
+-- two texts
+pub two : (old a b t u : List ℕ) → t ≡ old ++ a → u ≡ t ++ b → u ≡ old ++ (a ++ (b ++ []))
+two old a b t u is more = one-more old a t u is b more ∙ ap (λ (back : List ℕ). old ++ (a ++ back)) (sym (append-nil b))
+
+-- a text of two, and one more
+pub two-and : (old a b c t u : List ℕ) → t ≡ old ++ (a ++ (b ++ [])) → u ≡ t ++ c → u ≡ old ++ (a ++ (b ++ (c ++ [])))
+two-and old a b c t u is more =
+    two old (a ++ (b ++ [])) c t u is more
+    ∙ ap (λ (back : List ℕ). old ++ back) (append_assoc a (b ++ []) (c ++ [])
+    ∙ ap (λ (back : List ℕ). a ++ back) (append_assoc b [] (c ++ [])))
+
+-- three texts
+pub three : (old a b c t u v : List ℕ) → t ≡ old ++ a → u ≡ t ++ b → v ≡ u ++ c → v ≡ old ++ (a ++ (b ++ (c ++ [])))
+three old a b c t u v one next last = two-and old a b c u v (two old a b t u one next) last
+
+-- four texts
+pub four : (old a b c d t u v w : List ℕ) → t ≡ old ++ a → u ≡ t ++ b → v ≡ u ++ c → w ≡ v ++ d →
+    w ≡ old ++ (a ++ (b ++ (c ++ (d ++ []))))
+four old a b c d t u v w one next then last =
+    one-more old (a ++ (b ++ (c ++ []))) v w (three old a b c t u v one next then) d last
+    ∙ ap (λ (back : List ℕ). old ++ back) (append_assoc a (b ++ (c ++ [])) d
+    ∙ ap (λ (back : List ℕ). a ++ back) (append_assoc b (c ++ []) d
+    ∙ ap (λ (back : List ℕ). b ++ back) (append_assoc c [] d ∙ ap (λ (back : List ℕ). c ++ back) (sym (append-nil d)))))

@@ -1,0 +1,12 @@
+use Rattle.std.proofs.Common.{◌≡◌, ◌++◌, take}
+use Rattle.std.specs.List.{flat_map}
+use Rattle.sm_script.specs.Names.{Names}
+use Rattle.sm_script.specs.Tables.{Keeps}
+use Rattle.script_tales.specs.LossTexts.{handed_text}
+use Rattle.script_tales.proofs.losses.push_handings.Given as goal
+
+-- those so far
+abbrev pub invariant-loop-above : goal.invariant-loop-above
+invariant-loop-above l = (names : Names) → Keeps l.tables names →
+    l.text.items
+    ≡ l.initial.text.items ++ flat_map (handed_text names l.way l.taken.items) (take l.above-index l.taken.items)

@@ -1,0 +1,10 @@
+use Rattle.std.proofs.Common.{◌≡◌, ◌++◌, take}
+use Rattle.std.specs.List.{flat_map}
+use Rattle.sm_script.specs.Names.{Names}
+use Rattle.sm_script.specs.Tables.{Keeps}
+use Rattle.sm_script.specs.Texts.{node_text}
+use Rattle.script_tales.proofs.words.push_nodes.Given as goal
+
+abbrev pub invariant-loop-node : goal.invariant-loop-node
+invariant-loop-node l = (names : Names) → Keeps l.tables names →
+    l.text.items ≡ l.initial.text.items ++ flat_map (node_text names) (take l.node-index l.nodes)

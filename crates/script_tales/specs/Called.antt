@@ -1,0 +1,38 @@
+-- What clients and nodes are called, as labels stand for them.
+use Rattle.std.specs.Prelude.{ℕ, ◌≡◌, ◌==◌, if◌then◌else◌, List, [], map, Option, Some, None}
+use Rattle.std.specs.Map.{lookup}
+use Rattle.sm_names.specs.declared.keys.NodeKey.{NodeKey}
+use Rattle.sm_names.specs.Sameness.{same_key}
+use Rattle.script_lines.specs.declared.label.Label.{Label}
+use Rattle.script_lines.specs.Labels.{same_label, text_of_label}
+use Rattle.sm_script.specs.Names.{Names, Place}
+use Rattle.sm_script.specs.Scenes.{Scene}
+use Rattle.sm_script.specs.Sessions.{IsAt}
+use Rattle.script_tales.specs.declared.labels.Labels.{Labels}
+use Rattle.script_tales.specs.declared.teller.Teller.{Teller}
+
+-- the label of the client, the last that it got
+abbrev pub client_label : Names → ℕ → Option Label
+client_label names client =
+    lookup (λ other. other == client) (map (λ (c : Label × ℕ). (c.1, c.0)) names.clients)
+
+-- the label that the node got last: that of its birth, or the last under which its end was collected
+abbrev pub last_label : Names → NodeKey → Option Label
+last_label names node =
+    lookup (λ other. same_key other node) (map (λ (n : Label × Place). (n.1.0, n.0)) names.nodes)
+
+-- the last label, where it is another than the first
+abbrev pub other_text : Option Label → Option Label → List ℕ
+other_text None first = []
+other_text (Some last) None = text_of_label last
+other_text (Some last) (Some first) = if same_label last first then [] else text_of_label last
+
+-- clients and nodes are called as the names say
+pub record Calls (labels : Labels) (names : Names) : Type 0 where
+  pub clients : (client : ℕ) → lookup (λ other. client == other) labels.clients.entries ≡ client_label names client
+  pub nodes : (node : NodeKey) → lookup (same_key node) labels.nodes.entries ≡ last_label names node
+
+-- the teller has come so far, and calls all by what the labels stand for
+pub record Knows (teller : Teller) (scene : Scene) : Type 0 where
+  pub is_at : IsAt teller.session scene
+  pub calls : Calls teller.labels scene.names

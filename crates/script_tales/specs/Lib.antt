@@ -1,0 +1,4 @@
+pub mod Called
+pub mod EventTexts
+pub mod FactTexts
+pub mod LossTexts
