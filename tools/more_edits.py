@@ -5,9 +5,9 @@
 
 With no NAME it tries those of every crate; NAME/EDIT.edit is one edit, of more-edits/ or of must-fail/. LANES (2) copies
 of the repository take a crate each. A crate is proved first, over what stands in its out/. Then one check makes many
-edits at once, at most one of each function: an edit is refused if its own function is not proved, since no other
-function's proof sees that body. An edit of a contract or of a definition, and one that such a check does not decide, is
-tried alone, in 10 to 40 seconds. The last line counts; the status is 1 if an edit is not refused.
+edits at once, at most one of each function: an edit is refused if its own function is not proved, and calls none that is
+not. No other function's proof sees that body. What is left is tried in further checks without those decided, and at last
+alone, in 10 to 40 seconds, as is each edit of a contract or a definition. The last line counts; the status is 1 if an edit is not refused.
 """
 import os
 import pathlib
@@ -25,7 +25,7 @@ from edits_apply import CRATES, DoesNotApply, edited, named
 ROOT = CRATES.parent
 RT = os.environ.get("RT", "rt")
 FUNCTION = re.compile(r"^(\s*)(?:pub(?:\([^)]*\))?\s+)?(?:const\s+)?(?:unsafe\s+)?(?:extern\s+\"C\"\s+)?fn\s+(\w+)")
-NOT_PROVED = re.compile(r"^fn (\S+): (?:not proved|no proof)", re.M)
+NOT_PROVED = re.compile(r"^fn (\S+): (?:not proved|no proof)(?!.*\bit calls\b)", re.M)
 
 
 def function_of(path, text, old):
@@ -148,11 +148,14 @@ class Crate:
                     rounds.append(([(edit, names)], set(names)))
         decided = {}
         for chosen, _ in rounds:
-            if len(chosen) > 1:
+            while len(chosen) > 1:
                 now = self.together(chosen)
                 for edit, text in now.items():
                     say(self.name, edit, text)
                 decided.update(now)
+                chosen = [it for it in chosen if it[0] not in decided]
+                if not now:
+                    break
         for edit in self.edits:
             if edit not in decided:
                 say(self.name, edit, self.alone(edit))

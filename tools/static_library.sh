@@ -25,9 +25,15 @@ uses_of() { # name
     sed -n "s/^$1\( [^:]*\)\{0,1\}://p" "$(git rev-parse --show-toplevel)/crates.txt"
 }
 
-# Those of `below`, one or more words, and the crates that they use, each once.
+# Those of `below`, one or more words, and all crates below them, each once.
 all_of() { # crates below
-    for upper in $1; do echo "$upper $(uses_of "$upper")"; done | tr ' ' '\n' | sort -u
+    found=$(echo "$1" | tr ' ' '\n' | sort -u)
+    while :; do
+        more=$(for upper in $found; do echo "$upper $(uses_of "$upper")"; done | tr ' ' '\n' | sed '/^$/d' | sort -u)
+        [ "$more" != "$found" ] || break
+        found=$more
+    done
+    echo "$found"
 }
 
 # Proves the crate in the folder and lowers it, over libraries that stand in out/ or in the toolchain's folder.
