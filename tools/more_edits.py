@@ -7,7 +7,8 @@ With no NAME it tries those of every crate; NAME/EDIT.edit is one edit, of more-
 of the repository take a crate each. A crate is proved first, over what stands in its out/. Then one check makes many
 edits at once, at most one of each function: an edit is refused if its own function is not proved, and calls none that is
 not. No other function's proof sees that body. What is left is tried in further checks without those decided, and at last
-alone, in 10 to 40 seconds, as is each edit of a contract or a definition. The last line counts; the status is 1 if an edit is not refused.
+alone, in 10 to 40 seconds, as is each edit of a contract or a definition. The last line counts; the status is 1 if an edit
+is not refused.
 """
 import os
 import pathlib
