@@ -9,6 +9,8 @@ edits at once, at most one of each function: an edit is refused if its own funct
 not. No other function's proof sees that body. What is left is tried in further checks without those decided, and at last
 alone, in 10 to 40 seconds, as is each edit of a contract or a definition. The last line counts; the status is 1 if an edit
 is not refused.
+
+In the environment, RT names another command than rt, and EDITS_ROOM the folder that the copies are made in.
 """
 import os
 import pathlib
