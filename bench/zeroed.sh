@@ -26,7 +26,7 @@ clang=$kit/toolchain/bin/clang
 "$clang" -x ir -S -emit-llvm -O0 -Xclang -disable-llvm-passes module.bc -o module.ll
 python3 - <<'END'
 import re
-OURS = re.compile(r'^define.*@"?(lifetime_core|alloc_event|forest_steps|forest_store|buffer_holds|buffer_pool|trackers|node_table|failure_domains)::')
+OURS = re.compile(r'^define.*@"?(lifetime_core|core_state|alloc_event|forest_steps|forest_store|buffer_holds|buffer_pool|trackers|node_table|failure_domains)::')
 ZEROED = re.compile(r"\s+call void @llvm\.memset\.p0\.i64\(ptr %r\d+, i8 0,")
 ours = entry = False
 with open("module.ll") as old, open("cut.ll", "w") as new:

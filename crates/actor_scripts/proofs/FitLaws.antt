@@ -1,101 +1,126 @@
 -- What a step's call is made on takes it.
-use Rattle.std.proofs.Common.{ℕ, ◌≡◌, refl, sym, subst, List, Option, Some, None}
-use Rattle.std.specs.Prelude.{IfSome, slice_get}
+use Rattle.std.proofs.Common.{ℕ, ◌≡◌, refl, sym, subst, Bool, true, false, if◌then◌else◌, List, Option, Some, None}
+use Rattle.std.specs.Prelude.{IfSome}
 use Rattle.std.specs.Option.{option_and_then, option_map}
+use Rattle.sm_names.specs.declared.call_parts.Argument.{Argument}
+use Rattle.sm_names.specs.declared.call_parts.CallParts.{CallParts}
+use Rattle.sm_names.specs.declared.call_parts.Object.{Object as Named}
+use Rattle.sm_names.specs.declared.call_parts.Product.{Product}
+use Rattle.sm_names.specs.declared.call_parts.Target.{Target}
+use Rattle.sm_names.specs.declared.call_rows.CallKind.{CallKind}
+use Rattle.sm_names.specs.declared.keys.BufferName.{BufferName}
+use Rattle.sm_names.specs.declared.keys.NodeKey.{NodeKey}
+use Rattle.sm_names.specs.declared.keys.Strength.{Strength}
 use Rattle.sm_names.specs.declared.messages.Call.{Call}
-use Rattle.actor_scripts.specs.declared.step.BufferVerb.{BufferVerb}
+use Rattle.sm_names.specs.CallRows.{call_of, parts, row_of}
+use Rattle.sm_names.proofs.CallLaws.{made}
+use Rattle.script_lines.specs.declared.line.Request.{Request}
 use Rattle.actor_scripts.specs.declared.step.Step.{Step}
-use Rattle.actor_scripts.specs.declared.step.Verb.{Verb}
+use Rattle.actor_scripts.specs.declared.step.StepBuffer.{StepBuffer}
 use Rattle.actor_scripts.specs.declared.object.StepCall.{StepCall}
 use Rattle.actor_scripts.specs.declared.object.Object.{Object}
-use Rattle.actor_scripts.specs.ActorStates.{Fits, FitsCollection, FitsHandle, FitsThere, FitsObject, FitsToken, Known, slot_call, call_at, end_call, end_slot, handle_call, handle_slot, verb_strength, object_at}
+use Rattle.actor_scripts.specs.ActorStates.{Fits, FitsACollection, FitsAToken, FitsNone, FitsObject, FitsThere, Known, NamesHandle, NamesNode, NamesNothing, argument_at, argument_held, asked_strength, bare_call, call_at, call_for, call_on, end_slot, handle_slot, is_join, object_at, slot_call, target_of, with_strength}
 
 -- what holds of the one holds of the other
 pub takes : {A : Type 0} (P : A → Type 0) (made call : A) → Some made ≡ Some call → P made → P call
 takes P made call is so = let same : made ≡ call = cc in subst P same so
 
--- and where it was made of a client
-pub takes_for : (P : Call → Type 0) (f : ℕ → Call) (to : Option ℕ) (call : Call) → option_map f to ≡ Some call → ((n : ℕ) → P (f n)) →
-    P call
-takes_for P f None call is so = cc
-takes_for P f (Some n) call is so = takes P (f n) call is (so n)
+-- ---- the object that the call is made on
 
--- an end that is asked takes the call
-pub fits_end : (clients : List ℕ) (verb : Verb) (object : Object) (call : Call) → end_call clients verb object ≡ Some call →
-    FitsObject object call
-fits_end clients Verb.Sync (Object.Token key collection) call is = takes (FitsToken key) (Call.Sync key) call is refl
-fits_end clients Verb.Sync (Object.Collection key collection) call is = takes (FitsCollection key) (Call.Sync key) call is refl
-fits_end clients Verb.Sync (Object.Handle buffer strength) call is = cc
-fits_end clients Verb.Bind (Object.Token key collection) call is = takes (FitsToken key) (Call.Bind key) call is refl
-fits_end clients Verb.Bind (Object.Collection key collection) call is = cc
-fits_end clients Verb.Bind (Object.Handle buffer strength) call is = cc
-fits_end clients Verb.Dispensable (Object.Token key collection) call is = takes (FitsToken key) (Call.SetDispensable key) call is refl
-fits_end clients Verb.Dispensable (Object.Collection key collection) call is = cc
-fits_end clients Verb.Dispensable (Object.Handle buffer strength) call is = cc
-fits_end clients Verb.Weak (Object.Token key collection) call is = takes (FitsToken key) (Call.SetWeak key) call is refl
-fits_end clients Verb.Weak (Object.Collection key collection) call is = takes (FitsCollection key) (Call.SetWeak key) call is refl
-fits_end clients Verb.Weak (Object.Handle buffer strength) call is = cc
-fits_end clients (Verb.WeakOk children) (Object.Token key collection) call is =
-    takes (FitsToken key) (Call.SetWeakOk key children) call is refl
-fits_end clients (Verb.WeakOk children) (Object.Collection key collection) call is =
-    takes (FitsCollection key) (Call.SetWeakOk key children) call is refl
-fits_end clients (Verb.WeakOk children) (Object.Handle buffer strength) call is = cc
-fits_end clients Verb.Check (Object.Token key collection) call is = cc
-fits_end clients Verb.Check (Object.Collection key collection) call is = takes (FitsCollection key) (Call.Check key) call is refl
-fits_end clients Verb.Check (Object.Handle buffer strength) call is = cc
-fits_end clients Verb.Take (Object.Token key collection) call is = cc
-fits_end clients Verb.Take (Object.Collection key collection) call is = takes (FitsCollection key) (Call.Take key) call is refl
-fits_end clients Verb.Take (Object.Handle buffer strength) call is = cc
-fits_end clients Verb.Release (Object.Token key collection) call is = takes (FitsToken key) (Call.Release key) call is refl
-fits_end clients Verb.Release (Object.Collection key collection) call is = takes (FitsCollection key) (Call.Release key) call is refl
-fits_end clients Verb.Release (Object.Handle buffer strength) call is = cc
-fits_end clients Verb.Close (Object.Token key collection) call is = takes (FitsToken key) (Call.Close key) call is refl
-fits_end clients Verb.Close (Object.Collection key collection) call is = takes (FitsCollection key) (Call.Close key) call is refl
-fits_end clients Verb.Close (Object.Handle buffer strength) call is = cc
-fits_end clients (Verb.Duplicate child) (Object.Token key collection) call is = takes (FitsToken key) (Call.Duplicate key) call is refl
-fits_end clients (Verb.Duplicate child) (Object.Collection key collection) call is = cc
-fits_end clients (Verb.Duplicate child) (Object.Handle buffer strength) call is = cc
-fits_end clients (Verb.Attach child) (Object.Token key collection) call is = cc
-fits_end clients (Verb.Attach child) (Object.Collection key collection) call is =
-    takes (FitsCollection key) (Call.AttachToken key) call is refl
-fits_end clients (Verb.Attach child) (Object.Handle buffer strength) call is = cc
-fits_end clients (Verb.Give to) (Object.Token key collection) call is =
-    takes_for (FitsToken key) (Call.Give key) (slice_get clients to) call is (λ n. refl)
-fits_end clients (Verb.Give to) (Object.Collection key collection) call is =
-    takes_for (FitsCollection key) (Call.Give key) (slice_get clients to) call is (λ n. refl)
-fits_end clients (Verb.Give to) (Object.Handle buffer strength) call is = cc
-fits_end clients (Verb.Constrain constraints) (Object.Token key collection) call is = cc
-fits_end clients (Verb.Constrain constraints) (Object.Collection key collection) call is =
-    takes (FitsCollection key) (Call.SetConstraints key constraints) call is refl
-fits_end clients (Verb.Constrain constraints) (Object.Handle buffer strength) call is = cc
-fits_end clients (Verb.TrackNode tracker) (Object.Token key collection) call is = takes (FitsToken key) (Call.TrackNode key) call is refl
-fits_end clients (Verb.TrackNode tracker) (Object.Collection key collection) call is =
-    takes (FitsCollection key) (Call.TrackNode key) call is refl
-fits_end clients (Verb.TrackNode tracker) (Object.Handle buffer strength) call is = cc
-fits_end clients (Verb.TrackLifetime most tracker) (Object.Token key collection) call is = cc
-fits_end clients (Verb.TrackLifetime most tracker) (Object.Collection key collection) call is =
-    takes (FitsCollection key) (Call.TrackLifetime key most) call is refl
-fits_end clients (Verb.TrackLifetime most tracker) (Object.Handle buffer strength) call is = cc
+-- a token is one for calls on tokens, and for those on ends
+token_target : (key : NodeKey) (collection : ℕ) (on : Target) (target : Named NodeKey BufferName) →
+    target_of on (Object.Token key collection) ≡ Some target → FitsAToken key on target
+token_target key collection Target.Token target is = takes (NamesNode key) (Named.Node key) target is refl
+token_target key collection Target.End target is = takes (NamesNode key) (Named.Node key) target is refl
+token_target key collection _ target is = cc
 
--- so does a handle
-pub fits_handle : (clients : List ℕ) (verb : BufferVerb) (object : Object) (call : Call) → handle_call clients verb object ≡ Some call →
+-- so is a collection
+collection_target : (key : NodeKey) (collection : ℕ) (on : Target) (target : Named NodeKey BufferName) →
+    target_of on (Object.Collection key collection) ≡ Some target → FitsACollection key on target
+collection_target key collection Target.Collection target is = takes (NamesNode key) (Named.Node key) target is refl
+collection_target key collection Target.End target is = takes (NamesNode key) (Named.Node key) target is refl
+collection_target key collection _ target is = cc
+
+-- a handle is asked for by its own strength
+own_strength : (buffer : BufferName) (held : Strength) (argument : Argument ℕ) →
+    NamesHandle buffer held (Named.Buffer buffer) (with_strength held argument)
+own_strength buffer held (Argument.Strength strength) = (refl, refl)
+own_strength buffer held (Argument.Gift strength to) = (refl, refl)
+own_strength buffer held _ = refl
+
+-- so it is one for calls on handles
+handle_target : (buffer : BufferName) (held : Strength) (argument : Argument ℕ) (on : Target) (target : Named NodeKey BufferName) →
+    target_of on (Object.Handle buffer held) ≡ Some target → NamesHandle buffer held target (with_strength held argument)
+handle_target buffer held argument Target.Handle target is =
+    takes (λ (t : Named NodeKey BufferName). NamesHandle buffer held t (with_strength held argument)) (Named.Buffer buffer) target is
+    (own_strength buffer held argument)
+handle_target buffer held argument _ target is = cc
+
+-- ---- calls
+
+-- the object takes a call that is made of parts for it
+fits_parts : (object : Object) (kind : CallKind) (target : Named NodeKey BufferName) (argument : Argument ℕ) (call : Call) →
+    target_of (row_of kind).on object ≡ Some target → call_of (parts kind target (argument_held object argument)) ≡ Some call →
     FitsObject object call
-fits_handle clients (BufferVerb.Duplicate strength) (Object.Handle buffer held) call is =
-    takes (FitsHandle buffer held) (Call.DupHandle buffer held) call is (refl, refl)
-fits_handle clients (BufferVerb.Drop strength) (Object.Handle buffer held) call is =
-    takes (FitsHandle buffer held) (Call.DropHandle buffer held) call is (refl, refl)
-fits_handle clients (BufferVerb.Give strength to) (Object.Handle buffer held) call is =
-    takes_for (FitsHandle buffer held) (Call.GiveHandle buffer held) (slice_get clients to) call is (λ n. (refl, refl))
-fits_handle clients (BufferVerb.Track tracker) (Object.Handle buffer held) call is =
-    takes (FitsHandle buffer held) (Call.TrackWeak buffer) call is refl
-fits_handle clients (BufferVerb.Duplicate strength) (Object.Token key collection) call is = cc
-fits_handle clients (BufferVerb.Drop strength) (Object.Token key collection) call is = cc
-fits_handle clients (BufferVerb.Give strength to) (Object.Token key collection) call is = cc
-fits_handle clients (BufferVerb.Track tracker) (Object.Token key collection) call is = cc
-fits_handle clients (BufferVerb.Duplicate strength) (Object.Collection key collection) call is = cc
-fits_handle clients (BufferVerb.Drop strength) (Object.Collection key collection) call is = cc
-fits_handle clients (BufferVerb.Give strength to) (Object.Collection key collection) call is = cc
-fits_handle clients (BufferVerb.Track tracker) (Object.Collection key collection) call is = cc
+fits_parts (Object.Token key collection) kind target argument call on is =
+    subst (λ (p : CallParts). FitsAToken key (row_of p.kind).on p.object) (sym (made kind target argument call is))
+    (token_target key collection (row_of kind).on target on)
+fits_parts (Object.Collection key collection) kind target argument call on is =
+    subst (λ (p : CallParts). FitsACollection key (row_of p.kind).on p.object) (sym (made kind target argument call is))
+    (collection_target key collection (row_of kind).on target on)
+fits_parts (Object.Handle buffer held) kind target argument call on is =
+    subst (λ (p : CallParts). NamesHandle buffer held p.object p.argument)
+    (sym (made kind target (with_strength held argument) call is)) (handle_target buffer held argument (row_of kind).on target on)
+
+module _ (clients : List ℕ) (r : Request ℕ StepBuffer) where
+  -- where the clients that it names are there
+  fits_argument : (object : Object) (target : Named NodeKey BufferName) → target_of (row_of r.kind).on object ≡ Some target →
+      (said : Option (Argument ℕ)) (call : Call) →
+      option_and_then (λ argument. call_of (parts r.kind target (argument_held object argument))) said ≡ Some call →
+      FitsObject object call
+  fits_argument object target on None call is = cc
+  fits_argument object target on (Some argument) call is = fits_parts object r.kind target argument call on is
+
+  -- and where it is made on such objects
+  fits_target : (object : Object) (target : Option (Named NodeKey BufferName)) → target_of (row_of r.kind).on object ≡ target →
+      (call : Call) → option_and_then (λ t. option_and_then (λ argument. call_of (parts r.kind t (argument_held object argument)))
+      (argument_at clients r.argument)) target ≡ Some call → FitsObject object call
+  fits_target object None on call is = cc
+  fits_target object (Some target) on call is = fits_argument object target on (argument_at clients r.argument) call is
+
+  -- an object takes the call that is asked for on it
+  pub fits_on : (object : Object) (call : Call) → call_on clients r object ≡ Some call → FitsObject object call
+  fits_on object call is = fits_target object (target_of (row_of r.kind).on object) refl call is
+
+  -- a call that is no join and names nothing is made on nothing
+  no_join : (product : Product) → is_join product ≡ false → NamesNothing product Named.Nothing
+  no_join Product.Client is = cc
+  no_join _ is = tt
+
+  bare_argument : is_join (row_of r.kind).brings ≡ false → (said : Option (Argument ℕ)) (call : Call) →
+      option_and_then (λ argument. call_of (parts r.kind Named.Nothing argument)) said ≡ Some call → FitsNone call
+  bare_argument apart None call is = cc
+  bare_argument apart (Some argument) call is =
+      subst (λ (p : CallParts). NamesNothing (row_of p.kind).brings p.object) (sym (made r.kind Named.Nothing argument call is))
+      (no_join (row_of r.kind).brings apart)
+
+  bare_if : (join : Bool) → is_join (row_of r.kind).brings ≡ join → (call : Call) →
+      (if join then None else option_and_then (λ argument. call_of (parts r.kind Named.Nothing argument)) (argument_at clients r.argument))
+      ≡ Some call → FitsNone call
+  bare_if true is call made = cc
+  bare_if false is call made = bare_argument is (argument_at clients r.argument) call made
+
+  -- so is the call that is asked for on nothing
+  pub fits_bare : (call : Call) → bare_call clients r ≡ Some call → FitsNone call
+  fits_bare call is = bare_if (is_join (row_of r.kind).brings) refl call is
+
+module _ (objects : List (Option Object)) where
+  -- a call on nothing
+  pub fits_nothing : (made : Option Call) (asked : StepCall) → ((call : Call) → made ≡ Some call → FitsNone call) →
+      option_map (λ (c : Call). record { call = c; slot = None }) made ≡ Some asked → Fits objects asked.slot asked.call
+  fits_nothing None asked fits is = cc
+  fits_nothing (Some call) asked fits is =
+      takes (λ (a : StepCall). Fits objects a.slot a.call) (record { call = call; slot = None }) asked is (fits call refl)
 
 module _ (objects : List (Option Object)) (f : Object → Option Call) (fits : (object : Object) (call : Call) → f object ≡ Some call →
     FitsObject object call) where
@@ -120,19 +145,21 @@ module _ (objects : List (Option Object)) (f : Object → Option Call) (fits : (
   fits_slot None asked so = cc
   fits_slot (Some slot) asked so = fits_lying slot (object_at objects slot) asked refl so
 
+-- the call that is asked for, by what it is to be made on
+fits_asked : (clients : List ℕ) (state : Known) (r : Request ℕ StepBuffer) (object : Named ℕ StepBuffer) (asked : StepCall) →
+    call_for clients state r object ≡ Some asked → Fits state.objects asked.slot asked.call
+fits_asked clients state r Named.Nothing asked is =
+    fits_nothing state.objects (bare_call clients r) asked (fits_bare clients r) is
+fits_asked clients state r (Named.Node node) asked is =
+    fits_slot state.objects (call_on clients r) (fits_on clients r) (end_slot state node) asked is
+fits_asked clients state r (Named.Buffer buffer) asked is =
+    fits_slot state.objects (call_on clients r) (fits_on clients r)
+    (handle_slot state (asked_strength r.argument) buffer.node buffer.index) asked is
+
 -- the call of a step
 pub fits_step : (clients : List ℕ) (state : Known) (step : Step) (asked : StepCall) → call_at clients state step ≡ Some asked →
     Fits state.objects asked.slot asked.call
-fits_step clients state Step.Shut asked is =
-    takes (λ (a : StepCall). Fits state.objects a.slot a.call) (record { call = Call.Shut; slot = None }) asked is tt
-fits_step clients state (Step.Open root) asked is =
-    takes (λ (a : StepCall). Fits state.objects a.slot a.call) (record { call = Call.OpenRoot; slot = None }) asked is tt
-fits_step clients state (Step.Collect node) asked is =
-    takes (λ (a : StepCall). Fits state.objects a.slot a.call) (record { call = Call.Collect; slot = None }) asked is tt
-fits_step clients state (Step.Ask verb node) asked is =
-    fits_slot state.objects (end_call clients verb) (fits_end clients verb) (end_slot state node) asked is
-fits_step clients state (Step.AskBuffer verb node index) asked is =
-    fits_slot state.objects (handle_call clients verb) (fits_handle clients verb) (handle_slot state (verb_strength verb) node index) asked is
+fits_step clients state (Step.Ask r) asked is = fits_asked clients state r r.object asked is
 fits_step clients state (Step.Poll tracker) asked is = cc
 
 -- if it makes one

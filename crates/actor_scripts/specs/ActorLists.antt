@@ -58,11 +58,7 @@ step_effect so_far client line = option_and_then
 abbrev pub line_effect : Reading → Line → Option Reading
 line_effect so_far Line.Nothing = Some so_far
 line_effect so_far (Line.Join client) = join_effect so_far client
-line_effect so_far (Line.Shut client) = step_effect so_far client (Line.Shut client)
-line_effect so_far (Line.Open client root) = step_effect so_far client (Line.Open client root)
-line_effect so_far (Line.Collect client node) = step_effect so_far client (Line.Collect client node)
-line_effect so_far (Line.Ask client verb node) = step_effect so_far client (Line.Ask client verb node)
-line_effect so_far (Line.AskBuffer client verb buffer) = step_effect so_far client (Line.AskBuffer client verb buffer)
+line_effect so_far (Line.Ask client request) = step_effect so_far client (Line.Ask client request)
 line_effect so_far (Line.Poll client tracker) = step_effect so_far client (Line.Poll client tracker)
 line_effect so_far (Line.Show view) = None
 

@@ -3,16 +3,21 @@ use Rattle.std.specs.Prelude.{ℕ, zero, suc, ◌+◌, Bool, true, false, ◌==�
 use Rattle.std.specs.Int.{bit_at}
 use Rattle.std.specs.Option.{option_and_then, option_map}
 use Rattle.sm_names.specs.declared.rules.TheConstants.{MAX_BUFFERS}
+use Rattle.sm_names.specs.declared.call_parts.Argument.{Argument}
+use Rattle.sm_names.specs.declared.call_parts.Object.{Object as Named}
+use Rattle.sm_names.specs.declared.call_parts.Product.{Product}
+use Rattle.sm_names.specs.declared.call_parts.Target.{Target}
 use Rattle.sm_names.specs.declared.keys.BufferName.{BufferName}
 use Rattle.sm_names.specs.declared.keys.Kind.{Kind}
 use Rattle.sm_names.specs.declared.keys.NodeKey.{NodeKey}
 use Rattle.sm_names.specs.declared.keys.Strength.{Strength}
 use Rattle.sm_names.specs.declared.messages.Call.{Call}
 use Rattle.sm_names.specs.declared.messages.Reply.{Reply}
+use Rattle.sm_names.specs.CallRows.{brings_end, call_of, is_tracker, parts, parts_of, row_for, row_of}
 use Rattle.sm_names.specs.Sameness.{same_buffer, same_key}
-use Rattle.actor_scripts.specs.declared.step.BufferVerb.{BufferVerb}
+use Rattle.script_lines.specs.declared.line.Request.{Request}
 use Rattle.actor_scripts.specs.declared.step.Step.{Step}
-use Rattle.actor_scripts.specs.declared.step.Verb.{Verb}
+use Rattle.actor_scripts.specs.declared.step.StepBuffer.{StepBuffer}
 use Rattle.actor_scripts.specs.declared.object.StepCall.{StepCall}
 use Rattle.actor_scripts.specs.declared.object.Object.{Object}
 
@@ -51,73 +56,69 @@ abbrev pub on_of : List (Option Object) → Option ℕ → Option Object
 on_of objects None = None
 on_of objects (Some slot) = object_at objects slot
 
--- the node, if the object is its token
-abbrev pub token_key : Object → Option NodeKey
-token_key (Object.Token key collection) = Some key
-token_key _ = None
+-- what else a call says, by clients: a label of a client is its place among all
+abbrev pub argument_at : List ℕ → Argument ℕ → Option (Argument ℕ)
+argument_at clients Argument.Nothing = Some Argument.Nothing
+argument_at clients (Argument.Client to) = option_map Argument.Client (slice_get clients to)
+argument_at clients (Argument.Children children) = Some (Argument.Children children)
+argument_at clients (Argument.Constraints constraints) = Some (Argument.Constraints constraints)
+argument_at clients (Argument.Most most) = Some (Argument.Most most)
+argument_at clients (Argument.Strength strength) = Some (Argument.Strength strength)
+argument_at clients (Argument.Gift strength to) = option_map (Argument.Gift strength) (slice_get clients to)
 
--- if it is its collection
-abbrev pub collection_key : Object → Option NodeKey
-collection_key (Object.Collection key collection) = Some key
-collection_key _ = None
+-- the strength that is said, as that of the handle
+abbrev pub with_strength : Strength → Argument ℕ → Argument ℕ
+with_strength held (Argument.Strength strength) = Argument.Strength held
+with_strength held (Argument.Gift strength to) = Argument.Gift held to
+with_strength held argument = argument
 
--- if it is its end of either kind
-abbrev pub end_key : Object → Option NodeKey
-end_key (Object.Token key collection) = Some key
-end_key (Object.Collection key collection) = Some key
-end_key (Object.Handle buffer strength) = None
+-- what is said of the object: a handle has its own strength
+abbrev pub argument_held : Object → Argument ℕ → Argument ℕ
+argument_held (Object.Handle buffer held) argument = with_strength held argument
+argument_held _ argument = argument
 
--- the call that the verb makes on the object, whatever labels it binds; a client's label is its place among all
-abbrev pub end_call : List ℕ → Verb → Object → Option Call
-end_call clients Verb.Sync object = option_map Call.Sync (end_key object)
-end_call clients Verb.Bind object = option_map Call.Bind (token_key object)
-end_call clients Verb.Dispensable object = option_map Call.SetDispensable (token_key object)
-end_call clients Verb.Weak object = option_map Call.SetWeak (end_key object)
-end_call clients (Verb.WeakOk children) object = option_map (λ key. Call.SetWeakOk key children) (end_key object)
-end_call clients Verb.Check object = option_map Call.Check (collection_key object)
-end_call clients Verb.Take object = option_map Call.Take (collection_key object)
-end_call clients Verb.Release object = option_map Call.Release (end_key object)
-end_call clients Verb.Close object = option_map Call.Close (end_key object)
-end_call clients (Verb.Duplicate child) object = option_map Call.Duplicate (token_key object)
-end_call clients (Verb.Attach child) object = option_map Call.AttachToken (collection_key object)
-end_call clients (Verb.Give to) object =
-    option_and_then (λ key. option_map (Call.Give key) (slice_get clients to)) (end_key object)
-end_call clients (Verb.Constrain constraints) object =
-    option_map (λ key. Call.SetConstraints key constraints) (collection_key object)
-end_call clients (Verb.TrackNode tracker) object = option_map Call.TrackNode (end_key object)
-end_call clients (Verb.TrackLifetime most tracker) object =
-    option_map (λ key. Call.TrackLifetime key most) (collection_key object)
+-- the object for a call that is made on such objects
+abbrev pub target_of : Target → Object → Option (Named NodeKey BufferName)
+target_of Target.Token (Object.Token key collection) = Some (Named.Node key)
+target_of Target.End (Object.Token key collection) = Some (Named.Node key)
+target_of Target.Collection (Object.Collection key collection) = Some (Named.Node key)
+target_of Target.End (Object.Collection key collection) = Some (Named.Node key)
+target_of Target.Handle (Object.Handle buffer strength) = Some (Named.Buffer buffer)
+target_of _ _ = None
 
--- the same of a handle
-abbrev pub handle_call : List ℕ → BufferVerb → Object → Option Call
-handle_call clients (BufferVerb.Duplicate strength) (Object.Handle buffer held) = Some (Call.DupHandle buffer held)
-handle_call clients (BufferVerb.Drop strength) (Object.Handle buffer held) = Some (Call.DropHandle buffer held)
-handle_call clients (BufferVerb.Give strength to) (Object.Handle buffer held) =
-    option_map (Call.GiveHandle buffer held) (slice_get clients to)
-handle_call clients (BufferVerb.Track tracker) (Object.Handle buffer held) = Some (Call.TrackWeak buffer)
-handle_call clients _ _ = None
+-- the call that is asked for on the object, whatever labels it binds
+abbrev pub call_on : List ℕ → Request ℕ StepBuffer → Object → Option Call
+call_on clients r object = option_and_then
+    (λ target. option_and_then (λ argument. call_of (parts r.kind target (argument_held object argument)))
+    (argument_at clients r.argument))
+    (target_of (row_of r.kind).on object)
 
--- the strength of the handle that the verb is for
-abbrev pub verb_strength : BufferVerb → Strength
-verb_strength (BufferVerb.Duplicate strength) = strength
-verb_strength (BufferVerb.Drop strength) = strength
-verb_strength (BufferVerb.Give strength to) = strength
-verb_strength (BufferVerb.Track tracker) = Strength.Weak
+-- a client is made
+abbrev pub is_join : Product → Bool
+is_join Product.Client = true
+is_join _ = false
+
+-- the call that is asked for on nothing: no actor joins
+abbrev pub bare_call : List ℕ → Request ℕ StepBuffer → Option Call
+bare_call clients r =
+    let call : Option Call = option_and_then (λ argument. call_of (parts r.kind Named.Nothing argument)) (argument_at clients r.argument) in
+    if is_join (row_of r.kind).brings then None else call
+
+-- the strength of the handle that is asked for: the call says so, or it is made on weak ones
+abbrev pub asked_strength : Argument ℕ → Strength
+asked_strength (Argument.Strength strength) = strength
+asked_strength (Argument.Gift strength to) = strength
+asked_strength _ = Strength.Weak
 
 -- the label that the step binds to a node
 abbrev pub node_label : Step → Option ℕ
-node_label (Step.Open root) = Some root
-node_label (Step.Collect node) = Some node
-node_label (Step.Ask (Verb.Duplicate child) node) = Some child
-node_label (Step.Ask (Verb.Attach child) node) = Some child
-node_label _ = None
+node_label (Step.Ask r) = if brings_end (row_of r.kind).brings then r.binds else None
+node_label (Step.Poll tracker) = None
 
 -- the label that it binds to a tracker
 abbrev pub tracker_label : Step → Option ℕ
-tracker_label (Step.Ask (Verb.TrackNode tracker) node) = Some tracker
-tracker_label (Step.Ask (Verb.TrackLifetime most tracker) node) = Some tracker
-tracker_label (Step.AskBuffer (BufferVerb.Track tracker) node index) = Some tracker
-tracker_label _ = None
+tracker_label (Step.Ask r) = if is_tracker (row_of r.kind).brings then r.binds else None
+tracker_label (Step.Poll tracker) = None
 
 -- a label stands for something already
 abbrev pub is_bound : {A : Type 0} → (ℕ → Option A) → Option ℕ → Bool
@@ -140,15 +141,19 @@ slot_call objects call slot =
     option_and_then (λ (object : Object). option_map (λ (c : Call). record { call = c; slot = Some slot }) (call object))
     (object_at objects slot)
 
+-- the call that is asked for, by what it is to be made on
+abbrev pub call_for : List ℕ → Known → Request ℕ StepBuffer → Named ℕ StepBuffer → Option StepCall
+call_for clients state r Named.Nothing =
+    option_map (λ (c : Call). record { call = c; slot = None }) (bare_call clients r)
+call_for clients state r (Named.Node node) =
+    option_and_then (slot_call state.objects (call_on clients r)) (end_slot state node)
+call_for clients state r (Named.Buffer buffer) =
+    option_and_then (slot_call state.objects (call_on clients r))
+    (handle_slot state (asked_strength r.argument) buffer.node buffer.index)
+
 -- the call of the step, whatever label it binds
 abbrev pub call_at : List ℕ → Known → Step → Option StepCall
-call_at clients state Step.Shut = Some (record { call = Call.Shut; slot = None })
-call_at clients state (Step.Open root) = Some (record { call = Call.OpenRoot; slot = None })
-call_at clients state (Step.Collect node) = Some (record { call = Call.Collect; slot = None })
-call_at clients state (Step.Ask verb node) =
-    option_and_then (slot_call state.objects (end_call clients verb)) (end_slot state node)
-call_at clients state (Step.AskBuffer verb node index) =
-    option_and_then (slot_call state.objects (handle_call clients verb)) (handle_slot state (verb_strength verb) node index)
+call_at clients state (Step.Ask r) = call_for clients state r r.object
 call_at clients state (Step.Poll tracker) = None
 
 -- the call that the step makes, or none where it is skipped: a label that it uses stands for nothing or for nothing of
@@ -312,40 +317,46 @@ objects_after objects asked reply =
 
 -- ---- which calls can be made on what
 
+-- the call names this node
+abbrev pub NamesNode : NodeKey → Named NodeKey BufferName → Type 0
+NamesNode key (Named.Node other) = other ≡ key
+NamesNode key _ = ⊥
+
+-- calls on such ends that name this node
+abbrev pub FitsAnyEnd : NodeKey → Target → Named NodeKey BufferName → Type 0
+FitsAnyEnd key Target.End object = NamesNode key object
+FitsAnyEnd key _ object = ⊥
+
+abbrev pub FitsAToken : NodeKey → Target → Named NodeKey BufferName → Type 0
+FitsAToken key Target.Token object = NamesNode key object
+FitsAToken key on object = FitsAnyEnd key on object
+
+abbrev pub FitsACollection : NodeKey → Target → Named NodeKey BufferName → Type 0
+FitsACollection key Target.Collection object = NamesNode key object
+FitsACollection key on object = FitsAnyEnd key on object
+
 -- an end of this node takes the call
 abbrev pub FitsEnd : NodeKey → Call → Type 0
-FitsEnd key (Call.Sync other) = other ≡ key
-FitsEnd key (Call.SetWeak other) = other ≡ key
-FitsEnd key (Call.SetWeakOk other children) = other ≡ key
-FitsEnd key (Call.TrackNode other) = other ≡ key
-FitsEnd key (Call.Give other to) = other ≡ key
-FitsEnd key (Call.Release other) = other ≡ key
-FitsEnd key (Call.Close other) = other ≡ key
-FitsEnd key _ = ⊥
+FitsEnd key call = FitsAnyEnd key (row_for call).on (parts_of call).object
 
 -- a token of it does
 abbrev pub FitsToken : NodeKey → Call → Type 0
-FitsToken key (Call.Bind other) = other ≡ key
-FitsToken key (Call.SetDispensable other) = other ≡ key
-FitsToken key (Call.Duplicate other) = other ≡ key
-FitsToken key call = FitsEnd key call
+FitsToken key call = FitsAToken key (row_for call).on (parts_of call).object
 
 -- a collection of it does
 abbrev pub FitsCollection : NodeKey → Call → Type 0
-FitsCollection key (Call.AttachToken other) = other ≡ key
-FitsCollection key (Call.SetConstraints other constraints) = other ≡ key
-FitsCollection key (Call.Check other) = other ≡ key
-FitsCollection key (Call.Take other) = other ≡ key
-FitsCollection key (Call.TrackLifetime other most) = other ≡ key
-FitsCollection key call = FitsEnd key call
+FitsCollection key call = FitsACollection key (row_for call).on (parts_of call).object
 
--- a handle of this name does
+-- the call names this buffer, and this strength if it says one
+abbrev pub NamesHandle : BufferName → Strength → Named NodeKey BufferName → Argument ℕ → Type 0
+NamesHandle buffer strength (Named.Buffer other) (Argument.Strength held) = (other ≡ buffer) × (held ≡ strength)
+NamesHandle buffer strength (Named.Buffer other) (Argument.Gift held to) = (other ≡ buffer) × (held ≡ strength)
+NamesHandle buffer strength (Named.Buffer other) _ = other ≡ buffer
+NamesHandle buffer strength _ _ = ⊥
+
+-- a handle of this name takes the call
 abbrev pub FitsHandle : BufferName → Strength → Call → Type 0
-FitsHandle buffer strength (Call.DupHandle other held) = (other ≡ buffer) × (held ≡ strength)
-FitsHandle buffer strength (Call.DropHandle other held) = (other ≡ buffer) × (held ≡ strength)
-FitsHandle buffer strength (Call.GiveHandle other held to) = (other ≡ buffer) × (held ≡ strength)
-FitsHandle buffer strength (Call.TrackWeak other) = other ≡ buffer
-FitsHandle buffer strength _ = ⊥
+FitsHandle buffer strength call = NamesHandle buffer strength (parts_of call).object (parts_of call).argument
 
 -- the object does
 abbrev pub FitsObject : Object → Call → Type 0
@@ -353,12 +364,15 @@ FitsObject (Object.Token key collection) call = FitsToken key call
 FitsObject (Object.Collection key collection) call = FitsCollection key call
 FitsObject (Object.Handle buffer strength) call = FitsHandle buffer strength call
 
--- the call is made on nothing
+-- a call on nothing, which makes no client
+abbrev pub NamesNothing : Product → Named NodeKey BufferName → Type 0
+NamesNothing Product.Client object = ⊥
+NamesNothing product Named.Nothing = ⊤
+NamesNothing product _ = ⊥
+
+-- the call is made on nothing, and it is no join
 abbrev pub FitsNone : Call → Type 0
-FitsNone Call.Shut = ⊤
-FitsNone Call.OpenRoot = ⊤
-FitsNone Call.Collect = ⊤
-FitsNone _ = ⊥
+FitsNone call = NamesNothing (row_for call).brings (parts_of call).object
 
 -- something lies there that takes the call
 abbrev pub FitsThere : Option Object → Call → Type 0

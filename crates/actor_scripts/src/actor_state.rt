@@ -1,15 +1,17 @@
 //! What an actor knows by the replies that it got.
 ghost use Rattle.std.specs.Prelude.{◌≡◌, ◌||◌, IfSome, OnOk};
-ghost use Rattle.actor_scripts.specs.ActorStates.{state_after, new_objects, handle_of as handle_told, handles_of_set, without_spent, with_node_label, with_object, with_objects, with_tracker_label, without_handle, without_object, step_call, call_at as call_told, end_slot as slot_of_end, handle_slot as slot_of_handle, is_bound as bound_to, node_label as label_of_node, nothing_known, on_of as lies_in, object_at as lies_at, objects_after, Fits, tracker_label as label_of_tracker};
+ghost use Rattle.actor_scripts.specs.ActorStates.{state_after, new_objects, handle_of as handle_told, handles_of_set, without_spent, with_node_label, with_object, with_objects, with_tracker_label, without_handle, without_object, step_call, call_at as call_told, call_on as on_object, slot_call as call_lying, end_slot as slot_of_end, handle_slot as slot_of_handle, is_bound as bound_to, node_label as label_of_node, nothing_known, on_of as lies_in, object_at as lies_at, objects_after, Fits, tracker_label as label_of_tracker};
 ghost use Rattle.actor_scripts.specs.Tables.{known};
 
-use crate::calls::{end_call, handle_call, node_label, tracker_label, verb_strength};
-use crate::object::{Object, StepCall};
+use crate::calls::{asked_strength, bare_call, call_on, node_label, tracker_label};
+use crate::object::{Object as Held, StepCall};
 use crate::queues::Queues;
 use crate::replies::{handle_of, new_place, new_tracker, spends_object};
-use crate::step::Step;
+use crate::step::{Step, StepBuffer};
+use script_lines::Request;
 use sm_names::{
-    BufferName, Call, ClientId, CollectionId, Kind, NodeKey, Reply, Strength, TrackerId, has_buffer,
+    BufferName, Call, ClientId, CollectionId, Kind, NodeKey, Object, Reply, Strength, TrackerId,
+    has_buffer,
 };
 use std::alloc::{AllocError, Global};
 use std::collections::HashMap;
@@ -25,7 +27,7 @@ pub(crate) const SET_BITS: u8 = 64;
 pub struct ActorState {
     nodes: HashMap<u32, (NodeKey, CollectionId)>,
     trackers: HashMap<u32, TrackerId>,
-    objects: Vec<Option<Object>>,
+    objects: Vec<Option<Held>>,
     // The slot of the newest object of each node.
     spots: HashMap<NodeKey, usize>,
     strong: Queues,
@@ -48,7 +50,7 @@ impl ActorState {
     }
 
     // What lies in the slot.
-    fn object_at(&self, slot: usize) -> Option<Object>
+    fn object_at(&self, slot: usize) -> Option<Held>
         ensures { result ≡ lies_at (known self.now).objects slot }
     {
         match self.objects.get(slot) {
@@ -111,39 +113,43 @@ impl ActorState {
         node || tracker
     }
 
+    // The call on what lies in the slot.
+    fn call_there(
+        &self,
+        clients: &[ClientId],
+        request: &Request<u32, StepBuffer>,
+        slot: usize,
+    ) -> Option<StepCall>
+        ensures { result
+            ≡ call_lying (known self.now).objects (on_object clients.now request.now) slot }
+    {
+        let call = call_on(clients, request, self.object_at(slot)?)?;
+        Some(StepCall {
+            call,
+            slot: Some(slot),
+        })
+    }
+
     // The call of the step, whatever label it binds.
     fn call_at(&self, clients: &[ClientId], step: Step) -> Option<StepCall>
         ensures { result ≡ call_told clients.now (known self.now) step }
     {
         match step {
-            Step::Shut => Some(StepCall {
-                call: Call::Shut,
-                slot: None,
-            }),
-            Step::Open { .. } => Some(StepCall {
-                call: Call::OpenRoot,
-                slot: None,
-            }),
-            Step::Collect { .. } => Some(StepCall {
-                call: Call::Collect,
-                slot: None,
-            }),
-            Step::Ask { verb, node } => {
-                let slot = self.end_slot(node)?;
-                let call = end_call(clients, verb, self.object_at(slot)?)?;
-                Some(StepCall {
-                    call,
-                    slot: Some(slot),
-                })
-            }
-            Step::AskBuffer { verb, node, index } => {
-                let slot = self.handle_slot(verb_strength(verb), node, index)?;
-                let call = handle_call(clients, verb, self.object_at(slot)?)?;
-                Some(StepCall {
-                    call,
-                    slot: Some(slot),
-                })
-            }
+            Step::Ask { request } => match request.object {
+                Object::Nothing => Some(StepCall {
+                    call: bare_call(clients, &request)?,
+                    slot: None,
+                }),
+                Object::Node(node) => {
+                    let slot = self.end_slot(node)?;
+                    self.call_there(clients, &request, slot)
+                }
+                Object::Buffer(buffer) => {
+                    let strength = asked_strength(&request.argument);
+                    let slot = self.handle_slot(strength, buffer.node, buffer.index)?;
+                    self.call_there(clients, &request, slot)
+                }
+            },
             Step::Poll { .. } => None,
         }
     }
@@ -199,7 +205,7 @@ impl ActorState {
     }
 
     // What the call is made on.
-    fn on(&self, slot: Option<usize>) -> Option<Object>
+    fn on(&self, slot: Option<usize>) -> Option<Held>
         ensures { result ≡ lies_in (known self.now).objects slot }
     {
         match slot {
@@ -246,17 +252,17 @@ impl ActorState {
     }
 
     // One more object, in the next slot.
-    fn push(&mut self, object: Object) -> Result<(), AllocError>
+    fn push(&mut self, object: Held) -> Result<(), AllocError>
         ensures { OnOk result (known self.new ≡ with_object (known self.old) object) }
     {
         let slot = self.objects.len();
         self.objects.push(Some(object))?;
         match object {
-            Object::Token { key, .. } | Object::Collection { key, .. } => {
+            Held::Token { key, .. } | Held::Collection { key, .. } => {
                 self.spots.insert(key, slot)?;
                 Ok(())
             }
-            Object::Handle { buffer, strength } => match strength {
+            Held::Handle { buffer, strength } => match strength {
                 Strength::Strong => self.strong.push(buffer, slot),
                 Strength::Weak => self.weak.push(buffer, slot),
             },
@@ -276,7 +282,7 @@ impl ActorState {
         'pushing: for index in 0..SET_BITS {
             if has_buffer(set, index) {
                 let buffer = BufferName { collection, index };
-                self.push(Object::Handle { buffer, strength })?;
+                self.push(Held::Handle { buffer, strength })?;
             }
         }
         Ok(())
@@ -285,7 +291,7 @@ impl ActorState {
     // The objects that the reply gives.
     fn add_new_objects(
         &mut self,
-        on: Option<Object>,
+        on: Option<Held>,
         call: &Call,
         reply: &Reply,
     ) -> Result<(), AllocError>
@@ -296,7 +302,7 @@ impl ActorState {
             (
                 Call::OpenRoot | Call::Duplicate(_) | Call::AttachToken(_),
                 Reply::Token { key, collection },
-            ) => self.push(Object::Token { key, collection }),
+            ) => self.push(Held::Token { key, collection }),
             (
                 Call::Collect,
                 Reply::Collected {
@@ -305,11 +311,11 @@ impl ActorState {
                     collection,
                 },
             ) => match kind {
-                Kind::Token => self.push(Object::Token { key, collection }),
-                Kind::Collection => self.push(Object::Collection { key, collection }),
+                Kind::Token => self.push(Held::Token { key, collection }),
+                Kind::Collection => self.push(Held::Collection { key, collection }),
             },
             (Call::Collect, Reply::CollectedHandle { buffer, strength }) => {
-                self.push(Object::Handle { buffer, strength })
+                self.push(Held::Handle { buffer, strength })
             }
             (
                 Call::Take(_),
@@ -320,11 +326,11 @@ impl ActorState {
                 },
             ) => self.push_handles(collection, strength, set),
             (Call::DupHandle(buffer, strength), Reply::Done) => {
-                self.push(Object::Handle { buffer, strength })
+                self.push(Held::Handle { buffer, strength })
             }
             (Call::Bind(_), Reply::Done) => match on {
-                Some(Object::Token { key, collection }) => {
-                    self.push(Object::Collection { key, collection })
+                Some(Held::Token { key, collection }) => {
+                    self.push(Held::Collection { key, collection })
                 }
                 _ => Ok(()),
             },

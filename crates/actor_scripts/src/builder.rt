@@ -68,11 +68,7 @@ impl ActorListBuilder {
         match line {
             Line::Nothing => Ok(()),
             Line::Join { client } => self.join(client),
-            Line::Shut { client } => self.add_step(client, line),
-            Line::Open { client, .. } => self.add_step(client, line),
-            Line::Collect { client, .. } => self.add_step(client, line),
             Line::Ask { client, .. } => self.add_step(client, line),
-            Line::AskBuffer { client, .. } => self.add_step(client, line),
             Line::Poll { client, .. } => self.add_step(client, line),
             Line::Show { .. } => Err(Halt::BadLine),
         }

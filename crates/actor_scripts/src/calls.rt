@@ -1,41 +1,14 @@
-//! The calls that verbs make on objects.
+//! The calls that steps make on objects.
 ghost use Rattle.std.specs.Prelude.{◌≡◌, slice_get};
-ghost use Rattle.actor_scripts.specs.ActorStates.{collection_key as key_of_collection, end_call as call_on_end, end_key as key_of_end, handle_call as call_on_handle, node_label as label_of_node, verb_strength as strength_told, token_key as key_of_token, tracker_label as label_of_tracker};
+ghost use Rattle.actor_scripts.specs.ActorStates.{argument_at as argument_told, argument_held as argument_of_handle, asked_strength as strength_told, bare_call as call_on_nothing, call_on as call_on_object, node_label as label_of_node, target_of as target_on, tracker_label as label_of_tracker};
 
-use crate::object::Object;
-use crate::step::{BufferVerb, Step, Verb};
-use sm_names::{Call, ClientId, NodeKey, Strength};
-
-// The node, if the object is its token.
-fn token_key(object: Object) -> Option<NodeKey>
-    ensures { result ≡ key_of_token object }
-{
-    match object {
-        Object::Token { key, .. } => Some(key),
-        _ => None,
-    }
-}
-
-// If it is its collection.
-fn collection_key(object: Object) -> Option<NodeKey>
-    ensures { result ≡ key_of_collection object }
-{
-    match object {
-        Object::Collection { key, .. } => Some(key),
-        _ => None,
-    }
-}
-
-// If it is its end of either kind.
-fn end_key(object: Object) -> Option<NodeKey>
-    ensures { result ≡ key_of_end object }
-{
-    match object {
-        Object::Token { key, .. } => Some(key),
-        Object::Collection { key, .. } => Some(key),
-        Object::Handle { .. } => None,
-    }
-}
+use crate::object::Object as Held;
+use crate::step::{Step, StepBuffer};
+use script_lines::Request;
+use sm_names::{
+    Argument, BufferName, Call, CallParts, ClientId, NodeKey, Object, Product, Strength, Target,
+    call_of, row_of,
+};
 
 // The client of this label.
 fn client_at(clients: &[ClientId], label: u32) -> Option<ClientId>
@@ -44,57 +17,95 @@ fn client_at(clients: &[ClientId], label: u32) -> Option<ClientId>
     clients.get(label as usize).copied()
 }
 
-/// The call that the verb makes on the object, whatever label it binds.
-pub(crate) fn end_call(clients: &[ClientId], verb: Verb, object: Object) -> Option<Call>
-    ensures { result ≡ call_on_end clients.now verb object }
+// What else the call says, by clients.
+fn argument_at(clients: &[ClientId], argument: Argument<u32>) -> Option<Argument<ClientId>>
+    ensures { result ≡ argument_told clients.now argument }
 {
-    Some(match verb {
-        Verb::Sync => Call::Sync(end_key(object)?),
-        Verb::Bind => Call::Bind(token_key(object)?),
-        Verb::Dispensable => Call::SetDispensable(token_key(object)?),
-        Verb::Weak => Call::SetWeak(end_key(object)?),
-        Verb::WeakOk { children } => Call::SetWeakOk(end_key(object)?, children),
-        Verb::Check => Call::Check(collection_key(object)?),
-        Verb::Take => Call::Take(collection_key(object)?),
-        Verb::Release => Call::Release(end_key(object)?),
-        Verb::Close => Call::Close(end_key(object)?),
-        Verb::Duplicate { .. } => Call::Duplicate(token_key(object)?),
-        Verb::Attach { .. } => Call::AttachToken(collection_key(object)?),
-        Verb::Give { to } => Call::Give(end_key(object)?, client_at(clients, to)?),
-        Verb::Constrain { constraints } => {
-            Call::SetConstraints(collection_key(object)?, constraints)
-        }
-        Verb::TrackNode { .. } => Call::TrackNode(end_key(object)?),
-        Verb::TrackLifetime { most, .. } => Call::TrackLifetime(collection_key(object)?, most),
-    })
-}
-
-/// The same of a handle.
-pub(crate) fn handle_call(clients: &[ClientId], verb: BufferVerb, object: Object) -> Option<Call>
-    ensures { result ≡ call_on_handle clients.now verb object }
-{
-    match object {
-        Object::Handle { buffer, strength } => match verb {
-            BufferVerb::Duplicate { .. } => Some(Call::DupHandle(buffer, strength)),
-            BufferVerb::Drop { .. } => Some(Call::DropHandle(buffer, strength)),
-            BufferVerb::Give { to, .. } => {
-                Some(Call::GiveHandle(buffer, strength, client_at(clients, to)?))
-            }
-            BufferVerb::Track { .. } => Some(Call::TrackWeak(buffer)),
-        },
-        _ => None,
+    match argument {
+        Argument::Nothing => Some(Argument::Nothing),
+        Argument::Client(to) => Some(Argument::Client(client_at(clients, to)?)),
+        Argument::Children(children) => Some(Argument::Children(children)),
+        Argument::Constraints(constraints) => Some(Argument::Constraints(constraints)),
+        Argument::Most(most) => Some(Argument::Most(most)),
+        Argument::Strength(strength) => Some(Argument::Strength(strength)),
+        Argument::Gift(strength, to) => Some(Argument::Gift(strength, client_at(clients, to)?)),
     }
 }
 
-/// The strength of the handle that the verb is for.
-pub(crate) fn verb_strength(verb: BufferVerb) -> Strength
-    ensures { result ≡ strength_told verb }
+// The same of a handle: it has the strength that the handle has.
+fn argument_held(object: Held, argument: Argument<ClientId>) -> Argument<ClientId>
+    ensures { result ≡ argument_of_handle object argument }
 {
-    match verb {
-        BufferVerb::Duplicate { strength } => strength,
-        BufferVerb::Drop { strength } => strength,
-        BufferVerb::Give { strength, .. } => strength,
-        BufferVerb::Track { .. } => Strength::Weak,
+    match object {
+        Held::Handle { strength, .. } => match argument {
+            Argument::Strength(_) => Argument::Strength(strength),
+            Argument::Gift(_, to) => Argument::Gift(strength, to),
+            other => other,
+        },
+        _ => argument,
+    }
+}
+
+// What the object is for the call, if calls of the kind are made on such objects.
+fn target_of(on: Target, object: Held) -> Option<Object<NodeKey, BufferName>>
+    ensures { result ≡ target_on on object }
+{
+    match object {
+        Held::Token { key, .. } => match on {
+            Target::Token | Target::End => Some(Object::Node(key)),
+            _ => None,
+        },
+        Held::Collection { key, .. } => match on {
+            Target::Collection | Target::End => Some(Object::Node(key)),
+            _ => None,
+        },
+        Held::Handle { buffer, .. } => match on {
+            Target::Handle => Some(Object::Buffer(buffer)),
+            _ => None,
+        },
+    }
+}
+
+/// The call that the step makes on the object, whatever label it binds.
+pub(crate) fn call_on(
+    clients: &[ClientId],
+    request: &Request<u32, StepBuffer>,
+    object: Held,
+) -> Option<Call>
+    ensures { result ≡ call_on_object clients.now request.now object }
+{
+    let target = target_of(row_of(request.kind).on, object)?;
+    let argument = argument_at(clients, request.argument)?;
+    call_of(CallParts {
+        kind: request.kind,
+        object: target,
+        argument: argument_held(object, argument),
+    })
+}
+
+/// The call that it makes on nothing: no actor joins.
+pub(crate) fn bare_call(clients: &[ClientId], request: &Request<u32, StepBuffer>) -> Option<Call>
+    ensures { result ≡ call_on_nothing clients.now request.now }
+{
+    if matches!(row_of(request.kind).brings, Product::Client) {
+        return None;
+    }
+    let argument = argument_at(clients, request.argument)?;
+    call_of(CallParts {
+        kind: request.kind,
+        object: Object::Nothing,
+        argument,
+    })
+}
+
+/// The strength of the handle that the step is for: it says so, or it is for a weak one.
+pub(crate) fn asked_strength(argument: &Argument<u32>) -> Strength
+    ensures { result ≡ strength_told argument.now }
+{
+    match *argument {
+        Argument::Strength(strength) => strength,
+        Argument::Gift(strength, _) => strength,
+        _ => Strength::Weak,
     }
 }
 
@@ -103,17 +114,14 @@ pub(crate) fn node_label(step: Step) -> Option<u32>
     ensures { result ≡ label_of_node step }
 {
     match step {
-        Step::Open { root } => Some(root),
-        Step::Collect { node } => Some(node),
-        Step::Ask {
-            verb: Verb::Duplicate { child },
-            ..
-        } => Some(child),
-        Step::Ask {
-            verb: Verb::Attach { child },
-            ..
-        } => Some(child),
-        _ => None,
+        Step::Ask { request } => {
+            if row_of(request.kind).brings.brings_end() {
+                request.binds
+            } else {
+                None
+            }
+        }
+        Step::Poll { .. } => None,
     }
 }
 
@@ -122,18 +130,13 @@ pub(crate) fn tracker_label(step: Step) -> Option<u32>
     ensures { result ≡ label_of_tracker step }
 {
     match step {
-        Step::Ask {
-            verb: Verb::TrackNode { tracker },
-            ..
-        } => Some(tracker),
-        Step::Ask {
-            verb: Verb::TrackLifetime { tracker, .. },
-            ..
-        } => Some(tracker),
-        Step::AskBuffer {
-            verb: BufferVerb::Track { tracker },
-            ..
-        } => Some(tracker),
-        _ => None,
+        Step::Ask { request } => {
+            if row_of(request.kind).brings.is_tracker() {
+                request.binds
+            } else {
+                None
+            }
+        }
+        Step::Poll { .. } => None,
     }
 }

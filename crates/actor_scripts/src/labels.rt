@@ -2,12 +2,13 @@
 ghost use Rattle.std.specs.Prelude.{◌≡◌, ◌+◌, ◌^◌, ◌<◌, ◌≤◌, [], ◌∷◌, ◌++◌, length, IfErr, IfOk, MatchResult, OnOk, Some};
 ghost use Rattle.actor_scripts.specs.declared.step.Step.{Step};
 ghost use Rattle.actor_scripts.specs.ActorLists.{steps_of, Halts};
-ghost use Rattle.actor_scripts.specs.Steps.{actor_buffer_verb, naming, label_number, client_place, step_of, actor_verb};
+ghost use Rattle.actor_scripts.specs.Steps.{argument_placed, binds_naming, binds_numbered, client_place, label_number, naming, object_naming, object_numbered, request_numbered, step_of};
 
 use crate::halt::Halt;
-use crate::{ActorScript, BufferVerb, Step, Verb};
+use crate::{ActorScript, Step, StepBuffer};
 use indexmap::IndexSet;
-use script_lines::{BufferVerb as BufferWord, Label, LabelHash, Line, Verb as Word};
+use script_lines::{BufferLabel, Label, LabelHash, Line, Request};
+use sm_names::{Argument, Object};
 
 // The number of the label of this actor, which is named now.
 fn number(
@@ -40,79 +41,90 @@ pub(crate) fn place(clients: &IndexSet<Label, LabelHash>, label: Label) -> Resul
     }
 }
 
-// What the actor asks of a node.
-fn verb(
-    clients: &IndexSet<Label, LabelHash>,
+// What a call is made on, whose label is named now.
+fn object(
     named: &mut IndexSet<(u32, Label), LabelHash>,
     actor: u32,
-    word: Word,
-) -> Result<Verb, Halt>
-    requires named { length named.old.keys + 1 < 2 ^ 32 }
-    requires clients { length clients.now.keys < 2 ^ 32 }
-    ensures says { MatchResult result
-        (λ verb. actor_verb clients.now.keys named.old.keys actor word
-        ≡ Some (verb, named.new.keys))
-        (Halts (actor_verb clients.now.keys named.old.keys actor word)) }
+    object: Object<Label, BufferLabel>,
+) -> Result<Object<u32, StepBuffer>, Halt>
+    requires { length named.old.keys + 1 < 2 ^ 32 }
+    ensures object { IfOk result (λ o. o ≡ object_numbered named.old.keys actor object) }
+    ensures named { OnOk result (named.new.keys ≡ object_naming named.old.keys actor object) }
     ensures few { OnOk result (length named.new.keys ≤ length named.old.keys + 1) }
+    ensures err { IfErr result (λ halt. halt ≡ Halt.NoMemory) }
 {
-    let verb = match word {
-        Word::Sync => Verb::Sync,
-        Word::Bind => Verb::Bind,
-        Word::Dispensable => Verb::Dispensable,
-        Word::Weak => Verb::Weak,
-        Word::WeakOk { children } => Verb::WeakOk { children },
-        Word::Check => Verb::Check,
-        Word::Take => Verb::Take,
-        Word::Release => Verb::Release,
-        Word::Close => Verb::Close,
-        Word::Duplicate { child } => Verb::Duplicate {
-            child: number(named, actor, child)?,
-        },
-        Word::Attach { child } => Verb::Attach {
-            child: number(named, actor, child)?,
-        },
-        Word::Give { to } => Verb::Give {
-            to: place(clients, to)?,
-        },
-        Word::Constrain { constraints } => Verb::Constrain { constraints },
-        Word::TrackNode { tracker } => Verb::TrackNode {
-            tracker: number(named, actor, tracker)?,
-        },
-        Word::TrackLifetime { most, tracker } => Verb::TrackLifetime {
-            most,
-            tracker: number(named, actor, tracker)?,
-        },
-    };
-    Ok(verb)
+    match object {
+        Object::Nothing => Ok(Object::Nothing),
+        Object::Node(node) => Ok(Object::Node(number(named, actor, node)?)),
+        Object::Buffer(buffer) => Ok(Object::Buffer(StepBuffer {
+            node: number(named, actor, buffer.node)?,
+            index: buffer.index,
+        })),
+    }
 }
 
-// What the actor asks of a buffer.
-fn buffer_verb(
+// What else the call says.
+fn argument(
+    clients: &IndexSet<Label, LabelHash>,
+    argument: Argument<Label>,
+) -> Result<Argument<u32>, Halt>
+    requires { length clients.now.keys < 2 ^ 32 }
+    ensures { MatchResult result (λ a. argument_placed clients.now.keys argument ≡ Some a)
+        (Halts (argument_placed clients.now.keys argument)) }
+{
+    match argument {
+        Argument::Nothing => Ok(Argument::Nothing),
+        Argument::Client(to) => Ok(Argument::Client(place(clients, to)?)),
+        Argument::Children(children) => Ok(Argument::Children(children)),
+        Argument::Constraints(constraints) => Ok(Argument::Constraints(constraints)),
+        Argument::Most(most) => Ok(Argument::Most(most)),
+        Argument::Strength(strength) => Ok(Argument::Strength(strength)),
+        Argument::Gift(strength, to) => Ok(Argument::Gift(strength, place(clients, to)?)),
+    }
+}
+
+// The label that the call binds, which is named now.
+fn binds(
+    named: &mut IndexSet<(u32, Label), LabelHash>,
+    actor: u32,
+    binds: Option<Label>,
+) -> Result<Option<u32>, Halt>
+    requires { length named.old.keys + 1 < 2 ^ 32 }
+    ensures binds { IfOk result (λ b. b ≡ binds_numbered named.old.keys actor binds) }
+    ensures named { OnOk result (named.new.keys ≡ binds_naming named.old.keys actor binds) }
+    ensures few { OnOk result (length named.new.keys ≤ length named.old.keys + 1) }
+    ensures err { IfErr result (λ halt. halt ≡ Halt.NoMemory) }
+{
+    match binds {
+        None => Ok(None),
+        Some(label) => Ok(Some(number(named, actor, label)?)),
+    }
+}
+
+// What the actor asks.
+fn request(
     clients: &IndexSet<Label, LabelHash>,
     named: &mut IndexSet<(u32, Label), LabelHash>,
     actor: u32,
-    word: BufferWord,
-) -> Result<BufferVerb, Halt>
-    requires named { length named.old.keys + 1 < 2 ^ 32 }
+    request: &Request<Label, BufferLabel>,
+) -> Result<Request<u32, StepBuffer>, Halt>
+    requires named { length named.old.keys + 2 < 2 ^ 32 }
     requires clients { length clients.now.keys < 2 ^ 32 }
     ensures says { MatchResult result
-        (λ verb. actor_buffer_verb clients.now.keys named.old.keys actor word
-        ≡ Some (verb, named.new.keys))
-        (Halts (actor_buffer_verb clients.now.keys named.old.keys actor word)) }
-    ensures few { OnOk result (length named.new.keys ≤ length named.old.keys + 1) }
+        (λ r. request_numbered clients.now.keys named.old.keys actor request.now
+        ≡ Some (r, named.new.keys))
+        (Halts (request_numbered clients.now.keys named.old.keys actor request.now)) }
+    ensures few { OnOk result (length named.new.keys ≤ length named.old.keys + 2) }
 {
-    let verb = match word {
-        BufferWord::Duplicate { strength } => BufferVerb::Duplicate { strength },
-        BufferWord::Drop { strength } => BufferVerb::Drop { strength },
-        BufferWord::Give { strength, to } => BufferVerb::Give {
-            strength,
-            to: place(clients, to)?,
-        },
-        BufferWord::Track { tracker } => BufferVerb::Track {
-            tracker: number(named, actor, tracker)?,
-        },
-    };
-    Ok(verb)
+    let object = object(named, actor, request.object)?;
+    let argument = argument(clients, request.argument)?;
+    let binds = binds(named, actor, request.binds)?;
+    Ok(Request {
+        kind: request.kind,
+        object,
+        argument,
+        binds,
+    })
 }
 
 // Puts the step that the line is for this actor behind the others.
@@ -134,35 +146,9 @@ pub(crate) fn add_step(
 {
     let step = match line {
         Line::Nothing | Line::Join { .. } | Line::Show { .. } => return Err(Halt::BadLine),
-        Line::Shut { .. } => Step::Shut,
-        Line::Open { root, .. } => Step::Open {
-            root: number(named, actor, root)?,
+        Line::Ask { request: said, .. } => Step::Ask {
+            request: request(clients, named, actor, &said)?,
         },
-        Line::Collect { node, .. } => Step::Collect {
-            node: number(named, actor, node)?,
-        },
-        Line::Ask {
-            verb: word,
-            node,
-            ..
-        } => {
-            let node = number(named, actor, node)?;
-            let verb = verb(clients, named, actor, word)?;
-            Step::Ask { verb, node }
-        }
-        Line::AskBuffer {
-            verb: word,
-            buffer,
-            ..
-        } => {
-            let node = number(named, actor, buffer.node)?;
-            let verb = buffer_verb(clients, named, actor, word)?;
-            Step::AskBuffer {
-                verb,
-                node,
-                index: buffer.index,
-            }
-        }
         Line::Poll { tracker, .. } => Step::Poll {
             tracker: number(named, actor, tracker)?,
         },

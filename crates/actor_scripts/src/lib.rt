@@ -20,4 +20,5 @@ pub use actor_state::ActorState;
 pub use fault::ActorScriptFault;
 pub use object::{Object, StepCall};
 pub use script::read_actors;
-pub use step::{ActorScript, BufferVerb, Step, Verb};
+pub use script_lines::Request;
+pub use step::{ActorScript, Step, StepBuffer};

@@ -5,14 +5,14 @@ ghost use Rattle.node_table.specs.Table.{table_len};
 ghost use Rattle.forest_store.specs.declared.change.Change.{Change as Changed};
 ghost use Rattle.forest_store.specs.Forest.{IsPoolOf};
 ghost use Rattle.forest_store.specs.Stores.{forest_in};
-ghost use Rattle.forest_steps.specs.NodeEffects.{IsWorkedOutAt};
-ghost use Rattle.forest_steps.specs.StoreSteps.{OutcomeAt, ReadyAt, WaitsNot};
+ghost use Rattle.forest_steps.specs.NodeEffects.{IsWorkedOutAt, keeps_counts};
+ghost use Rattle.forest_steps.specs.StoreSteps.{HasRoom, OutcomeAt, ReadyAt, WaitsNot};
 
 use buffer_holds::Holds;
 use buffer_pool::Pool;
 use forest_steps::event_end::{finish_event, is_finished};
 use forest_steps::initial_allocation::allocate_root;
-use forest_steps::node_effect::{NodeEffect, work_out};
+use forest_steps::node_effect::{NodeEffect, keeps_counts, work_out};
 use forest_steps::propagation::{apply_effect, apply_loss};
 use forest_steps::scratch::Scratch;
 use forest_steps::unforced::{apply_unforced, is_unforced};
@@ -89,8 +89,7 @@ fn settle_applied(
     requires worked { IsWorkedOutAt store.old at made.now }
     requires waits { WaitsNot store.old at made.now.key made.now.effect }
     requires pool { IsPoolOf pool.old (forest_in store.old) }
-    requires going { table_len store.old.nodes.table ≤ vec_capacity room.old.removed }
-    requires turns { table_len store.old.nodes.table ≤ vec_capacity room.old.pending }
+    requires room { HasRoom store.old.nodes room.old }
     ensures { OutcomeAt true (total holds.now) pool.old pool.new store.old store.new at
         (Changed.Effect made.now.key made.now.effect) }
 {
@@ -124,11 +123,102 @@ fn settle_forced(
     Ok(())
 }
 
-/// Makes an effect in its place, with all that it forces. It is worked out once. Where what is counted
-/// then tells that nothing is forced, it is made at once, and else one step follows another. `NoMemory`
-/// where the room is refused for what goes or has its turn, for what is held, or by the pool: then
-/// nothing changed.
+/// Makes what an effect forces that was worked out, as `settle_forced` does, which is handed a copy: the
+/// values of a caller that makes an effect at once need no memory then.
+#[inline(always)]
+fn settle_copied(
+    store: &mut Store,
+    at: usize,
+    pool: &mut Pool,
+    holds: &Holds,
+    made: &NodeEffect,
+    room: &mut Scratch,
+) -> Result<(), NoMemory>
+    requires ready { ReadyAt store.old at (Changed.Effect made.now.key made.now.effect) }
+    requires worked { IsWorkedOutAt store.old at made.now }
+    requires pool { IsPoolOf pool.old (forest_in store.old) }
+    ensures { OutcomeAt (is_ok result) (total holds.now) pool.old pool.new store.old store.new at
+        (Changed.Effect made.now.key made.now.effect) }
+{
+    settle_forced(store, at, pool, holds, *made, room)
+}
+
+/// Makes an effect that was worked out in its place, with all that it forces: at once where what is
+/// counted then tells that this is nothing, and else one step after another. `NoMemory` where the room is
+/// refused for what goes or has its turn, for what is held, or by the pool: then nothing changed.
+#[inline(always)]
+fn settle_worked_out(
+    store: &mut Store,
+    at: usize,
+    pool: &mut Pool,
+    holds: &Holds,
+    made: &NodeEffect,
+    room: &mut Scratch,
+) -> Result<(), NoMemory>
+    requires ready { ReadyAt store.old at (Changed.Effect made.now.key made.now.effect) }
+    requires worked { IsWorkedOutAt store.old at made.now }
+    requires pool { IsPoolOf pool.old (forest_in store.old) }
+    ensures { OutcomeAt (is_ok result) (total holds.now) pool.old pool.new store.old store.new at
+        (Changed.Effect made.now.key made.now.effect) }
+{
+    let entry = &store.entries[at];
+    if is_unforced(&store.nodes.table, entry, holds, made) {
+        apply_unforced(store, at, pool, holds, made);
+        return Ok(());
+    }
+    settle_copied(store, at, pool, holds, made, room)
+}
+
+/// Makes an effect that changes no count in its place, with all that it forces, as `settle_effect` does.
 #[inline(never)]
+fn settle_uncounted(
+    store: &mut Store,
+    at: usize,
+    pool: &mut Pool,
+    holds: &Holds,
+    key: NodeKey,
+    effect: Effect,
+    room: &mut Scratch,
+) -> Result<(), NoMemory>
+    requires ready { ReadyAt store.old at (Changed.Effect key effect) }
+    requires keeps { keeps_counts effect ≡ true }
+    requires pool { IsPoolOf pool.old (forest_in store.old) }
+    ensures { OutcomeAt (is_ok result) (total holds.now) pool.old pool.new store.old store.new at
+        (Changed.Effect key effect) }
+{
+    let made = NodeEffect {
+        key,
+        effect,
+        counts: None,
+    };
+    settle_worked_out(store, at, pool, holds, &made, room)
+}
+
+/// Makes an effect in its place, with all that it forces, as `settle_effect` does: it works out what is
+/// counted then.
+#[inline(never)]
+fn settle_counted(
+    store: &mut Store,
+    at: usize,
+    pool: &mut Pool,
+    holds: &Holds,
+    key: NodeKey,
+    effect: Effect,
+    room: &mut Scratch,
+) -> Result<(), NoMemory>
+    requires ready { ReadyAt store.old at (Changed.Effect key effect) }
+    requires pool { IsPoolOf pool.old (forest_in store.old) }
+    ensures { OutcomeAt (is_ok result) (total holds.now) pool.old pool.new store.old store.new at
+        (Changed.Effect key effect) }
+{
+    let made = work_out(&store.nodes, &store.entries[at], key, effect);
+    settle_worked_out(store, at, pool, holds, &made, room)
+}
+
+/// Makes an effect in its place, with all that it forces. It is worked out once. `NoMemory` where the
+/// room is refused for what goes or has its turn, for what is held, or by the pool: then nothing
+/// changed.
+#[inline(always)]
 pub(crate) fn settle_effect(
     store: &mut Store,
     at: usize,
@@ -143,11 +233,8 @@ pub(crate) fn settle_effect(
     ensures { OutcomeAt (is_ok result) (total holds.now) pool.old pool.new store.old store.new at
         (Changed.Effect key effect) }
 {
-    let entry = &store.entries[at];
-    let made = work_out(&store.nodes, entry, key, effect);
-    if is_unforced(&store.nodes.table, entry, holds, &made) {
-        apply_unforced(store, at, pool, holds, &made);
-        return Ok(());
+    if keeps_counts(&effect) {
+        return settle_uncounted(store, at, pool, holds, key, effect, room);
     }
-    settle_forced(store, at, pool, holds, made, room)
+    settle_counted(store, at, pool, holds, key, effect, room)
 }

@@ -6,7 +6,7 @@ use Rattle.sm_names.specs.declared.keys.Strength.{Strength}
 use Rattle.sm_names.specs.declared.messages.Call.{Call}
 use Rattle.sm_names.specs.declared.messages.Reply.{Reply}
 use Rattle.sm_names.specs.declared.outcomes.StepFault.{StepFault}
-use Rattle.lifetime_core.specs.Kinds.{fits_call}
+use Rattle.core_state.specs.Kinds.{fits_call}
 use Rattle.service_lock.specs.Units.{Amounts, with_one}
 use Rattle.event_laws.specs.declared.own.Own.{Own}
 use Rattle.client_ends.specs.declared.why.Why.{Why}

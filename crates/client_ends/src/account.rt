@@ -1,11 +1,11 @@
 //! What a client counts.
-ghost use Rattle.std.specs.Prelude.{◌≡◌, ◌+◌, ◌≤◌, ◌↔◌, [], Some, false, true, IfOk, OnErr, OnOk, Err, length, option_map, vec_len, vec_capacity};
+ghost use Rattle.std.specs.Prelude.{◌≡◌, ◌+◌, ◌^◌, ◌≤◌, ◌<◌, ◌↔◌, [], Some, false, true, IfOk, OnErr, OnOk, Err, length, option_map, vec_len, vec_capacity};
 ghost use Rattle.sm_names.specs.declared.outcomes.StepFault.{StepFault as Fault};
 ghost use Rattle.sm_names.specs.declared.messages.Call.{Call as Asked};
-ghost use Rattle.lifetime_core.specs.Kinds.{fits_call};
+ghost use Rattle.core_state.specs.Kinds.{fits_call};
 ghost use Rattle.service_lock.specs.States.{view_after};
 ghost use Rattle.service_lock.specs.Units.{CountsEvent, HasUnitFor};
-ghost use Rattle.client_ends.specs.Clients.{AppendsOwn, SameHandles, gained, handle_gain, is_done, lets_go, made_done, may_gain, no_amounts, handle_unit};
+ghost use Rattle.client_ends.specs.Clients.{AppendsOwn, SameHandles, gained, handle_gain, is_done, lets_go, made_done, may_gain, no_amounts, handle_unit, with_gain};
 ghost use Rattle.client_ends.specs.Taking.{grips_by, told_taken};
 
 use crate::empty_units::{empty, memory_fault};
@@ -151,7 +151,7 @@ impl<E: Setup, S: Ledger, W: Ledger> Account<E, S, W> {
     }
 
     /// Makes an event that may bring a handle, and answers its unit too, if it did.
-    #[tactic(auto, using(crate::proofs::UnitLaws::needs_none, crate::proofs::UnitLaws::after_gaining))]
+    #[tactic(auto, using(crate::proofs::UnitLaws::needs_none))]
     pub fn make_gaining(
         &mut self,
         state: &mut State<E, S, W>,
@@ -172,22 +172,44 @@ impl<E: Setup, S: Ledger, W: Ledger> Account<E, S, W> {
         ensures full { (result ≡ Err Fault.HistoryFull)
             ↔ (state.old.limits.events ≤ length state.old.history) }
     {
-        let mut unit = empty(state)?;
+        let unit = empty(state)?;
         let asked = call;
         match self.apply_and_count(state, client, call) {
-            Ok(reply) => match gained(&asked, &reply) {
-                Some(strength) => {
-                    pass(state, &mut self.units, &mut unit, strength);
-                    Ok((reply, Some(unit)))
-                }
-                None => {
-                    take_back(state, unit);
-                    Ok((reply, None))
-                }
-            },
+            Ok(reply) => Ok((reply, self.give_gain(state, unit, gained(&asked, &reply)))),
             Err(fault) => {
                 take_back(state, unit);
                 Err(fault)
+            }
+        }
+    }
+
+    // Moves the unit of the handle that an event brought, if it brought one, to these units, which are
+    // empty. Otherwise the service takes them back.
+    #[tactic(auto, using(crate::proofs::UnitLaws::gives_gain, crate::proofs::TakeLaws::same_events))]
+    fn give_gain(
+        &mut self,
+        state: &mut State<E, S, W>,
+        spare: Units<E, S, W>,
+        gain: Option<Strength>,
+    ) -> Option<Units<E, S, W>>
+        requires has { SameHandles self.old.units (with_gain gain no_amounts) }
+        requires empty { spare ≡ no_amounts }
+        requires few { state.old.parts + 1 < 2 ^ 40 }
+        ensures none { SameHandles self.new.units no_amounts }
+        ensures events { self.new.units.events ≡ self.old.units.events }
+        ensures own { self.new.own ≡ self.old.own }
+        ensures unit { result ≡ option_map handle_unit gain }
+        ensures parts { state.new.parts + handle_gain gain ≡ state.old.parts + 1 }
+    {
+        match gain {
+            Some(strength) => {
+                let mut spare = spare;
+                pass(state, &mut self.units, &mut spare, strength);
+                Some(spare)
+            }
+            None => {
+                take_back(state, spare);
+                None
             }
         }
     }

@@ -4,7 +4,7 @@ ghost use Rattle.sm_names.specs.declared.messages.Call.{Call as Asked};
 ghost use Rattle.sm_names.specs.declared.messages.Reply.{Reply as Told};
 ghost use Rattle.sm_names.specs.declared.outcomes.StepFault.{StepFault as Fault};
 ghost use Rattle.client_ends.specs.declared.why.Why.{Why as Reason};
-ghost use Rattle.lifetime_core.specs.Kinds.{fits_call};
+ghost use Rattle.core_state.specs.Kinds.{fits_call};
 ghost use Rattle.service_lock.specs.States.{view_after, with_parts};
 ghost use Rattle.client_ends.specs.Clients.{Made, MadeOr, is_done, is_collect_reply, release_spends, moves_no_handle, is_take_reply, is_token_reply, is_tracker_reply, last_reply, lets_go, handle_unit};
 ghost use Rattle.client_ends.specs.Collecting.{Collected, handles_collected};

@@ -17,7 +17,7 @@ use Rattle.sm_names.specs.Marks.{Entry, Timeline}
 use Rattle.sm_names.specs.Reading.{readings}
 use Rattle.sm_names.specs.Timelines.{timeline}
 use Rattle.sm_names.proofs.SamenessLaws.{false_if}
-use Rattle.lifetime_core.specs.State.{State}
+use Rattle.core_state.specs.State.{State}
 use Rattle.client_exit.specs.declared.exit.PartFault.{PartFault}
 use Rattle.client_exit.specs.Events.{Collecting, Collects, Gathered, GetsNothing, IsRest, IsShut, Leaves, Leaving, Lets, Whatever}
 use Rattle.client_exit.specs.Exits.{HasExited, IsClose, IsCollect, IsDrop, IsExit, holds_end}

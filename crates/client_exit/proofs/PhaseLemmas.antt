@@ -10,8 +10,8 @@ use Rattle.sm_names.specs.Handles.{open_of}
 use Rattle.sm_names.specs.Legality.{IsLegal}
 use Rattle.sm_names.specs.Marks.{Entry, Timeline}
 use Rattle.sm_names.specs.Timelines.{timeline}
-use Rattle.lifetime_core.specs.Shown.{Shows}
-use Rattle.lifetime_core.specs.State.{State}
+use Rattle.core_state.specs.Shown.{Shows}
+use Rattle.core_state.specs.State.{State}
 use Rattle.client_exit.specs.Events.{GetsNothing, Lets}
 use Rattle.client_exit.specs.Parting.{AdvancesBy}
 use Rattle.client_exit.specs.Phases.{Phase}

@@ -22,9 +22,9 @@ use Rattle.sm_names.proofs.HandleLaws.{same_buffer-true}
 use Rattle.sm_names.proofs.SamenessLaws.{both_ways, or_cases, same_key-true}
 use Rattle.forest_store.specs.declared.node.Node.{Node}
 use Rattle.forest_store.specs.Forest.{all_nodes}
-use Rattle.lifetime_core.specs.Reads.{readings_of}
-use Rattle.lifetime_core.specs.Shown.{Shows}
-use Rattle.lifetime_core.specs.State.{State}
+use Rattle.core_state.specs.Reads.{readings_of}
+use Rattle.core_state.specs.Shown.{Shows}
+use Rattle.core_state.specs.State.{State}
 use Rattle.client_exit.specs.declared.exit.PartFault.{PartFault}
 use Rattle.client_exit.specs.Events.{Collecting, Collects, GetsNothing, IsShut, Lets, Whatever}
 use Rattle.client_exit.specs.Exits.{IsClose, IsCollect, IsDrop, holds_end}

@@ -27,12 +27,12 @@ use Rattle.event_laws.proofs.HandleBufferLaws.{has_named, stranger_has_none}
 use Rattle.forest_store.specs.declared.node.Node.{Node}
 use Rattle.forest_store.specs.Forest.{all_nodes, node_at}
 use Rattle.forest_store.specs.Nodes.{is_of}
-use Rattle.lifetime_core.specs.Reads.{open_end_in, readings_of}
-use Rattle.lifetime_core.specs.Shown.{Shows}
-use Rattle.lifetime_core.specs.State.{State}
-use Rattle.lifetime_core.proofs.lists.ByNumber.{mixed_sorted}
-use Rattle.lifetime_core.proofs.lists.Reorderings.{In-mixed_back}
-use Rattle.lifetime_core.proofs.views.Answers.{readings_are}
+use Rattle.core_state.specs.Reads.{open_end_in, readings_of}
+use Rattle.core_state.specs.Shown.{Shows}
+use Rattle.core_state.specs.State.{State}
+use Rattle.core_state.proofs.lists.ByNumber.{mixed_sorted}
+use Rattle.core_state.proofs.lists.Reorderings.{In-mixed_back}
+use Rattle.core_state.proofs.views.Answers.{readings_are}
 use Rattle.client_exit.specs.Exits.{holds_end}
 use Rattle.client_exit.specs.Phases.{HasAmong, HoldsAmong}
 

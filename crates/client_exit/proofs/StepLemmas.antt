@@ -9,11 +9,11 @@ use Rattle.sm_names.specs.declared.outcomes.StepFault.{StepFault}
 use Rattle.sm_names.specs.Answers.{makes_tracker}
 use Rattle.sm_names.specs.Marks.{Entry}
 use Rattle.sm_names.proofs.SamenessLaws.{both_ways}
-use Rattle.lifetime_core.specs.Kinds.{fits_call}
-use Rattle.lifetime_core.specs.Shown.{Shows}
-use Rattle.lifetime_core.specs.State.{IsSame, State}
-use Rattle.lifetime_core.specs.Steps.{Follows}
-use Rattle.lifetime_core.specs.Theorem.{GoesOn, tracker_told}
+use Rattle.core_state.specs.Kinds.{fits_call}
+use Rattle.core_state.specs.Shown.{Shows}
+use Rattle.core_state.specs.State.{IsSame, State}
+use Rattle.core_state.specs.Steps.{Follows}
+use Rattle.core_state.specs.Theorem.{GoesOn, tracker_told}
 use Rattle.client_exit.specs.Parting.{AdvancesBy}
 
 -- a call that makes no tracker is told of none

@@ -6,9 +6,9 @@ use Rattle.sm_names.specs.declared.outcomes.Refusal.{Refusal}
 use Rattle.sm_names.specs.Marks.{Entry}
 use Rattle.sm_names.specs.Reading.{readings}
 use Rattle.sm_names.specs.Timelines.{timeline}
-use Rattle.lifetime_core.specs.Shown.{Shows}
-use Rattle.lifetime_core.specs.State.{State}
-use Rattle.lifetime_core.specs.Theorem.{GoesOn}
+use Rattle.core_state.specs.Shown.{Shows}
+use Rattle.core_state.specs.State.{State}
+use Rattle.core_state.specs.Theorem.{GoesOn}
 use Rattle.client_exit.specs.declared.exit.PartFault.{PartFault}
 use Rattle.client_exit.specs.Exits.{HasExited, IsExit}
 

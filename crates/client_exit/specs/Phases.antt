@@ -15,8 +15,8 @@ use Rattle.sm_names.specs.Reading.{readings}
 use Rattle.sm_names.specs.Sameness.{same_buffer, same_key}
 use Rattle.sm_names.specs.Timelines.{timeline}
 use Rattle.forest_store.specs.declared.node.Node.{Node}
-use Rattle.lifetime_core.specs.Shown.{Shows}
-use Rattle.lifetime_core.specs.State.{State}
+use Rattle.core_state.specs.Shown.{Shows}
+use Rattle.core_state.specs.State.{State}
 use Rattle.client_exit.specs.declared.exit.PartFault.{PartFault}
 use Rattle.client_exit.specs.Exits.{HasExited, IsExit, holds_end}
 use Rattle.client_exit.specs.Parting.{AdvancesBy}

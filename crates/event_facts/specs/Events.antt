@@ -14,9 +14,9 @@ use Rattle.forest_store.specs.declared.snapshot.Snapshot.{Snapshot}
 use Rattle.forest_store.specs.Forest.{collection_at}
 use Rattle.forest_store.specs.Snapshots.{collection_of}
 use Rattle.event_marks.specs.declared.told.Moment.{Moment}
-use Rattle.lifetime_core.specs.Reads.{is_live_in}
-use Rattle.lifetime_core.specs.State.{State}
-use Rattle.lifetime_core.specs.Steps.{Work, work_of}
+use Rattle.core_state.specs.Reads.{is_live_in}
+use Rattle.core_state.specs.State.{State}
+use Rattle.core_state.specs.Steps.{Work, work_of}
 use Rattle.event_facts.specs.declared.before.Before.{Before}
 use Rattle.event_facts.specs.Facts.{is_keeper}
 
@@ -36,8 +36,8 @@ abbrev pub concerned_by : State → ℕ → Call → Reply → Option ℕ
 concerned_by s client call reply = option_map_or Some (dropped_on s.holds client call) (changed_on s client call reply)
 
 -- the copy is of the collection with this id, as it stands
-abbrev pub IsCopied : State → Option ℕ → Option Before → Type 0
-IsCopied s id before = option_map (λ (b : Before). collection_of b.copied) before ≡ option_and_then (collection_at s.forest) id
+abbrev pub IsSnapshot : State → Option ℕ → Option Before → Type 0
+IsSnapshot s id before = option_map (λ (b : Before). collection_of b.copied) before ≡ option_and_then (collection_at s.forest) id
 
 -- the copy after the event is of the same collection as the copy before it
 abbrev pub IsCopiedAfter : State → Option Before → Option Snapshot → Type 0
@@ -47,8 +47,8 @@ IsCopiedAfter s before after =
 -- ---- buffers that nothing strong keeps
 
 -- the buffer was given, no node of its collection is strong and live, and no strong handle on it is open or in a parcel
-abbrev pub is_doomed : Counts → ℕ → List Node → Option Buffers → ℕ → Bool
-is_doomed holds collection nodes given index =
+abbrev pub is_doomed_in : Counts → ℕ → List Node → Option Buffers → ℕ → Bool
+is_doomed_in holds collection nodes given index =
     option_map_or (λ (b : Buffers). nat_lt index b.count) given false
     && (not (list_any is_keeper nodes)
     && total holds (record { collection = collection; index = index }) Strength.Strong == 0)
@@ -70,17 +70,17 @@ given_in after before =
     option_map_or (λ (a : Snapshot). a.buffers) after (option_map_or (λ (b : Before). b.copied.buffers) before None)
 
 -- the kept nodes after the event
-abbrev pub nodes_in : Option Snapshot → List Node
-nodes_in after = option_map_or (λ (a : Snapshot). a.nodes.items) after []
+abbrev pub snapshot_nodes : Option Snapshot → List Node
+snapshot_nodes after = option_map_or (λ (a : Snapshot). a.nodes.items) after []
 
 -- the buffers with pages after the event
-abbrev pub held_in : Option Snapshot → List HeldBuffer
-held_in after = option_map_or (λ (a : Snapshot). a.held.items) after []
+abbrev pub snapshot_held : Option Snapshot → List HeldBuffer
+snapshot_held after = option_map_or (λ (a : Snapshot). a.held.items) after []
 
 -- nothing strong keeps the buffer after the event, and something did before
 abbrev pub is_newly_doomed : Counts → Option Snapshot → Option Before → ℕ → Bool
 is_newly_doomed holds after before index =
-    option_map_or (λ (b : Before). is_doomed holds b.copied.id (nodes_in after) (given_in after before) index
+    option_map_or (λ (b : Before). is_doomed_in holds b.copied.id (snapshot_nodes after) (given_in after before) index
     && not (bit_at b.doomed index == 1)) before false
 
 -- the node was live, and is not any more

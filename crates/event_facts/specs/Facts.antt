@@ -26,6 +26,10 @@ stop_of nodes key = option_map_or
 abbrev pub is_lost_with : List Node → NodeKey → Node → Bool
 is_lost_with nodes top n = not n.gone && is_below nodes top n.key
 
+-- the node is not gone, and one of these
+abbrev pub is_taken_of : (NodeKey → Bool) → Node → Bool
+is_taken_of under n = not n.gone && under n.key
+
 -- the node hangs on this one, and a failure did not come up by it
 abbrev pub is_handed : List NodeKey → NodeKey → Node → Bool
 is_handed way above n = option_map_or (λ parent. same_key above parent && not (list_any (same_key n.key) way)) n.parent false

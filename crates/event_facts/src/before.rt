@@ -2,8 +2,8 @@
 ghost use Rattle.std.specs.Prelude.{◌≡◌, Some, IfOk, IfSome};
 ghost use Rattle.sm_names.specs.Answers.{IsAnswer};
 ghost use Rattle.sm_names.specs.declared.messages.Reply.{Reply};
-ghost use Rattle.lifetime_core.specs.Reads.{readings_of};
-ghost use Rattle.event_facts.specs.Events.{IsCopied, IsSetOf, changed_on, concerned_by, is_doomed};
+ghost use Rattle.core_state.specs.Reads.{readings_of};
+ghost use Rattle.event_facts.specs.Events.{IsSnapshot, IsSetOf, changed_on, concerned_by, is_doomed_in};
 
 use crate::pages::doomed_of;
 use alloc_event::Snapshot;
@@ -46,9 +46,9 @@ fn changed(core: &Core, client: ClientId, call: &Call) -> Option<CollectionId>
 pub(crate) fn look(core: &Core, client: ClientId, call: &Call) -> Result<Option<Before>, NoMemory>
     ensures copied { IfOk result (λ before. (reply : Reply) →
         IsAnswer core.now.limits (readings_of core.now) client call.now reply →
-        IsCopied core.now (concerned_by core.now client call.now reply) before) }
+        IsSnapshot core.now (concerned_by core.now client call.now reply) before) }
     ensures doomed { IfOk result (λ before. IfSome before (λ b. IsSetOf
-        (is_doomed core.now.holds b.copied.id b.copied.nodes.items b.copied.buffers) b.doomed)) }
+        (is_doomed_in core.now.holds b.copied.id b.copied.nodes.items b.copied.buffers) b.doomed)) }
 {
     match concerned(core, client, call) {
         Some(id) => look_at(core, id),
@@ -58,9 +58,9 @@ pub(crate) fn look(core: &Core, client: ClientId, call: &Call) -> Result<Option<
 
 // The collection as it stands, if it is kept.
 fn look_at(core: &Core, id: CollectionId) -> Result<Option<Before>, NoMemory>
-    ensures copied { IfOk result (λ before. IsCopied core.now (Some id) before) }
+    ensures copied { IfOk result (λ before. IsSnapshot core.now (Some id) before) }
     ensures doomed { IfOk result (λ before. IfSome before (λ b. IsSetOf
-        (is_doomed core.now.holds b.copied.id b.copied.nodes.items b.copied.buffers) b.doomed)) }
+        (is_doomed_in core.now.holds b.copied.id b.copied.nodes.items b.copied.buffers) b.doomed)) }
 {
     match core.collection(id)? {
         Some(copied) => {

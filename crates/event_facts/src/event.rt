@@ -5,11 +5,11 @@ ghost use Rattle.std.specs.Option.{option_and_then, option_map};
 ghost use Rattle.sm_names.specs.Answers.{IsAnswer};
 ghost use Rattle.sm_names.specs.declared.messages.Reply.{Reply as Answer};
 ghost use Rattle.forest_store.specs.declared.snapshot.Snapshot.{Snapshot as Copy};
-ghost use Rattle.lifetime_core.specs.Reads.{readings_of};
-ghost use Rattle.lifetime_core.specs.Theorem.{Stepped};
+ghost use Rattle.core_state.specs.Reads.{readings_of};
+ghost use Rattle.core_state.specs.Theorem.{Stepped};
 ghost use Rattle.event_marks.specs.Marks.{AreStages};
 ghost use Rattle.event_marks.specs.Moments.{stage_of};
-ghost use Rattle.event_facts.specs.Events.{IsCopied, IsCopiedAfter, IsSetOf, concerned_by, given_in, has_left, held_in, is_doomed, is_newly_doomed, nodes_in, scene_after, some_left_in};
+ghost use Rattle.event_facts.specs.Events.{IsSnapshot, IsCopiedAfter, IsSetOf, concerned_by, given_in, has_left, snapshot_held, is_doomed_in, is_newly_doomed, snapshot_nodes, scene_after, some_left_in};
 
 use crate::before::{Before, look};
 use crate::pages::{doomed_of, without};
@@ -51,9 +51,9 @@ pub fn take_event(
         AreStages core.old core.new client call event.reply (map stage_of event.moments.items)) }
     // The copies are of the one collection that the event concerns.
     ensures before { IfOk result (λ event.
-        IsCopied core.old (concerned_by core.old client call event.reply) event.before) }
+        IsSnapshot core.old (concerned_by core.old client call event.reply) event.before) }
     ensures doomed { IfOk result (λ event. IfSome event.before (λ b. IsSetOf
-        (is_doomed core.old.holds b.copied.id b.copied.nodes.items b.copied.buffers) b.doomed)) }
+        (is_doomed_in core.old.holds b.copied.id b.copied.nodes.items b.copied.buffers) b.doomed)) }
     ensures after { IfOk result (λ event. IsCopiedAfter core.new event.before event.after) }
     ensures fired { IfOk result (λ event. event.fired ≡ length core.old.trackers.fired) }
     ensures full { IfErr result (λ fault. fault ≡ StepFault.HistoryFull →
@@ -81,9 +81,9 @@ pub fn take_event(
 fn before_of(core: &Core, client: ClientId, call: &Call) -> Result<Option<Before>, StepFault>
     ensures copied { IfOk result (λ before. (reply : Answer) →
         IsAnswer core.now.limits (readings_of core.now) client call.now reply →
-        IsCopied core.now (concerned_by core.now client call.now reply) before) }
+        IsSnapshot core.now (concerned_by core.now client call.now reply) before) }
     ensures doomed { IfOk result (λ before. IfSome before (λ b. IsSetOf
-        (is_doomed core.now.holds b.copied.id b.copied.nodes.items b.copied.buffers) b.doomed)) }
+        (is_doomed_in core.now.holds b.copied.id b.copied.nodes.items b.copied.buffers) b.doomed)) }
     ensures fault { IfErr result (λ fault. fault ≡ StepFault.NoMemory) }
 {
     match look(core, client, call) {
@@ -146,7 +146,7 @@ impl Event {
 
     // The kept nodes of the collection after the event.
     fn nodes_after(&self) -> &[Node]
-        ensures { result.now ≡ nodes_in self.now.after }
+        ensures { result.now ≡ snapshot_nodes self.now.after }
     {
         match &self.after {
             Some(after) => &after.nodes,
@@ -156,7 +156,7 @@ impl Event {
 
     /// The collection's buffers with pages after the event. Takes a constant time.
     pub fn held_after(&self) -> &[HeldBuffer]
-        ensures { result.now ≡ held_in self.now.after }
+        ensures { result.now ≡ snapshot_held self.now.after }
     {
         match &self.after {
             Some(after) => &after.held,
@@ -195,7 +195,7 @@ fn left(core: &Core, node: &Node) -> bool
 pub fn placed_by<'a>(later: &'a [Moment], event: &'a Event) -> Option<(Buffers, &'a [HeldBuffer])>
     ensures buffers { option_map (λ placed. placed.0) result
         ≡ option_and_then (λ (s : Copy). s.buffers) (scene_after later.now event.now.after) }
-    ensures held { IfSome result (λ placed. placed.1.now ≡ held_in (scene_after later.now event.now.after)) }
+    ensures held { IfSome result (λ placed. placed.1.now ≡ snapshot_held (scene_after later.now event.now.after)) }
 {
     match (later.first(), &event.after) {
         (Some(next), _) => Some((next.before.buffers?, &next.before.held)),

@@ -2,7 +2,7 @@
 ghost use Rattle.std.specs.Prelude.{ℕ, ◌≡◌, ◌≢◌, ◌<◌, ◌-◌, min, if◌then◌else◌, IfOk};
 ghost use Rattle.std.specs.Int.{bit_at};
 ghost use Rattle.std.specs.List.{filter, list_any};
-ghost use Rattle.event_facts.specs.Events.{IsSetOf, is_doomed};
+ghost use Rattle.event_facts.specs.Events.{IsSetOf, is_doomed_in};
 ghost use Rattle.event_facts.specs.Facts.{is_back, is_on_buffer};
 
 use alloc_event::Node;
@@ -51,7 +51,7 @@ pub fn doomed_of(
     nodes: &[Node],
     given: Option<Buffers>,
 ) -> u64
-    ensures { IsSetOf (is_doomed core.now.holds collection nodes.now given) result }
+    ensures { IsSetOf (is_doomed_in core.now.holds collection nodes.now given) result }
 {
     let mut set = 0;
     let Some(buffers) = given else {

@@ -3,32 +3,44 @@ ghost use Rattle.std.specs.Prelude.{◌≡◌, ◌&&◌, not, IfOk, map};
 ghost use Rattle.std.specs.List.{filter, list_any};
 ghost use Rattle.sm_names.specs.Sameness.{same_key};
 ghost use Rattle.forest_store.specs.declared.node.Node.{Node as Kept};
-ghost use Rattle.event_facts.specs.Facts.{is_handed, is_lost_with};
+ghost use Rattle.event_marks.specs.KeySets.{has};
+ghost use Rattle.event_facts.specs.Facts.{is_handed, is_lost_with, is_taken_of};
 
 use alloc_event::Node;
-use event_marks::questions::is_under;
+use event_marks::key_sets::KeySet;
+use event_marks::node_sets::nodes_under;
 use sm_names::NodeKey;
 use std::alloc::AllocError;
 
-/// The nodes that are not gone, and are the top one or below it, by birth. Costs O(n^2) for n nodes.
+/// The nodes that are not gone, and are the top one or below it, by birth. Costs O(n log n) for n nodes.
 pub fn taken_under(nodes: &Vec<Node>, top: NodeKey) -> Result<Vec<Node>, AllocError>
     ensures { IfOk result (λ taken. taken.items
         ≡ filter (is_lost_with nodes.now.items top) nodes.now.items) }
 {
+    let under = nodes_under(*nodes.allocator(), nodes, top)?;
+    let taken = taken_among(nodes, &under)?;
+    Ok(taken)
+}
+
+// The nodes that are not gone, and among these, by birth.
+fn taken_among(nodes: &Vec<Node>, under: &KeySet) -> Result<Vec<Node>, AllocError>
+    ensures { IfOk result (λ taken. taken.items
+        ≡ filter (is_taken_of (has under.now)) nodes.now.items) }
+{
     let mut taken = Vec::new(*nodes.allocator());
     for node in nodes {
-        if takes(nodes, top, node) {
+        if takes(under, node) {
             taken.push(*node)?;
         }
     }
     Ok(taken)
 }
 
-// Whether the node is not gone, and is the top one or below it.
-fn takes(nodes: &[Node], top: NodeKey, node: &Node) -> bool
-    ensures { result ≡ is_lost_with nodes.now top node.now }
+// Whether the node is not gone, and among these.
+fn takes(under: &KeySet, node: &Node) -> bool
+    ensures { result ≡ is_taken_of (has under.now) node.now }
 {
-    !node.gone && is_under(nodes, top, node.key)
+    !node.gone && under.has(node.key)
 }
 
 /// The children of the node among those that are taken, by birth, but for those on the way up: the node

@@ -4,10 +4,12 @@ ghost use Rattle.std.specs.List.{list_any};
 ghost use Rattle.forest_store.specs.Nodes.{above_among, node_of};
 ghost use Rattle.forest_store.specs.Questions.{blocks_here};
 ghost use Rattle.event_marks.specs.Explanations.{climb};
+ghost use Rattle.event_marks.specs.KeySets.{has};
 ghost use Rattle.event_facts.specs.Facts.{stop_of};
 
 use alloc_event::Node;
-use event_marks::questions::blocks;
+use event_marks::key_sets::KeySet;
+use event_marks::node_sets::blocking_nodes;
 use sm_names::NodeKey;
 use std::alloc::AllocError;
 
@@ -23,9 +25,23 @@ pub enum Stop {
 }
 
 /// The nodes from this one up to the highest that its failure goes to: each but the last has a link to
-/// its parent that is not blocked. Costs O(n) for n nodes, and another O(n) for each node on the way.
+/// its parent that is not blocked. Costs O(n log n) for n nodes.
 pub fn way_up(nodes: &Vec<Node>, origin: NodeKey) -> Result<Vec<NodeKey>, AllocError>
     ensures { IfOk result (λ way. way.items ≡ climb (λ k. list_any (blocks_here k) nodes.now.items)
+        origin (above_among (reverse nodes.now.items) origin)) }
+{
+    let blocking = blocking_nodes(*nodes.allocator(), nodes)?;
+    let way = way_past(nodes, &blocking, origin)?;
+    Ok(way)
+}
+
+// The nodes from this one up to the first of those whose failure does not go to their parent.
+fn way_past(
+    nodes: &Vec<Node>,
+    blocking: &KeySet,
+    origin: NodeKey,
+) -> Result<Vec<NodeKey>, AllocError>
+    ensures { IfOk result (λ way. way.items ≡ climb (has blocking.now)
         origin (above_among (reverse nodes.now.items) origin)) }
 {
     let mut way = Vec::new(*nodes.allocator());
@@ -36,7 +52,7 @@ pub fn way_up(nodes: &Vec<Node>, origin: NodeKey) -> Result<Vec<NodeKey>, AllocE
             let Some(parent) = node.parent else {
                 return with_last(way, at);
             };
-            if blocks(nodes, at) {
+            if blocking.has(at) {
                 return with_last(way, at);
             }
             way.push(at)?;

@@ -22,11 +22,11 @@ use Rattle.forest_store.specs.Nodes.{is_of}
 use Rattle.forest_store.specs.Scenes.{IsSound}
 use Rattle.forest_store.specs.Settling.{Handles, changed, collection_or_new, is_birth, no_key}
 use Rattle.forest_store.specs.Snapshots.{collection_of}
-use Rattle.lifetime_core.specs.Reads.{readings_of}
-use Rattle.lifetime_core.specs.State.{State}
-use Rattle.lifetime_core.specs.Steps.{Work, at_collection, at_node, leaves_tracker_room, work_of}
-use Rattle.lifetime_core.proofs.forced.Dropping.{took_last}
-use Rattle.lifetime_core.proofs.forced.Losing.{losing, no_work}
+use Rattle.core_state.specs.Reads.{readings_of}
+use Rattle.core_state.specs.State.{State}
+use Rattle.core_state.specs.Steps.{Work, at_collection, at_node, leaves_tracker_room, work_of}
+use Rattle.core_state.proofs.forced.Dropping.{took_last}
+use Rattle.core_state.proofs.forced.Losing.{losing, no_work}
 use Rattle.event_marks.specs.declared.told.Before.{Before}
 use Rattle.event_marks.specs.Marks.{Settles, Stage, StagesIn, StagesOf, own_stage}
 use Rattle.event_marks.specs.Moments.{IsBefore, IsCopied}

@@ -19,12 +19,12 @@ use Rattle.forest_store.specs.declared.change.Change.{Change}
 use Rattle.forest_store.specs.declared.change.Effect.{Effect}
 use Rattle.forest_store.specs.declared.node.Node.{Node}
 use Rattle.forest_store.specs.Forest.{Collection, collection_at, node_at}
-use Rattle.lifetime_core.specs.Shown.{IsAfter}
-use Rattle.lifetime_core.specs.State.{State}
-use Rattle.lifetime_core.specs.Steps.{Work, at_collection, at_node, work_of}
-use Rattle.lifetime_core.proofs.forced.Dropping.{took_last}
-use Rattle.lifetime_core.proofs.forced.Losing.{IsLosing, losing, no_work}
-use Rattle.lifetime_core.proofs.views.Nodes.{node_there}
+use Rattle.core_state.specs.Shown.{IsAfter}
+use Rattle.core_state.specs.State.{State}
+use Rattle.core_state.specs.Steps.{Work, at_collection, at_node, work_of}
+use Rattle.core_state.proofs.forced.Dropping.{took_last}
+use Rattle.core_state.proofs.forced.Losing.{IsLosing, losing, no_work}
+use Rattle.core_state.proofs.views.Nodes.{node_there}
 use Rattle.event_marks.specs.Marks.{laid_on, own_mark}
 
 -- a misuse loses the node that the call names

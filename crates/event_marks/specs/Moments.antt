@@ -11,8 +11,8 @@ use Rattle.forest_store.specs.Scenes.{IsSound}
 use Rattle.forest_store.specs.Settling.{MayChange, collection_or_new}
 use Rattle.forest_store.specs.Forest.{given}
 use Rattle.forest_store.specs.Snapshots.{collection_of}
-use Rattle.lifetime_core.specs.State.{State}
-use Rattle.lifetime_core.specs.Steps.{Work, leaves_tracker_room}
+use Rattle.core_state.specs.State.{State}
+use Rattle.core_state.specs.Steps.{Work, leaves_tracker_room}
 use Rattle.event_marks.specs.declared.told.Before.{Before}
 use Rattle.event_marks.specs.declared.told.Moment.{Moment}
 use Rattle.event_marks.specs.declared.told.Told.{Told}

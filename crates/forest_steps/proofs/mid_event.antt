@@ -37,4 +37,5 @@ pub mod Stepping
 pub mod Taking
 pub mod Tops
 pub mod Turns
+pub mod UnitGiven
 pub mod Went

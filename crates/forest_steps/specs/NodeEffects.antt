@@ -23,6 +23,17 @@ use Rattle.forest_store.specs.Unforced.{is_plain}
 
 -- ---- what is counted then
 
+-- the effect neither releases its node nor makes it weak, nor sets its constraints
+abbrev pub keeps_counts : Effect → Bool
+keeps_counts Effect.Bound = true
+keeps_counts Effect.Dispensable = true
+keeps_counts Effect.Weak = false
+keeps_counts (Effect.WeakOk children) = true
+keeps_counts (Effect.Constrained demand) = false
+keeps_counts Effect.Taken = true
+keeps_counts Effect.Released = false
+keeps_counts Effect.Tracked = true
+
 -- the effect changes none of the counts
 pub record KeepsCounts (effect : Effect) : Type 0 where
   pub plain : is_plain effect ≡ true

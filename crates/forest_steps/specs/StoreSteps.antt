@@ -1,13 +1,14 @@
 -- A store as a change finds it and leaves it. No public clause of `alloc_event` cites this module.
-use Rattle.std.specs.Prelude.{◌≡◌, ℕ, Bool, true, List, [], Option, Some, None, get_or}
+use Rattle.std.specs.Prelude.{◌≡◌, ◌≤◌, ℕ, Bool, true, List, [], Option, Some, None, get_or, vec_capacity}
 use Rattle.sm_names.specs.declared.keys.NodeKey.{NodeKey}
 use Rattle.sm_names.specs.declared.outcomes.Fault.{Fault}
 use Rattle.buffer_pool.specs.Holdings.{Holdings}
-use Rattle.node_table.specs.Table.{Table}
+use Rattle.node_table.specs.Table.{Table, table_len}
 use Rattle.forest_store.specs.declared.change.Change.{Change}
 use Rattle.forest_store.specs.declared.change.Effect.{Effect}
 use Rattle.forest_store.specs.declared.entry.Entry.{Entry}
 use Rattle.forest_steps.specs.declared.initial_allocation.AllocationOutcome.{AllocationOutcome}
+use Rattle.forest_steps.specs.declared.scratch.Scratch.{Scratch}
 use Rattle.forest_store.specs.declared.insertion.Birth.{Birth}
 use Rattle.forest_store.specs.declared.node.Node.{Node}
 use Rattle.forest_store.specs.declared.store.NodeStore.{NodeStore}
@@ -23,7 +24,7 @@ use Rattle.forest_store.specs.Nodes.{after_effect}
 use Rattle.forest_store.specs.Outcomes.{IsOutcomeIn, IsReady}
 use Rattle.forest_store.specs.Settling.{Handles}
 use Rattle.forest_store.specs.Shelves.{Shelf, nodes_with, place_in}
-use Rattle.forest_store.specs.Stores.{nodes_in}
+use Rattle.forest_store.specs.Stores.{AreNamed, nodes_in}
 
 -- ---- of the table, the entries and the units
 
@@ -92,6 +93,23 @@ BornIn handles pool after old new id b key =
 abbrev pub UnbornIn : Holdings → Holdings → Store → Store → Type 0
 UnbornIn pool after old new =
     IsUnborn pool after old.nodes.table new.nodes.table old.entries.items new.entries.items new.nodes.units.items
+
+-- ---- room, and rows
+
+-- what goes, and the units that have their turns, have room in their lists for as many as there are nodes
+pub record HasRoom (s : NodeStore) (room : Scratch) : Type 0 where
+  pub going : table_len s.table ≤ vec_capacity room.removed
+  pub turns : table_len s.table ≤ vec_capacity room.pending
+
+-- there is as much room in these lists as there was
+pub record KeepsRoom (old new : Scratch) : Type 0 where
+  pub going : vec_capacity old.removed ≤ vec_capacity new.removed
+  pub turns : vec_capacity old.pending ≤ vec_capacity new.pending
+
+-- each node stands under its key, and there are as many rows as there were
+pub record KeepsRows (old new : NodeStore) : Type 0 where
+  pub named : AreNamed new.table
+  pub len : table_len new.table ≡ table_len old.table
 
 -- ---- nodes with the counts of their units
 

@@ -1,11 +1,13 @@
 //! What comes last of an event: buffers that are abandoned, and pages that go back.
-ghost use Rattle.std.specs.Prelude.{◌≡◌, ◌≤◌, ◌⊎◌, [], List, ℕ, Some, true, vec_capacity};
+ghost use Rattle.std.specs.Prelude.{◌≡◌, ◌≤◌, ◌⊎◌, [], List, ℕ, Some, true, get_or, vec_capacity};
 ghost use Rattle.sm_names.specs.declared.keys.NodeKey.{NodeKey as Key};
 ghost use Rattle.buffer_holds.specs.Counts.{total};
 ghost use Rattle.node_table.specs.Table.{table_len};
+ghost use Rattle.forest_store.specs.declared.entry.Entry.{Entry as EntryValue};
 ghost use Rattle.forest_store.specs.Dropped.{has_given_root};
 ghost use Rattle.forest_store.specs.Forest.{IsPoolOf};
-ghost use Rattle.forest_store.specs.Shelves.{Shelf, place_in};
+ghost use Rattle.forest_store.specs.Shelves.{Shelf, place_in, shelf_of};
+ghost use Rattle.forest_store.specs.Resting.{is_kept_by};
 ghost use Rattle.forest_store.specs.Scenes.{given_few};
 ghost use Rattle.forest_store.specs.Settling.{Handles};
 ghost use Rattle.forest_steps.specs.MidEvent.{is_abandoned_in};
@@ -29,7 +31,9 @@ use sm_names::{Cause, Fault, NodeKey};
 pub fn is_finished(store: &Store, at: usize, pool: &Pool, holds: &Holds) -> bool
     requires may { MayFinish (total holds.now) store.now at }
     requires pool { IsPoolOf pool.now (forest_in store.now) }
-    ensures { result ≡ true → (id : ℕ) → place_in id store.now.entries.items ≡ Some at →
+    ensures kept { (e : EntryValue) → e ≡ get_or store.now.entries.items at e →
+        result ≡ is_kept_by (total holds.now) store.now.nodes.table (shelf_of e) e.strong }
+    ensures finished { result ≡ true → (id : ℕ) → place_in id store.now.entries.items ≡ Some at →
         FinishedOf (total holds.now) pool.now pool.now store.now store.now id }
 {
     assert_disjoint(pool);

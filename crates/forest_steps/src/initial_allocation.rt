@@ -22,7 +22,7 @@ ghost use Rattle.forest_store.specs.Scenes.{given_few, has_tracker_room};
 ghost use Rattle.forest_store.specs.UnitAllocation.{asked_with};
 ghost use Rattle.forest_store.specs.Settling.{Handles};
 ghost use Rattle.forest_store.specs.Stores.{AreNamed, forest_in, nodes_in};
-ghost use Rattle.forest_steps.specs.StoreSteps.{IsRootedIn, MidEventIn, OutcomeAt, ReadyAt, WaitsNot};
+ghost use Rattle.forest_steps.specs.StoreSteps.{HasRoom, IsRootedIn, KeepsRoom, KeepsRows, MidEventIn, OutcomeAt, ReadyAt, WaitsNot};
 
 use crate::demand::TotalDemand;
 use crate::event_end::finish_event;
@@ -304,9 +304,8 @@ fn allocate_root_unit(
     room: &mut Scratch,
 )
     requires few { given_few (Some buffers) ≡ true }
-    requires going { table_len nodes.old.table ≤ vec_capacity room.old.removed }
+    requires room { HasRoom nodes.old room.old }
     requires listed { IsUnitListed nodes.old.table plan.now.head room.old.unit.items }
-    requires turns { table_len nodes.old.table ≤ vec_capacity room.old.pending }
     requires named { AreNamed nodes.old.table }
     requires there { IsSome (row_at nodes.old.table plan.now.head) }
     ensures rooted { (ss : List Shelf) → MidEventIn nodes.old ss entry.old [] (plan.now.head ∷ []) →
@@ -315,8 +314,7 @@ fn allocate_root_unit(
         (nodes_in nodes.old entry.old)) →
         IsRootedIn (total holds.now) nodes.old nodes.new ss entry.old entry.new plan.now.head
         (Outcome.Given buffers held) }
-    ensures named { AreNamed nodes.new.table }
-    ensures len { table_len nodes.new.table ≡ table_len nodes.old.table }
+    ensures kept { KeepsRows nodes.old nodes.new }
     ensures room { vec_capacity room.old.removed ≤ vec_capacity room.new.removed }
 {
     let head = plan.head;
@@ -350,9 +348,8 @@ fn settle_first(
     room: &mut Scratch,
 )
     requires few { gives_few verdict ≡ true }
-    requires going { table_len nodes.old.table ≤ vec_capacity room.old.removed }
+    requires room { HasRoom nodes.old room.old }
     requires listed { IsUnitListed nodes.old.table plan.now.head room.old.unit.items }
-    requires turns { table_len nodes.old.table ≤ vec_capacity room.old.pending }
     requires named { AreNamed nodes.old.table }
     requires there { IsSome (row_at nodes.old.table plan.now.head) }
     ensures rooted { (ss : List Shelf) → MidEventIn nodes.old ss entry.old [] (plan.now.head ∷ []) →
@@ -361,8 +358,7 @@ fn settle_first(
         (nodes_in nodes.old entry.old)) →
         IsRootedIn (total holds.now) nodes.old nodes.new ss entry.old entry.new plan.now.head
         verdict }
-    ensures named { AreNamed nodes.new.table }
-    ensures len { table_len nodes.new.table ≡ table_len nodes.old.table }
+    ensures kept { KeepsRows nodes.old nodes.new }
     ensures room { vec_capacity room.old.removed ≤ vec_capacity room.new.removed }
 {
     match verdict {
@@ -398,15 +394,12 @@ pub fn allocate_root(
     requires ready { ReadyAt store.old at (Changed.Effect made.now.key made.now.effect) }
     requires worked { IsWorkedOutAt store.old at made.now }
     requires pool { IsPoolOf pool.old (forest_in store.old) }
-    requires going { table_len store.old.nodes.table ≤ vec_capacity room.old.removed }
+    requires room { HasRoom store.old.nodes room.old }
     requires unit { table_len store.old.nodes.table ≤ vec_capacity room.old.unit }
-    requires turns { table_len store.old.nodes.table ≤ vec_capacity room.old.pending }
     ensures outcome { OutcomeAt (was_made result) (total holds.now) pool.old pool.new store.old
         store.new at (Changed.Effect made.now.key made.now.effect) }
-    ensures same { result ≡ Ok false → (store.new ≡ store.old) × (pool.new ≡ pool.old) }
-    ensures room { result ≡ Ok false →
-        (vec_capacity room.old.removed ≤ vec_capacity room.new.removed)
-        × (vec_capacity room.old.pending ≤ vec_capacity room.new.pending) }
+    ensures same { result ≡ Ok false →
+        (store.new ≡ store.old) × (pool.new ≡ pool.old) × KeepsRoom room.old room.new }
     ensures waits { result ≡ Ok false → WaitsNot store.old at made.now.key made.now.effect }
 {
     let Some(counts) = &made.counts else {

@@ -8,14 +8,13 @@ ghost use Rattle.node_table.specs.Table.{node_at, row_at, table_len};
 ghost use Rattle.forest_store.specs.declared.node.Node.{Node as NodeValue};
 ghost use Rattle.forest_store.specs.Counts.{decrement_if, is_unready, unit_then};
 ghost use Rattle.forest_store.specs.Due.{is_due_at};
-ghost use Rattle.forest_store.specs.Unforced.{is_plain as is_plain_effect};
 ghost use Rattle.forest_store.specs.Shelves.{Shelf, is_strong};
 ghost use Rattle.forest_store.specs.Nodes.{affected};
 ghost use Rattle.forest_store.specs.Questions.{is_live_node};
 ghost use Rattle.forest_store.specs.Reserved.{camped};
 ghost use Rattle.forest_store.specs.Scenes.{has_tracker_room};
 ghost use Rattle.forest_store.specs.Stores.{AreNamed, StoreAgrees};
-ghost use Rattle.forest_steps.specs.NodeEffects.{IsWorkedOut, MayMake};
+ghost use Rattle.forest_steps.specs.NodeEffects.{IsWorkedOut, MayMake, keeps_counts};
 ghost use Rattle.forest_steps.specs.StoreSteps.{EffectMadeIn};
 
 use forest_store::change::Effect;
@@ -57,11 +56,10 @@ pub struct NodeEffect {
 }
 
 /// Whether the effect changes none of the counts: it neither releases its node nor makes it weak, nor
-/// sets its constraints.
-fn keeps_counts(effect: &Effect) -> bool
-    ensures plain { result ≡ true → is_plain_effect effect.now ≡ true }
-    ensures strong { result ≡ true → (key : Key) (n : NodeValue) →
-        is_strong (affected key effect.now n) ≡ is_strong n }
+/// sets its constraints. It costs a constant.
+#[inline(always)]
+pub fn keeps_counts(effect: &Effect) -> bool
+    ensures { result ≡ keeps_counts effect.now }
 {
     match *effect {
         Effect::Bound | Effect::Dispensable | Effect::WeakOk(_) | Effect::Taken | Effect::Tracked =>
@@ -234,8 +232,8 @@ fn counts_after(
     }
 }
 
-/// Works the effect out on the node with this key of the entry's collection. It costs a constant, and
-/// for an effect that changes no count a look at its kind.
+/// Works the effect out on the node with this key of the entry's collection: counts what changes by it.
+/// It costs a constant.
 #[inline(always)]
 pub fn work_out(nodes: &NodeStore, entry: &Entry, key: NodeKey, effect: Effect) -> NodeEffect
     requires { IsSome (row_at nodes.now.table key) }
@@ -243,13 +241,6 @@ pub fn work_out(nodes: &NodeStore, entry: &Entry, key: NodeKey, effect: Effect) 
     ensures effect { result.effect ≡ effect }
     ensures worked { IsWorkedOut nodes.now entry.now result }
 {
-    if keeps_counts(&effect) {
-        return NodeEffect {
-            key,
-            effect,
-            counts: None,
-        };
-    }
     let Some(node) = nodes.table.get(key) else {
         unreachable!();
     };

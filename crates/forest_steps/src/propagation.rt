@@ -11,7 +11,7 @@ ghost use Rattle.forest_store.specs.Scenes.{given_few};
 ghost use Rattle.forest_steps.specs.MidEvent.{waits_among};
 ghost use Rattle.forest_steps.specs.NodeEffects.{MayMake};
 ghost use Rattle.forest_store.specs.Stores.{AreNamed, nodes_in};
-ghost use Rattle.forest_steps.specs.StoreSteps.{AfterPropagationIn, IsRootAsleep, MidEventIn, PropagatedIn};
+ghost use Rattle.forest_steps.specs.StoreSteps.{AfterPropagationIn, HasRoom, IsRootAsleep, MidEventIn, PropagatedIn};
 
 use crate::logical_allocation::is_next;
 use crate::node_effect::{NodeEffect, make_effect};
@@ -58,8 +58,7 @@ fn allocate_ready(
 )
     requires few { given_few (Some buffers) ≡ true }
     requires named { AreNamed nodes.old.table }
-    requires going { table_len nodes.old.table ≤ vec_capacity room.old.removed }
-    requires turns { table_len nodes.old.table ≤ vec_capacity room.old.pending }
+    requires room { HasRoom nodes.old room.old }
     ensures out { (ss : List Shelf) → MidEventIn nodes.old ss entry.old [] (head ∷ []) →
         list_any (is_of head) (nodes_in nodes.old entry.old) ≡ true →
         waits_among [] (nodes_in nodes.old entry.old) ≡ true → entry.old.buffers ≡ Some buffers →
@@ -102,8 +101,7 @@ pub fn apply_effect(
     requires few { given_few entry.old.buffers ≡ true }
     requires named { AreNamed nodes.old.table }
     requires may { MayMake nodes.old entry.old made.now }
-    requires going { table_len nodes.old.table ≤ vec_capacity room.old.removed }
-    requires turns { table_len nodes.old.table ≤ vec_capacity room.old.pending }
+    requires room { HasRoom nodes.old room.old }
     ensures out { (ss : List Shelf) (n : NodeValue) →
         node_at nodes.old.table made.now.key ≡ Some n →
         n.gone ≡ false → n.collection ≡ entry.old.id →

@@ -8,7 +8,7 @@ ghost use Rattle.forest_store.specs.Shelves.{Shelf};
 ghost use Rattle.forest_store.specs.Settling.{Handles};
 ghost use Rattle.forest_steps.specs.MidEvent.{AreOrEnd, is_head_left};
 ghost use Rattle.forest_store.specs.Stores.{AreNamed, nodes_in};
-ghost use Rattle.forest_steps.specs.StoreSteps.{AfterLossIn, AfterStepsIn, MidEventIn};
+ghost use Rattle.forest_steps.specs.StoreSteps.{AfterLossIn, AfterStepsIn, KeepsRows, MidEventIn};
 
 use crate::removal::remove_subtree;
 use forest_store::entry::Entry;
@@ -71,10 +71,9 @@ pub(crate) fn end_above(
         MidEventIn nodes.old ss entry.old (head ∷ []) pending →
         is_head_left (nodes_in nodes.old entry.old) head ≡ true →
         AreOrEnd (nodes_in nodes.old entry.old) (nodes_in nodes.new entry.old) }
-    ensures named { AreNamed nodes.new.table }
     ensures there { (key : Key) → IsSome (row_at nodes.old.table key) →
         IsSome (row_at nodes.new.table key) }
-    ensures len { table_len nodes.new.table ≡ table_len nodes.old.table }
+    ensures kept { KeepsRows nodes.old nodes.new }
     ensures room { vec_capacity keys.old ≤ vec_capacity keys.new }
 {
     if is_held_by(&unit_in(&nodes.units, head.slot as usize)) {

@@ -1,6 +1,5 @@
 -- A change to a collection, and how it is put back.
 pub mod Altering
-pub mod Done
 pub mod Effecting
 pub mod Finishing
-pub mod Reserving
+pub mod Opening

@@ -1,6 +1,6 @@
 -- What the table and the shelves are once nodes are forgotten. No public clause of `alloc_event` cites this module.
 use Rattle.std.specs.Prelude.{◌≡◌, ◌≢◌, ℕ, ◌+◌, ◌<◌, Bool, true, false, ◌==◌, ◌&&◌, ◌||◌, not, if◌then◌else◌, List, [], map, length, get_or, Option, Some, None, is_some, IsSome, Contains}
-use Rattle.std.specs.List.{filter, list_all, list_any}
+use Rattle.std.specs.List.{filter, find, list_all, list_any}
 use Rattle.std.specs.Option.{option_map_or}
 use Rattle.sm_names.specs.declared.keys.NodeKey.{NodeKey}
 use Rattle.sm_names.specs.Sameness.{same_key}
@@ -43,6 +43,11 @@ unless_over o = if option_map_or is_over o false then None else o
 -- what a key finds once the nodes with these keys that are over are taken out
 abbrev pub left_at : Table Node → List NodeKey → NodeKey → Option Node
 left_at t keys key = if list_any (same_key key) keys then unless_over (node_at t key) else node_at t key
+
+-- of the shelf with this id, the nodes that are over are taken out; without such a shelf nothing is
+pub record IsLeftIn (old new : Table Node) (id : ℕ) (ss : List Shelf) : Type 0 where
+  pub look : (s : Shelf) → find (λ (x : Shelf). x.id == id) ss ≡ Some s → (k : NodeKey) → node_at new k ≡ left_at old s.keys k
+  pub none : find (λ (x : Shelf). x.id == id) ss ≡ None → new ≡ old
 
 -- the table has a node of the key
 abbrev pub is_found : Table Node → NodeKey → Bool

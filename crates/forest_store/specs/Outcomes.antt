@@ -35,20 +35,6 @@ pub record IsUnchanged (old now : Table Node) (before behind : List Entry) : Typ
   pub table : now ≡ old
   pub entries : behind ≡ before
 
--- the change was made with all that it forces, whatever the size of the pool, and the shelves are the same
-pub record IsSettled (handles : Handles) (old now : Table Node) (before behind : List Entry) (id : ℕ) (change : Change) : Type 0 where
-  pub finishes : (pool : ℕ) → Finishes pool handles old (shelves_of before) now (shelves_of behind) (changed_in old before id change)
-  pub shelves : shelves_of behind ≡ shelves_of before
-  pub kept : IsStored now (shelves_of before)
-  pub counted : AreCounted now behind
-
--- so it was, or nothing changed
-pub record IsOutcome (made : Bool) (handles : Handles) (old now : Table Node) (before behind : List Entry) (id : ℕ) (change : Change)
-    : Type 0 where
-  pub settled : made ≡ true → IsSettled handles old now before behind id change
-  pub unchanged : made ≡ false → IsUnchanged old now before behind
-  pub same : SameTable old now
-
 -- the change was made with all that it forces
 pub record IsSettledIn (handles : Handles) (pool after : Holdings) (old now : Table Node) (before behind : List Entry) (id : ℕ)
     (change : Change) : Type 0 where

@@ -11,7 +11,7 @@ ghost use Rattle.forest_store.specs.declared.node.Node.{Node as NodeValue};
 ghost use Rattle.forest_store.specs.declared.entry.Entry.{Entry as KeptEntry};
 ghost use Rattle.forest_store.specs.Calm.{AreCounted, over_except};
 ghost use Rattle.forest_store.specs.Forest.{without_over_in};
-ghost use Rattle.forest_store.specs.Garbage.{AreAllOver, IsChild, IsForgettable, IsNotedIn, IsNoting, IsPlace, IsThinned, Unlinks, TakesOut, is_bare, is_found, is_left_by, is_own_if_over, left_at, thinned, thin_in, without_bare};
+ghost use Rattle.forest_store.specs.Garbage.{AreAllOver, IsChild, IsForgettable, IsLeftIn, IsNotedIn, IsNoting, IsPlace, IsThinned, Unlinks, TakesOut, is_bare, is_found, is_left_by, is_own_if_over, left_at, thinned, thin_in, without_bare};
 ghost use Rattle.forest_store.specs.Shelves.{AreRising, IsStored, Shelf, are_apart, collection_in, nodes_with, shelf_of, shelves_of};
 ghost use Rattle.forest_store.specs.Nodes.{is_over};
 ghost use Rattle.forest_store.specs.Stores.{AreNamed};
@@ -276,11 +276,7 @@ fn forget_nodes(table: &mut NodeTable<Node>, entries: &mut Vec<Entry>, id: Colle
     requires counted { AreCounted table.old entries.old.items }
     ensures shelves { shelves_of entries.new.items
         ≡ thin_in table.new id (shelves_of entries.old.items) }
-    ensures look { (s : Shelf) →
-        find (λ (x : Shelf). x.id == id) (shelves_of entries.old.items) ≡ Some s →
-        (k : Key) → node_at table.new k ≡ left_at table.old s.keys k }
-    ensures none { find (λ (x : Shelf). x.id == id) (shelves_of entries.old.items) ≡ None →
-        table.new ≡ table.old }
+    ensures left { IsLeftIn table.old table.new id (shelves_of entries.old.items) }
     ensures kept { IsStored table.new (map (thinned table.new) (shelves_of entries.old.items)) }
     ensures counted { AreCounted table.new entries.new.items }
     ensures keys { SameKeys table.old table.new }

@@ -2,7 +2,7 @@
 //! units hang right below them.
 ghost use Rattle.std.specs.Prelude.{◌≡◌, ◌<◌, ◌≤◌, [], ◌∷◌, set, length, OnOk};
 ghost use Rattle.node_table.specs.Table.{table_len};
-ghost use Rattle.forest_store.specs.Counts.{Extends, decrement_if, head_above, head_of, hung, is_held_by, is_unready, no_unit, raised, reckoned, tallied, unit_at, unit_then, with_below, with_node};
+ghost use Rattle.forest_store.specs.Counts.{Extends, decrement_if, head_above, head_of, hung, is_held_by, is_unready, no_unit, raised, reckoned, tallied, unit_at, with_below, with_node};
 ghost use Rattle.forest_store.specs.Shelves.{nodes_with};
 
 use crate::lookup::is_live;
@@ -54,18 +54,6 @@ pub fn decrement_if(count: usize, was: bool, is: bool) -> usize
         count - 1
     } else {
         count
-    }
-}
-
-/// The counts of the unit of the first node once it is the second one.
-pub fn unit_then(units: &[Unit], node: &Node, after: &Node) -> Unit
-    ensures { result ≡ unit_then units.now node.now after.now }
-{
-    let unit = unit_in(units, node.head.slot as usize);
-    Unit {
-        live: decrement_if(unit.live, is_live(node), is_live(after)),
-        unready: decrement_if(unit.unready, is_unready(node), is_unready(after)),
-        below: unit.below,
     }
 }
 

@@ -1,12 +1,309 @@
-//! A function for each kind of call. There the compiler knows what the call is, so that it leaves out
-//! each question for it, and what only other calls need. For that all that looks at the call by
+//! One function, compiled once for each kind of call. There the compiler knows what the call is, so that it
+//! leaves out each question for it, and what only other calls need. For that all that looks at the call by
 //! reference on its way is marked `inline(always)`: the toolchain drops such a mark, without a word,
 //! from a function that becomes longer than some 6,000 lines of LLVM's language. Asking what a call
 //! does and taking it are two methods of the core, and meet only here, so that each stays shorter.
-ghost use Rattle.lifetime_core.specs.Theorem.{Stepped};
+ghost use Rattle.std.specs.Prelude.{◌≡◌};
+ghost use Rattle.sm_names.specs.declared.messages.Call.{Call as Made};
+ghost use Rattle.core_state.specs.Theorem.{Stepped};
 
 use crate::machine::Core;
 use sm_names::{BufferName, Call, ClientId, Constraints, NodeKey, Reply, StepFault, Strength};
+
+/// What is named in a call of one kind, which the compiler knows.
+trait KnownCall {
+    ghost made: { Self → Made };
+
+    /// The call of this kind that names this.
+    fn call(self) -> Call
+        ensures { result ≡ made self };
+}
+
+struct Join;
+
+impl KnownCall for Join {
+    ghost made = { λ k. Made.Join };
+
+    #[inline(always)]
+    fn call(self) -> Call {
+        let Join = self;
+        Call::Join
+    }
+}
+
+struct Shut;
+
+impl KnownCall for Shut {
+    ghost made = { λ k. Made.Shut };
+
+    #[inline(always)]
+    fn call(self) -> Call {
+        let Shut = self;
+        Call::Shut
+    }
+}
+
+struct OpenRoot;
+
+impl KnownCall for OpenRoot {
+    ghost made = { λ k. Made.OpenRoot };
+
+    #[inline(always)]
+    fn call(self) -> Call {
+        let OpenRoot = self;
+        Call::OpenRoot
+    }
+}
+
+struct Duplicate(NodeKey);
+
+impl KnownCall for Duplicate {
+    ghost made = { λ k. Made.Duplicate k.0 };
+
+    #[inline(always)]
+    fn call(self) -> Call {
+        let Duplicate(key) = self;
+        Call::Duplicate(key)
+    }
+}
+
+struct AttachToken(NodeKey);
+
+impl KnownCall for AttachToken {
+    ghost made = { λ k. Made.AttachToken k.0 };
+
+    #[inline(always)]
+    fn call(self) -> Call {
+        let AttachToken(key) = self;
+        Call::AttachToken(key)
+    }
+}
+
+struct Sync(NodeKey);
+
+impl KnownCall for Sync {
+    ghost made = { λ k. Made.Sync k.0 };
+
+    #[inline(always)]
+    fn call(self) -> Call {
+        let Sync(key) = self;
+        Call::Sync(key)
+    }
+}
+
+struct Give(NodeKey, ClientId);
+
+impl KnownCall for Give {
+    ghost made = { λ k. Made.Give k.0 k.1 };
+
+    #[inline(always)]
+    fn call(self) -> Call {
+        let Give(key, to) = self;
+        Call::Give(key, to)
+    }
+}
+
+struct Collect;
+
+impl KnownCall for Collect {
+    ghost made = { λ k. Made.Collect };
+
+    #[inline(always)]
+    fn call(self) -> Call {
+        let Collect = self;
+        Call::Collect
+    }
+}
+
+struct Bind(NodeKey);
+
+impl KnownCall for Bind {
+    ghost made = { λ k. Made.Bind k.0 };
+
+    #[inline(always)]
+    fn call(self) -> Call {
+        let Bind(key) = self;
+        Call::Bind(key)
+    }
+}
+
+struct SetDispensable(NodeKey);
+
+impl KnownCall for SetDispensable {
+    ghost made = { λ k. Made.SetDispensable k.0 };
+
+    #[inline(always)]
+    fn call(self) -> Call {
+        let SetDispensable(key) = self;
+        Call::SetDispensable(key)
+    }
+}
+
+struct SetWeak(NodeKey);
+
+impl KnownCall for SetWeak {
+    ghost made = { λ k. Made.SetWeak k.0 };
+
+    #[inline(always)]
+    fn call(self) -> Call {
+        let SetWeak(key) = self;
+        Call::SetWeak(key)
+    }
+}
+
+struct SetWeakOk(NodeKey, bool);
+
+impl KnownCall for SetWeakOk {
+    ghost made = { λ k. Made.SetWeakOk k.0 k.1 };
+
+    #[inline(always)]
+    fn call(self) -> Call {
+        let SetWeakOk(key, children) = self;
+        Call::SetWeakOk(key, children)
+    }
+}
+
+struct SetConstraints(NodeKey, Constraints);
+
+impl KnownCall for SetConstraints {
+    ghost made = { λ k. Made.SetConstraints k.0 k.1 };
+
+    #[inline(always)]
+    fn call(self) -> Call {
+        let SetConstraints(key, constraints) = self;
+        Call::SetConstraints(key, constraints)
+    }
+}
+
+struct Check(NodeKey);
+
+impl KnownCall for Check {
+    ghost made = { λ k. Made.Check k.0 };
+
+    #[inline(always)]
+    fn call(self) -> Call {
+        let Check(key) = self;
+        Call::Check(key)
+    }
+}
+
+struct Take(NodeKey);
+
+impl KnownCall for Take {
+    ghost made = { λ k. Made.Take k.0 };
+
+    #[inline(always)]
+    fn call(self) -> Call {
+        let Take(key) = self;
+        Call::Take(key)
+    }
+}
+
+struct Release(NodeKey);
+
+impl KnownCall for Release {
+    ghost made = { λ k. Made.Release k.0 };
+
+    #[inline(always)]
+    fn call(self) -> Call {
+        let Release(key) = self;
+        Call::Release(key)
+    }
+}
+
+struct Close(NodeKey);
+
+impl KnownCall for Close {
+    ghost made = { λ k. Made.Close k.0 };
+
+    #[inline(always)]
+    fn call(self) -> Call {
+        let Close(key) = self;
+        Call::Close(key)
+    }
+}
+
+struct DupHandle(BufferName, Strength);
+
+impl KnownCall for DupHandle {
+    ghost made = { λ k. Made.DupHandle k.0 k.1 };
+
+    #[inline(always)]
+    fn call(self) -> Call {
+        let DupHandle(buffer, strength) = self;
+        Call::DupHandle(buffer, strength)
+    }
+}
+
+struct DropHandle(BufferName, Strength);
+
+impl KnownCall for DropHandle {
+    ghost made = { λ k. Made.DropHandle k.0 k.1 };
+
+    #[inline(always)]
+    fn call(self) -> Call {
+        let DropHandle(buffer, strength) = self;
+        Call::DropHandle(buffer, strength)
+    }
+}
+
+struct GiveHandle(BufferName, Strength, ClientId);
+
+impl KnownCall for GiveHandle {
+    ghost made = { λ k. Made.GiveHandle k.0 k.1 k.2 };
+
+    #[inline(always)]
+    fn call(self) -> Call {
+        let GiveHandle(buffer, strength, to) = self;
+        Call::GiveHandle(buffer, strength, to)
+    }
+}
+
+struct TrackNode(NodeKey);
+
+impl KnownCall for TrackNode {
+    ghost made = { λ k. Made.TrackNode k.0 };
+
+    #[inline(always)]
+    fn call(self) -> Call {
+        let TrackNode(key) = self;
+        Call::TrackNode(key)
+    }
+}
+
+struct TrackLifetime(NodeKey, u32);
+
+impl KnownCall for TrackLifetime {
+    ghost made = { λ k. Made.TrackLifetime k.0 k.1 };
+
+    #[inline(always)]
+    fn call(self) -> Call {
+        let TrackLifetime(key, most) = self;
+        Call::TrackLifetime(key, most)
+    }
+}
+
+struct TrackWeak(BufferName);
+
+impl KnownCall for TrackWeak {
+    ghost made = { λ k. Made.TrackWeak k.0 };
+
+    #[inline(always)]
+    fn call(self) -> Call {
+        let TrackWeak(buffer) = self;
+        Call::TrackWeak(buffer)
+    }
+}
+
+/// Takes one call of a kind that the compiler knows, as `Core::step` says.
+#[inline(never)]
+fn take_one<K: KnownCall>(core: &mut Core, client: ClientId, kind: K) -> Result<Reply, StepFault>
+    ensures { Stepped core.old core.new client (K.made kind) result }
+{
+    let call = kind.call();
+    let asked = core.asked_of(client, &call);
+    core.take_asked(client, &call, &asked)
+}
 
 /// Takes one call, as `Core::step` says: the one place that asks what kind of call it is.
 #[inline(always)]
@@ -18,266 +315,36 @@ pub(crate) fn take_by_kind(
     ensures { Stepped core.old core.new client call result }
 {
     match call {
-        Call::Join => join(core, client),
-        Call::Shut => shut(core, client),
-        Call::OpenRoot => open_root(core, client),
-        Call::Duplicate(key) => duplicate(core, client, key),
-        Call::AttachToken(key) => attach_token(core, client, key),
-        Call::Sync(key) => sync(core, client, key),
-        Call::Give(key, to) => give(core, client, key, to),
-        Call::Collect => collect(core, client),
-        Call::Bind(key) => bind(core, client, key),
-        Call::SetDispensable(key) => set_dispensable(core, client, key),
-        Call::SetWeak(key) => set_weak(core, client, key),
-        Call::SetWeakOk(key, children) => set_weak_ok(core, client, key, children),
-        Call::SetConstraints(key, constraints) => set_constraints(core, client, key, constraints),
-        Call::Check(key) => check(core, client, key),
-        Call::Take(key) => take(core, client, key),
-        Call::Release(key) => release(core, client, key),
-        Call::Close(key) => close(core, client, key),
-        Call::DupHandle(buffer, strength) => dup_handle(core, client, buffer, strength),
-        Call::DropHandle(buffer, strength) => drop_handle(core, client, buffer, strength),
-        Call::GiveHandle(buffer, strength, to) => give_handle(core, client, buffer, strength, to),
-        Call::TrackNode(key) => track_node(core, client, key),
-        Call::TrackLifetime(key, most) => track_lifetime(core, client, key, most),
-        Call::TrackWeak(buffer) => track_weak(core, client, buffer),
+        Call::Join => take_one(core, client, Join),
+        Call::Shut => take_one(core, client, Shut),
+        Call::OpenRoot => take_one(core, client, OpenRoot),
+        Call::Duplicate(key) => take_one(core, client, Duplicate(key)),
+        Call::AttachToken(key) => take_one(core, client, AttachToken(key)),
+        Call::Sync(key) => take_one(core, client, Sync(key)),
+        Call::Give(key, to) => take_one(core, client, Give(key, to)),
+        Call::Collect => take_one(core, client, Collect),
+        Call::Bind(key) => take_one(core, client, Bind(key)),
+        Call::SetDispensable(key) => take_one(core, client, SetDispensable(key)),
+        Call::SetWeak(key) => take_one(core, client, SetWeak(key)),
+        Call::SetWeakOk(key, children) => take_one(core, client, SetWeakOk(key, children)),
+        Call::SetConstraints(key, constraints) => take_one(
+            core,
+            client,
+            SetConstraints(key, constraints),
+        ),
+        Call::Check(key) => take_one(core, client, Check(key)),
+        Call::Take(key) => take_one(core, client, Take(key)),
+        Call::Release(key) => take_one(core, client, Release(key)),
+        Call::Close(key) => take_one(core, client, Close(key)),
+        Call::DupHandle(buffer, strength) => take_one(core, client, DupHandle(buffer, strength)),
+        Call::DropHandle(buffer, strength) => take_one(core, client, DropHandle(buffer, strength)),
+        Call::GiveHandle(buffer, strength, to) => take_one(
+            core,
+            client,
+            GiveHandle(buffer, strength, to),
+        ),
+        Call::TrackNode(key) => take_one(core, client, TrackNode(key)),
+        Call::TrackLifetime(key, most) => take_one(core, client, TrackLifetime(key, most)),
+        Call::TrackWeak(buffer) => take_one(core, client, TrackWeak(buffer)),
     }
-}
-
-#[inline(never)]
-fn join(core: &mut Core, client: ClientId) -> Result<Reply, StepFault>
-    ensures { Stepped core.old core.new client Call.Join result }
-{
-    let call = Call::Join;
-    let asked = core.asked_of(client, &call);
-    core.take_asked(client, &call, &asked)
-}
-
-#[inline(never)]
-fn shut(core: &mut Core, client: ClientId) -> Result<Reply, StepFault>
-    ensures { Stepped core.old core.new client Call.Shut result }
-{
-    let call = Call::Shut;
-    let asked = core.asked_of(client, &call);
-    core.take_asked(client, &call, &asked)
-}
-
-#[inline(never)]
-fn open_root(core: &mut Core, client: ClientId) -> Result<Reply, StepFault>
-    ensures { Stepped core.old core.new client Call.OpenRoot result }
-{
-    let call = Call::OpenRoot;
-    let asked = core.asked_of(client, &call);
-    core.take_asked(client, &call, &asked)
-}
-
-#[inline(never)]
-fn duplicate(core: &mut Core, client: ClientId, key: NodeKey) -> Result<Reply, StepFault>
-    ensures { Stepped core.old core.new client (Call.Duplicate key) result }
-{
-    let call = Call::Duplicate(key);
-    let asked = core.asked_of(client, &call);
-    core.take_asked(client, &call, &asked)
-}
-
-#[inline(never)]
-fn attach_token(core: &mut Core, client: ClientId, key: NodeKey) -> Result<Reply, StepFault>
-    ensures { Stepped core.old core.new client (Call.AttachToken key) result }
-{
-    let call = Call::AttachToken(key);
-    let asked = core.asked_of(client, &call);
-    core.take_asked(client, &call, &asked)
-}
-
-#[inline(never)]
-fn sync(core: &mut Core, client: ClientId, key: NodeKey) -> Result<Reply, StepFault>
-    ensures { Stepped core.old core.new client (Call.Sync key) result }
-{
-    let call = Call::Sync(key);
-    let asked = core.asked_of(client, &call);
-    core.take_asked(client, &call, &asked)
-}
-
-#[inline(never)]
-fn give(core: &mut Core, client: ClientId, key: NodeKey, to: ClientId) -> Result<Reply, StepFault>
-    ensures { Stepped core.old core.new client (Call.Give key to) result }
-{
-    let call = Call::Give(key, to);
-    let asked = core.asked_of(client, &call);
-    core.take_asked(client, &call, &asked)
-}
-
-#[inline(never)]
-fn collect(core: &mut Core, client: ClientId) -> Result<Reply, StepFault>
-    ensures { Stepped core.old core.new client Call.Collect result }
-{
-    let call = Call::Collect;
-    let asked = core.asked_of(client, &call);
-    core.take_asked(client, &call, &asked)
-}
-
-#[inline(never)]
-fn bind(core: &mut Core, client: ClientId, key: NodeKey) -> Result<Reply, StepFault>
-    ensures { Stepped core.old core.new client (Call.Bind key) result }
-{
-    let call = Call::Bind(key);
-    let asked = core.asked_of(client, &call);
-    core.take_asked(client, &call, &asked)
-}
-
-#[inline(never)]
-fn set_dispensable(core: &mut Core, client: ClientId, key: NodeKey) -> Result<Reply, StepFault>
-    ensures { Stepped core.old core.new client (Call.SetDispensable key) result }
-{
-    let call = Call::SetDispensable(key);
-    let asked = core.asked_of(client, &call);
-    core.take_asked(client, &call, &asked)
-}
-
-#[inline(never)]
-fn set_weak(core: &mut Core, client: ClientId, key: NodeKey) -> Result<Reply, StepFault>
-    ensures { Stepped core.old core.new client (Call.SetWeak key) result }
-{
-    let call = Call::SetWeak(key);
-    let asked = core.asked_of(client, &call);
-    core.take_asked(client, &call, &asked)
-}
-
-#[inline(never)]
-fn set_weak_ok(
-    core: &mut Core,
-    client: ClientId,
-    key: NodeKey,
-    children: bool,
-) -> Result<Reply, StepFault>
-    ensures { Stepped core.old core.new client (Call.SetWeakOk key children) result }
-{
-    let call = Call::SetWeakOk(key, children);
-    let asked = core.asked_of(client, &call);
-    core.take_asked(client, &call, &asked)
-}
-
-#[inline(never)]
-fn set_constraints(
-    core: &mut Core,
-    client: ClientId,
-    key: NodeKey,
-    constraints: Constraints,
-) -> Result<Reply, StepFault>
-    ensures { Stepped core.old core.new client (Call.SetConstraints key constraints) result }
-{
-    let call = Call::SetConstraints(key, constraints);
-    let asked = core.asked_of(client, &call);
-    core.take_asked(client, &call, &asked)
-}
-
-#[inline(never)]
-fn check(core: &mut Core, client: ClientId, key: NodeKey) -> Result<Reply, StepFault>
-    ensures { Stepped core.old core.new client (Call.Check key) result }
-{
-    let call = Call::Check(key);
-    let asked = core.asked_of(client, &call);
-    core.take_asked(client, &call, &asked)
-}
-
-#[inline(never)]
-fn take(core: &mut Core, client: ClientId, key: NodeKey) -> Result<Reply, StepFault>
-    ensures { Stepped core.old core.new client (Call.Take key) result }
-{
-    let call = Call::Take(key);
-    let asked = core.asked_of(client, &call);
-    core.take_asked(client, &call, &asked)
-}
-
-#[inline(never)]
-fn release(core: &mut Core, client: ClientId, key: NodeKey) -> Result<Reply, StepFault>
-    ensures { Stepped core.old core.new client (Call.Release key) result }
-{
-    let call = Call::Release(key);
-    let asked = core.asked_of(client, &call);
-    core.take_asked(client, &call, &asked)
-}
-
-#[inline(never)]
-fn close(core: &mut Core, client: ClientId, key: NodeKey) -> Result<Reply, StepFault>
-    ensures { Stepped core.old core.new client (Call.Close key) result }
-{
-    let call = Call::Close(key);
-    let asked = core.asked_of(client, &call);
-    core.take_asked(client, &call, &asked)
-}
-
-#[inline(never)]
-fn dup_handle(
-    core: &mut Core,
-    client: ClientId,
-    buffer: BufferName,
-    strength: Strength,
-) -> Result<Reply, StepFault>
-    ensures { Stepped core.old core.new client (Call.DupHandle buffer strength) result }
-{
-    let call = Call::DupHandle(buffer, strength);
-    let asked = core.asked_of(client, &call);
-    core.take_asked(client, &call, &asked)
-}
-
-#[inline(never)]
-fn drop_handle(
-    core: &mut Core,
-    client: ClientId,
-    buffer: BufferName,
-    strength: Strength,
-) -> Result<Reply, StepFault>
-    ensures { Stepped core.old core.new client (Call.DropHandle buffer strength) result }
-{
-    let call = Call::DropHandle(buffer, strength);
-    let asked = core.asked_of(client, &call);
-    core.take_asked(client, &call, &asked)
-}
-
-#[inline(never)]
-fn give_handle(
-    core: &mut Core,
-    client: ClientId,
-    buffer: BufferName,
-    strength: Strength,
-    to: ClientId,
-) -> Result<Reply, StepFault>
-    ensures { Stepped core.old core.new client (Call.GiveHandle buffer strength to) result }
-{
-    let call = Call::GiveHandle(buffer, strength, to);
-    let asked = core.asked_of(client, &call);
-    core.take_asked(client, &call, &asked)
-}
-
-#[inline(never)]
-fn track_node(core: &mut Core, client: ClientId, key: NodeKey) -> Result<Reply, StepFault>
-    ensures { Stepped core.old core.new client (Call.TrackNode key) result }
-{
-    let call = Call::TrackNode(key);
-    let asked = core.asked_of(client, &call);
-    core.take_asked(client, &call, &asked)
-}
-
-#[inline(never)]
-fn track_lifetime(
-    core: &mut Core,
-    client: ClientId,
-    key: NodeKey,
-    most: u32,
-) -> Result<Reply, StepFault>
-    ensures { Stepped core.old core.new client (Call.TrackLifetime key most) result }
-{
-    let call = Call::TrackLifetime(key, most);
-    let asked = core.asked_of(client, &call);
-    core.take_asked(client, &call, &asked)
-}
-
-#[inline(never)]
-fn track_weak(core: &mut Core, client: ClientId, buffer: BufferName) -> Result<Reply, StepFault>
-    ensures { Stepped core.old core.new client (Call.TrackWeak buffer) result }
-{
-    let call = Call::TrackWeak(buffer);
-    let asked = core.asked_of(client, &call);
-    core.take_asked(client, &call, &asked)
 }

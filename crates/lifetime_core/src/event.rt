@@ -4,19 +4,20 @@ ghost use Rattle.std.specs.List.{All};
 ghost use Rattle.trackers.specs.Table.{Cell};
 ghost use Rattle.forest_store.specs.Forest.{IsPoolOf};
 ghost use Rattle.buffer_holds.specs.Counts.{total};
-ghost use Rattle.lifetime_core.specs.Hands.{MayMove, collects_handle};
-ghost use Rattle.lifetime_core.specs.State.{Client as Row, counts_of};
-ghost use Rattle.lifetime_core.specs.Tasks.{AsksOnly, MayDo, TakesEffect, may_take_memory, takes_room};
-ghost use Rattle.lifetime_core.specs.Tasks.{changes_nothing as is_idle, with_key};
-ghost use Rattle.lifetime_core.specs.Whole.{AreOut, Rise};
+ghost use Rattle.core_state.specs.Hands.{MayMove, collects_handle};
+ghost use Rattle.core_state.specs.State.{Client as Row, counts_of};
+ghost use Rattle.core_state.specs.Tasks.{AsksOnly, MayDo, TakesEffect, may_take_memory, takes_room};
+ghost use Rattle.core_state.specs.Tasks.{with_key};
+ghost use Rattle.core_state.specs.Whole.{AreOut, Rise};
 
-use crate::clients::{Client, note_client};
-use crate::hands::{hand_back, hand_over, tidy_up};
 use crate::sweeping::{attach, detach};
-use crate::task::{Task, make_change};
+use crate::task::make_change;
 use alloc_event::Forest;
 use buffer_holds::Holds;
 use buffer_pool::Pool;
+use core_state::clients::{Client, note_client};
+use core_state::hands::{hand_back, hand_over, tidy_up};
+use core_state::task::Task;
 use sm_names::{Call, ClientId, NoMemory, NodeKey, Reply};
 use trackers::{Trackers, Waiting};
 
@@ -31,35 +32,6 @@ pub(crate) struct Contents {
     pub(crate) trackers: Trackers,
 }
 
-/// What is answered to a call, but for the key of a new node, and what the call does then, found
-/// before anything changes.
-#[derive(Clone, Copy)]
-pub(crate) struct Asked {
-    pub(crate) reply: Reply,
-    pub(crate) task: Option<Task>,
-    pub(crate) tracking: Option<Waiting>,
-}
-
-/// Whether the call, answered so, changes nothing: it was refused, or only asks.
-#[inline(always)]
-pub(crate) fn changes_nothing(call: &Call, reply: &Reply) -> bool
-    ensures { result ≡ is_idle call.now reply.now }
-{
-    match *reply {
-        Reply::Done => matches!(*call, Call::Sync(_)),
-        Reply::Empty | Reply::Pending | Reply::Allocated { .. } | Reply::Refused(_) => true,
-        Reply::PeerClosed { .. } => !matches!(*call, Call::Release(_)),
-        Reply::Joined(_)
-        | Reply::Shut(_)
-        | Reply::Token { .. }
-        | Reply::Collected { .. }
-        | Reply::CollectedHandle { .. }
-        | Reply::Taken { .. }
-        | Reply::Tracker(_)
-        | Reply::Misused(_) => false,
-    }
-}
-
 /// Makes of the contents what the call makes of them that was answered so, but for the trackers that
 /// fire and for what is forgotten, and answers the key of a new node, if there is one.
 ///
@@ -67,7 +39,7 @@ pub(crate) fn changes_nothing(call: &Call, reply: &Reply) -> bool
 /// rows of handles. An event that opens and gives nothing, makes no tracker, changes no collection and
 /// admits no client takes none. It costs what `Forest::settle` costs for one collection, and a few look-ups.
 #[inline(always)]
-#[tactic(auto, using(crate::proofs::handles::Standing::stands_tracked, crate::proofs::handles::Standing::stands_worked, crate::proofs::handles::Standing::stands_noted, crate::proofs::handles::Standing::may_by_handles, crate::proofs::handles::Standing::may_by_tracker, crate::proofs::handles::Standing::may_by_work, crate::proofs::handles::Standing::may_by_room))]
+#[tactic(auto, using(core_state::proofs::handles::Standing::stands_tracked, core_state::proofs::handles::Standing::stands_worked, core_state::proofs::handles::Standing::stands_noted, core_state::proofs::handles::Standing::may_by_handles, core_state::proofs::handles::Standing::may_by_tracker, core_state::proofs::handles::Standing::may_by_work, core_state::proofs::handles::Standing::may_by_room))]
 pub(crate) fn take_effect(
     contents: &mut Contents,
     client: ClientId,

@@ -2,18 +2,14 @@
 #![tactic(auto)]
 
 mod by_kind;
-mod clients;
 mod event;
-mod hands;
-pub mod laws;
 pub mod machine;
 mod opening;
 mod order;
-mod reading;
 mod sight;
 mod sweeping;
 mod table;
 mod task;
-mod traits;
 
+pub use core_state::laws;
 pub use machine::Core;

@@ -20,29 +20,31 @@ ghost use Rattle.forest_store.specs.Forest.{Collection as Shelved, collection_at
 ghost use Rattle.forest_store.specs.Nodes.{is_of, is_spent, members_of};
 ghost use Rattle.forest_store.specs.Settling.{MayChange, collection_or_new};
 ghost use Rattle.buffer_holds.specs.Counts.{total};
-ghost use Rattle.lifetime_core.specs.Kinds.{fits_call, takes_no_memory};
-ghost use Rattle.lifetime_core.specs.Reads.{buffers_in, end_in, open_end_of};
-ghost use Rattle.lifetime_core.specs.Reads.{readings_of};
-ghost use Rattle.lifetime_core.specs.Shown.{Shows};
-ghost use Rattle.lifetime_core.specs.Steps.{Follows, Work, leaves_tracker_room, work_of};
-ghost use Rattle.lifetime_core.specs.State.{IsSame};
-ghost use Rattle.lifetime_core.specs.Tasks.{IsAsked};
-ghost use Rattle.lifetime_core.specs.Theorem.{GoesOn, Leads, Stepped, Stops, entries};
-ghost use Rattle.lifetime_core.specs.Theorem.{tracker_told, trackers_told};
+ghost use Rattle.core_state.specs.Kinds.{fits_call, takes_no_memory};
+ghost use Rattle.core_state.specs.Reads.{buffers_in, end_in, open_end_of};
+ghost use Rattle.core_state.specs.Reads.{readings_of};
+ghost use Rattle.core_state.specs.Shown.{Shows};
+ghost use Rattle.core_state.specs.Steps.{Follows, Work, leaves_tracker_room, work_of};
+ghost use Rattle.core_state.specs.State.{IsSame};
+ghost use Rattle.core_state.specs.Tasks.{IsAsked};
+ghost use Rattle.core_state.specs.Theorem.{GoesOn, Leads, Stepped, Stops, entries};
+ghost use Rattle.core_state.specs.Theorem.{tracker_told, trackers_told};
 
 mod views;
 
 use crate::by_kind::take_by_kind;
-use crate::clients::{count_waiting, first_waiting, has_joined, is_shut};
-use crate::event::{Asked, Contents, changes_nothing, take_effect};
-use crate::reading::with_end;
+use crate::event::{Contents, take_effect};
 use crate::sweeping::{place_to_sweep, sweep, tracking_of};
-use crate::table::{answer, with_key};
-use crate::task::{carried_end, change_in, changed_by, put_end, task_of};
-use crate::traits::{key_of, traits_of};
+use crate::table::answer;
+use crate::task::{put_end, task_of};
 use alloc_event::{Change, Forest, Node};
 use buffer_holds::{Holds, Spot};
 use buffer_pool::Pool;
+use core_state::asked::{Asked, changes_nothing, with_key};
+use core_state::clients::{count_waiting, first_waiting, has_joined, is_shut};
+use core_state::reading::with_end;
+use core_state::task::{carried_end, change_in, changed_by};
+use core_state::traits::{key_of, traits_of};
 use sm_names::{
     BufferName, Buffers, Call, ClientId, CollectionId, Limits, NoMemory, NodeKey, Parcel, Reply,
     StepFault, Strength, TrackerId,
@@ -64,11 +66,11 @@ pub struct Core {
 }
 
 impl Model for Core {
-    ghost use Rattle.lifetime_core.specs.State.{State};
+    ghost use Rattle.core_state.specs.State.{State};
 
     ghost Value = { State };
 
-    ghost use Rattle.lifetime_core.specs.Whole.{IsWhole};
+    ghost use Rattle.core_state.specs.Whole.{IsWhole};
 
     ghost view = { λ c. record {
       pool = c.contents.pool.size;

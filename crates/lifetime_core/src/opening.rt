@@ -2,7 +2,7 @@
 ghost use Rattle.std.specs.Prelude.{◌≡◌};
 ghost use Rattle.std.specs.List.{list_any};
 ghost use Rattle.sm_names.specs.Answers.{is_at_limit, set_of, strength_of as strength_for};
-ghost use Rattle.lifetime_core.specs.Reads.{readings_of, to_open_in};
+ghost use Rattle.core_state.specs.Reads.{readings_of, to_open_in};
 
 use crate::machine::Core;
 use buffer_holds::Spot;

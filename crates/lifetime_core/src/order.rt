@@ -1,40 +1,26 @@
 //! The order of answers: a call is answered by the first line that has an answer, and takes effect
 //! where none has.
-ghost use Rattle.std.specs.Prelude.{◌≡◌, ◌∷◌, ◌&&◌, ◌||◌, [], false, not, if◌then◌else◌};
+ghost use Rattle.std.specs.Prelude.{◌≡◌, ◌∷◌, ◌&&◌, ◌||◌, [], false, if◌then◌else◌};
 ghost use Rattle.std.specs.Prelude.{IfSome, option_copied};
 ghost use Rattle.std.specs.Option.{option_and_then, option_map, option_map_or, option_or};
 ghost use Rattle.sm_names.specs.declared.outcomes.Refusal.{Refusal as Refused};
-ghost use Rattle.sm_names.specs.Answers.{answers_first, closing, misuse_of, refused_if};
+ghost use Rattle.sm_names.specs.Answers.{answers_first, closing, refused_if};
 ghost use Rattle.sm_names.specs.Answers.{unknown_client, shut_client, no_end, end_named};
 ghost use Rattle.sm_names.specs.Answers.{end_in_transit, peer_closed, wrong_kind};
 ghost use Rattle.sm_names.specs.Answers.{misuse as misuse_in, no_handle};
-ghost use Rattle.sm_names.specs.Sameness.{same_kind};
 ghost use Rattle.sm_names.specs.Words.{first_some};
 ghost use Rattle.forest_store.specs.Nodes.{is_spent};
-ghost use Rattle.lifetime_core.specs.Lines.{another_of, transit_of, peer_of, kind_line};
-ghost use Rattle.lifetime_core.specs.Lines.{limits_of};
-ghost use Rattle.lifetime_core.specs.Reads.{end_in, open_end_of, readings_of};
-ghost use Rattle.lifetime_core.specs.State.{State};
-ghost use Rattle.lifetime_core.specs.Traits.{Describes, is_acquired as is_acquired_in};
-ghost use Rattle.lifetime_core.specs.Traits.{key_in, too_many_on};
+ghost use Rattle.core_state.specs.Lines.{limits_of};
+ghost use Rattle.core_state.specs.Reads.{end_in, open_end_of, readings_of};
+ghost use Rattle.core_state.specs.Traits.{Describes, is_acquired as is_acquired_in};
+ghost use Rattle.core_state.specs.Traits.{key_in, too_many_on};
 
 use crate::machine::Core;
 use crate::opening::{is_one_full, strength_of};
-use crate::traits::{Made, Named, Traits, is_acquired};
-use alloc_event::{End, Node};
-use sm_names::{Call, ClientId, Kind, Misuse, Refusal, Reply};
-
-/// The kind of the node's end.
-#[inline(always)]
-pub(crate) fn kind_of(node: &Node) -> Kind
-    ensures { result ≡ (if node.now.bound then Kind.Collection else Kind.Token) }
-{
-    if node.bound {
-        Kind::Collection
-    } else {
-        Kind::Token
-    }
-}
+use alloc_event::Node;
+use core_state::end_answers::answer_of_end;
+use core_state::traits::{Made, Named, Traits, is_acquired};
+use sm_names::{Call, ClientId, Refusal, Reply};
 
 // ---- the clients
 
@@ -90,86 +76,6 @@ fn refusal_of_clients(
     } else {
         None
     }
-}
-
-// ---- the end
-
-// Why a call on the end is refused, if it is: another client holds it, or it is in a parcel.
-#[inline(always)]
-fn refusal_of_end(client: ClientId, end: End) -> Option<Refusal>
-    requires { is_spent end ≡ false }
-    ensures { option_map (λ (r : Refused). Reply.Refused r) result
-        ≡ option_or (another_of client end) (transit_of end) }
-{
-    match end {
-        End::InTransit(_) => Some(Refusal::InTransit),
-        End::Held(holder) if holder == client => None,
-        _ => Some(Refusal::NoSuchEnd),
-    }
-}
-
-// Whether the call is for an end of the other kind.
-#[inline(always)]
-fn is_wrong_kind(node: &Node, kind: Option<Kind>) -> bool
-    ensures { result ≡ option_map_or
-        (λ k. not (same_kind (if node.now.bound then Kind.Collection else Kind.Token) k))
-        kind false }
-{
-    match kind {
-        Some(asked) => asked != kind_of(node),
-        None => false,
-    }
-}
-
-// The misuse of the end that the call is.
-#[inline(always)]
-fn misuse(node: &Node, call: &Call) -> Option<Reply>
-    ensures { (s : State) → result ≡ misuse_of (open_end_of s node.now) call.now }
-{
-    let misuse = match *call {
-        Call::SetConstraints(_, _) if node.constraints.is_some() => Misuse::SecondConstraints,
-        Call::SetWeak(_) if node.constraints.is_some() => Misuse::LateWeak,
-        Call::SetWeakOk(_, _) if node.took => Misuse::LateWeakOk,
-        Call::Take(_) if node.weak && !node.weak_ok => Misuse::WeakNotOk,
-        Call::TrackNode(_) if node.trackers >= 64 => Misuse::TooManyNodeTrackers,
-        _ => {
-            return None;
-        }
-    };
-    Some(Reply::Misused(misuse))
-}
-
-// What is answered for the sake of an end that is there, if anything is: whose it is, then Done to
-// each Close, then why and where the node failed, then the other kind, then the misuse.
-#[inline(always)]
-fn answer_of_end(client: ClientId, node: &Node, call: &Call, traits: &Traits) -> Option<Reply>
-    requires law { Describes call.now traits.now }
-    requires unspent { is_spent node.now.end ≡ false }
-    ensures { (s : State) → result ≡ first_some (
-        another_of client node.now.end
-        ∷ transit_of node.now.end
-        ∷ closing call.now
-        ∷ peer_of node.now.fault
-        ∷ kind_line node.now.bound call.now
-        ∷ misuse_of (open_end_of s node.now) call.now
-        ∷ []) }
-{
-    if let Some(refusal) = refusal_of_end(client, node.end) {
-        return Some(Reply::Refused(refusal));
-    }
-    if let Call::Close(_) = *call {
-        return Some(Reply::Done);
-    }
-    if let Some(fault) = node.fault {
-        return Some(Reply::PeerClosed {
-            cause: fault.cause,
-            origin: fault.origin,
-        });
-    }
-    if is_wrong_kind(node, traits.kind) {
-        return Some(Reply::Refused(Refusal::WrongKind));
-    }
-    misuse(node, call)
 }
 
 // ---- what is named

@@ -1,6 +1,6 @@
 //! What trackers look at.
 ghost use Rattle.buffer_holds.specs.Counts.{total};
-ghost use Rattle.lifetime_core.specs.Reads.{world_in};
+ghost use Rattle.core_state.specs.Reads.{world_in};
 
 use alloc_event::Forest;
 use buffer_holds::Holds;

@@ -3,9 +3,9 @@ ghost use Rattle.std.specs.Prelude.{◌≡◌, ◌<◌, OnOk, OnErr, IfSome, Som
 ghost use Rattle.std.specs.List.{All};
 ghost use Rattle.trackers.specs.declared.waiting.Waiting.{Waiting};
 ghost use Rattle.trackers.specs.Table.{Cell, TrackerTable, is_due};
-ghost use Rattle.lifetime_core.specs.Reads.{node_named, world_in};
-ghost use Rattle.lifetime_core.specs.Steps.{GainsTracker, swept, tracker_by};
-ghost use Rattle.lifetime_core.specs.Tasks.{looked_in};
+ghost use Rattle.core_state.specs.Reads.{node_named, world_in};
+ghost use Rattle.core_state.specs.Steps.{GainsTracker, swept, tracker_by};
+ghost use Rattle.core_state.specs.Tasks.{looked_in};
 ghost use Rattle.buffer_holds.specs.Counts.{total};
 
 use crate::machine::Core;

@@ -4,15 +4,15 @@ ghost use Rattle.std.specs.Option.{option_map};
 ghost use Rattle.sm_names.specs.Answers.{answer as answer_of, effect as effect_of, of_end};
 ghost use Rattle.sm_names.specs.Answers.{collected, end_named};
 ghost use Rattle.forest_store.specs.Nodes.{is_spent};
-ghost use Rattle.lifetime_core.specs.Reads.{end_in, open_end_of, readings_of};
-ghost use Rattle.lifetime_core.specs.Tasks.{with_key as keyed_by};
-ghost use Rattle.lifetime_core.specs.Traits.{Describes};
+ghost use Rattle.core_state.specs.Reads.{end_in, open_end_of, readings_of};
+ghost use Rattle.core_state.specs.Traits.{Describes};
 
 use crate::machine::Core;
 use crate::opening::{set_to_open, strength_of};
-use crate::order::{first_answer, kind_of};
-use crate::traits::Traits;
+use crate::order::first_answer;
 use alloc_event::Node;
+use core_state::end_answers::kind_of;
+use core_state::traits::Traits;
 use sm_names::{Call, ClientId, NodeKey, Parcel, Refusal, Reply};
 
 // The new token below a node, if its end is there.
@@ -132,16 +132,5 @@ pub(crate) fn answer(
     match first_answer(core, client, call, traits, node) {
         Some(reply) => reply,
         None => effect(core, client, new, call, node),
-    }
-}
-
-/// The reply, where a new node got this key.
-#[inline(always)]
-pub(crate) fn with_key(reply: Reply, new: Option<NodeKey>) -> Reply
-    ensures { result ≡ keyed_by reply new }
-{
-    match (reply, new) {
-        (Reply::Token { collection, .. }, Some(key)) => Reply::Token { key, collection },
-        _ => reply,
     }
 }

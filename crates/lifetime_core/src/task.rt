@@ -1,36 +1,28 @@
 //! What an event does to a collection.
 ghost use Rattle.std.specs.Prelude.{◌≡◌, ℕ, IfOk, IfSome, OnErr, Some, if◌then◌else◌, is_some, true, None, option_copied};
-ghost use Rattle.std.specs.Option.{option_map};
 ghost use Rattle.sm_names.specs.declared.keys.NodeKey.{NodeKey as Key};
 ghost use Rattle.sm_names.specs.Answers.{answer as answer_of};
 ghost use Rattle.sm_names.specs.Timelines.{key_of as key_in};
 ghost use Rattle.buffer_holds.specs.Counts.{total};
 ghost use Rattle.forest_store.specs.Forest.{IsPoolOf, SameKeys, all_held, node_at};
 ghost use Rattle.forest_store.specs.Settling.{no_key};
-ghost use Rattle.lifetime_core.specs.Reads.{node_named, readings_of};
-ghost use Rattle.lifetime_core.specs.Steps.{Work, at_node as change_at, birth_by, done_to, drop_at};
-ghost use Rattle.lifetime_core.specs.Steps.{work_of, with_place, without_over};
-ghost use Rattle.lifetime_core.specs.Tasks.{AsksOnly, OthersStay};
-ghost use Rattle.lifetime_core.specs.Tasks.{DoesSome, MayDo, Reworked, SpendsThere, carried_by};
-ghost use Rattle.lifetime_core.specs.Tasks.{end_placed, spent_by, spent_in, spent_place, work_in};
-ghost use Rattle.lifetime_core.specs.Whole.{AreUpTo, CanCarry, CanFinish, IsSound};
+ghost use Rattle.core_state.specs.Reads.{node_named, readings_of};
+ghost use Rattle.core_state.specs.Steps.{at_node as change_at, birth_by, done_to, drop_at};
+ghost use Rattle.core_state.specs.Steps.{work_of, with_place, without_over};
+ghost use Rattle.core_state.specs.Tasks.{AsksOnly, OthersStay};
+ghost use Rattle.core_state.specs.Tasks.{DoesSome, MayDo, Reworked, SpendsThere};
+ghost use Rattle.core_state.specs.Tasks.{end_placed, spent_by, spent_in, spent_place, work_in};
+ghost use Rattle.core_state.specs.Whole.{AreUpTo, CanCarry, CanFinish, IsSound};
 
 use crate::machine::Core;
 use alloc_event::effects::effect_of;
 use alloc_event::{Change, End, Forest, Node};
 use buffer_holds::Holds;
 use buffer_pool::Pool;
+use core_state::task::{Place, Task};
 use sm_names::{
     BufferName, Call, Cause, ClientId, CollectionId, NoMemory, NodeKey, Reply, Strength,
 };
-
-/// A change to a collection, if there is one, and the end that is spent after it, if one is.
-#[derive(Clone, Copy, Debug)]
-pub(crate) struct Task {
-    pub(crate) collection: CollectionId,
-    pub(crate) change: Option<Change>,
-    pub(crate) spends: Option<NodeKey>,
-}
 
 // The birth of a node.
 #[inline(always)]
@@ -226,56 +218,6 @@ pub(crate) fn make_change(
         return Ok(None);
     }
     forest.settle(pool, holds, task.collection, change)
-}
-
-/// Where the end of the node with this key is put.
-#[derive(Clone, Copy, Debug)]
-pub(crate) struct Place {
-    pub(crate) key: NodeKey,
-    pub(crate) end: End,
-}
-
-/// The end that a Give or a Collect, answered so, carries.
-#[inline(always)]
-pub(crate) fn carried_end(client: ClientId, call: &Call, reply: &Reply) -> Option<Place>
-    ensures { result ≡ carried_by client call.now reply.now }
-{
-    match (*call, *reply) {
-        (Call::Give(key, _), Reply::Done) => Some(Place {
-            key,
-            end: End::InTransit(client),
-        }),
-        (Call::Collect, Reply::Collected { key, .. }) => Some(Place {
-            key,
-            end: End::Held(client),
-        }),
-        _ => None,
-    }
-}
-
-/// The collection to which the task makes a change, if it makes one.
-#[inline(always)]
-pub(crate) fn changed_by(task: &Option<Task>) -> Option<CollectionId>
-    ensures { result ≡ option_map (λ (w : Work). w.collection) (work_in task.now) }
-{
-    match *task {
-        Some(
-            Task {
-                collection,
-                change: Some(_),
-                ..
-            },
-        ) => Some(collection),
-        _ => None,
-    }
-}
-
-/// The change that the task makes, and the collection to which it makes it, if it makes one.
-pub(crate) fn change_in(task: Option<Task>) -> Option<(CollectionId, Change)>
-    ensures { result ≡ option_map (λ (w : Work). (w.collection, w.change)) (work_in task) }
-{
-    let task = task?;
-    Some((task.collection, task.change?))
 }
 
 // Puts the end there, if one is carried.

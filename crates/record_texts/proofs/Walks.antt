@@ -4,10 +4,10 @@ use Rattle.std.specs.Prelude.{Ok, Err, Result, OnOk, codes}
 use Rattle.sm_names.specs.declared.messages.Reply.{Reply}
 use Rattle.sm_names.specs.Marks.{Entry}
 use Rattle.script_lines.specs.declared.label.Label.{Label}
-use Rattle.sm_script.specs.declared.act.Binds.{Binds}
-use Rattle.sm_script.specs.Names.{names_after}
-use Rattle.sm_script.specs.Texts.{reply_text}
-use Rattle.record_texts.specs.Records.{Scribe, binds_of, call_text, entry_text, labels_after, next_label, record_from, scribe_after, scribe_noted, with_client}
+use Rattle.script_labels.specs.declared.act.Binds.{Binds}
+use Rattle.script_labels.specs.Names.{names_after}
+use Rattle.script_labels.specs.Texts.{reply_text}
+use Rattle.record_texts.specs.Records.{Scribe, binds_of, call_text, entry_text, labels_after, next_label, record_from, scribe_after, scribe_noted, scribe_with_client}
 
 -- what holds in any case holds at Ok
 pub ok-always : {T E : Type 0} (result : Result T E) (P : Type 0) → P → OnOk result P
@@ -21,7 +21,7 @@ ok-weaker (Err error) P Q so holds = tt
 
 -- a client that joined is called by its label
 pub joins : (s : Scribe) (binds : Binds) (reply : Reply) (client : ℕ) (label : Label) → binds ≡ Binds.Client label → reply ≡ Reply.Joined client →
-    with_client (record s { names = names_after s.names binds reply }) client label ≡ scribe_noted s binds reply
+    scribe_with_client (record s { names = names_after s.names binds reply }) client label ≡ scribe_noted s binds reply
 joins s binds reply client label is-bound is-told = rw is-bound (rw is-told refl)
 
 -- the four parts of an entry, one behind the other

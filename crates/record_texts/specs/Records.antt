@@ -1,18 +1,26 @@
 -- A record as a transcript: for each entry the line that makes its call, and below it the reply.
-use Rattle.std.specs.Prelude.{ℕ, ◌+◌, ◌≡◌, ◌==◌, if◌then◌else◌, List, [], ◌∷◌, ◌++◌, codes, Option, Some, None}
+use Rattle.std.specs.Prelude.{ℕ, ◌+◌, ◌≡◌, ◌==◌, ◌||◌, if◌then◌else◌, List, [], ◌∷◌, ◌++◌, codes, Option, Some, None}
 use Rattle.std.specs.Fmt.{decimal}
 use Rattle.std.specs.Map.{lookup}
 use Rattle.std.specs.Option.{option_map_or}
+use Rattle.sm_names.specs.declared.call_parts.Argument.{Argument}
+use Rattle.sm_names.specs.declared.call_parts.CallParts.{CallParts}
+use Rattle.sm_names.specs.declared.call_parts.Object.{Object}
+use Rattle.sm_names.specs.declared.call_parts.Product.{Product}
+use Rattle.sm_names.specs.declared.keys.BufferName.{BufferName}
+use Rattle.sm_names.specs.declared.keys.NodeKey.{NodeKey}
 use Rattle.sm_names.specs.declared.messages.Call.{Call}
 use Rattle.sm_names.specs.declared.messages.Reply.{Reply}
+use Rattle.sm_names.specs.CallRows.{brings_end, is_tracker, parts_of, row_for, row_of, word_of}
 use Rattle.sm_names.specs.Marks.{Entry}
 use Rattle.script_lines.specs.declared.label.Label.{Label}
 use Rattle.script_lines.specs.Labels.{label_of, label_text}
 use Rattle.script_lines.specs.LineTexts.{demand_text}
-use Rattle.sm_script.specs.declared.act.Binds.{Binds}
-use Rattle.sm_script.specs.Names.{Names, names_after, no_names}
-use Rattle.sm_script.specs.Tables.{Keeps}
-use Rattle.sm_script.specs.Texts.{bound_text, buffer_text, node_text, reply_text, strength_name}
+use Rattle.script_labels.specs.declared.act.Binds.{Binds}
+use Rattle.script_labels.specs.Names.{Names, names_after, no_names}
+use Rattle.script_labels.specs.Tables.{Keeps}
+use Rattle.script_lines.specs.LineTexts.{strength_name}
+use Rattle.script_labels.specs.Texts.{bound_text, buffer_text, node_text, reply_text}
 use Rattle.record_texts.specs.declared.recorder.Recorder.{Recorder}
 
 -- what the labels of the entries so far stand for, and what each client is called, the last first
@@ -37,25 +45,26 @@ node_binds event = option_map_or Binds.Node (label_of (codes "n" ++ decimal even
 abbrev pub tracker_binds : ℕ → Binds
 tracker_binds event = option_map_or Binds.Tracker (label_of (codes "t" ++ decimal event)) Binds.Nothing
 
--- what the call of this event is to bind, where the next client that joins has this label
+-- what a call that brings this is to bind at this event, where the next client that joins has this label
+abbrev pub binds_for : Option Label → ℕ → Product → Binds
+binds_for next event Product.Client = client_binds next
+binds_for next event Product.Collection = node_binds event
+binds_for next event Product.Node = node_binds event
+binds_for next event Product.Parcel = node_binds event
+binds_for next event Product.Tracker = tracker_binds event
+binds_for next event _ = Binds.Nothing
+
+-- what the call of this event is to bind
 abbrev pub binds_of : Option Label → ℕ → Call → Binds
-binds_of next event Call.Join = client_binds next
-binds_of next event Call.OpenRoot = node_binds event
-binds_of next event (Call.Duplicate node) = node_binds event
-binds_of next event (Call.AttachToken node) = node_binds event
-binds_of next event Call.Collect = node_binds event
-binds_of next event (Call.TrackNode node) = tracker_binds event
-binds_of next event (Call.TrackLifetime node most) = tracker_binds event
-binds_of next event (Call.TrackWeak buffer) = tracker_binds event
-binds_of next event _ = Binds.Nothing
+binds_of next event call = binds_for next event (row_for call).brings
 
 -- the label of the client
-abbrev pub client_label : Scribe → ℕ → Option Label
-client_label s client = lookup (λ other. other == client) s.clients
+abbrev pub scribe_client_label : Scribe → ℕ → Option Label
+scribe_client_label s client = lookup (λ other. other == client) s.clients
 
 -- the client's label behind a space
 abbrev pub client_text : Scribe → ℕ → List ℕ
-client_text s client = 32 ∷ label_text (client_label s client)
+client_text s client = 32 ∷ label_text (scribe_client_label s client)
 
 -- the label that the line binds, behind a space
 abbrev pub bound_word : Binds → List ℕ
@@ -64,88 +73,44 @@ bound_word binds = 32 ∷ bound_text binds
 -- who calls: a client that joins is bound by the line
 abbrev pub asker_text : Scribe → Binds → ℕ → Call → List ℕ
 asker_text s binds client Call.Join = bound_text binds
-asker_text s binds client _ = label_text (client_label s client)
+asker_text s binds client _ = label_text (scribe_client_label s client)
 
--- the word for the call, behind a space
-abbrev pub call_word : Call → List ℕ
-call_word Call.Join = codes " join"
-call_word Call.Shut = codes " shut"
-call_word Call.OpenRoot = codes " open"
-call_word (Call.Duplicate node) = codes " dup"
-call_word (Call.AttachToken node) = codes " attach"
-call_word (Call.Sync node) = codes " sync"
-call_word (Call.Give node to) = codes " give"
-call_word Call.Collect = codes " collect"
-call_word (Call.Bind node) = codes " bind"
-call_word (Call.SetDispensable node) = codes " dispensable"
-call_word (Call.SetWeak node) = codes " weak"
-call_word (Call.SetWeakOk node children) = codes " weakok"
-call_word (Call.SetConstraints node demand) = codes " constrain"
-call_word (Call.Check node) = codes " check"
-call_word (Call.Take node) = codes " take"
-call_word (Call.Release node) = codes " release"
-call_word (Call.Close node) = codes " close"
-call_word (Call.DupHandle buffer strength) = codes " duph"
-call_word (Call.DropHandle buffer strength) = codes " droph"
-call_word (Call.GiveHandle buffer strength to) = codes " giveh"
-call_word (Call.TrackNode node) = codes " tracknode"
-call_word (Call.TrackLifetime node most) = codes " tracklife"
-call_word (Call.TrackWeak buffer) = codes " trackweak"
+-- the node or the buffer that a call is made on, behind a space
+abbrev pub scribe_object_text : Scribe → Object NodeKey BufferName → List ℕ
+scribe_object_text s Object.Nothing = []
+scribe_object_text s (Object.Node node) = node_text s.names node
+scribe_object_text s (Object.Buffer buffer) = buffer_text s.names buffer
 
--- the node or the buffer that the call is made on, behind a space
-abbrev pub object_text : Scribe → Call → List ℕ
-object_text s Call.Join = []
-object_text s Call.Shut = []
-object_text s Call.OpenRoot = []
-object_text s (Call.Duplicate node) = node_text s.names node
-object_text s (Call.AttachToken node) = node_text s.names node
-object_text s (Call.Sync node) = node_text s.names node
-object_text s (Call.Give node to) = node_text s.names node
-object_text s Call.Collect = []
-object_text s (Call.Bind node) = node_text s.names node
-object_text s (Call.SetDispensable node) = node_text s.names node
-object_text s (Call.SetWeak node) = node_text s.names node
-object_text s (Call.SetWeakOk node children) = node_text s.names node
-object_text s (Call.SetConstraints node demand) = node_text s.names node
-object_text s (Call.Check node) = node_text s.names node
-object_text s (Call.Take node) = node_text s.names node
-object_text s (Call.Release node) = node_text s.names node
-object_text s (Call.Close node) = node_text s.names node
-object_text s (Call.DupHandle buffer strength) = buffer_text s.names buffer
-object_text s (Call.DropHandle buffer strength) = buffer_text s.names buffer
-object_text s (Call.GiveHandle buffer strength to) = buffer_text s.names buffer
-object_text s (Call.TrackNode node) = node_text s.names node
-object_text s (Call.TrackLifetime node most) = node_text s.names node
-object_text s (Call.TrackWeak buffer) = buffer_text s.names buffer
+-- what else it says, each word behind a space
+abbrev pub scribe_argument_text : Scribe → Argument ℕ → List ℕ
+scribe_argument_text s Argument.Nothing = []
+scribe_argument_text s (Argument.Client to) = client_text s to
+scribe_argument_text s (Argument.Children children) = if children then codes " children" else []
+scribe_argument_text s (Argument.Constraints demand) = demand_text demand
+scribe_argument_text s (Argument.Most most) = 32 ∷ decimal most
+scribe_argument_text s (Argument.Strength strength) = 32 ∷ strength_name strength
+scribe_argument_text s (Argument.Gift strength to) = 32 ∷ strength_name strength ++ client_text s to
 
--- the words behind it, each behind a space
-abbrev pub rest_text : Scribe → Binds → Call → List ℕ
-rest_text s binds Call.OpenRoot = bound_word binds
-rest_text s binds (Call.Duplicate node) = bound_word binds
-rest_text s binds (Call.AttachToken node) = bound_word binds
-rest_text s binds (Call.Give node to) = client_text s to
-rest_text s binds Call.Collect = bound_word binds
-rest_text s binds (Call.SetWeakOk node children) = if children then codes " children" else []
-rest_text s binds (Call.SetConstraints node demand) = demand_text demand
-rest_text s binds (Call.DupHandle buffer strength) = 32 ∷ strength_name strength
-rest_text s binds (Call.DropHandle buffer strength) = 32 ∷ strength_name strength
-rest_text s binds (Call.GiveHandle buffer strength to) = 32 ∷ strength_name strength ++ client_text s to
-rest_text s binds (Call.TrackNode node) = bound_word binds
-rest_text s binds (Call.TrackLifetime node most) = 32 ∷ decimal most ++ bound_word binds
-rest_text s binds (Call.TrackWeak buffer) = bound_word binds
-rest_text s binds _ = []
+-- the label that a line binds behind that, if its call brings what has a label
+abbrev pub new_text : Product → Binds → List ℕ
+new_text product binds = if brings_end product || is_tracker product then bound_word binds else []
+
+-- the words of a call that is taken apart: its own, the object, what else it says, and the label that is bound
+abbrev pub parts_text : Scribe → Binds → CallParts → List ℕ
+parts_text s binds p =
+    32 ∷ word_of p.kind ++ scribe_object_text s p.object ++ scribe_argument_text s p.argument ++ new_text (row_of p.kind).brings binds
 
 -- the line that makes the call, without its end
 abbrev pub call_text : Scribe → Binds → ℕ → Call → List ℕ
-call_text s binds client call = asker_text s binds client call ++ call_word call ++ object_text s call ++ rest_text s binds call
+call_text s binds client call = asker_text s binds client call ++ parts_text s binds (parts_of call)
 
 -- from now on the client is called so
-abbrev pub with_client : Scribe → ℕ → Label → Scribe
-with_client s client label = record s { clients = (client, label) ∷ s.clients }
+abbrev pub scribe_with_client : Scribe → ℕ → Label → Scribe
+scribe_with_client s client label = record s { clients = (client, label) ∷ s.clients }
 
 -- what the clients are called after the reply
 abbrev pub client_noted : Scribe → Binds → Reply → Scribe
-client_noted s (Binds.Client label) (Reply.Joined client) = with_client s client label
+client_noted s (Binds.Client label) (Reply.Joined client) = scribe_with_client s client label
 client_noted s _ _ = s
 
 -- what labels stand for after the reply, and what the clients are called
@@ -184,6 +149,6 @@ abbrev pub record_text : List Label → List Entry → List ℕ
 record_text labels history = record_from first_scribe labels 1 history
 
 -- the tables find what the labels stand for, and what each client is called
-pub record Calls (recorder : Recorder) (s : Scribe) : Type 0 where
+pub record RecorderNames (recorder : Recorder) (s : Scribe) : Type 0 where
   pub names : Keeps recorder.tables s.names
-  pub clients : (client : ℕ) → lookup (λ other. client == other) recorder.clients.entries ≡ client_label s client
+  pub clients : (client : ℕ) → lookup (λ other. client == other) recorder.clients.entries ≡ scribe_client_label s client

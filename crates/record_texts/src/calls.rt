@@ -2,45 +2,18 @@
 ghost use Rattle.std.specs.Prelude.{◌≡◌, ◌∷◌, ◌++◌, OnOk, codes, decimal};
 ghost use Rattle.script_lines.specs.Labels.{label_text};
 ghost use Rattle.script_lines.specs.LineTexts.{demand_text};
-ghost use Rattle.sm_script.specs.Texts.{bound_text, strength_name as name_of_strength};
-ghost use Rattle.record_texts.specs.Records.{Calls, Scribe, asker_text, bound_word, call_text, call_word as word_of_call, client_text, object_text, rest_text};
+ghost use Rattle.script_lines.specs.LineTexts.{strength_name as name_of_strength};
+ghost use Rattle.script_labels.specs.Texts.{bound_text};
+ghost use Rattle.record_texts.specs.Records.{RecorderNames, Scribe, scribe_argument_text, asker_text, call_text, client_text, new_text, scribe_object_text, parts_text};
 
 use crate::recorder::Recorder;
-use script_lines::{Label, push, push_label, push_number};
-use sm_names::{Call, ClientId, Constraints, Strength};
-use sm_script::{Binds, push_buffer, push_node, strength_name};
+use script_labels::{Binds, push_buffer, push_node};
+use script_lines::{Label, push, push_label, push_number, strength_name};
+use sm_names::{
+    Argument, BufferName, Call, CallParts, ClientId, Constraints, NodeKey, Object, Product,
+    Strength, parts_of, row_of, word_of,
+};
 use std::alloc::AllocError;
-
-// The word for the call, behind a space.
-fn call_word(call: &Call) -> &'static str
-    ensures { result.now ≡ word_of_call call.now }
-{
-    match *call {
-        Call::Join => " join",
-        Call::Shut => " shut",
-        Call::OpenRoot => " open",
-        Call::Duplicate(_) => " dup",
-        Call::AttachToken(_) => " attach",
-        Call::Sync(_) => " sync",
-        Call::Give(_, _) => " give",
-        Call::Collect => " collect",
-        Call::Bind(_) => " bind",
-        Call::SetDispensable(_) => " dispensable",
-        Call::SetWeak(_) => " weak",
-        Call::SetWeakOk(_, _) => " weakok",
-        Call::SetConstraints(_, _) => " constrain",
-        Call::Check(_) => " check",
-        Call::Take(_) => " take",
-        Call::Release(_) => " release",
-        Call::Close(_) => " close",
-        Call::DupHandle(_, _) => " duph",
-        Call::DropHandle(_, _) => " droph",
-        Call::GiveHandle(_, _, _) => " giveh",
-        Call::TrackNode(_) => " tracknode",
-        Call::TrackLifetime(_, _) => " tracklife",
-        Call::TrackWeak(_) => " trackweak",
-    }
-}
 
 // Puts the label that a line binds behind it.
 fn push_bound(text: &mut Vec<u8>, binds: Binds) -> Result<(), AllocError>
@@ -54,17 +27,20 @@ fn push_bound(text: &mut Vec<u8>, binds: Binds) -> Result<(), AllocError>
     }
 }
 
-// Puts the label that a line binds behind it, behind a space.
-fn push_new(text: &mut Vec<u8>, binds: Binds) -> Result<(), AllocError>
-    ensures { OnOk result (text.new.items ≡ text.old.items ++ bound_word binds) }
+// Puts the label that a line binds behind it, behind a space, if its call brings what has a label.
+fn push_new(text: &mut Vec<u8>, product: Product, binds: Binds) -> Result<(), AllocError>
+    ensures { OnOk result (text.new.items ≡ text.old.items ++ new_text product binds) }
 {
+    if !product.brings_end() && !product.is_tracker() {
+        return Ok(());
+    }
     push(text, " ")?;
     push_bound(text, binds)
 }
 
 // Puts a space and the client's label behind it.
 fn push_client(text: &mut Vec<u8>, recorder: &Recorder, client: ClientId) -> Result<(), AllocError>
-    ensures { OnOk result ((s : Scribe) → Calls recorder.now s →
+    ensures { OnOk result ((s : Scribe) → RecorderNames recorder.now s →
         text.new.items ≡ text.old.items ++ client_text s client) }
 {
     push(text, " ")?;
@@ -92,78 +68,62 @@ fn push_constraints(text: &mut Vec<u8>, constraints: Constraints) -> Result<(), 
 }
 
 // Puts what the call is made on behind it: a node or a buffer.
-fn push_object(text: &mut Vec<u8>, recorder: &Recorder, call: &Call) -> Result<(), AllocError>
-    ensures { OnOk result ((s : Scribe) → Calls recorder.now s →
-        text.new.items ≡ text.old.items ++ object_text s call.now) }
+fn push_object(
+    text: &mut Vec<u8>,
+    recorder: &Recorder,
+    object: Object<NodeKey, BufferName>,
+) -> Result<(), AllocError>
+    ensures { OnOk result ((s : Scribe) → RecorderNames recorder.now s →
+        text.new.items ≡ text.old.items ++ scribe_object_text s object) }
 {
-    let tables = &recorder.tables;
-    match *call {
-        Call::Join | Call::Shut | Call::OpenRoot | Call::Collect => Ok(()),
-        Call::Duplicate(node)
-        | Call::AttachToken(node)
-        | Call::Sync(node)
-        | Call::Give(node, _)
-        | Call::Bind(node)
-        | Call::SetDispensable(node)
-        | Call::SetWeak(node)
-        | Call::SetWeakOk(node, _)
-        | Call::SetConstraints(node, _)
-        | Call::Check(node)
-        | Call::Take(node)
-        | Call::Release(node)
-        | Call::Close(node)
-        | Call::TrackNode(node)
-        | Call::TrackLifetime(node, _) => push_node(text, tables, node),
-        Call::DupHandle(buffer, _)
-        | Call::DropHandle(buffer, _)
-        | Call::GiveHandle(buffer, _, _)
-        | Call::TrackWeak(buffer) => push_buffer(text, tables, buffer),
+    match object {
+        Object::Nothing => Ok(()),
+        Object::Node(node) => push_node(text, &recorder.tables, node),
+        Object::Buffer(buffer) => push_buffer(text, &recorder.tables, buffer),
     }
 }
 
-// Puts what follows the node or the buffer behind it.
-fn push_rest(
+// Puts what else the call says behind it.
+fn push_argument(
     text: &mut Vec<u8>,
     recorder: &Recorder,
-    binds: Binds,
-    call: &Call,
+    argument: Argument<ClientId>,
 ) -> Result<(), AllocError>
-    ensures { OnOk result ((s : Scribe) → Calls recorder.now s →
-        text.new.items ≡ text.old.items ++ rest_text s binds call.now) }
+    ensures { OnOk result ((s : Scribe) → RecorderNames recorder.now s →
+        text.new.items ≡ text.old.items ++ scribe_argument_text s argument) }
 {
-    match *call {
-        Call::Give(_, to) => push_client(text, recorder, to),
-        Call::SetWeakOk(_, children) => push(text, if children { " children" } else { "" }),
-        Call::SetConstraints(_, constraints) => push_constraints(text, constraints),
-        Call::DupHandle(_, strength) | Call::DropHandle(_, strength) => {
-            push_strength(text, strength)
+    match argument {
+        Argument::Nothing => Ok(()),
+        Argument::Client(to) => push_client(text, recorder, to),
+        Argument::Children(children) => push(text, if children { " children" } else { "" }),
+        Argument::Constraints(constraints) => push_constraints(text, constraints),
+        Argument::Most(most) => {
+            push(text, " ")?;
+            push_number(text, most as u64)
         }
-        Call::GiveHandle(_, strength, to) => {
+        Argument::Strength(strength) => push_strength(text, strength),
+        Argument::Gift(strength, to) => {
             push_strength(text, strength)?;
             push_client(text, recorder, to)
         }
-        Call::TrackLifetime(_, most) => {
-            push(text, " ")?;
-            push_number(text, most as u64)?;
-            push_new(text, binds)
-        }
-        Call::OpenRoot
-        | Call::Duplicate(_)
-        | Call::AttachToken(_)
-        | Call::Collect
-        | Call::TrackNode(_)
-        | Call::TrackWeak(_) => push_new(text, binds),
-        Call::Join
-        | Call::Shut
-        | Call::Sync(_)
-        | Call::Bind(_)
-        | Call::SetDispensable(_)
-        | Call::SetWeak(_)
-        | Call::Check(_)
-        | Call::Take(_)
-        | Call::Release(_)
-        | Call::Close(_) => Ok(()),
     }
+}
+
+// Puts the words of the call behind it, and the label that its line binds.
+fn push_parts(
+    text: &mut Vec<u8>,
+    recorder: &Recorder,
+    binds: Binds,
+    parts: &CallParts,
+) -> Result<(), AllocError>
+    ensures { OnOk result ((s : Scribe) → RecorderNames recorder.now s →
+        text.new.items ≡ text.old.items ++ parts_text s binds parts.now) }
+{
+    push(text, " ")?;
+    push(text, word_of(parts.kind))?;
+    push_object(text, recorder, parts.object)?;
+    push_argument(text, recorder, parts.argument)?;
+    push_new(text, row_of(parts.kind).brings, binds)
 }
 
 // Puts the label of the client that calls behind it: that of a client that joins is bound by its line.
@@ -174,7 +134,7 @@ fn push_asker(
     client: ClientId,
     call: &Call,
 ) -> Result<(), AllocError>
-    ensures { OnOk result ((s : Scribe) → Calls recorder.now s →
+    ensures { OnOk result ((s : Scribe) → RecorderNames recorder.now s →
         text.new.items ≡ text.old.items ++ asker_text s binds client call.now) }
 {
     match *call {
@@ -191,11 +151,9 @@ pub(crate) fn push_call(
     client: ClientId,
     call: &Call,
 ) -> Result<(), AllocError>
-    ensures { OnOk result ((s : Scribe) → Calls recorder.now s →
+    ensures { OnOk result ((s : Scribe) → RecorderNames recorder.now s →
         text.new.items ≡ text.old.items ++ call_text s binds client call.now) }
 {
     push_asker(text, recorder, binds, client, call)?;
-    push(text, call_word(call))?;
-    push_object(text, recorder, call)?;
-    push_rest(text, recorder, binds, call)
+    push_parts(text, recorder, binds, &parts_of(*call))
 }

@@ -3,9 +3,9 @@ ghost use Rattle.std.specs.Prelude.{◌≡◌, ◌∷◌, ◌++◌, IfOk, codes,
 ghost use Rattle.script_lines.specs.Labels.{label_of};
 ghost use Rattle.record_texts.specs.Records.{binds_of, client_binds as client_bound, node_binds as node_bound, tracker_binds as tracker_bound};
 
+use script_labels::Binds;
 use script_lines::{Label, push, push_number};
-use sm_names::Call;
-use sm_script::Binds;
+use sm_names::{Call, Product, parts_of, row_of};
 use std::alloc::{AllocError, Global};
 
 // The label that a letter and the number of an event spell.
@@ -57,14 +57,10 @@ pub(crate) fn binds(
 ) -> Result<Binds, AllocError>
     ensures { IfOk result (λ binds. binds ≡ binds_of next event call) }
 {
-    match call {
-        Call::Join => Ok(client_binds(next)),
-        Call::OpenRoot | Call::Duplicate(_) | Call::AttachToken(_) | Call::Collect => {
-            node_binds(alloc, event)
-        }
-        Call::TrackNode(_) | Call::TrackLifetime(_, _) | Call::TrackWeak(_) => {
-            tracker_binds(alloc, event)
-        }
-        _ => Ok(Binds::Nothing),
+    match row_of(parts_of(call).kind).brings {
+        Product::Client => Ok(client_binds(next)),
+        Product::Collection | Product::Node | Product::Parcel => node_binds(alloc, event),
+        Product::Tracker => tracker_binds(alloc, event),
+        Product::Nothing | Product::Handles => Ok(Binds::Nothing),
     }
 }

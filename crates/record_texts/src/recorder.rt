@@ -1,13 +1,13 @@
 //! A walk over a record, which knows what each label stands for.
 ghost use Rattle.std.specs.Prelude.{◌≡◌, ◌++◌, OnOk};
-ghost use Rattle.sm_script.specs.Names.{no_names};
-ghost use Rattle.record_texts.specs.Records.{Calls, Scribe, client_label, entry_text, first_scribe, labels_after, next_label, record_text, scribe_after, scribe_noted, with_client};
+ghost use Rattle.script_labels.specs.Names.{no_names};
+ghost use Rattle.record_texts.specs.Records.{RecorderNames, Scribe, scribe_client_label, entry_text, first_scribe, labels_after, next_label, record_text, scribe_after, scribe_noted, scribe_with_client};
 
 use crate::calls::push_call;
 use crate::labels::binds;
+use script_labels::{Binds, Tables, push_reply};
 use script_lines::{Label, LabelHash, push};
 use sm_names::{Call, ClientId, Reply};
-use sm_script::{Binds, Tables, push_reply};
 use std::alloc::{AllocError, Global};
 use std::collections::HashMap;
 
@@ -21,7 +21,7 @@ pub(crate) struct Recorder {
 impl Recorder {
     // No entry was seen.
     fn new(alloc: Global, labels: LabelHash) -> Recorder
-        ensures { Calls result first_scribe }
+        ensures { RecorderNames result first_scribe }
     {
         Recorder {
             tables: Tables::new(alloc, labels),
@@ -31,15 +31,15 @@ impl Recorder {
 
     // The label of the client.
     pub(crate) fn client(&self, client: ClientId) -> Option<Label>
-        ensures { (s : Scribe) → Calls self.now s → result ≡ client_label s client }
+        ensures { (s : Scribe) → RecorderNames self.now s → result ≡ scribe_client_label s client }
     {
         self.clients.get(&client).copied()
     }
 
     // From now on the client is called so.
     fn call_client(&mut self, client: ClientId, label: Label) -> Result<(), AllocError>
-        ensures { OnOk result ((s : Scribe) → Calls self.old s →
-            Calls self.new (with_client s client label)) }
+        ensures { OnOk result ((s : Scribe) → RecorderNames self.old s →
+            RecorderNames self.new (scribe_with_client s client label)) }
     {
         self.clients.insert(client, label)?;
         Ok(())
@@ -47,8 +47,8 @@ impl Recorder {
 
     // Takes note of what the reply made or brought.
     fn note(&mut self, binds: Binds, reply: Reply) -> Result<(), AllocError>
-        ensures { OnOk result ((s : Scribe) → Calls self.old s →
-            Calls self.new (scribe_noted s binds reply)) }
+        ensures { OnOk result ((s : Scribe) → RecorderNames self.old s →
+            RecorderNames self.new (scribe_noted s binds reply)) }
     {
         self.tables.bind(binds, reply)?;
         match (binds, reply) {
@@ -66,10 +66,10 @@ impl Recorder {
         event: u64,
         entry: (ClientId, Call, Reply),
     ) -> Result<(), AllocError>
-        ensures text { OnOk result ((s : Scribe) → Calls self.old s →
+        ensures text { OnOk result ((s : Scribe) → RecorderNames self.old s →
             text.new.items ≡ text.old.items ++ entry_text s next event entry) }
-        ensures calls { OnOk result ((s : Scribe) → Calls self.old s →
-            Calls self.new (scribe_after s next event entry)) }
+        ensures calls { OnOk result ((s : Scribe) → RecorderNames self.old s →
+            RecorderNames self.new (scribe_after s next event entry)) }
     {
         let (client, call, reply) = entry;
         let binds = binds(alloc, next, event, call)?;

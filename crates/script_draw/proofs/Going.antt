@@ -11,8 +11,8 @@ use Rattle.sm_script.specs.Scenes.{Scene, Setting}
 use Rattle.sm_script.proofs.Taking.{some_behind}
 use Rattle.script_tales.specs.Called.{Knows}
 use Rattle.script_draw.specs.declared.draw.Scroll.{Scroll}
-use Rattle.script_draw.specs.Played.{IsBefore, is_reached}
-use Rattle.script_draw.specs.Reached.{Goes, Halted, IsHalted, IsPlayedOn, LinesHalted, Reached}
+use Rattle.script_draw.specs.Played.{ComesBefore, is_reached}
+use Rattle.script_draw.specs.Reached.{PlaysLine, PlayHalts, PlayHalted, IsPlayedOn, PlayLinesHalt, Reached}
 use Rattle.script_draw.proofs.Playing.{ahead-of}
 
 -- some lines were played, and their number is this
@@ -32,7 +32,7 @@ along-none script until first = record {
 }
 
 module _ (setting : Setting) (until : Option ℕ) (scroll : Scroll) (lines all more : List (List ℕ)) (is : all ≡ lines ++ more) where
-  halted-on : (fault : ReportFault) → IsHalted setting until scroll lines fault → IsHalted setting until scroll all fault
+  halted-on : (fault : ReportFault) → PlayHalted setting until scroll lines fault → PlayHalted setting until scroll all fault
   halted-on fault stop = record {
     before = stop.before;
     line = stop.line;
@@ -45,7 +45,7 @@ module _ (setting : Setting) (until : Option ℕ) (scroll : Scroll) (lines all m
   }
 
   -- a stop among the first lines is one among all
-  halted-more : (fault : ReportFault) → Halted setting until scroll lines fault → Halted setting until scroll all fault
+  halted-more : (fault : ReportFault) → PlayHalts setting until scroll lines fault → PlayHalts setting until scroll all fault
   halted-more ReportFault.ReadFault stop = absurd stop
   halted-more ReportFault.TooLong stop = absurd stop
   halted-more ReportFault.WriteFault stop = absurd stop
@@ -56,7 +56,7 @@ module _ (setting : Setting) (until : Option ℕ) (scroll : Scroll) (lines all m
 
 -- a stop at one of the lines
 halted-lines : (setting : Setting) (until : Option ℕ) (scroll : Scroll) (script : List ℕ) (fault : ReportFault) →
-    Halted setting until scroll (whole_lines script) fault → LinesHalted setting until scroll script fault
+    PlayHalts setting until scroll (whole_lines script) fault → PlayLinesHalt setting until scroll script fault
 halted-lines setting until scroll script ReportFault.ReadFault stop = stop
 halted-lines setting until scroll script ReportFault.TooLong stop = stop
 halted-lines setting until scroll script ReportFault.WriteFault stop = stop
@@ -67,8 +67,8 @@ halted-lines setting until scroll script ReportFault.NoMemory stop = stop
 
 -- the last line has no end
 halted-at-end : (setting : Setting) (until : Option ℕ) (scroll : Scroll) (script : List ℕ) (number : ℕ) (fault : ReportFault)
-    (far : Reached setting until scroll (whole_lines script)) → IsBefore until (length far.scene.history) → last_part script ≢ [] →
-    number ≡ length (whole_lines script) + 1 → IsBadLine number fault → LinesHalted setting until scroll script fault
+    (far : Reached setting until scroll (whole_lines script)) → ComesBefore until (length far.scene.history) → last_part script ≢ [] →
+    number ≡ length (whole_lines script) + 1 → IsBadLine number fault → PlayLinesHalt setting until scroll script fault
 halted-at-end setting until scroll script number ReportFault.ReadFault far ahead some numbered is = absurd is
 halted-at-end setting until scroll script number ReportFault.TooLong far ahead some numbered is = absurd is
 halted-at-end setting until scroll script number ReportFault.WriteFault far ahead some numbered is = absurd is
@@ -95,7 +95,7 @@ module _ (script rest : List ℕ) (number : ℕ) (until : Option ℕ) (first now
 
   module _ (test : (scene : Scene) → Knows now.teller scene → is_reached until (length scene.history) ≡ false) where
     along-ahead : (setting : Setting) (far : Reached setting until first []) →
-        IsBefore until (length (along.reached setting far).scene.history)
+        ComesBefore until (length (along.reached setting far).scene.history)
     along-ahead setting far =
         let so_far = along.reached setting far in
         ahead-of until (length so_far.scene.history) so_far.within (test so_far.scene so_far.knows)
@@ -107,7 +107,7 @@ module _ (script rest : List ℕ) (number : ℕ) (until : Option ℕ) (first now
           (taken-room script rest along.taken along.takes at within) small counted
 
       -- one more line was played
-      pub along-more : (next : Scroll) (left : List ℕ) → left ≡ drop (at + 1) rest → Goes now next (take at rest) →
+      pub along-more : (next : Scroll) (left : List ℕ) → left ≡ drop (at + 1) rest → PlaysLine now next (take at rest) →
           Along script left count until first next
       along-more next left is step = record {
         taken = along.taken ++ take at rest ∷ [];
@@ -121,9 +121,9 @@ module _ (script rest : List ℕ) (number : ℕ) (until : Option ℕ) (first now
       -- the next was not
       pub along-stop : (next : Scroll) (fault : ReportFault) →
           ((setting : Setting) (until : Option ℕ) (lines : List (List ℕ)) (far : Reached setting until now lines) →
-          IsBefore until (length far.scene.history) → count ≡ length lines + 1 →
-          Halted setting until next (lines ++ take at rest ∷ []) fault) →
-          (setting : Setting) → Reached setting until first [] → LinesHalted setting until next script fault
+          ComesBefore until (length far.scene.history) → count ≡ length lines + 1 →
+          PlayHalts setting until next (lines ++ take at rest ∷ []) fault) →
+          (setting : Setting) → Reached setting until first [] → PlayLinesHalt setting until next script fault
       along-stop next fault stops setting far =
           halted-lines setting until next script fault
           (halted-more setting until next (along.taken ++ take at rest ∷ []) (whole_lines script) (whole_lines (drop (at + 1) rest))
@@ -152,11 +152,11 @@ module _ (script rest : List ℕ) (number : ℕ) (until : Option ℕ) (first now
       -- the last line has no end
       pub along-unended : (length rest == 0) ≡ false → (count : ℕ) → count ≡ min (number + 1) (2 ^ 64 - 1) →
           (fault : ReportFault) → IsBadLine count fault → (setting : Setting) → Reached setting until first [] →
-          LinesHalted setting until now script fault
+          PlayLinesHalt setting until now script fault
       along-unended some count counted fault is setting far =
           let so_far = along.reached setting far in
           subst (λ (ls : List (List ℕ)). (lines_is : whole_lines script ≡ ls) → (there : Reached setting until now ls) →
-          IsBefore until (length there.scene.history) → LinesHalted setting until now script fault) all-taken
+          ComesBefore until (length there.scene.history) → PlayLinesHalt setting until now script fault) all-taken
           (λ lines_is there ahead. halted-at-end setting until now script count fault there ahead
           (λ e. some_behind [] rest some (sym (rest-all script rest along.taken along.takes none) ∙ e))
           (last-number script rest along.taken along.takes small none number count along.numbered counted) is)

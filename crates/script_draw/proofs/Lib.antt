@@ -1,5 +1,3 @@
 pub mod Going
 pub mod Outcomes
 pub mod Playing
-pub mod Rows
-pub mod Signs

@@ -7,16 +7,16 @@ use Rattle.script_lines.specs.declared.TheConstants.{MOST_BYTES}
 use Rattle.script_lines.specs.Pieces.{whole_lines, last_part}
 use Rattle.script_faults.specs.declared.fault.ReportFault.{ReportFault}
 use Rattle.script_faults.specs.Streams.{IsUnread}
-use Rattle.sm_script.specs.Names.{Names}
+use Rattle.script_labels.specs.Names.{Names}
 use Rattle.sm_script.specs.Scenes.{Setting}
-use Rattle.sm_script.specs.Tables.{Keeps as KeepsNames}
+use Rattle.script_labels.specs.Tables.{Keeps as KeepsNames}
 use Rattle.script_tales.specs.Called.{Calls}
 use Rattle.script_draw.specs.declared.draw.Format.{Format}
 use Rattle.script_draw.specs.declared.draw.Scroll.{Scroll}
 use Rattle.script_draw.specs.declared.draw.View.{View}
-use Rattle.script_draw.specs.Draws.{AreAll, Draws, EndsDrawn, IsLeft, IsNoEvent, IsPicture, IsPictured, IsUnplayed, IsUnwritten, LinesDrawn, LinesStop, Pictures, drawing_status}
-use Rattle.script_draw.specs.Played.{IsBefore, Reaches, is_reached}
-use Rattle.script_draw.specs.Reached.{IsHalted, IsPlayedOn, LinesHalted, Reached, stops_at_line}
+use Rattle.script_draw.specs.Draws.{AreAll, Draws, EndsDrawn, PictureBefore, IsNoEvent, IsPicture, IsPictured, IsUnplayed, IsUnwritten, LinesDrawn, PictureLinesStop, Pictures, drawing_status}
+use Rattle.script_draw.specs.Played.{ComesBefore, LeadsToScene, is_reached}
+use Rattle.script_draw.specs.Reached.{PlayHalted, IsPlayedOn, PlayLinesHalt, Reached, stops_at_line}
 use Rattle.script_draw.proofs.Playing.{far-reaches, reached-is}
 
 -- a picture of the core is one of what happened so far
@@ -44,7 +44,7 @@ module _ (setting : Setting) (view : View) (scroll : Scroll) (old new : Option (
   module _ (lines after : List (List ℕ)) (split : whole_lines script ≡ lines ++ after) (far : Reached setting view.at scroll lines) where
     -- no picture went out, or a part of one
     cut-off : (fault : ReportFault) → IsUnwritten view.format setting far.scene scroll.line.items old new fault →
-        LinesStop setting view old new script fault
+        PictureLinesStop setting view old new script fault
     cut-off ReportFault.ReadFault stop = absurd stop
     cut-off ReportFault.TooLong stop = absurd stop
     cut-off (ReportFault.BadLine n reason) stop = absurd stop
@@ -81,10 +81,10 @@ module _ (setting : Setting) (view : View) (scroll : Scroll) (old new : Option (
 
   -- what is left of the lines before a stop
   abbrev Left : Type 0
-  Left = (lines : List (List ℕ)) (far : Reached setting view.at scroll lines) → IsBefore view.at (length far.scene.history) →
-      IsLeft view.at view.format setting far.scene scroll.line.items old new
+  Left = (lines : List (List ℕ)) (far : Reached setting view.at scroll lines) → ComesBefore view.at (length far.scene.history) →
+      PictureBefore view.at view.format setting far.scene scroll.line.items old new
 
-  halted-left : (fault : ReportFault) (stop : IsHalted setting view.at scroll (whole_lines script) fault) → Left →
+  halted-left : (fault : ReportFault) (stop : PlayHalted setting view.at scroll (whole_lines script) fault) → Left →
       IsUnplayed setting view old new script fault
   halted-left fault stop left = record {
     before = stop.before;
@@ -100,8 +100,8 @@ module _ (setting : Setting) (view : View) (scroll : Scroll) (old new : Option (
   }
 
   -- a line stopped the script, and this is left of those before
-  stop-left : (fault : ReportFault) → stops_at_line fault ≡ true → LinesHalted setting view.at scroll script fault → Left →
-      LinesStop setting view old new script fault
+  stop-left : (fault : ReportFault) → stops_at_line fault ≡ true → PlayLinesHalt setting view.at scroll script fault → Left →
+      PictureLinesStop setting view old new script fault
   stop-left ReportFault.ReadFault test stop left = absurd stop
   stop-left ReportFault.TooLong test stop left = absurd stop
   stop-left ReportFault.WriteFault test stop left = absurd stop
@@ -120,14 +120,14 @@ module _ (setting : Setting) (view : View) (scroll : Scroll) (old new : Option (
 
   -- a line stopped the script, and the picture of those before went out
   pub none-asked : view.at ≡ None → (fault : ReportFault) → stops_at_line fault ≡ true →
-      LinesHalted setting view.at scroll script fault → IsWritten view.format scroll old new → LinesStop setting view old new script fault
+      PlayLinesHalt setting view.at scroll script fault → IsWritten view.format scroll old new → PictureLinesStop setting view old new script fault
   none-asked none fault test stop ok = stop-left fault test stop (λ lines far ahead.
-      subst (λ (at : Option ℕ). IsLeft at view.format setting far.scene scroll.line.items old new) (sym none)
+      subst (λ (at : Option ℕ). PictureBefore at view.format setting far.scene scroll.line.items old new) (sym none)
       (ok setting view.at lines far))
 
   -- a line stopped the script, and no picture went out
-  pub none-refused : (fault other : ReportFault) → stops_at_line fault ≡ true → LinesHalted setting view.at scroll script fault →
-      IsRefused view.format scroll old new other → LinesStop setting view old new script other
+  pub none-refused : (fault other : ReportFault) → stops_at_line fault ≡ true → PlayLinesHalt setting view.at scroll script fault →
+      IsRefused view.format scroll old new other → PictureLinesStop setting view old new script other
   none-refused ReportFault.ReadFault other test stop err = absurd stop
   none-refused ReportFault.TooLong other test stop err = absurd stop
   none-refused ReportFault.WriteFault other test stop err = absurd stop
@@ -144,16 +144,16 @@ module _ (setting : Setting) (view : View) (scroll : Scroll) (old new : Option (
 module _ (setting : Setting) (view : View) (scroll : Scroll) (old : Option (List ℕ)) (script : List ℕ) where
   -- a line stopped the script before the event that is asked for: nothing is written
   pub some-asked : (at : ℕ) → view.at ≡ Some at → (fault : ReportFault) → stops_at_line fault ≡ true →
-      LinesHalted setting view.at scroll script fault → LinesStop setting view old old script fault
+      PlayLinesHalt setting view.at scroll script fault → PictureLinesStop setting view old old script fault
   some-asked at asked fault test stop = stop-left setting view scroll old old script fault test stop (λ lines far ahead.
-      subst (λ (u : Option ℕ). IsLeft u view.format setting far.scene scroll.line.items old old) (sym asked) (
-        subst (λ (u : Option ℕ). IsBefore u (length far.scene.history)) asked ahead,
+      subst (λ (u : Option ℕ). PictureBefore u view.format setting far.scene scroll.line.items old old) (sym asked) (
+        subst (λ (u : Option ℕ). ComesBefore u (length far.scene.history)) asked ahead,
         Keeps-refl old,
       ))
 
   -- memory was refused: nothing is written
-  pub no-line : (fault : ReportFault) → stops_at_line fault ≡ false → LinesHalted setting view.at scroll script fault →
-      LinesStop setting view old old script fault
+  pub no-line : (fault : ReportFault) → stops_at_line fault ≡ false → PlayLinesHalt setting view.at scroll script fault →
+      PictureLinesStop setting view old old script fault
   no-line ReportFault.ReadFault test stop = absurd stop
   no-line ReportFault.TooLong test stop = absurd stop
   no-line ReportFault.WriteFault test stop = absurd stop
@@ -168,7 +168,7 @@ pub all-played : (setting : Setting) (until : Option ℕ) (scroll : Scroll) (scr
 all-played setting None scroll script played is = by played.ends
   where
     by : (is_reached None (length played.reached.scene.history) ≡ true) ⊎ (played.lines ≡ whole_lines script) × (last_part script ≡ [])
-        × IsBefore None (length played.reached.scene.history) → AreAll None script played.lines (length played.reached.scene.history)
+        × ComesBefore None (length played.reached.scene.history) → AreAll None script played.lines (length played.reached.scene.history)
     by (inl test) = absurd (cc)
     by (inr rest) = (rest.0, rest.1)
 all-played setting (Some at) scroll script played is = absurd (cc)
@@ -191,7 +191,7 @@ no-event setting view scroll old script played at asked (inl zero) =
 no-event setting view scroll old script played at asked (inr test) = by played.ends
   where
     by : (is_reached view.at (length played.reached.scene.history) ≡ true) ⊎ (played.lines ≡ whole_lines script) × (last_part script ≡ [])
-        × IsBefore view.at (length played.reached.scene.history) → IsNoEvent setting view old old script at
+        × ComesBefore view.at (length played.reached.scene.history) → IsNoEvent setting view old old script at
     by (inl reached) = let both : true ≡ false = sym reached ∙ test in absurd (cc)
     by (inr rest) = record {
       asked = asked;
@@ -199,9 +199,9 @@ no-event setting view scroll old script played at asked (inr test) = by played.e
         ended = rest.1;
         scene = played.reached.scene;
         last = scroll.line.items;
-        reaches = subst (λ (ls : List (List ℕ)). Reaches setting ls played.reached.scene scroll.line.items) rest.0
+        reaches = subst (λ (ls : List (List ℕ)). LeadsToScene setting ls played.reached.scene scroll.line.items) rest.0
             (far-reaches setting view.at scroll played.lines played.reached);
-        fewer = subst (λ (u : Option ℕ). IsBefore u (length played.reached.scene.history)) asked rest.2;
+        fewer = subst (λ (u : Option ℕ). ComesBefore u (length played.reached.scene.history)) asked rest.2;
       });
       kept = Keeps-refl old;
     }

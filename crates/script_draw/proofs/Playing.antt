@@ -9,19 +9,19 @@ use Rattle.sm_names.specs.Timelines.{timeline}
 use Rattle.script_faults.specs.declared.fault.ReportFault.{ReportFault}
 use Rattle.script_faults.specs.Faults.{IsFaultOf}
 use Rattle.script_faults.specs.IndentedLines.{is_indented, unindented}
-use Rattle.script_faults.proofs.Settings.{legal-in}
+use Rattle.sm_script.proofs.Settings.{legal-in}
 use Rattle.script_faults.proofs.Unindented.{unindented-more, unindented-skip}
-use Rattle.sm_script.specs.declared.act.Act.{Act}
-use Rattle.sm_script.specs.declared.act.Binds.{Binds}
-use Rattle.sm_script.specs.declared.stop.Stop.{Stop}
-use Rattle.sm_script.specs.Names.{act_in}
+use Rattle.script_labels.specs.declared.act.Act.{Act}
+use Rattle.script_labels.specs.declared.act.Binds.{Binds}
+use Rattle.script_labels.specs.declared.stop.Stop.{Stop}
+use Rattle.script_labels.specs.Names.{act_in}
 use Rattle.sm_script.specs.Scenes.{Answers, Plays, Rests, Scene, Setting, as_line, first_scene, next_scene}
-use Rattle.sm_script.specs.Texts.{reply_text, view_text}
+use Rattle.script_labels.specs.Texts.{reply_text, view_text}
 use Rattle.sm_script.proofs.Playing.{plays-more}
 use Rattle.script_tales.specs.Called.{Knows}
 use Rattle.script_draw.specs.declared.draw.Scroll.{Scroll}
-use Rattle.script_draw.specs.Played.{IsBefore, IsWithin, Played, Begins, Passes, Looks, Makes, Reaches, is_call, is_reached}
-use Rattle.script_draw.specs.Reached.{Asks, Halted, IsHalted, IsHeldUp, MakesCall, Reached}
+use Rattle.script_draw.specs.Played.{ComesBefore, IsWithin, Played, Begins, Passes, Looks, Makes, LeadsToScene, is_call, is_reached}
+use Rattle.script_draw.specs.Reached.{AsksFor, PlayHalts, PlayHalted, IsHeldUp, LineMakesCall, Reached}
 
 -- a line that makes no event gives some text, and changes nothing
 looked : (pool : ℕ) (scene : Scene) (line : List ℕ) (act : Act) → act_in scene.names line ≡ Some act → is_call act ≡ false →
@@ -69,12 +69,12 @@ within-none None = tt
 within-none (Some at) = omega arith
 
 -- one more event is made where fewer were than are asked for
-within-more : (until : Option ℕ) (n m : ℕ) → m ≡ n + 1 → IsBefore until n → IsWithin until m
+within-more : (until : Option ℕ) (n m : ℕ) → m ≡ n + 1 → ComesBefore until n → IsWithin until m
 within-more None n m is before = tt
 within-more (Some at) n m is before = omega (arith, is, before)
 
 -- it is not as many that were made
-pub ahead-of : (until : Option ℕ) (n : ℕ) → IsWithin until n → is_reached until n ≡ false → IsBefore until n
+pub ahead-of : (until : Option ℕ) (n : ℕ) → IsWithin until n → is_reached until n ≡ false → ComesBefore until n
 ahead-of None n within test = tt
 ahead-of (Some at) n within test = grind (arith, nat_tests)
 
@@ -98,7 +98,7 @@ far-none setting until scroll pool limits bound knows none = record {
 
 module _ (setting : Setting) (until : Option ℕ) (scroll : Scroll) (lines : List (List ℕ)) (far : Reached setting until scroll lines) where
   -- the lines so far lead to the scene
-  abbrev pub far-reaches : Reaches setting lines far.scene scroll.line.items
+  abbrev pub far-reaches : LeadsToScene setting lines far.scene scroll.line.items
   far-reaches = record {
     played = far.played;
     texts = (played-plays setting.pool lines far.scene scroll.line.items far.played).0;
@@ -135,8 +135,8 @@ module _ (setting : Setting) (until : Option ℕ) (scroll : Scroll) (lines : Lis
 
   -- one more line made an event
   pub far-make : (next : Scroll) (line : List ℕ) (client : ℕ) (call : Call) (binds : Binds) → is_indented line ≡ false →
-      act_in far.scene.names line ≡ Some (Act.Ask client call binds) → MakesCall scroll next client call binds line →
-      IsBefore until (length far.scene.history) → Reached setting until next (lines ++ line ∷ [])
+      act_in far.scene.names line ≡ Some (Act.Ask client call binds) → LineMakesCall scroll next client call binds line →
+      ComesBefore until (length far.scene.history) → Reached setting until next (lines ++ line ∷ [])
   far-make next line client call binds whole good made before =
       let told = made.knows far.scene far.knows in
       let scene = next_scene far.scene client call binds told.0 in
@@ -160,18 +160,18 @@ full-memory : Stop.HistoryFull ≡ Stop.NoMemory → ⊥
 full-memory e = cc
 
 module _ (setting : Setting) (until : Option ℕ) (old new : Scroll) (lines : List (List ℕ)) (far : Reached setting until old lines)
-    (before : IsBefore until (length far.scene.history)) (line : List ℕ) (stop : Stop)
+    (before : ComesBefore until (length far.scene.history)) (line : List ℕ) (stop : Stop)
     (same : stop ≢ Stop.NoMemory → new ≡ old) (why : IsHeldUp setting far.scene line stop) (number : ℕ)
     (numbered : number ≡ length lines + 1) where
   -- the line was not played
-  pub far-stop : (fault : ReportFault) → IsFaultOf number stop fault → Halted setting until new (lines ++ line ∷ []) fault
+  pub far-stop : (fault : ReportFault) → IsFaultOf number stop fault → PlayHalts setting until new (lines ++ line ∷ []) fault
   far-stop ReportFault.ReadFault is = absurd is
   far-stop ReportFault.TooLong is = absurd is
   far-stop ReportFault.WriteFault is = absurd is
   far-stop (ReportFault.NoEvent event) is = absurd is
   far-stop (ReportFault.BadLine n reason) is =
       let held = subst (IsHeldUp setting far.scene line) is.0 why in
-      subst (λ (s : Scroll). IsHalted setting until s (lines ++ line ∷ []) (ReportFault.BadLine n reason))
+      subst (λ (s : Scroll). PlayHalted setting until s (lines ++ line ∷ []) (ReportFault.BadLine n reason))
       (sym (same (λ e. bad-memory (sym is.0 ∙ e)))) (record {
         before = lines;
         line = line;
@@ -184,7 +184,7 @@ module _ (setting : Setting) (until : Option ℕ) (old new : Scroll) (lines : Li
       })
   far-stop ReportFault.HistoryFull is =
       let held = subst (IsHeldUp setting far.scene line) is why in
-      subst (λ (s : Scroll). IsHalted setting until s (lines ++ line ∷ []) ReportFault.HistoryFull)
+      subst (λ (s : Scroll). PlayHalted setting until s (lines ++ line ∷ []) ReportFault.HistoryFull)
       (sym (same (λ e. full-memory (sym is ∙ e)))) (record {
         before = lines;
         line = line;
@@ -200,7 +200,7 @@ module _ (setting : Setting) (until : Option ℕ) (old new : Scroll) (lines : Li
 -- why a line that asks for the act was not played
 abbrev pub HeldUp : Scroll → List ℕ → Act → Stop → Type 0
 HeldUp scroll line act stop = (setting : Setting) (until : Option ℕ) (lines : List (List ℕ)) (far : Reached setting until scroll lines) →
-    Asks far.scene line act → IsHeldUp setting far.scene line stop
+    AsksFor far.scene line act → IsHeldUp setting far.scene line stop
 
 -- what fails for want of memory alone says nothing of the line
 pub held-made : (result : Result (Unit {0}) Stop) (scroll : Scroll) (line : List ℕ) (act : Act) →
@@ -210,7 +210,7 @@ held-made (Err stop) scroll line act is = λ setting until lines far asks. subst
 
 -- the line asks for the act
 pub held-on : (result : Result (Unit {0}) Stop) (scroll : Scroll) (line : List ℕ) (act : Act) →
-    ((setting : Setting) (until : Option ℕ) (lines : List (List ℕ)) (far : Reached setting until scroll lines) → Asks far.scene line act) →
+    ((setting : Setting) (until : Option ℕ) (lines : List (List ℕ)) (far : Reached setting until scroll lines) → AsksFor far.scene line act) →
     IfErr result (HeldUp scroll line act) →
     IfErr result (λ stop. (setting : Setting) (until : Option ℕ) (lines : List (List ℕ)) (far : Reached setting until scroll lines) →
     IsHeldUp setting far.scene line stop)

@@ -1,15 +1,15 @@
 -- What comes of drawing a script.
 use Rattle.std.specs.Prelude.{ℕ, ◌≡◌, ◌≢◌, ◌⊎◌, ◌+◌, ◌<◌, ◌≤◌, All, false, List, [], ◌∷◌, ◌++◌, length, Option, Some, None, Result, Ok, Err, MatchResult}
 use Rattle.std.specs.Io.KnownBytes.{Appends, Consumes, IsAtEnd, Keeps}
-use Rattle.lifetime_core.specs.Shown.{Shows}
-use Rattle.lifetime_core.specs.State.{State}
+use Rattle.core_state.specs.Shown.{Shows}
+use Rattle.core_state.specs.State.{State}
 use Rattle.script_lines.specs.declared.TheConstants.{MOST_BYTES}
 use Rattle.script_lines.specs.Pieces.{whole_lines, last_part}
 use Rattle.script_lines.specs.Written.{WritesPart}
 use Rattle.script_faults.specs.declared.fault.ReportFault.{ReportFault}
 use Rattle.script_faults.specs.Faults.{fault_status}
 use Rattle.script_faults.specs.IndentedLines.{is_indented}
-use Rattle.sm_script.specs.Names.{Names, act_in}
+use Rattle.script_labels.specs.Names.{Names, act_in}
 use Rattle.sm_script.specs.Runs.{IsOver}
 use Rattle.sm_script.specs.Scenes.{Scene, Setting}
 use Rattle.script_pictures.specs.declared.picture.Tree.{Tree}
@@ -17,9 +17,9 @@ use Rattle.script_pictures.specs.declared.travel.Travel.{Travel}
 use Rattle.script_pictures.specs.Seen.{IsTree}
 use Rattle.script_draw.specs.declared.draw.Format.{Format}
 use Rattle.script_draw.specs.declared.draw.View.{View}
-use Rattle.script_draw.specs.Played.{Reaches}
-use Rattle.script_draw.specs.DotPictures.{dot_text}
-use Rattle.script_draw.specs.TextPictures.{picture_text}
+use Rattle.script_draw.specs.Played.{LeadsToScene}
+use Rattle.picture_dot.specs.DotPictures.{dot_text}
+use Rattle.picture_text.specs.TextPictures.{picture_text}
 
 -- the text is a picture, in this format, of a core in this state, where labels stand for this and the last event has this line: that of
 -- some trees, each of which shows what the core has, and of some links along which failures went. Of a vector graphic nothing is said
@@ -66,31 +66,31 @@ pub record IsDrawn (setting : Setting) (view : View) (old new : Option (List ℕ
   pub split : whole_lines script ≡ lines ++ after
   pub scene : Scene
   pub last : List ℕ
-  pub reaches : Reaches setting lines scene last
+  pub reaches : LeadsToScene setting lines scene last
   pub all : AreAll view.at script lines (length scene.history)
   pub pictured : IsPictured view.format setting scene last old new
 
 -- a first part of a picture of what some first lines lead to was written
-pub record IsCutOff (setting : Setting) (view : View) (old new : Option (List ℕ)) (script : List ℕ) : Type 0 where
+pub record PictureCutOff (setting : Setting) (view : View) (old new : Option (List ℕ)) (script : List ℕ) : Type 0 where
   pub lines : List (List ℕ)
   pub after : List (List ℕ)
   pub split : whole_lines script ≡ lines ++ after
   pub scene : Scene
   pub last : List ℕ
-  pub reaches : Reaches setting lines scene last
+  pub reaches : LeadsToScene setting lines scene last
   pub pictured : IsPicturedInPart view.format setting scene last old new
 
 -- what is written where a line could not be played: the picture of what the lines before it lead to; nothing where an event is
 -- asked for, which those lines did not make
-abbrev pub IsLeft : Option ℕ → Format → Setting → Scene → List ℕ → Option (List ℕ) → Option (List ℕ) → Type 0
-IsLeft None format setting scene last old new = IsPictured format setting scene last old new
-IsLeft (Some at) format setting scene last old new = (length scene.history < at) × Keeps old new
+abbrev pub PictureBefore : Option ℕ → Format → Setting → Scene → List ℕ → Option (List ℕ) → Option (List ℕ) → Type 0
+PictureBefore None format setting scene last old new = IsPictured format setting scene last old new
+PictureBefore (Some at) format setting scene last old new = (length scene.history < at) × Keeps old new
 
 -- why the line of this number was not played
-abbrev pub IsWhy : Setting → Scene → List ℕ → ℕ → ReportFault → Type 0
-IsWhy setting scene line number (ReportFault.BadLine n reason) = (act_in scene.names line ≡ None) × (n ≡ number)
-IsWhy setting scene line number ReportFault.HistoryFull = IsOver setting scene line
-IsWhy setting scene line number _ = ⊥
+abbrev pub PictureFault : Setting → Scene → List ℕ → ℕ → ReportFault → Type 0
+PictureFault setting scene line number (ReportFault.BadLine n reason) = (act_in scene.names line ≡ None) × (n ≡ number)
+PictureFault setting scene line number ReportFault.HistoryFull = IsOver setting scene line
+PictureFault setting scene line number _ = ⊥
 
 -- a line was not played, and all before it were
 pub record IsUnplayed (setting : Setting) (view : View) (old new : Option (List ℕ)) (script : List ℕ) (fault : ReportFault) : Type 0 where
@@ -101,25 +101,25 @@ pub record IsUnplayed (setting : Setting) (view : View) (old new : Option (List 
   pub whole : is_indented line ≡ false
   pub scene : Scene
   pub last : List ℕ
-  pub reaches : Reaches setting before scene last
-  pub why : IsWhy setting scene line (length before + 1) fault
-  pub left : IsLeft view.at view.format setting scene last old new
+  pub reaches : LeadsToScene setting before scene last
+  pub why : PictureFault setting scene line (length before + 1) fault
+  pub left : PictureBefore view.at view.format setting scene last old new
 
 -- the last line has no end, and all others were played
-pub record IsUnended (setting : Setting) (view : View) (old new : Option (List ℕ)) (script : List ℕ) (number : ℕ) : Type 0 where
+pub record PictureUnended (setting : Setting) (view : View) (old new : Option (List ℕ)) (script : List ℕ) (number : ℕ) : Type 0 where
   pub unended : last_part script ≢ []
   pub numbered : number ≡ length (whole_lines script) + 1
   pub scene : Scene
   pub last : List ℕ
-  pub reaches : Reaches setting (whole_lines script) scene last
-  pub left : IsLeft view.at view.format setting scene last old new
+  pub reaches : LeadsToScene setting (whole_lines script) scene last
+  pub left : PictureBefore view.at view.format setting scene last old new
 
 -- the lines make fewer events than this
 pub record IsBehind (setting : Setting) (script : List ℕ) (event : ℕ) : Type 0 where
   pub ended : last_part script ≡ []
   pub scene : Scene
   pub last : List ℕ
-  pub reaches : Reaches setting (whole_lines script) scene last
+  pub reaches : LeadsToScene setting (whole_lines script) scene last
   pub fewer : length scene.history < event
 
 -- an event is asked for that there is not: event 0, or one behind the last
@@ -129,26 +129,26 @@ pub record IsNoEvent (setting : Setting) (view : View) (old new : Option (List �
   pub kept : Keeps old new
 
 -- why no picture was drawn, or one of some first lines
-abbrev pub LinesStop : Setting → View → Option (List ℕ) → Option (List ℕ) → List ℕ → ReportFault → Type 0
-LinesStop setting view old new script ReportFault.WriteFault = IsCutOff setting view old new script
-LinesStop setting view old new script (ReportFault.BadLine n reason) =
-    IsUnplayed setting view old new script (ReportFault.BadLine n reason) ⊎ IsUnended setting view old new script n
-LinesStop setting view old new script ReportFault.HistoryFull = IsUnplayed setting view old new script ReportFault.HistoryFull
-LinesStop setting view old new script ReportFault.NoMemory = Keeps old new
-LinesStop setting view old new script (ReportFault.NoEvent event) = IsNoEvent setting view old new script event
-LinesStop setting view old new script _ = ⊥
+abbrev pub PictureLinesStop : Setting → View → Option (List ℕ) → Option (List ℕ) → List ℕ → ReportFault → Type 0
+PictureLinesStop setting view old new script ReportFault.WriteFault = PictureCutOff setting view old new script
+PictureLinesStop setting view old new script (ReportFault.BadLine n reason) =
+    IsUnplayed setting view old new script (ReportFault.BadLine n reason) ⊎ PictureUnended setting view old new script n
+PictureLinesStop setting view old new script ReportFault.HistoryFull = IsUnplayed setting view old new script ReportFault.HistoryFull
+PictureLinesStop setting view old new script ReportFault.NoMemory = Keeps old new
+PictureLinesStop setting view old new script (ReportFault.NoEvent event) = IsNoEvent setting view old new script event
+PictureLinesStop setting view old new script _ = ⊥
 
 -- what came of a script that was read
 abbrev pub LinesDrawn : Setting → View → Option (List ℕ) → Option (List ℕ) → List ℕ → Result (Unit {0}) ReportFault → Type 0
 LinesDrawn setting view old new script result =
-    MatchResult result (λ _. IsDrawn setting view old new script) (LinesStop setting view old new script)
+    MatchResult result (λ _. IsDrawn setting view old new script) (PictureLinesStop setting view old new script)
 
 -- why a drawing stopped, where these bytes were read: no line is played before all are read
 abbrev pub DrawStops : Setting → View → Option (List ℕ) → Option (List ℕ) → Option (List ℕ) → List ℕ → ReportFault → Type 0
 DrawStops setting view left old new script ReportFault.ReadFault = (length script ≤ MOST_BYTES) × Keeps old new
 DrawStops setting view left old new script ReportFault.TooLong = (MOST_BYTES < length script) × Keeps old new
 DrawStops setting view left old new script ReportFault.NoMemory = Keeps old new
-DrawStops setting view left old new script fault = IsAtEnd left × LinesStop setting view old new script fault
+DrawStops setting view left old new script fault = IsAtEnd left × PictureLinesStop setting view old new script fault
 
 -- these bytes were read, and a picture was drawn. Without a fault they are all that there is
 pub record Draws (setting : Setting) (view : View) (left_before left old new : Option (List ℕ)) (result : Result (Unit {0}) ReportFault) : Type 0 where

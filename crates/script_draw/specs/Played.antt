@@ -3,9 +3,9 @@ use Rattle.std.specs.Prelude.{ℕ, ◌≡◌, ◌+◌, ◌<◌, ◌≤◌, ◌==
 use Rattle.sm_names.specs.declared.messages.Call.{Call}
 use Rattle.sm_names.specs.declared.messages.Reply.{Reply}
 use Rattle.script_faults.specs.IndentedLines.{is_indented, unindented}
-use Rattle.sm_script.specs.declared.act.Act.{Act}
-use Rattle.sm_script.specs.declared.act.Binds.{Binds}
-use Rattle.sm_script.specs.Names.{act_in}
+use Rattle.script_labels.specs.declared.act.Act.{Act}
+use Rattle.script_labels.specs.declared.act.Binds.{Binds}
+use Rattle.script_labels.specs.Names.{act_in}
 use Rattle.sm_script.specs.Scenes.{LeadsTo, Scene, Setting, first_scene, next_scene}
 
 -- the act is a call, which makes an event
@@ -26,7 +26,7 @@ pub data Played : List (List ℕ) → Scene → List ℕ → Type 0 where
       Played (lines ++ line ∷ []) (next_scene scene client call binds reply) line
 
 -- these lines lead to the scene, whose history is legal; the last of them that made an event is this one
-pub record Reaches (setting : Setting) (lines : List (List ℕ)) (scene : Scene) (last : List ℕ) : Type 0 where
+pub record LeadsToScene (setting : Setting) (lines : List (List ℕ)) (scene : Scene) (last : List ℕ) : Type 0 where
   pub played : Played lines scene last
   pub texts : List ℕ
   pub leads : LeadsTo setting (unindented lines) texts scene
@@ -37,9 +37,9 @@ IsWithin None events = Unit {0}
 IsWithin (Some at) events = events ≤ at
 
 -- fewer events were made than are asked for
-abbrev pub IsBefore : Option ℕ → ℕ → Type 0
-IsBefore None events = Unit {0}
-IsBefore (Some at) events = events < at
+abbrev pub ComesBefore : Option ℕ → ℕ → Type 0
+ComesBefore None events = Unit {0}
+ComesBefore (Some at) events = events < at
 
 -- as many events were made as are asked for
 abbrev pub is_reached : Option ℕ → ℕ → Bool

@@ -5,17 +5,17 @@ use Rattle.script_faults.specs.declared.fault.ReportFault.{ReportFault}
 use Rattle.script_faults.specs.IndentedLines.{is_indented}
 use Rattle.sm_names.specs.declared.messages.Call.{Call}
 use Rattle.sm_names.specs.declared.messages.Reply.{Reply}
-use Rattle.sm_script.specs.declared.act.Act.{Act}
-use Rattle.sm_script.specs.declared.act.Binds.{Binds}
-use Rattle.sm_script.specs.declared.stop.Stop.{Stop}
-use Rattle.sm_script.specs.Names.{act_in}
+use Rattle.script_labels.specs.declared.act.Act.{Act}
+use Rattle.script_labels.specs.declared.act.Binds.{Binds}
+use Rattle.script_labels.specs.declared.stop.Stop.{Stop}
+use Rattle.script_labels.specs.Names.{act_in}
 use Rattle.sm_script.specs.Runs.{IsOver}
 use Rattle.sm_script.specs.Scenes.{Scene, Setting, next_scene}
 use Rattle.sm_script.specs.Sessions.{IsAt, IsSameSetting}
 use Rattle.script_tales.specs.Called.{Knows}
 use Rattle.script_draw.specs.declared.draw.Scroll.{Scroll}
-use Rattle.script_draw.specs.Draws.{IsWhy}
-use Rattle.script_draw.specs.Played.{IsBefore, IsWithin, Played, is_reached}
+use Rattle.script_draw.specs.Draws.{PictureFault}
+use Rattle.script_draw.specs.Played.{ComesBefore, IsWithin, Played, is_reached}
 
 -- these lines were played, which made no more events than are asked for
 pub record Reached (setting : Setting) (until : Option ℕ) (scroll : Scroll) (lines : List (List ℕ)) : Type 0 where
@@ -28,12 +28,12 @@ pub record Reached (setting : Setting) (until : Option ℕ) (scroll : Scroll) (l
   pub within : IsWithin until (length scene.history)
 
 -- one more line was played between the two moments, where fewer events were made than are asked for
-abbrev pub Goes : Scroll → Scroll → List ℕ → Type 0
-Goes old new line = (setting : Setting) (until : Option ℕ) (lines : List (List ℕ)) (far : Reached setting until old lines) →
-    IsBefore until (length far.scene.history) → Reached setting until new (lines ++ line ∷ [])
+abbrev pub PlaysLine : Scroll → Scroll → List ℕ → Type 0
+PlaysLine old new line = (setting : Setting) (until : Option ℕ) (lines : List (List ℕ)) (far : Reached setting until old lines) →
+    ComesBefore until (length far.scene.history) → Reached setting until new (lines ++ line ∷ [])
 
 -- the line made this call between the two moments
-pub record MakesCall (old new : Scroll) (client : ℕ) (call : Call) (binds : Binds) (line : List ℕ) : Type 0 where
+pub record LineMakesCall (old new : Scroll) (client : ℕ) (call : Call) (binds : Binds) (line : List ℕ) : Type 0 where
   pub setting : (scene : Scene) → IsAt old.teller.session scene → IsSameSetting old.teller.session new.teller.session
   pub limits : new.limits ≡ old.limits
   pub line_is : new.line.items ≡ line
@@ -41,7 +41,7 @@ pub record MakesCall (old new : Scroll) (client : ℕ) (call : Call) (binds : Bi
       (reply : Reply) × Knows new.teller (next_scene scene client call binds reply)
 
 -- the line is not indented, and asks for this act
-pub record Asks (scene : Scene) (line : List ℕ) (act : Act) : Type 0 where
+pub record AsksFor (scene : Scene) (line : List ℕ) (act : Act) : Type 0 where
   pub whole : is_indented line ≡ false
   pub good : act_in scene.names line ≡ Some act
 
@@ -52,35 +52,35 @@ IsHeldUp setting scene line Stop.HistoryFull = (is_indented line ≡ false) × I
 IsHeldUp setting scene line Stop.NoMemory = Unit {0}
 
 -- a line was not played, and all before it were
-pub record IsHalted (setting : Setting) (until : Option ℕ) (scroll : Scroll) (lines : List (List ℕ)) (fault : ReportFault) : Type 0 where
+pub record PlayHalted (setting : Setting) (until : Option ℕ) (scroll : Scroll) (lines : List (List ℕ)) (fault : ReportFault) : Type 0 where
   pub before : List (List ℕ)
   pub line : List ℕ
   pub after : List (List ℕ)
   pub split : lines ≡ before ++ line ∷ after
   pub whole : is_indented line ≡ false
   pub reached : Reached setting until scroll before
-  pub ahead : IsBefore until (length reached.scene.history)
-  pub why : IsWhy setting reached.scene line (length before + 1) fault
+  pub ahead : ComesBefore until (length reached.scene.history)
+  pub why : PictureFault setting reached.scene line (length before + 1) fault
 
 -- why these lines were not all played
-abbrev pub Halted : Setting → Option ℕ → Scroll → List (List ℕ) → ReportFault → Type 0
-Halted setting until scroll lines (ReportFault.BadLine n reason) = IsHalted setting until scroll lines (ReportFault.BadLine n reason)
-Halted setting until scroll lines ReportFault.HistoryFull = IsHalted setting until scroll lines ReportFault.HistoryFull
-Halted setting until scroll lines ReportFault.NoMemory = Unit {0}
-Halted setting until scroll lines _ = ⊥
+abbrev pub PlayHalts : Setting → Option ℕ → Scroll → List (List ℕ) → ReportFault → Type 0
+PlayHalts setting until scroll lines (ReportFault.BadLine n reason) = PlayHalted setting until scroll lines (ReportFault.BadLine n reason)
+PlayHalts setting until scroll lines ReportFault.HistoryFull = PlayHalted setting until scroll lines ReportFault.HistoryFull
+PlayHalts setting until scroll lines ReportFault.NoMemory = Unit {0}
+PlayHalts setting until scroll lines _ = ⊥
 
 -- the last line has no end, and all others were played
-pub record HasNoEnd (setting : Setting) (until : Option ℕ) (scroll : Scroll) (script : List ℕ) (number : ℕ) : Type 0 where
+pub record PlayUnended (setting : Setting) (until : Option ℕ) (scroll : Scroll) (script : List ℕ) (number : ℕ) : Type 0 where
   pub unended : last_part script ≢ []
   pub numbered : number ≡ length (whole_lines script) + 1
   pub reached : Reached setting until scroll (whole_lines script)
-  pub ahead : IsBefore until (length reached.scene.history)
+  pub ahead : ComesBefore until (length reached.scene.history)
 
 -- why a script was not played to its end, or to the event that is asked for
-abbrev pub LinesHalted : Setting → Option ℕ → Scroll → List ℕ → ReportFault → Type 0
-LinesHalted setting until scroll script (ReportFault.BadLine n reason) =
-    Halted setting until scroll (whole_lines script) (ReportFault.BadLine n reason) ⊎ HasNoEnd setting until scroll script n
-LinesHalted setting until scroll script fault = Halted setting until scroll (whole_lines script) fault
+abbrev pub PlayLinesHalt : Setting → Option ℕ → Scroll → List ℕ → ReportFault → Type 0
+PlayLinesHalt setting until scroll script (ReportFault.BadLine n reason) =
+    PlayHalts setting until scroll (whole_lines script) (ReportFault.BadLine n reason) ⊎ PlayUnended setting until scroll script n
+PlayLinesHalt setting until scroll script fault = PlayHalts setting until scroll (whole_lines script) fault
 
 -- a script was played to its end, or to the event that is asked for
 pub record IsPlayedOn (setting : Setting) (until : Option ℕ) (scroll : Scroll) (script : List ℕ) : Type 0 where
@@ -89,7 +89,7 @@ pub record IsPlayedOn (setting : Setting) (until : Option ℕ) (scroll : Scroll)
   pub split : whole_lines script ≡ lines ++ after
   pub reached : Reached setting until scroll lines
   pub ends : (is_reached until (length reached.scene.history) ≡ true)
-      ⊎ (lines ≡ whole_lines script) × (last_part script ≡ []) × IsBefore until (length reached.scene.history)
+      ⊎ (lines ≡ whole_lines script) × (last_part script ≡ []) × ComesBefore until (length reached.scene.history)
 
 -- the fault is one of a line, which changed nothing
 abbrev pub stops_at_line : ReportFault → Bool

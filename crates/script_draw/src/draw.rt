@@ -1,26 +1,26 @@
 //! The trees of a script behind an event, drawn.
 ghost use Rattle.std.specs.Prelude.{◌≡◌, ◌≢◌, ◌≤◌, ◌+◌, [], ◌∷◌, ◌++◌, All, List, ℕ, Option, None, true, IfErr, IfOk, OnOk, length, nat_le};
 ghost use Rattle.sm_names.specs.declared.messages.Reply.{Reply};
-ghost use Rattle.sm_script.specs.Names.{Names};
+ghost use Rattle.script_labels.specs.Names.{Names};
 ghost use Rattle.sm_script.specs.Scenes.{Scene, Setting, next_scene};
 ghost use Rattle.sm_script.specs.Sessions.{IsAt, IsSameSetting};
-ghost use Rattle.sm_script.specs.Tables.{Keeps};
+ghost use Rattle.script_labels.specs.Tables.{Keeps};
 ghost use Rattle.script_tales.specs.Called.{Calls, Knows};
 ghost use Rattle.script_pictures.specs.Seen.{IsTree};
 ghost use Rattle.script_draw.specs.Draws.{Draws, IsPicture, IsPictured, IsUnwritten, LinesDrawn};
-ghost use Rattle.script_draw.specs.Played.{IsBefore, is_reached};
-ghost use Rattle.script_draw.specs.Reached.{Asks, Goes, Halted, IsHeldUp, IsPlayedOn, LinesHalted, MakesCall, Reached, stops_at_line};
+ghost use Rattle.script_draw.specs.Played.{ComesBefore, is_reached};
+ghost use Rattle.script_draw.specs.Reached.{AsksFor, PlaysLine, PlayHalts, IsHeldUp, IsPlayedOn, PlayLinesHalt, LineMakesCall, Reached, stops_at_line};
 
-use crate::dot_picture::push_dot;
-use crate::svg_picture::push_svg;
-use crate::text_picture::push_text;
 use event_facts::Event;
+use picture_dot::push_dot;
+use picture_svg::push_svg;
+use picture_text::push_text;
 use script_faults::{ReportFault, behind, fault_of, is_indented, put_out, read_script, unended};
+use script_labels::{Act, Binds, Stop};
 use script_lines::{MOST_BYTES, line_end};
 use script_pictures::{Album, Picture, named_collection, picture_of};
 use script_tales::Teller;
 use sm_names::{Call, ClientId, Limits, NoMemory};
-use sm_script::{Act, Binds, Stop};
 use std::alloc::Global;
 use std::io::{Read, Write};
 
@@ -155,7 +155,7 @@ fn draw_so_far<W: Write>(
     view: View,
     fault: ReportFault,
 ) -> Result<(), ReportFault>
-    ensures { (setting : Setting) (script : List ℕ) → LinesHalted setting view.at scroll.now script fault →
+    ensures { (setting : Setting) (script : List ℕ) → PlayLinesHalt setting view.at scroll.now script fault →
         LinesDrawn setting view (W.contents writer.old) (W.contents writer.new) script result }
 {
     if is_line_fault(&fault) {
@@ -174,7 +174,7 @@ fn draw_before<W: Write>(
     fault: ReportFault,
 ) -> Result<(), ReportFault>
     ensures { (setting : Setting) (script : List ℕ) → stops_at_line fault ≡ true →
-        LinesHalted setting view.at scroll.now script fault →
+        PlayLinesHalt setting view.at scroll.now script fault →
         LinesDrawn setting view (W.contents writer.old) (W.contents writer.new) script result }
 {
     match view.at {
@@ -192,7 +192,7 @@ fn draw_last<W: Write>(
     fault: ReportFault,
 ) -> Result<(), ReportFault>
     ensures { (setting : Setting) (script : List ℕ) → view.at ≡ None → stops_at_line fault ≡ true →
-        LinesHalted setting view.at scroll.now script fault →
+        PlayLinesHalt setting view.at scroll.now script fault →
         LinesDrawn setting view (W.contents writer.old) (W.contents writer.new) script result }
 {
     match write_picture(alloc, writer, scroll, view.format) {
@@ -271,7 +271,7 @@ fn play(
     ensures ok { OnOk result ((setting : Setting) → Reached setting until scroll.old [] →
         IsPlayedOn setting until scroll.new script.now) }
     ensures err { IfErr result (λ fault. (setting : Setting) → Reached setting until scroll.old [] →
-        LinesHalted setting until scroll.new script.now fault) }
+        PlayLinesHalt setting until scroll.new script.now fault) }
 {
     let mut number: u64 = 0;
     let mut rest = script;
@@ -327,11 +327,11 @@ impl Scroll {
 
     // Plays one more line, the one of this number.
     fn play_line(&mut self, alloc: Global, number: u64, line: &[u8]) -> Result<(), ReportFault>
-        ensures ok { OnOk result (Goes self.old self.new line.now) }
+        ensures ok { OnOk result (PlaysLine self.old self.new line.now) }
         ensures err { IfErr result (λ fault. (setting : Setting) (until : Option ℕ)
             (lines : List (List ℕ)) (far : Reached setting until self.old lines) →
-            IsBefore until (length far.scene.history) → number ≡ length lines + 1 →
-            Halted setting until self.new (lines ++ line.now ∷ []) fault) }
+            ComesBefore until (length far.scene.history) → number ≡ length lines + 1 →
+            PlayHalts setting until self.new (lines ++ line.now ∷ []) fault) }
     {
         match self.take_line(alloc, line) {
             Ok(()) => Ok(()),
@@ -341,7 +341,7 @@ impl Scroll {
 
     // Plays one more line. Where it can't, but for want of memory, nothing changes.
     fn take_line(&mut self, alloc: Global, line: &[u8]) -> Result<(), Stop>
-        ensures ok { OnOk result (Goes self.old self.new line.now) }
+        ensures ok { OnOk result (PlaysLine self.old self.new line.now) }
         ensures same { IfErr result (λ stop. stop ≢ Stop.NoMemory → self.new ≡ self.old) }
         ensures err { IfErr result (λ stop. (setting : Setting) (until : Option ℕ)
             (lines : List (List ℕ)) (far : Reached setting until self.old lines) →
@@ -360,13 +360,13 @@ impl Scroll {
     // memory, nothing changes.
     fn take_act(&mut self, alloc: Global, act: Act, line: &[u8]) -> Result<(), Stop>
         ensures ok { OnOk result ((setting : Setting) (until : Option ℕ) (lines : List (List ℕ))
-            (far : Reached setting until self.old lines) → Asks far.scene line.now act →
-            IsBefore until (length far.scene.history) →
+            (far : Reached setting until self.old lines) → AsksFor far.scene line.now act →
+            ComesBefore until (length far.scene.history) →
             Reached setting until self.new (lines ++ line.now ∷ [])) }
         ensures same { IfErr result (λ stop. stop ≢ Stop.NoMemory → self.new ≡ self.old) }
         ensures err { IfErr result (λ stop. (setting : Setting) (until : Option ℕ)
             (lines : List (List ℕ)) (far : Reached setting until self.old lines) →
-            Asks far.scene line.now act → IsHeldUp setting far.scene line.now stop) }
+            AsksFor far.scene line.now act → IsHeldUp setting far.scene line.now stop) }
     {
         match act {
             Act::Ask {
@@ -401,7 +401,7 @@ impl Scroll {
         binds: Binds,
         line: &[u8],
     ) -> Result<(), Stop>
-        ensures ok { OnOk result (MakesCall self.old self.new client call binds line.now) }
+        ensures ok { OnOk result (LineMakesCall self.old self.new client call binds line.now) }
         ensures err { IfErr result (λ stop. stop ≡ Stop.NoMemory) }
     {
         match self.take_call(alloc, client, call, binds) {

@@ -1,22 +1,21 @@
 -- The labels of a line of bytes have no end of a line.
 use Rattle.std.proofs.Common.{◌≡◌, ℕ, zero, suc, ◌+◌, ◌<◌, ◌≤◌, ◌==◌, ◌&&◌, ◌||◌, nat_le, nat_lt, not, if◌then◌else◌, Bool, true, false, List, [], ◌∷◌, ◌++◌, length, Option, Some, None, refl, sym, ap, ◌∙◌, subst, arith}
 use Rattle.std.proofs.lemmas.Bool.Decides.{nat_tests}
-use Rattle.sm_names.specs.declared.keys.Strength.{Strength}
+use Rattle.sm_names.specs.declared.call_parts.Product.{Product}
+use Rattle.sm_names.specs.declared.call_rows.CallKind.{CallKind}
+use Rattle.sm_names.specs.CallRows.{brings_end, is_tracker, kind_named, row_of}
 use Rattle.std.proofs.lemmas.List.Folds.{list_all-append}
 use Rattle.std.specs.Prelude.{IfSome, codes}
 use Rattle.std.specs.List.{list_all, flat_map}
-use Rattle.std.specs.Option.{option_map, option_map_or, option_and_then}
+use Rattle.std.specs.Option.{option_map, option_and_then}
 use Rattle.std.specs.Str.{bytes_eq}
 use Rattle.script_lines.specs.declared.buffer_label.BufferLabel.{BufferLabel}
 use Rattle.script_lines.specs.declared.label.Label.{Label}
-use Rattle.script_lines.specs.declared.line.BufferVerb.{BufferVerb}
 use Rattle.script_lines.specs.declared.line.Line.{Line}
-use Rattle.script_lines.specs.declared.line.Verb.{Verb}
+use Rattle.script_lines.specs.declared.line.Request.{Request}
 use Rattle.script_lines.specs.declared.line.View.{View}
-use Rattle.script_lines.specs.BufferLabels.{buffer_label_of}
 use Rattle.script_lines.specs.Labels.{is_digit, is_label, is_letter, label_of, packed, spelled, text_of_label}
-use Rattle.script_lines.specs.Lines.{about_of, asked_of, at_end, bare_of, buffer_verb_of, call_of, constrain_of, demand_of, handle_verb_of, is_silent, last_label_of, lifetime_of, line_of, paired_verb_of, plain_verb_of, said_of, show_of, sized_of, strength_of, verb_of, view_of, weak_ok_of}
-use Rattle.script_lines.specs.Numbers.{number_of}
+use Rattle.script_lines.specs.Lines.{argument_read, ask_of, asked_of, at_end, binds_read, call_of, first_read, is_silent, line_of, object_read, poll_of, request_of, said_of, show_of, view_of}
 use Rattle.script_lines.specs.Words.{words}
 use Rattle.script_lines.proofs.Digits.{spelled-word}
 
@@ -103,118 +102,60 @@ module _ {A : Type 0} (P : A → Type 0) where
 
 -- ---- lines
 
--- the labels that the verb binds
-abbrev pub IsCleanVerb : Verb → Type 0
-IsCleanVerb (Verb.Duplicate child) = IsClean child
-IsCleanVerb (Verb.Attach child) = IsClean child
-IsCleanVerb (Verb.TrackNode tracker) = IsClean tracker
-IsCleanVerb (Verb.TrackLifetime most tracker) = IsClean tracker
-IsCleanVerb _ = Unit {0}
-
-abbrev pub IsCleanBufferVerb : BufferVerb → Type 0
-IsCleanBufferVerb (BufferVerb.Track tracker) = IsClean tracker
-IsCleanBufferVerb _ = Unit {0}
-
 -- the labels that the line binds
 abbrev pub IsCleanLine : Line → Type 0
 IsCleanLine (Line.Join client) = IsClean client
-IsCleanLine (Line.Open client root) = IsClean root
-IsCleanLine (Line.Collect client node) = IsClean node
-IsCleanLine (Line.Ask client verb node) = IsCleanVerb verb
-IsCleanLine (Line.AskBuffer client verb buffer) = IsCleanBufferVerb verb
+IsCleanLine (Line.Ask client request) = IfSome request.binds IsClean
 IsCleanLine _ = Unit {0}
 
-plain-clean : (word : List ℕ) → IfSome (plain_verb_of word) IsCleanVerb
-plain-clean word =
-    some-if IsCleanVerb (bytes_eq word (codes "sync")) _ _ tt
-    (some-if IsCleanVerb (bytes_eq word (codes "bind")) _ _ tt
-    (some-if IsCleanVerb (bytes_eq word (codes "dispensable")) _ _ tt
-    (some-if IsCleanVerb (bytes_eq word (codes "weak")) _ _ tt
-    (some-if IsCleanVerb (bytes_eq word (codes "weakok")) _ _ tt
-    (some-if IsCleanVerb (bytes_eq word (codes "check")) _ _ tt
-    (some-if IsCleanVerb (bytes_eq word (codes "take")) _ _ tt
-    (some-if IsCleanVerb (bytes_eq word (codes "release")) _ _ tt
-    (some-if IsCleanVerb (bytes_eq word (codes "close")) (Some Verb.Close) None tt tt))))))))
+-- what is read of a first word, where each word is read so
+read-clean : {A : Type 0} (P : A → Type 0) (read : List ℕ → Option A) → ((word : List ℕ) → IfSome (read word) P) →
+    (words : List (List ℕ)) → IfSome (first_read read words) (λ (s : A × List (List ℕ)). P s.0)
+read-clean P read each [] = tt
+read-clean {A = A} P read each (word ∷ rest) =
+    some-map-of (λ (s : A × List (List ℕ)). P s.0) P (λ said. (said, rest)) (read word) (each word) (λ said clean. clean)
 
-sized-clean : (camping at_least : List ℕ) (rest : List (List ℕ)) → IfSome (sized_of camping at_least rest) IsCleanVerb
-sized-clean camping at_least [] = tt
-sized-clean camping at_least (size ∷ rest) =
-    some-end IsCleanVerb rest _ (some-map IsCleanVerb Verb.Constrain (demand_of camping at_least size) (λ d. tt))
+-- a label that is to be bound
+abbrev pub IsCleanBinds : Option Label → Type 0
+IsCleanBinds binds = IfSome binds IsClean
 
-constrain-clean : (camping : List ℕ) (rest : List (List ℕ)) → IfSome (constrain_of camping rest) IsCleanVerb
-constrain-clean camping [] = tt
-constrain-clean camping (at_least ∷ rest) = sized-clean camping at_least rest
+binds-clean : (product : Product) (words : List (List ℕ)) →
+    IfSome (binds_read product words) (λ (b : Option Label × List (List ℕ)). IsCleanBinds b.0)
+binds-clean product words =
+    some-if (λ (b : Option Label × List (List ℕ)). IsCleanBinds b.0) (brings_end product || is_tracker product) _ (Some (None, words))
+    (read-clean IsCleanBinds (λ word. option_map Some (label_of word))
+    (λ word. some-map-of IsCleanBinds IsClean Some (label_of word) (label-clean word) (λ label clean. clean)) words)
+    tt
 
-weak_ok-clean : (word : List ℕ) (rest : List (List ℕ)) → IfSome (weak_ok_of word rest) IsCleanVerb
-weak_ok-clean word rest =
-    some-end IsCleanVerb rest _ (some-if IsCleanVerb (bytes_eq word (codes "children")) (Some (Verb.WeakOk true)) None tt tt)
+-- what is asked
+abbrev pub IsCleanRequest : Request Label BufferLabel → Type 0
+IsCleanRequest r = IsCleanBinds r.binds
 
-last-clean : (word : List ℕ) (rest : List (List ℕ)) → IfSome (last_label_of word rest) IsClean
-last-clean word rest = some-end IsClean rest (label_of word) (label-clean word)
+request-clean : (kind : CallKind) (words : List (List ℕ)) → IfSome (request_of kind words) IsCleanRequest
+request-clean kind words =
+    some-then IsCleanRequest _ (object_read (row_of kind).on words) (λ o.
+    some-then IsCleanRequest _ (argument_read (row_of kind).says o.1) (λ a.
+    some-then-of IsCleanRequest (λ (b : Option Label × List (List ℕ)). IsCleanBinds b.0)
+    (λ (b : Option Label × List (List ℕ)). at_end b.1 (Some (record { kind = kind; object = o.0; argument = a.0; binds = b.0 })))
+    (binds_read (row_of kind).brings a.1) (binds-clean (row_of kind).brings a.1)
+    (λ b clean. some-end IsCleanRequest b.1 (Some (record { kind = kind; object = o.0; argument = a.0; binds = b.0 })) clean)))
 
-lifetime-clean : (most : List ℕ) (rest : List (List ℕ)) → IfSome (lifetime_of most rest) IsCleanVerb
-lifetime-clean most [] = tt
-lifetime-clean most (tracker ∷ rest) =
-    some-then IsCleanVerb (λ n. option_map (Verb.TrackLifetime n) (last_label_of tracker rest)) (number_of most)
-    (λ n. some-map-of IsCleanVerb IsClean (Verb.TrackLifetime n) (last_label_of tracker rest) (last-clean tracker rest) (λ label clean. clean))
+ask-clean : (client : Label) (word : List ℕ) (rest : List (List ℕ)) → IfSome (ask_of client word rest) IsCleanLine
+ask-clean client word rest =
+    some-map-of IsCleanLine IsCleanRequest (λ request. Line.Ask client request)
+    (option_and_then (λ kind. request_of kind rest) (kind_named word))
+    (some-then IsCleanRequest (λ kind. request_of kind rest) (kind_named word) (λ kind. request-clean kind rest))
+    (λ request clean. clean)
 
-paired-clean : (word : List ℕ) (label : Label) → IsClean label → IfSome (paired_verb_of word label) IsCleanVerb
-paired-clean word label clean =
-    some-if IsCleanVerb (bytes_eq word (codes "dup")) (Some (Verb.Duplicate label)) _ clean
-    (some-if IsCleanVerb (bytes_eq word (codes "attach")) (Some (Verb.Attach label)) _ clean
-    (some-if IsCleanVerb (bytes_eq word (codes "give")) (Some (Verb.Give label)) _ tt
-    (some-if IsCleanVerb (bytes_eq word (codes "tracknode")) (Some (Verb.TrackNode label)) None clean tt)))
-
-verb-clean : (word : List ℕ) (rest : List (List ℕ)) → IfSome (verb_of word rest) IsCleanVerb
-verb-clean word [] = plain-clean word
-verb-clean word (next ∷ rest) =
-    some-if IsCleanVerb (bytes_eq word (codes "weakok")) _ _ (weak_ok-clean next rest)
-    (some-if IsCleanVerb (bytes_eq word (codes "constrain")) _ _ (constrain-clean next rest)
-    (some-if IsCleanVerb (bytes_eq word (codes "tracklife")) _ _ (lifetime-clean next rest)
-    (some-then-of IsCleanVerb IsClean (paired_verb_of word) (last_label_of next rest) (last-clean next rest) (paired-clean word))))
-
-about-clean : (client : Label) (word : List ℕ) (label : Label) (rest : List (List ℕ)) → IsClean label →
-    IfSome (about_of client word label rest) IsCleanLine
-about-clean client word label rest clean =
-    some-if IsCleanLine (bytes_eq word (codes "open")) _ _ (some-end IsCleanLine rest (Some (Line.Open client label)) clean)
-    (some-if IsCleanLine (bytes_eq word (codes "collect")) _ _ (some-end IsCleanLine rest (Some (Line.Collect client label)) clean)
-    (some-if IsCleanLine (bytes_eq word (codes "poll")) _ _ (some-end IsCleanLine rest (Some (Line.Poll client label)) tt)
-    (some-map-of IsCleanLine IsCleanVerb (λ verb. Line.Ask client verb label) (verb_of word rest) (verb-clean word rest)
-    (λ verb verb_clean. verb_clean))))
-
-handle-clean : (word : List ℕ) (strength : Strength) (rest : List (List ℕ)) → IfSome (handle_verb_of word strength rest) IsCleanBufferVerb
-handle-clean word strength [] =
-    some-if IsCleanBufferVerb (bytes_eq word (codes "duph")) (Some (BufferVerb.Duplicate strength)) _ tt
-    (some-if IsCleanBufferVerb (bytes_eq word (codes "droph")) (Some (BufferVerb.Drop strength)) None tt tt)
-handle-clean word strength (to ∷ rest) =
-    some-if IsCleanBufferVerb (bytes_eq word (codes "giveh")) _ None
-    (some-map IsCleanBufferVerb (BufferVerb.Give strength) (last_label_of to rest) (λ label. tt)) tt
-
-buffer_verb-clean : (word : List ℕ) (rest : List (List ℕ)) → IfSome (buffer_verb_of word rest) IsCleanBufferVerb
-buffer_verb-clean word [] = tt
-buffer_verb-clean word (next ∷ rest) =
-    some-if IsCleanBufferVerb (bytes_eq word (codes "trackweak")) _ _
-    (some-map-of IsCleanBufferVerb IsClean BufferVerb.Track (last_label_of next rest) (last-clean next rest) (λ label clean. clean))
-    (some-then IsCleanBufferVerb (λ strength. handle_verb_of word strength rest) (strength_of next)
-    (λ strength. handle-clean word strength rest))
-
-bare-clean : (client : Label) (word : List ℕ) → IsClean client → IfSome (bare_of client word) IsCleanLine
-bare-clean client word clean =
-    some-if IsCleanLine (bytes_eq word (codes "join")) (Some (Line.Join client)) _ clean
-    (some-if IsCleanLine (bytes_eq word (codes "shut")) (Some (Line.Shut client)) None tt tt)
+poll-clean : (client : Label) (rest : List (List ℕ)) → IfSome (poll_of client rest) IsCleanLine
+poll-clean client [] = tt
+poll-clean client (word ∷ rest) =
+    some-end IsCleanLine rest _ (some-map IsCleanLine (λ tracker. Line.Poll client tracker) (label_of word) (λ tracker. tt))
 
 call-clean : (client : Label) (word : List ℕ) (rest : List (List ℕ)) → IsClean client → IfSome (call_of client word rest) IsCleanLine
-call-clean client word [] clean = bare-clean client word clean
-call-clean client word (first ∷ rest) clean = by (label_of first) (label-clean first)
-  where
-    by : (o : Option Label) → IfSome o IsClean →
-        IfSome (option_map_or (λ label. about_of client word label rest) o
-        (option_and_then (λ b. option_map (λ verb. Line.AskBuffer client verb b) (buffer_verb_of word rest)) (buffer_label_of first)))
-        IsCleanLine
-    by None q = some-then IsCleanLine (λ b. option_map (λ verb. Line.AskBuffer client verb b) (buffer_verb_of word rest))
-        (buffer_label_of first) (λ b. some-map-of IsCleanLine IsCleanBufferVerb (λ verb. Line.AskBuffer client verb b)
-        (buffer_verb_of word rest) (buffer_verb-clean word rest) (λ verb verb_clean. verb_clean))
-    by (Some label) q = about-clean client word label rest q
+call-clean client word rest clean =
+    some-if IsCleanLine (bytes_eq word (codes "join")) _ _ (some-end IsCleanLine rest (Some (Line.Join client)) clean)
+    (some-if IsCleanLine (bytes_eq word (codes "poll")) _ _ (poll-clean client rest) (ask-clean client word rest))
 
 asked-clean : (client : Label) (rest : List (List ℕ)) → IsClean client → IfSome (asked_of client rest) IsCleanLine
 asked-clean client [] clean = tt

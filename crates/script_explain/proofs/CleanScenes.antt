@@ -7,6 +7,7 @@ use Rattle.std.specs.List.{list_all, flat_map}
 use Rattle.std.specs.Option.{option_map, option_map_or, option_and_then}
 use Rattle.std.specs.Int.{bit_at}
 use Rattle.sm_names.specs.declared.rules.TheConstants.{MAX_BUFFERS}
+use Rattle.sm_names.specs.declared.call_parts.Product.{Product}
 use Rattle.sm_names.specs.declared.keys.BufferName.{BufferName}
 use Rattle.sm_names.specs.declared.keys.HeldBuffer.{HeldBuffer}
 use Rattle.sm_names.specs.declared.keys.Kind.{Kind}
@@ -19,6 +20,7 @@ use Rattle.sm_names.specs.declared.outcomes.Failure.{Failure}
 use Rattle.sm_names.specs.declared.outcomes.Misuse.{Misuse}
 use Rattle.sm_names.specs.declared.outcomes.Refusal.{Refusal}
 use Rattle.sm_names.specs.declared.tracking.Fired.{Fired}
+use Rattle.sm_names.specs.CallRows.{is_tracker, row_of}
 use Rattle.sm_names.specs.Handles.{names as names_of}
 use Rattle.sm_names.specs.Marks.{Timeline}
 use Rattle.sm_names.specs.Numbers.{misuse_name, misuse_number, refusal_name, refusal_number}
@@ -26,20 +28,21 @@ use Rattle.sm_names.specs.Sameness.{same_key}
 use Rattle.sm_names.specs.Timelines.{timeline}
 use Rattle.sm_names.specs.Trackers.{fired}
 use Rattle.sm_names.specs.Views.{live_nodes, held_by_page, free_pages}
+use Rattle.script_lines.specs.declared.buffer_label.BufferLabel.{BufferLabel}
 use Rattle.script_lines.specs.declared.label.Label.{Label}
-use Rattle.script_lines.specs.declared.line.BufferVerb.{BufferVerb}
 use Rattle.script_lines.specs.declared.line.Line.{Line}
-use Rattle.script_lines.specs.declared.line.Verb.{Verb}
+use Rattle.script_lines.specs.declared.line.Request.{Request}
 use Rattle.script_lines.specs.declared.line.View.{View}
 use Rattle.script_lines.specs.Labels.{label_text, text_of_label}
 use Rattle.script_lines.specs.Lines.{line_of}
 use Rattle.script_faults.specs.IndentedLines.{is_indented}
-use Rattle.sm_script.specs.declared.act.Act.{Act}
-use Rattle.sm_script.specs.declared.act.Binds.{Binds}
-use Rattle.sm_script.specs.Names.{Names, Place, act_in, act_of, act_on_buffer, act_on_node, buffer_of, client_of, first_label, for_new, for_tracker, label_of_node, label_of_root, label_of_tracker, names_after, node_of, place_of, plain, tracker_of, with_client, with_node, with_tracker}
+use Rattle.script_labels.specs.declared.act.Act.{Act}
+use Rattle.script_labels.specs.declared.act.Binds.{Binds}
+use Rattle.script_labels.specs.Names.{Names, Place, act_binding, act_in, act_of, ask_by, call_named, client_of, first_label, for_new, for_tracker, label_of_node, label_of_root, label_of_tracker, names_after, node_of, place_of, tracker_of, with_client, with_node, with_tracker}
 use Rattle.sm_script.specs.Scenes.{Answers, Gives, IsPolled, Scene, as_line, next_scene}
-use Rattle.sm_script.specs.Texts.{bound_text, buffer_text, cause_text, failure_name, fired_text, held_text, kind_name, member_text, node_text, numbered, poll_text, reply_text, strength_name, view_text}
-use Rattle.script_explain.proofs.CleanLabels.{IsClean, IsCleanBufferVerb, IsCleanLine, IsCleanVerb, and-left, and-right, inner-append, is_inner, line-clean, some-if, some-map, some-then, some-then-of}
+use Rattle.script_lines.specs.LineTexts.{strength_name}
+use Rattle.script_labels.specs.Texts.{bound_text, buffer_text, cause_text, failure_name, fired_text, held_text, kind_name, member_text, node_text, numbered, poll_text, reply_text, view_text}
+use Rattle.script_explain.proofs.CleanLabels.{IsClean, IsCleanBinds, IsCleanLine, and-left, and-right, inner-append, is_inner, line-clean, some-if, some-map, some-then, some-then-of}
 
 -- ---- numbers
 
@@ -139,54 +142,25 @@ new-clean names label act clean = some-if IsCleanAct _ None (Some act) tt clean
 track-clean : (names : Names) (label : Label) (act : Act) → IsCleanAct act → IfSome (for_tracker names label act) IsCleanAct
 track-clean names label act clean = some-if IsCleanAct _ None (Some act) tt clean
 
-verb-act : (names : Names) (client : ℕ) (node : NodeKey) (verb : Verb) → IsCleanVerb verb →
-    IfSome (act_on_node names client node verb) IsCleanAct
-verb-act names client node Verb.Sync clean = refl
-verb-act names client node Verb.Bind clean = refl
-verb-act names client node Verb.Dispensable clean = refl
-verb-act names client node Verb.Weak clean = refl
-verb-act names client node (Verb.WeakOk children) clean = refl
-verb-act names client node Verb.Check clean = refl
-verb-act names client node Verb.Take clean = refl
-verb-act names client node Verb.Release clean = refl
-verb-act names client node Verb.Close clean = refl
-verb-act names client node (Verb.Duplicate child) clean =
-    new-clean names child (Act.Ask client (Call.Duplicate node) (Binds.Node child)) clean
-verb-act names client node (Verb.Attach child) clean =
-    new-clean names child (Act.Ask client (Call.AttachToken node) (Binds.Node child)) clean
-verb-act names client node (Verb.Give to) clean =
-    some-map IsCleanAct (λ c. plain client (Call.Give node c)) (client_of names to) (λ c. refl)
-verb-act names client node (Verb.Constrain constraints) clean = refl
-verb-act names client node (Verb.TrackNode tracker) clean =
-    track-clean names tracker (Act.Ask client (Call.TrackNode node) (Binds.Tracker tracker)) clean
-verb-act names client node (Verb.TrackLifetime most tracker) clean =
-    track-clean names tracker (Act.Ask client (Call.TrackLifetime node most) (Binds.Tracker tracker)) clean
+-- a call with the label that it is to bind
+binding-clean : (names : Names) (product : Product) (client : ℕ) (call : Call) (binds : Option Label) → IsCleanBinds binds →
+    IfSome (act_binding names product client call binds) IsCleanAct
+binding-clean names product client call None clean = refl
+binding-clean names product client call (Some label) clean =
+    some-if IsCleanAct (is_tracker product) _ _ (track-clean names label (Act.Ask client call (Binds.Tracker label)) clean)
+    (new-clean names label (Act.Ask client call (Binds.Node label)) clean)
 
-buffer-act : (names : Names) (client : ℕ) (buffer : BufferName) (verb : BufferVerb) → IsCleanBufferVerb verb →
-    IfSome (act_on_buffer names client buffer verb) IsCleanAct
-buffer-act names client buffer (BufferVerb.Duplicate strength) clean = refl
-buffer-act names client buffer (BufferVerb.Drop strength) clean = refl
-buffer-act names client buffer (BufferVerb.Give strength to) clean =
-    some-map IsCleanAct (λ c. plain client (Call.GiveHandle buffer strength c)) (client_of names to) (λ c. refl)
-buffer-act names client buffer (BufferVerb.Track tracker) clean =
-    track-clean names tracker (Act.Ask client (Call.TrackWeak buffer) (Binds.Tracker tracker)) clean
+ask-clean : (names : Names) (client : ℕ) (r : Request Label BufferLabel) → IsCleanBinds r.binds →
+    IfSome (ask_by names client r) IsCleanAct
+ask-clean names client r clean =
+    some-then IsCleanAct (λ call. act_binding names (row_of r.kind).brings client call r.binds) (call_named names r)
+    (λ call. binding-clean names (row_of r.kind).brings client call r.binds clean)
 
 act-clean : (names : Names) (line : Line) → IsCleanLine line → IfSome (act_of names line) IsCleanAct
 act-clean names Line.Nothing clean = tt
 act-clean names (Line.Join client) clean = some-if IsCleanAct _ None (Some (Act.Ask 0 Call.Join (Binds.Client client))) tt clean
-act-clean names (Line.Shut client) clean = some-map IsCleanAct (λ c. plain c Call.Shut) (client_of names client) (λ c. refl)
-act-clean names (Line.Open client root) clean =
-    some-then IsCleanAct (λ c. for_new names root (Act.Ask c Call.OpenRoot (Binds.Node root))) (client_of names client)
-    (λ c. new-clean names root (Act.Ask c Call.OpenRoot (Binds.Node root)) clean)
-act-clean names (Line.Collect client node) clean =
-    some-then IsCleanAct (λ c. for_new names node (Act.Ask c Call.Collect (Binds.Node node))) (client_of names client)
-    (λ c. new-clean names node (Act.Ask c Call.Collect (Binds.Node node)) clean)
-act-clean names (Line.Ask client verb node) clean =
-    some-then IsCleanAct (λ c. option_and_then (λ n. act_on_node names c n verb) (node_of names node)) (client_of names client)
-    (λ c. some-then IsCleanAct (λ n. act_on_node names c n verb) (node_of names node) (λ n. verb-act names c n verb clean))
-act-clean names (Line.AskBuffer client verb buffer) clean =
-    some-then IsCleanAct (λ c. option_and_then (λ b. act_on_buffer names c b verb) (buffer_of names buffer)) (client_of names client)
-    (λ c. some-then IsCleanAct (λ b. act_on_buffer names c b verb) (buffer_of names buffer) (λ b. buffer-act names c b verb clean))
+act-clean names (Line.Ask client request) clean =
+    some-then IsCleanAct (λ c. ask_by names c request) (client_of names client) (λ c. ask-clean names c request clean)
 act-clean names (Line.Poll client tracker) clean =
     some-then IsCleanAct (λ c. option_map Act.Poll (tracker_of names tracker)) (client_of names client)
     (λ c. some-map IsCleanAct Act.Poll (tracker_of names tracker) (λ t. tt))

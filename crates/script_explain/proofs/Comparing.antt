@@ -9,20 +9,20 @@ use Rattle.script_faults.specs.declared.fault.ReportFault.{ReportFault}
 use Rattle.script_faults.specs.Faults.{IsBadLine, IsFaultOf}
 use Rattle.script_faults.specs.IndentedLines.{behind_indent, indented, is_indented, unindented}
 use Rattle.script_faults.specs.Streams.{IsUnread}
-use Rattle.script_faults.proofs.Settings.{legal-in, over-in}
+use Rattle.sm_script.proofs.Settings.{legal-in, over-in}
 use Rattle.script_faults.proofs.Unindented.{unindented-more, unindented-skip}
 use Rattle.sm_script.specs.declared.session.Session.{Session}
-use Rattle.sm_script.specs.declared.stop.Stop.{Stop}
+use Rattle.script_labels.specs.declared.stop.Stop.{Stop}
 use Rattle.sm_script.specs.Scenes.{Answers, Plays as PlaysLines, Rests, Scene, Setting, as_line, first_scene}
 use Rattle.sm_script.specs.Sessions.{Advances, IsAt, IsStopped}
 use Rattle.sm_script.proofs.Playing.{plays-more}
 use Rattle.script_explain.specs.declared.check.Comparison.{Comparison}
 use Rattle.script_explain.specs.declared.check.Verdict.{Verdict}
-use Rattle.script_explain.specs.Comparisons.{Agreement, Agrees, Begins, Remarks, Replies, Plays, CheckStops, Checks, Difference, EndsChecked, FullAgreement, IsJudged, IsRemark, IsUnchecked, LinesStop, Place, Records, Stopped, agreement_text, checking_status, compared, played, told_difference}
-use Rattle.script_explain.specs.Progress.{CheckHalted, Compared, Ended, Judges, place_in}
+use Rattle.script_explain.specs.Comparisons.{Agreement, Agrees, Begins, Remarks, Replies, Plays, CheckStops, Checks, Difference, EndsChecked, FullAgreement, IsJudged, IsRemark, IsUnchecked, ComparisonLinesStop, TranscriptPlace, Records, ComparisonStopped, agreement_text, checking_status, compared, played, told_difference}
+use Rattle.script_explain.specs.Progress.{CheckHalted, Compared, Ended, Judges, comparison_place}
 
 -- the lines that are not indented are played, one after another
-pub agrees-plays : (pool : ℕ) (lines : List (List ℕ)) (at : Place) → Agrees pool lines at →
+pub agrees-plays : (pool : ℕ) (lines : List (List ℕ)) (at : TranscriptPlace) → Agrees pool lines at →
     (texts : List ℕ) × PlaysLines pool first_scene (unindented lines) texts at.scene
 agrees-plays pool lines at Begins = ([], Rests first_scene)
 agrees-plays pool lines at (Remarks before line there so_far remark) =
@@ -46,11 +46,11 @@ agrees-plays pool lines at (Plays before line reply there next so_far whole answ
     )
 
 -- no more lines were played than there are, and no more replies compared
-record AreFew (lines : List (List ℕ)) (at : Place) : Type 0 where
+record AreFew (lines : List (List ℕ)) (at : TranscriptPlace) : Type 0 where
   lines_few : at.lines ≤ length lines
   replies_few : at.replies ≤ length lines
 
-agrees-few : (pool : ℕ) (lines : List (List ℕ)) (at : Place) → Agrees pool lines at → AreFew lines at
+agrees-few : (pool : ℕ) (lines : List (List ℕ)) (at : TranscriptPlace) → Agrees pool lines at → AreFew lines at
 agrees-few pool lines at Begins = record { lines_few = omega arith; replies_few = omega arith }
 agrees-few pool lines at (Remarks before line there so_far remark) =
     let few = agrees-few pool before there so_far in
@@ -70,7 +70,7 @@ count-up : (count most : ℕ) → count ≤ most → most + 1 ≤ MOST_BYTES →
 count-up count most small few next is = omega (arith, is, small, few)
 
 -- the place of these parts
-abbrev place : Scene → ℕ → List ℕ → List ℕ → ℕ → ℕ → Place
+abbrev place : Scene → ℕ → List ℕ → List ℕ → ℕ → ℕ → TranscriptPlace
 place scene number line reply lines replies =
     record { scene = scene; number = number; line = line; reply = reply; lines = lines; replies = replies }
 
@@ -82,18 +82,18 @@ same-place scene n m l k r s a b c d p q t u v =
 
 module _ (setting : Setting) (c : Comparison) (lines : List (List ℕ)) (far : Compared setting c lines) where
   -- the lines so far agree
-  abbrev pub far-agreed : Agreement setting lines (place_in c far.scene)
+  abbrev pub far-agreed : Agreement setting lines (comparison_place c far.scene)
   far-agreed = record {
     agrees = far.agrees;
-    texts = (agrees-plays setting.pool lines (place_in c far.scene) far.agrees).0;
+    texts = (agrees-plays setting.pool lines (comparison_place c far.scene) far.agrees).0;
     leads = record {
-      plays = (agrees-plays setting.pool lines (place_in c far.scene) far.agrees).1;
+      plays = (agrees-plays setting.pool lines (comparison_place c far.scene) far.agrees).1;
       legal = legal-in setting c.teller.session far.scene far.pool far.limits far.is_at;
     };
   }
 
-  few : AreFew lines (place_in c far.scene)
-  few = agrees-few setting.pool lines (place_in c far.scene) far.agrees
+  few : AreFew lines (comparison_place c far.scene)
+  few = agrees-few setting.pool lines (comparison_place c far.scene) far.agrees
 
   -- a remark is passed over
   pub far-remark : (line : List ℕ) → IsRemark line → Compared setting c (lines ++ line ∷ [])
@@ -101,7 +101,7 @@ module _ (setting : Setting) (c : Comparison) (lines : List (List ℕ)) (far : C
     pool = far.pool;
     limits = far.limits;
     scene = far.scene;
-    agrees = Remarks lines line (place_in c far.scene) far.agrees remark;
+    agrees = Remarks lines line (comparison_place c far.scene) far.agrees remark;
     is_at = far.is_at;
   }
 
@@ -121,7 +121,7 @@ module _ (setting : Setting) (c : Comparison) (lines : List (List ℕ)) (far : C
         agrees = subst (Agrees setting.pool (lines ++ line ∷ []))
             (sym (same-place step.next next.number (length lines + 1) next.line.items line next.reply.items next.reply.items
             next.lines (c.lines + 1) next.replies c.replies (its_number ∙ numbered) its_line refl count its_replies))
-            (Plays lines line next.reply.items (place_in c far.scene) step.next far.agrees whole
+            (Plays lines line next.reply.items (comparison_place c far.scene) step.next far.agrees whole
             (subst (λ (pool : ℕ). Answers pool far.scene line next.reply.items step.next) far.pool step.answers));
         is_at = step.is_at;
       }
@@ -141,7 +141,7 @@ module _ (setting : Setting) (c : Comparison) (lines : List (List ℕ)) (far : C
         agrees = subst (Agrees setting.pool (lines ++ line ∷ []))
             (sym (same-place far.scene next.number c.number next.line.items c.line.items next.reply.items c.reply.items
             next.lines c.lines next.replies (c.replies + 1) its_number its_line its_reply its_lines count))
-            (Replies lines line reply (place_in c far.scene) far.agrees records same);
+            (Replies lines line reply (comparison_place c far.scene) far.agrees records same);
         is_at = subst (λ (s : Session). IsAt s far.scene) (sym its_session) far.is_at;
       }
 
@@ -153,7 +153,7 @@ module _ (setting : Setting) (c : Comparison) (lines : List (List ℕ)) (far : C
     line = line;
     after = [];
     split = refl;
-    at = place_in c far.scene;
+    at = comparison_place c far.scene;
     agreed = far-agreed;
     some_played = some;
     reply = reply;
@@ -176,7 +176,7 @@ module _ (setting : Setting) (c : Comparison) (lines : List (List ℕ)) (far : C
     line = line;
     after = [];
     split = refl;
-    at = place_in c far.scene;
+    at = comparison_place c far.scene;
     agreed = far-agreed;
     why = (is.1 ∙ numbered, inl (whole, subst (IsStopped c.teller.session line far.scene) is.0 (why far.scene far.is_at)));
   }
@@ -185,7 +185,7 @@ module _ (setting : Setting) (c : Comparison) (lines : List (List ℕ)) (far : C
     line = line;
     after = [];
     split = refl;
-    at = place_in c far.scene;
+    at = comparison_place c far.scene;
     agreed = far-agreed;
     why = (
       whole,
@@ -208,7 +208,7 @@ module _ (setting : Setting) (c : Comparison) (lines : List (List ℕ)) (far : C
     line = line;
     after = [];
     split = refl;
-    at = place_in c far.scene;
+    at = comparison_place c far.scene;
     agreed = far-agreed;
     why = (is ∙ numbered, inr (reply, records, none));
   }
@@ -255,7 +255,7 @@ module _ (setting : Setting) (lines all more : List (List ℕ)) (is : all ≡ li
 
 -- a stop at one of the lines
 pub unchecked-lines : (setting : Setting) (script : List ℕ) (fault : ReportFault) →
-    CheckHalted setting (whole_lines script) fault → LinesStop setting script fault
+    CheckHalted setting (whole_lines script) fault → ComparisonLinesStop setting script fault
 unchecked-lines setting script ReportFault.ReadFault stop = stop
 unchecked-lines setting script ReportFault.TooLong stop = stop
 unchecked-lines setting script ReportFault.WriteFault stop = stop
@@ -267,7 +267,7 @@ unchecked-lines setting script ReportFault.NoMemory stop = stop
 -- the last line has no end
 pub unchecked-at-end : (setting : Setting) (c : Comparison) (script : List ℕ) (number : ℕ) (fault : ReportFault) →
     Compared setting c (whole_lines script) → last_part script ≢ [] → number ≡ length (whole_lines script) + 1 →
-    IsBadLine number fault → LinesStop setting script fault
+    IsBadLine number fault → ComparisonLinesStop setting script fault
 unchecked-at-end setting c script number ReportFault.ReadFault far some numbered is = absurd is
 unchecked-at-end setting c script number ReportFault.TooLong far some numbered is = absurd is
 unchecked-at-end setting c script number ReportFault.WriteFault far some numbered is = absurd is
@@ -276,14 +276,14 @@ unchecked-at-end setting c script number (ReportFault.NoEvent event) far some nu
 unchecked-at-end setting c script number (ReportFault.BadLine n reason) far some numbered is = inr (record {
   unended = some;
   numbered = is ∙ numbered;
-  at = place_in c far.scene;
+  at = comparison_place c far.scene;
   agreed = far-agreed setting c (whole_lines script) far;
 })
 unchecked-at-end setting c script number ReportFault.NoMemory far some numbered is = tt
 
 -- nothing was written where no verdict was found
 pub stopped-same : (setting : Setting) (old : Option (List ℕ)) (script : List ℕ) (fault : ReportFault) →
-    LinesStop setting script fault → Stopped setting old old script fault
+    ComparisonLinesStop setting script fault → ComparisonStopped setting old old script fault
 stopped-same setting old script ReportFault.ReadFault stop = absurd stop
 stopped-same setting old script ReportFault.TooLong stop = absurd stop
 stopped-same setting old script ReportFault.WriteFault stop = absurd stop
@@ -313,7 +313,7 @@ module _ (setting : Setting) (left_before left old : Option (List ℕ)) where
 
   module _ (new : Option (List ℕ)) (script : List ℕ) (taken : Consumes left_before left script) (end : IsAtEnd left)
       (within : length script ≤ MOST_BYTES) where
-    checks-stopped : (fault : ReportFault) → Stopped setting old new script fault → Checks setting left_before left old new (Err fault)
+    checks-stopped : (fault : ReportFault) → ComparisonStopped setting old new script fault → Checks setting left_before left old new (Err fault)
     checks-stopped ReportFault.ReadFault stop = absurd stop.0
     checks-stopped ReportFault.TooLong stop = absurd stop.0
     checks-stopped (ReportFault.NoEvent event) stop = absurd stop.0
@@ -324,7 +324,7 @@ module _ (setting : Setting) (left_before left old : Option (List ℕ)) where
 
     -- the transcript came in, and its lines were compared
     pub checks-told : (result : Result Verdict ReportFault) → IfOk result (IsJudged setting old new script) →
-        IfErr result (Stopped setting old new script) → Checks setting left_before left old new result
+        IfErr result (ComparisonStopped setting old new script) → Checks setting left_before left old new result
     checks-told (Ok verdict) judged stop = record { script = script; taken = taken; outcome = (end, within, judged) }
     checks-told (Err fault) judged stop = checks-stopped fault stop
 
@@ -351,12 +351,12 @@ compared-none setting c pool limits at its_number its_line its_reply its_lines i
 
 -- all agrees, and the text of that was put
 pub agreed-fully : (setting : Setting) (c : Comparison) (script text : List ℕ) → Ended setting c script Verdict.Agrees →
-    ((scene : Scene) → text ≡ c.text.items ++ agreement_text (place_in c scene)) → FullAgreement setting script text
+    ((scene : Scene) → text ≡ c.text.items ++ agreement_text (comparison_place c scene)) → FullAgreement setting script text
 agreed-fully setting c script text ended said = record {
   ended = ended.1;
-  at = place_in c ended.0.scene;
+  at = comparison_place c ended.0.scene;
   agreed = far-agreed setting c (whole_lines script) ended.0;
-  said = said ended.0.scene ∙ ap (λ front. front ++ agreement_text (place_in c ended.0.scene)) ended.2;
+  said = said ended.0.scene ∙ ap (λ front. front ++ agreement_text (comparison_place c ended.0.scene)) ended.2;
 }
 
 -- a line that nothing is behind two spaces of

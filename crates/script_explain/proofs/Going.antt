@@ -12,8 +12,8 @@ use Rattle.sm_script.specs.Scenes.{Setting}
 use Rattle.sm_script.proofs.Taking.{some_behind}
 use Rattle.script_explain.specs.declared.check.Comparison.{Comparison}
 use Rattle.script_explain.specs.declared.check.Verdict.{Verdict}
-use Rattle.script_explain.specs.Comparisons.{Difference, LinesStop}
-use Rattle.script_explain.specs.Progress.{CheckHalted, Compared, Ended, Explained, Halted, Judges, LinesHalted, SoFar}
+use Rattle.script_explain.specs.Comparisons.{Difference, ComparisonLinesStop}
+use Rattle.script_explain.specs.Progress.{CheckHalted, Compared, Ended, Explained, Halted, Judges, LinesHalted, ExplainedSoFar}
 use Rattle.script_explain.proofs.Comparing.{difference-more, unchecked-at-end, unchecked-lines, unchecked-more}
 use Rattle.script_explain.proofs.Outcomes.{halted-at-end, halted-lines, halted-more}
 
@@ -32,7 +32,7 @@ along-none script first mid before = record {
   taken = [];
   takes = taken-none script;
   numbered = refl;
-  explained = λ setting old lines far. subst (SoFar setting first old mid before) (sym (append-nil lines)) far;
+  explained = λ setting old lines far. subst (ExplainedSoFar setting first old mid before) (sym (append-nil lines)) far;
 }
 
 module _ (script rest : List ℕ) (number : ℕ) (first : Session) (mid : Option (List ℕ)) (before : List ℕ) (now : Session)
@@ -53,15 +53,15 @@ module _ (script rest : List ℕ) (number : ℕ) (first : Session) (mid : Option
           (taken-more script rest along.taken along.takes at found within);
       numbered = let more = length-append along.taken (take at rest ∷ []) in omega (arith, along-number, more);
       explained = λ setting old lines far.
-          subst (SoFar setting next old newer later) (append_assoc lines along.taken (take at rest ∷ []))
+          subst (ExplainedSoFar setting next old newer later) (append_assoc lines along.taken (take at rest ∷ []))
           (step setting old (lines ++ along.taken) (along.explained setting old lines far));
     }
 
     -- the next was not
     pub along-stop : (newer : Option (List ℕ)) (later : List ℕ) (fault : ReportFault) →
-        ((setting : Setting) (old : Option (List ℕ)) (lines : List (List ℕ)) → SoFar setting now old new after lines →
+        ((setting : Setting) (old : Option (List ℕ)) (lines : List (List ℕ)) → ExplainedSoFar setting now old new after lines →
         count ≡ length lines + 1 → Halted setting old newer later (lines ++ take at rest ∷ []) fault) →
-        (setting : Setting) (old : Option (List ℕ)) → SoFar setting first old mid before [] →
+        (setting : Setting) (old : Option (List ℕ)) → ExplainedSoFar setting first old mid before [] →
         LinesHalted setting old newer later script fault
     along-stop newer later fault stops setting old far =
         halted-lines setting old newer later script fault
@@ -82,7 +82,7 @@ module _ (script rest : List ℕ) (number : ℕ) (first : Session) (mid : Option
     -- the last line has no end
     pub along-unended : (length rest == 0) ≡ false → (count : ℕ) → count ≡ min (number + 1) (2 ^ 64 - 1) →
         (fault : ReportFault) → IsBadLine count fault → (setting : Setting) (old : Option (List ℕ)) →
-        SoFar setting first old mid before [] → LinesHalted setting old new after script fault
+        ExplainedSoFar setting first old mid before [] → LinesHalted setting old new after script fault
     along-unended some count counted fault is setting old far =
         halted-at-end setting now old new after script count fault (along-all setting old [] far)
         (λ e. some_behind [] rest some (sym (rest-all script rest along.taken along.takes none) ∙ e))
@@ -147,7 +147,7 @@ module _ (script rest : List ℕ) (number : ℕ) (first now : Comparison) (along
     pub agreeing-stop : (fault : ReportFault) →
         ((setting : Setting) (lines : List (List ℕ)) → Compared setting now lines → count ≡ length lines + 1 →
         CheckHalted setting (lines ++ take at rest ∷ []) fault) → (setting : Setting) → Compared setting first [] →
-        LinesStop setting script fault
+        ComparisonLinesStop setting script fault
     agreeing-stop fault stops setting far =
         unchecked-lines setting script fault
         (unchecked-more setting (along.taken ++ take at rest ∷ []) (whole_lines script) (whole_lines (drop (at + 1) rest))
@@ -171,7 +171,7 @@ module _ (script rest : List ℕ) (number : ℕ) (first now : Comparison) (along
     -- the last line has no end
     pub agreeing-unended : (length rest == 0) ≡ false → (count : ℕ) → count ≡ min (number + 1) (2 ^ 64 - 1) →
         (fault : ReportFault) → IsBadLine count fault → (setting : Setting) → Compared setting first [] →
-        LinesStop setting script fault
+        ComparisonLinesStop setting script fault
     agreeing-unended some count counted fault is setting far =
         unchecked-at-end setting now script count fault (all-agree setting far)
         (λ e. some_behind [] rest some (sym (rest-all script rest along.taken along.takes none) ∙ e))

@@ -11,8 +11,8 @@ use Rattle.script_faults.specs.Faults.{IsBadLine, fault_status}
 use Rattle.script_faults.specs.Streams.{Came, IsUnread}
 use Rattle.sm_script.specs.declared.session.Session.{Session}
 use Rattle.sm_script.specs.Scenes.{Rests, Setting, first_scene}
-use Rattle.script_explain.specs.Explanations.{EndsExplained, Explains, Explanation, ExplanationStops, IsCutOff, IsExplained, IsUnexplained, LinesStop, LinesTold, explaining_status}
-use Rattle.script_explain.specs.Progress.{Explained, Halted, IsHalted, LinesHalted, SoFar}
+use Rattle.script_explain.specs.Explanations.{EndsExplained, Explains, Explanation, ExplanationStops, ExplanationCutOff, IsExplained, IsUnexplained, ExplanationLinesStop, LinesTold, explaining_status}
+use Rattle.script_explain.specs.Progress.{Explained, Halted, IsHalted, LinesHalted, ExplainedSoFar}
 use Rattle.script_explain.specs.Tales.{Begins}
 use Rattle.script_explain.proofs.Telling.{far-pending, pending-cut, pending-told}
 
@@ -27,8 +27,8 @@ part-none old new text none part =
     subst (Appends old new) (nil-front part.done part.rest (sym none ∙ part.split)) part.written
 
 -- nothing more went out
-cut-same : (setting : Setting) (old mid new : Option (List ℕ)) (lines : List (List ℕ)) → IsCutOff setting old mid lines →
-    Appends mid new [] → IsCutOff setting old new lines
+cut-same : (setting : Setting) (old mid new : Option (List ℕ)) (lines : List (List ℕ)) → ExplanationCutOff setting old mid lines →
+    Appends mid new [] → ExplanationCutOff setting old new lines
 cut-same setting old mid new lines cut out = record {
   before = cut.before;
   after = cut.after;
@@ -46,7 +46,7 @@ cut-same setting old mid new lines cut out = record {
 
 -- what is cut off among the first lines is cut off among all
 cut-more : (setting : Setting) (old new : Option (List ℕ)) (lines all more : List (List ℕ)) → all ≡ lines ++ more →
-    IsCutOff setting old new lines → IsCutOff setting old new all
+    ExplanationCutOff setting old new lines → ExplanationCutOff setting old new all
 cut-more setting old new lines all more is cut = record {
   before = cut.before;
   after = cut.after ++ more;
@@ -96,7 +96,7 @@ halted-lines setting old new pending script ReportFault.NoMemory stop = stop
 
 -- the last line has no end
 pub halted-at-end : (setting : Setting) (session : Session) (old new : Option (List ℕ)) (pending script : List ℕ) (number : ℕ)
-    (fault : ReportFault) → SoFar setting session old new pending (whole_lines script) → last_part script ≢ [] →
+    (fault : ReportFault) → ExplainedSoFar setting session old new pending (whole_lines script) → last_part script ≢ [] →
     number ≡ length (whole_lines script) + 1 → IsBadLine number fault → LinesHalted setting old new pending script fault
 halted-at-end setting session old new pending script number ReportFault.ReadFault far some numbered is = absurd is
 halted-at-end setting session old new pending script number ReportFault.TooLong far some numbered is = absurd is
@@ -130,7 +130,7 @@ module _ (setting : Setting) (old mid new : Option (List ℕ)) (pending script :
 
   -- all of the text went out behind a stop
   pub lines-stop : (fault : ReportFault) → LinesHalted setting old mid pending script fault → Appends mid new pending →
-      LinesStop setting old new script fault
+      ExplanationLinesStop setting old new script fault
   lines-stop ReportFault.ReadFault stop out = absurd stop
   lines-stop ReportFault.TooLong stop out = absurd stop
   lines-stop (ReportFault.NoEvent event) stop out = absurd stop
@@ -151,33 +151,33 @@ module _ (setting : Setting) (old mid new : Option (List ℕ)) (pending script :
   }
 
   stop-cut : (fault : ReportFault) (stop : IsHalted setting old mid pending (whole_lines script) fault) → WritesPart mid new pending →
-      IsCutOff setting old new (whole_lines script)
-  stop-cut fault stop part = subst (IsCutOff setting old new) (sym stop.split)
+      ExplanationCutOff setting old new (whole_lines script)
+  stop-cut fault stop part = subst (ExplanationCutOff setting old new) (sym stop.split)
       (pending-cut setting old mid pending stop.before stop.so_far new (stop.line ∷ stop.after) part)
 
   -- a part of the text went out behind a stop
   pub lines-cut : (fault : ReportFault) → LinesHalted setting old mid pending script fault → WritesPart mid new pending →
-      IsCutOff setting old new (whole_lines script)
+      ExplanationCutOff setting old new (whole_lines script)
   lines-cut ReportFault.ReadFault stop part = absurd stop
   lines-cut ReportFault.TooLong stop part = absurd stop
   lines-cut (ReportFault.NoEvent event) stop part = absurd stop
   lines-cut ReportFault.WriteFault stop part =
       cut-same setting old mid new (whole_lines script) stop.1 (part-none mid new pending stop.0 part)
   lines-cut (ReportFault.BadLine n reason) (inl stop) part = stop-cut (ReportFault.BadLine n reason) stop part
-  lines-cut (ReportFault.BadLine n reason) (inr stop) part = subst (IsCutOff setting old new) (append-nil (whole_lines script))
+  lines-cut (ReportFault.BadLine n reason) (inr stop) part = subst (ExplanationCutOff setting old new) (append-nil (whole_lines script))
       (pending-cut setting old mid pending (whole_lines script) stop.so_far new [] part)
   lines-cut ReportFault.HistoryFull stop part = stop-cut ReportFault.HistoryFull stop part
-  lines-cut ReportFault.NoMemory stop part = subst (IsCutOff setting old new) (sym stop.split)
+  lines-cut ReportFault.NoMemory stop part = subst (ExplanationCutOff setting old new) (sym stop.split)
       (pending-cut setting old mid pending stop.before stop.so_far new stop.after part)
 
   module _ (session : Session) (result : Result (Unit {0}) ReportFault)
-      (ok : OnOk result (SoFar setting session old mid pending (whole_lines script)))
+      (ok : OnOk result (ExplainedSoFar setting session old mid pending (whole_lines script)))
       (whole : OnOk result (last_part script ≡ [])) (err : IfErr result (LinesHalted setting old mid pending script)) where
     -- all of the text went out
     pub told-out : Appends mid new pending → LinesTold setting old new script result
     told-out out = by result ok whole err
       where
-        by : (r : Result (Unit {0}) ReportFault) → OnOk r (SoFar setting session old mid pending (whole_lines script)) →
+        by : (r : Result (Unit {0}) ReportFault) → OnOk r (ExplainedSoFar setting session old mid pending (whole_lines script)) →
             OnOk r (last_part script ≡ []) → IfErr r (LinesHalted setting old mid pending script) → LinesTold setting old new script r
         by (Ok done) far end stop = (
           end,
@@ -187,12 +187,12 @@ module _ (setting : Setting) (old mid new : Option (List ℕ)) (pending script :
         by (Err fault) far end stop = lines-stop fault stop out
 
     -- a part of the text went out
-    pub told-cut : WritesPart mid new pending → IsCutOff setting old new (whole_lines script)
+    pub told-cut : WritesPart mid new pending → ExplanationCutOff setting old new (whole_lines script)
     told-cut part = by result ok err
       where
-        by : (r : Result (Unit {0}) ReportFault) → OnOk r (SoFar setting session old mid pending (whole_lines script)) →
-            IfErr r (LinesHalted setting old mid pending script) → IsCutOff setting old new (whole_lines script)
-        by (Ok done) far stop = subst (IsCutOff setting old new) (append-nil (whole_lines script))
+        by : (r : Result (Unit {0}) ReportFault) → OnOk r (ExplainedSoFar setting session old mid pending (whole_lines script)) →
+            IfErr r (LinesHalted setting old mid pending script) → ExplanationCutOff setting old new (whole_lines script)
+        by (Ok done) far stop = subst (ExplanationCutOff setting old new) (append-nil (whole_lines script))
             (pending-cut setting old mid pending (whole_lines script)
             (far-pending setting session old mid pending (whole_lines script) far) new [] part)
         by (Err fault) far stop = lines-cut fault stop part

@@ -6,20 +6,20 @@ use Rattle.script_lines.specs.Written.{WritesPart}
 use Rattle.script_faults.specs.declared.fault.ReportFault.{ReportFault}
 use Rattle.script_faults.specs.Faults.{IsFaultOf}
 use Rattle.script_faults.specs.IndentedLines.{is_indented, unindented}
-use Rattle.script_faults.proofs.Settings.{legal-in, over-in}
+use Rattle.sm_script.proofs.Settings.{legal-in, over-in}
 use Rattle.script_faults.proofs.Unindented.{unindented-more, unindented-skip}
 use Rattle.sm_script.specs.declared.session.Session.{Session}
-use Rattle.sm_script.specs.declared.stop.Stop.{Stop}
+use Rattle.script_labels.specs.declared.stop.Stop.{Stop}
 use Rattle.sm_script.specs.Scenes.{Answers, LeadsTo, Plays, Rests, Scene, Setting, first_scene}
 use Rattle.sm_script.specs.Sessions.{Advances, IsAt, IsStopped}
 use Rattle.sm_script.proofs.Playing.{plays-more}
-use Rattle.script_explain.specs.Explanations.{Explanation, IsCutOff, IsExplained}
-use Rattle.script_explain.specs.Progress.{Halted, IsPending, SoFar}
-use Rattle.script_explain.specs.Tales.{Tells, Begins, Passes, Goes, told_line}
+use Rattle.script_explain.specs.Explanations.{Explanation, ExplanationCutOff, IsExplained}
+use Rattle.script_explain.specs.Progress.{Halted, IsPending, ExplainedSoFar}
+use Rattle.script_explain.specs.Tales.{ExplainsLines, Begins, Passes, Goes, told_line}
 
 -- the lines that are not indented are played, one after another
 pub tells-plays : (pool : ℕ) (first : Scene) (lines : List (List ℕ)) (text replies : List ℕ) (scene : Scene) →
-    Tells pool first lines text replies scene → Plays pool first (unindented lines) replies scene
+    ExplainsLines pool first lines text replies scene → Plays pool first (unindented lines) replies scene
 tells-plays pool first lines text replies scene Begins = Rests first
 tells-plays pool first lines text replies scene (Passes before line said given there so_far skip) =
     subst (λ (ls : List (List ℕ)). Plays pool first ls given there) (sym (unindented-skip before line skip))
@@ -40,7 +40,7 @@ module _ (setting : Setting) (old mid : Option (List ℕ)) (pending : List ℕ) 
   }
 
   -- a part of the text was written
-  pub pending-cut : (new : Option (List ℕ)) (more : List (List ℕ)) → WritesPart mid new pending → IsCutOff setting old new (lines ++ more)
+  pub pending-cut : (new : Option (List ℕ)) (more : List (List ℕ)) → WritesPart mid new pending → ExplanationCutOff setting old new (lines ++ more)
   pending-cut new more part = record {
     before = lines;
     after = more;
@@ -56,7 +56,7 @@ module _ (setting : Setting) (old mid : Option (List ℕ)) (pending : List ℕ) 
   }
 
 module _ (setting : Setting) (session : Session) (old mid : Option (List ℕ)) (pending : List ℕ) (lines : List (List ℕ))
-    (far : SoFar setting session old mid pending lines) where
+    (far : ExplainedSoFar setting session old mid pending lines) where
   -- the lines so far are explained
   abbrev pub far-pending : IsPending setting old mid pending lines
   far-pending = record {
@@ -76,7 +76,7 @@ module _ (setting : Setting) (session : Session) (old mid : Option (List ℕ)) (
   }
 
   -- an indented line is passed over
-  pub far-pass : (line : List ℕ) → is_indented line ≡ true → SoFar setting session old mid pending (lines ++ line ∷ [])
+  pub far-pass : (line : List ℕ) → is_indented line ≡ true → ExplainedSoFar setting session old mid pending (lines ++ line ∷ [])
   far-pass line skip = record {
     pool = far.pool;
     limits = far.limits;
@@ -93,7 +93,7 @@ module _ (setting : Setting) (session : Session) (old mid : Option (List ℕ)) (
   -- one more line was explained
   pub far-more : (next : Session) (after line reply facts : List ℕ) → is_indented line ≡ false →
       ((scene : Scene) → IsAt session scene → Advances session next line reply scene) →
-      after ≡ pending ++ told_line line reply facts → SoFar setting next old mid after (lines ++ line ∷ [])
+      after ≡ pending ++ told_line line reply facts → ExplainedSoFar setting next old mid after (lines ++ line ∷ [])
   far-more next after line reply facts whole advances grown =
       let step = advances far.scene far.is_at in
       record {
@@ -112,7 +112,7 @@ module _ (setting : Setting) (session : Session) (old mid : Option (List ℕ)) (
       }
 
   -- all of the text was written
-  pub far-written : (new : Option (List ℕ)) (none : List ℕ) → Appends mid new pending → none ≡ [] → SoFar setting session old new none lines
+  pub far-written : (new : Option (List ℕ)) (none : List ℕ) → Appends mid new pending → none ≡ [] → ExplainedSoFar setting session old new none lines
   far-written new none out empty = record {
     pool = far.pool;
     limits = far.limits;
@@ -131,7 +131,7 @@ module _ (setting : Setting) (session : Session) (old mid : Option (List ℕ)) (
       (fault ≡ ReportFault.WriteFault) × WritesPart mid new pending → Halted setting old new none lines fault
   far-refused new none fault empty refused = subst (Halted setting old new none lines) (sym refused.0) (
     empty,
-    subst (IsCutOff setting old new) (append-nil lines)
+    subst (ExplanationCutOff setting old new) (append-nil lines)
         (pending-cut setting old mid pending lines far-pending new [] refused.1),
   )
 
@@ -172,7 +172,7 @@ module _ (setting : Setting) (session : Session) (old mid : Option (List ℕ)) (
 -- no line was explained
 pub far-none : (setting : Setting) (session : Session) (old : Option (List ℕ)) (pending : List ℕ) →
     session.core.pool ≡ setting.pool → session.core.limits ≡ setting.limits → IsAt session first_scene → pending ≡ [] →
-    SoFar setting session old old pending []
+    ExplainedSoFar setting session old old pending []
 far-none setting session old pending pool limits at none = record {
   pool = pool;
   limits = limits;

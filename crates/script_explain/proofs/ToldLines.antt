@@ -8,9 +8,9 @@ use Rattle.std.specs.List.{flat_map, list_all}
 use Rattle.script_lines.specs.Pieces.{lines_from, rest_from, whole_lines, last_part}
 use Rattle.script_lines.proofs.Piecing.{lines-append, rest-append}
 use Rattle.script_faults.specs.IndentedLines.{fact_line, indented, is_indented, unindented}
-use Rattle.sm_script.specs.Names.{no_names}
+use Rattle.script_labels.specs.Names.{no_names}
 use Rattle.sm_script.specs.Scenes.{Scene, as_line, first_scene}
-use Rattle.script_explain.specs.Tales.{Tells, Begins, Passes, Goes, indent, replies_in, told_line}
+use Rattle.script_explain.specs.Tales.{ExplainsLines, Begins, Passes, Goes, indent, replies_in, told_line}
 use Rattle.script_explain.proofs.CleanLabels.{and-left, and-right, inner-append, is_inner}
 use Rattle.script_explain.proofs.CleanScenes.{AreClean, Cleanly, IsReply, NoReply, OneReply, answers-clean}
 use Rattle.script_faults.proofs.Unindented.{unindented-more, unindented-skip}
@@ -152,7 +152,7 @@ replies-append : (a b : List (List ℕ)) → replies_in (a ++ b) ≡ replies_in 
 replies-append a b =
     flat_map-append (λ line. if is_indented line && not (is_indented (drop 2 line)) then as_line (drop 2 line) else []) a b
 
-told-has : (pool : ℕ) (lines : List (List ℕ)) (text replies : List ℕ) (scene : Scene) → Tells pool first_scene lines text replies scene →
+told-has : (pool : ℕ) (lines : List (List ℕ)) (text replies : List ℕ) (scene : Scene) → ExplainsLines pool first_scene lines text replies scene →
     list_all is_inner lines ≡ true → Has lines text replies scene
 told-has pool lines text replies scene Begins inner =
     record { all = []; whole = whole-nil; script = refl; answers = refl; clean = record { nodes = refl; trackers = refl } }
@@ -200,18 +200,18 @@ told-has pool lines text replies scene (Goes before line said given reply facts 
 
 -- the lines of the script are those that are not indented, and the replies those that are indented by two spaces
 pub script-told : (pool : ℕ) (script text replies : List ℕ) (scene : Scene) →
-    Tells pool first_scene (whole_lines script) text replies scene → unindented (whole_lines text) ≡ unindented (whole_lines script)
+    ExplainsLines pool first_scene (whole_lines script) text replies scene → unindented (whole_lines text) ≡ unindented (whole_lines script)
 script-told pool script text replies scene tells =
     let has = told-has pool (whole_lines script) text replies scene tells (lines-inner [] script refl) in
     ap unindented has.whole.lines_are ∙ has.script
 
 pub replies-told : (pool : ℕ) (script text replies : List ℕ) (scene : Scene) →
-    Tells pool first_scene (whole_lines script) text replies scene → replies_in (whole_lines text) ≡ replies
+    ExplainsLines pool first_scene (whole_lines script) text replies scene → replies_in (whole_lines text) ≡ replies
 replies-told pool script text replies scene tells =
     let has = told-has pool (whole_lines script) text replies scene tells (lines-inner [] script refl) in
     ap replies_in has.whole.lines_are ∙ has.answers
 
 pub text-whole : (pool : ℕ) (script text replies : List ℕ) (scene : Scene) →
-    Tells pool first_scene (whole_lines script) text replies scene → last_part text ≡ []
+    ExplainsLines pool first_scene (whole_lines script) text replies scene → last_part text ≡ []
 text-whole pool script text replies scene tells =
     (told-has pool (whole_lines script) text replies scene tells (lines-inner [] script refl)).whole.ends

@@ -7,7 +7,7 @@ use Rattle.script_lines.specs.Written.{WritesPart}
 use Rattle.script_faults.specs.declared.fault.ReportFault.{ReportFault}
 use Rattle.script_faults.specs.Faults.{fault_status}
 use Rattle.script_faults.specs.IndentedLines.{indented, is_indented, unindented}
-use Rattle.sm_script.specs.Names.{act_in}
+use Rattle.script_labels.specs.Names.{act_in}
 use Rattle.sm_script.specs.Runs.{IsOver}
 use Rattle.sm_script.specs.Scenes.{Answers, LeadsTo, Scene, Setting, as_line, first_scene}
 use Rattle.script_explain.specs.declared.check.Verdict.{Verdict}
@@ -22,7 +22,7 @@ Records line reply = (is_indented line ≡ true) × (is_indented (drop 2 line) �
 
 -- where the comparison of a transcript is: what happened so far; the last line that was played, with its number and what it was
 -- answered, which is nothing or a line; how many lines were played, and how many replies compared
-pub record Place : Type 0 where
+pub record TranscriptPlace : Type 0 where
   pub scene : Scene
   pub number : ℕ
   pub line : List ℕ
@@ -31,38 +31,38 @@ pub record Place : Type 0 where
   pub replies : ℕ
 
 -- no line was played
-abbrev pub start : Place
+abbrev pub start : TranscriptPlace
 start = record { scene = first_scene; number = 0; line = []; reply = []; lines = 0; replies = 0 }
 
 -- one more line was played, that of this number
-abbrev pub played : Place → ℕ → List ℕ → List ℕ → Scene → Place
+abbrev pub played : TranscriptPlace → ℕ → List ℕ → List ℕ → Scene → TranscriptPlace
 played at number line reply next =
     record { scene = next; number = number; line = line; reply = reply; lines = at.lines + 1; replies = at.replies }
 
 -- one more reply was compared
-abbrev pub compared : Place → Place
+abbrev pub compared : TranscriptPlace → TranscriptPlace
 compared at = record at { replies = at.replies + 1 }
 
 -- these lines, one after another, were played and compared, and each reply that they record is that of the machine to the last
 -- line before it that was played
-pub data Agrees (pool : ℕ) : List (List ℕ) → Place → Type 0 where
+pub data Agrees (pool : ℕ) : List (List ℕ) → TranscriptPlace → Type 0 where
   Begins : Agrees pool [] start
-  Remarks : (lines : List (List ℕ)) (line : List ℕ) (at : Place) → Agrees pool lines at → IsRemark line →
+  Remarks : (lines : List (List ℕ)) (line : List ℕ) (at : TranscriptPlace) → Agrees pool lines at → IsRemark line →
       Agrees pool (lines ++ line ∷ []) at
-  Replies : (lines : List (List ℕ)) (line reply : List ℕ) (at : Place) → Agrees pool lines at → Records line reply →
+  Replies : (lines : List (List ℕ)) (line reply : List ℕ) (at : TranscriptPlace) → Agrees pool lines at → Records line reply →
       at.reply ≡ as_line reply → Agrees pool (lines ++ line ∷ []) (compared at)
-  Plays : (lines : List (List ℕ)) (line reply : List ℕ) (at : Place) (next : Scene) → Agrees pool lines at →
+  Plays : (lines : List (List ℕ)) (line reply : List ℕ) (at : TranscriptPlace) (next : Scene) → Agrees pool lines at →
       is_indented line ≡ false → Answers pool at.scene line reply next →
       Agrees pool (lines ++ line ∷ []) (played at (length lines + 1) line reply next)
 
 -- the lines agree with a machine whose history is legal, and whose calls are those of the lines that are not indented
-pub record Agreement (setting : Setting) (lines : List (List ℕ)) (at : Place) : Type 0 where
+pub record Agreement (setting : Setting) (lines : List (List ℕ)) (at : TranscriptPlace) : Type 0 where
   pub agrees : Agrees setting.pool lines at
   pub texts : List ℕ
   pub leads : LeadsTo setting (unindented lines) texts at.scene
 
 -- what is told where all agrees
-abbrev pub agreement_text : Place → List ℕ
+abbrev pub agreement_text : TranscriptPlace → List ℕ
 agreement_text at =
     codes "agrees: " ++ decimal at.lines ++ codes " lines, " ++ decimal at.replies ++ codes " replies\n"
 
@@ -82,7 +82,7 @@ pub record Difference (setting : Setting) (lines : List (List ℕ)) (text : List
   pub line : List ℕ
   pub after : List (List ℕ)
   pub split : lines ≡ before ++ line ∷ after
-  pub at : Place
+  pub at : TranscriptPlace
   pub agreed : Agreement setting before at
   pub some_played : 0 < at.lines
   pub reply : List ℕ
@@ -94,7 +94,7 @@ pub record Difference (setting : Setting) (lines : List (List ℕ)) (text : List
 -- all agrees, and the text tells so
 pub record FullAgreement (setting : Setting) (script : List ℕ) (text : List ℕ) : Type 0 where
   pub ended : last_part script ≡ []
-  pub at : Place
+  pub at : TranscriptPlace
   pub agreed : Agreement setting (whole_lines script) at
   pub said : text ≡ agreement_text at
 
@@ -110,18 +110,18 @@ pub record IsJudged (setting : Setting) (old new : Option (List ℕ)) (script : 
   pub written : Appends old new text
 
 -- a first part of a verdict was written
-pub record IsCutOff (setting : Setting) (old new : Option (List ℕ)) (script : List ℕ) : Type 0 where
+pub record ComparisonCutOff (setting : Setting) (old new : Option (List ℕ)) (script : List ℕ) : Type 0 where
   pub verdict : Verdict
   pub text : List ℕ
   pub judged : IsVerdict setting script text verdict
   pub written : WritesPart old new text
 
 -- why the line of this number could be neither played nor compared
-abbrev pub IsWhy : Setting → Place → List ℕ → ℕ → ReportFault → Type 0
-IsWhy setting at line number (ReportFault.BadLine n reason) = (n ≡ number)
+abbrev pub ComparisonFault : Setting → TranscriptPlace → List ℕ → ℕ → ReportFault → Type 0
+ComparisonFault setting at line number (ReportFault.BadLine n reason) = (n ≡ number)
     × ((is_indented line ≡ false) × (act_in at.scene.names line ≡ None) ⊎ (reply : List ℕ) × Records line reply × (at.lines ≡ 0))
-IsWhy setting at line number ReportFault.HistoryFull = (is_indented line ≡ false) × IsOver setting at.scene line
-IsWhy setting at line number _ = ⊥
+ComparisonFault setting at line number ReportFault.HistoryFull = (is_indented line ≡ false) × IsOver setting at.scene line
+ComparisonFault setting at line number _ = ⊥
 
 -- a line could be neither played nor compared, and all before it agrees
 pub record IsUnchecked (setting : Setting) (lines : List (List ℕ)) (fault : ReportFault) : Type 0 where
@@ -129,36 +129,36 @@ pub record IsUnchecked (setting : Setting) (lines : List (List ℕ)) (fault : Re
   pub line : List ℕ
   pub after : List (List ℕ)
   pub split : lines ≡ before ++ line ∷ after
-  pub at : Place
+  pub at : TranscriptPlace
   pub agreed : Agreement setting before at
-  pub why : IsWhy setting at line (length before + 1) fault
+  pub why : ComparisonFault setting at line (length before + 1) fault
 
 -- the last line has no end, and all others agree
-pub record IsUnended (setting : Setting) (script : List ℕ) (number : ℕ) : Type 0 where
+pub record ComparisonUnended (setting : Setting) (script : List ℕ) (number : ℕ) : Type 0 where
   pub unended : last_part script ≢ []
   pub numbered : number ≡ length (whole_lines script) + 1
-  pub at : Place
+  pub at : TranscriptPlace
   pub agreed : Agreement setting (whole_lines script) at
 
 -- why no verdict was found on a script that was read
-abbrev pub LinesStop : Setting → List ℕ → ReportFault → Type 0
-LinesStop setting script (ReportFault.BadLine n reason) =
-    IsUnchecked setting (whole_lines script) (ReportFault.BadLine n reason) ⊎ IsUnended setting script n
-LinesStop setting script ReportFault.HistoryFull = IsUnchecked setting (whole_lines script) ReportFault.HistoryFull
-LinesStop setting script ReportFault.NoMemory = Unit {0}
-LinesStop setting script _ = ⊥
+abbrev pub ComparisonLinesStop : Setting → List ℕ → ReportFault → Type 0
+ComparisonLinesStop setting script (ReportFault.BadLine n reason) =
+    IsUnchecked setting (whole_lines script) (ReportFault.BadLine n reason) ⊎ ComparisonUnended setting script n
+ComparisonLinesStop setting script ReportFault.HistoryFull = IsUnchecked setting (whole_lines script) ReportFault.HistoryFull
+ComparisonLinesStop setting script ReportFault.NoMemory = Unit {0}
+ComparisonLinesStop setting script _ = ⊥
 
 -- what came of a script that was read: a verdict was written, or a part of it, or nothing where none was found
-abbrev pub Stopped : Setting → Option (List ℕ) → Option (List ℕ) → List ℕ → ReportFault → Type 0
-Stopped setting old new script ReportFault.WriteFault = IsCutOff setting old new script
-Stopped setting old new script fault = LinesStop setting script fault × Keeps old new
+abbrev pub ComparisonStopped : Setting → Option (List ℕ) → Option (List ℕ) → List ℕ → ReportFault → Type 0
+ComparisonStopped setting old new script ReportFault.WriteFault = ComparisonCutOff setting old new script
+ComparisonStopped setting old new script fault = ComparisonLinesStop setting script fault × Keeps old new
 
 -- why a check stopped, where these bytes were read: no line is played before all are read
 abbrev pub CheckStops : Setting → Option (List ℕ) → Option (List ℕ) → Option (List ℕ) → List ℕ → ReportFault → Type 0
 CheckStops setting left old new script ReportFault.ReadFault = (length script ≤ MOST_BYTES) × Keeps old new
 CheckStops setting left old new script ReportFault.TooLong = (MOST_BYTES < length script) × Keeps old new
 CheckStops setting left old new script ReportFault.NoMemory = Keeps old new
-CheckStops setting left old new script fault = IsAtEnd left × Stopped setting old new script fault
+CheckStops setting left old new script fault = IsAtEnd left × ComparisonStopped setting old new script fault
 
 -- these bytes were read, and their lines were compared. Where there is a verdict they are all that there is
 pub record Checks (setting : Setting) (left_before left old new : Option (List ℕ)) (result : Result Verdict ReportFault) : Type 0 where

@@ -7,17 +7,17 @@ use Rattle.script_lines.specs.Written.{WritesPart}
 use Rattle.script_faults.specs.declared.fault.ReportFault.{ReportFault}
 use Rattle.script_faults.specs.Faults.{fault_status}
 use Rattle.script_faults.specs.IndentedLines.{is_indented, unindented}
-use Rattle.sm_script.specs.Names.{act_in}
+use Rattle.script_labels.specs.Names.{act_in}
 use Rattle.sm_script.specs.Runs.{IsOver}
 use Rattle.sm_script.specs.Scenes.{LeadsTo, Scene, Setting, first_scene}
-use Rattle.script_explain.specs.Tales.{Tells}
+use Rattle.script_explain.specs.Tales.{ExplainsLines}
 
 -- the text explains these lines: their replies are those of a legal history whose calls are those of the lines that are not
 -- indented
 pub record Explanation (setting : Setting) (lines : List (List ℕ)) (text : List ℕ) : Type 0 where
   pub replies : List ℕ
   pub scene : Scene
-  pub tells : Tells setting.pool first_scene lines text replies scene
+  pub tells : ExplainsLines setting.pool first_scene lines text replies scene
   pub leads : LeadsTo setting (unindented lines) replies scene
 
 -- what was written explains exactly these lines
@@ -27,7 +27,7 @@ pub record IsExplained (setting : Setting) (old new : Option (List ℕ)) (lines 
   pub written : Appends old new text
 
 -- what was written is a first part of what explains some first lines
-pub record IsCutOff (setting : Setting) (old new : Option (List ℕ)) (lines : List (List ℕ)) : Type 0 where
+pub record ExplanationCutOff (setting : Setting) (old new : Option (List ℕ)) (lines : List (List ℕ)) : Type 0 where
   pub before : List (List ℕ)
   pub after : List (List ℕ)
   pub split : lines ≡ before ++ after
@@ -36,10 +36,10 @@ pub record IsCutOff (setting : Setting) (old new : Option (List ℕ)) (lines : L
   pub written : WritesPart old new text
 
 -- why the line of this number was not explained
-abbrev pub IsWhy : Setting → Scene → List ℕ → ℕ → ReportFault → Type 0
-IsWhy setting scene line number (ReportFault.BadLine n reason) = (act_in scene.names line ≡ None) × (n ≡ number)
-IsWhy setting scene line number ReportFault.HistoryFull = IsOver setting scene line
-IsWhy setting scene line number _ = ⊥
+abbrev pub ExplanationFault : Setting → Scene → List ℕ → ℕ → ReportFault → Type 0
+ExplanationFault setting scene line number (ReportFault.BadLine n reason) = (act_in scene.names line ≡ None) × (n ≡ number)
+ExplanationFault setting scene line number ReportFault.HistoryFull = IsOver setting scene line
+ExplanationFault setting scene line number _ = ⊥
 
 -- a line was not explained, and what was written explains exactly the lines before it
 pub record IsUnexplained (setting : Setting) (old new : Option (List ℕ)) (lines : List (List ℕ)) (fault : ReportFault) : Type 0 where
@@ -49,44 +49,44 @@ pub record IsUnexplained (setting : Setting) (old new : Option (List ℕ)) (line
   pub split : lines ≡ before ++ line ∷ after
   pub whole : is_indented line ≡ false
   pub told : IsExplained setting old new before
-  pub why : IsWhy setting told.explains.scene line (length before + 1) fault
+  pub why : ExplanationFault setting told.explains.scene line (length before + 1) fault
 
 -- the last line has no end, and all others were explained
-pub record IsUnended (setting : Setting) (old new : Option (List ℕ)) (script : List ℕ) (number : ℕ) : Type 0 where
+pub record ExplanationUnended (setting : Setting) (old new : Option (List ℕ)) (script : List ℕ) (number : ℕ) : Type 0 where
   pub unended : last_part script ≢ []
   pub numbered : number ≡ length (whole_lines script) + 1
   pub told : IsExplained setting old new (whole_lines script)
 
 -- memory was refused, and what was written explains exactly some first lines
-pub record IsRefused (setting : Setting) (old new : Option (List ℕ)) (lines : List (List ℕ)) : Type 0 where
+pub record ExplanationRefused (setting : Setting) (old new : Option (List ℕ)) (lines : List (List ℕ)) : Type 0 where
   pub before : List (List ℕ)
   pub after : List (List ℕ)
   pub split : lines ≡ before ++ after
   pub told : IsExplained setting old new before
 
 -- why an explanation of a script that was read stopped
-abbrev pub LinesStop : Setting → Option (List ℕ) → Option (List ℕ) → List ℕ → ReportFault → Type 0
-LinesStop setting old new script ReportFault.WriteFault = IsCutOff setting old new (whole_lines script)
-LinesStop setting old new script (ReportFault.BadLine n reason) =
-    IsUnexplained setting old new (whole_lines script) (ReportFault.BadLine n reason) ⊎ IsUnended setting old new script n
-LinesStop setting old new script ReportFault.HistoryFull =
+abbrev pub ExplanationLinesStop : Setting → Option (List ℕ) → Option (List ℕ) → List ℕ → ReportFault → Type 0
+ExplanationLinesStop setting old new script ReportFault.WriteFault = ExplanationCutOff setting old new (whole_lines script)
+ExplanationLinesStop setting old new script (ReportFault.BadLine n reason) =
+    IsUnexplained setting old new (whole_lines script) (ReportFault.BadLine n reason) ⊎ ExplanationUnended setting old new script n
+ExplanationLinesStop setting old new script ReportFault.HistoryFull =
     IsUnexplained setting old new (whole_lines script) ReportFault.HistoryFull
-LinesStop setting old new script ReportFault.NoMemory = IsRefused setting old new (whole_lines script)
-LinesStop setting old new script _ = ⊥
+ExplanationLinesStop setting old new script ReportFault.NoMemory = ExplanationRefused setting old new (whole_lines script)
+ExplanationLinesStop setting old new script _ = ⊥
 
 -- what came of explaining a script that was read: without a fault what was written explains all lines
 abbrev pub LinesTold : Setting → Option (List ℕ) → Option (List ℕ) → List ℕ → Result (Unit {0}) ReportFault → Type 0
 LinesTold setting old new script result = MatchResult result
     (λ _. (last_part script ≡ []) × IsExplained setting old new (whole_lines script))
-    (LinesStop setting old new script)
+    (ExplanationLinesStop setting old new script)
 
 -- why an explanation stopped, where these bytes were read: no line is explained before all are read
 abbrev pub ExplanationStops : Setting → Option (List ℕ) → Option (List ℕ) → Option (List ℕ) → List ℕ → ReportFault → Type 0
 ExplanationStops setting left old new script ReportFault.ReadFault = (length script ≤ MOST_BYTES) × Keeps old new
 ExplanationStops setting left old new script ReportFault.TooLong = (MOST_BYTES < length script) × Keeps old new
 ExplanationStops setting left old new script ReportFault.NoMemory =
-    LinesStop setting old new script ReportFault.NoMemory
-ExplanationStops setting left old new script fault = IsAtEnd left × LinesStop setting old new script fault
+    ExplanationLinesStop setting old new script ReportFault.NoMemory
+ExplanationStops setting left old new script fault = IsAtEnd left × ExplanationLinesStop setting old new script fault
 
 -- these bytes were read, and their lines were explained. Without a fault they are all that there is
 pub record Explains (setting : Setting) (left_before left old new : Option (List ℕ)) (result : Result (Unit {0}) ReportFault) : Type 0 where

@@ -9,21 +9,21 @@ use Rattle.sm_script.specs.Scenes.{Scene, Setting, first_scene}
 use Rattle.sm_script.specs.Sessions.{IsAt}
 use Rattle.script_explain.specs.declared.check.Comparison.{Comparison}
 use Rattle.script_explain.specs.declared.check.Verdict.{Verdict}
-use Rattle.script_explain.specs.Comparisons.{Agrees, Difference, IsUnchecked, Place}
-use Rattle.script_explain.specs.Explanations.{Explanation, IsCutOff, IsWhy}
-use Rattle.script_explain.specs.Tales.{Tells}
+use Rattle.script_explain.specs.Comparisons.{Agrees, Difference, IsUnchecked, TranscriptPlace}
+use Rattle.script_explain.specs.Explanations.{Explanation, ExplanationCutOff, ExplanationFault}
+use Rattle.script_explain.specs.Tales.{ExplainsLines}
 
 -- ---- explanations
 
 -- these lines were explained; their text was written, but for what is pending
-pub record SoFar (setting : Setting) (session : Session) (old new : Option (List ℕ)) (pending : List ℕ)
+pub record ExplainedSoFar (setting : Setting) (session : Session) (old new : Option (List ℕ)) (pending : List ℕ)
     (lines : List (List ℕ)) : Type 0 where
   pub pool : session.core.pool ≡ setting.pool
   pub limits : session.core.limits ≡ setting.limits
   pub text : List ℕ
   pub replies : List ℕ
   pub scene : Scene
-  pub tells : Tells setting.pool first_scene lines text replies scene
+  pub tells : ExplainsLines setting.pool first_scene lines text replies scene
   pub is_at : IsAt session scene
   pub done : List ℕ
   pub split : text ≡ done ++ pending
@@ -32,7 +32,7 @@ pub record SoFar (setting : Setting) (session : Session) (old new : Option (List
 -- these lines more were explained between the two moments
 abbrev pub Explained : Session → Option (List ℕ) → List ℕ → Session → Option (List ℕ) → List ℕ → List (List ℕ) → Type 0
 Explained session mid before next new after more = (setting : Setting) (old : Option (List ℕ)) (lines : List (List ℕ)) →
-    SoFar setting session old mid before lines → SoFar setting next old new after (lines ++ more)
+    ExplainedSoFar setting session old mid before lines → ExplainedSoFar setting next old new after (lines ++ more)
 
 -- the lines are explained; what is not pending was written
 pub record IsPending (setting : Setting) (old new : Option (List ℕ)) (pending : List ℕ) (lines : List (List ℕ)) : Type 0 where
@@ -51,7 +51,7 @@ pub record IsHalted (setting : Setting) (old new : Option (List ℕ)) (pending :
   pub split : lines ≡ before ++ line ∷ after
   pub whole : is_indented line ≡ false
   pub so_far : IsPending setting old new pending before
-  pub why : IsWhy setting so_far.explains.scene line (length before + 1) fault
+  pub why : ExplanationFault setting so_far.explains.scene line (length before + 1) fault
 
 -- memory was refused, where some first lines were explained
 pub record IsHeld (setting : Setting) (old new : Option (List ℕ)) (pending : List ℕ) (lines : List (List ℕ)) : Type 0 where
@@ -62,7 +62,7 @@ pub record IsHeld (setting : Setting) (old new : Option (List ℕ)) (pending : L
 
 -- why these lines were not all explained
 abbrev pub Halted : Setting → Option (List ℕ) → Option (List ℕ) → List ℕ → List (List ℕ) → ReportFault → Type 0
-Halted setting old new pending lines ReportFault.WriteFault = (pending ≡ []) × IsCutOff setting old new lines
+Halted setting old new pending lines ReportFault.WriteFault = (pending ≡ []) × ExplanationCutOff setting old new lines
 Halted setting old new pending lines (ReportFault.BadLine n reason) =
     IsHalted setting old new pending lines (ReportFault.BadLine n reason)
 Halted setting old new pending lines ReportFault.HistoryFull = IsHalted setting old new pending lines ReportFault.HistoryFull
@@ -85,8 +85,8 @@ LinesHalted setting old new pending script fault = Halted setting old new pendin
 -- ---- comparisons
 
 -- the place where the comparison is
-abbrev pub place_in : Comparison → Scene → Place
-place_in c scene = record {
+abbrev pub comparison_place : Comparison → Scene → TranscriptPlace
+comparison_place c scene = record {
   scene = scene;
   number = c.number;
   line = c.line.items;
@@ -100,7 +100,7 @@ pub record Compared (setting : Setting) (c : Comparison) (lines : List (List ℕ
   pub pool : c.teller.session.core.pool ≡ setting.pool
   pub limits : c.teller.session.core.limits ≡ setting.limits
   pub scene : Scene
-  pub agrees : Agrees setting.pool lines (place_in c scene)
+  pub agrees : Agrees setting.pool lines (comparison_place c scene)
   pub is_at : IsAt c.teller.session scene
 
 -- what comes of one more line, where so many were compared before it: it agrees, or is the first that does not

@@ -24,11 +24,11 @@ replies_in lines = flat_map
 
 -- these lines, one after another, are explained by this text, give these replies and lead to the last scene. An indented line is
 -- passed over; any other is answered as a line of a script is
-pub data Tells (pool : ℕ) (first : Scene) : List (List ℕ) → List ℕ → List ℕ → Scene → Type 0 where
-  Begins : Tells pool first [] [] [] first
+pub data ExplainsLines (pool : ℕ) (first : Scene) : List (List ℕ) → List ℕ → List ℕ → Scene → Type 0 where
+  Begins : ExplainsLines pool first [] [] [] first
   Passes : (lines : List (List ℕ)) (line text replies : List ℕ) (scene : Scene) →
-      Tells pool first lines text replies scene → is_indented line ≡ true →
-      Tells pool first (lines ++ line ∷ []) text replies scene
+      ExplainsLines pool first lines text replies scene → is_indented line ≡ true →
+      ExplainsLines pool first (lines ++ line ∷ []) text replies scene
   Goes : (lines : List (List ℕ)) (line text replies reply facts : List ℕ) (scene next : Scene) →
-      Tells pool first lines text replies scene → is_indented line ≡ false → Answers pool scene line reply next →
-      Tells pool first (lines ++ line ∷ []) (text ++ told_line line reply facts) (replies ++ reply) next
+      ExplainsLines pool first lines text replies scene → is_indented line ≡ false → Answers pool scene line reply next →
+      ExplainsLines pool first (lines ++ line ∷ []) (text ++ told_line line reply facts) (replies ++ reply) next

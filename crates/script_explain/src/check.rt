@@ -4,8 +4,8 @@ ghost use Rattle.script_faults.specs.IndentedLines.{indented, is_indented as is_
 ghost use Rattle.script_lines.specs.Pieces.{last_part, whole_lines};
 ghost use Rattle.sm_script.specs.Scenes.{Scene, Setting, as_line};
 ghost use Rattle.sm_script.specs.Sessions.{Advances, IsAt, IsStopped};
-ghost use Rattle.script_explain.specs.Comparisons.{Checks, IsJudged, IsVerdict, LinesStop, Records, Stopped, agreement_text, legal_text, told_difference};
-ghost use Rattle.script_explain.specs.Progress.{CheckHalted, Compared, Ended, Judges, place_in};
+ghost use Rattle.script_explain.specs.Comparisons.{Checks, IsJudged, IsVerdict, ComparisonLinesStop, Records, ComparisonStopped, agreement_text, legal_text, told_difference};
+ghost use Rattle.script_explain.specs.Progress.{CheckHalted, Compared, Ended, Judges, comparison_place};
 
 use script_faults::{
     ReportFault, bad_line, behind, behind_indent, fault_of, is_indented, push_indented, put_out,
@@ -87,7 +87,7 @@ fn check_all<W: Write>(
     ensures ok { IfOk result (λ verdict. (setting : Setting) → Compared setting comparison.old [] →
         IsJudged setting (W.contents writer.old) (W.contents writer.new) script.now verdict) }
     ensures err { IfErr result (λ fault. (setting : Setting) → Compared setting comparison.old [] →
-        Stopped setting (W.contents writer.old) (W.contents writer.new) script.now fault) }
+        ComparisonStopped setting (W.contents writer.old) (W.contents writer.new) script.now fault) }
 {
     let verdict = match comparison.judge(alloc, script) {
         Ok(verdict) => verdict,
@@ -134,7 +134,7 @@ impl Comparison {
         ensures ok { IfOk result (λ verdict. (setting : Setting) → Compared setting self.old [] →
             IsVerdict setting script.now self.new.text.items verdict) }
         ensures err { IfErr result (λ fault. (setting : Setting) → Compared setting self.old [] →
-            LinesStop setting script.now fault) }
+            ComparisonLinesStop setting script.now fault) }
     {
         match self.take_lines(alloc, script) {
             Ok(Verdict::Agrees) => match self.push_agreement() {
@@ -153,7 +153,7 @@ impl Comparison {
         ensures ok { IfOk result (λ verdict. (setting : Setting) → Compared setting self.old [] →
             Ended setting self.new script.now verdict) }
         ensures err { IfErr result (λ fault. (setting : Setting) → Compared setting self.old [] →
-            LinesStop setting script.now fault) }
+            ComparisonLinesStop setting script.now fault) }
     {
         let mut number: u64 = 0;
         let mut rest = script;
@@ -258,7 +258,7 @@ impl Comparison {
     // Puts behind what is there that all replies agree.
     fn push_agreement(&mut self) -> Result<(), AllocError>
         ensures { OnOk result ((scene : Scene) → self.new.text.items
-            ≡ self.old.text.items ++ agreement_text (place_in self.old scene)) }
+            ≡ self.old.text.items ++ agreement_text (comparison_place self.old scene)) }
     {
         push_parts(
             &mut self.text,

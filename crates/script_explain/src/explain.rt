@@ -6,16 +6,16 @@ ghost use Rattle.script_lines.specs.Written.{WritesPart};
 ghost use Rattle.sm_script.specs.Scenes.{Scene, Setting, first_scene};
 ghost use Rattle.sm_script.specs.Sessions.{Advances, IsAt, IsStopped};
 ghost use Rattle.script_explain.specs.Explanations.{Explains, LinesTold};
-ghost use Rattle.script_explain.specs.Progress.{Explained, Halted, LinesHalted, SoFar};
+ghost use Rattle.script_explain.specs.Progress.{Explained, Halted, LinesHalted, ExplainedSoFar};
 ghost use Rattle.script_explain.specs.Tales.{indent, line_with_reply, told_line};
 
 use script_faults::{
     ReportFault, behind, fault_of, is_indented, push_indented, put_out, read_script, unended,
 };
+use script_labels::Stop;
 use script_lines::{MOST_BYTES, line_end, write_out};
 use script_tales::Teller;
 use sm_names::{Limits, NoMemory};
-use sm_script::Stop;
 use std::alloc::{AllocError, Global};
 use std::io::{Read, Write};
 use text_parts::{Part, push_parts};
@@ -83,7 +83,7 @@ fn explain_all<W: Write>(
     script: &[u8],
 ) -> Result<(), ReportFault>
     requires { length script.now ≤ MOST_BYTES }
-    ensures { (setting : Setting) → SoFar setting explainer.old.teller.session
+    ensures { (setting : Setting) → ExplainedSoFar setting explainer.old.teller.session
         (W.contents writer.old) (W.contents writer.old) explainer.old.text.items [] →
         LinesTold setting (W.contents writer.old) (W.contents writer.new) script.now result }
 {
@@ -108,7 +108,7 @@ fn explain_lines<W: Write>(
         (whole_lines script.now)) }
     ensures whole { OnOk result (last_part script.now ≡ []) }
     ensures err { IfErr result (λ fault. (setting : Setting) (old : Option (List ℕ)) →
-        SoFar setting explainer.old.teller.session
+        ExplainedSoFar setting explainer.old.teller.session
         old (W.contents writer.old) explainer.old.text.items [] →
         LinesHalted setting old (W.contents writer.new) explainer.new.text.items script.now fault) }
 {
@@ -133,7 +133,7 @@ impl Explainer {
     fn new(alloc: Global, seed: [u8; 16], pages: u32, limits: Limits) -> Result<Explainer, NoMemory>
         requires { (1 ≤ pages) × (pages ≤ 1048576) }
         ensures { IfOk result (λ explainer. (old : Option (List ℕ)) →
-            SoFar (record { pool = pages; limits = limits }) explainer.teller.session
+            ExplainedSoFar (record { pool = pages; limits = limits }) explainer.teller.session
             old old explainer.text.items []) }
     {
         let teller = Teller::new(alloc, seed, pages, limits)?;
@@ -161,7 +161,7 @@ impl Explainer {
             (line.now ∷ [])) }
         ensures err { IfErr result (λ fault. (setting : Setting) (old : Option (List ℕ))
             (lines : List (List ℕ)) →
-            SoFar setting self.old.teller.session
+            ExplainedSoFar setting self.old.teller.session
             old (W.contents writer.old) self.old.text.items lines → number ≡ length lines + 1 →
             Halted setting old (W.contents writer.new) self.new.text.items
             (lines ++ line.now ∷ []) fault) }

@@ -1,5 +1,4 @@
 pub mod Incoming
 pub mod Indenting
 pub mod LinesTaken
-pub mod Settings
 pub mod Unindented

@@ -1,6 +1,6 @@
 -- The statuses of faults, and why a line has one.
 use Rattle.std.specs.Prelude.{ℕ, ◌≡◌, ◌≢◌, ⊤}
-use Rattle.sm_script.specs.declared.stop.Stop.{Stop}
+use Rattle.script_labels.specs.declared.stop.Stop.{Stop}
 use Rattle.script_faults.specs.declared.fault.ReportFault.{ReportFault}
 
 -- the status that a program ends with: 1 for the streams, 2 for an event that there is not, 3 for the script, 4 for want of

@@ -3,9 +3,9 @@ ghost use Rattle.std.specs.Prelude.{◌≡◌};
 ghost use Rattle.script_faults.specs.Faults.{IsBadLine, IsFaultOf, fault_status};
 
 use crate::reasons::push_reason;
+use script_labels::{Stop, Tables};
 use script_lines::push;
 use sm_names::NoMemory;
-use sm_script::{Stop, Tables};
 use std::alloc::{AllocError, Global};
 use text_parts::{Part, push_parts};
 

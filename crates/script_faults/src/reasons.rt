@@ -1,8 +1,8 @@
 //! What is wrong with a bad line, in words.
+use script_labels::Tables;
 use script_lines::{BufferLabel, Label, push};
-use sm_script::Tables;
+use sm_names::{ArgumentForm, Product, Target, kind_named, row_of};
 use std::alloc::AllocError;
-use std::str;
 
 // What a word behind a verb is to be.
 #[derive(Clone, Copy)]
@@ -27,40 +27,38 @@ enum Part {
 // The parts behind a verb.
 type Parts = [Part; 4];
 
-const NONE: Parts = [Part::End, Part::End, Part::End, Part::End];
-
-fn one(part: Part) -> Parts {
-    [part, Part::End, Part::End, Part::End]
-}
-
-fn two(first: Part, second: Part) -> Parts {
-    [first, second, Part::End, Part::End]
-}
-
-fn three(first: Part, second: Part, third: Part) -> Parts {
-    [first, second, third, Part::End]
-}
-
-// What is to follow the verb, if there is such a verb.
+// What is to follow the verb, if there is such a verb: what the call is made on, what else it says, and a new
+// label.
 fn parts_of(verb: &[u8]) -> Option<Parts> {
-    let word = str::from_utf8(verb).ok()?;
-    match word {
-        "join" | "shut" => Some(NONE),
-        "open" | "collect" => Some(one(Part::NewNode)),
-        "poll" => Some(one(Part::Tracker)),
-        "sync" | "bind" | "dispensable" | "weak" | "check" | "take" | "release" | "close" => {
-            Some(one(Part::Node))
-        }
-        "weakok" => Some(two(Part::Node, Part::Children)),
-        "dup" | "attach" => Some(two(Part::Node, Part::NewNode)),
-        "give" => Some(two(Part::Node, Part::Client)),
-        "tracknode" => Some(two(Part::Node, Part::NewTracker)),
-        "tracklife" => Some(three(Part::Node, Part::Number, Part::NewTracker)),
-        "constrain" => Some([Part::Node, Part::Camping, Part::AtLeast, Part::Size]),
-        "duph" | "droph" => Some(two(Part::Buffer, Part::Strength)),
-        "giveh" => Some(three(Part::Buffer, Part::Strength, Part::Client)),
-        "trackweak" => Some(two(Part::Buffer, Part::NewTracker)),
-        _ => None,
+    if is(verb, "poll") {
+        return Some([Part::Tracker, Part::End, Part::End, Part::End]);
+    }
+    let row = row_of(kind_named(verb)?);
+    let new = new_part(row.brings);
+    let [first, second, third] = match row.says {
+        ArgumentForm::Nothing => [new, Part::End, Part::End],
+        ArgumentForm::Client => [Part::Client, new, Part::End],
+        ArgumentForm::Children => [Part::Children, new, Part::End],
+        ArgumentForm::Constraints => [Part::Camping, Part::AtLeast, Part::Size],
+        ArgumentForm::Most => [Part::Number, new, Part::End],
+        ArgumentForm::Strength => [Part::Strength, new, Part::End],
+        ArgumentForm::Gift => [Part::Strength, Part::Client, new],
+    };
+    Some(match row.on {
+        Target::Nothing => [first, second, third, Part::End],
+        Target::Handle => [Part::Buffer, first, second, third],
+        Target::Token | Target::Collection | Target::End => [Part::Node, first, second, third],
+    })
+}
+
+// The new label of what the call brings, if it has one.
+fn new_part(product: Product) -> Part {
+    if product.brings_end() {
+        Part::NewNode
+    } else if product.is_tracker() {
+        Part::NewTracker
+    } else {
+        Part::End
     }
 }
 

@@ -1,14 +1,21 @@
 -- What a line of bytes says.
-use Rattle.std.specs.Prelude.{ℕ, ◌^◌, Bool, true, false, ◌==◌, ◌&&◌, nat_le, nat_lt, if◌then◌else◌, List, [], ◌∷◌, length, codes, Option, Some, None}
-use Rattle.std.specs.Option.{option_map, option_map_or, option_and_then}
+use Rattle.std.specs.Prelude.{ℕ, ◌^◌, Bool, true, false, ◌==◌, ◌&&◌, ◌||◌, nat_le, nat_lt, if◌then◌else◌, List, [], ◌∷◌, length, codes, Option, Some, None}
+use Rattle.std.specs.Option.{option_map, option_and_then}
 use Rattle.std.specs.Str.{bytes_eq}
 use Rattle.sm_names.specs.declared.rules.TheConstants.{MAX_AT_LEAST, MAX_CAMPING, MAX_SIZE}
+use Rattle.sm_names.specs.declared.call_parts.Argument.{Argument}
+use Rattle.sm_names.specs.declared.call_parts.ArgumentForm.{ArgumentForm}
+use Rattle.sm_names.specs.declared.call_parts.Object.{Object}
+use Rattle.sm_names.specs.declared.call_parts.Product.{Product}
+use Rattle.sm_names.specs.declared.call_parts.Target.{Target}
+use Rattle.sm_names.specs.declared.call_rows.CallKind.{CallKind}
 use Rattle.sm_names.specs.declared.keys.Strength.{Strength}
+use Rattle.sm_names.specs.CallRows.{brings_end, is_tracker, kind_named, row_of}
 use Rattle.sm_names.specs.Demands.{Demand}
+use Rattle.script_lines.specs.declared.buffer_label.BufferLabel.{BufferLabel}
 use Rattle.script_lines.specs.declared.label.Label.{Label}
-use Rattle.script_lines.specs.declared.line.BufferVerb.{BufferVerb}
 use Rattle.script_lines.specs.declared.line.Line.{Line}
-use Rattle.script_lines.specs.declared.line.Verb.{Verb}
+use Rattle.script_lines.specs.declared.line.Request.{Request}
 use Rattle.script_lines.specs.declared.line.View.{View}
 use Rattle.script_lines.specs.BufferLabels.{buffer_label_of}
 use Rattle.script_lines.specs.Labels.{label_of}
@@ -33,19 +40,6 @@ abbrev pub show_of : List (List ℕ) → Option Line
 show_of [] = None
 show_of (what ∷ rest) = at_end rest (option_map (λ view. Line.Show view) (view_of what))
 
--- the verb of this name, where nothing follows the node
-abbrev pub plain_verb_of : List ℕ → Option Verb
-plain_verb_of word =
-    let close : Option Verb = if bytes_eq word (codes "close") then Some Verb.Close else None in
-    let release : Option Verb = if bytes_eq word (codes "release") then Some Verb.Release else close in
-    let take : Option Verb = if bytes_eq word (codes "take") then Some Verb.Take else release in
-    let check : Option Verb = if bytes_eq word (codes "check") then Some Verb.Check else take in
-    let weakok : Option Verb = if bytes_eq word (codes "weakok") then Some (Verb.WeakOk false) else check in
-    let weak : Option Verb = if bytes_eq word (codes "weak") then Some Verb.Weak else weakok in
-    let dispensable : Option Verb = if bytes_eq word (codes "dispensable") then Some Verb.Dispensable else weak in
-    let bind : Option Verb = if bytes_eq word (codes "bind") then Some Verb.Bind else dispensable in
-    if bytes_eq word (codes "sync") then Some Verb.Sync else bind
-
 -- constraints of these numbers, if they are in range
 abbrev pub demand_in_range : ℕ → ℕ → ℕ → Option Demand
 demand_in_range camping at_least size =
@@ -59,90 +53,96 @@ demand_of camping at_least size =
     option_and_then (λ c. option_and_then (λ l. option_and_then (demand_in_range c l) (number_of size)) (number_of at_least))
     (number_of camping)
 
--- constraints: exactly two more words follow the first number
-abbrev pub sized_of : List ℕ → List ℕ → List (List ℕ) → Option Verb
-sized_of camping at_least [] = None
-sized_of camping at_least (size ∷ rest) = at_end rest (option_map Verb.Constrain (demand_of camping at_least size))
-
-abbrev pub constrain_of : List ℕ → List (List ℕ) → Option Verb
-constrain_of camping [] = None
-constrain_of camping (at_least ∷ rest) = sized_of camping at_least rest
-
--- weak handles for the node and its children to come: this word says so, the last one
-abbrev pub weak_ok_of : List ℕ → List (List ℕ) → Option Verb
-weak_ok_of word rest = at_end rest (if bytes_eq word (codes "children") then Some (Verb.WeakOk true) else None)
-
--- the label that this word is, the last one
-abbrev pub last_label_of : List ℕ → List (List ℕ) → Option Label
-last_label_of word rest = at_end rest (label_of word)
-
--- a tracker of a lifetime: this word is a number, and one label follows
-abbrev pub lifetime_of : List ℕ → List (List ℕ) → Option Verb
-lifetime_of most [] = None
-lifetime_of most (tracker ∷ rest) =
-    option_and_then (λ n. option_map (Verb.TrackLifetime n) (last_label_of tracker rest)) (number_of most)
-
--- the verb of this name, where one label follows the node
-abbrev pub paired_verb_of : List ℕ → Label → Option Verb
-paired_verb_of word label =
-    let track : Option Verb = if bytes_eq word (codes "tracknode") then Some (Verb.TrackNode label) else None in
-    let give : Option Verb = if bytes_eq word (codes "give") then Some (Verb.Give label) else track in
-    let attach : Option Verb = if bytes_eq word (codes "attach") then Some (Verb.Attach label) else give in
-    if bytes_eq word (codes "dup") then Some (Verb.Duplicate label) else attach
-
--- what is asked of a node, by the call's word and the words behind the node
-abbrev pub verb_of : List ℕ → List (List ℕ) → Option Verb
-verb_of word [] = plain_verb_of word
-verb_of word (next ∷ rest) =
-    let paired : Option Verb = option_and_then (paired_verb_of word) (last_label_of next rest) in
-    let lifetime : Option Verb = if bytes_eq word (codes "tracklife") then lifetime_of next rest else paired in
-    let constrain : Option Verb = if bytes_eq word (codes "constrain") then constrain_of next rest else lifetime in
-    if bytes_eq word (codes "weakok") then weak_ok_of next rest else constrain
-
--- what the client asks, by the call's word, a label and the words behind it
-abbrev pub about_of : Label → List ℕ → Label → List (List ℕ) → Option Line
-about_of client word label rest =
-    let ask : Option Line = option_map (λ verb. Line.Ask client verb label) (verb_of word rest) in
-    let poll : Option Line = if bytes_eq word (codes "poll") then at_end rest (Some (Line.Poll client label)) else ask in
-    let collect : Option Line =
-    if bytes_eq word (codes "collect") then at_end rest (Some (Line.Collect client label)) else poll in
-    if bytes_eq word (codes "open") then at_end rest (Some (Line.Open client label)) else collect
-
 -- the strength of this name
-abbrev pub strength_of : List ℕ → Option Strength
-strength_of word =
+abbrev pub strength_named : List ℕ → Option Strength
+strength_named word =
     let weak : Option Strength = if bytes_eq word (codes "weak") then Some Strength.Weak else None in
     if bytes_eq word (codes "strong") then Some Strength.Strong else weak
 
--- what is asked of a handle, by the words behind its strength
-abbrev pub handle_verb_of : List ℕ → Strength → List (List ℕ) → Option BufferVerb
-handle_verb_of word strength [] =
-    let drop : Option BufferVerb = if bytes_eq word (codes "droph") then Some (BufferVerb.Drop strength) else None in
-    if bytes_eq word (codes "duph") then Some (BufferVerb.Duplicate strength) else drop
-handle_verb_of word strength (to ∷ rest) =
-    if bytes_eq word (codes "giveh") then option_map (BufferVerb.Give strength) (last_label_of to rest) else None
+-- ---- what is read of the first words, and the words behind them
 
--- what is asked of a buffer, by the words behind it
-abbrev pub buffer_verb_of : List ℕ → List (List ℕ) → Option BufferVerb
-buffer_verb_of word [] = None
-buffer_verb_of word (next ∷ rest) =
-    let handle : Option BufferVerb =
-    option_and_then (λ strength. handle_verb_of word strength rest) (strength_of next) in
-    if bytes_eq word (codes "trackweak") then option_map BufferVerb.Track (last_label_of next rest) else handle
+-- what the first word is read as
+abbrev pub first_read : {A : Type 0} → (List ℕ → Option A) → List (List ℕ) → Option (A × List (List ℕ))
+first_read read [] = None
+first_read read (word ∷ rest) = option_map (λ said. (said, rest)) (read word)
 
--- what the client asks by one word
-abbrev pub bare_of : Label → List ℕ → Option Line
-bare_of client word =
-    let shut : Option Line = if bytes_eq word (codes "shut") then Some (Line.Shut client) else None in
-    if bytes_eq word (codes "join") then Some (Line.Join client) else shut
+-- what a call is made on: a node by its label, a handle by its buffer
+abbrev pub object_read : Target → List (List ℕ) → Option (Object Label BufferLabel × List (List ℕ))
+object_read Target.Nothing words = Some (Object.Nothing, words)
+object_read Target.Handle words = first_read (λ word. option_map Object.Buffer (buffer_label_of word)) words
+object_read _ words = first_read (λ word. option_map Object.Node (label_of word)) words
 
--- what the client asks, by the call's word and the words behind it: the next one is a label or a buffer
+-- weak handles for children to come too: the one word there may be says so
+abbrev pub children_read : List (List ℕ) → Option (Argument Label × List (List ℕ))
+children_read [] = Some (Argument.Children false, [])
+children_read (word ∷ rest) =
+    if bytes_eq word (codes "children") then Some (Argument.Children true, rest) else None
+
+-- constraints: three words
+abbrev pub size_read : List ℕ → List ℕ → List (List ℕ) → Option (Argument Label × List (List ℕ))
+size_read camping at_least words =
+    first_read (λ size. option_map Argument.Constraints (demand_of camping at_least size)) words
+
+abbrev pub at_least_read : List ℕ → List (List ℕ) → Option (Argument Label × List (List ℕ))
+at_least_read camping [] = None
+at_least_read camping (at_least ∷ rest) = size_read camping at_least rest
+
+abbrev pub constraints_read : List (List ℕ) → Option (Argument Label × List (List ℕ))
+constraints_read [] = None
+constraints_read (camping ∷ rest) = at_least_read camping rest
+
+-- a strength, and a client
+abbrev pub receiver_read : Strength → List (List ℕ) → Option (Argument Label × List (List ℕ))
+receiver_read strength words = first_read (λ word. option_map (Argument.Gift strength) (label_of word)) words
+
+abbrev pub gift_read : List (List ℕ) → Option (Argument Label × List (List ℕ))
+gift_read [] = None
+gift_read (word ∷ rest) = option_and_then (λ strength. receiver_read strength rest) (strength_named word)
+
+-- what else the call says
+abbrev pub argument_read : ArgumentForm → List (List ℕ) → Option (Argument Label × List (List ℕ))
+argument_read ArgumentForm.Nothing words = Some (Argument.Nothing, words)
+argument_read ArgumentForm.Client words = first_read (λ word. option_map Argument.Client (label_of word)) words
+argument_read ArgumentForm.Children words = children_read words
+argument_read ArgumentForm.Constraints words = constraints_read words
+argument_read ArgumentForm.Most words = first_read (λ word. option_map Argument.Most (number_of word)) words
+argument_read ArgumentForm.Strength words = first_read (λ word. option_map Argument.Strength (strength_named word)) words
+argument_read ArgumentForm.Gift words = gift_read words
+
+-- the label that is to be bound, if the call makes or brings what has a label
+abbrev pub binds_read : Product → List (List ℕ) → Option (Option Label × List (List ℕ))
+binds_read product words =
+    if brings_end product || is_tracker product then first_read (λ word. option_map Some (label_of word)) words else Some (None, words)
+
+-- ---- lines
+
+-- what is asked by a call of this kind, by the words behind its own
+abbrev pub request_of : CallKind → List (List ℕ) → Option (Request Label BufferLabel)
+request_of kind words =
+    option_and_then (λ (o : Object Label BufferLabel × List (List ℕ)).
+    option_and_then (λ (a : Argument Label × List (List ℕ)).
+    option_and_then (λ (b : Option Label × List (List ℕ)).
+    at_end b.1 (Some (record { kind = kind; object = o.0; argument = a.0; binds = b.0 })))
+    (binds_read (row_of kind).brings a.1))
+    (argument_read (row_of kind).says o.1))
+    (object_read (row_of kind).on words)
+
+-- what a client asks, by the call's word and the words behind it
+abbrev pub ask_of : Label → List ℕ → List (List ℕ) → Option Line
+ask_of client word rest =
+    option_map (λ request. Line.Ask client request) (option_and_then (λ kind. request_of kind rest) (kind_named word))
+
+-- a look at a tracker: its label is the one word that follows
+abbrev pub poll_of : Label → List (List ℕ) → Option Line
+poll_of client [] = None
+poll_of client (word ∷ rest) = at_end rest (option_map (λ tracker. Line.Poll client tracker) (label_of word))
+
+-- what a client does, by the word behind its label and the words behind that: it joins, polls, or makes another call
 abbrev pub call_of : Label → List ℕ → List (List ℕ) → Option Line
-call_of client word [] = bare_of client word
-call_of client word (first ∷ rest) = option_map_or
-    (λ label. about_of client word label rest) (label_of first)
-    (option_and_then (λ buffer. option_map (λ verb. Line.AskBuffer client verb buffer) (buffer_verb_of word rest))
-    (buffer_label_of first))
+call_of client word rest =
+    let ask : Option Line = ask_of client word rest in
+    let poll : Option Line = if bytes_eq word (codes "poll") then poll_of client rest else ask in
+    if bytes_eq word (codes "join") then at_end rest (Some (Line.Join client)) else poll
 
 -- what a client asks, by the words behind its label
 abbrev pub asked_of : Label → List (List ℕ) → Option Line

@@ -1,5 +1,5 @@
 -- The words of a line.
-use Rattle.std.specs.Prelude.{ℕ, ◌==◌, List, [], Option, Some, None}
+use Rattle.std.specs.Prelude.{ℕ, ◌≡◌, ◌==◌, List, [], Option, Some, None, MatchOption}
 use Rattle.std.specs.List.{slice_split}
 use denote.Ref.{Bor}
 
@@ -11,3 +11,7 @@ words bytes = slice_split (λ byte. byte == 32) bytes
 abbrev pub words_left : Option (Bor (List ℕ)) → List (List ℕ)
 words_left None = []
 words_left (Some text) = words text.now
+
+-- this was read of the first words, and these are behind them
+abbrev pub Reads : {A : Type 0} → Option (A × Option (Bor (List ℕ))) → Option (A × List (List ℕ)) → Type 0
+Reads result said = MatchOption result (said ≡ None) (λ r. said ≡ Some (r.0, words_left r.1))

@@ -17,7 +17,7 @@ mod writing;
 pub use buffer_label::BufferLabel;
 pub use hashing::LabelHash;
 pub use label::Label;
-pub use line::{BufferVerb, Line, Verb, View};
+pub use line::{Line, Request, View};
 pub use line_text::{push_line, strength_name};
 pub use pages::Pages;
 pub use parser::line as read_line;

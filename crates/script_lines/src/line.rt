@@ -1,43 +1,16 @@
 //! What a line of a script says.
 use crate::buffer_label::BufferLabel;
 use crate::label::Label;
-use sm_names::{Constraints, Strength};
+use sm_names::{Argument, CallKind, Object};
 
-/// What a client asks of a node.
+/// What a client asks: a call, in which `L` names clients, nodes and trackers, and `B` names buffers.
 #[derive(Clone, Copy, Debug, PartialEq, Eq)]
-pub enum Verb {
-    Sync,
-    Bind,
-    Dispensable,
-    Weak,
-    /// For children too, or for the node alone.
-    WeakOk { children: bool },
-    Check,
-    Take,
-    Release,
-    Close,
-    /// A child token is to have this label.
-    Duplicate { child: Label },
-    /// An attached child token is to have this label.
-    Attach { child: Label },
-    /// For the client of this label.
-    Give { to: Label },
-    Constrain { constraints: Constraints },
-    /// A tracker is to have this label.
-    TrackNode { tracker: Label },
-    /// A tracker is to have this label, for so many buffers.
-    TrackLifetime { most: u32, tracker: Label },
-}
-
-/// What a client asks of a buffer.
-#[derive(Clone, Copy, Debug, PartialEq, Eq)]
-pub enum BufferVerb {
-    Duplicate { strength: Strength },
-    Drop { strength: Strength },
-    /// For the client of this label.
-    Give { strength: Strength, to: Label },
-    /// A tracker is to have this label.
-    Track { tracker: Label },
+pub struct Request<L, B> {
+    pub kind: CallKind,
+    pub object: Object<L, B>,
+    pub argument: Argument<L>,
+    /// What names the end or the tracker that the call makes or brings.
+    pub binds: Option<L>,
 }
 
 /// What a script may look at. It is no event.
@@ -62,31 +35,10 @@ pub enum Line {
     Join {
         client: Label,
     },
-    /// `C shut`
-    Shut {
-        client: Label,
-    },
-    /// `C open N`
-    Open {
-        client: Label,
-        root: Label,
-    },
-    /// `C collect M`
-    Collect {
-        client: Label,
-        node: Label,
-    },
-    /// `C sync N` and the like
+    /// `C sync N` and the like: any call but a join.
     Ask {
         client: Label,
-        verb: Verb,
-        node: Label,
-    },
-    /// `C duph B S` and the like
-    AskBuffer {
-        client: Label,
-        verb: BufferVerb,
-        buffer: BufferLabel,
+        request: Request<Label, BufferLabel>,
     },
     /// `C poll T`
     Poll {

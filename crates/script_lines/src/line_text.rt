@@ -1,13 +1,13 @@
 //! Lines, as a script spells them.
 ghost use Rattle.std.specs.Prelude.{◌≡◌, ◌∷◌, ◌++◌, OnOk, decimal};
 ghost use Rattle.script_lines.specs.Labels.{text_of_label};
-ghost use Rattle.script_lines.specs.LineTexts.{buffer_label_text, buffer_verb_name as name_of_buffer_verb, buffer_verb_rest, demand_text, line_text, strength_name as name_of_strength, verb_name as name_of_verb, verb_rest, view_name as name_of_view};
+ghost use Rattle.script_lines.specs.LineTexts.{argument_text, binds_text, buffer_label_text, demand_text, line_text, object_text, request_text, strength_name as name_of_strength, view_name as name_of_view};
 
 use crate::buffer_label::BufferLabel;
 use crate::label::Label;
-use crate::line::{BufferVerb, Line, Verb, View};
+use crate::line::{Line, Request, View};
 use crate::spelling::{push, push_label, push_number};
-use sm_names::{Constraints, Strength};
+use sm_names::{Argument, Constraints, Object, Strength, word_of};
 use std::alloc::AllocError;
 
 /// The name of the strength: `strong` or `weak`. Takes a constant time.
@@ -31,19 +31,12 @@ pub fn push_line(text: &mut Vec<u8>, line: Line) -> Result<(), AllocError>
             push_label(text, Some(client))?;
             push(text, " join")
         }
-        Line::Shut { client } => {
+        Line::Ask { client, request } => push_ask(text, client, &request),
+        Line::Poll { client, tracker } => {
             push_label(text, Some(client))?;
-            push(text, " shut")
+            push(text, " poll ")?;
+            push_label(text, Some(tracker))
         }
-        Line::Open { client, root } => push_pair(text, client, " open ", root),
-        Line::Collect { client, node } => push_pair(text, client, " collect ", node),
-        Line::Ask { client, verb, node } => push_ask(text, client, verb, node),
-        Line::AskBuffer {
-            client,
-            verb,
-            buffer,
-        } => push_buffer_ask(text, client, verb, buffer),
-        Line::Poll { client, tracker } => push_pair(text, client, " poll ", tracker),
         Line::Show { view } => {
             push(text, "show ")?;
             push(text, view_name(view))
@@ -51,68 +44,62 @@ pub fn push_line(text: &mut Vec<u8>, line: Line) -> Result<(), AllocError>
     }
 }
 
-// Puts two labels with a word between them behind it.
-fn push_pair(text: &mut Vec<u8>, first: Label, word: &str, second: Label) -> Result<(), AllocError>
+// Puts what a client asks behind it.
+fn push_ask(
+    text: &mut Vec<u8>,
+    client: Label,
+    request: &Request<Label, BufferLabel>,
+) -> Result<(), AllocError>
     ensures { OnOk result (text.new.items
-        ≡ text.old.items ++ (text_of_label first ++ word.now ++ text_of_label second)) }
-{
-    push_label(text, Some(first))?;
-    push(text, word)?;
-    push_label(text, Some(second))
-}
-
-// Puts what a client asks of a node behind it.
-fn push_ask(text: &mut Vec<u8>, client: Label, verb: Verb, node: Label) -> Result<(), AllocError>
-    ensures { OnOk result (text.new.items ≡ text.old.items ++ line_text (Line.Ask client verb node)) }
+        ≡ text.old.items ++ (text_of_label client ++ 32 ∷ request_text request.now)) }
 {
     push_label(text, Some(client))?;
     push(text, " ")?;
-    push(text, verb_name(&verb))?;
-    push(text, " ")?;
-    push_label(text, Some(node))?;
-    push_verb_rest(text, &verb)
+    push(text, word_of(request.kind))?;
+    push_object(text, request.object)?;
+    push_argument(text, request.argument)?;
+    push_binds(text, request.binds)
 }
 
-// The word for what is asked of a node.
-fn verb_name(verb: &Verb) -> &'static str
-    ensures { result.now ≡ name_of_verb verb.now }
+// Puts what a call is made on behind it.
+fn push_object(text: &mut Vec<u8>, object: Object<Label, BufferLabel>) -> Result<(), AllocError>
+    ensures { OnOk result (text.new.items ≡ text.old.items ++ object_text object) }
 {
-    match verb {
-        Verb::Sync => "sync",
-        Verb::Bind => "bind",
-        Verb::Dispensable => "dispensable",
-        Verb::Weak => "weak",
-        Verb::WeakOk { .. } => "weakok",
-        Verb::Check => "check",
-        Verb::Take => "take",
-        Verb::Release => "release",
-        Verb::Close => "close",
-        Verb::Duplicate { .. } => "dup",
-        Verb::Attach { .. } => "attach",
-        Verb::Give { .. } => "give",
-        Verb::Constrain { .. } => "constrain",
-        Verb::TrackNode { .. } => "tracknode",
-        Verb::TrackLifetime { .. } => "tracklife",
+    match object {
+        Object::Nothing => Ok(()),
+        Object::Node(node) => push_last(text, node),
+        Object::Buffer(buffer) => push_buffer_label(text, buffer),
     }
 }
 
-// Puts the words that stand behind the node behind it.
-fn push_verb_rest(text: &mut Vec<u8>, verb: &Verb) -> Result<(), AllocError>
-    ensures { OnOk result (text.new.items ≡ text.old.items ++ verb_rest verb.now) }
+// Puts what else it says behind it.
+fn push_argument(text: &mut Vec<u8>, argument: Argument<Label>) -> Result<(), AllocError>
+    ensures { OnOk result (text.new.items ≡ text.old.items ++ argument_text argument) }
 {
-    match *verb {
-        Verb::WeakOk { children: true } => push(text, " children"),
-        Verb::Duplicate { child } => push_last(text, child),
-        Verb::Attach { child } => push_last(text, child),
-        Verb::Give { to } => push_last(text, to),
-        Verb::Constrain { constraints } => push_constraints(text, constraints),
-        Verb::TrackNode { tracker } => push_last(text, tracker),
-        Verb::TrackLifetime { most, tracker } => {
+    match argument {
+        Argument::Nothing => Ok(()),
+        Argument::Client(to) => push_last(text, to),
+        Argument::Children(children) => push(text, if children { " children" } else { "" }),
+        Argument::Constraints(constraints) => push_constraints(text, constraints),
+        Argument::Most(most) => {
             push(text, " ")?;
-            push_number(text, most as u64)?;
-            push_last(text, tracker)
+            push_number(text, most as u64)
         }
-        _ => Ok(()),
+        Argument::Strength(strength) => push_strength(text, strength),
+        Argument::Gift(strength, to) => {
+            push_strength(text, strength)?;
+            push_last(text, to)
+        }
+    }
+}
+
+// Puts the label that is to be bound behind it, if there is one.
+fn push_binds(text: &mut Vec<u8>, binds: Option<Label>) -> Result<(), AllocError>
+    ensures { OnOk result (text.new.items ≡ text.old.items ++ binds_text binds) }
+{
+    match binds {
+        Some(label) => push_last(text, label),
+        None => Ok(()),
     }
 }
 
@@ -136,52 +123,6 @@ fn push_constraints(text: &mut Vec<u8>, constraints: Constraints) -> Result<(), 
     push_number(text, constraints.size() as u64)
 }
 
-// Puts what a client asks of a buffer behind it.
-fn push_buffer_ask(
-    text: &mut Vec<u8>,
-    client: Label,
-    verb: BufferVerb,
-    buffer: BufferLabel,
-) -> Result<(), AllocError>
-    ensures { OnOk result (text.new.items
-        ≡ text.old.items ++ line_text (Line.AskBuffer client verb buffer)) }
-{
-    push_label(text, Some(client))?;
-    push(text, " ")?;
-    push(text, buffer_verb_name(verb))?;
-    push(text, " ")?;
-    push_buffer_label(text, buffer)?;
-    push_buffer_verb_rest(text, verb)
-}
-
-// The word for what is asked of a buffer.
-fn buffer_verb_name(verb: BufferVerb) -> &'static str
-    ensures { result.now ≡ name_of_buffer_verb verb }
-{
-    match verb {
-        BufferVerb::Duplicate { .. } => "duph",
-        BufferVerb::Drop { .. } => "droph",
-        BufferVerb::Give { .. } => "giveh",
-        BufferVerb::Track { .. } => "trackweak",
-    }
-}
-
-// Puts the words that stand behind the buffer behind it.
-fn push_buffer_verb_rest(text: &mut Vec<u8>, verb: BufferVerb) -> Result<(), AllocError>
-    ensures { OnOk result (text.new.items ≡ text.old.items ++ buffer_verb_rest verb) }
-{
-    match verb {
-        BufferVerb::Duplicate { strength } | BufferVerb::Drop { strength } => {
-            push_strength(text, strength)
-        }
-        BufferVerb::Give { strength, to } => {
-            push_strength(text, strength)?;
-            push_last(text, to)
-        }
-        BufferVerb::Track { tracker } => push_last(text, tracker),
-    }
-}
-
 // Puts a space and the strength behind it.
 fn push_strength(text: &mut Vec<u8>, strength: Strength) -> Result<(), AllocError>
     ensures { OnOk result (text.new.items ≡ text.old.items ++ 32 ∷ name_of_strength strength) }
@@ -190,10 +131,11 @@ fn push_strength(text: &mut Vec<u8>, strength: Strength) -> Result<(), AllocErro
     push(text, strength_name(strength))
 }
 
-// Puts the buffer's label, a point and its index behind it.
+// Puts a space, the buffer's label, a point and its index behind it.
 fn push_buffer_label(text: &mut Vec<u8>, buffer: BufferLabel) -> Result<(), AllocError>
-    ensures { OnOk result (text.new.items ≡ text.old.items ++ buffer_label_text buffer) }
+    ensures { OnOk result (text.new.items ≡ text.old.items ++ 32 ∷ buffer_label_text buffer) }
 {
+    push(text, " ")?;
     push_label(text, Some(buffer.node))?;
     push(text, ".")?;
     push_number(text, buffer.index as u64)

@@ -1,14 +1,17 @@
 //! What a line of bytes says.
 ghost use Rattle.std.specs.Prelude.{◌≡◌, ◌∷◌};
-ghost use Rattle.script_lines.specs.Lines.{line_of, said_of, show_of, call_of, bare_of, about_of, plain_verb_of, paired_verb_of, last_label_of, lifetime_of, weak_ok_of, constrain_of, demand_of, demand_in_range, buffer_verb_of, handle_verb_of, strength_of as strength_named, verb_of, view_of};
-ghost use Rattle.script_lines.specs.Words.{words_left};
+ghost use Rattle.script_lines.specs.Lines.{argument_read, ask_of, binds_read, call_of, children_read, constraints_read, demand_in_range, demand_of, gift_read, line_of, object_read, poll_of, request_of, said_of, show_of, strength_named as strength_told, view_of};
+ghost use Rattle.script_lines.specs.Words.{Reads, words_left};
 
 use crate::buffer_label::BufferLabel;
 use crate::label::Label;
-use crate::line::{BufferVerb, Line, Verb, View};
+use crate::line::{Line, Request, View};
 use crate::number::number;
 use crate::words::{cut, is, next_word};
-use sm_names::{Constraints, MAX_AT_LEAST, MAX_CAMPING, Strength};
+use sm_names::{
+    Argument, ArgumentForm, CallKind, Constraints, MAX_AT_LEAST, MAX_CAMPING, Object, Product,
+    Strength, Target, kind_named, row_of,
+};
 
 // The most bytes of a line, without its end.
 const LONGEST: usize = 256;
@@ -74,197 +77,160 @@ fn view(word: &[u8]) -> Option<View>
     }
 }
 
-// What the client asks, by the word behind its label and those behind that.
+// What the client does, by the word behind its label and those behind that.
 fn call(client: Label, word: &[u8], rest: Option<&[u8]>) -> Option<Line>
     ensures { result ≡ call_of client word.now (words_left rest.entry) }
 {
-    match next_word(rest) {
-        None => bare(client, word),
-        Some((first, rest)) => match Label::new(first) {
-            Some(label) => about(client, word, label, rest),
-            None => match BufferLabel::new(first) {
-                Some(buffer) => match buffer_verb(word, rest) {
-                    Some(verb) => Some(Line::AskBuffer {
-                        client,
-                        verb,
-                        buffer,
-                    }),
-                    None => None,
-                },
-                None => None,
-            },
-        },
-    }
-}
-
-// What the client asks by one word.
-fn bare(client: Label, word: &[u8]) -> Option<Line>
-    ensures { result ≡ bare_of client word.now }
-{
     if is(word, "join") {
-        Some(Line::Join { client })
-    } else if is(word, "shut") {
-        Some(Line::Shut { client })
-    } else {
-        None
-    }
-}
-
-// What the client asks of what has this label, or is to have it.
-fn about(client: Label, word: &[u8], label: Label, rest: Option<&[u8]>) -> Option<Line>
-    ensures { result ≡ about_of client word.now label (words_left rest.entry) }
-{
-    let line = if is(word, "open") {
-        Line::Open {
-            client,
-            root: label,
-        }
-    } else if is(word, "collect") {
-        Line::Collect {
-            client,
-            node: label,
-        }
-    } else if is(word, "poll") {
-        Line::Poll {
-            client,
-            tracker: label,
-        }
-    } else {
-        return match verb(word, rest) {
-            Some(verb) => Some(Line::Ask {
-                client,
-                verb,
-                node: label,
-            }),
-            None => None,
+        return match next_word(rest) {
+            None => Some(Line::Join { client }),
+            Some(_) => None,
         };
-    };
-    match next_word(rest) {
-        None => Some(line),
-        Some(_) => None,
     }
+    if is(word, "poll") {
+        return poll(client, rest);
+    }
+    ask(client, word, rest)
 }
 
-// What is asked of a node, by the call's word and those behind the node.
-fn verb(word: &[u8], rest: Option<&[u8]>) -> Option<Verb>
-    ensures { result ≡ verb_of word.now (words_left rest.entry) }
+// A look at a tracker, whose label is the one word that follows.
+fn poll(client: Label, rest: Option<&[u8]>) -> Option<Line>
+    ensures { result ≡ poll_of client (words_left rest.entry) }
 {
     match next_word(rest) {
-        None => plain_verb(word),
-        Some((next, rest)) => {
-            if is(word, "weakok") {
-                weak_ok(next, rest)
-            } else if is(word, "constrain") {
-                constrain(next, rest)
-            } else if is(word, "tracklife") {
-                lifetime(next, rest)
-            } else {
-                match last_label(next, rest) {
-                    Some(label) => paired_verb(word, label),
-                    None => None,
-                }
-            }
-        }
-    }
-}
-
-// The verb of this name, where nothing follows the node.
-fn plain_verb(word: &[u8]) -> Option<Verb>
-    ensures { result ≡ plain_verb_of word.now }
-{
-    if is(word, "sync") {
-        Some(Verb::Sync)
-    } else if is(word, "bind") {
-        Some(Verb::Bind)
-    } else if is(word, "dispensable") {
-        Some(Verb::Dispensable)
-    } else if is(word, "weak") {
-        Some(Verb::Weak)
-    } else if is(word, "weakok") {
-        Some(Verb::WeakOk { children: false })
-    } else if is(word, "check") {
-        Some(Verb::Check)
-    } else if is(word, "take") {
-        Some(Verb::Take)
-    } else if is(word, "release") {
-        Some(Verb::Release)
-    } else if is(word, "close") {
-        Some(Verb::Close)
-    } else {
-        None
-    }
-}
-
-// The verb of this name, where one label follows the node.
-fn paired_verb(word: &[u8], label: Label) -> Option<Verb>
-    ensures { result ≡ paired_verb_of word.now label }
-{
-    if is(word, "dup") {
-        Some(Verb::Duplicate { child: label })
-    } else if is(word, "attach") {
-        Some(Verb::Attach { child: label })
-    } else if is(word, "give") {
-        Some(Verb::Give { to: label })
-    } else if is(word, "tracknode") {
-        Some(Verb::TrackNode { tracker: label })
-    } else {
-        None
-    }
-}
-
-// The label that this word is, if no other follows.
-fn last_label(word: &[u8], rest: Option<&[u8]>) -> Option<Label>
-    ensures { result ≡ last_label_of word.now (words_left rest.entry) }
-{
-    if next_word(rest).is_some() {
-        return None;
-    }
-    Label::new(word)
-}
-
-// The node and its children to come may be weak, if this word says so and no other follows.
-fn weak_ok(word: &[u8], rest: Option<&[u8]>) -> Option<Verb>
-    ensures { result ≡ weak_ok_of word.now (words_left rest.entry) }
-{
-    match (is(word, "children"), next_word(rest)) {
-        (true, None) => Some(Verb::WeakOk { children: true }),
-        _ => None,
-    }
-}
-
-// A tracker of a lifetime, whose number is this word, and whose label is the one that follows.
-fn lifetime(most: &[u8], rest: Option<&[u8]>) -> Option<Verb>
-    ensures { result ≡ lifetime_of most.now (words_left rest.entry) }
-{
-    match next_word(rest) {
-        Some((tracker, rest)) => match (number(most), last_label(tracker, rest)) {
-            (Some(most), Some(tracker)) => Some(Verb::TrackLifetime { most, tracker }),
+        Some((word, rest)) => match (Label::new(word), next_word(rest)) {
+            (Some(tracker), None) => Some(Line::Poll { client, tracker }),
             _ => None,
         },
         None => None,
     }
 }
 
-// Constraints, whose numbers are this word and exactly two that follow.
-fn constrain(camping: &[u8], rest: Option<&[u8]>) -> Option<Verb>
-    ensures { result ≡ constrain_of camping.now (words_left rest.entry) }
+// What the client asks, by the call's word and those behind it.
+fn ask(client: Label, word: &[u8], rest: Option<&[u8]>) -> Option<Line>
+    ensures { result ≡ ask_of client word.now (words_left rest.entry) }
 {
-    match next_word(rest) {
-        Some((at_least, rest)) => match next_word(rest) {
-            Some((size, rest)) => {
-                match (constraints(camping, at_least, size), next_word(rest)) {
-                    (Some(constraints), None) => Some(Verb::Constrain { constraints }),
-                    _ => None,
-                }
+    let kind = kind_named(word)?;
+    let request = request(kind, rest)?;
+    Some(Line::Ask { client, request })
+}
+
+// What is asked by a call of this kind, by the words behind its own.
+fn request(kind: CallKind, rest: Option<&[u8]>) -> Option<Request<Label, BufferLabel>>
+    ensures { result ≡ request_of kind (words_left rest.entry) }
+{
+    let row = row_of(kind);
+    let (object, rest) = object(row.on, rest)?;
+    match argument(row.says, rest) {
+        Some((argument, rest)) => {
+            let (binds, rest) = binds(row.brings, rest)?;
+            match next_word(rest) {
+                None => Some(Request {
+                    kind,
+                    object,
+                    argument,
+                    binds,
+                }),
+                Some(_) => None,
             }
-            None => None,
-        },
+        }
         None => None,
     }
 }
 
+// What a call is made on: a node by its label, a handle by its buffer.
+fn object(on: Target, rest: Option<&[u8]>) -> Option<(Object<Label, BufferLabel>, Option<&[u8]>)>
+    ensures { Reads result (object_read on (words_left rest.entry)) }
+{
+    match on {
+        Target::Nothing => Some((Object::Nothing, rest)),
+        Target::Handle => {
+            let (word, rest) = next_word(rest)?;
+            Some((Object::Buffer(BufferLabel::new(word)?), rest))
+        }
+        Target::Token | Target::Collection | Target::End => {
+            let (word, rest) = next_word(rest)?;
+            Some((Object::Node(Label::new(word)?), rest))
+        }
+    }
+}
+
+// What else the call says.
+fn argument(form: ArgumentForm, rest: Option<&[u8]>) -> Option<(Argument<Label>, Option<&[u8]>)>
+    ensures { Reads result (argument_read form (words_left rest.entry)) }
+{
+    match form {
+        ArgumentForm::Nothing => Some((Argument::Nothing, rest)),
+        ArgumentForm::Client => {
+            let (word, rest) = next_word(rest)?;
+            Some((Argument::Client(Label::new(word)?), rest))
+        }
+        ArgumentForm::Children => children(rest),
+        ArgumentForm::Constraints => constraints(rest),
+        ArgumentForm::Most => {
+            let (word, rest) = next_word(rest)?;
+            Some((Argument::Most(number(word)?), rest))
+        }
+        ArgumentForm::Strength => {
+            let (word, rest) = next_word(rest)?;
+            Some((Argument::Strength(strength(word)?), rest))
+        }
+        ArgumentForm::Gift => gift(rest),
+    }
+}
+
+// Whether weak handles for children to come are meant too: the one word there may be says so.
+fn children(rest: Option<&[u8]>) -> Option<(Argument<Label>, Option<&[u8]>)>
+    ensures { Reads result (children_read (words_left rest.entry)) }
+{
+    match next_word(rest) {
+        None => Some((Argument::Children(false), None)),
+        Some((word, rest)) => {
+            if is(word, "children") {
+                Some((Argument::Children(true), rest))
+            } else {
+                None
+            }
+        }
+    }
+}
+
+// Constraints, by three words.
+fn constraints(rest: Option<&[u8]>) -> Option<(Argument<Label>, Option<&[u8]>)>
+    ensures { Reads result (constraints_read (words_left rest.entry)) }
+{
+    let (camping, rest) = next_word(rest)?;
+    let (at_least, rest) = next_word(rest)?;
+    let (size, rest) = next_word(rest)?;
+    Some((
+        Argument::Constraints(constraints_of(camping, at_least, size)?),
+        rest,
+    ))
+}
+
+// A strength, and a client.
+fn gift(rest: Option<&[u8]>) -> Option<(Argument<Label>, Option<&[u8]>)>
+    ensures { Reads result (gift_read (words_left rest.entry)) }
+{
+    let (word, rest) = next_word(rest)?;
+    let strength = strength(word)?;
+    let (word, rest) = next_word(rest)?;
+    Some((Argument::Gift(strength, Label::new(word)?), rest))
+}
+
+// The label that is to be bound, if the call makes or brings what has a label.
+fn binds(product: Product, rest: Option<&[u8]>) -> Option<(Option<Label>, Option<&[u8]>)>
+    ensures { Reads result (binds_read product (words_left rest.entry)) }
+{
+    if !product.brings_end() && !product.is_tracker() {
+        return Some((None, rest));
+    }
+    let (word, rest) = next_word(rest)?;
+    Some((Some(Label::new(word)?), rest))
+}
+
 // The constraints that the words spell, or `None` if a word is no number or out of range.
-fn constraints(camping: &[u8], at_least: &[u8], size: &[u8]) -> Option<Constraints>
+fn constraints_of(camping: &[u8], at_least: &[u8], size: &[u8]) -> Option<Constraints>
     ensures { result ≡ demand_of camping.now at_least.now size.now }
 {
     match (number(camping), number(at_least), number(size)) {
@@ -283,31 +249,9 @@ fn in_range(camping: u32, at_least: u32, size: u32) -> Option<Constraints>
     Constraints::new(camping as u8, at_least as u8, size)
 }
 
-// What is asked of a buffer, by the call's word and those behind the buffer.
-fn buffer_verb(word: &[u8], rest: Option<&[u8]>) -> Option<BufferVerb>
-    ensures { result ≡ buffer_verb_of word.now (words_left rest.entry) }
-{
-    match next_word(rest) {
-        None => None,
-        Some((next, rest)) => {
-            if is(word, "trackweak") {
-                match last_label(next, rest) {
-                    Some(tracker) => Some(BufferVerb::Track { tracker }),
-                    None => None,
-                }
-            } else {
-                match strength(next) {
-                    Some(strength) => handle_verb(word, strength, rest),
-                    None => None,
-                }
-            }
-        }
-    }
-}
-
 // The strength of this name.
 fn strength(word: &[u8]) -> Option<Strength>
-    ensures { result ≡ strength_named word.now }
+    ensures { result ≡ strength_told word.now }
 {
     if is(word, "strong") {
         Some(Strength::Strong)
@@ -315,26 +259,5 @@ fn strength(word: &[u8]) -> Option<Strength>
         Some(Strength::Weak)
     } else {
         None
-    }
-}
-
-// What is asked of a handle, by the call's word and those behind the strength.
-fn handle_verb(word: &[u8], strength: Strength, rest: Option<&[u8]>) -> Option<BufferVerb>
-    ensures { result ≡ handle_verb_of word.now strength (words_left rest.entry) }
-{
-    match next_word(rest) {
-        None => {
-            if is(word, "duph") {
-                Some(BufferVerb::Duplicate { strength })
-            } else if is(word, "droph") {
-                Some(BufferVerb::Drop { strength })
-            } else {
-                None
-            }
-        }
-        Some((to, rest)) => match (is(word, "giveh"), last_label(to, rest)) {
-            (true, Some(to)) => Some(BufferVerb::Give { strength, to }),
-            _ => None,
-        },
     }
 }

@@ -5,8 +5,8 @@ use Rattle.sm_names.specs.declared.outcomes.Fault.{Fault}
 use Rattle.sm_names.specs.Demands.{Demand}
 use Rattle.forest_store.specs.declared.node.Node.{Node}
 use Rattle.script_lines.specs.Labels.{label_text}
-use Rattle.sm_script.specs.Names.{Names, label_of_node}
-use Rattle.sm_script.specs.Texts.{cause_text}
+use Rattle.script_labels.specs.Names.{Names, label_of_node}
+use Rattle.script_labels.specs.Texts.{cause_text}
 use Rattle.script_tales.specs.Called.{last_label, other_text}
 use Rattle.script_tales.specs.FactTexts.{joined}
 use Rattle.script_pictures.specs.declared.features.Class.{Class}

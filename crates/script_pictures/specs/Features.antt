@@ -1,13 +1,14 @@
 -- What pictures say of a node and of a buffer.
-use Rattle.std.specs.Prelude.{ℕ, ◌+◌, ◌-◌, ◌==◌, if◌then◌else◌, List, [], ◌∷◌, ◌++◌, codes, decimal, Option, Some, None}
+use Rattle.std.specs.Prelude.{ℕ, ◌+◌, ◌-◌, ◌==◌, if◌then◌else◌, List, [], ◌∷◌, ◌++◌, codes, decimal, length, Option, Some, None}
 use Rattle.std.specs.Option.{option_map_or}
 use Rattle.sm_names.specs.declared.keys.Interval.{Interval}
+use Rattle.sm_names.specs.declared.keys.NodeKey.{NodeKey}
 use Rattle.sm_names.specs.declared.outcomes.Fault.{Fault}
 use Rattle.sm_names.specs.Sameness.{same_key}
 use Rattle.forest_store.specs.declared.node.End.{End}
 use Rattle.forest_store.specs.declared.node.Node.{Node}
 use Rattle.script_lines.specs.Labels.{label_text}
-use Rattle.sm_script.specs.Names.{Names}
+use Rattle.script_labels.specs.Names.{Names}
 use Rattle.script_tales.specs.Called.{client_label}
 use Rattle.script_tales.specs.FactTexts.{joined}
 use Rattle.script_pictures.specs.declared.features.Class.{Class}
@@ -35,3 +36,7 @@ pages_text i =
     let one = joined (codes "page " ∷ decimal i.start ∷ []) in
     let more = joined (codes "pages " ∷ decimal i.start ∷ codes " to " ∷ decimal (i.start + i.pages - 1) ∷ []) in
     if i.pages == 1 then one else more
+
+-- what stands between the live nodes that keep a buffer and the handles
+abbrev pub gap_behind : List NodeKey → List ℕ
+gap_behind nodes = if length nodes == 0 then [] else codes "; "

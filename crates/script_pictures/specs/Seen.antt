@@ -6,7 +6,7 @@ use Rattle.sm_names.specs.declared.keys.HeldBuffer.{HeldBuffer}
 use Rattle.forest_store.specs.declared.node.End.{End}
 use Rattle.forest_store.specs.declared.node.Node.{Node}
 use Rattle.forest_store.specs.Forest.{Collection, collection_at, node_at}
-use Rattle.lifetime_core.specs.State.{State}
+use Rattle.core_state.specs.State.{State}
 use Rattle.event_facts.specs.Facts.{is_keeper}
 use Rattle.script_pictures.specs.declared.picture.Tree.{Tree}
 
@@ -15,8 +15,8 @@ abbrev pub seen_in : State → Node → Node
 seen_in s n = option_map_or (λ (present : Node). present) (node_at s.forest n.key) (record n { gone = true; end = End.Spent })
 
 -- the collection's buffers with pages
-abbrev pub held_in : State → ℕ → List HeldBuffer
-held_in s id = option_map_or (λ (c : Collection). c.held) (collection_at s.forest id) []
+abbrev pub held_of_collection : State → ℕ → List HeldBuffer
+held_of_collection s id = option_map_or (λ (c : Collection). c.held) (collection_at s.forest id) []
 
 -- the tree shows nodes that are known of as the core has them, those of them that are live and strong, and the collection's
 -- buffers with pages
@@ -24,4 +24,4 @@ pub record IsTree (s : State) (tree : Tree) : Type 0 where
   pub known : List Node
   pub nodes : tree.nodes.items ≡ map (seen_in s) known
   pub strong : tree.strong.items ≡ map (λ (n : Node). n.key) (filter is_keeper tree.nodes.items)
-  pub held : tree.held.items ≡ held_in s tree.id
+  pub held : tree.held.items ≡ held_of_collection s tree.id

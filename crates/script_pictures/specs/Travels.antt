@@ -17,5 +17,5 @@ abbrev pub way_in : List Travel → NodeKey → Option Way
 way_in travels key = option_map (λ (t : Travel). t.way) (find (is_link_of key) travels)
 
 -- the node hangs on this one
-abbrev pub hangs_on : NodeKey → Node → Bool
-hangs_on above n = option_map_or (same_key above) n.parent false
+abbrev pub is_child_of : NodeKey → Node → Bool
+is_child_of above n = option_map_or (same_key above) n.parent false

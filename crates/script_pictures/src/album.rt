@@ -5,8 +5,8 @@ use event_facts::ways::way_up;
 use event_marks::questions::is_under;
 use event_marks::{Forced, Moment};
 use lifetime_core::Core;
+use script_labels::Stop;
 use sm_names::{BufferName, Call, CollectionId, Fault, NodeKey, Reply};
-use sm_script::Stop;
 use std::alloc::{AllocError, Global};
 
 // A collection, and all nodes that were ever born in it, by birth. A node that the core forgot stands as

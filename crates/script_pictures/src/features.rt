@@ -1,13 +1,15 @@
 //! What pictures say of a node and of a buffer, whatever their format.
 ghost use Rattle.std.specs.Prelude.{◌≡◌, ◌++◌, OnOk};
-ghost use Rattle.sm_script.specs.Names.{Names};
+ghost use Rattle.std.specs.List.{list_any};
+ghost use Rattle.sm_names.specs.Sameness.{same_key};
+ghost use Rattle.script_labels.specs.Names.{Names};
 ghost use Rattle.script_tales.specs.Called.{Calls};
-ghost use Rattle.script_pictures.specs.Features.{class_of as class_in, kind_text, pages_text, place_text};
+ghost use Rattle.script_pictures.specs.Features.{class_of as class_in, gap_behind as gap_behind_nodes, kind_text, pages_text, place_text};
 
 use alloc_event::{End, Node};
 use script_lines::push;
 use script_tales::Labels;
-use sm_names::Interval;
+use sm_names::{Interval, NodeKey};
 use std::alloc::AllocError;
 use text_parts::{Part, push_parts};
 
@@ -89,4 +91,19 @@ pub fn push_pages(text: &mut Vec<u8>, pages: Interval) -> Result<(), AllocError>
             Part::Number(last),
         ],
     )
+}
+
+/// Whether the key is one of these. Costs O(n) for n keys.
+pub fn is_among(keys: &[NodeKey], key: NodeKey) -> bool
+    ensures { result ≡ list_any (same_key key) keys.now }
+{
+    keys.iter().any(|other| key == *other)
+}
+
+/// What stands between the live nodes that keep a buffer and the handles: nothing where there are no such
+/// nodes. Takes a constant time.
+pub fn gap_behind(nodes: &[NodeKey]) -> &'static str
+    ensures { result.now ≡ gap_behind_nodes nodes.now }
+{
+    if nodes.is_empty() { "" } else { "; " }
 }

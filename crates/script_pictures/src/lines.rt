@@ -1,17 +1,17 @@
 //! The lines of a node's box.
 ghost use Rattle.std.specs.Prelude.{◌≡◌, ◌++◌, OnOk};
-ghost use Rattle.sm_script.specs.Names.{Names, label_of_node};
-ghost use Rattle.sm_script.specs.Tables.{Keeps};
+ghost use Rattle.script_labels.specs.Names.{Names, label_of_node};
+ghost use Rattle.script_labels.specs.Tables.{Keeps};
 ghost use Rattle.script_tales.specs.Called.{Calls, last_label, other_text};
 ghost use Rattle.script_pictures.specs.BoxLines.{also_text, asked_words, dispensable_words as dispensable_text, fallen_words, header_text, kind_words, least_text, own_cause, released_words as released_text, state_words, weak_words as weak_text};
 
 use crate::features::{Class, class_of, kind_name, push_place};
 use alloc_event::Node;
+use script_labels::{Tables, push_cause};
 use script_lines::push;
 use script_tales::Teller;
 use sm_names::{Cause, Constraints, Fault, NodeKey};
-use sm_script::{Tables, push_cause};
-use std::alloc::{AllocError, Global};
+use std::alloc::AllocError;
 use text_parts::{Part, push_parts};
 
 /// Puts the number of the event and its line behind what is there. Takes a time in proportion to the text.
@@ -23,47 +23,6 @@ pub fn push_header(text: &mut Vec<u8>, event: u64, line: &[u8]) -> Result<(), Al
         return Ok(());
     }
     push_parts(text, &[Part::Word(":  "), Part::Bytes(line)])
-}
-
-/// The lines of the node's box, below its name: its state, what it is, what it asks for, and where its end
-/// is. Takes a time in proportion to the text, and a look into a table for each label.
-pub fn node_lines(alloc: Global, teller: &Teller, node: &Node) -> Result<Vec<Vec<u8>>, AllocError> {
-    let mut lines = Vec::new(alloc);
-    lines.push(state_line(alloc, teller, node)?)?;
-    lines.push(kind_line(alloc, teller, node)?)?;
-    if let Some(asked) = node.constraints {
-        lines.push(asked_line(alloc, asked)?)?;
-    }
-    lines.push(place_line(alloc, teller, node)?)?;
-    Ok(lines)
-}
-
-// The state of the node.
-fn state_line(alloc: Global, teller: &Teller, node: &Node) -> Result<Vec<u8>, AllocError> {
-    let mut text = Vec::new(alloc);
-    push_state_line(&mut text, &teller.session.tables, node)?;
-    Ok(text)
-}
-
-// What the node is, and what it was collected as.
-fn kind_line(alloc: Global, teller: &Teller, node: &Node) -> Result<Vec<u8>, AllocError> {
-    let mut text = Vec::new(alloc);
-    push_kind_line(&mut text, teller, node)?;
-    Ok(text)
-}
-
-// What the node asks for.
-fn asked_line(alloc: Global, asked: Constraints) -> Result<Vec<u8>, AllocError> {
-    let mut text = Vec::new(alloc);
-    push_asked_line(&mut text, asked)?;
-    Ok(text)
-}
-
-// Where the end of the node is.
-fn place_line(alloc: Global, teller: &Teller, node: &Node) -> Result<Vec<u8>, AllocError> {
-    let mut text = Vec::new(alloc);
-    push_place(&mut text, &teller.labels, node)?;
-    Ok(text)
 }
 
 /// Puts the state of the node behind what is there. Takes a time in proportion to the text, and a look into

@@ -3,8 +3,8 @@ ghost use Rattle.std.specs.Prelude.{◌≡◌, [], All, IfOk, OnOk, map, option_
 ghost use Rattle.std.specs.Option.{option_map_or};
 ghost use Rattle.forest_store.specs.Forest.{Collection};
 ghost use Rattle.forest_store.specs.Snapshots.{collection_of};
-ghost use Rattle.lifetime_core.specs.State.{State};
-ghost use Rattle.script_pictures.specs.Seen.{IsTree, held_in, seen_in};
+ghost use Rattle.core_state.specs.State.{State};
+ghost use Rattle.script_pictures.specs.Seen.{IsTree, held_of_collection, seen_in};
 
 use crate::album::{Album, Family};
 use crate::rows::{Row, rows_of};
@@ -15,10 +15,10 @@ use event_facts::pages::given_back;
 use event_facts::{Before, Event, placed_by};
 use event_marks::{Forced, Moment};
 use lifetime_core::Core;
+use script_labels::Stop;
 use script_lines::line_end;
 use script_tales::Teller;
 use sm_names::{Buffers, CollectionId, HeldBuffer, NodeKey};
-use sm_script::Stop;
 use std::alloc::{AllocError, Global};
 
 /// A tree of a collection.
@@ -168,7 +168,7 @@ fn grow(
     held: Vec<HeldBuffer>,
     event: Option<&Event>,
 ) -> Result<Tree, AllocError>
-    ensures { IfOk result (λ tree. held.items ≡ held_in core.now family.now.id →
+    ensures { IfOk result (λ tree. held.items ≡ held_of_collection core.now family.now.id →
         IsTree core.now tree) }
 {
     let (left, freed) = changed(alloc, family, &held, event)?;

@@ -5,7 +5,7 @@ use Rattle.sm_names.specs.declared.keys.NodeKey.{NodeKey}
 use Rattle.sm_names.specs.Sameness.{same_key}
 use Rattle.script_lines.specs.declared.label.Label.{Label}
 use Rattle.script_lines.specs.Labels.{same_label, text_of_label}
-use Rattle.sm_script.specs.Names.{Names, Place}
+use Rattle.script_labels.specs.Names.{Names, Place}
 use Rattle.sm_script.specs.Scenes.{Scene}
 use Rattle.sm_script.specs.Sessions.{IsAt}
 use Rattle.script_tales.specs.declared.labels.Labels.{Labels}

@@ -14,8 +14,8 @@ use Rattle.sm_names.specs.Sameness.{same_key}
 use Rattle.forest_store.specs.declared.node.End.{End}
 use Rattle.forest_store.specs.declared.node.Node.{Node}
 use Rattle.script_lines.specs.Labels.{label_text}
-use Rattle.sm_script.specs.Names.{Names, label_of_tracker}
-use Rattle.sm_script.specs.Texts.{buffer_text, held_text, member_text, node_text}
+use Rattle.script_labels.specs.Names.{Names, label_of_tracker}
+use Rattle.script_labels.specs.Texts.{buffer_text, held_text, member_text, node_text}
 use Rattle.script_tales.specs.Called.{client_label}
 use Rattle.script_tales.specs.FactTexts.{joined}
 use Rattle.script_tales.specs.LossTexts.{counted, name_text, reserved_in, shown}

@@ -4,8 +4,8 @@ use Rattle.std.specs.List.{flat_map}
 use Rattle.sm_names.specs.declared.keys.BufferName.{BufferName}
 use Rattle.event_facts.specs.declared.keepers.Holder.{Holder}
 use Rattle.script_lines.specs.Labels.{label_text}
-use Rattle.sm_script.specs.Names.{Names, label_of_root}
-use Rattle.sm_script.specs.Texts.{strength_name}
+use Rattle.script_labels.specs.Names.{Names, label_of_root}
+use Rattle.script_lines.specs.LineTexts.{strength_name}
 use Rattle.script_tales.specs.Called.{client_label}
 
 -- the texts, one after another

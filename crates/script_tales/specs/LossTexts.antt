@@ -18,8 +18,8 @@ use Rattle.text_parts.specs.Parts.{plural_end}
 use Rattle.event_facts.specs.declared.ways.Stop.{Stop}
 use Rattle.event_facts.specs.Facts.{is_handed, is_lost_with, stop_of}
 use Rattle.script_lines.specs.Labels.{label_text}
-use Rattle.sm_script.specs.Names.{Names, label_of_node}
-use Rattle.sm_script.specs.Texts.{cause_text, node_text}
+use Rattle.script_labels.specs.Names.{Names, label_of_node}
+use Rattle.script_labels.specs.Texts.{cause_text, node_text}
 use Rattle.script_tales.specs.FactTexts.{joined}
 
 -- the label of the node's birth

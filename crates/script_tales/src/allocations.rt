@@ -1,17 +1,17 @@
 //! What is told of an allocation.
 ghost use Rattle.std.specs.Prelude.{◌≡◌, ◌++◌, OnOk};
 ghost use Rattle.std.specs.List.{flat_map};
-ghost use Rattle.sm_script.specs.Names.{Names};
-ghost use Rattle.sm_script.specs.Tables.{Keeps};
-ghost use Rattle.sm_script.specs.Texts.{held_text};
+ghost use Rattle.script_labels.specs.Names.{Names};
+ghost use Rattle.script_labels.specs.Tables.{Keeps};
+ghost use Rattle.script_labels.specs.Texts.{held_text};
 ghost use Rattle.script_tales.specs.EventTexts.{at_least_text, camp_text, camped_in, camping_in, camps_text, given_text, initial_text, logical_text, nobody_text, pages_line, reserved_text, shared_text};
 
 use crate::words::shown;
 use alloc_event::{Node, Snapshot};
 use event_marks::demand::reserved;
+use script_labels::{Tables, push_held};
 use script_lines::push;
 use sm_names::{Buffers, HeldBuffer, NodeKey};
-use sm_script::{Tables, push_held};
 use std::alloc::AllocError;
 use text_parts::{Part, push_parts};
 

@@ -2,9 +2,9 @@
 ghost use Rattle.std.specs.Prelude.{◌≡◌, ◌++◌, [], OnOk};
 ghost use Rattle.std.specs.List.{flat_map};
 ghost use Rattle.event_facts.specs.Facts.{holders_in};
-ghost use Rattle.sm_script.specs.Names.{Names};
+ghost use Rattle.script_labels.specs.Names.{Names};
 ghost use Rattle.script_tales.specs.Called.{Calls};
-ghost use Rattle.sm_script.specs.Tables.{Keeps};
+ghost use Rattle.script_labels.specs.Tables.{Keeps};
 ghost use Rattle.script_tales.specs.EventTexts.{kept_by_nodes, live_words as words_for_live};
 ghost use Rattle.script_tales.specs.FactTexts.{holder_text, holders_text, next_holder};
 
@@ -12,9 +12,9 @@ use crate::labels::Labels;
 use crate::words::push_nodes;
 use event_facts::keepers::{Holder, holders};
 use lifetime_core::Core;
-use script_lines::push;
+use script_labels::{Stop, Tables, push_buffer};
+use script_lines::{push, strength_name};
 use sm_names::{BufferName, ClientId, HeldBuffer, NodeKey};
-use sm_script::{Stop, Tables, push_buffer, strength_name};
 use std::alloc::AllocError;
 use text_parts::{Part, push_parts};
 

@@ -1,11 +1,11 @@
 //! What clients and ends are called.
 ghost use Rattle.std.specs.Prelude.{◌≡◌, ℕ, OnOk};
 ghost use Rattle.script_tales.specs.Called.{Calls, client_label, last_label};
-ghost use Rattle.sm_script.specs.Names.{Names, names_after, no_names, with_client, with_node};
+ghost use Rattle.script_labels.specs.Names.{Names, names_after, no_names, with_client, with_node};
 
+use script_labels::Binds;
 use script_lines::Label;
 use sm_names::{ClientId, NodeKey, Reply};
-use sm_script::Binds;
 use std::alloc::{AllocError, Global};
 use std::collections::HashMap;
 

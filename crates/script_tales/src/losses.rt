@@ -1,8 +1,8 @@
 //! What is told of a failure, and of an end: where it went, and where it stopped.
 ghost use Rattle.std.specs.Prelude.{◌≡◌, ◌++◌, [], OnOk};
 ghost use Rattle.std.specs.List.{flat_map};
-ghost use Rattle.sm_script.specs.Names.{Names};
-ghost use Rattle.sm_script.specs.Tables.{Keeps};
+ghost use Rattle.script_labels.specs.Names.{Names};
+ghost use Rattle.script_labels.specs.Tables.{Keeps};
 ghost use Rattle.script_tales.specs.LossTexts.{below_text, camped_text, down_text, end_text, failed_text, failure_text, fault_text, few_text, full_text, handed_text, handing_text, last_of, least_text, loss_text, many_text, next_above, size_in, small_text, stop_text, up_text, way_text, why_text};
 
 use crate::words::{PAGE, misuse_words, push_name, push_nodes, shown};
@@ -10,9 +10,9 @@ use alloc_event::{Node, Snapshot};
 use event_facts::takings::{handed_on, taken_under};
 use event_facts::ways::{Stop, stop_at, way_up};
 use event_marks::demand::{TotalDemand, reserved, total_demand};
+use script_labels::{Tables, push_cause};
 use script_lines::push;
 use sm_names::{Buffers, Cause, Failure, Fault, NodeKey};
-use sm_script::{Tables, push_cause};
 use std::alloc::AllocError;
 use text_parts::{Part, push_parts};
 

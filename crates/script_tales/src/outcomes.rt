@@ -1,8 +1,8 @@
 //! What is told of what an event left: who is waited for, and what became of buffers.
 ghost use Rattle.std.specs.Prelude.{◌≡◌, ◌++◌, OnOk};
 ghost use Rattle.std.specs.List.{flat_map};
-ghost use Rattle.sm_script.specs.Names.{Names};
-ghost use Rattle.sm_script.specs.Tables.{Keeps};
+ghost use Rattle.script_labels.specs.Names.{Names};
+ghost use Rattle.script_labels.specs.Tables.{Keeps};
 ghost use Rattle.script_tales.specs.Called.{Calls};
 ghost use Rattle.script_tales.specs.EventTexts.{doomed_text, end_holder, fires_text, freed_text, listed_text, next_waited, some_doomed, tracker_text, waited_text, waits_text, want_text};
 
@@ -12,9 +12,9 @@ use crate::words::{push_client, push_set};
 use alloc_event::{End, Node};
 use event_facts::waits::awaited;
 use event_facts::ways::find;
+use script_labels::Tables;
 use script_lines::push;
 use sm_names::{CollectionId, Fired, HeldBuffer, NodeKey};
-use sm_script::Tables;
 use std::alloc::AllocError;
 use text_parts::{Part, push_parts};
 

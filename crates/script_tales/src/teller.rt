@@ -1,9 +1,9 @@
 //! A session whose events are told.
 ghost use Rattle.std.specs.Prelude.{◌≡◌, ◌≢◌, ◌≤◌, ◌++◌, [], IfErr, IfOk, OnOk};
-ghost use Rattle.sm_script.specs.Names.{Names, label_of_node};
+ghost use Rattle.script_labels.specs.Names.{Names, label_of_node};
 ghost use Rattle.sm_script.specs.Scenes.{Scene, first_scene, next_scene};
 ghost use Rattle.sm_script.specs.Sessions.{Advances, Gains, IsAt, IsStopped};
-ghost use Rattle.sm_script.specs.Tables.{Keeps};
+ghost use Rattle.script_labels.specs.Tables.{Keeps};
 ghost use Rattle.script_tales.specs.Called.{Calls, Knows, last_label, other_text};
 ghost use Rattle.script_tales.specs.FactTexts.{buffer_name};
 
@@ -17,11 +17,12 @@ use event_facts::keepers::strong_live;
 use event_facts::pages::given_back;
 use event_facts::{Before, Event, fired_since, placed_by, take_event};
 use event_marks::{Forced, Moment};
+use script_labels::{Act, Binds, Stop};
 use script_lines::{Label, push_label};
 use sm_names::{
     BufferName, Buffers, Call, ClientId, HeldBuffer, Limits, NoMemory, NodeKey, Reply, StepFault,
 };
-use sm_script::{Act, Binds, Session, Stop};
+use sm_script::Session;
 use std::alloc::{AllocError, Global};
 use std::collections::HashMap;
 use text_parts::{Part, push_parts};

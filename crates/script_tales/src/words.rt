@@ -2,17 +2,17 @@
 ghost use Rattle.std.specs.Prelude.{◌≡◌, ◌++◌, ◌<◌, OnOk};
 ghost use Rattle.std.specs.List.{flat_map};
 ghost use Rattle.script_lines.specs.Labels.{label_text};
-ghost use Rattle.sm_script.specs.Names.{Names, label_of_node};
-ghost use Rattle.sm_script.specs.Tables.{Keeps};
+ghost use Rattle.script_labels.specs.Names.{Names, label_of_node};
+ghost use Rattle.script_labels.specs.Tables.{Keeps};
 ghost use Rattle.sm_names.specs.Handles.{names as names_of};
-ghost use Rattle.sm_script.specs.Texts.{member_text, node_text};
+ghost use Rattle.script_labels.specs.Texts.{member_text, node_text};
 ghost use Rattle.script_tales.specs.Called.{Calls, client_label};
 ghost use Rattle.script_tales.specs.LossTexts.{misuse_text, shown as shown_number};
 
 use crate::labels::Labels;
+use script_labels::{Tables, push_buffer, push_node};
 use script_lines::push_label;
 use sm_names::{BufferName, ClientId, CollectionId, MAX_BUFFERS, Misuse, NodeKey, has_buffer};
-use sm_script::{Tables, push_buffer, push_node};
 use std::alloc::AllocError;
 
 // How many bytes a page has.

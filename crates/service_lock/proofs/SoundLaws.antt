@@ -10,8 +10,8 @@ use Rattle.sm_names.specs.Marks.{Entry}
 use Rattle.sm_names.specs.Timelines.{timeline}
 use Rattle.event_laws.specs.HandleSums.{all_moving, all_open}
 use Rattle.event_laws.proofs.HandleSumLaws.{all_moving_adds, all_open_adds}
-use Rattle.lifetime_core.specs.Shown.{Shows}
-use Rattle.lifetime_core.specs.State.{State}
+use Rattle.core_state.specs.Shown.{Shows}
+use Rattle.core_state.specs.State.{State}
 use Rattle.service_lock.specs.declared.moves.HandleMoves.{HandleMoves}
 use Rattle.service_lock.specs.Counting.{moves_by}
 use Rattle.service_lock.specs.States.{CountsHandles, StateInvariant}

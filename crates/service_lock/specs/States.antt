@@ -9,9 +9,9 @@ use Rattle.sm_names.specs.Bounds.{Bound}
 use Rattle.sm_names.specs.Marks.{Entry, Timeline}
 use Rattle.sm_names.specs.Timelines.{timeline}
 use Rattle.event_laws.specs.HandleSums.{all_moving, all_open}
-use Rattle.lifetime_core.specs.Shown.{Shows}
-use Rattle.lifetime_core.specs.State.{State}
-use Rattle.lifetime_core.specs.Theorem.{tracker_told}
+use Rattle.core_state.specs.Shown.{Shows}
+use Rattle.core_state.specs.State.{State}
+use Rattle.core_state.specs.Theorem.{tracker_told}
 use Rattle.service_lock.specs.Units.{BookSums}
 
 -- a pool of so many pages, the limits, the record, the trackers that are still to be taken, and how many units can be handed out

@@ -4,7 +4,7 @@ ghost use Rattle.sm_names.specs.declared.messages.Call.{Call as Asked};
 ghost use Rattle.sm_names.specs.declared.messages.Reply.{Reply as Told};
 ghost use Rattle.sm_names.specs.declared.outcomes.StepFault.{StepFault as Fault};
 ghost use Rattle.sm_names.specs.Legality.{IsLegal};
-ghost use Rattle.lifetime_core.specs.Kinds.{fits_call};
+ghost use Rattle.core_state.specs.Kinds.{fits_call};
 ghost use Rattle.service_lock.specs.States.{view_after};
 ghost use Rattle.service_lock.specs.Units.{CountsEvent, HasUnitFor};
 

@@ -4,7 +4,7 @@ ghost use Rattle.sm_names.specs.Legality.{IsLegal};
 ghost use Rattle.sm_names.specs.Timelines.{timeline};
 ghost use Rattle.sm_names.specs.Trackers.{fired as fired_after};
 ghost use Rattle.trackers.specs.Table.{firing_of, is_untaken, without_id};
-ghost use Rattle.lifetime_core.specs.Shown.{Shows};
+ghost use Rattle.core_state.specs.Shown.{Shows};
 ghost use Rattle.sm_names.specs.declared.keys.Strength.{Strength};
 ghost use Rattle.event_laws.specs.HandleSums.{all_open};
 ghost use Rattle.service_lock.specs.States.{IsSetUpWith, with_parts};

@@ -2,6 +2,7 @@ pub mod Answers
 pub mod Apart
 pub mod Births
 pub mod Bounds
+pub mod CallRows
 pub mod Changes
 pub mod Demands
 pub mod Elements

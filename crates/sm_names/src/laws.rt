@@ -1,5 +1,6 @@
 //! What the definitions of the service imply. The functions do nothing: their contracts are laws.
 
+pub mod calls;
 pub mod collections;
 pub mod forced;
 pub mod handles;

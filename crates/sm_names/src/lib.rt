@@ -3,6 +3,8 @@
 #![tactic(auto)]
 
 pub mod bounds;
+pub mod call_parts;
+pub mod call_rows;
 pub mod demands;
 pub mod keys;
 pub mod laws;
@@ -13,6 +15,13 @@ pub mod sets;
 pub mod tracking;
 
 pub use bounds::Limits;
+pub use call_parts::{
+    Answer, Argument, ArgumentForm, CallParts, CallRow, Object, Product, Spends, Target,
+};
+pub use call_rows::{
+    CallKind, KINDS, call_of, kind_at, kind_named, object_buffer, object_key, parts_of, row_of,
+    word_of,
+};
 pub use demands::Constraints;
 pub use keys::{
     BufferName, ClientId, CollectionId, HeldBuffer, Interval, Kind, NodeKey, Strength, TrackerId,

@@ -1,11 +1,11 @@
 -- A session that goes on by one line.
 use Rattle.std.proofs.Common.{◌≡◌, ◌≢◌, ◌≤◌, ℕ, List, [], ◌++◌, refl, sym, ap, ◌∙◌, subst, Some}
 use Rattle.sm_names.specs.declared.messages.Call.{Call}
-use Rattle.sm_script.specs.declared.act.Act.{Act}
-use Rattle.sm_script.specs.declared.act.Binds.{Binds}
+use Rattle.script_labels.specs.declared.act.Act.{Act}
+use Rattle.script_labels.specs.declared.act.Binds.{Binds}
 use Rattle.sm_script.specs.declared.session.Session.{Session}
-use Rattle.sm_script.specs.declared.stop.Stop.{Stop}
-use Rattle.sm_script.specs.Names.{act_in}
+use Rattle.script_labels.specs.declared.stop.Stop.{Stop}
+use Rattle.script_labels.specs.Names.{act_in}
 use Rattle.sm_script.specs.Scenes.{Scene, Gives}
 use Rattle.sm_script.specs.Sessions.{IsAt, Advances, Gains, IsStopped}
 

@@ -1,6 +1,6 @@
 pub mod Advancing
 pub mod Ending
-pub mod Members
 pub mod Playing
 pub mod Running
+pub mod Settings
 pub mod Taking

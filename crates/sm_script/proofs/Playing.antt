@@ -8,7 +8,7 @@ use Rattle.sm_names.specs.Marks.{events}
 use Rattle.sm_names.specs.Timelines.{timeline}
 use Rattle.sm_script.specs.declared.fault.ScriptFault.{ScriptFault}
 use Rattle.sm_script.specs.declared.player.Player.{Player}
-use Rattle.sm_script.specs.declared.stop.Stop.{Stop}
+use Rattle.script_labels.specs.declared.stop.Stop.{Stop}
 use Rattle.sm_script.specs.Players.{SoFar, Breaks, GivesUp, fault_of}
 use Rattle.sm_script.specs.Runs.{IsTold, IsCutOff, IsUnanswered, Stopped}
 use Rattle.script_lines.specs.Written.{WritesPart}

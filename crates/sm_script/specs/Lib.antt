@@ -1,9 +1,6 @@
 pub mod Endings
 pub mod Faults
-pub mod Names
 pub mod Players
 pub mod Runs
 pub mod Scenes
 pub mod Sessions
-pub mod Tables
-pub mod Texts

@@ -3,7 +3,7 @@ use Rattle.std.specs.Prelude.{◌≡◌, ◌≢◌, ◌⊎◌, ℕ, ◌+◌, Lis
 use Rattle.std.specs.Io.KnownBytes.{Appends}
 use Rattle.sm_script.specs.declared.fault.ScriptFault.{ScriptFault}
 use Rattle.sm_script.specs.declared.player.Player.{Player}
-use Rattle.sm_script.specs.declared.stop.Stop.{Stop}
+use Rattle.script_labels.specs.declared.stop.Stop.{Stop}
 use Rattle.sm_script.specs.Runs.{IsTold, Stopped}
 use Rattle.script_lines.specs.Written.{WritesPart}
 use Rattle.sm_script.specs.Scenes.{Scene, Setting, Plays, first_scene}

@@ -4,11 +4,11 @@ use Rattle.std.specs.Io.KnownBytes.{Appends, Consumes, IsAtEnd}
 use Rattle.sm_names.specs.declared.messages.Call.{Call}
 use Rattle.sm_names.specs.Marks.{events}
 use Rattle.sm_names.specs.Timelines.{timeline}
-use Rattle.sm_script.specs.declared.act.Act.{Act}
-use Rattle.sm_script.specs.declared.act.Binds.{Binds}
+use Rattle.script_labels.specs.declared.act.Act.{Act}
+use Rattle.script_labels.specs.declared.act.Binds.{Binds}
 use Rattle.sm_script.specs.declared.fault.ScriptFault.{ScriptFault}
 use Rattle.script_lines.specs.declared.TheConstants.{MOST_BYTES}
-use Rattle.sm_script.specs.Names.{act_in}
+use Rattle.script_labels.specs.Names.{act_in}
 use Rattle.script_lines.specs.Written.{WritesPart}
 use Rattle.script_lines.specs.Pieces.{whole_lines, last_part}
 use Rattle.sm_script.specs.Scenes.{Scene, Setting, LeadsTo}

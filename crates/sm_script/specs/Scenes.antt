@@ -8,10 +8,10 @@ use Rattle.sm_names.specs.Legality.{IsLegal}
 use Rattle.sm_names.specs.Marks.{Entry, Timeline}
 use Rattle.sm_names.specs.Timelines.{timeline}
 use Rattle.sm_names.specs.Trackers.{fired}
-use Rattle.sm_script.specs.declared.act.Act.{Act}
-use Rattle.sm_script.specs.declared.act.Binds.{Binds}
-use Rattle.sm_script.specs.Names.{Names, no_names, names_after, act_in}
-use Rattle.sm_script.specs.Texts.{reply_text, poll_text, view_text}
+use Rattle.script_labels.specs.declared.act.Act.{Act}
+use Rattle.script_labels.specs.declared.act.Binds.{Binds}
+use Rattle.script_labels.specs.Names.{Names, no_names, names_after, act_in}
+use Rattle.script_labels.specs.Texts.{reply_text, poll_text, view_text}
 
 -- what happened so far, and what the labels stand for
 pub record Scene : Type 0 where

@@ -3,14 +3,14 @@ use Rattle.std.specs.Prelude.{ℕ, ◌≡◌, ◌≤◌, List, ◌++◌, ⊤, No
 use Rattle.sm_names.specs.declared.messages.Call.{Call}
 use Rattle.sm_names.specs.Marks.{events}
 use Rattle.sm_names.specs.Timelines.{timeline}
-use Rattle.lifetime_core.specs.Shown.{Shows}
-use Rattle.sm_script.specs.declared.act.Act.{Act}
-use Rattle.sm_script.specs.declared.act.Binds.{Binds}
+use Rattle.core_state.specs.Shown.{Shows}
+use Rattle.script_labels.specs.declared.act.Act.{Act}
+use Rattle.script_labels.specs.declared.act.Binds.{Binds}
 use Rattle.sm_script.specs.declared.session.Session.{Session}
-use Rattle.sm_script.specs.declared.stop.Stop.{Stop}
-use Rattle.sm_script.specs.Names.{act_in}
+use Rattle.script_labels.specs.declared.stop.Stop.{Stop}
+use Rattle.script_labels.specs.Names.{act_in}
 use Rattle.sm_script.specs.Scenes.{Scene, Answers, Gives}
-use Rattle.sm_script.specs.Tables.{Keeps}
+use Rattle.script_labels.specs.Tables.{Keeps}
 
 -- the core shows the scene's history, and the tables keep its names
 pub record IsAt (session : Session) (scene : Scene) : Type 0 where

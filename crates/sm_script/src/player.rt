@@ -6,8 +6,8 @@ ghost use Rattle.sm_script.specs.Scenes.{Setting};
 
 use crate::fault::ScriptFault;
 use crate::session::Session;
-use crate::stop::Stop;
 use crate::writing::give_up;
+use script_labels::Stop;
 use script_lines::write_out;
 use sm_names::{Limits, MAX_PAGES, NoMemory};
 use std::alloc::Global;

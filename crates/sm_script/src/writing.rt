@@ -2,7 +2,7 @@
 ghost use Rattle.sm_script.specs.Players.{GivesUp};
 
 use crate::fault::ScriptFault;
-use crate::stop::Stop;
+use script_labels::Stop;
 use script_lines::write_out;
 use std::io::Write;
 

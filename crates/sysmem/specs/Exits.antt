@@ -1,6 +1,6 @@
 -- What parting with a client makes of a core of C.
 use Rattle.std.specs.Prelude.{ℕ, ◌≡◌, Option, Some, None, IsSomeAnd}
-use Rattle.lifetime_core.specs.State.{State}
+use Rattle.core_state.specs.State.{State}
 use Rattle.client_exit.specs.declared.exit.PartFault.{PartFault}
 use Rattle.client_exit.specs.Parting.{ExitStops}
 

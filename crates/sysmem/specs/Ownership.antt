@@ -7,7 +7,7 @@ use Rattle.std.specs.Box.Ownership.{box_owns}
 use Rattle.std.specs.Coded.{coded_option}
 use Rattle.std.specs.Global.{Global}
 use Rattle.std.specs.contracts.impls.GlobalAllocator.TheImpl.{ghosts}
-use Rattle.lifetime_core.specs.State.{State}
+use Rattle.core_state.specs.State.{State}
 use Rattle.lifetime_core.specs.contracts.machine.Core.{the_row}
 
 -- a core that is kept is owned as a box owns it; where none is kept, nothing is

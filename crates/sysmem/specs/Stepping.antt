@@ -3,10 +3,10 @@ use Rattle.std.specs.Prelude.{ℕ, ◌≡◌, ◌∷◌, [], List, Option, Some,
 use Rattle.sm_names.specs.declared.messages.Call.{Call}
 use Rattle.sm_names.specs.declared.messages.Reply.{Reply}
 use Rattle.sm_names.specs.Marks.{Entry}
-use Rattle.lifetime_core.specs.Shown.{Shows}
-use Rattle.lifetime_core.specs.State.{IsSame, State}
-use Rattle.lifetime_core.specs.Steps.{Follows}
-use Rattle.lifetime_core.specs.Theorem.{GoesOn}
+use Rattle.core_state.specs.Shown.{Shows}
+use Rattle.core_state.specs.State.{IsSame, State}
+use Rattle.core_state.specs.Steps.{Follows}
+use Rattle.core_state.specs.Theorem.{GoesOn}
 use Rattle.sysmem.specs.declared.words.CallWords.{CallWords}
 use Rattle.sysmem.specs.declared.words.ReplyWords.{ReplyWords}
 use Rattle.sysmem.specs.Words.{said, reply_words}

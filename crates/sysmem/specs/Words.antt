@@ -1,7 +1,12 @@
 -- What the numbers of a call and of a reply say.
 use Rattle.std.specs.Prelude.{ℕ, ◌+◌, ◌^◌, ◌==◌, ◌&&◌, nat_le, not, if◌then◌else◌, Option, Some, None}
-use Rattle.std.specs.Option.{option_map}
+use Rattle.std.specs.Option.{option_and_then, option_map}
 use Rattle.sm_names.specs.declared.rules.TheConstants.{MAX_AT_LEAST, MAX_CAMPING, MAX_SIZE}
+use Rattle.sm_names.specs.declared.call_parts.Argument.{Argument}
+use Rattle.sm_names.specs.declared.call_parts.ArgumentForm.{ArgumentForm}
+use Rattle.sm_names.specs.declared.call_parts.Object.{Object}
+use Rattle.sm_names.specs.declared.call_parts.Target.{Target}
+use Rattle.sm_names.specs.declared.call_rows.CallKind.{CallKind}
 use Rattle.sm_names.specs.declared.keys.Kind.{Kind}
 use Rattle.sm_names.specs.declared.keys.BufferName.{BufferName}
 use Rattle.sm_names.specs.declared.keys.NodeKey.{NodeKey}
@@ -10,6 +15,7 @@ use Rattle.sm_names.specs.declared.messages.Call.{Call}
 use Rattle.sm_names.specs.declared.messages.Reply.{Reply}
 use Rattle.sm_names.specs.declared.outcomes.Cause.{Cause}
 use Rattle.sm_names.specs.declared.outcomes.Failure.{Failure}
+use Rattle.sm_names.specs.CallRows.{call_of, kind_at, parts, row_of}
 use Rattle.sm_names.specs.Demands.{Demand}
 use Rattle.sm_names.specs.Numbers.{misuse_number, refusal_number}
 use Rattle.sysmem.specs.declared.words.CallWords.{CallWords}
@@ -51,36 +57,32 @@ said_constraints camping at_least size =
     if nat_le camping MAX_CAMPING && nat_le at_least MAX_AT_LEAST && nat_le 1 size && nat_le size MAX_SIZE
     then Some (record { camping = camping; at_least = at_least; size = size }) else None
 
--- the call that the words say: by its kind, of the node or the buffer that they name. A kind that is none, a strength that is
--- none, and constraints out of range say no call
+-- what the words name that a call is made on
+abbrev pub object_said : CallWords → Target → Object NodeKey BufferName
+object_said w Target.Nothing = Object.Nothing
+object_said w Target.Handle = Object.Buffer (record { collection = w.collection; index = w.index })
+object_said w _ = Object.Node (record { slot = w.slot; generation = w.generation })
+
+-- what else they say; a strength that is none, and constraints out of range say nothing
+abbrev pub argument_said : CallWords → ArgumentForm → Option (Argument ℕ)
+argument_said w ArgumentForm.Nothing = Some Argument.Nothing
+argument_said w ArgumentForm.Client = Some (Argument.Client w.client)
+argument_said w ArgumentForm.Children = Some (Argument.Children (not (w.children == 0)))
+argument_said w ArgumentForm.Constraints =
+    option_map Argument.Constraints (said_constraints w.camping w.at_least w.size)
+argument_said w ArgumentForm.Most = Some (Argument.Most w.left)
+argument_said w ArgumentForm.Strength = option_map Argument.Strength (said_strength w.strength)
+argument_said w ArgumentForm.Gift = option_map (λ s. Argument.Gift s w.client) (said_strength w.strength)
+
+-- the call of this kind that the words say
+abbrev pub said_of_kind : CallWords → CallKind → Option Call
+said_of_kind w kind = option_and_then
+    (λ argument. call_of (parts kind (object_said w (row_of kind).on) argument))
+    (argument_said w (row_of kind).says)
+
+-- the call that the words say, by the number of its kind; a number that is none says no call
 abbrev pub said : CallWords → Option Call
-said w =
-    let key : NodeKey = record { slot = w.slot; generation = w.generation } in
-    let buffer : BufferName = record { collection = w.collection; index = w.index } in
-    let strength = said_strength w.strength in
-    if w.kind == 0 then Some Call.Join else
-    (if w.kind == 1 then Some Call.Shut else
-    (if w.kind == 2 then Some Call.OpenRoot else
-    (if w.kind == 3 then Some (Call.Duplicate key) else
-    (if w.kind == 4 then Some (Call.AttachToken key) else
-    (if w.kind == 5 then Some (Call.Sync key) else
-    (if w.kind == 6 then Some (Call.Give key w.client) else
-    (if w.kind == 7 then Some Call.Collect else
-    (if w.kind == 8 then Some (Call.Bind key) else
-    (if w.kind == 9 then Some (Call.SetDispensable key) else
-    (if w.kind == 10 then Some (Call.SetWeak key) else
-    (if w.kind == 11 then Some (Call.SetWeakOk key (not (w.children == 0))) else
-    (if w.kind == 12 then option_map (Call.SetConstraints key) (said_constraints w.camping w.at_least w.size) else
-    (if w.kind == 13 then Some (Call.Check key) else
-    (if w.kind == 14 then Some (Call.Take key) else
-    (if w.kind == 15 then Some (Call.Release key) else
-    (if w.kind == 16 then Some (Call.Close key) else
-    (if w.kind == 17 then option_map (Call.DupHandle buffer) strength else
-    (if w.kind == 18 then option_map (Call.DropHandle buffer) strength else
-    (if w.kind == 19 then option_map (λ s. Call.GiveHandle buffer s w.client) strength else
-    (if w.kind == 20 then Some (Call.TrackNode key) else
-    (if w.kind == 21 then Some (Call.TrackLifetime key w.left) else
-    (if w.kind == 22 then Some (Call.TrackWeak buffer) else None))))))))))))))))))))))
+said w = option_and_then (said_of_kind w) (kind_at w.kind)
 
 -- a reply that has nothing to tell
 abbrev pub blank_reply : ReplyWords

@@ -4,7 +4,7 @@ ghost use Rattle.std.specs.Option.{option_map_or};
 ghost use Rattle.sm_names.specs.declared.outcomes.Buffers.{Buffers};
 ghost use Rattle.buffer_holds.specs.Counts.{moving_count, of};
 ghost use Rattle.forest_store.specs.Forest.{all_nodes};
-ghost use Rattle.lifetime_core.specs.Reads.{buffers_in};
+ghost use Rattle.core_state.specs.Reads.{buffers_in};
 ghost use Rattle.sysmem.specs.Arrays.{written_over};
 ghost use Rattle.sysmem.specs.Nodes.{buffer_at, flags_of, holder_number, node_words};
 ghost use Rattle.sysmem.specs.Words.{said_strength};

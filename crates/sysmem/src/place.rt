@@ -1,6 +1,6 @@
 //! Where C keeps a core.
 ghost use Rattle.std.specs.Prelude.{◌≡◌, true, is_some, Option, Some, None};
-ghost use Rattle.lifetime_core.specs.State.{State};
+ghost use Rattle.core_state.specs.State.{State};
 ghost use Rattle.sysmem.specs.Ownership.{owns_core, state_coded};
 
 use crate::raw::Unboxed;

@@ -1,7 +1,7 @@
 //! What a core shows.
 ghost use Rattle.std.specs.Prelude.{◌≡◌, ◌≢◌, ◌↔◌, None, IsSomeAnd, drop, length, map};
 ghost use Rattle.std.specs.Prelude.{if◌then◌else◌, ◌⊎◌};
-ghost use Rattle.lifetime_core.specs.Reads.{views_of, is_live_in, fault_in};
+ghost use Rattle.core_state.specs.Reads.{views_of, is_live_in, fault_in};
 ghost use Rattle.sysmem.specs.Arrays.{written_over};
 ghost use Rattle.sysmem.specs.Encodings.{fired_words, held_words, key_from_words, key_words};
 ghost use Rattle.sysmem.specs.Words.{cause_number};

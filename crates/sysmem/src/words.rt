@@ -1,9 +1,12 @@
 //! Calls and replies as numbers.
 ghost use Rattle.std.specs.Prelude.{◌≡◌};
-ghost use Rattle.sysmem.specs.Words.{said, said_strength, said_constraints, reply_words};
+ghost use Rattle.sysmem.specs.Words.{argument_said, object_said, said, said_strength, said_constraints, reply_words};
 ghost use Rattle.sysmem.specs.Words.{strength_number, kind_number, cause_number};
 
-use sm_names::{BufferName, Call, Cause, Constraints, Failure, Kind, NodeKey, Reply, Strength};
+use sm_names::{
+    Argument, ArgumentForm, BufferName, Call, CallParts, Cause, ClientId, Constraints, Failure,
+    Kind, NodeKey, Object, Reply, Strength, Target, call_of as parts_call, kind_at, row_of,
+};
 
 /// A call, by the number of its kind. Each kind reads only the fields that it needs.
 #[repr(C)]
@@ -56,50 +59,52 @@ fn constraints_of(camping: u8, at_least: u8, size: u32) -> Option<Constraints>
     Constraints::new(camping, at_least, size)
 }
 
+// What the words name that a call is made on.
+fn object_of(words: &CallWords, on: Target) -> Object<NodeKey, BufferName>
+    ensures { result ≡ object_said words.now on }
+{
+    match on {
+        Target::Nothing => Object::Nothing,
+        Target::Handle => Object::Buffer(BufferName {
+            collection: words.collection,
+            index: words.index,
+        }),
+        Target::Token | Target::Collection | Target::End => Object::Node(NodeKey {
+            slot: words.slot,
+            generation: words.generation,
+        }),
+    }
+}
+
+// What else they say. `None` where they say nothing of this form.
+fn argument_of(words: &CallWords, form: ArgumentForm) -> Option<Argument<ClientId>>
+    ensures { result ≡ argument_said words.now form }
+{
+    Some(match form {
+        ArgumentForm::Nothing => Argument::Nothing,
+        ArgumentForm::Client => Argument::Client(words.client),
+        ArgumentForm::Children => Argument::Children(words.children != 0),
+        ArgumentForm::Constraints => {
+            Argument::Constraints(constraints_of(words.camping, words.at_least, words.size)?)
+        }
+        ArgumentForm::Most => Argument::Most(words.left),
+        ArgumentForm::Strength => Argument::Strength(strength_of(words.strength)?),
+        ArgumentForm::Gift => Argument::Gift(strength_of(words.strength)?, words.client),
+    })
+}
+
 // The call that the words say. `None` where they say none.
 pub(crate) fn call_of(words: &CallWords) -> Option<Call>
     ensures { result ≡ said words.now }
 {
-    let key = NodeKey {
-        slot: words.slot,
-        generation: words.generation,
-    };
-    let buffer = BufferName {
-        collection: words.collection,
-        index: words.index,
-    };
-    let call = match words.kind {
-        0 => Call::Join,
-        1 => Call::Shut,
-        2 => Call::OpenRoot,
-        3 => Call::Duplicate(key),
-        4 => Call::AttachToken(key),
-        5 => Call::Sync(key),
-        6 => Call::Give(key, words.client),
-        7 => Call::Collect,
-        8 => Call::Bind(key),
-        9 => Call::SetDispensable(key),
-        10 => Call::SetWeak(key),
-        11 => Call::SetWeakOk(key, words.children != 0),
-        12 => Call::SetConstraints(
-            key,
-            constraints_of(words.camping, words.at_least, words.size)?,
-        ),
-        13 => Call::Check(key),
-        14 => Call::Take(key),
-        15 => Call::Release(key),
-        16 => Call::Close(key),
-        17 => Call::DupHandle(buffer, strength_of(words.strength)?),
-        18 => Call::DropHandle(buffer, strength_of(words.strength)?),
-        19 => Call::GiveHandle(buffer, strength_of(words.strength)?, words.client),
-        20 => Call::TrackNode(key),
-        21 => Call::TrackLifetime(key, words.left),
-        22 => Call::TrackWeak(buffer),
-        _ => {
-            return None;
-        }
-    };
-    Some(call)
+    let kind = kind_at(words.kind)?;
+    let row = row_of(kind);
+    let argument = argument_of(words, row.says)?;
+    parts_call(CallParts {
+        kind,
+        object: object_of(words, row.on),
+        argument,
+    })
 }
 
 // The number of the strength.

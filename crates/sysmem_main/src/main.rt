@@ -6,15 +6,14 @@ ghost use Rattle.std.specs.Prelude.{◌≡◌};
 ghost use Rattle.std.specs.Process.{exit_status};
 ghost use Rattle.std.specs.IoError.{error_kind};
 ghost use Rattle.clap.specs.Words.{kind_of};
+ghost use Rattle.sysmem_main.specs.Jobs.{format_for, output_for};
 ghost use Rattle.sysmem_main.specs.Statuses.{refusal_status, unread_status};
 
-mod words;
-
 use clap::error::ErrorKind;
-use clap::{ArgMatches, Error};
+use clap::{ArgMatches, Command, Error};
+use command_line::{Format, Request, Task, View, command, request_of};
 use script_draw::draw_to_exit;
 use script_explain::{check_to_exit, explain_to_exit};
-use script_lines::Pages;
 use sm_script::run_to_exit;
 use std::io::Read;
 use std::process::ExitCode;
@@ -23,8 +22,7 @@ use std::sync::Wait;
 use std::thread::Threads;
 use std::time::Clock;
 use std::{env, fs, io};
-use thread_runs::{Job, run_threads_to_exit};
-use words::{Task, asks_for_threads, command, file_of, output_of, pages_of, task_of};
+use thread_runs::{Job, Output, run_threads_to_exit};
 
 // The status of what clap says of the words.
 fn status_of(kind: ErrorKind) -> u8
@@ -78,32 +76,74 @@ fn random_seed(rt: &impl RandomSource) -> [u8; 16] {
     seed
 }
 
-fn main(rt: HostRuntime) -> ExitCode {
-    let alloc = rt.alloc();
-    let words: Vec<String> = match env::args(&rt) {
-        Err(error) => return unread(&rt, &error),
-        Ok(args) => match args.collect(alloc) {
-            Ok(words) => words,
-            Err(_) => return no_memory(&rt),
+// The words of the command line, or the status that the program ends with where they can't be read.
+fn words_of(rt: &HostRuntime) -> Result<Vec<String>, ExitCode> {
+    match env::args(rt) {
+        Ok(args) => match args.collect(rt.alloc()) {
+            Ok(words) => Ok(words),
+            Err(_) => Err(no_memory(rt)),
         },
+        Err(error) => Err(unread(rt, &error)),
+    }
+}
+
+// What the matches of a parse ask for, or the status where no pool has as many pages.
+fn asked<'a>(rt: &HostRuntime, matches: &ArgMatches<'a>) -> Result<Request<'a>, ExitCode> {
+    match request_of(matches) {
+        Some(request) => Ok(request),
+        None => {
+            let _ = rt.eprintln("the pool has from 1 to 1048576 pages");
+            Err(ExitCode::from(2))
+        }
+    }
+}
+
+// What the words ask this command for, or the status where it is help, or nothing that is run.
+fn parsed<'a>(
+    rt: &HostRuntime,
+    command: Command<'a>,
+    words: &'a [String],
+) -> Result<Request<'a>, ExitCode> {
+    match command.try_get_matches_from(words) {
+        Ok(matches) => asked(rt, &matches),
+        Err(error) => Err(refuse(rt, error)),
+    }
+}
+
+// Does what the words ask for.
+fn serve<H: Threads + Wait + Clock + Sync>(
+    rt: &HostRuntime,
+    host: &H,
+    words: &[String],
+) -> ExitCode {
+    let request = match command(rt.alloc()) {
+        Ok(command) => parsed(rt, command, words),
+        Err(_) => Err(no_memory(rt)),
     };
-    let command = match command(alloc) {
-        Ok(command) => command,
-        Err(_) => return no_memory(&rt),
-    };
-    let matches = match command.try_get_matches_from(words.as_slice()) {
-        Ok(matches) => matches,
-        Err(error) => return refuse(&rt, error),
-    };
-    let Some(pages) = pages_of(&matches) else {
-        let _ = rt.eprintln("the pool has from 1 to 1048576 pages");
-        return ExitCode::from(2);
-    };
-    let seed = random_seed(&rt);
-    match file_of(&matches) {
-        None => play(&rt, &rt, seed, &mut rt.reader(), pages, &matches),
-        Some(name) => match fs::open(&rt, name) {
-            Ok(mut file) => play(&rt, &rt, seed, &mut file, pages, &matches),
+    match request {
+        Ok(request) => read(rt, host, random_seed(rt), request),
+        Err(status) => status,
+    }
+}
+
+fn main(rt: HostRuntime) -> ExitCode {
+    match words_of(&rt) {
+        Ok(words) => serve(&rt, &rt, words.as_slice()),
+        Err(status) => status,
+    }
+}
+
+// Does with the script that is named, or stands on standard input, what is asked for.
+fn read<H: Threads + Wait + Clock + Sync>(
+    rt: &HostRuntime,
+    host: &H,
+    seed: [u8; 16],
+    request: Request<'_>,
+) -> ExitCode {
+    match request.file {
+        None => play(rt, host, seed, &mut rt.reader(), request),
+        Some(name) => match fs::open(rt, name) {
+            Ok(mut file) => play(rt, host, seed, &mut file, request),
             Err(_) => {
                 let _ = rt.eprintln("the file can't be opened");
                 ExitCode::from(1)
@@ -112,28 +152,56 @@ fn main(rt: HostRuntime) -> ExitCode {
     }
 }
 
-// Does with the script that the reader holds what the command asks for. Actors get their threads from the host.
+// Does with the script that the reader holds what is asked for. Actors get their threads from the host.
 fn play<R: Read, H: Threads + Wait + Clock + Sync>(
     rt: &HostRuntime,
     host: &H,
     seed: [u8; 16],
     reader: &mut R,
-    pages: Pages,
-    matches: &ArgMatches<'_>,
+    request: Request<'_>,
 ) -> ExitCode {
     let alloc = rt.alloc();
     let writer = &mut io::writer(rt);
     let stderr = rt.stderr();
     let faults = &mut io::writer(&stderr);
-    if asks_for_threads(matches) {
-        let output = output_of(matches);
-        let job = Job { pages, output };
-        return run_threads_to_exit(host, alloc, seed, reader, writer, faults, job);
-    }
-    match task_of(matches) {
+    let pages = request.pages;
+    match request.task {
         Task::Run => run_to_exit(alloc, seed, reader, writer, faults, pages),
+        Task::Threads { has_record } => {
+            let output = output_of(has_record);
+            let job = Job { pages, output };
+            run_threads_to_exit(host, alloc, seed, reader, writer, faults, job)
+        }
         Task::Explain => explain_to_exit(alloc, seed, reader, writer, faults, pages),
-        Task::Draw(view) => draw_to_exit(alloc, seed, reader, writer, faults, pages, view),
+        Task::Draw(view) => {
+            draw_to_exit(alloc, seed, reader, writer, faults, pages, drawn(view))
+        }
         Task::Check => check_to_exit(alloc, seed, reader, writer, faults, pages),
+    }
+}
+
+// What a run of actors is to write.
+fn output_of(has_record: bool) -> Output
+    ensures { result ≡ output_for has_record }
+{
+    if has_record {
+        Output::Transcript
+    } else {
+        Output::Report
+    }
+}
+
+// The picture that is asked for, in the words of those who draw it.
+fn drawn(view: View) -> script_draw::View
+    ensures { result ≡ record { format = format_for view.format; at = view.at } }
+{
+    let format = match view.format {
+        Format::Text => script_draw::Format::Text,
+        Format::Dot => script_draw::Format::Dot,
+        Format::Svg => script_draw::Format::Svg,
+    };
+    script_draw::View {
+        format,
+        at: view.at,
     }
 }

@@ -207,6 +207,92 @@ fn handle(ground: &mut Ground, words: &[&str]) -> Result<(), Fail> {
     }
 }
 
+// What these words forget of a tree that was left.
+fn forget_of(
+    alloc: Global,
+    past: &mut Past,
+    keys: &[NodeKey],
+    words: &[&str],
+) -> Result<String, Fail> {
+    match *words {
+        ["spend", first, last] => past.spend_each(&keys_of(alloc, keys, first, last)?),
+        ["forget", first, last] => past.forget_each(&keys_of(alloc, keys, first, last)?)?,
+        ["forget"] => past.forget_collection()?,
+        ["end", first, last] => {
+            past.end_each(&keys_of(alloc, keys, first, last)?)?;
+            return Ok(format!(in alloc; ": each forgotten alone")?);
+        }
+        _ => past.forget_over(),
+    }
+    Ok(String::new(alloc))
+}
+
+// How a tree changes.
+#[derive(Clone, Copy)]
+enum Change {
+    Begin,
+    BearRoot,
+    Bear,
+    LookAgain,
+    Leave,
+    Handle,
+    Act,
+}
+
+// What a line is for.
+#[derive(Clone, Copy)]
+enum Purpose {
+    See,
+    Forget,
+    Turn,
+    Change(Change),
+    Nothing,
+}
+
+// The first words of lines that ask to see something, and of those that forget something.
+const SEEING: &[&str] = &["node", "born", "count", "kept", "pool"];
+
+const FORGETTING: &[&str] = &["spend", "forget", "end", "over"];
+
+// Whether the word is one of these.
+fn is_among(words: &[&str], word: &str) -> bool {
+    for one in words {
+        if *one == word {
+            return true;
+        }
+    }
+    false
+}
+
+// What these words are for.
+fn purpose_of(words: &[&str]) -> Purpose {
+    let Some(word) = words.first() else {
+        return Purpose::Nothing;
+    };
+    if is_among(SEEING, word) {
+        Purpose::See
+    } else if is_among(FORGETTING, word) {
+        Purpose::Forget
+    } else if *word == "turn" {
+        Purpose::Turn
+    } else {
+        Purpose::Change(change_of(words))
+    }
+}
+
+// What these words change.
+fn change_of(words: &[&str]) -> Change {
+    match *words {
+        ["tree", ..] => Change::Begin,
+        ["root"] => Change::BearRoot,
+        ["look"] => Change::LookAgain,
+        ["leave"] => Change::Leave,
+        ["child" | "unit" | "chain" | "line" | "pairs", _, _] => Change::Bear,
+        ["open" | "close", _] | ["openweak" | "closeweak"] => Change::Handle,
+        _ => Change::Act,
+    }
+}
+
 impl Player {
     /// A player on an empty ground.
     pub fn new(alloc: Global) -> Result<Player, Fail> {
@@ -240,24 +326,10 @@ impl Player {
 
     // What is forgotten of a tree that was left.
     fn forget(&mut self, alloc: Global, words: &[&str]) -> Result<String, Fail> {
-        let Some(past) = &mut self.past else {
-            return Err(Fail::from("the tree was not left"));
-        };
-        match *words {
-            ["spend", first, last] => {
-                past.spend_each(&keys_of(alloc, &self.keys, first, last)?);
-            }
-            ["forget", first, last] => {
-                past.forget_each(&keys_of(alloc, &self.keys, first, last)?)?;
-            }
-            ["forget"] => past.forget_collection()?,
-            ["end", first, last] => {
-                past.end_each(&keys_of(alloc, &self.keys, first, last)?)?;
-                return Ok(format!(in alloc; ": each forgotten alone")?);
-            }
-            _ => past.forget_over(),
+        match &mut self.past {
+            Some(past) => forget_of(alloc, past, &self.keys, words),
+            None => Err(Fail::from("the tree was not left")),
         }
-        Ok(String::new(alloc))
     }
 
     fn bear_root(&mut self) -> Result<(), Fail> {
@@ -266,7 +338,10 @@ impl Player {
         Ok(())
     }
 
-    fn bear(&mut self, how: &str, above: &str, count: &str) -> Result<(), Fail> {
+    fn bear(&mut self, words: &[&str]) -> Result<(), Fail> {
+        let [how, above, count] = *words else {
+            return Err(Fail::from("no births"));
+        };
         let above = key_of(&self.keys, above)?;
         if how == "pairs" {
             return bear_pairs(&mut self.ground, &mut self.keys, above, count);
@@ -315,29 +390,43 @@ impl Player {
             ["count", first, last] => {
                 count_text(alloc, forest, &keys_of(alloc, &self.keys, first, last)?)
             }
-            _ => pool_text(alloc, &self.ground),
+            ["pool"] => pool_text(alloc, &self.ground),
+            _ => Err(Fail::from("a line that says nothing")),
         }
+    }
+
+    // The tree is changed so.
+    fn change(&mut self, alloc: Global, change: Change, words: &[&str]) -> Result<(), Fail> {
+        match change {
+            Change::Begin => self.begin(alloc),
+            Change::BearRoot => self.bear_root(),
+            Change::Bear => self.bear(words),
+            Change::LookAgain => self.ground.look_again(),
+            Change::Leave => self.leave(alloc),
+            Change::Handle => handle(&mut self.ground, words),
+            Change::Act => self.act_on_all(alloc, words),
+        }
+    }
+
+    // The same, of which nothing is told.
+    fn change_untold(
+        &mut self,
+        alloc: Global,
+        change: Change,
+        words: &[&str],
+    ) -> Result<String, Fail> {
+        self.change(alloc, change, words)?;
+        Ok(String::new(alloc))
     }
 
     /// Takes a line, which begins a tree, changes it, or asks what is seen.
     pub fn take(&mut self, alloc: Global, words: &[&str]) -> Result<String, Fail> {
-        match *words {
-            ["node" | "born" | "count", ..] | ["kept" | "pool"] => return self.see(alloc, words),
-            ["spend" | "forget" | "end" | "over", ..] => return self.forget(alloc, words),
-            ["turn", ..] => {
-                return self.act_one_by_one(alloc, words.get(1..).unwrap_or(&[]));
-            }
-            [] => {}
-            ["tree", ..] => self.begin(alloc)?,
-            ["root"] => self.bear_root()?,
-            ["look"] => self.ground.look_again()?,
-            ["leave"] => self.leave(alloc)?,
-            [how, above, count] if matches!(how, "child" | "unit" | "chain" | "line" | "pairs") => {
-                self.bear(how, above, count)?;
-            }
-            ["open" | "close", _] | ["openweak" | "closeweak"] => handle(&mut self.ground, words)?,
-            _ => self.act_on_all(alloc, words)?,
+        match purpose_of(words) {
+            Purpose::See => self.see(alloc, words),
+            Purpose::Forget => self.forget(alloc, words),
+            Purpose::Turn => self.act_one_by_one(alloc, words.get(1..).unwrap_or(&[])),
+            Purpose::Change(change) => self.change_untold(alloc, change, words),
+            Purpose::Nothing => Ok(String::new(alloc)),
         }
-        Ok(String::new(alloc))
     }
 }

@@ -26,7 +26,10 @@ fn number_of(word: &str) -> Option<u64> {
     match word {
         "strong" => Some(0),
         "weak" => Some(1),
-        _ => decimal(word).map(u64::from),
+        _ => {
+            let number = decimal(word)?;
+            Some(u64::from(number))
+        }
     }
 }
 

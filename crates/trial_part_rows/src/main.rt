@@ -63,22 +63,32 @@ use std::io;
 use std::io::Write;
 use std::test::Fail;
 
-// The lines of a text, each with its answer.
-fn answered(alloc: Global, input: &str) -> Result<Vec<u8>, Fail> {
-    let mut text = Vec::new(alloc);
-    let mut player = Player::None;
+// Takes each line of a text, and puts it with its answer behind what is there.
+fn take_lines(
+    alloc: Global,
+    input: &str,
+    player: &mut Player,
+    text: &mut Vec<u8>,
+) -> Result<(), Fail> {
     for line in input.lines() {
         text.extend_from_slice(line.as_bytes())?;
-        player.take(alloc, line, &mut text)?;
+        player.take(alloc, line, text)?;
         text.push(b'\n')?;
     }
-    Ok(text)
+    Ok(())
+}
+
+// The same, from the first line on, where no part is made yet.
+fn play(alloc: Global, input: &str, text: &mut Vec<u8>) -> Result<(), Fail> {
+    let mut player = Player::None;
+    take_lines(alloc, input, &mut player, text)
 }
 
 fn main(rt: HostRuntime) -> Result<(), Fail> {
     let alloc = rt.alloc();
     let input = io::read_to_string(alloc, rt.reader())?;
-    let text = answered(alloc, input.as_str())?;
+    let mut text = Vec::new(alloc);
+    play(alloc, input.as_str(), &mut text)?;
     io::writer(&rt).write_all(text.as_slice())?;
     Ok(())
 }

@@ -22,7 +22,10 @@ fn begun(alloc: Global, line: &Line) -> Option<Player> {
     let [first, second, ..] = line.numbers;
     match line.verb {
         "table" => Some(Player::Nodes(Nodes::new(alloc, first as usize, small(second)))),
-        "pool" => Pages::new(alloc, small(first)).map(Player::Pages),
+        "pool" => {
+            let pages = Pages::new(alloc, small(first))?;
+            Some(Player::Pages(pages))
+        }
         "counts" => Some(Player::Handles(Handles::new(alloc, small(first), second))),
         "trackers" => Some(Player::Watch(Watch::new(alloc, small(first)))),
         _ => None,

@@ -11,14 +11,13 @@ use Rattle.forest_store.specs.Counts.{is_unready, no_unit}
 use Rattle.forest_store.specs.Unforced.{MayAffect, bit, is_plain}
 use Rattle.forest_store.specs.Shelves.{is_strong}
 use Rattle.forest_store.specs.Questions.{has_buffers}
-use Rattle.forest_store.specs.Reserved.{asked_by, camped}
+use Rattle.forest_store.specs.Reserved.{camped}
 use Rattle.forest_steps.specs.MidEvent.{EffectMade, AfterEffect, MidEvent, are_held_except, is_head_left, is_next_except, waits_among}
 use Rattle.forest_store.specs.Stores.{StoreAgrees}
 use Rattle.forest_store.proofs.quiescence.Calming.{any_map}
 use Rattle.forest_store.proofs.quiescence.Steps.{all-In}
 use Rattle.forest_store.proofs.changes.Altering.{found_whole, same_affected}
 use Rattle.forest_store.proofs.changes.Effecting.{alone, alone_affected, at_key, beside_same, has_one, head, kept_now, live_is, look, nodes_now, on, plain_affected, remains_affected, same, stays_one, strong_is, units_join, unready_is}
-use Rattle.forest_store.proofs.changes.Reserving.{camped_same}
 use Rattle.forest_store.proofs.shelves.Showing.{node_is}
 use Rattle.forest_store.proofs.tables.LeftParents.{in_shelf}
 use Rattle.forest_store.proofs.tables.Rooted.{distinct_one}
@@ -58,16 +57,16 @@ module _ (t now : Table Node) (key : NodeKey) (effect : Effect) (n : Node) (was 
       map_some None h = h
       map_some (Some r) h = h
 
--- an effect that sets no constraints asks for nothing
-plain_asks : (effect : Effect) → is_plain effect ≡ true → asked_by effect ≡ None
-plain_asks Effect.Bound is = refl
-plain_asks Effect.Dispensable is = refl
-plain_asks Effect.Weak is = refl
-plain_asks (Effect.WeakOk children) is = refl
-plain_asks (Effect.Constrained demand) is = cc
-plain_asks Effect.Taken is = refl
-plain_asks Effect.Released is = cc
-plain_asks Effect.Tracked is = refl
+-- an effect that sets no constraints leaves what its node camps on
+camped_plain : (key : NodeKey) (effect : Effect) (n : Node) → is_plain effect ≡ true → camped (affected key effect n) ≡ camped n
+camped_plain key Effect.Bound n is = refl
+camped_plain key Effect.Dispensable n is = refl
+camped_plain key Effect.Weak n is = refl
+camped_plain key (Effect.WeakOk children) n is = refl
+camped_plain key (Effect.Constrained demand) n is = cc
+camped_plain key Effect.Taken n is = refl
+camped_plain key Effect.Released n is = cc
+camped_plain key Effect.Tracked n is = refl
 
 -- the table has the node under its own key, and no other changes
 module _ (t now : Table Node) (key : NodeKey) (effect : Effect) (n : Node) (was : node_at t key ≡ Some n)
@@ -222,7 +221,7 @@ module _ (t : Table Node) (us : List Unit) (ss : List Shelf) (e : Entry) (store 
         let unready_same : bit (is_unready (made n)) ≡ bit (is_unready n) =
         λ i. bit (not (p.gone i) && (not (p.released i) && not (p.asks i))) in
         let strong_bit : bit (is_strong (made n)) ≡ bit (is_strong n) = ap bit strong_same in
-        let camps : camped (made n) ≡ camped n = camped_same key effect (plain_asks effect plain) n in
+        let camps : camped (made n) ≡ camped n = camped_plain key effect n plain in
         let lives = live_is t now us key effect n was becomes writes ss s e.strong may_here within_here in
         let waits = unready_is t now us key effect n was becomes writes ss s e.strong may_here within_here in
         let strongs = strong_is t now us key effect n was becomes writes ss s e.strong may_here in

@@ -23,7 +23,7 @@ use Rattle.forest_store.specs.Resting.{is_kept_by}
 use Rattle.forest_store.specs.Stores.{StoreAgrees}
 use Rattle.forest_steps.specs.EventEnd.{Closes}
 use Rattle.forest_steps.specs.MidEvent.{AfterEffect, EffectMade, MidEvent, PropagatedFrom, are_held_except, holds_unit, is_next_except, waits_among}
-use Rattle.forest_steps.specs.NodeEffects.{AreCounts, AreCountsThen, IsWorkedOut, KeepsCounts, MayMake, may_force, strong_then}
+use Rattle.forest_steps.specs.NodeEffects.{AreCounts, AreCountsThen, IsWorkedOut, KeepsCounts, MayMake, keeps_counts, may_force, strong_then}
 use Rattle.forest_steps.specs.StoreSteps.{IsOutcomeAt, IsReadyAt}
 use Rattle.forest_store.proofs.quiescence.Calming.{calm_map, none_calm, times_map}
 use Rattle.forest_store.proofs.quiescence.Keeping.{below_held, either_holds, lives_held, some_pass}
@@ -42,6 +42,17 @@ use Rattle.forest_steps.proofs.mid_event.Ready.{counted_under}
 use Rattle.forest_steps.proofs.mid_event.RootLost.{IsReadyRoot, ready_root}
 use Rattle.forest_steps.proofs.mid_event.RootMade.{under_held}
 use Rattle.forest_steps.proofs.mid_event.Stepping.{node_there, own_id, row_there}
+
+-- an effect of these kinds changes none of the counts: no live node changes by it, nor what is waited for
+pub counts_kept : (effect : Effect) → keeps_counts effect ≡ true → KeepsCounts effect
+counts_kept Effect.Bound is = record { plain = refl; strong = λ key n. refl }
+counts_kept Effect.Dispensable is = record { plain = refl; strong = λ key n. refl }
+counts_kept Effect.Weak is = cc
+counts_kept (Effect.WeakOk children) is = record { plain = refl; strong = λ key n. refl }
+counts_kept (Effect.Constrained demand) is = cc
+counts_kept Effect.Taken is = record { plain = refl; strong = λ key n. refl }
+counts_kept Effect.Released is = cc
+counts_kept Effect.Tracked is = record { plain = refl; strong = λ key n. refl }
 
 -- one of three is not so where not all are
 one_not : (a b d : Bool) → (a && (b && d)) ≡ false → (a ≡ false) ⊎ ((b ≡ false) ⊎ (d ≡ false))

@@ -1,5 +1,5 @@
 -- A change to the collection at a place: what may be made to it there, and what came of the steps that were made in it.
-use Rattle.forest_steps.proofs.Common.{◌≡◌, ℕ, ◌∙◌, refl, sym, subst, List, [], set, get_or, Some, true, false, Table, Change, Entry, Node, Unit, collection_in, forest_of, place_in, shelf_of, shelves_of, Handles}
+use Rattle.forest_steps.proofs.Common.{◌≡◌, ℕ, ◌∙◌, sym, subst, List, [], set, get_or, Some, true, false, Table, Change, Entry, Node, Unit, collection_in, forest_of, place_in, shelf_of, shelves_of, Handles}
 use Rattle.buffer_pool.specs.Holdings.{Holdings}
 use Rattle.forest_steps.specs.EventEnd.{Closes, MayClose}
 use Rattle.forest_store.specs.Forest.{IsPoolOf}

@@ -23,7 +23,7 @@ use Rattle.forest_steps.proofs.allocation.Sums.{asked_back, asked_is, asked_of, 
 use Rattle.forest_store.proofs.tables.Hanging.{in_all, looked_there}
 use Rattle.forest_store.proofs.tables.Writing.{IsSameNode}
 use Rattle.forest_store.proofs.tallies.Reserved.{amount_map, amount_within, camped_if, camped_sum}
-use Rattle.forest_steps.proofs.mid_event.Given.{given_is}
+use Rattle.forest_steps.proofs.mid_event.UnitGiven.{given_is}
 use Rattle.forest_steps.proofs.mid_event.Listed.{key_within, of_unit}
 
 -- where each that is asked for by the one is by the others, and the other way round, the same is asked for at most

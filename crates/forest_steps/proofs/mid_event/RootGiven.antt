@@ -1,10 +1,7 @@
 -- The root's unit is allocated with its buffers, and the attached units that follow have their turns.
-use Rattle.forest_steps.proofs.Common.{◌≡◌, ◌≢◌, ℕ, ◌==◌, nat_lt, refl, ap, sym, ◌∙◌, subst, Bool, true, false, not, ◌&&◌, ◌||◌, is_none, inl, inr, List, [], ◌∷◌, map, Option, Some, None, eqb-false, eqb-true, not-true, AllByRecursion, find, list_all, list_any, option_map_or, HeldBuffer, NodeKey, Buffers, same_key, In, In-find, In-list_any, In-map, and_both, and_left, and_right, both_ways, either_way, false_if, or_cases, or_left, same_key-refl, same_key-true, In-any, Table, node_at, Entry, Node, Unit, over_except, strong_count, AreUnits, lives_in, waits_in, waiting, Collection, IsStored, IsWhole, Shelf, collection_in, is_filed, nodes_with, put_shelf, shelf_of, is_of, is_next_node, reserved_count, heads_itself, Handles, Settles, is_head}
-use Rattle.sm_names.proofs.ListLaws.{map-In}
-use Rattle.sm_names.proofs.SamenessLaws.{or_none_right}
+use Rattle.forest_steps.proofs.Common.{◌≡◌, ◌≢◌, ℕ, ◌==◌, nat_lt, refl, ap, sym, ◌∙◌, subst, Bool, true, false, not, ◌&&◌, ◌||◌, is_none, inl, inr, List, [], ◌∷◌, map, Option, Some, None, eqb-true, find, list_all, list_any, option_map_or, HeldBuffer, NodeKey, Buffers, same_key, In, and_both, both_ways, either_way, false_if, or_cases, or_left, same_key-refl, same_key-true, In-any, Table, node_at, Entry, Node, Unit, over_except, strong_count, AreUnits, waiting, Collection, IsStored, IsWhole, Shelf, collection_in, is_filed, nodes_with, put_shelf, shelf_of, is_of, is_next_node, reserved_count, heads_itself, Handles, Settles, is_head}
 use Rattle.forest_steps.specs.declared.initial_allocation.AllocationOutcome.{AllocationOutcome}
 use Rattle.forest_steps.specs.declared.pending_units.PendingUnit.{PendingUnit}
-use Rattle.forest_store.specs.Falls.{given_all}
 use Rattle.forest_store.specs.Shelves.{is_strong}
 use Rattle.forest_store.specs.Nodes.{after_allocation}
 use Rattle.forest_store.specs.Questions.{is_allocated_node}
@@ -12,28 +9,22 @@ use Rattle.forest_steps.specs.InitialAllocation.{IsComing, IsRooted, first_made,
 use Rattle.forest_store.specs.Scenes.{given_few}
 use Rattle.forest_store.specs.UnitAllocation.{IsGivenAt, given_at}
 use Rattle.forest_steps.specs.LogicalAllocation.{IsUnitListed}
-use Rattle.forest_steps.specs.MidEvent.{AreClosed, AreTurns, AfterPropagation, MidEvent, are_held_except, hangs_in_some, is_coming, is_head_left, is_next_except, turn_heads, waits_among}
+use Rattle.forest_steps.specs.MidEvent.{AreClosed, AreTurns, AfterPropagation, MidEvent, are_held_except, is_head_left, is_next_except, turn_heads, waits_among}
 use Rattle.forest_store.proofs.quiescence.Calming.{any_map, times_map}
 use Rattle.forest_store.proofs.quiescence.Steps.{all-In}
-use Rattle.forest_store.proofs.changes.Altering.{found_filed, found_put, looked-of}
+use Rattle.forest_store.proofs.changes.Altering.{found_put}
 use Rattle.forest_steps.proofs.changes.Dropped.{nothing_stored}
 use Rattle.forest_store.proofs.changes.Finishing.{kept-put}
 use Rattle.forest_steps.proofs.changes.FirstAllocated.{all_there, found_there, units_there}
-use Rattle.forest_store.proofs.lists.Lookups.{looked-map}
 use Rattle.forest_store.proofs.allocation.Before.{IsBareHead}
-use Rattle.forest_steps.proofs.allocation.Giving.{given_in, given_other, given_out, kept_given, same_given}
 use Rattle.forest_steps.proofs.allocation.RootUnit.{waits_none}
-use Rattle.forest_store.proofs.tables.Hanging.{all_in, in_all, looked_there}
-use Rattle.forest_store.proofs.tables.Writing.{IsSameNode, IsWhole-map, collections-map, kept-with}
-use Rattle.forest_store.proofs.tallies.Slots.{all_at, one_shelf, units_with}
-use Rattle.forest_steps.proofs.turns.Gifts.{ready_same}
-use Rattle.forest_steps.proofs.mid_event.Given.{given_is, hangs_some_same, held_then, served, still_map, together_then, was_there}
-use Rattle.forest_steps.proofs.mid_event.Listed.{key_within, of_unit}
+use Rattle.forest_store.proofs.tables.Hanging.{in_all, looked_there}
 use Rattle.forest_steps.proofs.mid_event.Listing.{units_found}
 use Rattle.forest_steps.proofs.mid_event.NextThere.{next_fewer, wait_among, with_due}
 use Rattle.forest_steps.proofs.mid_event.Ready.{whole_under}
 use Rattle.forest_steps.proofs.mid_event.RootLost.{IsReadyRoot, ready_root}
-use Rattle.forest_steps.proofs.mid_event.Turns.{closed_behind, hangs_more, turns_behind}
+use Rattle.forest_steps.proofs.mid_event.Turns.{hangs_more, turns_behind}
+use Rattle.forest_steps.proofs.mid_event.UnitGiven.{IsUnitGiven, closed_on, f, given_is, held_then, next_parts, next_then, or_false, served, unit_given, was_there}
 
 -- another shelf stays where one is put
 in_put : (new : Shelf) (ss : List Shelf) (x : Shelf) → In x ss → x.id ≢ new.id → In x (put_shelf new ss)
@@ -103,18 +94,8 @@ module _ (t now : Table Node) (us : List Unit) (ss : List Shelf) (e : Entry) (k 
   abbrev hs : List NodeKey
   hs = k ∷ []
 
-  abbrev f : Node → Node
-  f = given_all (k ∷ [])
-
-  abbrev g : Node → Node
-  g = given_at (k ∷ []) ks
-
   abbrev r : Node
   r = coming.root
-
-  -- the node keeps its place
-  same_g : (m : Node) → IsSameNode (g m) m
-  same_g m = same_given hs ks m
 
   -- each collection is whole
   formed : IsWhole (collection_in t (shelf_of e))
@@ -140,28 +121,9 @@ module _ (t now : Table Node) (us : List Unit) (ss : List Shelf) (e : Entry) (k 
   top : IsBareHead (nodes_with t e.keys.items) k
   top = record { head = r; on = root.on; key = coming.own; own = own_head; here = root.here; waits = root.bare }
 
-  -- the nodes of the unit go together with the root
-  unit_bare : (m : Node) → In m nodes → m.head ≡ k → m.gone ≡ false
-  unit_bare m on own = formed.together.spared m r on root.on (own ∙ sym coming.own) (own_head ∙ sym coming.own) root.here root.bare
-
-  -- by cases
-  one_is : (b : Bool) → (b || false) ≡ true → b ≡ true
-  one_is true h = refl
-  one_is false h = cc
-
-  -- each node of the unit was listed, so it is given
-  each_given : (m : Node) → In m nodes → g m ≡ f m
-  each_given m on = elim (either_way (list_any (same_key m.key) ks)) [
-    | inl h ↦ given_in hs ks m h
-    | inr out ↦ given_out hs ks m out ∙ given_other hs m (false_if (list_any (same_key m.head) hs) (λ h.
-        let own : m.head ≡ k = same_key-true m.head k (one_is (same_key m.head k) h) in
-        both_ways (list_any (same_key m.key) ks)
-        (of_unit t ss u.store.kept s u.store.found u.store.kept.kin k top ks listed m on (unit_bare m on own) own) out))
-  ]
-
-  -- the keys are looked up one by one
-  nodes_then : nodes_with now e.keys.items ≡ served k (nodes_with t e.keys.items)
-  nodes_then = looked-map g (node_at t) (node_at now) given.look keys ∙ map-In g f nodes each_given
+  -- the unit is allocated in the table
+  unit : IsUnitGiven t now e k
+  unit = unit_given t now ss e k u.store.kept u.store.found formed top ks listed given
 
   -- the first allocation made them
   pub made_then : collection_in now s' ≡ record {
@@ -170,30 +132,7 @@ module _ (t now : Table Node) (us : List Unit) (ss : List Shelf) (e : Entry) (k 
     buffers = Some buffers;
     held = held;
   }
-  made_then = λ i. record { id = e.id; nodes = (nodes_then ∙ given_is k nodes) i; buffers = Some buffers; held = held }
-
-  -- the keys of each shelf are filed
-  filed_of : (x : Shelf) → In x ss → list_all (is_filed t x.id) x.keys ≡ true
-  filed_of x there = all-In (λ (y : Shelf). list_all (is_filed t y.id) y.keys) ss x there u.store.kept.filed
-
-  -- the nodes of other collections are of other units
-  others_stay : (x : Shelf) → x.id ≢ e.id → list_all (is_filed t x.id) x.keys ≡ true → collection_in now x ≡ collection_in t x
-  others_stay x differ filed = λ i. record (collection_in t x) { nodes = stay i }
-    where
-      apart : (m : Node) → In m (nodes_with t x.keys) → g m ≡ m
-      apart m there = given_out hs ks m (false_if (list_any (same_key m.key) ks) (λ h.
-          let at : node_at t m.key ≡ Some m =
-          in_all (λ (y : Node). node_at t y.key ≡ Some y) (nodes_with t x.keys) (looked_there t u.store.kept.named x.keys) m there in
-          let own : In m nodes = key_within t ss u.store.kept s u.store.found u.store.kept.kin k top ks listed m at h in
-          let mine : (m.collection == e.id) ≡ true =
-          all-In (λ (y : Node). y.collection == e.id) nodes m own
-          (looked-of t e.id keys (found_filed t e.id ss s u.store.kept.filed u.store.found)) in
-          let its : (m.collection == x.id) ≡ true =
-          all-In (λ (y : Node). y.collection == x.id) (nodes_with t x.keys) m there (looked-of t x.id x.keys filed) in
-          differ (sym (eqb-true m.collection x.id its) ∙ eqb-true m.collection e.id mine)))
-
-      stay : nodes_with now x.keys ≡ nodes_with t x.keys
-      stay = looked-map g (node_at t) (node_at now) given.look x.keys ∙ still_map g (nodes_with t x.keys) apart
+  made_then = λ i. record { id = e.id; nodes = (unit.nodes ∙ given_is k nodes) i; buffers = Some buffers; held = held }
 
   -- ---- the shelves
 
@@ -222,36 +161,9 @@ module _ (t now : Table Node) (us : List Unit) (ss : List Shelf) (e : Entry) (k 
   found' : find (λ (x : Shelf). x.id == e.id) ss' ≡ Some s'
   found' = found_there s s' refl ss u.store.kept.rising u.store.found
 
-  -- this collection is whole, and the others stay
-  whole_then : AllByRecursion (λ (x : Shelf). IsWhole (collection_in now x)) ss'
-  whole_then = all_in (λ (x : Shelf). IsWhole (collection_in now x)) ss' (λ x there. elim (either_way (x.id == e.id)) [
-    | inl h ↦
-        subst (λ (y : Shelf). IsWhole (collection_in now y))
-        (sym (one_shelf ss' kept'.rising x s' there (In-find (λ (y : Shelf). y.id == e.id) ss' s' found').0 (eqb-true x.id e.id h)))
-        (subst IsWhole (λ i. record { id = e.id; nodes = sym nodes_then i; buffers = Some buffers; held = held })
-        (IsWhole-map (given_all hs) (λ m. record { key = refl; parent = refl; attached = refl; collection = refl; head = refl })
-        (λ m. refl) (collection_in t s') (together_then k nodes) whole'))
-    | inr h ↦
-        subst IsWhole (sym (others_stay x (eqb-false x.id e.id h)
-        (all-In (λ (y : Shelf). list_all (is_filed t y.id) y.keys) ss' x there kept'.filed)))
-        (all_at (λ (y : Shelf). IsWhole (collection_in t y)) ss' kept'.whole x there)
-  ])
-
-  -- allocation keeps each node's place
-  kept_then : IsStored now ss'
-  kept_then = kept-with g same_g (λ m h. sym (kept_given (λ (x : Node). x.gone) hs (λ x. refl) ks m) ∙ h) t now
-      given.same.first given.same.nexts given.same.len given.look given.parents ss' whole_then kept'
-
   -- the shelf has the same keys
   units' : AreUnits us (map (collection_in t) ss')
   units' = units_there s s' refl us t ss u.store.kept.rising u.store.found (units_found t us e.id ss s u.store.units u.store.found) u.store.units
-
-  -- allocation changes none of the counts of units
-  units_then : AreUnits us (map (collection_in now) ss')
-  units_then = subst (AreUnits us) (sym (collections-map g same_g t now given.look ss'))
-      (units_with us g same_g (λ m. kept_given (λ x. x.gone) hs (λ x. refl) ks m)
-      (λ j m. kept_given (lives_in j) hs (λ x. refl) ks m)
-      (λ j m. kept_given (waits_in j) hs (λ x. refl) ks m) (map (collection_in t) ss') units')
 
   -- ---- the root
 
@@ -266,18 +178,18 @@ module _ (t now : Table Node) (us : List Unit) (ss : List Shelf) (e : Entry) (k 
 
   -- the same, in the table
   pub waits_no_more : waits_among [] (nodes_with now e.keys.items) ≡ true
-  waits_no_more = wait_among (nodes_with now e.keys.items) [] (subst (λ (ns : List Node). waiting ns ≡ None) (sym nodes_then) waits_then)
+  waits_no_more = wait_among (nodes_with now e.keys.items) [] (subst (λ (ns : List Node). waiting ns ≡ None) (sym unit.nodes) waits_then)
 
-  -- a node that hangs below another is not the root
-  no_root : (n : Node) → In n nodes → (p : NodeKey) → n.parent ≡ Some p → same_key n.key k ≡ false
+  -- a node of whose parent something is so is not the root
+  no_root : (n : Node) → In n nodes → (p : NodeKey → Bool) → option_map_or p n.parent false ≡ true → same_key n.key k ≡ false
   no_root n on p up = false_if (same_key n.key k) (λ h.
       let at : (m : Node) → In m nodes → node_at t m.key ≡ Some m =
       in_all (λ (m : Node). node_at t m.key ≡ Some m) nodes (looked_there t u.store.kept.named keys) in
       let both : Some n ≡ Some r =
       sym (at n on) ∙ (ap (node_at t) (same_key-true n.key k h ∙ sym coming.own) ∙ at r root.on) in
       let one : n ≡ r = cc in
-      let no : Some p ≡ None = sym up ∙ (ap (λ (m : Node). m.parent) one ∙ root.top) in
-      cc)
+      both_ways (option_map_or p n.parent false) up
+      (ap (λ (o : Option NodeKey). option_map_or p o false) (ap (λ (m : Node). m.parent) one ∙ root.top)))
 
   -- ---- the turns
 
@@ -285,33 +197,7 @@ module _ (t now : Table Node) (us : List Unit) (ss : List Shelf) (e : Entry) (k 
     -- with the units that follow among those that are due
     u_due : MidEvent t us ss e [] (k ∷ turn_heads ws)
     u_due = under_due t us ss e [] (k ∷ []) (k ∷ turn_heads ws)
-        (λ j h. or_left (same_key j k) (list_any (same_key j) (turn_heads ws)) (or_false (same_key j k) h)) u
-      where
-        or_false : (b : Bool) → (b || false) ≡ true → b ≡ true
-        or_false true h = refl
-        or_false false h = cc
-
-    -- one that may come to its turn might before
-    coming_was : (n : Node) → is_coming (served k nodes) (f n) ≡ true → is_coming nodes n ≡ true
-    coming_was n h =
-        let attached = and_left n.attached _ h in
-        let a = and_right n.attached _ h in
-        let b = and_right (not n.gone) _ a in
-        let waits : (list_any (same_key n.head) hs || n.allocated) ≡ false =
-        not-true (list_any (same_key n.head) hs || n.allocated) (and_left (not (list_any (same_key n.head) hs || n.allocated)) _ b) in
-        let all = and_right (not (list_any (same_key n.head) hs || n.allocated)) _ b in
-        and_both n.attached _ attached (and_both (not n.gone) _ (and_left (not n.gone) _ a)
-        (and_both (not n.allocated) _ (ap not (or_none_right (list_any (same_key n.head) hs) n.allocated waits))
-        (sym (ready_same n.key hs nodes) ∙ all)))
-
-    -- a unit that is coming after was coming before, so it was listed
-    closed_then : AreClosed (served k nodes) (turn_heads ws)
-    closed_then m there is hangs =
-        let x = In-map f nodes m there in
-        ap (λ (n : Node). list_any (same_key n.key) (turn_heads ws)) x.2
-        ∙ closed_behind t us ss e k place ws u_due turns x.0 x.1
-        (coming_was x.0 (ap (is_coming (served k nodes)) (sym x.2) ∙ is))
-        (sym (hangs_some_same k nodes (turn_heads ws) x.0) ∙ (ap (hangs_in_some (served k nodes) (turn_heads ws)) (sym x.2) ∙ hangs))
+        (λ j h. or_left (same_key j k) (list_any (same_key j) (turn_heads ws)) (sym (or_false (same_key j k)) ∙ h)) u
 
     -- the units behind the first one
     pub turns_then : AreTurns now e.keys.items ws
@@ -320,86 +206,24 @@ module _ (t now : Table Node) (us : List Unit) (ss : List Shelf) (e : Entry) (k 
         record {
           placed = behind.placed;
           in_turn = behind.in_turn;
-          closed = subst (λ (ns : List Node). AreClosed ns (turn_heads ws)) (sym nodes_then) closed_then;
+          closed = subst (λ (ns : List Node). AreClosed ns (turn_heads ws)) (sym unit.nodes)
+              (closed_on k nodes (turn_heads ws) behind.closed);
         }
 
-    -- only these are next
-    next_among : (n : Node) → In n nodes → is_next_node (served k nodes) (f n) ≡ true → list_any (same_key n.key) (turn_heads ws) ≡ true
-    next_among n on h =
-        let attached = and_left n.attached _ h in
-        let a = and_right n.attached _ h in
-        let b = and_right (not n.gone) _ a in
-        let d = and_right (not (list_any (same_key n.head) hs || n.allocated)) _ b in
-        let turn = and_left (option_map_or (λ p. list_any (is_allocated_node p) (served k nodes)) n.parent false) _ d in
-        let all = and_right (option_map_or (λ p. list_any (is_allocated_node p) (served k nodes)) n.parent false) _ d in
-        let is = coming_was n (and_both n.attached _ attached (and_both (not n.gone) _ (and_left (not n.gone) _ a)
-        (and_both (not (list_any (same_key n.head) hs || n.allocated)) _
-        (and_left (not (list_any (same_key n.head) hs || n.allocated)) _ b) all))) in
-        from n.parent refl is turn
-      where
-        among : (p : NodeKey) → n.parent ≡ Some p → is_coming nodes n ≡ true → hangs_in_some nodes hs n ≡ true →
-            list_any (same_key n.key) (turn_heads ws) ≡ true
-        among p up is hangs =
-            elim (or_cases (same_key n.key k) (list_any (same_key n.key) (turn_heads ws)) (turns.closed n on is
-            (hangs_more nodes hs (k ∷ turn_heads ws) (λ j i. or_left (same_key j k) (list_any (same_key j) (turn_heads ws))
-            (or_false (same_key j k) i)) n hangs))) [
-              | inl own ↦ both_ways (same_key n.key k) own (no_root n on p up)
-              | inr i ↦ i
-            ]
-          where
-            or_false : (b : Bool) → (b || false) ≡ true → b ≡ true
-            or_false true h = refl
-            or_false false h = cc
-
-        was_next : (p : NodeKey) → n.parent ≡ Some p → is_coming nodes n ≡ true → list_any (is_allocated_node p) nodes ≡ true →
-            list_any (same_key n.key) (turn_heads ws) ≡ true
-        was_next p up is above =
-            let one = and_right n.attached _ is in
-            let two = and_right (not n.gone) _ one in
-            let next_was : is_next_node nodes n ≡ true =
-            and_both n.attached _ (and_left n.attached _ is) (and_both (not n.gone) _ (and_left (not n.gone) _ one)
-            (and_both (not n.allocated) _ (and_left (not n.allocated) _ two)
-            (and_both (option_map_or (λ p. list_any (is_allocated_node p) nodes) n.parent false) _
-            (ap (λ (o : Option NodeKey). option_map_or (λ p. list_any (is_allocated_node p) nodes) o false) up ∙ above)
-            (and_right (not n.allocated) _ two)))) in
-            both_ways (list_any (is_next_except (k ∷ []) nodes) nodes)
-            (In-any (is_next_except (k ∷ []) nodes) nodes n on (and_both (is_next_node nodes n) _ next_was
-            (ap not (ap (λ (b : Bool). b || false) (no_root n on p up)))))
-            u.next
-
-        from : (o : Option NodeKey) → n.parent ≡ o → is_coming nodes n ≡ true →
-            option_map_or (λ p. list_any (is_allocated_node p) (served k nodes)) o false ≡ true →
-            list_any (same_key n.key) (turn_heads ws) ≡ true
-        from None up is above = let no : false ≡ true = above in absurd (cc)
-        from (Some p) up is above =
-            let x = In-list_any (is_allocated_node p) (served k nodes) above in
-            let y = In-map f nodes x.0 x.1 in
-            let m : Node = y.0 in
-            let was : is_allocated_node p (f m) ≡ true = ap (is_allocated_node p) (sym y.2) ∙ x.2 in
-            let here : not m.gone ≡ true = and_left (not m.gone) _ was in
-            let both : ((list_any (same_key m.head) hs || m.allocated) && same_key m.key p) ≡ true = and_right (not m.gone) _ was in
-            let key : same_key m.key p ≡ true = and_right (list_any (same_key m.head) hs || m.allocated) _ both in
-            elim (or_cases (list_any (same_key m.head) hs) m.allocated (and_left (list_any (same_key m.head) hs || m.allocated) _ both)) [
-              | inl h ↦ among p up is
-                  (ap (λ (o : Option NodeKey). option_map_or
-                  (λ q. list_any (λ (x : Node). is_of q x && list_any (same_key x.head) hs) nodes)
-                  o false) up
-                  ∙ In-any (λ (x : Node). is_of p x && list_any (same_key x.head) hs) nodes m y.1
-                  (and_both (is_of p m) (list_any (same_key m.head) hs) key h))
-              | inr h ↦ was_next p up is
-                  (In-any (is_allocated_node p) nodes m y.1 (and_both (not m.gone) _ here (and_both m.allocated _ h key)))
-            ]
-
-    -- what is next after hangs on the root's unit, and was listed
-    next_then : list_any (is_next_except (turn_heads ws) (served k nodes)) (served k nodes) ≡ false
-    next_then = false_if (list_any (is_next_except (turn_heads ws) (served k nodes)) (served k nodes)) (λ h.
-        let x = In-list_any (is_next_except (turn_heads ws) (served k nodes)) (served k nodes) h in
-        let y = In-map f nodes x.0 x.1 in
-        let is = and_left (is_next_node (served k nodes) x.0) _ x.2 in
-        let out : list_any (same_key x.0.key) (turn_heads ws) ≡ false = not-true _ (and_right (is_next_node (served k nodes) x.0) _ x.2) in
-        both_ways (list_any (same_key x.0.key) (turn_heads ws))
-        (ap (λ (n : Node). list_any (same_key n.key) (turn_heads ws)) y.2
-        ∙ next_among y.0 y.1 (ap (is_next_node (served k nodes)) (sym y.2) ∙ is)) out)
+    -- what is next after hangs on the root's unit, and was listed, and nothing was next before
+    next_behind : list_any (is_next_except (turn_heads ws) (served k nodes)) (served k nodes) ≡ false
+    next_behind = next_then k nodes (turn_heads ws)
+        (λ n on now coming hangs. elim (or_cases (same_key n.key k) (list_any (same_key n.key) (turn_heads ws)) (turns.closed n on coming
+        (hangs_more nodes hs (k ∷ turn_heads ws) (λ j i. or_left (same_key j k) (list_any (same_key j) (turn_heads ws))
+        (sym (or_false (same_key j k)) ∙ i)) n hangs))) [
+          | inl own ↦ both_ways (same_key n.key k) own
+              (no_root n on (λ p. list_any (λ (q : Node). is_of p q && list_any (same_key q.head) hs) nodes) hangs)
+          | inr h ↦ h
+        ])
+        (λ n on now next_was. both_ways (list_any (is_next_except (k ∷ []) nodes) nodes)
+        (In-any (is_next_except (k ∷ []) nodes) nodes n on (and_both (is_next_node nodes n) _ next_was
+        (ap not (ap (λ (b : Bool). b || false) (no_root n on (λ p. list_any (is_allocated_node p) nodes) (next_parts nodes n next_was).1)))))
+        u.next)
 
     -- ---- under way
 
@@ -408,28 +232,28 @@ module _ (t now : Table Node) (us : List Unit) (ss : List Shelf) (e : Entry) (k 
         (reserved : new.reserved ≡ reserved_count (after_allocation k (nodes_with t e.keys.items))) where
       -- the same nodes, by the same keys
       keys_new : nodes_with now new.keys.items ≡ served k nodes
-      keys_new = ap (λ (x : Shelf). nodes_with now x.keys) shelf ∙ nodes_then
+      keys_new = ap (λ (x : Shelf). nodes_with now x.keys) shelf ∙ unit.nodes
 
       -- the store agrees with the new shelf, and the units behind are those that are due
       pub under_then : MidEvent now us (put_shelf s' ss) new [] (turn_heads ws)
       under_then = record {
         store = record {
-          kept = kept_then;
+          kept = unit.stored (Some buffers) held ss' kept' found';
           found = subst (λ (x : Shelf). find (λ (y : Shelf). y.id == x.id) ss' ≡ Some x) (sym shelf) found';
-          units = units_then;
-          inside = λ key n at. let x = was_there g t now given.look key n at in u.store.inside key x.0 x.1;
-          strong = strong ∙ (u.store.strong ∙ sym (ap strong_count keys_new ∙ times_map is_strong is_strong f nodes (λ m. refl)));
+          units = unit.units us ss' units';
+          inside = λ key n at. let x = was_there (given_at (k ∷ []) ks) t now given.look key n at in u.store.inside key x.0 x.1;
+          strong = strong ∙ (u.store.strong ∙ sym (ap strong_count keys_new ∙ times_map is_strong is_strong (f k) nodes (λ m. refl)));
           reserved = reserved ∙ ap reserved_count (sym (given_is k nodes) ∙ sym keys_new);
           garbage_known = λ h.
               ap (list_any (over_except new.garbage.items)) keys_new
-              ∙ (any_map (over_except new.garbage.items) (over_except new.garbage.items) f nodes (λ m. refl)
+              ∙ (any_map (over_except new.garbage.items) (over_except new.garbage.items) (f k) nodes (λ m. refl)
               ∙ (ap (λ (ks : List NodeKey). list_any (over_except ks) nodes) garbage ∙ u.store.garbage_known (sym garbage_known ∙ h)));
         };
         bare = λ none.
             let no : Some buffers ≡ None = sym (ap (λ (x : Shelf). x.buffers) shelf) ∙ none in
             absurd (cc);
         held = subst (λ (ns : List Node). are_held_except [] ns ≡ true) (sym keys_new) (held_then k nodes u.held);
-        next = subst (λ (ns : List Node). list_any (is_next_except (turn_heads ws) ns) ns ≡ false) (sym keys_new) next_then;
+        next = subst (λ (ns : List Node). list_any (is_next_except (turn_heads ws) ns) ns ≡ false) (sym keys_new) next_behind;
         root = wait_among (nodes_with now new.keys.items) (turn_heads ws)
             (subst (λ (ns : List Node). waiting ns ≡ None) (sym keys_new) waits_then);
       }
@@ -464,7 +288,8 @@ module _ (t now : Table Node) (us : List Unit) (ss : List Shelf) (e : Entry) (k 
           };
           others = λ x on differ.
               played.led.beside.others x (in_put s' ss x on differ)
-              (λ same. differ (same ∙ ap (λ (y : Shelf). y.id) shelf)) ∙ others_stay x differ (filed_of x on);
+              (λ same. differ (same ∙ ap (λ (y : Shelf). y.id) shelf)) ∙ unit.others x differ
+              (all-In (λ (y : Shelf). list_all (is_filed t y.id) y.keys) ss x on u.store.kept.filed);
         };
         out = played.out;
       }

@@ -1,5 +1,5 @@
 -- The root's unit comes to its allocation by an effect, and all that follows is made: the forest then.
-use Rattle.forest_steps.proofs.Common.{◌≡◌, ℕ, refl, ap, sym, ◌∙◌, subst, true, false, not, inl, inr, List, [], ◌∷◌, ◌++◌, map, get_or, set, Some, None, option_map, find, list_any, sum_by, HeldBuffer, Interval, NodeKey, Demand, forced, In, Table, Change, Effect, Entry, Node, Unit, has_strong, waiting, Collection, with_nodes, Shelf, collection_in, forest_of, nodes_with, place_in, put_shelf, shelf_of, shelves_of, affected, is_deserted_node, reserved_count, Handles, Settles, collection_or_new, put, standing}
+use Rattle.forest_steps.proofs.Common.{◌≡◌, ℕ, refl, ap, sym, ◌∙◌, subst, true, false, inl, inr, List, [], ◌∷◌, ◌++◌, map, get_or, set, Some, None, option_map, find, list_any, sum_by, HeldBuffer, Interval, NodeKey, Demand, forced, In, Table, Change, Effect, Entry, Node, Unit, has_strong, waiting, Collection, with_nodes, Shelf, collection_in, forest_of, nodes_with, place_in, put_shelf, shelf_of, shelves_of, affected, is_deserted_node, reserved_count, Handles, Settles, collection_or_new, put, standing}
 use Rattle.std.proofs.lemmas.List.{get_or-set_same}
 use Rattle.sm_names.specs.Marks.{Mark}
 use Rattle.sm_names.specs.Words.{sorted_by}
@@ -21,7 +21,7 @@ use Rattle.forest_store.specs.UnitAllocation.{asked_with}
 use Rattle.forest_store.specs.Settling.{Forces, changed, made, no_key}
 use Rattle.forest_steps.specs.MidEvent.{AfterEffect, IsBeside, MidEvent, Reaches, are_held_except, holds_unit}
 use Rattle.forest_store.proofs.quiescence.Forcing.{forced_made}
-use Rattle.forest_store.proofs.changes.Done.{opens_at}
+use Rattle.forest_store.proofs.changes.Opening.{opens_at}
 use Rattle.forest_steps.proofs.changes.Dropped.{pool_at}
 use Rattle.forest_steps.proofs.changes.FirstAllocated.{put_there}
 use Rattle.forest_steps.proofs.intervals.Pools.{pool_back}

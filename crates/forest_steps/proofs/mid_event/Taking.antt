@@ -11,7 +11,8 @@ use Rattle.forest_store.specs.UnitAllocation.{IsGivenAt, given_at}
 use Rattle.forest_steps.specs.LogicalAllocation.{IsUnitListed, asked_there, is_next_there}
 use Rattle.forest_steps.specs.MidEvent.{AreTurns, AfterLoss, AfterSteps, MidEvent, is_abandoned_in, turn_heads, waits_among}
 use Rattle.forest_steps.proofs.allocation.Giving.{same_given}
-use Rattle.forest_steps.proofs.mid_event.Given.{given_led, was_there}
+use Rattle.forest_steps.proofs.mid_event.Given.{given_led}
+use Rattle.forest_steps.proofs.mid_event.UnitGiven.{was_there}
 use Rattle.forest_steps.proofs.mid_event.Listed.{refusal_is, sum_is}
 use Rattle.forest_steps.proofs.mid_event.Refused.{refused_led}
 use Rattle.forest_steps.proofs.mid_event.NextThere.{none_waits}

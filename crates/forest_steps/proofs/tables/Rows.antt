@@ -10,11 +10,3 @@ row_node t key some = from (row_at t key) some
     from : (o : Option (Row Node)) → IsSome o → (n : Node) × (option_map (λ (r : Row Node). r.node) o ≡ Some n)
     from None some = let no : false ≡ true = some in absurd (cc)
     from (Some r) some = (r.node, refl)
-
--- and the other way round
-pub node_row : (t : Table Node) (key : NodeKey) (n : Node) → node_at t key ≡ Some n → IsSome (row_at t key)
-node_row t key n is = from (row_at t key) is
-  where
-    from : (o : Option (Row Node)) → option_map (λ (r : Row Node). r.node) o ≡ Some n → IsSome o
-    from None h = cc
-    from (Some r) h = refl

@@ -1,38 +1,28 @@
 -- An effect that is made in its place, and what the count of strong live nodes becomes.
-use Rattle.forest_store.proofs.Common.{◌≡◌, ◌≢◌, ℕ, zero, suc, nat_lt, ◌+◌, ◌==◌, Bool, true, false, ◌||◌, ◌&&◌, not, if◌then◌else◌, is_none, is_some, ◌<◌, ◌⊎◌, inl, inr, List, [], ◌∷◌, map, length, set, Option, Some, None, option_map, refl, sym, ap, subst, ◌∙◌, arith, eqb-true, lt-ltb, not-true, list_all, list_any, option_map_or, NodeKey, Cause, forced, same_key, times, In, In-find, In-list_any, In-map, In-map-back, and_both, and_left, and_right, both_ways, either_way, false_if, same_key-refl, same_key-true, Table, node_at, parent_at, Change, Effect, Node, Unit, strong_count, over_except, AreUnits, lives_in, unit_at, waits_in, Collection, with_nodes, IsStored, IsWhole, Shelf, collection_in, forest_of, is_filed, nodes_with, affected, is_over, is_live_node, collection_or_new, put, standing, is_head}
+use Rattle.forest_store.proofs.Common.{◌≡◌, ◌≢◌, ℕ, zero, suc, nat_lt, ◌+◌, ◌==◌, Bool, true, false, ◌||◌, ◌&&◌, not, if◌then◌else◌, is_some, ◌<◌, ◌⊎◌, inl, inr, List, [], ◌∷◌, map, length, set, Option, Some, option_map, refl, sym, ap, subst, ◌∙◌, arith, eqb-true, lt-ltb, not-true, list_all, option_map_or, NodeKey, Cause, forced, same_key, times, In, In-find, In-map, In-map-back, and_both, and_left, and_right, both_ways, either_way, same_key-refl, same_key-true, Table, node_at, Change, Effect, Node, Unit, strong_count, AreUnits, lives_in, unit_at, waits_in, Collection, with_nodes, IsStored, IsWhole, Shelf, collection_in, forest_of, is_filed, nodes_with, affected, is_over, is_live_node, is_head}
 use Rattle.std.proofs.lemmas.List.{get_or-set_other, get_or-set_same, length-set}
-use Rattle.std.specs.Option.{unwrap_or}
 use Rattle.std.proofs.Math.Bool.{and-false}
 use Rattle.sm_names.proofs.SamenessLaws.{or_none_right}
 use Rattle.node_table.specs.Changes.{Writes}
 use Rattle.node_table.specs.Lending.{table_with_node}
-use Rattle.forest_store.specs.Calm.{IsQuiescent}
 use Rattle.forest_store.specs.Counts.{HasUnit, HasUnits, decrement_if, heads_below, is_unready, no_unit, unit_of}
-use Rattle.forest_store.specs.Dropped.{has_given_root}
-use Rattle.forest_store.specs.Due.{is_due_at, has_buffers_at}
-use Rattle.forest_store.specs.Forest.{beside}
-use Rattle.forest_store.specs.Unforced.{IsMade, IsOpen, MayAffect, bit, is_plain}
-use Rattle.forest_store.specs.Shelves.{Finishes, Stores, is_strong}
-use Rattle.forest_store.specs.Questions.{is_allocated_node}
-use Rattle.forest_store.specs.Settling.{Rests, changed, given_back, is_there, no_key}
+use Rattle.forest_store.specs.Unforced.{MayAffect, bit, is_plain}
+use Rattle.forest_store.specs.Shelves.{Stores, is_strong}
+use Rattle.forest_store.specs.Settling.{is_there}
 use Rattle.forest_store.proofs.quiescence.Together.{together_effect}
 use Rattle.forest_store.proofs.tallies.Amounts.{times_changed}
-use Rattle.forest_store.proofs.changes.Altering.{found_filed, found_put, found_whole, looked-of, same_affected}
-use Rattle.forest_store.proofs.quiescence.Calming.{IsPlain, any_map, calm_map, times_map}
-use Rattle.forest_store.proofs.quiescence.Resting.{back_kept, rests_kept, roots_stay}
-use Rattle.forest_store.proofs.changes.Done.{done_by}
+use Rattle.forest_store.proofs.changes.Altering.{found_filed, found_whole, looked-of, same_affected}
+use Rattle.forest_store.proofs.quiescence.Calming.{IsPlain}
 use Rattle.forest_store.proofs.changes.Finishing.{collection-beside}
 use Rattle.forest_store.proofs.tables.Hanging.{all_in, in_all, looked_there}
-use Rattle.forest_store.proofs.tallies.Holding.{head_there, holds_unit}
+use Rattle.forest_store.proofs.tallies.Holding.{head_there}
 use Rattle.forest_store.proofs.tallies.Hung.{below_mapped}
-use Rattle.forest_store.proofs.quiescence.Keeping.{below_held, calm_changed, has_turn, lives_held}
 use Rattle.forest_store.proofs.tables.LeftParents.{loss_left}
 use Rattle.forest_store.proofs.lists.Lookups.{looked-map}
-use Rattle.forest_store.proofs.shelves.Putting.{put-map}
 use Rattle.forest_store.proofs.tallies.Reckoning.{lives_other, lives_own, waits_other, waits_own}
 use Rattle.forest_store.proofs.tables.Rooted.{IsLeft, left_node}
-use Rattle.forest_store.proofs.shelves.Showing.{collection_is, node_is}
-use Rattle.forest_store.proofs.tallies.Slots.{Stays, all_at, but_all, but_join, but_moved, but_stays, one_shelf, one_slot, units_mapped}
+use Rattle.forest_store.proofs.shelves.Showing.{node_is}
+use Rattle.forest_store.proofs.tallies.Slots.{Stays, all_at, but_all, but_join, but_moved, but_stays, one_shelf, one_slot}
 use Rattle.forest_store.proofs.quiescence.Steps.{all-In}
 use Rattle.forest_store.proofs.tables.Storing.{Stores-more, Stores-none}
 use Rattle.forest_store.proofs.tables.Writing.{IsSameNode, kept-map, look-changed, parents-written}
@@ -155,19 +145,7 @@ decremented (suc n) true false real before e =
 decremented count false true real before e = let no : false ≡ true = before refl in absurd (cc)
 decremented count false false real before e = omega arith
 
--- what a count became, by the tests
-pub less_is : (count result : ℕ) (was is w i : Bool) → result ≡ decrement_if count was is → was ≡ w → is ≡ i → (i ≡ true → w ≡ true) →
-    (real : ℕ) → real + bit w ≡ count + bit i → result ≡ real
-less_is count result was is w i told was_is is_is before real e =
-    told ∙ ((λ j. decrement_if count (was_is j) (is_is j)) ∙ decremented count w i real before e)
-
 -- ---- the effect
-
--- where it may be made as a change, it may be made on its node
-pub may_affect : (t : Table Node) (us : List Unit) (ss : List Shelf) (s : Shelf) (key : NodeKey) (effect : Effect) (strong : ℕ) →
-    IsOpen t us ss s (Change.Effect key effect) strong → MayAffect t us ss s key strong
-may_affect t us ss s key effect strong opens =
-    record { kept = opens.kept; found = opens.found; named = opens.may.named; strong = opens.strong; units = opens.units }
 
 module _ (t now : Table Node) (us : List Unit) (key : NodeKey) (effect : Effect) (n : Node) (was : node_at t key ≡ Some n)
     (becomes : now ≡ table_with_node t (affected key effect n).key (affected key effect n))
@@ -211,10 +189,6 @@ module _ (t now : Table Node) (us : List Unit) (key : NodeKey) (effect : Effect)
   -- each key is looked up in the new table, where the effect was made
   pub nodes_now : nodes_with now s.keys ≡ map f nodes
   nodes_now = looked-map f (node_at t) (node_at now) look s.keys
-
-  -- only the nodes change
-  pub now_is : collection_in now s ≡ with_nodes (map f) (collection_in t s)
-  now_is = λ i. record (collection_in t s) { nodes = nodes_now i }
 
   -- each collection is whole
   pub whole : IsWhole (collection_in t s)
@@ -269,39 +243,6 @@ module _ (t now : Table Node) (us : List Unit) (key : NodeKey) (effect : Effect)
   beside_same x differ own_filed = collection-beside t now s.id (f n ∷ []) stores opens.kept.named
       (and_both (is_filed t s.id (f n).key) true filed refl) x differ own_filed
 
-  -- a root has buffers as before
-  roots : has_given_root t s.keys ≡ false → has_given_root now s.keys ≡ false
-  roots = roots_stay t now f look s.keys (λ m there none.
-      (λ i. (is_none ((same m).parent i) && not ((remains_affected key effect m).gone i)) && (remains_affected key effect m).allocated i)
-      ∙ none)
-
-  module _ (after : List Unit) (lives : ℕ) (lives_is : lives ≡ strong_count (map f nodes))
-      (calm_now : IsQuiescent (collection_in now s)) (units_now : AreUnits after (map (collection_in now) ss)) where
-    -- the nodes are those after the effect
-    count_now : lives ≡ strong_count (nodes_with now s.keys)
-    count_now = lives_is ∙ ap strong_count (sym nodes_now)
-
-    -- the change makes what the table has then
-    change_is : changed (Change.Effect key effect) no_key (collection_or_new (forest_of t ss) s.id) ≡ collection_in now s
-    change_is = ap (λ (o : Option Collection).
-        changed (Change.Effect key effect) no_key (unwrap_or o (record { id = s.id; nodes = []; buffers = None; held = [] })))
-        (collection_is t s.id ss ∙ ap (option_map (collection_in t)) opens.found)
-        ∙ sym now_is
-
-    -- being over is kept, and so is the key
-    over_same : (garbage : List NodeKey) (m : Node) → over_except garbage (f m) ≡ over_except garbage m
-    over_same garbage m = λ i. (remains_affected key effect m).over i && not (list_any (same_key ((same m).key i)) garbage)
-
-    -- the one write makes exactly the change, and nothing more is forced
-    pub made_now : IsMade t now after ss s (Change.Effect key effect) lives
-    made_now = record {
-      done = done_by t now ss s opens.kept opens.found (Change.Effect key effect) (f n ∷ []) stores (and_both (is_filed t s.id (f n).key)
-          true filed refl)
-          kept_now roots change_is after lives count_now calm_now units_now;
-      nodes = nodes_now;
-      over = λ garbage. ap (list_any (over_except garbage)) nodes_now ∙ any_map (over_except garbage) (over_except garbage) f nodes (over_same garbage);
-    }
-
   -- ---- the units
 
   -- the shelf is found among them
@@ -329,23 +270,6 @@ module _ (t now : Table Node) (us : List Unit) (key : NodeKey) (effect : Effect)
   -- no effect changes how many units hang right below one
   below_same : (k : NodeKey) → times (heads_below (map f nodes) k) (map f nodes) ≡ times (heads_below nodes k) nodes
   below_same k = below_mapped f same nodes (λ m. (remains_affected key effect m).gone) k
-
-  -- an effect that neither releases nor sets constraints changes no count of units
-  pub plain_made : is_plain effect ≡ true → IsQuiescent (collection_in t s) → (lives : ℕ) → lives ≡ strong_count (map f nodes) →
-      IsMade t now us ss s (Change.Effect key effect) lives
-  plain_made is calm lives lives_is =
-      made_now us lives lives_is (subst IsQuiescent (sym now_is) (calm_map (collection_in t s) f (plain_affected key effect is) calm))
-      (units_join us (λ k m at differ within. (within, refl)) (units_mapped us f nodes (λ m. (same m).key) counts unit_has))
-    where
-      counts : (k : NodeKey) → unit_of (map f nodes) k ≡ unit_of nodes k
-      counts k =
-          let p = plain_affected key effect is in
-          let l = times_map (lives_in k) (lives_in k) f nodes (λ m. λ i.
-          (not ((p m).gone i) && not ((p m).released i)) && same_key ((p m).head i) k) in
-          let w = times_map (waits_in k) (waits_in k) f nodes (λ m. λ i.
-          not ((p m).gone i || (not (same_key ((p m).head i) k) || ((p m).released i || (p m).asks i)))) in
-          let b = below_same k in
-          λ i. record { live = l i; unready = w i; below = b i }
 
   -- ---- where the counts of the unit change
 
@@ -389,32 +313,6 @@ module _ (t now : Table Node) (us : List Unit) (key : NodeKey) (effect : Effect)
       ap (λ (b : Bool). times (waits_in n.head) (map f nodes) + bit b) (sym (waits_own n.head n own_unit))
       ∙ (count_is (waits_in n.head)
       ∙ (λ i. (sym unit_is i).unready + bit (waits_own n.head (f n) own_unit_now i)))
-
-  -- a unit that is not due has its buffers, or the one above it has none
-  turnless : (h : Node) → In h nodes → (o : Option NodeKey) → h.parent ≡ o → option_map_or (has_buffers_at t) o true ≡ false →
-      option_map_or (λ parent. list_any (is_allocated_node parent) nodes) o true ≡ false
-  turnless h there None is none = cc
-  turnless h there (Some p) is none = false_if (list_any (is_allocated_node p) nodes) (λ e.
-      let x = In-list_any (is_allocated_node p) nodes e in
-      let rest : (x.0.allocated && same_key x.0.key p) ≡ true = and_right (not x.0.gone) _ x.2 in
-      let at : node_at t p ≡ Some x.0 = ap (node_at t) (sym (same_key-true x.0.key p (and_right x.0.allocated _ rest))) ∙ at_key x.0 x.1 in
-      both_ways (has_buffers_at t p)
-      (ap (λ (o : Option Node). option_map_or (λ (m : Node). m.allocated) o false) at ∙ and_left x.0.allocated _ rest) none)
-
-  -- not due means that it has its buffers, or the unit above has none
-  not_due : is_due_at t n.head ≡ false → ((h : Node) → In h nodes → h.key ≡ n.head → h.allocated ≡ true)
-      ⊎ ((h : Node) → In h nodes → h.key ≡ n.head → has_turn nodes h ≡ false)
-  not_due idle = elim (either_way (has_buffers_at t n.head)) [
-    | inl e ↦ inl (λ h there is.
-        ap (λ (o : Option Node). option_map_or (λ (m : Node). m.allocated) o false) (sym (at_key h there) ∙ ap (node_at t) is) ∙ e)
-    | inr e ↦ inr (λ h there is.
-        let both : Some h ≡ Some head.0 = sym (at_key h there) ∙ (ap (node_at t) is ∙ head_at) in
-        let one : h ≡ head.0 = cc in
-        let stays : h.gone ≡ false = ap (λ (m : Node). m.gone) one ∙ head.3 in
-        let up : parent_at t n.head ≡ h.parent = ap (parent_at t) (sym is) ∙ opens.kept.linked h.key h (at_key h there) stays in
-        let none : option_map_or (has_buffers_at t) (parent_at t n.head) true ≡ false = rw e at idle in
-        turnless h there h.parent refl (ap (λ (o : Option NodeKey). option_map_or (has_buffers_at t) o true) (sym up) ∙ none))
-  ]
 
   module _ (within : n.head.slot < length us) (next : Unit) (live_next : next.live ≡ times (lives_in n.head) (map f nodes))
       (unready_next : next.unready ≡ times (waits_in n.head) (map f nodes)) (below_next : next.below ≡ (unit_at us n.head.slot).below) where
@@ -480,65 +378,3 @@ module _ (t now : Table Node) (us : List Unit) (key : NodeKey) (effect : Effect)
                   both_ways (same_key n.head x.key) (ap (same_key n.head) one ∙ own_unit) e)
                   ∙ (had.1 ∙ sym (other_unit x.key e)),
             )
-
-    -- something holds the unit, and where it is due it does not become ready
-    pub counted_made : IsQuiescent (collection_in t s) → (lives : ℕ) → lives ≡ strong_count (map f nodes) →
-        (0 < next.live) ⊎ (0 < next.below) →
-        (is_unready n ≡ false) ⊎ ((0 < next.unready) ⊎ (is_due_at t n.head ≡ false)) →
-        IsMade t now after_one ss s (Change.Effect key effect) lives
-    counted_made calm lives lives_is live guard =
-        made_now after_one lives lives_is
-        (subst IsQuiescent (sym now_is) (calm_changed (collection_in t s) whole f same (λ m. (remains_affected key effect m).gone) (λ m.
-        (remains_affected key effect m).allocated) n on alone
-        (holds live) (guarded guard) calm))
-        (units_join after_one stays_one has_one)
-      where
-        holds : (0 < next.live) ⊎ (0 < next.below) → list_any (holds_unit (map f nodes) n.head) (map f nodes) ≡ true
-        holds (inl some) = lives_held (map f nodes) n.head (omega (arith, live_next, some))
-        holds (inr some) = below_held (map f nodes) n.head (omega (arith, below_now, some))
-
-        guarded : (is_unready n ≡ false) ⊎ ((0 < next.unready) ⊎ (is_due_at t n.head ≡ false)) →
-            (waits_in n.head n ≡ false) ⊎ ((0 < times (waits_in n.head) (map f nodes)) ⊎ (((h : Node) → In h nodes → h.key ≡ n.head →
-            h.allocated ≡ true)
-            ⊎ ((h : Node) → In h nodes → h.key ≡ n.head → has_turn nodes h ≡ false)))
-        guarded (inl settled) = inl (waits_own n.head n own_unit ∙ settled)
-        guarded (inr (inl waits)) = inr (inl (omega (arith, unready_next, waits)))
-        guarded (inr (inr idle)) = inr (inr (not_due idle))
-
--- ---- nothing of the nodes
-
--- nothing changed, and nothing is forced where the collection is kept or rests
-pub made_nothing : (t : Table Node) (us : List Unit) (ss : List Shelf) (s : Shelf) (strong : ℕ) →
-    IsOpen t us ss s Change.Nothing strong → IsMade t t us ss s Change.Nothing strong
-made_nothing t us ss s strong opens =
-    let filed = found_filed t s.id ss s opens.kept.filed opens.found in
-    let whole_s = found_whole t s.id ss s opens.kept.whole opens.found in
-    let is : changed Change.Nothing no_key (collection_or_new (forest_of t ss) s.id) ≡ collection_in t s =
-    ap (λ (o : Option Collection). unwrap_or o (record { id = s.id; nodes = []; buffers = None; held = [] }))
-    (collection_is t s.id ss ∙ ap (option_map (collection_in t)) opens.found) in
-    record {
-      done = record {
-        kept = opens.kept;
-        finishes = λ pool handles by.
-            let rests = rests_kept handles t s strong filed whole_s opens.calm opens.strong by pool in
-            let back : given_back handles (collection_in t s) ≡ collection_in t s =
-            back_kept handles t s strong filed whole_s opens.calm opens.strong by in
-            subst (λ (c : Collection). Finishes pool handles t ss t ss c) (sym is)
-            (record {
-              after = collection_in t s;
-              settles = Rests (collection_in t s) (rests (beside (forest_of t ss) s.id));
-              collections = ap (map (collection_in t)) (sym (found_put s ss opens.kept.rising opens.found)) ∙ put-map t s ss
-                  ∙ ap (λ (c : Collection). put c (map (collection_in t) ss)) (sym back);
-              rests = ap (λ (c : Collection). forced pool (standing handles (beside (forest_of t ss) s.id) c)) back
-                  ∙ rests (beside (forest_of t ss) s.id);
-            });
-        roots = λ none. none;
-        calm = opens.calm;
-        strong = opens.strong;
-        others = λ x differ own_filed. refl;
-        units = opens.units;
-        same = record { first = refl; nexts = refl; limit = refl; len = refl };
-      };
-      nodes = refl;
-      over = λ garbage. refl;
-    }

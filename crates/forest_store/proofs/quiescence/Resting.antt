@@ -1,20 +1,11 @@
 -- A collection that rests, whether one of its strong nodes is live or not: nothing is forced in it, and no buffer goes home.
-use Rattle.forest_store.proofs.Common.{◌≡◌, ℕ, ◌==◌, ◌⊎◌, Bool, true, false, ◌&&◌, not, nat_lt, inl, inr, List, [], ◌∷◌, ◌++◌, drop, Option, Some, None, option_map, is_none, is_some, refl, ap, ◌∙◌, not-true, cons_option, find, list_all, option_map_or, option_and_then, HeldBuffer, Interval, NodeKey, Buffers, Cause, forced, when, and_both, and_left, and_right, both_ways, either_way, or_cases, or_left, or_right, Table, node_at, Entry, Node, strong_count, has_strong, Collection, IsStored, IsWhole, Shelf, collection_in, is_filed, nodes_with, shelf_of, shelves_of, members_of, is_root_left, Handles, standing, In}
-use Rattle.sm_names.specs.Members.{some_strong_live}
+use Rattle.forest_store.proofs.Common.{◌≡◌, ℕ, ◌==◌, ◌⊎◌, Bool, true, false, ◌&&◌, not, nat_lt, inl, inr, List, [], ◌∷◌, drop, Option, Some, None, option_map, is_none, is_some, refl, ap, ◌∙◌, cons_option, find, list_all, option_map_or, option_and_then, NodeKey, Buffers, Cause, forced, when, and_both, and_left, and_right, either_way, or_cases, or_left, or_right, Table, node_at, Node, has_strong, Shelf, is_filed, nodes_with, is_root_left, Handles, In}
 use Rattle.sm_names.specs.Words.{first_some}
-use Rattle.forest_store.specs.Calm.{IsQuiescent}
-use Rattle.forest_store.specs.Decisions.{Decision, Ends, Loses, decided, first_step, mark_of}
+use Rattle.forest_store.specs.Decisions.{Decision, Ends, Loses, decided, first_step}
 use Rattle.forest_store.specs.Dropped.{has_given_root}
-use Rattle.forest_store.specs.Forest.{pages_in}
 use Rattle.forest_store.specs.Resting.{is_at_rest, is_kept_by}
-use Rattle.forest_store.specs.Scenes.{given_few, is_held_strongly, is_out}
-use Rattle.forest_store.specs.Settling.{given_back, is_home_in}
-use Rattle.forest_store.proofs.quiescence.Calming.{AreNone, none_calm, none_decided}
-use Rattle.forest_store.proofs.quiescence.Forcing.{forced_made, strong_tie}
-use Rattle.forest_store.proofs.quiescence.Watched.{all_out, strong_lives}
-use Rattle.forest_store.proofs.changes.Altering.{found_whole}
-use Rattle.sm_names.proofs.ListLaws.{filter-list_all}
-use Rattle.forest_store.proofs.shelves.Showing.{shelf_found}
+use Rattle.forest_store.specs.Scenes.{is_held_strongly, is_out}
+use Rattle.forest_store.proofs.quiescence.Calming.{AreNone, none_decided}
 
 -- ---- what is forced
 
@@ -78,74 +69,6 @@ still_decided nodes buffers strong_open none (inr kept) =
     (ap (option_map (λ (n : Node). first_step nodes n.key)) none.no_root)
     none.no_head
 
--- ---- a collection that rests
-
--- what is not home where no strong node is live is not home
-module _ (handles : Handles) (t : Table Node) (s : Shelf) (lives : ℕ) (filed : list_all (is_filed t s.id) s.keys ≡ true)
-    (whole : IsWhole (collection_in t s)) (calm : IsQuiescent (collection_in t s)) (count : lives ≡ strong_count (nodes_with t s.keys))
-    (kept : is_kept_by handles t s lives ≡ true) where
-  abbrev c : Collection
-  c = collection_in t s
-
-  abbrev strong_open : Bool
-  strong_open = is_held_strongly handles s.id s.buffers
-
-  -- a strong node is live, or it rests without
-  parts : (has_strong (nodes_with t s.keys) ≡ true) ⊎ (is_at_rest handles t s ≡ true)
-  parts = elim (or_cases (nat_lt 0 lives) (is_at_rest handles t s) kept) [
-    | inl e ↦ inl (strong_lives (nodes_with t s.keys) lives e count)
-    | inr e ↦ inr e
-  ]
-
-  -- without a strong node its root is not abandoned
-  kept_in : is_at_rest handles t s ≡ true →
-      (option_map_or (λ (root : Node). root.allocated) (find is_root_left (nodes_with t s.keys)) false && not strong_open) ≡ false
-  kept_in rest = elim (either_way (has_given_root t s.keys)) [
-    | inl e ↦
-        let none : (has_given_root t s.keys && not strong_open) ≡ false =
-        not-true _ (and_left (not (has_given_root t s.keys && not strong_open)) _ rest) in
-        let opened : not strong_open ≡ false = rw e at none in
-        rw opened (and_none (option_map_or (λ (root : Node). root.allocated) (find is_root_left (nodes_with t s.keys)) false))
-    | inr e ↦
-        let no : option_map_or (λ (root : Node). root.allocated) (find is_root_left (nodes_with t s.keys)) false ≡ false =
-        root_first t s.id s.keys filed whole.sound.one_root e in
-        rw no refl
-  ]
-    where
-      and_none : (b : Bool) → (b && false) ≡ false
-      and_none true = refl
-      and_none false = refl
-
-  -- a calm collection is decided by its abandoned buffers alone, and these are kept
-  none_kept : decided (nodes_with t s.keys) s.buffers (is_held_strongly handles s.id s.buffers) ≡ None
-  none_kept = still_decided (nodes_with t s.keys) s.buffers strong_open (none_calm c calm) (elim parts [
-    | inl e ↦ inl e
-    | inr e ↦ inr (kept_in e)
-  ])
-
-  -- nothing is forced in it
-  pub rests_kept : (pool : ℕ) (others : List Interval) → forced pool (standing handles others (collection_in t s)) ≡ None
-  rests_kept pool others = forced_made handles pool others c ∙ ap (option_map (mark_of pool (pages_in c ++ others))) none_kept
-
-  -- and no buffer is home
-  pub out_kept : list_all (λ (h : HeldBuffer). not (is_home_in handles (collection_in t s) h.buffer)) s.held ≡ true
-  out_kept = elim (either_way (has_strong (nodes_with t s.keys))) [
-    | inl e ↦ all_out handles c e
-    | inr e ↦
-        let live : some_strong_live (members_of (nodes_with t s.keys)) ≡ false = strong_tie (nodes_with t s.keys) ∙ e in
-        ap (λ (b : Bool). list_all (is_out handles b) s.held) live ∙ without e
-  ]
-    where
-      without : has_strong (nodes_with t s.keys) ≡ false → list_all (is_out handles false) s.held ≡ true
-      without e = elim parts [
-        | inl some ↦ both_ways (has_strong (nodes_with t s.keys)) some e
-        | inr rest ↦ and_right (not (has_given_root t s.keys && not strong_open)) _ rest
-      ]
-
-  -- so no pages go back
-  pub back_kept : given_back handles (collection_in t s) ≡ collection_in t s
-  back_kept = λ i. record c { held = filter-list_all (λ (h : HeldBuffer). not (is_home_in handles c h.buffer)) s.held out_kept i }
-
 -- ---- what becomes of it
 
 -- a root has no buffers then, where its node becomes one that has them only if it had
@@ -185,11 +108,3 @@ rests_on handles t now s lives roots kept = elim (or_cases (nat_lt 0 lives) (is_
     from true true given on e = refl
     from true false true on e = cc
     from true false false on e = let no : true ≡ false = on refl in cc
-
--- ---- the entry of a collection
-
--- it was given few buffers
-pub few_found : (t : Table Node) (es : List Entry) (id : ℕ) (e : Entry) → IsStored t (shelves_of es) →
-    find (λ (x : Entry). x.id == id) es ≡ Some e → given_few e.buffers ≡ true
-few_found t es id e kept found =
-    (found_whole t id (shelves_of es) (shelf_of e) kept.whole (shelf_found id es ∙ ap (option_map shelf_of) found)).sound.few

@@ -1,13 +1,8 @@
 -- A collection with a strong live node: nothing is forced in it, and no buffer is home.
-use Rattle.forest_store.proofs.Common.{◌≡◌, ℕ, zero, suc, Bool, true, false, ◌&&◌, ◌==◌, not, nat_lt, List, [], ◌∷◌, Some, cond, refl, sym, subst, ◌∙◌, arith, lt-ltb, find, list_all, list_any, HeldBuffer, Table, Entry, Node, strong_count, has_strong, Collection, members_of, Handles}
-use Rattle.sm_names.specs.declared.keys.Strength.{Strength}
-use Rattle.sm_names.specs.Handles.{is_home}
-use Rattle.sm_names.specs.Members.{some_strong_live}
+use Rattle.forest_store.proofs.Common.{◌≡◌, ℕ, zero, suc, Bool, true, false, ◌==◌, nat_lt, List, [], ◌∷◌, Some, cond, sym, subst, ◌∙◌, arith, lt-ltb, find, list_any, Table, Entry, Node, strong_count, has_strong}
 use Rattle.forest_store.specs.Calm.{AreCounted, IsCounted}
 use Rattle.forest_store.specs.Shelves.{is_strong}
-use Rattle.forest_store.specs.Settling.{is_home_in}
 use Rattle.forest_store.proofs.quiescence.Calming.{count_none, count_some}
-use Rattle.forest_store.proofs.quiescence.Forcing.{strong_tie}
 
 -- the entry that is found is counted
 found_counted-by : (t : Table Node) (id : ℕ) (x : Entry) (xs : List Entry) (e : Entry) (here : Bool) → AreCounted t (x ∷ xs) →
@@ -35,26 +30,3 @@ strong_told nodes zero is = sym (count_none is_strong nodes (sym is))
 strong_told nodes (suc n) is =
     let some : nat_lt 0 (suc n) ≡ true = lt-ltb 0 (suc n) (omega arith) in
     some ∙ sym (strong_lives nodes (suc n) some is)
-
--- no buffer is home while a strong node lives
-none_home : (strong weak : ℕ) (live : Bool) → live ≡ true → not (is_home strong weak live) ≡ true
-none_home strong weak live is = rw is (never (strong == 0) (weak == 0))
-  where
-    never : (a b : Bool) → not ((a && false) && b) ≡ true
-    never true b = refl
-    never false b = refl
-
--- by induction: each element passes
-all_pass : {A : Type 0} (p : A → Bool) (xs : List A) → ((x : A) → p x ≡ true) → list_all p xs ≡ true
-all_pass p [] each = refl
-all_pass p (x ∷ xs) each = rw (each x) (all_pass p xs each)
-
-module _ (handles : Handles) (c : Collection) (strong : has_strong c.nodes ≡ true) where
-  -- a strong node lives, so no buffer is home
-  away : (h : HeldBuffer) → not (is_home_in handles c h.buffer) ≡ true
-  away h = none_home (handles h.buffer Strength.Strong) (handles h.buffer Strength.Weak) (some_strong_live (members_of c.nodes))
-      (strong_tie c.nodes ∙ strong)
-
-  -- so it is of each buffer
-  pub all_out : list_all (λ (h : HeldBuffer). not (is_home_in handles c h.buffer)) c.held ≡ true
-  all_out = all_pass (λ (h : HeldBuffer). not (is_home_in handles c h.buffer)) c.held away

@@ -1,5 +1,5 @@
 -- Entries that are counted stay so, where one is put among them.
-use Rattle.forest_store.proofs.Common.{◌≡◌, ◌≢◌, ℕ, zero, suc, ◌+◌, ◌<◌, ◌≤◌, ◌==◌, ◌&&◌, Bool, true, false, ◌⊎◌, inl, inr, List, [], ◌∷◌, map, length, get_or, set, if◌then◌else◌, cond, Option, Some, None, option_map, is_some, sym, ap, subst, ◌∙◌, refl, arith, AllByRecursion, cons_option, filter, list_all, list_any, eqb-true, eqb-false, NodeKey, same_key, In, In-map, and_left, and_right, both_ways, either_way, same_key-refl, same_key-true, some-injective, In-any, Table, node_at, Entry, Node, strong_count, over_except, Collection, AreRising, IsWhole, Shelf, are_filed, collection_in, is_filed, nodes_with, place_in, put_shelf, shelf_of, shelves_of, is_over, reserved_count}
+use Rattle.forest_store.proofs.Common.{◌≡◌, ℕ, zero, suc, ◌+◌, ◌<◌, ◌≤◌, ◌==◌, ◌&&◌, Bool, true, false, ◌⊎◌, inl, inr, List, [], ◌∷◌, map, length, get_or, set, if◌then◌else◌, cond, Option, Some, None, option_map, is_some, sym, ap, subst, ◌∙◌, refl, arith, AllByRecursion, cons_option, filter, list_all, list_any, eqb-true, eqb-false, NodeKey, same_key, In, In-map, and_left, and_right, both_ways, either_way, same_key-refl, same_key-true, some-injective, In-any, Table, node_at, Entry, Node, strong_count, over_except, Collection, AreRising, IsWhole, Shelf, are_filed, collection_in, is_filed, nodes_with, place_in, put_shelf, shelf_of, shelves_of, is_over, reserved_count}
 use Rattle.std.specs.List.{remove}
 use Rattle.std.proofs.lemmas.Bool.{ltb-true}
 use Rattle.sm_names.proofs.ListLaws.{times-le-length}
@@ -51,16 +51,6 @@ moved_all t now (e ∷ es) filed same all = (
   moved t now e (same e (and_left (list_all (is_filed t e.id) e.keys.items) _ filed)) all.0,
   moved_all t now es (and_right (list_all (is_filed t e.id) e.keys.items) _ filed) same all.1,
 )
-
--- and of all but one
-pub moved_but : (t now : Table Node) (id : ℕ) (es : List Entry) → AllByRecursion (λ (e : Entry). e.id ≢ id →
-    list_all (is_filed t e.id) e.keys.items ≡ true) es →
-    ((e : Entry) → e.id ≢ id → list_all (is_filed t e.id) e.keys.items ≡ true →
-    collection_in now (shelf_of e) ≡ collection_in t (shelf_of e)) →
-    AreCountedExcept t id es → AreCountedExcept now id es
-moved_but t now id [] filed same all = tt
-moved_but t now id (e ∷ es) filed same all =
-    (λ differ. moved t now e (same e differ (filed.0 differ)) (all.0 differ), moved_but t now id es filed.1 same all.1)
 
 -- where all are counted, all but one are
 pub counted_but : (t : Table Node) (id : ℕ) (es : List Entry) → AreCounted t es → AreCountedExcept t id es
@@ -205,17 +195,6 @@ pub counted_set : (t : Table Node) (es : List Entry) (at : ℕ) (new : Entry) �
 counted_set t [] at new own all = tt
 counted_set t (e ∷ es) zero new own all = (own (omega arith) all.0, all.1)
 counted_set t (e ∷ es) (suc n) new own all = (all.0, counted_set t es n new (λ within. own (omega arith)) all.1)
-
--- ---- the others of a collection that is put back
-
--- by induction over the entries
-pub filed_every : (t : Table Node) (id : ℕ) (es : List Entry) → are_filed t (shelves_of es) ≡ true →
-    AllByRecursion (λ (e : Entry). e.id ≢ id → list_all (is_filed t e.id) e.keys.items ≡ true) es
-filed_every t id [] all = tt
-filed_every t id (e ∷ es) all = (
-  λ differ. and_left (list_all (is_filed t e.id) e.keys.items) _ all,
-  filed_every t id es (and_right (list_all (is_filed t e.id) e.keys.items) _ all),
-)
 
 -- ---- keys without a node
 

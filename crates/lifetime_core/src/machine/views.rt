@@ -18,14 +18,14 @@ ghost use Rattle.forest_store.specs.Forest.{Collection as Shelved, collection_at
 ghost use Rattle.forest_store.specs.Scenes.{IsSound as IsSoundCollection};
 ghost use Rattle.forest_store.specs.Snapshots.{collection_of};
 ghost use Rattle.buffer_holds.specs.Counts.{moving_count, of, total};
-ghost use Rattle.lifetime_core.specs.Reads.{buffers_in, fault_in, is_live_in, views_of};
-ghost use Rattle.lifetime_core.specs.Shown.{Shows, collection_after, kept_ids, kept_nodes, node_after, pages_beside_after};
-ghost use Rattle.lifetime_core.specs.State.{Client as ClientRow};
+ghost use Rattle.core_state.specs.Reads.{buffers_in, fault_in, is_live_in, views_of};
+ghost use Rattle.core_state.specs.Shown.{Shows, collection_after, kept_ids, kept_nodes, node_after, pages_beside_after};
+ghost use Rattle.core_state.specs.State.{Client as ClientRow};
 
 use super::Core;
-use crate::clients::ids_of;
-use crate::reading::{cause, is_live};
 use alloc_event::{Node, Snapshot};
+use core_state::clients::ids_of;
+use core_state::reading::{cause, is_live};
 use sm_names::{
     BufferName, Buffers, Cause, ClientId, CollectionId, Fired, HeldBuffer, Interval, NoMemory,
     NodeKey, Strength,

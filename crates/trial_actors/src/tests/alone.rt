@@ -1,11 +1,11 @@
 //! One client that runs a script.
-use super::asking::{Silent, made, put};
-use actor_scripts::{ActorScript, Step, Verb};
+use super::asking::{Silent, ask, made, open, put};
+use actor_scripts::ActorScript;
 use client_actors::{ActorEnd, run_actor};
 use client_ends::join;
 use client_parting::{Holding, Wreck, end_service};
 use service_lock::{Service, Setup};
-use sm_names::Call;
+use sm_names::{Argument, Call, CallKind};
 use std::alloc::Global;
 use std::process::Abort;
 use std::sync::Wait;
@@ -14,25 +14,11 @@ use std::sync::ledger::Ledger;
 // A token that is bound, between steps that are left out.
 fn script<R: Abort>(rt: &R, alloc: Global) -> ActorScript {
     let mut steps = Vec::new(alloc);
-    put(
-        rt,
-        &mut steps,
-        Step::Ask {
-            verb: Verb::Sync,
-            node: 1,
-        },
-    );
-    put(rt, &mut steps, Step::Open { root: 1 });
-    put(rt, &mut steps, Step::Open { root: 1 });
+    put(rt, &mut steps, ask(CallKind::Sync, Argument::Nothing, 1));
+    put(rt, &mut steps, open(1));
+    put(rt, &mut steps, open(1));
     for _ in 0..2 {
-        put(
-            rt,
-            &mut steps,
-            Step::Ask {
-                verb: Verb::Bind,
-                node: 1,
-            },
-        );
+        put(rt, &mut steps, ask(CallKind::Bind, Argument::Nothing, 1));
     }
     ActorScript { steps }
 }

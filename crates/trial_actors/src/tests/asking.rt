@@ -1,8 +1,9 @@
 //! Calls that must be made, and a gate that tells nobody.
 ghost use Rattle.std.specs.Prelude.{◌≡◌, ◌++◌, ◌∷◌, [], Ok};
 
+use actor_scripts::{Request, Step};
 use client_actors::Gate;
-use sm_names::{ClientId, Reply};
+use sm_names::{Argument, CallKind, ClientId, Object, Reply};
 use std::process::Abort;
 
 /// Tells nobody.
@@ -33,6 +34,30 @@ pub fn put<V, R: Abort>(rt: &R, all: &mut Vec<V>, one: V)
         Err(refused) => match all.push(refused.value) {
             Ok(()) => {}
             Err(_) => panic!(rt; "no room"),
+        },
+    }
+}
+
+/// A new collection, whose root is to have this label.
+pub fn open(root: u32) -> Step {
+    Step::Ask {
+        request: Request {
+            kind: CallKind::OpenRoot,
+            object: Object::Nothing,
+            argument: Argument::Nothing,
+            binds: Some(root),
+        },
+    }
+}
+
+/// A call on the node of this label.
+pub fn ask(kind: CallKind, argument: Argument<u32>, node: u32) -> Step {
+    Step::Ask {
+        request: Request {
+            kind,
+            object: Object::Node(node),
+            argument,
+            binds: None,
         },
     }
 }

@@ -1,10 +1,10 @@
 //! Two actors side by side.
-use super::asking::{Silent, made, put};
-use actor_scripts::{ActorScript, Step, Verb};
+use super::asking::{Silent, ask, made, open, put};
+use actor_scripts::ActorScript;
 use client_actors::{ActorEnd, Gate, run_actors};
 use client_parting::{Holding, Report, end_service, gather};
 use service_lock::{Service, Setup};
-use sm_names::Constraints;
+use sm_names::{Argument, CallKind, Constraints};
 use std::alloc::Global;
 use std::process::Abort;
 use std::sync::Wait;
@@ -18,10 +18,26 @@ fn script<R: Abort>(rt: &R, alloc: Global, label: u32) -> ActorScript {
         panic!(rt; "constraints");
     };
     let mut steps = Vec::new(alloc);
-    put(rt, &mut steps, Step::Open { root: label });
-    for verb in [Verb::Bind, Verb::Constrain { constraints }, Verb::Take] {
-        put(rt, &mut steps, Step::Ask { verb, node: label });
-    }
+    put(rt, &mut steps, open(label));
+    put(
+        rt,
+        &mut steps,
+        ask(CallKind::Bind, Argument::Nothing, label),
+    );
+    put(
+        rt,
+        &mut steps,
+        ask(
+            CallKind::SetConstraints,
+            Argument::Constraints(constraints),
+            label,
+        ),
+    );
+    put(
+        rt,
+        &mut steps,
+        ask(CallKind::Take, Argument::Nothing, label),
+    );
     ActorScript { steps }
 }
 

@@ -3,22 +3,24 @@ use super::acts::{Act, Row, Said};
 use super::holdings::Holdings;
 use super::log::Log;
 use lifetime_core::Core;
-use sm_names::{Call, ClientId, HeldBuffer, Limits, NodeKey, Parcel, Reply, StepFault};
+use sm_names::{
+    Call, Cause, ClientId, Fired, HeldBuffer, Limits, NodeKey, Parcel, Reply, StepFault,
+};
 use std::alloc::Global;
 
 /// A core of 16 pages, the node of each call that made one, and what its clients hold.
 #[derive(Drop)]
 pub struct Player {
-    pub core: Core,
+    core: Core,
     nodes: Vec<(u64, NodeKey)>,
     holdings: Holdings,
-    pub log: Log,
+    log: Log,
     // How many clients joined, all before any other call.
-    pub clients: ClientId,
+    clients: ClientId,
     // Whether memory was refused.
-    pub refused: bool,
+    refused: bool,
     // The fault of the newest call that was not taken.
-    pub fault: Option<StepFault>,
+    fault: Option<StepFault>,
 }
 
 // So many nodes have room from the first.
@@ -48,6 +50,52 @@ impl Player {
             Some(player) => Some(player),
             None => fresh(alloc, limits, true),
         }
+    }
+
+    /// The core, to be asked by itself.
+    pub fn core(&mut self) -> &mut Core {
+        &mut self.core
+    }
+
+    /// The number of the newest event.
+    pub fn events(&self) -> u64 {
+        self.core.events()
+    }
+
+    /// How many pages are free.
+    pub fn free_pages(&self) -> u32 {
+        self.core.free_pages()
+    }
+
+    /// The trackers that fired.
+    pub fn fired(&self) -> &[Fired] {
+        self.core.fired()
+    }
+
+    /// Whether the node is live.
+    pub fn is_live(&self, key: NodeKey) -> bool {
+        self.core.is_live(key)
+    }
+
+    /// Why and where the node failed, if it did and is kept.
+    pub fn cause(&self, key: NodeKey) -> Option<(Cause, NodeKey)> {
+        self.core.cause(key)
+    }
+
+    /// The first calls, each with its reply.
+    pub fn log(&self) -> &Log {
+        &self.log
+    }
+
+    /// Whether memory was refused.
+    pub fn was_refused(&self) -> bool {
+        self.refused
+    }
+
+    /// Notes that the newest call was not taken, and whether that was for want of memory.
+    pub fn note_refusal(&mut self) -> bool {
+        self.refused = true;
+        self.fault == Some(StepFault::NoMemory)
     }
 
     /// The nodes that were made, each with the number of its call.

@@ -17,7 +17,7 @@ use super::placing::{HOLES, RELEASED_PARENT, RELEASED_TREE, TWO_BUFFERS};
 use super::player::Player;
 use super::scripts::Script;
 use super::views::{ends_so, is_over, looks_so, see_the_same};
-use sm_names::{Limits, StepFault};
+use sm_names::Limits;
 use std::alloc::Global;
 
 // Scripts that no test has alone.
@@ -64,7 +64,7 @@ pub fn limits_of(script: &Script) -> Option<Limits> {
 fn has_made(alloc: Global, limits: Limits, player: &mut Player, rows: &[Row], made: usize) -> bool {
     on_player(alloc, limits, |other| {
         other.keeps_to(rows, made)
-            && player.core.events() == other.core.events()
+            && player.events() == other.events()
             && see_the_same(player, other)
     })
 }
@@ -78,8 +78,7 @@ fn takes(alloc: Global, limits: Limits, player: &mut Player, rows: &[Row], place
     match player.answer(*client, *act) {
         Some(said) => said == *wanted,
         None => {
-            player.refused = true;
-            player.fault == Some(StepFault::NoMemory)
+            player.note_refusal()
                 && has_made(alloc, limits, player, rows, place)
                 && player.answer(*client, *act) == Some(*wanted)
         }
@@ -102,7 +101,7 @@ fn outcome(alloc: Global, script: &Script) -> Option<bool> {
     let mut refused = false;
     let is_so = on_player(alloc, limits, |player| {
         let is_so = plays(alloc, limits, player, script);
-        refused = player.refused;
+        refused = player.was_refused();
         is_so
     });
     is_so.then_some(refused)

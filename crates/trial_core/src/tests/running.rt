@@ -70,7 +70,7 @@ fn runs_when_cut(alloc: Global, limits: Limits, script: &Script, count: usize) -
     on_player(alloc, limits, |player| {
         player.keeps_to(script.rows, count)
             && player.all_vanish()
-            && runs_so(alloc, limits, &player.log, count)
+            && runs_so(alloc, limits, player.log(), count)
     })
 }
 

@@ -74,15 +74,15 @@ fn fires(player: &mut Player, early: &mut Tracker) -> bool {
         && player.keeps_to(CLOSED, CLOSED.len())
         && early.poll() == Some(FIRED[0])
         && early.poll() == Some(FIRED[0])
-        && is_taken_fired(&mut player.core, FIRED[1])
-        && is_taken_fired(&mut player.core, FIRED[2])
-        && are_taken(&mut player.core, &[4, 5, 6])
-        && player.core.fired() == FIRED.as_slice()
+        && is_taken_fired(player.core(), FIRED[1])
+        && is_taken_fired(player.core(), FIRED[2])
+        && are_taken(player.core(), &[4, 5, 6])
+        && player.fired() == FIRED.as_slice()
 }
 
 // Whether the one that is taken before it fires is there.
 fn fires_later(player: &mut Player) -> bool {
-    match player.core.take_tracker(5) {
+    match player.core().take_tracker(5) {
         Some(mut early) => fires(player, &mut early),
         None => false,
     }
@@ -91,7 +91,7 @@ fn fires_later(player: &mut Player) -> bool {
 // Whether trackers are taken once, and tell of their firings.
 fn tells(player: &mut Player) -> bool {
     player.keeps_to(TRACKED, TRACKED.len())
-        && are_taken(&mut player.core, &[0, 2, 7, 99])
+        && are_taken(player.core(), &[0, 2, 7, 99])
         && fires_later(player)
 }
 

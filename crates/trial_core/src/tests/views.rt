@@ -19,12 +19,16 @@ fn are_held(player: &mut Player, wanted: &[(u64, u8, u32, u32)]) -> bool {
     held.len() == wanted.len()
 }
 
+// Whether this is seen, if it is to be seen after as many calls.
+fn is_seen(player: &mut Player, look: &Look) -> bool {
+    let (event, free, held) = *look;
+    event != player.events() || (player.free_pages() == free && are_held(player, held))
+}
+
 /// Whether all is seen that is to be seen after so many calls.
 pub fn looks_so(player: &mut Player, looks: &[Look]) -> bool {
-    for (event, free, held) in looks {
-        if *event == player.core.events()
-            && (player.core.free_pages() != *free || !are_held(player, held))
-        {
+    for look in looks {
+        if !is_seen(player, look) {
             return false;
         }
     }
@@ -53,12 +57,16 @@ fn failure_of(player: &Player, script: &Script, number: u64) -> Option<(Cause, N
     None
 }
 
-// Whether each node is live, and failed, as the script says.
+// Whether the node is live, and failed, as the script says.
+fn is_node(player: &Player, script: &Script, number: u64, key: NodeKey) -> bool {
+    player.is_live(key) == script.live.contains(&number)
+        && player.cause(key) == failure_of(player, script, number)
+}
+
+// Whether each node is so.
 fn are_nodes(player: &Player, script: &Script) -> bool {
     for (number, key) in player.nodes() {
-        if player.core.is_live(*key) != script.live.contains(number)
-            || player.core.cause(*key) != failure_of(player, script, *number)
-        {
+        if !is_node(player, script, *number, *key) {
             return false;
         }
     }
@@ -78,7 +86,7 @@ fn have_fired(fired: &[Fired], wanted: &[(u64, u64)]) -> bool {
 pub fn ends_so(player: &mut Player, script: &Script) -> bool {
     are_live(player, script.live)
         && are_nodes(player, script)
-        && have_fired(player.core.fired(), script.fired)
+        && have_fired(player.fired(), script.fired)
 }
 
 /// Whether two players see the same, but for the number of events.
@@ -91,11 +99,11 @@ pub fn see_the_same(player: &mut Player, other: &mut Player) -> bool {
     };
     live == other_live
         && held == other_held
-        && player.core.fired() == other.core.fired()
-        && player.core.free_pages() == other.core.free_pages()
+        && player.fired() == other.fired()
+        && player.free_pages() == other.free_pages()
 }
 
 /// Whether nothing is live and nothing held.
 pub fn is_over(player: &mut Player) -> bool {
-    are_live(player, &[]) && are_held(player, &[]) && player.core.free_pages() == 16
+    are_live(player, &[]) && are_held(player, &[]) && player.free_pages() == 16
 }

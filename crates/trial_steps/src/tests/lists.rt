@@ -1,7 +1,7 @@
 //! Scripts of actors, read.
-use actor_scripts::{ActorList, ActorScriptFault, BufferVerb, Step, Verb, read_actors};
-use script_lines::{LabelHash, MOST_BYTES};
-use sm_names::{Constraints, Strength};
+use actor_scripts::{ActorList, ActorScriptFault, Step, StepBuffer, read_actors};
+use script_lines::{LabelHash, MOST_BYTES, Request};
+use sm_names::{Argument, CallKind, Constraints, Object, Strength};
 use std::alloc::Global;
 use std::io;
 use std::io::Read;
@@ -78,6 +78,43 @@ fn check(
     Ok(())
 }
 
+// A call as a step.
+fn ask(
+    kind: CallKind,
+    object: Object<u32, StepBuffer>,
+    argument: Argument<u32>,
+    binds: Option<u32>,
+) -> Step {
+    Step::Ask {
+        request: Request {
+            kind,
+            object,
+            argument,
+            binds,
+        },
+    }
+}
+
+// One on nothing, for what is to have this label.
+fn new(kind: CallKind, label: u32) -> Step {
+    ask(kind, Object::Nothing, Argument::Nothing, Some(label))
+}
+
+// One on a node.
+fn on(kind: CallKind, node: u32, argument: Argument<u32>, binds: Option<u32>) -> Step {
+    ask(kind, Object::Node(node), argument, binds)
+}
+
+// One on a buffer.
+fn of(kind: CallKind, node: u32, index: u8, argument: Argument<u32>, binds: Option<u32>) -> Step {
+    ask(
+        kind,
+        Object::Buffer(StepBuffer { node, index }),
+        argument,
+        binds,
+    )
+}
+
 // Asserts that the line of this number is the first bad one.
 fn check_bad(rt: &impl Abort, alloc: Global, script: &str, number: u64) -> Result<(), Fail> {
     let fault = read(alloc, script, 4096, 0)?.err();
@@ -93,19 +130,15 @@ fn two_actors_have_their_steps(rt: HostRuntime) -> Result<(), Fail> {
     for step in [1, 7, 4096] {
         let of = |node: u32| {
             [
-                Step::Open { root: node },
-                Step::Ask {
-                    verb: Verb::Bind,
+                new(CallKind::OpenRoot, node),
+                on(CallKind::Bind, node, Argument::Nothing, None),
+                on(
+                    CallKind::SetConstraints,
                     node,
-                },
-                Step::Ask {
-                    verb: Verb::Constrain { constraints },
-                    node,
-                },
-                Step::Ask {
-                    verb: Verb::Take,
-                    node,
-                },
+                    Argument::Constraints(constraints),
+                    None,
+                ),
+                on(CallKind::Take, node, Argument::Nothing, None),
             ]
         };
         check(&rt, rt.alloc(), TWO, step, &["a", "b"], &[&of(0), &of(1)])?;
@@ -118,37 +151,19 @@ fn labels_are_numbered_by_actor(rt: HostRuntime) -> Result<(), Fail> {
     let script = "b join; a join; b open r; a open r; # a remark; ; b open s; b dup r k; \
 b tracknode r k; b poll k; a close r; b tracklife s 3 n; b give s a; a collect t; b shut; ";
     let of_b = [
-        Step::Open { root: 0 },
-        Step::Open { root: 2 },
-        Step::Ask {
-            verb: Verb::Duplicate { child: 3 },
-            node: 0,
-        },
-        Step::Ask {
-            verb: Verb::TrackNode { tracker: 3 },
-            node: 0,
-        },
+        new(CallKind::OpenRoot, 0),
+        new(CallKind::OpenRoot, 2),
+        on(CallKind::Duplicate, 0, Argument::Nothing, Some(3)),
+        on(CallKind::TrackNode, 0, Argument::Nothing, Some(3)),
         Step::Poll { tracker: 3 },
-        Step::Ask {
-            verb: Verb::TrackLifetime {
-                most: 3,
-                tracker: 4,
-            },
-            node: 2,
-        },
-        Step::Ask {
-            verb: Verb::Give { to: 1 },
-            node: 2,
-        },
-        Step::Shut,
+        on(CallKind::TrackLifetime, 2, Argument::Most(3), Some(4)),
+        on(CallKind::Give, 2, Argument::Client(1), None),
+        ask(CallKind::Shut, Object::Nothing, Argument::Nothing, None),
     ];
     let of_a = [
-        Step::Open { root: 1 },
-        Step::Ask {
-            verb: Verb::Close,
-            node: 1,
-        },
-        Step::Collect { node: 5 },
+        new(CallKind::OpenRoot, 1),
+        on(CallKind::Close, 1, Argument::Nothing, None),
+        new(CallKind::Collect, 5),
     ];
     check(&rt, rt.alloc(), script, 4096, &["b", "a"], &[&of_b, &of_a])
 }
@@ -158,33 +173,28 @@ fn buffers_are_named_by_a_node(rt: HostRuntime) -> Result<(), Fail> {
     let script =
         "a join; a duph r.63 strong; a droph q.0 weak; a giveh q.1 weak a; a trackweak r.2 e; ";
     let steps = [
-        Step::AskBuffer {
-            verb: BufferVerb::Duplicate {
-                strength: Strength::Strong,
-            },
-            node: 0,
-            index: 63,
-        },
-        Step::AskBuffer {
-            verb: BufferVerb::Drop {
-                strength: Strength::Weak,
-            },
-            node: 1,
-            index: 0,
-        },
-        Step::AskBuffer {
-            verb: BufferVerb::Give {
-                strength: Strength::Weak,
-                to: 0,
-            },
-            node: 1,
-            index: 1,
-        },
-        Step::AskBuffer {
-            verb: BufferVerb::Track { tracker: 2 },
-            node: 0,
-            index: 2,
-        },
+        of(
+            CallKind::DupHandle,
+            0,
+            63,
+            Argument::Strength(Strength::Strong),
+            None,
+        ),
+        of(
+            CallKind::DropHandle,
+            1,
+            0,
+            Argument::Strength(Strength::Weak),
+            None,
+        ),
+        of(
+            CallKind::GiveHandle,
+            1,
+            1,
+            Argument::Gift(Strength::Weak, 0),
+            None,
+        ),
+        of(CallKind::TrackWeak, 0, 2, Argument::Nothing, Some(2)),
     ];
     check(&rt, rt.alloc(), script, 4096, &["a"], &[&steps])
 }

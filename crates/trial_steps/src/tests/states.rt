@@ -1,6 +1,7 @@
 //! What an actor knows of what it was told.
-use actor_scripts::{ActorState, BufferVerb, Step, Verb};
-use sm_names::{Call, NodeKey, Reply, Strength};
+use actor_scripts::{ActorState, Step, StepBuffer};
+use script_lines::Request;
+use sm_names::{Argument, Call, CallKind, NodeKey, Object, Reply, Strength};
 
 fn key() -> NodeKey {
     NodeKey {
@@ -9,23 +10,58 @@ fn key() -> NodeKey {
     }
 }
 
-fn open() -> Step {
-    Step::Open { root: 7 }
+// A call as a step.
+fn step(
+    kind: CallKind,
+    object: Object<u32, StepBuffer>,
+    argument: Argument<u32>,
+    binds: Option<u32>,
+) -> Step {
+    Step::Ask {
+        request: Request {
+            kind,
+            object,
+            argument,
+            binds,
+        },
+    }
 }
 
-fn ask(verb: Verb) -> Step {
-    Step::Ask { verb, node: 7 }
+fn open() -> Step {
+    step(
+        CallKind::OpenRoot,
+        Object::Nothing,
+        Argument::Nothing,
+        Some(7),
+    )
+}
+
+fn ask(kind: CallKind) -> Step {
+    step(kind, Object::Node(7), Argument::Nothing, None)
+}
+
+fn give(to: u32) -> Step {
+    step(CallKind::Give, Object::Node(7), Argument::Client(to), None)
+}
+
+fn track(label: u32) -> Step {
+    step(
+        CallKind::TrackNode,
+        Object::Node(7),
+        Argument::Nothing,
+        Some(label),
+    )
 }
 
 // The handle on buffer 2 is dropped.
 fn drop_third() -> Step {
-    Step::AskBuffer {
-        verb: BufferVerb::Drop {
-            strength: Strength::Strong,
-        },
-        node: 7,
-        index: 2,
-    }
+    let third = StepBuffer { node: 7, index: 2 };
+    step(
+        CallKind::DropHandle,
+        Object::Buffer(third),
+        Argument::Strength(Strength::Strong),
+        None,
+    )
 }
 
 fn token() -> Reply {
@@ -77,16 +113,16 @@ fn an_actor_knows_what_it_was_told(rt: HostRuntime) {
     let mut state = ActorState::new(rt.alloc());
     assert!(rt; told(&mut state, open(), token()).is_some());
     assert!(rt; skips(&mut state, open()));
-    assert!(rt; told(&mut state, ask(Verb::Bind), Reply::Done) == Some(Some(0)));
-    assert!(rt; skips(&mut state, ask(Verb::Bind)));
-    assert!(rt; told(&mut state, ask(Verb::Check), Reply::Pending) == Some(Some(1)));
-    assert!(rt; told(&mut state, ask(Verb::Take), taken()) == Some(Some(1)));
-    assert!(rt; skips(&mut state, ask(Verb::Give { to: 2 })));
-    assert!(rt; told(&mut state, ask(Verb::Give { to: 1 }), Reply::Done) == Some(Some(1)));
-    assert!(rt; skips(&mut state, ask(Verb::Close)));
+    assert!(rt; told(&mut state, ask(CallKind::Bind), Reply::Done) == Some(Some(0)));
+    assert!(rt; skips(&mut state, ask(CallKind::Bind)));
+    assert!(rt; told(&mut state, ask(CallKind::Check), Reply::Pending) == Some(Some(1)));
+    assert!(rt; told(&mut state, ask(CallKind::Take), taken()) == Some(Some(1)));
+    assert!(rt; skips(&mut state, give(2)));
+    assert!(rt; told(&mut state, give(1), Reply::Done) == Some(Some(1)));
+    assert!(rt; skips(&mut state, ask(CallKind::Close)));
     assert!(rt; skips(&mut state, Step::Poll { tracker: 1 }));
     assert!(rt; told(&mut state, drop_third(), Reply::Done) == Some(Some(3)));
     assert!(rt; skips(&mut state, drop_third()));
-    assert!(rt; skips(&mut state, ask(Verb::TrackNode { tracker: 1 })));
+    assert!(rt; skips(&mut state, track(1)));
     assert!(rt; state.tracker(1).is_none());
 }

@@ -42,7 +42,7 @@ pub returns-then-is_finished : goal.returns-then-is_finished
 returns-then-is_finished c =
     outcome (total c.args.holds.now) c.args.store.now.nodes.table c.args.store.now.nodes.units.items c.args.store.now.entries.items c.args.at
     c.requires.ready c.args.pool.now c.args.pool.now c.args.store.now.nodes.table c.args.store.now.entries.items
-    c.args.store.now.nodes.units.items (c.is_finished.ensures c.if-is_finished.true) refl
+    c.args.store.now.nodes.units.items (c.is_finished.ensures.finished c.if-is_finished.true) refl
 
 pub returns : goal.returns
 returns c =

@@ -174,7 +174,7 @@ is_finished-requires-clause-pool c =
 
 pub returns-then-is_finished-clause-ok : goal.returns-then-is_finished-clause-ok
 returns-then-is_finished-clause-ok c =
-    born (goal.at.returns-then-is_finished-clause-ok c).After-deref c.in-Some.at (sym (rw c.deref.ensures.value at c.place_of.ensures) ∙ c.in-Some.is) c.args.pool.now c.insert_counted.new.store (c.is_finished.ensures c.if-is_finished.true) refl
+    born (goal.at.returns-then-is_finished-clause-ok c).After-deref c.in-Some.at (sym (rw c.deref.ensures.value at c.place_of.ensures) ∙ c.in-Some.is) c.args.pool.now c.insert_counted.new.store (c.is_finished.ensures.finished c.if-is_finished.true) refl
 
 pub finish_event-requires-clause-may : goal.finish_event-requires-clause-may
 finish_event-requires-clause-may c =

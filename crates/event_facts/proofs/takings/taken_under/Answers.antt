@@ -1,9 +1,12 @@
-use Rattle.std.proofs.Common.{arith}
-use Rattle.std.proofs.lemmas.Grind.{common_steps}
-use Rattle.std.proofs.lemmas.List.{map-append}
-use Rattle.std.proofs.lemmas.List.Elements.{filter-append}
+use Rattle.std.proofs.Common.{◌∙◌, ◌&&◌, ap, not, List}
+use Rattle.std.specs.List.{filter}
+use Rattle.forest_store.specs.declared.node.Node.{Node}
+use Rattle.event_facts.specs.Facts.{is_lost_with}
 use Rattle.event_facts.proofs.takings.taken_under.Goals as goal
 
--- one more comes last, or is left out
-pub loop-node-preserved : goal.loop-node-preserved
-loop-node-preserved c = grind (arith, common_steps, map-append, filter-append)
+-- those that are taken are those under the top one
+pub returns : goal.returns
+returns c =
+    c.in_ok-taken.ensures
+    ∙ ((λ i. filter (λ n. not n.gone && c.in_ok-under.ensures n.key i) c.args.nodes.now.items)
+    ∙ ap (λ (nodes : List Node). filter (is_lost_with nodes c.args.top) c.args.nodes.now.items) c.deref.ensures.value)

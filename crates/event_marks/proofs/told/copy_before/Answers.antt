@@ -2,7 +2,7 @@ use Rattle.std.proofs.Common.{◌≡◌, ◌∙◌, refl, ap, sym, subst, Option
 use Rattle.std.specs.List.{list_any}
 use Rattle.forest_store.specs.Forest.{Collection}
 use Rattle.forest_store.specs.Nodes.{is_of}
-use Rattle.lifetime_core.specs.Steps.{Work, leaves_tracker_room, work_of}
+use Rattle.core_state.specs.Steps.{Work, leaves_tracker_room, work_of}
 use Rattle.event_marks.specs.declared.told.Before.{Before}
 use Rattle.event_marks.specs.Moments.{IsBefore}
 use Rattle.event_marks.proofs.Copied.{copied, none_paired, some_paired}

@@ -1,7 +1,7 @@
 use Rattle.std.proofs.Common.{◌≡◌, ◌∙◌, ◌∷◌, [], ap, sym, subst, map, List, Option, Some, None}
 use Rattle.sm_names.specs.Marks.{Called, Mark}
 use Rattle.sm_names.specs.Timelines.{timeline}
-use Rattle.lifetime_core.specs.Steps.{work_of}
+use Rattle.core_state.specs.Steps.{work_of}
 use Rattle.event_marks.specs.declared.told.Before.{Before}
 use Rattle.event_marks.specs.declared.told.Moment.{Moment}
 use Rattle.event_marks.specs.Marks.{AreStages, laid_on}

@@ -5,12 +5,6 @@ use Rattle.forest_steps.specs.NodeEffects.{AreCounts}
 use Rattle.forest_steps.proofs.tables.Rows.{row_node}
 use Rattle.forest_steps.proofs.node_effect.work_out.Goals as goal
 
-pub returns-then-keeps_counts-clause-worked : goal.returns-then-keeps_counts-clause-worked
-returns-then-keeps_counts-clause-worked c = record {
-  plain = c.keeps_counts.ensures.plain c.if-keeps_counts.true;
-  strong = c.keeps_counts.ensures.strong c.if-keeps_counts.true;
-}
-
 pub unreachable-requires : goal.unreachable-requires
 unreachable-requires c =
     let n = row_node c.args.nodes.now.table c.args.key c.requires in

@@ -1,5 +1,5 @@
 -- The nodes that are over are taken out, with their keys; where none is, nothing changes.
-use Rattle.forest_store.proofs.Common.{◌≡◌, ℕ, ◌<◌, ◌==◌, true, false, List, length, get_or, Some, None, option_map, sym, ◌∙◌, ap, subst, arith, find, list_any, NodeKey, same_key, Table, Entry, Node, over_except, IsStored, Shelf, nodes_with, place_in, shelf_of, shelves_of, is_over}
+use Rattle.forest_store.proofs.Common.{◌≡◌, ℕ, ◌<◌, ◌==◌, true, false, List, length, get_or, Some, None, option_map, refl, sym, ◌∙◌, ap, subst, arith, find, list_any, NodeKey, same_key, Table, Entry, Node, over_except, IsStored, Shelf, nodes_with, place_in, shelf_of, shelves_of, is_over}
 use Rattle.std.proofs.lemmas.List.{get_or_default}
 use Rattle.forest_store.specs.Calm.{AreCounted}
 use Rattle.forest_store.specs.Garbage.{IsForgettable, IsThinned, is_bare, left_at, thinned}
@@ -23,12 +23,15 @@ pub returns-in_default-clause-shelves : goal.returns-in_default-clause-shelves
 returns-in_default-clause-shelves c =
     sym (thin_filed c.args.table.now c.args.id (shelves_of c.args.entries.now.items) c.requires.kept.filed)
 
-pub returns-in_default-clause-look : goal.returns-in_default-clause-look
-returns-in_default-clause-look c s found k =
-    let told : place_in c.args.id c.args.entries.now.items ≡ None =
-    sym (rw c.deref.ensures.value at c.place_of.ensures) ∙ c.in_default.is in
-    let no : None ≡ Some s = sym (no_shelf c.args.id c.args.entries.now.items told) ∙ found in
-    absurd (cc)
+pub returns-in_default-clause-left : goal.returns-in_default-clause-left
+returns-in_default-clause-left c = record {
+  look = λ s found k.
+      let told : place_in c.args.id c.args.entries.now.items ≡ None =
+      sym (rw c.deref.ensures.value at c.place_of.ensures) ∙ c.in_default.is in
+      let no : None ≡ Some s = sym (no_shelf c.args.id c.args.entries.now.items told) ∙ found in
+      absurd (cc);
+  none = λ is. refl;
+}
 
 pub returns-in_default-clause-full : goal.returns-in_default-clause-full
 returns-in_default-clause-full c is =
@@ -93,23 +96,26 @@ pub returns-then-is_garbage_known-clause-shelves : goal.returns-then-is_garbage_
 returns-then-is_garbage_known-clause-shelves c =
     sym (thin_filed c.args.table.now c.args.id (shelves_of c.args.entries.now.items) c.requires.kept.filed)
 
-pub returns-then-is_garbage_known-clause-look : goal.returns-then-is_garbage_known-clause-look
-returns-then-is_garbage_known-clause-look c s known k =
-    let t = c.args.table.now in
-    let es = c.args.entries.now.items in
-    let old : Entry = c.index.result.now in
-    let told : place_in c.args.id es ≡ Some c.in-Some.at = sym (rw c.deref.ensures.value at c.place_of.ensures) ∙ c.in-Some.is in
-    let is : (d : Entry) → c.in-Some.at < length es → old ≡ get_or es c.in-Some.at d =
-    λ d within. c.index.ensures ∙ get_or_default es c.in-Some.at old d within in
-    let there : Some (shelf_of old) ≡ Some s =
-    sym (shelf t es c.requires.kept c.requires.counted c.args.id c.in-Some.at told old is) ∙ known in
-    let one : shelf_of old ≡ s = cc in
-    let tidied = c.is_garbage_known.ensures c.if-is_garbage_known.true in
-    let none : list_any is_over (nodes_with t old.keys.items) ≡ false =
-    none_noted (nodes_with t old.keys.items)
-    (ap (λ (ks : List NodeKey). list_any (over_except ks) (nodes_with t old.keys.items)) (sym tidied.1)
-    ∙ garbage_known t es c.requires.kept c.requires.counted c.args.id c.in-Some.at told old is tidied.0) in
-    tidy_left t s.keys (ap (λ (x : Shelf). list_any is_over (nodes_with t x.keys)) (sym one) ∙ none) k
+pub returns-then-is_garbage_known-clause-left : goal.returns-then-is_garbage_known-clause-left
+returns-then-is_garbage_known-clause-left c = record {
+  look = λ s known k.
+      let t = c.args.table.now in
+      let es = c.args.entries.now.items in
+      let old : Entry = c.index.result.now in
+      let told : place_in c.args.id es ≡ Some c.in-Some.at = sym (rw c.deref.ensures.value at c.place_of.ensures) ∙ c.in-Some.is in
+      let is : (d : Entry) → c.in-Some.at < length es → old ≡ get_or es c.in-Some.at d =
+      λ d within. c.index.ensures ∙ get_or_default es c.in-Some.at old d within in
+      let there : Some (shelf_of old) ≡ Some s =
+      sym (shelf t es c.requires.kept c.requires.counted c.args.id c.in-Some.at told old is) ∙ known in
+      let one : shelf_of old ≡ s = cc in
+      let tidied = c.is_garbage_known.ensures c.if-is_garbage_known.true in
+      let none : list_any is_over (nodes_with t old.keys.items) ≡ false =
+      none_noted (nodes_with t old.keys.items)
+      (ap (λ (ks : List NodeKey). list_any (over_except ks) (nodes_with t old.keys.items)) (sym tidied.1)
+      ∙ garbage_known t es c.requires.kept c.requires.counted c.args.id c.in-Some.at told old is tidied.0) in
+      tidy_left t s.keys (ap (λ (x : Shelf). list_any is_over (nodes_with t x.keys)) (sym one) ∙ none) k;
+  none = λ is. refl;
+}
 
 pub index-requires-then-is_garbage_known : goal.index-requires-then-is_garbage_known
 index-requires-then-is_garbage_known c =
@@ -177,18 +183,18 @@ returns-clause-shelves c =
     set_thin (now c) c.args.id (es c) c.in-Some.at (new c) c.requires.kept.rising (told c)
     (thin_shelf c ∙ ap (λ (e : Entry). thinned (now c) (shelf_of e)) (is c (new c) within))
 
-pub returns-clause-look : goal.returns-clause-look
-returns-clause-look c s known k =
-    let there : Some (shelf_of (old c)) ≡ Some s =
-    sym (shelf (t c) (es c) c.requires.kept c.requires.counted c.args.id c.in-Some.at (told c) (old c) (is c)) ∙ known in
-    let one : shelf_of (old c) ≡ s = cc in
-    c.forget_of.ensures.look k ∙ ap (λ (x : Shelf). left_at (t c) x.keys k) one
-
-pub returns-clause-none : goal.returns-clause-none
-returns-clause-none c none =
-    let no : None ≡ Some (shelf_of (old c)) =
-    sym none ∙ shelf (t c) (es c) c.requires.kept c.requires.counted c.args.id c.in-Some.at (told c) (old c) (is c) in
-    absurd (cc)
+pub returns-clause-left : goal.returns-clause-left
+returns-clause-left c = record {
+  look = λ s known k.
+      let there : Some (shelf_of (old c)) ≡ Some s =
+      sym (shelf (t c) (es c) c.requires.kept c.requires.counted c.args.id c.in-Some.at (told c) (old c) (is c)) ∙ known in
+      let one : shelf_of (old c) ≡ s = cc in
+      c.forget_of.ensures.look k ∙ ap (λ (x : Shelf). left_at (t c) x.keys k) one;
+  none = λ none.
+      let no : None ≡ Some (shelf_of (old c)) =
+      sym none ∙ shelf (t c) (es c) c.requires.kept c.requires.counted c.args.id c.in-Some.at (told c) (old c) (is c) in
+      absurd (cc);
+}
 
 pub returns-clause-counted : goal.returns-clause-counted
 returns-clause-counted c =

@@ -8,21 +8,21 @@ pub drop_bare-requires : goal.drop_bare-requires
 drop_bare-requires c =
     subst AreRising (sym c.forget_nodes.ensures.shelves)
     (forgotten_rising c.args.table.now c.forget_nodes.new.table c.args.id (shelves_of c.args.entries.now.items) c.requires.kept
-    c.forget_nodes.ensures.look c.forget_nodes.ensures.none c.forget_nodes.ensures.kept)
+    c.forget_nodes.ensures.left.look c.forget_nodes.ensures.left.none c.forget_nodes.ensures.kept)
 
 pub returns-then-forget_nodes-clause-collections : goal.returns-then-forget_nodes-clause-collections
 returns-then-forget_nodes-clause-collections c =
     ap (map (collection_in c.forget_nodes.new.table)) (c.drop_bare.ensures.shelves
     ∙ ap (without_bare c.args.id) c.forget_nodes.ensures.shelves)
     ∙ forgotten_collections c.args.table.now c.forget_nodes.new.table c.args.id (shelves_of c.args.entries.now.items) c.requires.kept
-    c.forget_nodes.ensures.look c.forget_nodes.ensures.none
+    c.forget_nodes.ensures.left.look c.forget_nodes.ensures.left.none
 
 pub returns-then-forget_nodes-clause-kept : goal.returns-then-forget_nodes-clause-kept
 returns-then-forget_nodes-clause-kept c =
     subst (IsStored c.forget_nodes.new.table) (sym (c.drop_bare.ensures.shelves ∙ ap
     (without_bare c.args.id) c.forget_nodes.ensures.shelves))
     (forgotten_kept c.args.table.now c.forget_nodes.new.table c.args.id (shelves_of c.args.entries.now.items) c.requires.kept
-    c.forget_nodes.ensures.look c.forget_nodes.ensures.none c.forget_nodes.ensures.kept)
+    c.forget_nodes.ensures.left.look c.forget_nodes.ensures.left.none c.forget_nodes.ensures.kept)
 
 pub returns-then-forget_nodes-clause-counted : goal.returns-then-forget_nodes-clause-counted
 returns-then-forget_nodes-clause-counted c = c.drop_bare.ensures.counted c.forget_nodes.new.table c.forget_nodes.ensures.counted
@@ -34,11 +34,11 @@ returns-else-forget_nodes-clause-collections c =
     ap (map (collection_in c.forget_nodes.new.table)) (sym (c.forget_nodes.ensures.full c.if-forget_nodes.false)
     ∙ ap (without_bare c.args.id) c.forget_nodes.ensures.shelves)
     ∙ forgotten_collections c.args.table.now c.forget_nodes.new.table c.args.id (shelves_of c.args.entries.now.items) c.requires.kept
-    c.forget_nodes.ensures.look c.forget_nodes.ensures.none
+    c.forget_nodes.ensures.left.look c.forget_nodes.ensures.left.none
 
 pub returns-else-forget_nodes-clause-kept : goal.returns-else-forget_nodes-clause-kept
 returns-else-forget_nodes-clause-kept c =
     subst (IsStored c.forget_nodes.new.table) (sym (sym (c.forget_nodes.ensures.full c.if-forget_nodes.false)
     ∙ ap (without_bare c.args.id) c.forget_nodes.ensures.shelves))
     (forgotten_kept c.args.table.now c.forget_nodes.new.table c.args.id (shelves_of c.args.entries.now.items) c.requires.kept
-    c.forget_nodes.ensures.look c.forget_nodes.ensures.none c.forget_nodes.ensures.kept)
+    c.forget_nodes.ensures.left.look c.forget_nodes.ensures.left.none c.forget_nodes.ensures.kept)

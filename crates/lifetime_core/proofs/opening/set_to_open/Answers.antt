@@ -1,7 +1,7 @@
 use Rattle.std.proofs.Common.{◌≡◌, ap, sym, arith}
 use Rattle.sm_names.specs.Answers.{set_of}
-use Rattle.lifetime_core.specs.Reads.{to_open_in}
-use Rattle.lifetime_core.proofs.handles.ToOpen.{all_to_open, bit_fits, kept_from, next_bit, none_kept}
+use Rattle.core_state.specs.Reads.{to_open_in}
+use Rattle.core_state.proofs.handles.ToOpen.{all_to_open, bit_fits, kept_from, next_bit, none_kept}
 use Rattle.lifetime_core.proofs.opening.set_to_open.Goals.{then-not-is_doomed, else-not-is_doomed}
 use Rattle.lifetime_core.proofs.opening.set_to_open.Goals as goal
 

@@ -3,8 +3,8 @@ use Rattle.buffer_holds.specs.Counts.{total}
 use Rattle.sm_names.specs.Trackers.{World}
 use Rattle.trackers.specs.declared.waiting.Waiting.{Waiting}
 use Rattle.trackers.specs.Table.{is_due}
-use Rattle.lifetime_core.specs.Reads.{world_in}
-use Rattle.lifetime_core.proofs.firing.Sweeps.{none_swept}
+use Rattle.core_state.specs.Reads.{world_in}
+use Rattle.core_state.proofs.firing.Sweeps.{none_swept}
 use Rattle.lifetime_core.proofs.sweeping.sweep.Goals as goal
 use Rattle.event_laws.proofs.NumberLaws.{In-all}
 

@@ -1,14 +1,14 @@
 use Rattle.std.proofs.Common.{◌≡◌, refl, ap, subst, Option, Some, None, is_some}
 use Rattle.std.specs.Option.{option_or}
 use Rattle.forest_store.specs.Forest.{Forest, SameKeys, without_over_in}
-use Rattle.lifetime_core.specs.declared.task.Place.{Place}
-use Rattle.lifetime_core.specs.declared.task.Task.{Task}
-use Rattle.lifetime_core.specs.Steps.{with_place}
-use Rattle.lifetime_core.specs.Tasks.{end_placed, spent_place}
-use Rattle.lifetime_core.specs.Whole.{CanFinish, IsAmid, IsSound}
-use Rattle.lifetime_core.proofs.ends.Transfers.{carries}
-use Rattle.lifetime_core.proofs.ends.Spending.{are_left, id_from, same_held, same_worked, sound_left}
-use Rattle.lifetime_core.proofs.forced.Change.{ends_are_there}
+use Rattle.core_state.specs.declared.task.Place.{Place}
+use Rattle.core_state.specs.declared.task.Task.{Task}
+use Rattle.core_state.specs.Steps.{with_place}
+use Rattle.core_state.specs.Tasks.{end_placed, spent_place}
+use Rattle.core_state.specs.Whole.{CanFinish, IsAmid, IsSound}
+use Rattle.core_state.proofs.ends.Transfers.{carries}
+use Rattle.core_state.proofs.ends.Spending.{are_left, id_from, same_held, same_worked, sound_left}
+use Rattle.core_state.proofs.forced.Change.{ends_are_there}
 use Rattle.lifetime_core.proofs.task.put_end.Goals as goal
 
 -- there is no task

@@ -1,7 +1,7 @@
 use Rattle.std.proofs.Common.{◌++◌, refl, ap, ◌∙◌}
 use Rattle.std.proofs.lemmas.Result.{on_ok_weaker}
-use Rattle.script_draw.specs.DotPictures.{dot_text}
-use Rattle.script_draw.specs.TextPictures.{picture_text}
+use Rattle.picture_dot.specs.DotPictures.{dot_text}
+use Rattle.picture_text.specs.TextPictures.{picture_text}
 use Rattle.script_draw.proofs.draw.push_format.Goals as goal
 
 pub returns-in-Text : goal.returns-in-Text

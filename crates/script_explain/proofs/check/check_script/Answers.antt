@@ -2,7 +2,7 @@ use Rattle.std.proofs.Common.{refl}
 use Rattle.std.proofs.lemmas.Result.{IfErr-weaker, IfOk-weaker}
 use Rattle.script_faults.specs.declared.fault.ReportFault.{ReportFault}
 use Rattle.sm_script.specs.Scenes.{Setting}
-use Rattle.script_explain.specs.Comparisons.{IsJudged, Stopped}
+use Rattle.script_explain.specs.Comparisons.{IsJudged, ComparisonStopped}
 use Rattle.script_explain.proofs.Comparing.{checks-refused, checks-told, checks-unread}
 use Rattle.script_explain.proofs.check.check_script.Goals as goal
 
@@ -18,7 +18,7 @@ returns-in-Ok-new g c =
     checks-told _ _ _ _ new script c.in-Ok.ensures.ok c.in-Ok.ensures.end c.in-Ok.ensures.within c.check_all.result
     (IfOk-weaker c.check_all.result _ (IsJudged setting old new script)
     (λ verdict judged. rw c.deref.ensures.value at (judged setting c.in-Ok-new.ensures.start)) c.check_all.ensures.ok)
-    (IfErr-weaker c.check_all.result _ (Stopped setting old new script)
+    (IfErr-weaker c.check_all.result _ (ComparisonStopped setting old new script)
     (λ fault stopped. rw c.deref.ensures.value at (stopped setting c.in-Ok-new.ensures.start)) c.check_all.ensures.err)
 
 pub returns : goal.returns

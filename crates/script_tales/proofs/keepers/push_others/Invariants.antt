@@ -1,6 +1,6 @@
 use Rattle.std.proofs.Common.{◌≡◌, ◌++◌, take}
 use Rattle.std.specs.List.{flat_map}
-use Rattle.sm_script.specs.Names.{Names}
+use Rattle.script_labels.specs.Names.{Names}
 use Rattle.script_tales.specs.Called.{Calls}
 use Rattle.script_tales.specs.FactTexts.{next_holder}
 use Rattle.script_tales.proofs.keepers.push_others.Given as goal

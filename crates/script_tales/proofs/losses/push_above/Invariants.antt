@@ -1,7 +1,7 @@
 use Rattle.std.proofs.Common.{◌≡◌, ◌++◌, take}
 use Rattle.std.specs.List.{flat_map}
-use Rattle.sm_script.specs.Names.{Names}
-use Rattle.sm_script.specs.Tables.{Keeps}
+use Rattle.script_labels.specs.Names.{Names}
+use Rattle.script_labels.specs.Tables.{Keeps}
 use Rattle.script_tales.specs.LossTexts.{next_above}
 use Rattle.script_tales.proofs.losses.push_above.Given as goal
 

@@ -3,8 +3,8 @@ use Rattle.std.specs.List.{flat_map}
 use Rattle.script_tales.specs.declared.words.TheConstants.{SET_BITS}
 use Rattle.sm_names.specs.declared.keys.BufferName.{BufferName}
 use Rattle.sm_names.specs.Handles.{names as names_of}
-use Rattle.sm_script.specs.Texts.{member_text}
-use Rattle.sm_script.proofs.Members.{members-more}
+use Rattle.script_labels.specs.Texts.{member_text}
+use Rattle.script_labels.proofs.Members.{members-more}
 use Rattle.script_tales.proofs.words.push_set.Goals as goal
 
 pub loop-index-preserved : goal.loop-index-preserved

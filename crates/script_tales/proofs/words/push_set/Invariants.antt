@@ -1,9 +1,9 @@
 use Rattle.std.proofs.Common.{◌≡◌, ◌++◌}
 use Rattle.std.specs.List.{flat_map}
 use Rattle.sm_names.specs.Handles.{names as names_of}
-use Rattle.sm_script.specs.Names.{Names}
-use Rattle.sm_script.specs.Tables.{Keeps}
-use Rattle.sm_script.specs.Texts.{member_text}
+use Rattle.script_labels.specs.Names.{Names}
+use Rattle.script_labels.specs.Tables.{Keeps}
+use Rattle.script_labels.specs.Texts.{member_text}
 use Rattle.script_tales.proofs.words.push_set.Given as goal
 
 -- the buffers below the index

@@ -1,8 +1,8 @@
 use Rattle.std.proofs.Common.{◌≡◌, ◌++◌, take}
 use Rattle.std.specs.List.{flat_map}
-use Rattle.sm_script.specs.Names.{Names}
-use Rattle.sm_script.specs.Tables.{Keeps}
-use Rattle.sm_script.specs.Texts.{held_text}
+use Rattle.script_labels.specs.Names.{Names}
+use Rattle.script_labels.specs.Tables.{Keeps}
+use Rattle.script_labels.specs.Texts.{held_text}
 use Rattle.sm_script.proofs.views.push_buffers.Given as goal
 
 abbrev pub invariant-loop-held : goal.invariant-loop-held

@@ -23,7 +23,7 @@ use Rattle.sysmem.proofs.CoreBox.{E, Kept, Loosened, a_place, some_of}
 use Rattle.sysmem.proofs.Unboxing.{shell, shell_typed, loose_in}
 use Rattle.sysmem.proofs.place.out_of.Code as code
 use Rattle.sysmem.proofs.place.out_of.Statement.{statement}
-use Rattle.lifetime_core.specs.State.{State}
+use Rattle.core_state.specs.State.{State}
 use Rattle.sysmem.specs.contracts.place.out_of.{ended, clauses}
 use Rattle.sysmem.specs.contracts.place.out_of.Key.{name}
 

@@ -5,9 +5,9 @@ use Rattle.sm_names.specs.declared.messages.Call.{Call}
 use Rattle.sm_names.specs.Timelines.{key_of}
 use Rattle.forest_store.specs.declared.node.Node.{Node}
 use Rattle.forest_store.specs.Forest.{node_at}
-use Rattle.lifetime_core.specs.Reads.{node_named}
-use Rattle.lifetime_core.specs.State.{State}
-use Rattle.lifetime_core.proofs.answers.Order.{end_of_named}
+use Rattle.core_state.specs.Reads.{node_named}
+use Rattle.core_state.specs.State.{State}
+use Rattle.core_state.proofs.answers.Order.{end_of_named}
 use Rattle.lifetime_core.proofs.machine.Core.asked_of.Goals as goal
 
 -- the end that is asked about is that of the node that the call names

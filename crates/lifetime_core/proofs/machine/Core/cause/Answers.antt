@@ -1,8 +1,8 @@
 use Rattle.std.proofs.Common.{ap, ◌∙◌}
 use Rattle.std.specs.Option.{option_map}
-use Rattle.lifetime_core.specs.Reads.{fault_in}
-use Rattle.lifetime_core.specs.State.{State}
-use Rattle.lifetime_core.proofs.views.Shown.{cause_shown, told_of}
+use Rattle.core_state.specs.Reads.{fault_in}
+use Rattle.core_state.specs.State.{State}
+use Rattle.core_state.proofs.views.Shown.{cause_shown, told_of}
 use Rattle.lifetime_core.proofs.machine.Core.cause.Goals as goal
 
 pub returns-clause-shown : goal.returns-clause-shown

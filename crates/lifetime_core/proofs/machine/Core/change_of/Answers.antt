@@ -6,9 +6,9 @@ use Rattle.forest_store.specs.declared.change.Change.{Change}
 use Rattle.forest_store.specs.Forest.{given}
 use Rattle.forest_store.specs.Nodes.{is_of}
 use Rattle.forest_store.specs.Settling.{MayChange, collection_or_new}
-use Rattle.lifetime_core.specs.Steps.{Work, leaves_tracker_room}
-use Rattle.lifetime_core.specs.Tasks.{work_in}
-use Rattle.lifetime_core.proofs.forced.Fits.{IsFitting, is_fitting, work_answered}
+use Rattle.core_state.specs.Steps.{Work, leaves_tracker_room}
+use Rattle.core_state.specs.Tasks.{work_in}
+use Rattle.core_state.proofs.forced.Fits.{is_fitting, work_answered}
 use Rattle.lifetime_core.proofs.machine.Core.change_of.Goals as goal
 
 -- what holds of the work holds of it as a pair

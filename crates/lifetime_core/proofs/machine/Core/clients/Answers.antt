@@ -1,6 +1,6 @@
 use Rattle.std.proofs.Common.{ap, map, ◌∙◌}
-use Rattle.lifetime_core.specs.State.{Client, State}
-use Rattle.lifetime_core.proofs.views.Shown.{clients_shown}
+use Rattle.core_state.specs.State.{Client, State}
+use Rattle.core_state.proofs.views.Shown.{clients_shown}
 use Rattle.lifetime_core.proofs.machine.Core.clients.Goals as goal
 
 pub returns-in-Ok-clause-shown : goal.returns-in-Ok-clause-shown

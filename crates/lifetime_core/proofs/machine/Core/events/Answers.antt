@@ -1,6 +1,6 @@
 use Rattle.std.proofs.Common.{ap, ◌∙◌}
-use Rattle.lifetime_core.specs.State.{State}
-use Rattle.lifetime_core.proofs.views.Shown.{events_shown}
+use Rattle.core_state.specs.State.{State}
+use Rattle.core_state.proofs.views.Shown.{events_shown}
 use Rattle.lifetime_core.proofs.machine.Core.events.Goals as goal
 
 pub returns-clause-shown : goal.returns-clause-shown

@@ -3,9 +3,9 @@ use Rattle.std.specs.List.{sum_by}
 use Rattle.sm_names.specs.declared.keys.Interval.{Interval}
 use Rattle.sm_names.specs.declared.keys.HeldBuffer.{HeldBuffer}
 use Rattle.forest_store.specs.Forest.{all_held}
-use Rattle.lifetime_core.specs.Reads.{views_of}
-use Rattle.lifetime_core.proofs.views.Shown.{free_shown}
-use Rattle.lifetime_core.proofs.collections.Pages.{sum-sorted, sum-map}
+use Rattle.core_state.specs.Reads.{views_of}
+use Rattle.core_state.proofs.views.Shown.{free_shown}
+use Rattle.core_state.proofs.collections.Pages.{sum-sorted, sum-map}
 use Rattle.lifetime_core.proofs.machine.Core.free_pages.Goals as goal
 
 -- the pool's pages are those of the buffers, in another order

@@ -1,5 +1,5 @@
 use Rattle.std.proofs.Common.{◌∙◌}
-use Rattle.lifetime_core.proofs.views.Shown.{given_shown}
+use Rattle.core_state.proofs.views.Shown.{given_shown}
 use Rattle.lifetime_core.proofs.machine.Core.given.Goals as goal
 
 pub returns-clause-shown : goal.returns-clause-shown

@@ -1,7 +1,7 @@
 use Rattle.std.proofs.Common.{ap, ◌∙◌}
 use Rattle.buffer_holds.specs.Counts.{moving_count}
-use Rattle.lifetime_core.specs.State.{State}
-use Rattle.lifetime_core.proofs.views.Shown.{moving_shown}
+use Rattle.core_state.specs.State.{State}
+use Rattle.core_state.proofs.views.Shown.{moving_shown}
 use Rattle.lifetime_core.proofs.machine.Core.handles_in_parcels.Goals as goal
 
 pub returns-clause-shown : goal.returns-clause-shown

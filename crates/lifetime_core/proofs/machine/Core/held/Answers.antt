@@ -1,10 +1,10 @@
 use Rattle.std.proofs.Common.{AllPairs, ap, sym, ◌∙◌, subst}
 use Rattle.std.proofs.lemmas.Result.{IfOk-weaker}
 use Rattle.forest_store.specs.Forest.{held_by_page}
-use Rattle.lifetime_core.specs.State.{State}
-use Rattle.lifetime_core.proofs.views.Shown.{held_shown}
-use Rattle.lifetime_core.proofs.views.HeldApart.{EndsBefore, held_in_order}
-use Rattle.lifetime_core.proofs.views.Held.{HavePages, have_pages}
+use Rattle.core_state.specs.State.{State}
+use Rattle.core_state.proofs.views.Shown.{held_shown}
+use Rattle.core_state.proofs.views.HeldApart.{EndsBefore, held_in_order}
+use Rattle.core_state.proofs.views.Held.{HavePages, have_pages}
 use Rattle.lifetime_core.proofs.machine.Core.held.Goals as goal
 
 pub returns-clause-shown : goal.returns-clause-shown

@@ -1,7 +1,7 @@
 use Rattle.std.proofs.Common.{ap, ◌∙◌}
-use Rattle.lifetime_core.specs.Reads.{is_live_in}
-use Rattle.lifetime_core.specs.State.{State}
-use Rattle.lifetime_core.proofs.views.Shown.{live_shown}
+use Rattle.core_state.specs.Reads.{is_live_in}
+use Rattle.core_state.specs.State.{State}
+use Rattle.core_state.proofs.views.Shown.{live_shown}
 use Rattle.lifetime_core.proofs.machine.Core.is_live.Goals as goal
 
 pub returns-clause-shown : goal.returns-clause-shown

@@ -1,8 +1,8 @@
 use Rattle.std.proofs.Common.{ap, map, ◌∙◌}
 use Rattle.std.proofs.lemmas.Result.{IfOk-weaker}
 use Rattle.forest_store.specs.Forest.{Collection}
-use Rattle.lifetime_core.specs.State.{State}
-use Rattle.lifetime_core.proofs.views.Shown.{kept_ids_shown}
+use Rattle.core_state.specs.State.{State}
+use Rattle.core_state.proofs.views.Shown.{kept_ids_shown}
 use Rattle.lifetime_core.proofs.machine.Core.kept_collections.Goals as goal
 
 pub returns-clause-shown : goal.returns-clause-shown

@@ -1,7 +1,7 @@
 use Rattle.std.proofs.Common.{ap, ◌∙◌}
 use Rattle.forest_store.specs.Forest.{node_at}
-use Rattle.lifetime_core.specs.State.{State}
-use Rattle.lifetime_core.proofs.views.Shown.{node_shown}
+use Rattle.core_state.specs.State.{State}
+use Rattle.core_state.proofs.views.Shown.{node_shown}
 use Rattle.lifetime_core.proofs.machine.Core.node.Goals as goal
 
 pub returns-clause-shown : goal.returns-clause-shown

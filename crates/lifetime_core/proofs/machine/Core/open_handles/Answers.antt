@@ -1,7 +1,7 @@
 use Rattle.std.proofs.Common.{ap, ◌∙◌}
 use Rattle.buffer_holds.specs.Counts.{of}
-use Rattle.lifetime_core.specs.State.{State}
-use Rattle.lifetime_core.proofs.views.Shown.{open_shown}
+use Rattle.core_state.specs.State.{State}
+use Rattle.core_state.proofs.views.Shown.{open_shown}
 use Rattle.lifetime_core.proofs.machine.Core.open_handles.Goals as goal
 
 pub returns-clause-shown : goal.returns-clause-shown

@@ -1,8 +1,8 @@
 use Rattle.std.proofs.Common.{ap, ◌∙◌}
 use Rattle.std.proofs.lemmas.Result.{IfOk-weaker}
 use Rattle.forest_store.specs.Forest.{beside}
-use Rattle.lifetime_core.specs.State.{State}
-use Rattle.lifetime_core.proofs.views.Shown.{beside_shown}
+use Rattle.core_state.specs.State.{State}
+use Rattle.core_state.proofs.views.Shown.{beside_shown}
 use Rattle.lifetime_core.proofs.machine.Core.pages_beside.Goals as goal
 
 pub returns-clause-shown : goal.returns-clause-shown

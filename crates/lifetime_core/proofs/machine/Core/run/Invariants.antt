@@ -1,6 +1,6 @@
 use Rattle.std.proofs.Common.{◌≡◌, length, vec_len}
 use Rattle.std.specs.Prelude.{vec_capacity}
-use Rattle.lifetime_core.specs.Theorem.{GoesOn, Leads, entries}
+use Rattle.core_state.specs.Theorem.{GoesOn, Leads, entries}
 use Rattle.lifetime_core.proofs.machine.Core.run.Given as goal
 
 abbrev pub invariant-loop-client : goal.invariant-loop-client

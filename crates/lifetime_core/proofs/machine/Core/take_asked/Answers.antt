@@ -1,16 +1,16 @@
 use Rattle.std.proofs.Common.{◌≡◌, ◌<◌, ◌+◌, ap, sym, ◌∙◌, None, arith, rules}
 use Rattle.sm_names.specs.Answers.{key_told}
-use Rattle.lifetime_core.specs.Reads.{readings_of}
-use Rattle.lifetime_core.specs.State.{State}
-use Rattle.lifetime_core.specs.Tasks.{Parts, with_key, end_placed}
-use Rattle.lifetime_core.proofs.theorem.EventParts.{Begins, after, alone, begins, can_carry, finishes, lands, one, step_answers, step_follows}
-use Rattle.lifetime_core.proofs.answers.Kinds.{reply-fits}
-use Rattle.lifetime_core.proofs.handles.Standing.{takes_none}
-use Rattle.lifetime_core.proofs.theorem.GoesOn.{goes_on}
-use Rattle.lifetime_core.proofs.theorem.Idle.{Idles, further, idle_follows, idle_whole, idles, parts_of}
-use Rattle.lifetime_core.proofs.theorem.Leads.{untaken_after}
-use Rattle.lifetime_core.proofs.forced.StillOut.{asks_only}
-use Rattle.lifetime_core.proofs.theorem.Fields.{above, fits, moves, none_elsewhere, whole_same, whole_then}
+use Rattle.core_state.specs.Reads.{readings_of}
+use Rattle.core_state.specs.State.{State}
+use Rattle.core_state.specs.Tasks.{Parts, with_key, end_placed}
+use Rattle.core_state.proofs.theorem.EventParts.{Begins, after, alone, begins, can_carry, finishes, lands, one, step_answers, step_follows}
+use Rattle.core_state.proofs.answers.Kinds.{reply-fits}
+use Rattle.core_state.proofs.handles.Standing.{takes_none}
+use Rattle.core_state.proofs.theorem.GoesOn.{goes_on}
+use Rattle.core_state.proofs.theorem.Idle.{Idles, further, idle_follows, idle_whole, idles, parts_of}
+use Rattle.core_state.proofs.theorem.Leads.{untaken_after}
+use Rattle.core_state.proofs.forced.StillOut.{asks_only}
+use Rattle.core_state.proofs.theorem.Fields.{above, fits, moves, none_elsewhere, whole_same, whole_then}
 use Rattle.lifetime_core.proofs.machine.Core.take_asked.Goals as goal
 
 -- what the call does may be done

@@ -1,7 +1,7 @@
 use Rattle.std.proofs.Common.{sym, subst}
-use Rattle.lifetime_core.specs.Shown.{Shows}
-use Rattle.lifetime_core.specs.State.{State}
-use Rattle.lifetime_core.proofs.theorem.GoesOn.{take_shows}
+use Rattle.core_state.specs.Shown.{Shows}
+use Rattle.core_state.specs.State.{State}
+use Rattle.core_state.proofs.theorem.GoesOn.{take_shows}
 use Rattle.lifetime_core.proofs.machine.Core.take_tracker.Goals as goal
 
 -- no history tells which readers were taken

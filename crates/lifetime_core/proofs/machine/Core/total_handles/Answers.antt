@@ -1,4 +1,4 @@
-use Rattle.lifetime_core.proofs.views.Shown.{total_shown}
+use Rattle.core_state.proofs.views.Shown.{total_shown}
 use Rattle.std.proofs.Common.{◌∙◌}
 use Rattle.lifetime_core.proofs.machine.Core.total_handles.Goals as goal
 

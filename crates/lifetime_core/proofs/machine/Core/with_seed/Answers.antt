@@ -1,4 +1,4 @@
-use Rattle.lifetime_core.proofs.theorem.GoesOn.{shows_nothing}
+use Rattle.core_state.proofs.theorem.GoesOn.{shows_nothing}
 use Rattle.lifetime_core.proofs.machine.Core.with_seed.Goals as goal
 
 -- nothing happened yet

@@ -2,7 +2,7 @@ use Rattle.std.proofs.Common.{◌≡◌, List, ℕ, ◌+◌, length, [], ◌∷�
 use Rattle.std.proofs.lemmas.Result.{on_ok_weaker, IfErr-weaker}
 use Rattle.sm_script.specs.Scenes.{Setting}
 use Rattle.script_tales.specs.declared.teller.Teller.{Teller}
-use Rattle.script_explain.specs.Progress.{Halted, SoFar}
+use Rattle.script_explain.specs.Progress.{Halted, ExplainedSoFar}
 use Rattle.script_explain.proofs.Telling.{far-more, far-pass, far-refused, far-stop, far-written}
 use Rattle.script_explain.proofs.explain.Explainer.take_line.Goals as goal
 
@@ -25,7 +25,7 @@ returns-then-len-le-ENOUGH-clause-ok g c = λ setting old lines far.
 pub returns-clause-ok : goal.returns-clause-ok
 returns-clause-ok g c = on_ok_weaker c.write_so_far.result
     (λ out setting old lines far.
-    subst (λ (t : Teller). SoFar setting t.session old (g.W.Write.contents c.write_so_far.new.writer)
+    subst (λ (t : Teller). ExplainedSoFar setting t.session old (g.W.Write.contents c.write_so_far.new.writer)
     c.write_so_far.new.self.text.items (lines ++ c.args.line.now ∷ [])) (sym c.write_so_far.ensures.same)
     (far-written setting c.explain.new.self.teller.session old _ c.explain.new.self.text.items (lines ++ c.args.line.now ∷ [])
     (far-more setting _ old _ _ lines far _ _ c.args.line.now c.explain.new.self.reply.items c.explain.new.self.facts.items
@@ -36,7 +36,7 @@ returns-clause-ok g c = on_ok_weaker c.write_so_far.result
 pub returns-clause-err : goal.returns-clause-err
 returns-clause-err g c = IfErr-weaker c.write_so_far.result _
     (λ fault. (setting : Setting) (old : Option (List ℕ)) (lines : List (List ℕ)) →
-    SoFar setting c.args.self.now.teller.session old (g.W.Write.contents c.args.writer.now) c.args.self.now.text.items lines →
+    ExplainedSoFar setting c.args.self.now.teller.session old (g.W.Write.contents c.args.writer.now) c.args.self.now.text.items lines →
     c.args.number ≡ length lines + 1 → Halted setting old (g.W.Write.contents c.write_so_far.new.writer)
     c.write_so_far.new.self.text.items (lines ++ c.args.line.now ∷ []) fault)
     (λ fault refused setting old lines far numbered.

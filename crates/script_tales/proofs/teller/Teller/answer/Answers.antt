@@ -1,7 +1,7 @@
 use Rattle.std.proofs.Common.{◌≡◌, [], refl, ap, sym, ◌∙◌, subst, Some}
-use Rattle.sm_script.specs.declared.act.Act.{Act}
+use Rattle.script_labels.specs.declared.act.Act.{Act}
 use Rattle.sm_script.specs.declared.session.Session.{Session}
-use Rattle.sm_script.specs.Names.{act_in}
+use Rattle.script_labels.specs.Names.{act_in}
 use Rattle.sm_script.specs.Sessions.{Gains}
 use Rattle.sm_script.proofs.Advancing.{gains-answer}
 use Rattle.script_tales.proofs.teller.Teller.answer.Goals as goal

@@ -1,10 +1,10 @@
 use Rattle.std.proofs.Common.{◌++◌, refl, ap, ◌∙◌, subst}
 use Rattle.std.specs.Prelude.{Ok, Result, IfOk}
 use Rattle.sm_names.specs.declared.outcomes.StepFault.{StepFault}
-use Rattle.lifetime_core.specs.Theorem.{Stepped}
+use Rattle.core_state.specs.Theorem.{Stepped}
 use Rattle.event_facts.specs.declared.event.Event.{Event}
 use Rattle.sm_script.specs.Scenes.{as_line, next_scene}
-use Rattle.sm_script.specs.Texts.{reply_text}
+use Rattle.script_labels.specs.Texts.{reply_text}
 use Rattle.script_tales.proofs.teller.Teller.take.Goals as goal
 
 pub returns-clause-ok : goal.returns-clause-ok

@@ -1,5 +1,5 @@
 use Rattle.std.proofs.Common.{List, ℕ, append-nil, sym, subst}
-use Rattle.sm_script.specs.declared.stop.Stop.{Stop}
+use Rattle.script_labels.specs.declared.stop.Stop.{Stop}
 use Rattle.sm_script.specs.Players.{Breaks}
 use Rattle.sm_script.proofs.Playing.{so_far-behind, so_far-stop}
 use Rattle.sm_script.proofs.player.Player.give_up_for_memory.Goals as goal

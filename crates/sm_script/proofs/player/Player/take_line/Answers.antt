@@ -1,6 +1,6 @@
 use Rattle.std.proofs.Common.{◌++◌, [], ◌∷◌, List, ℕ, Option, refl, ap, ◌∙◌}
 use Rattle.std.proofs.lemmas.Result.{on_ok_weaker, IfErr-weaker}
-use Rattle.sm_script.specs.declared.stop.Stop.{Stop}
+use Rattle.script_labels.specs.declared.stop.Stop.{Stop}
 use Rattle.sm_script.specs.Players.{SoFar}
 use Rattle.sm_script.specs.Runs.{Stopped}
 use Rattle.sm_script.specs.Scenes.{Setting}

@@ -1,7 +1,7 @@
 use Rattle.std.proofs.Common.{◌≡◌, ◌∙◌, ap, sym, Some}
 use Rattle.std.proofs.lemmas.Result.{on_ok_weaker, IfErr-weaker}
-use Rattle.sm_script.specs.declared.act.Act.{Act}
-use Rattle.sm_script.specs.Names.{act_in}
+use Rattle.script_labels.specs.declared.act.Act.{Act}
+use Rattle.script_labels.specs.Names.{act_in}
 use Rattle.sm_script.specs.Scenes.{Scene}
 use Rattle.sm_script.specs.Sessions.{IsAt, IsStopped}
 use Rattle.sm_script.proofs.Advancing.{gains-answer, call-stopped}

@@ -1,6 +1,6 @@
 use Rattle.std.proofs.Common.{refl, ◌∙◌}
 use Rattle.sm_script.specs.Scenes.{as_line, next_scene}
-use Rattle.sm_script.specs.Texts.{reply_text}
+use Rattle.script_labels.specs.Texts.{reply_text}
 use Rattle.sm_script.proofs.session.Session.ask.Goals as goal
 
 pub returns-clause-ok : goal.returns-clause-ok

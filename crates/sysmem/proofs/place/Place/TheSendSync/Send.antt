@@ -11,7 +11,7 @@ use Rattle.std.specs.Global.{Global}
 use Rattle.std.proofs.Crossing as heap
 use Rattle.std_alloc.proofs.SendSync.{quiet, lies}
 use Rattle.std_heap.proofs.Global.TheSendSync as handle
-use Rattle.lifetime_core.specs.State.{State}
+use Rattle.core_state.specs.State.{State}
 use Rattle.lifetime_core.specs.contracts.machine.Core as core
 use Rattle.lifetime_core.proofs.machine.Core.TheSendSync.{the_send as core_send}
 use Rattle.sysmem.specs.Ownership.{owns_core}

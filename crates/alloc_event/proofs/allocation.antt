@@ -1,2 +1,0 @@
--- Attached units that become ready and are allocated in their places.
-pub mod Rounds

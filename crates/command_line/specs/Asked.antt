@@ -1,0 +1,76 @@
+-- What the words of the command line ask for.
+use Rattle.std.specs.Prelude.{◌≡◌, ◌≢◌, ◌≤◌, ◌<◌, ◌^◌, ℕ, Bool, true, false, List, Option, Some, None, SomeIff, ⊤, codes, option_and_then}
+use Rattle.std.specs.Str.Parse.{IsNumeral, digits_value, without_leading_plus}
+use Rattle.sm_names.specs.declared.rules.TheConstants.{MAX_PAGES}
+use Rattle.clap.specs.Words.{first_of, one_of, subcommand_rows_of}
+use Rattle.clap.specs.declared.parser.matches.ArgMatches.{ArgMatches}
+use Rattle.command_line.specs.declared.task.Format.{Format}
+use Rattle.command_line.specs.declared.task.Task.{Task}
+
+-- what is read as a value of the subcommand's option of this name, given or its default: there is none without a subcommand
+abbrev pub value_text : List ℕ → ArgMatches → Option (List ℕ)
+value_text id matches = option_and_then (λ sub. one_of id sub.1) (subcommand_rows_of matches)
+
+-- the number that decimal digits write, where a plus may stand first
+abbrev pub written_number : List ℕ → ℕ
+written_number text = digits_value 10 (without_leading_plus text)
+
+-- the text is such a number, and a pool may have as many pages
+pub record IsCount (text : List ℕ) : Type 0 where
+  pub numeral : IsNumeral 10 (without_leading_plus text)
+  pub in_range : (1 ≤ written_number text) × (written_number text ≤ MAX_PAGES)
+
+-- so many pages are asked for, or none where there is no such text or it is no such number
+abbrev pub AreAsked : Option (List ℕ) → Option ℕ → Type 0
+AreAsked None count = count ≡ None
+AreAsked (Some text) count = SomeIff count (IsCount text) (written_number text)
+
+-- the text of an option or argument of the subcommand, in the same way
+abbrev pub text_of : List ℕ → ArgMatches → Option (List ℕ)
+text_of id matches = option_and_then (λ sub. first_of id sub.1) (subcommand_rows_of matches)
+
+-- what the subcommand of this name does with a script: it answers each line if it has none of the other names
+abbrev pub IsTask : Option (List ℕ) → Task → Type 0
+IsTask None task = task ≡ Task.Run
+IsTask (Some name) Task.Run = (name ≢ codes "threads") × (name ≢ codes "explain") × (name ≢ codes "draw") × (name ≢ codes "check")
+IsTask (Some name) (Task.Threads output) = name ≡ codes "threads"
+IsTask (Some name) Task.Explain = name ≡ codes "explain"
+IsTask (Some name) (Task.Draw view) = name ≡ codes "draw"
+IsTask (Some name) Task.Check = name ≡ codes "check"
+
+-- the format of this name: text if it has none of the other names
+abbrev pub IsFormat : Option (List ℕ) → Format → Type 0
+IsFormat name Format.Text = (name ≢ Some (codes "dot")) × (name ≢ Some (codes "svg"))
+IsFormat name Format.Dot = name ≡ Some (codes "dot")
+IsFormat name Format.Svg = name ≡ Some (codes "svg")
+
+-- the format of a picture, if one is asked for
+abbrev pub HasFormat : Option (List ℕ) → Task → Type 0
+HasFormat name (Task.Draw view) = IsFormat name view.format
+HasFormat name task = ⊤
+
+-- the text is a number of 64 bits
+pub record IsNumber (text : List ℕ) : Type 0 where
+  pub numeral : IsNumeral 10 (without_leading_plus text)
+  pub fits : written_number text < 2 ^ 64
+
+-- the number that is read of a text: none if there is no text or it is no number
+abbrev pub IsRead : Option (List ℕ) → Option ℕ → Type 0
+IsRead None number = number ≡ None
+IsRead (Some text) number = SomeIff number (IsNumber text) (written_number text)
+
+-- the event of a picture, if one is asked for
+abbrev pub HasEvent : Option (List ℕ) → Task → Type 0
+HasEvent text (Task.Draw view) = IsRead text view.at
+HasEvent text task = ⊤
+
+-- a flag is set if it was given
+pub record IsFlag (text : Option (List ℕ)) (flag : Bool) : Type 0 where
+  pub none : text ≡ None → flag ≡ false
+  pub set : text ≡ Some (codes "true") → flag ≡ true
+  pub unset : text ≡ Some (codes "false") → flag ≡ false
+
+-- whether a run of actors writes its record
+abbrev pub HasRecord : Option (List ℕ) → Task → Type 0
+HasRecord text (Task.Threads flag) = IsFlag text flag
+HasRecord text task = ⊤

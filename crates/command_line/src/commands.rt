@@ -1,0 +1,178 @@
+//! The commands of the program, with their options.
+use crate::help::{
+    ABOUT, CHECK_ABOUT, CHECK_HELP, DRAW_ABOUT, DRAW_HELP, DRAW_STATUS, EXAMPLES, EXPLAIN_ABOUT,
+    EXPLAIN_HELP, LINES, RUN_ABOUT, RUN_HELP, THREADS_ABOUT, THREADS_HELP,
+};
+use clap::builder::ValueParser;
+use clap::{Arg, ArgAction, Command, value_parser};
+use std::alloc::{AllocError, Global};
+
+const VERSION: &str = "0.1.0";
+
+// The commands behind the first.
+pub(crate) const THREADS: &str = "threads";
+
+pub(crate) const EXPLAIN: &str = "explain";
+
+pub(crate) const DRAW: &str = "draw";
+
+pub(crate) const CHECK: &str = "check";
+
+// The names of the options, and of the argument.
+pub(crate) const PAGES: &str = "pages";
+
+pub(crate) const RECORD: &str = "record";
+
+pub(crate) const FORMAT: &str = "format";
+
+pub(crate) const AT: &str = "at";
+
+pub(crate) const FILE: &str = "file";
+
+// The formats of pictures.
+const TEXT: &str = "text";
+
+pub(crate) const DOT: &str = "dot";
+
+pub(crate) const SVG: &str = "svg";
+
+const FORMATS: &[&str] = &[TEXT, DOT, SVG];
+
+// An option of this name with a value.
+fn option<'a>(alloc: Global, name: &'a str, value: &'a str, help: &'a str) -> Arg<'a> {
+    Arg::new(alloc, name)
+        .long(name)
+        .action(ArgAction::Set)
+        .value_name(value)
+        .help(help)
+}
+
+// A parser of how many pages a pool may have.
+fn page_counts<'a>() -> ValueParser<'a> {
+    value_parser!(u32).range(1..=1_048_576)
+}
+
+// The option `--pages N`.
+fn pages_word<'a>(alloc: Global) -> Arg<'a> {
+    option(
+        alloc,
+        PAGES,
+        "N",
+        "How many pages of 4096 bytes the pool has, from 1 to 1048576",
+    )
+    .value_parser(page_counts())
+    .default_value("16")
+}
+
+// The option `--format F`.
+fn format_word<'a>(alloc: Global) -> Arg<'a> {
+    option(alloc, FORMAT, "F", "text, dot for Graphviz, or svg")
+        .value_parser(FORMATS)
+        .default_value(TEXT)
+}
+
+// The option `--at EVENT`.
+fn at_word<'a>(alloc: Global) -> Arg<'a> {
+    option(
+        alloc,
+        AT,
+        "EVENT",
+        "The trees after this event, and what it did; events are numbered from 1, one for each \
+         line that is a call",
+    )
+    .value_parser(value_parser!(u64))
+}
+
+// The option `--record`.
+fn record_word<'a>(alloc: Global) -> Arg<'a> {
+    Arg::new(alloc, RECORD)
+        .long(RECORD)
+        .action(ArgAction::SetTrue)
+        .help("Writes all events as a transcript, and the report behind # below it")
+}
+
+// The name of a file that is read in place of standard input.
+fn file_word<'a>(alloc: Global) -> Arg<'a> {
+    Arg::new(alloc, FILE)
+        .action(ArgAction::Set)
+        .value_name("FILE")
+        .help("A file that is read in place of standard input")
+}
+
+// The command, which has a pool and reads a script from a file.
+fn read_by<'a>(alloc: Global, command: Command<'a>) -> Result<Command<'a>, AllocError> {
+    command.arg(pages_word(alloc))?.arg(file_word(alloc))
+}
+
+// The command that answers each line.
+fn run<'a>(alloc: Global) -> Result<Command<'a>, AllocError> {
+    let command = Command::new(alloc, "run")
+        .about(RUN_ABOUT)
+        .long_about(LINES)
+        .after_help(RUN_HELP);
+    read_by(alloc, command)
+}
+
+// The command that runs the clients side by side.
+fn threads<'a>(alloc: Global) -> Result<Command<'a>, AllocError> {
+    let command = Command::new(alloc, THREADS)
+        .about(THREADS_ABOUT)
+        .long_about(LINES)
+        .after_help(THREADS_HELP);
+    read_by(alloc, command)?.arg(record_word(alloc))
+}
+
+// The command that tells each line.
+fn explain<'a>(alloc: Global) -> Result<Command<'a>, AllocError> {
+    let command = Command::new(alloc, EXPLAIN)
+        .about(EXPLAIN_ABOUT)
+        .long_about(EXPLAIN_HELP)
+        .after_help(LINES);
+    read_by(alloc, command)
+}
+
+// The command that draws trees.
+fn draw<'a>(alloc: Global) -> Result<Command<'a>, AllocError> {
+    let command = Command::new(alloc, DRAW)
+        .about(DRAW_ABOUT)
+        .long_about(DRAW_HELP)
+        .after_help(DRAW_STATUS);
+    read_by(alloc, command)?
+        .arg(format_word(alloc))?
+        .arg(at_word(alloc))
+}
+
+// The command that compares replies.
+fn check<'a>(alloc: Global) -> Result<Command<'a>, AllocError> {
+    let command = Command::new(alloc, CHECK)
+        .about(CHECK_ABOUT)
+        .long_about(CHECK_HELP);
+    read_by(alloc, command)
+}
+
+// The program without its commands.
+fn program<'a>(alloc: Global) -> Result<Command<'a>, AllocError> {
+    Command::new(alloc, "sysmem")
+        .version(VERSION)
+        .about(ABOUT)
+        .after_help(EXAMPLES)
+        .subcommand_required(true)
+        .bin_name("sysmem")
+}
+
+// The program with one command more.
+fn with_command<'a>(
+    program: Command<'a>,
+    made: Result<Command<'a>, AllocError>,
+) -> Result<Command<'a>, AllocError> {
+    program.subcommand(made?)
+}
+
+/// The commands with their options and help. Takes a constant time.
+pub fn command<'a>(alloc: Global) -> Result<Command<'a>, AllocError> {
+    let program = with_command(program(alloc)?, run(alloc))?;
+    let program = with_command(program, threads(alloc))?;
+    let program = with_command(program, explain(alloc))?;
+    let program = with_command(program, draw(alloc))?;
+    with_command(program, check(alloc))
+}

@@ -1,0 +1,207 @@
+//! The help of the program and of its commands.
+
+pub(crate) const ABOUT: &str = "\
+Answers scripts of clients that share buffers: who has failed, whom a failure
+takes along, and when a buffer's pages are free again.";
+
+pub(crate) const EXAMPLES: &str = "\
+Each command reads a script from FILE, or else from standard input:
+
+    sysmem run camera.script
+    sysmem draw --at 28 camera.script
+    sysmem explain < camera.script
+
+'sysmem run --help' lists the lines of a script.";
+
+pub(crate) const RUN_ABOUT: &str = "Answers each line of a script";
+
+pub(crate) const THREADS_ABOUT: &str =
+    "Runs the clients of a script side by side, and reports on them";
+
+// It stands in the help of each command.
+pub(crate) const LINES: &str = "\
+Each line of a script says what a client asks. C and D are clients, N and M
+nodes, T is a tracker, B a buffer such as r.0, S is strong or weak.
+
+    C join                  makes the client C
+    C shut                  nobody can give C anything more
+    C open N                makes a collection, whose root token is N
+    C dup N M               makes a child token M of the token N
+    C attach N M            makes a token M attached to the collection N
+    C bind N                turns the token N into a collection
+    C sync N                asks whether N has failed
+    C dispensable N         no failure climbs from N, once its unit has buffers
+    C weak N                N and its later children keep no buffers alive
+    C weakok N              N may take weak handles
+    C weakok N children     so may N, its later children and all below these
+    C constrain N CAMPING AT_LEAST SIZE
+                            how many buffers N camps on, how many there must be
+                            at least, and of how many bytes
+    C check N               asks whether the buffers are there
+    C take N                opens a handle on each buffer
+    C release N             spends the end without a failure
+    C close N               spends the end, and N fails
+    C give N D              puts the end of N into a parcel for D
+    C collect M             takes the first parcel that waits for C
+    C duph B S              opens one more handle
+    C droph B S             drops a handle
+    C giveh B S D           puts a handle into a parcel for D
+    C tracknode N T         makes a tracker that fires once N is gone
+    C tracklife N NUMBER T  one that fires once at most so many buffers hold
+                            pages, or once N is gone before it had buffers
+    C trackweak B T         one that fires once nothing strong keeps B
+    C poll T                asks whether T fired
+    show live               the live nodes
+    show held               the held buffers with their pages
+    show fired              the trackers that fired
+    show free               how many pages are free
+
+Empty lines and lines that begin with # are skipped. A line is bad if it is
+longer than 256 bytes, or is the last one and has no end; if it has two spaces
+between words, or one before the first or after the last; if it has a byte 13
+before its end, or a remark behind a call; if it has none of the forms above; or
+if a label has more than 16 letters and digits, a number is out of its range, or
+an index is over 63. docs/SCRIPT.md has the whole language, examples/ scripts.";
+
+pub(crate) const RUN_HELP: &str = "\
+    sysmem run first.script
+
+answers each line of first.script by one line. So
+
+    a join
+    a open r
+    a bind r
+    a constrain r 2 0 8192
+    a check r
+
+is answered
+
+    joined
+    token r
+    done
+    done
+    allocated 2 8192
+
+Client a joins and makes a collection, whose root token is r. It binds the
+token, says that it camps on 2 buffers of at least 8192 bytes each, and asks
+whether the buffers are there. A line that uses an unbound label, or binds a
+bound one, is bad.
+
+Status: 0 all lines were answered; 1 read or write fault; 2 the command line was
+refused; 3 a bad line; 4 no memory, or history full. A fault is one line on
+standard error, after the answers to the lines before it.";
+
+pub(crate) const THREADS_HELP: &str = "\
+    sysmem threads shared.actors
+
+runs each client as an actor in a thread of its own. The lines that begin with
+its label are its steps, in their order; how the steps of different actors
+interleave is not determined. So
+
+    a join
+    b join
+    a open r
+    a bind r
+    b open s
+
+is reported
+
+    events 9
+    a events 4 strong 0 weak 0
+    b events 3 strong 0 weak 0
+    gather ok
+
+All clients join first, and there is no show. Labels of nodes and trackers are an
+actor's own. A step is left out if a label that it uses stands for nothing that
+the actor has, or one that it binds stands for something. At its end each actor
+is shut, collects what waits for it, closes its tokens and its collections, and
+drops its handles. Then all is gathered, and the report tells how many events
+there were, and for each actor how many it made after its join and how many
+handles of each strength it has open.
+
+With --record all that happened is written before it, in the order in which it
+did, as a transcript: each call with its reply. The lines of the report then
+begin with #, and a node is called n and the number of the event of its birth:
+
+    a open n3
+      token n3
+    b open n4
+      token n4
+
+`sysmem threads --record shared.actors | sysmem explain` explains these events,
+if both commands have the same --pages.
+
+Status: 0 the report was written; 1 read or write fault; 2 the command line was
+refused; 3 a bad line: a show, a join behind a step or of a client that joined,
+a step of one that did not or for one, or no client at all; 4 no memory, no
+thread, or history full; 5 what the actors had at the end does not fit the
+record. A fault is told in one line on standard error, and nothing is reported.";
+
+pub(crate) const EXPLAIN_ABOUT: &str =
+    "Repeats each line with its reply, what its event forced, and why";
+
+pub(crate) const EXPLAIN_HELP: &str = "\
+Repeats each line of a script with its reply, what its event forced, and why
+
+    sysmem explain camera.script
+
+Lines without an indent are the script, those indented by two spaces are the
+replies of `sysmem run`, and below them stands what the event did:
+
+    dis close display
+      done
+        fordis fails, lost: its end was closed without a release
+          up      fordis > root
+          down    root > forcam forenc
+        kept    root.0 root.1 by cam strong 1, dis strong 1
+        fires   gone
+
+up: the failure went from a node to its parent, whose link to it is not blocked.
+down: it went on to all children. stops: why it went no further. kept: who keeps
+pages that did not go back. camps: who camps on how many buffers. waits: for
+whom an allocation waits. since: the line whose event made that loss.
+
+Lines that begin with two spaces are skipped, and count as lines.
+
+Status: 0 all lines were answered; 1 read or write fault; 2 the command line was
+refused; 3 a bad line; 4 no memory, or history full. A fault is one line on
+standard error, after the lines before it; a bad line has its reason.";
+
+pub(crate) const DRAW_ABOUT: &str = "Draws the trees after the last line or an event";
+
+pub(crate) const DRAW_HELP: &str = "\
+Draws the trees of a script, after its last line or an event
+
+    sysmem draw --at 28 camera.script";
+
+pub(crate) const DRAW_STATUS: &str = "\
+Lines that begin with two spaces are skipped, and those after the event that is
+asked for are not looked at. `sysmem run --help` lists the lines. So
+
+    sysmem draw --format dot camera.script | dot -Tsvg > camera.svg
+
+draws the trees after the last line of camera.script by Graphviz.
+
+Status: 0 the picture was written; 1 read or write fault; 2 the command line was
+refused, or there is no such event; 3 a bad line; 4 no memory, or history full.
+A fault is one line on standard error; a bad line has its reason.";
+
+pub(crate) const CHECK_ABOUT: &str = "Compares the replies of a transcript with the machine's";
+
+pub(crate) const CHECK_HELP: &str = "\
+Compares the replies of a transcript with the machine's
+
+    sysmem explain camera.script | sysmem check
+
+A transcript is a script in which a line may be followed by its reply, indented
+by two spaces, and by lines indented by four or more, which are ignored. What
+`sysmem explain` writes is one. If all replies agree, the numbers of lines that
+were played and of replies are written; else the first reply that differs:
+
+    line 41: enc check encoder
+      recorded  pending
+      legal     closed lost fordis
+        since   line 36: dis close display
+
+Status: 0 all replies agree; 1 read or write fault; 2 the command line was
+refused; 3 a bad line; 4 no memory, or history full; 6 a reply differs.";

@@ -1,0 +1,64 @@
+//! What the words of the command line ask for.
+ghost use Rattle.std.specs.Prelude.{◌≡◌, IfSome, codes, option_map};
+ghost use Rattle.clap.specs.Matches.{subcommand_name_of};
+ghost use Rattle.command_line.specs.Asked.{AreAsked, HasEvent, HasFormat, HasRecord, IsTask, text_of, value_text};
+
+use crate::commands::{FILE, PAGES};
+use crate::task::{Task, task_of};
+use clap::ArgMatches;
+use script_lines::Pages;
+
+/// What the words of the command line ask for.
+#[derive(Clone, Copy)]
+pub struct Request<'a> {
+    /// What is done with the script.
+    pub task: Task,
+    /// The size of the pool.
+    pub pages: Pages,
+    /// The file that has the script; `None` where standard input has it.
+    pub file: Option<&'a str>,
+}
+
+/// What the matches of a parse ask for. `None` where no pool has as many pages as they ask for.
+/// Takes a time in proportion to the words.
+pub fn request_of<'a>(matches: &ArgMatches<'a>) -> Option<Request<'a>>
+    ensures pages { AreAsked (value_text (codes "pages") matches.now)
+        (option_map (λ request. request.pages.count) result) }
+    ensures task { IfSome result (λ request. IsTask (subcommand_name_of matches.now) request.task) }
+    ensures format { IfSome result (λ request. HasFormat (text_of (codes "format") matches.now)
+        request.task) }
+    ensures event { IfSome result (λ request. HasEvent (value_text (codes "at") matches.now)
+        request.task) }
+    ensures record { IfSome result (λ request. HasRecord (value_text (codes "record") matches.now)
+        request.task) }
+    ensures file { IfSome result (λ request. option_map (λ name. name.now) request.file
+        ≡ text_of (codes "file") matches.now) }
+{
+    match pages_of(matches) {
+        Some(pages) => Some(Request {
+            task: task_of(matches),
+            pages,
+            file: file_of(matches),
+        }),
+        None => None,
+    }
+}
+
+// The pages that the matches of a parse ask for: the number that stands behind the subcommand's
+// `--pages`, or its default. `None` where there is no subcommand, or no such text, or the text is
+// no number from 1 to 1,048,576. The range is tested once more, since the parse of a subcommand
+// tells nothing of its values.
+fn pages_of(matches: &ArgMatches<'_>) -> Option<Pages>
+    ensures { AreAsked (value_text (codes "pages") matches.now) (option_map (λ pages. pages.count) result) }
+{
+    let (_, inner) = matches.subcommand()?;
+    Pages::new(inner.get_one::<u32>(PAGES)?)
+}
+
+// The file that is to be read in place of standard input, if one is named.
+fn file_of<'a>(matches: &ArgMatches<'a>) -> Option<&'a str>
+    ensures { option_map (λ name. name.now) result ≡ text_of (codes "file") matches.now }
+{
+    let (_, inner) = matches.subcommand()?;
+    inner.get_str(FILE)
+}

@@ -1,0 +1,203 @@
+-- Each reply is one that its call can have.
+use Rattle.std.proofs.Common.{ℕ, ◌≡◌, refl, ap, ◌∙◌, subst, Bool, true, false, List, [], ◌∷◌, Option, Some, None, is_some, ◌&&◌, nat_le}
+use Rattle.std.specs.Option.{option_and_then, option_map, option_map_or, unwrap_or}
+use Rattle.sm_names.specs.declared.keys.NodeKey.{NodeKey}
+use Rattle.sm_names.specs.declared.messages.Call.{Call}
+use Rattle.sm_names.specs.declared.messages.Parcel.{Parcel}
+use Rattle.sm_names.specs.declared.messages.Reply.{Reply}
+use Rattle.sm_names.specs.declared.outcomes.Buffers.{Buffers}
+use Rattle.sm_names.specs.declared.outcomes.Fault.{Fault}
+use Rattle.sm_names.specs.declared.outcomes.Misuse.{Misuse}
+use Rattle.sm_names.specs.declared.outcomes.Refusal.{Refusal}
+use Rattle.sm_names.specs.Answers.{OpenEnd, Readings, answer, answers_first, closing, collected, effect, end_in_transit, misuse, misuse_of, misused_if, no_end, no_handle, peer_closed, refused_if, set_of, shut_client, strength_of, unknown_client, wrong_kind, makes_collection, makes_node, makes_tracker, too_many_handles}
+use Rattle.sm_names.specs.Bounds.{Bound}
+use Rattle.sm_names.specs.Timelines.{key_of}
+use Rattle.sm_names.specs.Words.{first_some}
+use Rattle.sm_names.proofs.RejectLaws.{Rejects, is_refusal, rejects_if, unknown_rejects, shut_rejects, no_end_rejects, in_transit_rejects, wrong_kind_rejects}
+use Rattle.core_state.specs.Kinds.{fits_call, needs_buffers}
+
+-- ---- the effect
+
+-- what is told of an end that is there, or not
+of_end-fits : (call : Call) (told : OpenEnd → Reply) (o : Option OpenEnd) → ((e : OpenEnd) → fits_call call (told e) ≡ true) →
+    fits_call call (option_map_or told o (Reply.Refused Refusal.NoSuchEnd)) ≡ true
+of_end-fits call told None each = refl
+of_end-fits call told (Some e) each = each e
+
+-- or of buffers
+of_buffers-fits : (call : Call) (told : Buffers → Reply) (o : Option Buffers) → needs_buffers call ≡ true →
+    ((b : Buffers) → fits_call call (told b) ≡ true) → fits_call call (option_map_or told o Reply.Pending) ≡ true
+of_buffers-fits call told None waits each = waits
+of_buffers-fits call told (Some b) waits each = each b
+
+-- or of a parcel
+collected-fits : (r : Readings) (parcels : List Parcel) → fits_call Call.Collect (collected r parcels) ≡ true
+collected-fits r [] = refl
+collected-fits r (Parcel.Handle buffer strength ∷ more) = refl
+collected-fits r (Parcel.End key ∷ more) = by (r.end_of key)
+  where
+    by : (o : Option OpenEnd) → fits_call Call.Collect (option_map_or (λ (e : OpenEnd). Reply.Collected key e.kind e.collection) o
+        Reply.Empty) ≡ true
+    by None = refl
+    by (Some e) = refl
+
+-- the effect of a call tells of nothing else
+effect-fits : (r : Readings) (client : ℕ) (new : NodeKey) (call : Call) → fits_call call (effect r client new call) ≡ true
+effect-fits r client new (Call.Duplicate key) =
+    of_end-fits (Call.Duplicate key) (λ e. Reply.Token new e.collection) (r.end_of key) (λ e. refl)
+effect-fits r client new (Call.AttachToken key) =
+    of_end-fits (Call.AttachToken key) (λ e. Reply.Token new e.collection) (r.end_of key) (λ e. refl)
+effect-fits r client new Call.Collect = collected-fits r (r.waiting client)
+effect-fits r client new (Call.Check key) =
+    of_end-fits (Call.Check key) (λ e. option_map_or (λ (b : Buffers). Reply.Allocated b.count b.size) e.buffers Reply.Pending)
+    (r.end_of key)
+    (λ e. of_buffers-fits (Call.Check key) (λ b. Reply.Allocated b.count b.size) e.buffers refl (λ b. refl))
+effect-fits r client new (Call.Take key) =
+    of_end-fits (Call.Take key) (λ e. option_map_or (λ (b : Buffers). Reply.Taken e.collection (strength_of e.weak) (set_of e.to_open))
+    e.buffers Reply.Pending) (r.end_of key)
+    (λ e. of_buffers-fits (Call.Take key) (λ b. Reply.Taken e.collection (strength_of e.weak) (set_of e.to_open)) e.buffers refl (λ b.
+    refl))
+effect-fits r client new _ = refl
+
+-- ---- the lines
+
+-- what the line answers, if it answers, fits the call
+abbrev Fits : Call → Option Reply → Type 0
+Fits call line = (reply : Reply) → line ≡ Some reply → fits_call call reply ≡ true
+
+-- a refusal fits each call
+refusal-fits : (call : Call) (line : Option Reply) → Rejects line → Fits call line
+refusal-fits call line rejects reply is = by reply (rejects reply is)
+  where
+    by : (reply : Reply) → is_refusal reply ≡ true → fits_call call reply ≡ true
+    by (Reply.Refused refusal) h = refl
+    by _ h = cc
+
+-- a line that refuses under a test
+refused-fits : (call : Call) (b : Bool) (refusal : Refusal) → Fits call (refused_if b refusal)
+refused-fits call b refusal = refusal-fits call (refused_if b refusal) (rejects_if b refusal)
+
+-- a Close is answered Done
+closing-fits : (call : Call) → Fits call (closing call)
+closing-fits (Call.Close key) reply is =
+    let same : Reply.Done ≡ reply = cc in subst (λ (x : Reply). fits_call (Call.Close key) x ≡ true) same refl
+closing-fits _ reply is = cc
+
+-- who is told of a failure named a node
+closed-fits : (call : Call) (fault : Option Fault) → is_some (key_of call) ≡ true →
+    Fits call (option_map (λ (f : Fault). Reply.PeerClosed f.cause f.origin) fault)
+closed-fits call None named reply is = cc
+closed-fits call (Some f) named reply is =
+    let same : Reply.PeerClosed f.cause f.origin ≡ reply = cc in subst (λ (x : Reply). fits_call call x ≡ true) same named
+
+peer-fits : (r : Readings) (call : Call) → Fits call (peer_closed r call)
+peer-fits r call reply is = by (key_of call) refl
+  where
+    at : (o : Option OpenEnd) → is_some (key_of call) ≡ true →
+        option_and_then (λ (e : OpenEnd). option_map (λ (f : Fault). Reply.PeerClosed f.cause f.origin) e.fault) o ≡ Some reply →
+        fits_call call reply ≡ true
+    at None named e = cc
+    at (Some end) named e = closed-fits call end.fault named reply e
+
+    by : (o : Option NodeKey) → key_of call ≡ o → fits_call call reply ≡ true
+    by None none = let no : None ≡ Some reply = rw none at is in cc
+    by (Some key) some = at (option_and_then r.end_of (key_of call)) (ap is_some some) is
+
+-- so did who misused one
+misused-fits : (call : Call) (b : Bool) (m : Misuse) → is_some (key_of call) ≡ true → Fits call (misused_if b m)
+misused-fits call true m named reply is =
+    let same : Reply.Misused m ≡ reply = cc in subst (λ (x : Reply). fits_call call x ≡ true) same named
+misused-fits call false m named reply is = cc
+
+misuse_of-fits : (e : OpenEnd) (call : Call) → Fits call (misuse_of e call)
+misuse_of-fits e (Call.SetConstraints key demand) = misused-fits (Call.SetConstraints key demand) _ _ refl
+misuse_of-fits e (Call.SetWeak key) = misused-fits (Call.SetWeak key) _ _ refl
+misuse_of-fits e (Call.SetWeakOk key children) = misused-fits (Call.SetWeakOk key children) _ _ refl
+misuse_of-fits e (Call.Take key) = misused-fits (Call.Take key) _ _ refl
+misuse_of-fits e (Call.TrackNode key) = misused-fits (Call.TrackNode key) _ _ refl
+misuse_of-fits e _ = λ reply is. cc
+
+misuse-fits : (r : Readings) (call : Call) → Fits call (misuse r call)
+misuse-fits r call reply is = by (option_and_then r.end_of (key_of call)) is
+  where
+    by : (o : Option OpenEnd) → option_and_then (λ (e : OpenEnd). misuse_of e call) o ≡ Some reply → fits_call call reply ≡ true
+    by None e = cc
+    by (Some end) e = misuse_of-fits end call reply e
+
+-- a call on a handle that is not open is refused
+handle-fits : (r : Readings) (client : ℕ) (call : Call) → Fits call (no_handle r client call)
+handle-fits r client (Call.DupHandle buffer strength) = refused-fits (Call.DupHandle buffer strength) _ _
+handle-fits r client (Call.DropHandle buffer strength) = refused-fits (Call.DropHandle buffer strength) _ _
+handle-fits r client (Call.GiveHandle buffer strength to) = refused-fits (Call.GiveHandle buffer strength to) _ _
+handle-fits r client (Call.TrackWeak buffer) = refused-fits (Call.TrackWeak buffer) _ _
+handle-fits r client _ = λ reply is. cc
+
+-- ---- the answer
+
+-- each line fits the call
+abbrev AllFit : Call → List (Option Reply) → Type 0
+AllFit call [] = Unit {0}
+AllFit call (line ∷ lines) = Fits call line × AllFit call lines
+
+-- one line before others
+or-fits : (call : Call) (line : Option Reply) (lines : List (Option Reply)) (last : Reply) → Fits call line →
+    fits_call call (unwrap_or (first_some lines) last) ≡ true →
+    fits_call call (unwrap_or (first_some (line ∷ lines)) last) ≡ true
+or-fits call None lines last fits then = then
+or-fits call (Some reply) lines last fits then = fits reply refl
+
+-- so does the first that answers, or else the last answer
+first-fits : (call : Call) (lines : List (Option Reply)) (last : Reply) → AllFit call lines → fits_call call last ≡ true →
+    fits_call call (unwrap_or (first_some lines) last) ≡ true
+first-fits call [] last all fits = fits
+first-fits call (line ∷ lines) last all fits = or-fits call line lines last all.0 (first-fits call lines last all.1 fits)
+
+-- so the answer fits the call
+answer-fits : (limits : Bound) (r : Readings) (client : ℕ) (new : NodeKey) (call : Call) →
+    fits_call call (answer limits r client new call) ≡ true
+answer-fits limits r client new call = first-fits call (answers_first limits r client call) (effect r client new call) (
+  refusal-fits call (unknown_client r client call) (unknown_rejects r client call),
+  (
+    refusal-fits call (shut_client r client call) (shut_rejects r client call),
+    (
+      refusal-fits call (no_end r client call) (no_end_rejects r client call),
+      (
+        refusal-fits call (end_in_transit r call) (in_transit_rejects r call),
+        (
+          closing-fits call,
+          (
+            peer-fits r call,
+            (
+              refusal-fits call (wrong_kind r call) (wrong_kind_rejects r call),
+              (
+                misuse-fits r call,
+                (
+                  handle-fits r client call,
+                  (
+                    refused-fits call (makes_node call && nat_le limits.nodes r.kept_nodes) Refusal.TooManyNodes,
+                    (
+                      refused-fits call (makes_collection call && nat_le limits.collections r.kept_collections) Refusal.TooManyCollections,
+                      (
+                        refused-fits call (makes_tracker call && nat_le limits.trackers r.unfired) Refusal.TrackersFull,
+                        (
+                          refused-fits call (too_many_handles limits r call) Refusal.TooManyHandles,
+                          tt,
+                        ),
+                      ),
+                    ),
+                  ),
+                ),
+              ),
+            ),
+          ),
+        ),
+      ),
+    ),
+  ),
+)
+    (effect-fits r client new call)
+
+-- and so does each reply
+pub reply-fits : (limits : Bound) (r : Readings) (client : ℕ) (new : NodeKey) (call : Call) (reply : Reply) →
+    reply ≡ answer limits r client new call → fits_call call reply ≡ true
+reply-fits limits r client new call reply told = ap (fits_call call) told ∙ answer-fits limits r client new call

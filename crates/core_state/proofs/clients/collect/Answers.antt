@@ -1,0 +1,20 @@
+use Rattle.std.proofs.Common.{◌∙◌, ap, sym, set}
+use Rattle.core_state.specs.State.{Client}
+use Rattle.core_state.specs.ClientRows.{without_first}
+use Rattle.core_state.proofs.joined.Rows.{one_changed, none_changed, finds_none}
+use Rattle.core_state.proofs.clients.collect.Goals as goal
+
+-- the row of the client
+pub returns-in-Some : goal.returns-in-Some
+returns-in-Some c =
+    let rows = c.args.clients.now.items in
+    let place = sym (rw c.deref.ensures.value at c.place_of.ensures) ∙ c.in-Some.is in
+    (λ i. set rows c.in-Some.at (record { id = c.row.inside.id; shut = c.row.inside.shut; waiting = c.pop_front.ensures.rest i }))
+    ∙ ap (λ (r : Client). set rows c.in-Some.at (without_first r)) c.row.view_is
+    ∙ one_changed c.args.client without_first rows c.in-Some.at c.index_mut-row.result.now c.requires place c.index_mut-row.ensures.value
+
+pub returns-in_default : goal.returns-in_default
+returns-in_default c =
+    let rows = c.args.clients.now.items in
+    let nowhere = sym (rw c.deref.ensures.value at c.place_of.ensures) ∙ c.in_default.is in
+    sym (none_changed c.args.client without_first rows (finds_none c.args.client rows nowhere))

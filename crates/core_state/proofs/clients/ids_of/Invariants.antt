@@ -1,0 +1,7 @@
+use Rattle.std.proofs.Common.{◌≡◌, map, take}
+use Rattle.core_state.specs.State.{Client}
+use Rattle.core_state.proofs.clients.ids_of.Given as goal
+
+-- so far the numbers of these clients
+abbrev pub invariant-loop-client : goal.invariant-loop-client
+invariant-loop-client l = l.ids.items ≡ map (λ (c : Client). c.id) (take l.client-index l.clients)

@@ -1,0 +1,153 @@
+-- An end is put elsewhere and what is over is forgotten: what is left is what the marks keep.
+use Rattle.std.proofs.Common.{ℕ, ◌≡◌, refl, ap, sym, ◌∙◌, Bool, true, false, not, ◌&&◌, ◌||◌, ◌==◌, ◌⊎◌, inl, inr, List, [], ◌∷◌, map, length, Option, Some, None, arith}
+use Rattle.std.proofs.lemmas.Bool.{eqb-true}
+use Rattle.std.specs.List.{filter}
+use Rattle.sm_names.specs.declared.keys.NodeKey.{NodeKey}
+use Rattle.sm_names.specs.Births.{births}
+use Rattle.sm_names.specs.declared.keys.Interval.{Interval}
+use Rattle.sm_names.specs.Bounds.{Bound}
+use Rattle.sm_names.specs.Kept.{is_kept, is_kept_collection}
+use Rattle.sm_names.specs.Ends.{spends, spent}
+use Rattle.sm_names.specs.Losses.{gone}
+use Rattle.sm_names.specs.Marks.{Mark, Timeline, Called, Loss, Allocated, Ended}
+use Rattle.sm_names.specs.Members.{births_in}
+use Rattle.sm_names.proofs.GoneLaws.{gone_stays}
+use Rattle.sm_names.proofs.GrowthLaws.{Grows, Stays, Answers, Loses, Allocates, Ends}
+use Rattle.sm_names.proofs.ListLaws.{In, In-map, filter-In, map-map}
+use Rattle.sm_names.proofs.SamenessLaws.{and_left, and_right, either_way, or_right}
+use Rattle.forest_store.specs.declared.node.Node.{Node}
+use Rattle.forest_store.specs.Forest.{Collection, Forest, with_nodes, is_left}
+use Rattle.forest_store.specs.Nodes.{is_over}
+use Rattle.core_state.specs.declared.task.Place.{Place}
+use Rattle.core_state.specs.Shown.{node_after, nodes_after, held_after, collection_after, kept_ids}
+use Rattle.core_state.specs.Steps.{place_of, with_place, without_over}
+use Rattle.core_state.proofs.ends.NotRead.{placed_node, placed_in}
+use Rattle.core_state.proofs.collections.Ids.{ids, kept_are}
+use Rattle.core_state.proofs.ends.Forgotten.{left_after}
+use Rattle.core_state.proofs.lists.Maps.{filter-filter}
+use Rattle.core_state.proofs.theorem.Follows.{Matches}
+use Rattle.core_state.proofs.views.Nodes.{not_over}
+use Rattle.core_state.proofs.collections.Replacing.{filter-map_asked, map-asked, map-stays}
+
+-- ---- an end elsewhere
+
+-- the collections with that end there
+pub placed_collections : (o : Option Place) (f : Forest) → (with_place o f).collections ≡ map (placed_in (place_of o)) f.collections
+placed_collections None f =
+    sym (map-stays (placed_in (place_of None)) f.collections (λ c on i.
+    record c { nodes = map-stays (placed_node (place_of None)) c.nodes (λ n there. refl) i }))
+placed_collections (Some place) f = refl
+
+-- ---- what is left
+
+-- the collection with that end there and without the nodes that are over
+abbrev pub finished : Option Place → Collection → Collection
+finished o c = with_nodes (filter (λ n. not (is_over n))) (placed_in (place_of o) c)
+
+-- among collections by their ids, those that are left
+pub finished_ids : (o : Option Place) (f : Forest) (w : ℕ → Collection) (k : ℕ → Bool) (ds : List ℕ) → f.collections ≡ map w (filter k ds) →
+    without_over (with_place o f).collections ≡ map (λ d. finished o (w d)) (filter (λ d. k d && not (is_left (finished o (w d)))) ds)
+finished_ids o f w k ds is =
+    let over : Collection → Collection = with_nodes (filter (λ n. not (is_over n))) in
+    let made : map over (with_place o f).collections ≡ map (λ d. finished o (w d)) (filter k ds) =
+    ap (map over) (placed_collections o f ∙ ap (map (placed_in (place_of o))) is)
+    ∙ (map-map over (placed_in (place_of o)) (map w (filter k ds)) ∙ map-map (finished o) w (filter k ds)) in
+    ap (filter (λ c. not (is_left c))) made ∙ filter-map_asked (λ c. not (is_left c)) (λ d. finished o (w d)) k ds
+
+-- a collection that is there comes to what the marks make of it, and one that is not there is not kept
+abbrev pub ComesTo : ℕ → Option Place → (ℕ → Collection) → (ℕ → Bool) → Timeline → ℕ → Type 0
+ComesTo pool o w k marks d =
+    ((k d ≡ true) × (finished o (w d) ≡ collection_after pool marks d)) ⊎ ((k d ≡ false) × (is_kept_collection marks d ≡ false))
+
+-- then what is left is what the marks keep
+pub finished_kept : (pool : ℕ) (limits : Bound) (marks : Timeline) → Grows pool limits [] marks → (o : Option Place) (f : Forest) (w : ℕ →
+    Collection) (k : ℕ → Bool) →
+    f.collections ≡ map w (filter k (ids (births marks))) → ((d : ℕ) → In d (ids (births marks)) → ComesTo pool o w k marks d) →
+    without_over (with_place o f).collections ≡ map (collection_after pool marks) (kept_ids marks)
+finished_kept pool limits marks grown o f w k is each =
+    finished_ids o f w k (ids (births marks)) is
+    ∙ (map-asked (λ d. finished o (w d)) (collection_after pool marks) (λ d. k d && not (is_left (finished o (w d))))
+    (is_kept_collection marks) (ids (births marks))
+    (λ d on. asks d (each d on)) (λ d on kept. makes d kept (each d on))
+    ∙ ap (map (collection_after pool marks)) (sym (kept_are marks)))
+  where
+    asks : (d : ℕ) → ComesTo pool o w k marks d → (k d && not (is_left (finished o (w d)))) ≡ is_kept_collection marks d
+    asks d (inl t) = (λ i. t.0 i && not (is_left (t.1 i))) ∙ left_after pool limits marks grown d
+    asks d (inr t) = rw t.0 (sym t.1)
+
+    makes : (d : ℕ) → is_kept_collection marks d ≡ true → ComesTo pool o w k marks d → finished o (w d) ≡ collection_after pool marks d
+    makes d kept (inl t) = t.1
+    makes d kept (inr t) = let clash : false ≡ true = sym t.1 ∙ kept in cc
+
+-- ---- collections of which nothing is left
+
+-- a list of no length is empty
+pub no_length : {A : Type 0} (xs : List A) → (length xs == 0) ≡ true → xs ≡ []
+no_length [] h = refl
+no_length (x ∷ xs) h = absurd (let is : length (x ∷ xs) ≡ 0 = eqb-true (length (x ∷ xs)) 0 h in omega (arith, is))
+
+-- nothing comes back
+pub left_finished : (o : Option Place) (c : Collection) → is_left c ≡ true → is_left (finished o c) ≡ true
+left_finished o c h =
+    let none : c.nodes ≡ [] = no_length c.nodes (and_left (length c.nodes == 0) _ h) in
+    let pages : (length c.held == 0) ≡ true = and_right (length c.nodes == 0) _ h in
+    (λ i. length (filter (λ n. not (is_over n)) (map (placed_node (place_of o)) (none i))) == 0 && length c.held == 0) ∙ pages
+
+-- ---- a collection that follows the marks
+
+-- one more mark leaves a node over that is over
+over_mark : (marks : Timeline) (mark : Mark) (node : NodeKey) → is_kept marks node ≡ false → is_kept (mark ∷ marks) node ≡ false
+over_mark marks mark node over =
+    let p = parts (gone marks node) (spent marks node) over in
+    let g : gone (mark ∷ marks) node ≡ true = gone_stays mark marks node p.0 in
+    let t : spent (mark ∷ marks) node ≡ true = or_right (spends node mark) (spent marks node) p.1 in
+    rw (g, t) refl
+  where
+    parts : (g t : Bool) → (not g || not t) ≡ false → (g ≡ true) × (t ≡ true)
+    parts true true h = (refl, refl)
+    parts true false h = cc
+    parts false t h = cc
+
+-- a node that is over stays so
+over_stays : (pool : ℕ) (limits : Bound) (marks later : Timeline) → Grows pool limits marks later → (node : NodeKey) →
+    is_kept marks node ≡ false → is_kept later node ≡ false
+over_stays pool limits marks _ Stays node over = over
+over_stays pool limits marks _ (Answers before client reply call g answer) node over =
+    over_mark before (Called client reply call) node (over_stays pool limits marks before g node over)
+over_stays pool limits marks _ (Loses before origin cause g born) node over =
+    over_mark before (Loss origin cause) node (over_stays pool limits marks before g node over)
+over_stays pool limits marks _ (Allocates before collection head g e) node over =
+    over_mark before (Allocated head) node (over_stays pool limits marks before g node over)
+over_stays pool limits marks _ (Ends before collection top g e) node over =
+    over_mark before (Ended top) node (over_stays pool limits marks before g node over)
+
+-- where the collection with that end there follows later marks, and holds what they hold, it comes to what they make of it
+pub finished_is : (pool : ℕ) (limits : Bound) (marks later : Timeline) → Grows pool limits marks later →
+    (others : List Interval) (o : Option Place) (c : Collection) →
+    Matches pool (is_kept marks) later others (placed_in (place_of o) c) → c.held ≡ held_after pool later c.id →
+    finished o c ≡ collection_after pool later c.id
+finished_is pool limits marks later g others o c m held = λ i. record {
+  id = c.id;
+  nodes = nodes i;
+  buffers = m.buffers i;
+  held = held i;
+}
+  where
+    asks : (n : Node) → In n (nodes_after later c.id) → (is_kept marks n.key && not (is_over n)) ≡ not (is_over n)
+    asks n on =
+        let b = In-map (node_after later) (births_in later c.id) n on in
+        elim (either_way (is_kept marks n.key)) [
+          | inl e ↦ rw e refl
+          | inr e ↦
+              let key : n.key ≡ b.0.node = ap (λ (x : Node). x.key) b.2 in
+              let over : is_kept later b.0.node ≡ false =
+              over_stays pool limits marks later g b.0.node (ap (is_kept marks) (sym key) ∙ e) in
+              let now : not (is_over n) ≡ false = ap (λ (x : Node). not (is_over x)) b.2 ∙ (not_over later b.0 ∙ over) in
+              rw (e, now) refl
+        ]
+
+    nodes : filter (λ n. not (is_over n)) (map (placed_node (place_of o)) c.nodes) ≡ filter (λ n. not (is_over n)) (nodes_after later c.id)
+    nodes =
+        ap (filter (λ n. not (is_over n))) m.nodes
+        ∙ (filter-filter (λ n. not (is_over n)) (λ (n : Node). is_kept marks n.key) (nodes_after later c.id)
+        ∙ filter-In (λ (n : Node). is_kept marks n.key && not (is_over n)) (λ n. not (is_over n)) (nodes_after later c.id) asks)

@@ -1,0 +1,16 @@
+-- A sweep where no tracker is due.
+use Rattle.std.proofs.Common.{ℕ, ◌≡◌, ap, ◌∙◌, false, not, List, ◌++◌, map}
+use Rattle.std.proofs.lemmas.List.{append-nil}
+use Rattle.sm_names.specs.Trackers.{World}
+use Rattle.sm_names.proofs.ListLaws.{In, filter-none, filter-all}
+use Rattle.trackers.specs.declared.waiting.Waiting.{Waiting}
+use Rattle.trackers.specs.Table.{TrackerTable, firing, firings, is_due, still_waiting}
+use Rattle.core_state.specs.Steps.{swept}
+
+-- where none is due, a sweep leaves the trackers
+pub none_swept : (w : World) (event : ℕ) (t : TrackerTable) → ((x : Waiting) → In x t.unfired → is_due w x ≡ false) → swept w event t ≡ t
+none_swept w event t none =
+    let still : still_waiting w t.unfired ≡ t.unfired = filter-all (λ x. not (is_due w x)) t.unfired (λ x on. ap not (none x on)) in
+    let fired : t.fired ++ firings w event t.unfired ≡ t.fired =
+    ap (λ (l : List Waiting). t.fired ++ map (firing event) l) (filter-none (is_due w) t.unfired none) ∙ append-nil t.fired in
+    λ i. record t { unfired = still i; fired = fired i }

@@ -1,0 +1,360 @@
+-- What an answered call may do to the forest.
+use Rattle.std.proofs.Common.{ℕ, ◌≡◌, ◌<◌, ◌≤◌, ◌+◌, refl, ap, sym, ◌∙◌, subst, Bool, true, false, ◌==◌, ◌||◌, nat_le, Option, Some, None, is_some, if◌then◌else◌, ◌⊎◌, inl, inr, arith}
+use Rattle.std.proofs.lemmas.Bool.{eqb-true, eq-eqb, leb-false}
+use Rattle.std.specs.Option.{option_map_or}
+use Rattle.std.proofs.Math.Bool.{and-false}
+use Rattle.sm_names.specs.declared.keys.BufferName.{BufferName}
+use Rattle.sm_names.specs.declared.keys.NodeKey.{NodeKey}
+use Rattle.sm_names.specs.declared.keys.Strength.{Strength}
+use Rattle.sm_names.specs.declared.messages.Call.{Call}
+use Rattle.sm_names.specs.declared.messages.Reply.{Reply}
+use Rattle.sm_names.specs.declared.outcomes.Cause.{Cause}
+use Rattle.sm_names.specs.declared.outcomes.Fault.{Fault}
+use Rattle.sm_names.specs.declared.outcomes.Misuse.{Misuse}
+use Rattle.sm_names.specs.declared.outcomes.Refusal.{Refusal}
+use Rattle.sm_names.specs.Answers.{OpenEnd, answer, closing, effect, makes_node, new_key, of_end}
+use Rattle.sm_names.specs.Bounds.{Bound}
+use Rattle.sm_names.specs.Marks.{took_effect}
+use Rattle.sm_names.specs.Timelines.{key_of}
+use Rattle.sm_names.specs.Words.{when}
+use Rattle.sm_names.proofs.AnswerLaws.{took_effect_all}
+use Rattle.sm_names.proofs.ListLaws.{In, In-find}
+use Rattle.sm_names.proofs.RejectLaws.{is_refusal}
+use Rattle.sm_names.proofs.SamenessLaws.{none_or_some}
+use Rattle.sm_names.proofs.SettledLaws.{and_then-Some, map-Some}
+use Rattle.buffer_pool.specs.Holdings.{Holdings}
+use Rattle.forest_store.specs.declared.change.Change.{Change}
+use Rattle.forest_store.specs.declared.change.Effect.{Effect}
+use Rattle.forest_store.specs.declared.node.Node.{Node}
+use Rattle.forest_store.specs.Forest.{Collection, Forest, collection_at, node_count, node_at}
+use Rattle.forest_store.specs.Nodes.{is_spent}
+use Rattle.forest_store.specs.Settling.{MayChange, is_birth, is_there, no_key}
+use Rattle.core_state.specs.Reads.{end_in, open_end_of, readings_of}
+use Rattle.core_state.specs.State.{State}
+use Rattle.core_state.specs.Steps.{Work, at_node, done_to, drop_at, loss_at, work_of}
+use Rattle.core_state.specs.Tasks.{released_by, spent_by}
+use Rattle.core_state.specs.Whole.{AreUpTo, IsSound, IsWhole}
+use Rattle.core_state.proofs.forced.Dropping.{took_last}
+use Rattle.core_state.proofs.forced.Losing.{IsLosing, losing}
+use Rattle.core_state.proofs.answers.Passed.{Passed, is_closed, passed}
+use Rattle.core_state.proofs.forced.Forest.{node_with_key}
+
+-- the node that the call names, and that its end is there
+pub record Named (s : State) (call : Call) (reply : Reply) (key : NodeKey) : Type 0 where
+  pub node : Node
+  pub at : node_at s.forest key ≡ Some node
+  pub unspent : is_spent node.end ≡ false
+  pub unfailed : closing call ≡ None → is_closed reply ≡ false → node.fault ≡ None
+
+-- what stands behind an end that is read
+pub end_at : (s : State) (n : Node) (e : OpenEnd) → (if is_spent n.end then None else Some (open_end_of s n)) ≡ Some e →
+    (is_spent n.end ≡ false) × (e ≡ open_end_of s n)
+end_at s n e is = by (is_spent n.end) refl
+  where
+    by : (b : Bool) → is_spent n.end ≡ b → (is_spent n.end ≡ false) × (e ≡ open_end_of s n)
+    by true gone = let none : None ≡ Some e = rw gone at is in cc
+    by false here = let some : Some (open_end_of s n) ≡ Some e = rw here at is in (here, cc)
+
+-- a call that is not refused names a node that is there
+pub named : (limits : Bound) (s : State) (client : ℕ) (new : NodeKey) (call : Call) (reply : Reply) (key : NodeKey) →
+    reply ≡ answer limits (readings_of s) client new call → is_refusal reply ≡ false → key_of call ≡ Some key → Named s call reply key
+named limits s client new call reply key told stands is =
+    let p : Passed (readings_of s) call reply key = passed limits (readings_of s) client new call reply key told stands is in
+    let found = and_then-Some (λ (n : Node). if is_spent n.end then None else Some (open_end_of s n)) (node_at s.forest key) p.end
+    p.there in
+    let e = end_at s found.0 p.end found.2 in
+    record {
+      node = found.0;
+      at = found.1;
+      unspent = e.0;
+      unfailed = λ going alive. ap (λ (x : OpenEnd). x.fault) (sym e.1) ∙ p.not_failed going alive;
+    }
+
+-- a node with an end that has not failed is not gone
+not_gone : (gone released spent : Bool) (fault : Option Fault) → (gone ≡ true → (is_some fault || released) ≡ true) →
+    (released ≡ true → (spent || false) ≡ true) →
+    spent ≡ false → fault ≡ None → gone ≡ false
+not_gone false released spent fault failed left unspent unfailed = refl
+not_gone true released true fault failed left unspent unfailed = cc
+not_gone true true false fault failed left unspent unfailed = let none : false ≡ true = left refl in cc
+not_gone true false false None failed left unspent unfailed = let none : false ≡ true = failed refl in cc
+not_gone true false false (Some f) failed left unspent unfailed = cc
+
+-- the node stands in a collection
+pub record Stands (s : State) (key : NodeKey) (n : Node) : Type 0 where
+  pub collection : Collection
+  pub there : In collection s.forest.collections
+  pub id : collection.id ≡ n.collection
+  pub gone : is_spent n.end ≡ false → n.fault ≡ None → n.gone ≡ false
+
+pub stands : (s : State) (key : NodeKey) (n : Node) → IsSound s.forest → node_at s.forest key ≡ Some n → Stands s key n
+stands s key n sound at =
+    let c = node_with_key s.forest key n at in
+    let fit = sound.fit c.0 c.1 n c.2 in
+    record {
+      collection = c.0;
+      there = c.1;
+      id = sym fit.collection;
+      gone = not_gone n.gone n.released (is_spent n.end) n.fault fit.failed fit.left;
+    }
+
+-- a node that is not gone is in its collection
+is_in : (f : Forest) (key : NodeKey) (n : Node) → node_at f key ≡ Some n → n.gone ≡ false → is_there f n.collection key ≡ true
+is_in f key n at here = rw (at, eq-eqb n.collection n.collection refl, here) refl
+
+-- a collection that has another id than all is not there
+not_there : (f : Forest) (most id : ℕ) → AreUpTo most f → most < id → collection_at f id ≡ None
+not_there f most id below above = by (none_or_some (collection_at f id))
+  where
+    by : (collection_at f id ≡ None) ⊎ ((c : Collection) × (collection_at f id ≡ Some c)) → collection_at f id ≡ None
+    by (inl none) = none
+    by (inr some) =
+        let found = In-find (λ (x : Collection). x.id == id) f.collections some.0 some.1 in
+        let same : some.0.id ≡ id = eqb-true some.0.id id found.1 in
+        let less : some.0.id ≤ most = below some.0 found.0 in
+        absurd (omega arith)
+
+-- what is there is one
+some_is : {A : Type 0} {x y : A} → Some x ≡ Some y → x ≡ y
+some_is h = cc
+
+-- nothing is something
+none_some : {A B : Type 0} {x : A} → None ≡ Some x → B
+none_some h = cc
+
+-- ---- what the event changes
+
+-- the change may be made, its collection is a new one or was there, a release spends the end, and a birth tells of a key
+pub record Well (s : State) (call : Call) (asked : Reply) (w : Work) : Type 0 where
+  pub may : MayChange s.forest w.collection w.change
+  pub within : w.collection ≤ s.events + 1
+  pub releases : (key : NodeKey) → released_by w.change ≡ Some key → spent_by call asked ≡ Some key
+  pub births : is_birth w.change ≡ is_some (new_key asked)
+
+-- what is known of a core where the call is answered
+pub record Known (limits : Bound) (s : State) (client : ℕ) (call : Call) (asked : Reply) : Type 0 where
+  pub pool : Holdings
+  pub whole : IsWhole pool limits s.events s.clients s.forest s.holds s.trackers
+  pub told : asked ≡ answer limits (readings_of s) client no_key call
+
+module _ (limits : Bound) (s : State) (client : ℕ) (call : Call) (asked : Reply) (known : Known limits s client call asked) where
+  -- a call on a node that has not failed
+  on_node : (key : NodeKey) → is_refusal asked ≡ false → is_closed asked ≡ false → closing call ≡ None → key_of call ≡ Some key →
+      (n : Node) × (node_at s.forest key ≡ Some n) × (is_there s.forest n.collection key ≡ true) × (n.collection ≤ s.events + 1)
+  on_node key stands_so alive going is =
+      let named_so : Named s call asked key = named limits s client no_key call asked key known.told stands_so is in
+      let stands_there : Stands s key named_so.node = stands s key named_so.node known.whole.sound named_so.at in
+      let gone : named_so.node.gone ≡ false = stands_there.gone named_so.unspent (named_so.unfailed going alive) in
+      let less : stands_there.collection.id ≤ s.events = known.whole.opened stands_there.collection stands_there.there in
+      let same : stands_there.collection.id ≡ named_so.node.collection = stands_there.id in
+      (named_so.node, named_so.at, is_in s.forest key named_so.node named_so.at gone, omega arith)
+
+  -- a call that takes effect on its node
+  effect_well : (key : NodeKey) (effect : Effect) → is_refusal asked ≡ false → is_closed asked ≡ false → closing call ≡ None →
+      key_of call ≡ Some key → new_key asked ≡ None →
+      ((k : NodeKey) → released_by (Change.Effect key effect) ≡ Some k → spent_by call asked ≡ Some k) →
+      ((k : NodeKey) (n : Node) → Change.Effect key effect ≡ Change.Effect k Effect.Tracked → node_at s.forest k ≡ Some n →
+      n.trackers < 64) →
+      (w : Work) → at_node s.forest key (λ n. Change.Effect key effect) ≡ Some w → Well s call asked w
+  effect_well key effect stands_so alive going is none releases tracks w work =
+      let on = on_node key stands_so alive going is in
+      let w_is : record { collection = on.0.collection; change = Change.Effect key effect } ≡ w = some_is (rw on.1 at work) in
+      subst (Well s call asked) w_is (record {
+        may = record { named = on.2; room = λ h. cc; heads = refl; trackers = tracks };
+        within = on.3;
+        releases = releases;
+        births = rw none refl;
+      })
+
+  -- a misuse, which fails the node
+  misuse_well : (key : NodeKey) (misuse : Misuse) → is_refusal asked ≡ false → is_closed asked ≡ false → closing call ≡ None →
+      key_of call ≡ Some key → new_key asked ≡ None →
+      (w : Work) → at_node s.forest key (λ n. Change.Loss key (Cause.Misused misuse)) ≡ Some w → Well s call asked w
+  misuse_well key misuse stands_so alive going is none w work =
+      let on = on_node key stands_so alive going is in
+      let w_is : record { collection = on.0.collection; change = Change.Loss key (Cause.Misused misuse) } ≡ w = some_is (rw on.1 at work) in
+      subst (Well s call asked) w_is (record {
+        may = record { named = on.2; room = λ h. cc; heads = refl; trackers = λ k n h. cc };
+        within = on.3;
+        releases = λ k h. cc;
+        births = rw none refl;
+      })
+
+-- a Close that fails its node
+close_well : (limits : Bound) (s : State) (client : ℕ) (key : NodeKey) → Known limits s client (Call.Close key) Reply.Done → (w : Work) →
+    loss_at s.forest key Cause.Lost ≡ Some w → Well s (Call.Close key) Reply.Done w
+close_well limits s client key known w work =
+    let l : IsLosing s.forest key Cause.Lost w = losing s.forest key Cause.Lost w work in
+    let n : Node = l.node in
+    let stands_there : Stands s key n = stands s key n known.whole.sound l.at in
+    let less : stands_there.collection.id ≤ s.events = known.whole.opened stands_there.collection stands_there.there in
+    let same : stands_there.collection.id ≡ n.collection = stands_there.id in
+    let w_is : record { collection = n.collection; change = Change.Loss key Cause.Lost } ≡ w = some_is (rw l.at at l.work_at) in
+    subst (Well s (Call.Close key) Reply.Done) w_is (record {
+      may = record { named = is_in s.forest key n l.at l.here; room = λ h. cc; heads = refl; trackers = λ k n h. cc };
+      within = omega arith;
+      releases = λ k h. cc;
+      births = refl;
+    })
+
+-- what is answered under a test that does not hold
+not_met : (b : Bool) (reply : Reply) → when b reply ≡ None → b ≡ false
+not_met true reply none = cc
+not_met false reply none = refl
+
+-- room for one more node
+node_fits : (limits : Bound) (s : State) (client : ℕ) (call : Call) (asked : Reply) → Known limits s client call asked →
+    took_effect asked ≡ true → closing call ≡ None →
+    makes_node call ≡ true → node_count s.forest < s.forest.limit
+node_fits limits s client call asked known effective going makes =
+    let all = took_effect_all limits (readings_of s) client no_key call asked effective going known.told in
+    let test : nat_le limits.nodes (node_count s.forest) ≡ false =
+    not_met (nat_le limits.nodes (node_count s.forest)) (Reply.Refused Refusal.TooManyNodes) (rw makes at all.nodes_fit) in
+    let less : node_count s.forest < limits.nodes = leb-false limits.nodes (node_count s.forest) test in
+    rw known.whole.limit less
+
+-- a new collection
+root_well : (limits : Bound) (s : State) (client : ℕ) (key : NodeKey) (c : ℕ) → Known limits s client Call.OpenRoot (Reply.Token key c) →
+    (w : Work) → Some (record { collection = c; change = Change.Birth None false client (s.events + 1) }) ≡ Some w →
+    Well s Call.OpenRoot (Reply.Token key c) w
+root_well limits s client key c known w work =
+    let all = took_effect_all limits (readings_of s) client no_key Call.OpenRoot (Reply.Token key c) refl refl known.told in
+    let new : c ≡ s.events + 1 = token_is all.answered in
+    let none : collection_at s.forest c ≡ None = not_there s.forest s.events c known.whole.opened (omega arith) in
+    let room : node_count s.forest < s.forest.limit = node_fits limits s client Call.OpenRoot (Reply.Token key c) known refl refl refl in
+    subst (Well s Call.OpenRoot (Reply.Token key c)) (some_is work) (record {
+      may = record { named = rw none refl; room = λ h. room; heads = refl; trackers = λ k n h. cc };
+      within = omega arith;
+      releases = λ k h. cc;
+      births = refl;
+    })
+  where
+    token_is : {a b : NodeKey} {x y : ℕ} → Reply.Token a x ≡ Reply.Token b y → x ≡ y
+    token_is h = cc
+
+-- what is read of an end that is there
+read_end : (s : State) (key : NodeKey) (n : Node) → node_at s.forest key ≡ Some n → is_spent n.end ≡ false →
+    end_in s key ≡ Some (open_end_of s n)
+read_end s key n at unspent = rw (at, unspent) refl
+
+-- a new child, attached or not
+child_well : (limits : Bound) (s : State) (client : ℕ) (call : Call) (attached : Bool) (above key : NodeKey) (c : ℕ) →
+    key_of call ≡ Some above → closing call ≡ None → makes_node call ≡ true →
+    effect (readings_of s) client no_key call ≡ of_end (readings_of s) above (λ e. Reply.Token no_key e.collection) →
+    Known limits s client call (Reply.Token key c) →
+    (w : Work) → Some (record { collection = c; change = Change.Birth (Some above) attached client (s.events + 1) }) ≡ Some w →
+    Well s call (Reply.Token key c) w
+child_well limits s client call attached above key c is going makes tells known w work =
+    let all = took_effect_all limits (readings_of s) client no_key call (Reply.Token key c) refl going known.told in
+    let named_so : Named s call (Reply.Token key c) above =
+    named limits s client no_key call (Reply.Token key c) above known.told refl is in
+    let on = on_node limits s client call (Reply.Token key c) known above refl refl going is in
+    let same : named_so.node ≡ on.0 = some_is (sym named_so.at ∙ on.1) in
+    let told : Reply.Token key c ≡ Reply.Token no_key named_so.node.collection = all.answered ∙ tells
+    ∙ ap (λ (o : Option OpenEnd). option_map_or (λ (e : OpenEnd). Reply.Token no_key e.collection) o (Reply.Refused Refusal.NoSuchEnd))
+    (read_end s above named_so.node named_so.at named_so.unspent) in
+    let new : c ≡ on.0.collection = token_is told ∙ ap (λ (n : Node). n.collection) same in
+    let room : node_count s.forest < s.forest.limit = node_fits limits s client call (Reply.Token key c) known refl going makes in
+    subst (Well s call (Reply.Token key c)) (some_is work) (record {
+      may = record { named = rw new on.2; room = λ h. room; heads = and-false attached; trackers = λ k n h. cc };
+      within = rw new on.3;
+      releases = λ k h. cc;
+      births = refl;
+    })
+  where
+    token_is : {a b : NodeKey} {x y : ℕ} → Reply.Token a x ≡ Reply.Token b y → x ≡ y
+    token_is h = cc
+
+-- a call that is answered as a misuse is no Close
+not_closing : (limits : Bound) (s : State) (client : ℕ) (call : Call) (key : NodeKey) (m : Misuse) →
+    Known limits s client call (Reply.Misused m) → key_of call ≡ Some key → closing call ≡ None
+not_closing limits s client (Call.Close key) key' m known is =
+    let p : Passed (readings_of s) (Call.Close key) (Reply.Misused m) key =
+    passed limits (readings_of s) client no_key (Call.Close key) (Reply.Misused m) key known.told refl refl in
+    let done : Reply.Misused m ≡ Reply.Done = p.closed Reply.Done refl in
+    cc
+not_closing limits s client _ key m known is = refl
+
+-- what a misuse changes
+misused_well : (limits : Bound) (s : State) (client : ℕ) (call : Call) (m : Misuse) → Known limits s client call (Reply.Misused m) →
+    (w : Work) → work_of s client call (Reply.Misused m) ≡ Some w → Well s call (Reply.Misused m) w
+misused_well limits s client call m known w work =
+    let found = and_then-Some (λ key. at_node s.forest key (λ n. Change.Loss key (Cause.Misused m))) (key_of call) w work in
+    misuse_well limits s client call (Reply.Misused m) known found.0 m refl refl (not_closing limits s client call found.0 m known found.1)
+    found.1 refl w found.2
+
+-- what a drop of a handle changes
+drop_well : (limits : Bound) (s : State) (client : ℕ) (buffer : BufferName) (strength : Strength) →
+    Known limits s client (Call.DropHandle buffer strength) Reply.Done →
+    (w : Work) → drop_at s buffer strength ≡ Some w → Well s (Call.DropHandle buffer strength) Reply.Done w
+drop_well limits s client buffer strength known w work =
+    let found = map-Some (λ (c : Collection). record { collection = buffer.collection; change = Change.Nothing })
+    (collection_at s.forest buffer.collection) w (took_last s buffer strength w work) in
+    let here = In-find (λ (c : Collection). c.id == buffer.collection) s.forest.collections found.0 found.1 in
+    let same : found.0.id ≡ buffer.collection = eqb-true found.0.id buffer.collection here.1 in
+    let less : found.0.id ≤ s.events = known.whole.opened found.0 here.0 in
+    subst (Well s (Call.DropHandle buffer strength) Reply.Done) found.2 (record {
+      may = record { named = rw found.1 refl; room = λ h. cc; heads = refl; trackers = λ k n h. cc };
+      within = omega arith;
+      releases = λ k h. cc;
+      births = refl;
+    })
+
+-- a node on which one more tracker is made has fewer than 64
+few_trackers : (limits : Bound) (s : State) (client : ℕ) (key : NodeKey) (id : ℕ) →
+    Known limits s client (Call.TrackNode key) (Reply.Tracker id) →
+    (n : Node) → node_at s.forest key ≡ Some n → n.trackers < 64
+few_trackers limits s client key id known n at =
+    let all = took_effect_all limits (readings_of s) client no_key (Call.TrackNode key) (Reply.Tracker id) refl refl known.told in
+    let named_so : Named s (Call.TrackNode key) (Reply.Tracker id) key =
+    named limits s client no_key (Call.TrackNode key) (Reply.Tracker id) key known.told refl refl in
+    let same : named_so.node ≡ n = some_is (sym named_so.at ∙ at) in
+    let unspent : is_spent n.end ≡ false = subst (λ (m : Node). is_spent m.end ≡ false) same named_so.unspent in
+    let none : when (nat_le 64 n.trackers) (Reply.Misused Misuse.TooManyNodeTrackers) ≡ None =
+    rw (read_end s key n at unspent) at all.no_misuse in
+    leb-false 64 n.trackers (not_met (nat_le 64 n.trackers) (Reply.Misused Misuse.TooManyNodeTrackers) none)
+
+-- what a call that was answered Done changes
+done_well : (limits : Bound) (s : State) (client : ℕ) (call : Call) → Known limits s client call Reply.Done → (w : Work) →
+    done_to s call ≡ Some w → Well s call Reply.Done w
+done_well limits s client (Call.Bind key) known w work =
+    effect_well limits s client (Call.Bind key) Reply.Done known key Effect.Bound refl refl refl refl refl (λ k h. cc) (λ k n h. cc) w work
+done_well limits s client (Call.SetDispensable key) known w work =
+    effect_well limits s client (Call.SetDispensable key) Reply.Done known key Effect.Dispensable refl refl refl refl refl (λ k h.
+    cc) (λ k n h. cc) w work
+done_well limits s client (Call.SetWeak key) known w work = effect_well limits s client (Call.SetWeak key) Reply.Done known key Effect.Weak
+    refl refl refl refl refl (λ k h. cc) (λ k n h. cc) w work
+done_well limits s client (Call.SetWeakOk key children) known w work =
+    effect_well limits s client (Call.SetWeakOk key children) Reply.Done known key (Effect.WeakOk children) refl refl refl refl refl (λ k h.
+    cc) (λ k n h. cc) w work
+done_well limits s client (Call.SetConstraints key demand) known w work =
+    effect_well limits s client (Call.SetConstraints key demand) Reply.Done known key (Effect.Constrained demand) refl refl refl refl refl
+    (λ k h. cc) (λ k n h. cc) w work
+done_well limits s client (Call.Release key) known w work =
+    effect_well limits s client (Call.Release key) Reply.Done known key Effect.Released refl refl refl refl refl (λ k h. h) (λ k n h.
+    cc) w work
+done_well limits s client (Call.Close key) known w work = close_well limits s client key known w work
+done_well limits s client (Call.DropHandle buffer strength) known w work = drop_well limits s client buffer strength known w work
+done_well limits s client _ known w work = none_some work
+
+-- what an answered call changes, it may change
+pub well : (limits : Bound) (s : State) (client : ℕ) (call : Call) (asked : Reply) → Known limits s client call asked → (w : Work) →
+    work_of s client call asked ≡ Some w → Well s call asked w
+well limits s client Call.OpenRoot (Reply.Token key c) known w work = root_well limits s client key c known w work
+well limits s client (Call.Duplicate above) (Reply.Token key c) known w work =
+    child_well limits s client (Call.Duplicate above) false above key c refl refl refl refl known w work
+well limits s client (Call.AttachToken above) (Reply.Token key c) known w work =
+    child_well limits s client (Call.AttachToken above) true above key c refl refl refl refl known w work
+well limits s client call (Reply.Misused m) known w work = misused_well limits s client call m known w work
+well limits s client call Reply.Done known w work = done_well limits s client call known w work
+well limits s client (Call.Take key) (Reply.Taken c strength set) known w work =
+    effect_well limits s client (Call.Take key) (Reply.Taken c strength set) known key Effect.Taken refl refl refl refl refl (λ k h.
+    cc) (λ k n h. cc) w work
+well limits s client (Call.TrackNode key) (Reply.Tracker id) known w work =
+    effect_well limits s client (Call.TrackNode key) (Reply.Tracker id) known key Effect.Tracked refl refl refl refl refl (λ k h.
+    cc) (λ k n is at. few k n is at) w work
+  where
+    few : (k : NodeKey) (n : Node) → Change.Effect key Effect.Tracked ≡ Change.Effect k Effect.Tracked → node_at s.forest k ≡ Some n →
+        n.trackers < 64
+    few k n is at = let same : key ≡ k = cc in few_trackers limits s client key id known n (rw same at)
+well limits s client _ _ known w work = none_some work

@@ -1,0 +1,245 @@
+-- What opening and closing handles does to the counts.
+use Rattle.std.proofs.Common.{ℕ, zero, suc, ◌≡◌, ◌+◌, ◌-◌, ◌/◌, ◌^◌, ◌<◌, ◌≤◌, ◌==◌, ◌&&◌, nat_lt, refl, sym, subst, ap, ◌∙◌, Bool, true, false, if◌then◌else◌, arith}
+use Rattle.std.specs.Int.{bit_at}
+use Rattle.std.proofs.lemmas.Bool.{eqb-true, eq-eqb}
+use Rattle.std.proofs.lemmas.Grind.{common_steps}
+use Rattle.sm_names.specs.declared.keys.BufferName.{BufferName}
+use Rattle.sm_names.specs.declared.keys.Strength.{Strength}
+use Rattle.sm_names.specs.Sameness.{same_buffer, same_strength}
+use Rattle.sm_names.proofs.SamenessLaws.{and_right}
+use Rattle.event_laws.specs.ByEvent.{one_if}
+use Rattle.event_laws.proofs.SetLaws.{rest_next, rest_bit}
+use Rattle.buffer_holds.specs.Changes.{Sets, Tidies}
+use Rattle.buffer_holds.specs.Counts.{Counts, of, moving_count, total, share}
+use Rattle.buffer_holds.specs.Kinds.{kind_of, hold_of, same_hold}
+use Rattle.buffer_holds.specs.Rows.{row_at}
+use Rattle.buffer_holds.proofs.KindLemmas.{same_hold-one, same_kind-one, same_hold-refl, same_kind-refl}
+use Rattle.buffer_holds.proofs.RowLemmas.{weight_at-le-sum_by}
+use Rattle.buffer_holds.proofs.SoundLemmas.{weight_at-share}
+use Rattle.core_state.specs.Hands.{Opens, is_the, is_below}
+use Rattle.core_state.specs.State.{counts_of}
+
+-- a client's handles are at most all
+pub of-le-total : (holds : Counts) (client : ℕ) (buffer : BufferName) (strength : Strength) →
+    of holds client buffer strength ≤ total holds buffer strength
+of-le-total holds client buffer strength =
+    let hold = hold_of client buffer strength in
+    omega (
+      arith,
+      weight_at-le-sum_by (share hold.kind) (same_hold hold) hold (same_hold-one hold) holds.rows,
+      weight_at-share hold.kind hold (row_at holds.rows hold) true (same_kind-refl hold.kind),
+    )
+
+-- counts that agree everywhere are the same
+pub same_counts : (old new : Counts) → ((c : ℕ) (b : BufferName) (s : Strength) → of new c b s ≡ of old c b s) →
+    ((b : BufferName) (s : Strength) → moving_count new b s ≡ moving_count old b s) →
+    ((b : BufferName) (s : Strength) → total new b s ≡ total old b s) → counts_of new ≡ counts_of old
+same_counts old new each in_parcels in_all = λ i. record {
+  of = λ c b s. each c b s i;
+  moving = λ b s. in_parcels b s i;
+  total = λ b s. in_all b s i;
+}
+
+-- ---- one count, where only that of these handles changes
+
+-- it goes up
+pub up : {new old at : ℕ} (x : Bool) → new ≡ (if x then at + 1 else old) → (x ≡ true → at ≡ old) → new ≡ old + one_if x
+up true is one = let here = one refl in omega arith
+up false is one = omega arith
+
+-- it goes down
+pub down : {new old at : ℕ} (x : Bool) → 0 < at → new ≡ (if x then at - 1 else old) → (x ≡ true → at ≡ old) → old ≡ new + one_if x
+down true some is one = let here = one refl in omega arith
+down false some is one = omega arith
+
+-- it stays
+pub still : {new old at : ℕ} (x : Bool) → new ≡ (if x then at else old) → (x ≡ true → at ≡ old) → new ≡ old
+still true is one = is ∙ one refl
+still false is one = is
+
+-- these handles have one count
+module _ (client : ℕ) (buffer : BufferName) (strength : Strength) where
+  pub one_hold : (count : ℕ → BufferName → Strength → ℕ) (c : ℕ) (b : BufferName) (s : Strength) →
+      (client == c && is_the buffer strength b s) ≡ true → count client buffer strength ≡ count c b s
+  one_hold count c b s same =
+      ap (λ h. count h.client h.kind.buffer h.kind.strength) (same_hold-one (hold_of client buffer strength) (hold_of c b s) same)
+
+  pub one_kind : (count : BufferName → Strength → ℕ) (b : BufferName) (s : Strength) → is_the buffer strength b s ≡ true →
+      count buffer strength ≡ count b s
+  one_kind count b s same = ap (λ k. count k.buffer k.strength) (same_kind-one (kind_of buffer strength) (kind_of b s) same)
+
+-- ---- one handle
+
+-- one handle more
+pub opens_one : (old new : Counts) (client : ℕ) (buffer : BufferName) (strength : Strength) →
+    Sets old new client buffer strength (of old client buffer strength + 1) (moving_count old buffer strength) (total old buffer strength + 1) →
+    Opens old new client (is_the buffer strength)
+opens_one old new client buffer strength sets = record {
+  counts = λ c b s. up (client == c && is_the buffer strength b s) (sets.counts c b s) (one_hold client buffer strength (of old) c b s);
+  parcels = λ b s. still (is_the buffer strength b s) (sets.parcels b s) (one_kind client buffer strength (moving_count old) b s);
+  totals = λ b s. up (is_the buffer strength b s) (sets.totals b s) (one_kind client buffer strength (total old) b s);
+}
+
+-- one handle less, where there was one
+pub closes_one : (old mid new : Counts) (client : ℕ) (buffer : BufferName) (strength : Strength) → 0 < of old client buffer strength →
+    Sets old mid client buffer strength (of old client buffer strength - 1) (moving_count old buffer strength) (total old buffer strength - 1) →
+    Tidies mid new client buffer strength →
+    Opens new old client (is_the buffer strength)
+closes_one old mid new client buffer strength some sets tidies = record {
+  counts = λ c b s. down (client == c && is_the buffer strength b s) some (tidies.counts c b s
+      ∙ sets.counts c b s) (one_hold client buffer strength (of old) c b s);
+  parcels = λ b s. sym (still (is_the buffer strength b s) (tidies.parcels b s
+      ∙ sets.parcels b s) (one_kind client buffer strength (moving_count old) b s));
+  totals = λ b s. down (is_the buffer strength b s) (omega (arith, of-le-total old client buffer strength)) (tidies.totals b s
+      ∙ sets.totals b s) (one_kind client buffer strength (total old) b s);
+}
+
+-- a handle that was opened is there
+pub has_one : (old new : Counts) (client : ℕ) (buffer : BufferName) (strength : Strength) → Opens old new client (is_the buffer strength) →
+    0 < of new client buffer strength
+has_one old new client buffer strength opens =
+    let it : one_if (client == client && is_the buffer strength buffer strength) ≡ 1 =
+    ap one_if (same_hold-refl (hold_of client buffer strength)) in
+    omega (arith, it, opens.counts client buffer strength)
+
+-- what was opened from the one counts and from the others leaves both the same
+pub same_before : (before new old : Counts) (client : ℕ) (passes : BufferName → Strength → Bool) → Opens before old client passes →
+    Opens new old client passes → counts_of new ≡ counts_of before
+same_before before new old client passes opened closed = same_counts before new
+    (λ c b s. let a = opened.counts c b s in let d = closed.counts c b s in omega arith)
+    (λ b s. sym (closed.parcels b s) ∙ opened.parcels b s)
+    (λ b s. let a = opened.totals b s in let d = closed.totals b s in omega arith)
+
+-- a number that is not the next is below it only where it is below this one
+next_lt : (n m : ℕ) → (m == n) ≡ false → nat_lt n (m + 1) ≡ nat_lt n m
+next_lt n m other = grind (arith, common_steps)
+
+-- a number is below the next
+next_is : (n : ℕ) → nat_lt n (n + 1) ≡ true
+next_is n = grind (arith, common_steps)
+
+-- nothing is added
+plus_zero : (n : ℕ) → n + 0 ≡ n
+plus_zero n = omega arith
+
+-- a test that fails fails beside others
+and_false : (a b c : Bool) → (a && (b && (c && false))) ≡ false
+and_false true true true = refl
+and_false true true false = refl
+and_false true false c = refl
+and_false false b c = refl
+
+module _ (collection : ℕ) (strength : Strength) (set : ℕ) where
+  -- the buffer with this index
+  abbrev at : ℕ → BufferName
+  at index = record { collection = collection; index = index }
+
+  -- the buffers of the set below the next index are those below this one, and the one with this index
+  next_below : (who : Bool) (index : ℕ) (b : BufferName) (s : Strength) → bit_at set index ≡ 1 →
+      one_if (who && is_below collection strength set (index + 1) b s)
+      ≡ one_if (who && is_below collection strength set index b s) + one_if (who && is_the (at index) strength b s)
+  next_below who index b s has = split who (collection == b.collection) (same_strength strength s) (index == b.index) refl
+    where
+      split : (who here strong same : Bool) → (index == b.index) ≡ same →
+          one_if (who && (here && (strong && (bit_at set b.index == 1 && nat_lt b.index (index + 1)))))
+          ≡ one_if (who && (here && (strong && (bit_at set b.index == 1 && nat_lt b.index index)))) + one_if
+          (who && ((here && same) && strong))
+      split false here strong same is = refl
+      split true false strong same is = refl
+      split true true false true is = refl
+      split true true false false is = refl
+      split true true true true is =
+          let here : index ≡ b.index = eqb-true index b.index is in
+          let bit : bit_at set b.index ≡ 1 = ap (bit_at set) (sym here) ∙ has in
+          rw bit (grind (arith, common_steps))
+      split true true true false is = ap (λ t. one_if (bit_at set b.index == 1 && t)) (next_lt b.index index is) ∙ sym (plus_zero _)
+
+  -- where the set has not the buffer with this index there is none more
+  none_below : (index : ℕ) (b : BufferName) (s : Strength) → (bit_at set index == 1) ≡ false →
+      is_below collection strength set (index + 1) b s ≡ is_below collection strength set index b s
+  none_below index b s lacks = ap (λ t. collection == b.collection && (same_strength strength s && t)) (by (index == b.index) refl)
+    where
+      by : (same : Bool) → (index == b.index) ≡ same →
+          (bit_at set b.index == 1 && nat_lt b.index (index + 1)) ≡ (bit_at set b.index == 1 && nat_lt b.index index)
+      by true is =
+          let here : index ≡ b.index = eqb-true index b.index is in
+          let bit : (bit_at set b.index == 1) ≡ false = ap (λ i. bit_at set i == 1) (sym here) ∙ lacks in
+          rw bit refl
+      by false is = ap (λ t. bit_at set b.index == 1 && t) (next_lt b.index index is)
+
+  -- nothing is below 0
+  nothing_below : (b : BufferName) (s : Strength) → is_below collection strength set 0 b s ≡ false
+  nothing_below b s =
+      let never : nat_lt b.index 0 ≡ false = grind (arith, common_steps) in
+      rw never (and_false (collection == b.collection) (same_strength strength s) (bit_at set b.index == 1))
+
+  -- no handle was opened yet
+  pub opens_none : (holds : Counts) (client : ℕ) → Opens holds holds client (is_below collection strength set 0)
+  opens_none holds client = record {
+    counts = λ c b s. rw (nothing_below b s) (none_more (client == c));
+    parcels = λ b s. refl;
+    totals = λ b s. rw (nothing_below b s) (omega arith);
+  }
+    where
+      none_more : {n : ℕ} (who : Bool) → n ≡ n + one_if (who && false)
+      none_more true = omega arith
+      none_more false = omega arith
+
+  -- one more, where the set has it
+  pub opens_next : (before old new : Counts) (client index : ℕ) → bit_at set index ≡ 1 → Opens old new client (is_the (at index) strength) →
+      Opens before old client (is_below collection strength set index) →
+      Opens before new client (is_below collection strength set (index + 1))
+  opens_next before old new client index has one opened = record {
+    counts = λ c b s. let d =
+        one.counts c b s in let a = opened.counts c b s in let e = next_below (client == c) index b s has in omega arith;
+    parcels = λ b s. one.parcels b s ∙ opened.parcels b s;
+    totals = λ b s. let d = one.totals b s in let a = opened.totals b s in let e = next_below true index b s has in omega arith;
+  }
+
+  -- one less, where the set has it
+  pub opens_less : (before old new : Counts) (client index : ℕ) → bit_at set index ≡ 1 → (0 < of old client (at index) strength →
+      Opens new old client (is_the (at index) strength)) →
+      Opens before old client (is_below collection strength set (index + 1)) →
+      Opens before new client (is_below collection strength set index)
+  opens_less before old new client index has closes opened =
+      let strong : same_strength strength strength ≡ true =
+      and_right (same_buffer (at index) (at index)) (same_strength strength strength) (same_kind-refl (kind_of (at index) strength)) in
+      let there : one_if (client == client && is_below collection strength set (index + 1) (at index) strength) ≡ 1 =
+      rw (eq-eqb client client refl, eq-eqb collection collection refl, strong, has, next_is index) refl in
+      let one : Opens new old client (is_the (at index) strength) =
+      closes (omega (arith, opened.counts client (at index) strength, there)) in
+      record {
+        counts = λ c b s. let d =
+            one.counts c b s in let a = opened.counts c b s in let e = next_below (client == c) index b s has in omega arith;
+        parcels = λ b s. sym (one.parcels b s) ∙ opened.parcels b s;
+        totals = λ b s. let d = one.totals b s in let a = opened.totals b s in let e = next_below true index b s has in omega arith;
+      }
+
+  -- none more, where the set lacks it
+  pub opens_same : (before new : Counts) (client index : ℕ) → (bit_at set index == 1) ≡ false →
+      Opens before new client (is_below collection strength set index) →
+      Opens before new client (is_below collection strength set (index + 1))
+  opens_same before new client index lacks opened = record {
+    counts = λ c b s. rw (none_below index b s lacks) (opened.counts c b s);
+    parcels = opened.parcels;
+    totals = λ b s. rw (none_below index b s lacks) (opened.totals b s);
+  }
+
+  -- nor more from here on, where nothing is left of the set
+  pub opens_on : (more : ℕ) (before new : Counts) (client index : ℕ) → set / 2 ^ index ≡ 0 →
+      Opens before new client (is_below collection strength set index) →
+      Opens before new client (is_below collection strength set (index + more))
+  opens_on zero before new client index none opened =
+      let same : index ≡ index + 0 = omega arith in
+      subst (λ end. Opens before new client (is_below collection strength set end)) same opened
+  opens_on (suc more) before new client index none opened =
+      let next : (index + 1) + more ≡ index + suc more = omega arith in
+      subst (λ end. Opens before new client (is_below collection strength set end)) next
+      (opens_on more before new client (index + 1) (rest_next set index none)
+      (opens_same before new client index (rest_bit set index none) opened))
+
+  -- where none is left open the counts are those before
+  pub all_closed : (before new : Counts) (client : ℕ) → Opens before new client (is_below collection strength set 0) →
+      counts_of new ≡ counts_of before
+  all_closed before new client opened =
+      same_before before new new client (is_below collection strength set 0) opened (opens_none new client)

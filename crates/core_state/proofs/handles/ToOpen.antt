@@ -1,0 +1,95 @@
+-- The buffers that a Take opens, one after another.
+use Rattle.std.proofs.Common.{ℕ, suc, ◌≡◌, ◌<◌, ◌≤◌, ◌+◌, ◌-◌, ◌*◌, ◌%◌, ◌^◌, refl, ap, ◌∙◌, Bool, true, false, not, ◌&&◌, ◌||◌, ◌==◌, cond, List, [], ◌∷◌, map, Option, Some, None, arith}
+use Rattle.std.proofs.Math.Nat.{pow-succ'}
+use Rattle.std.proofs.Math.Pow.{pow_mono}
+use Rattle.std.proofs.lemmas.Bool.{eqb-true}
+use Rattle.std.proofs.lemmas.List.Sums.{sum_by-cons}
+use Rattle.std.specs.List.{filter, list_any, range_with_len}
+use Rattle.std.specs.Option.{option_map_or}
+use Rattle.sm_names.specs.declared.keys.BufferName.{BufferName}
+use Rattle.sm_names.specs.declared.keys.Strength.{Strength}
+use Rattle.sm_names.specs.declared.outcomes.Buffers.{Buffers}
+use Rattle.sm_names.specs.Answers.{set_of}
+use Rattle.sm_names.specs.Handles.{is_doomed}
+use Rattle.sm_names.specs.Members.{some_strong_live}
+use Rattle.sm_names.proofs.ListLaws.{In-find}
+use Rattle.buffer_holds.specs.Counts.{total}
+use Rattle.forest_store.specs.Forest.{Collection, collection_at}
+use Rattle.forest_store.specs.Nodes.{members_of}
+use Rattle.forest_store.specs.Settling.{buffer_names}
+use Rattle.core_state.specs.Reads.{buffers_in, to_open_in}
+use Rattle.core_state.specs.State.{State}
+
+-- a strong node of the collection is live
+abbrev pub strong_live_in : State → ℕ → Bool
+strong_live_in s id = option_map_or (λ (c : Collection). some_strong_live (members_of c.nodes)) (collection_at s.forest id) false
+
+-- the buffer is not doomed
+abbrev pub keeps_buffer : State → Bool → BufferName → Bool
+keeps_buffer s strong_live b = not (is_doomed (total s.holds b Strength.Strong) strong_live)
+
+-- those of n buffers that are not doomed, from this one on
+abbrev pub kept_from : State → ℕ → Bool → ℕ → ℕ → List BufferName
+kept_from s id strong_live i n =
+    filter (keeps_buffer s strong_live) (map (λ i. record { collection = id; index = i }) (range_with_len i (n - i)))
+
+-- all that are not doomed are opened
+pub all_to_open : (s : State) (id : ℕ) (given : Buffers) → buffers_in s id ≡ Some given →
+    kept_from s id (strong_live_in s id) 0 given.count ≡ to_open_in s id
+all_to_open s id given there =
+    by (collection_at s.forest id) (λ c is. eqb-true c.id id (In-find (λ (x : Collection). x.id == id) s.forest.collections c is).1) there
+  where
+    by : (o : Option Collection) → ((c : Collection) → o ≡ Some c → c.id ≡ id) →
+        option_map_or (λ (c : Collection). c.buffers) o None ≡ Some given →
+        kept_from s id (option_map_or (λ (c : Collection). some_strong_live (members_of c.nodes)) o false) 0 given.count
+        ≡ option_map_or (λ (c : Collection). filter (keeps_buffer s (some_strong_live (members_of c.nodes))) (buffer_names c)) o []
+    by None found is = absurd (cc)
+    by (Some c) found is = let whole : given.count - 0 ≡ given.count = omega arith in rw (is, found c refl, whole) refl
+
+-- the next one, and those after it
+next_kept : (s : State) (id : ℕ) (strong_live : Bool) (i n : ℕ) → i < n →
+    let name : BufferName = record { collection = id; index = i } in
+    let on : List BufferName = kept_from s id strong_live (i + 1) n in
+    kept_from s id strong_live i n ≡ cond (keeps_buffer s strong_live name) (name ∷ on) on
+next_kept s id strong_live i n more =
+    let left : n - i ≡ suc (n - (i + 1)) = omega arith in
+    ap (λ k. filter (keeps_buffer s strong_live) (map (λ i. record { collection = id; index = i }) (range_with_len i k))) left
+
+-- one passes the test exactly if the next one does, or one of those after it
+pub next_passes : (test : BufferName → Bool) (s : State) (id : ℕ) (strong_live : Bool) (i n : ℕ) → i < n →
+    let name : BufferName = record { collection = id; index = i } in
+    list_any test (kept_from s id strong_live i n) ≡ ((keeps_buffer s strong_live name && test name) || list_any test
+    (kept_from s id strong_live (i + 1) n))
+next_passes test s id strong_live i n more =
+    ap (list_any test) (next_kept s id strong_live i n more) ∙ by (keeps_buffer s strong_live (record { collection = id; index = i }))
+  where
+    by : (b : Bool) → let name : BufferName =
+        record { collection = id; index = i } in let on : List BufferName = kept_from s id strong_live (i + 1) n in
+        list_any test (cond b (name ∷ on) on) ≡ ((b && test name) || list_any test on)
+    by true = refl
+    by false = refl
+
+-- the next one adds its bit, if it is not doomed
+pub next_bit : (s : State) (id : ℕ) (strong_live : Bool) (i n : ℕ) → i < n →
+    set_of (kept_from s id strong_live i n)
+    ≡ cond (keeps_buffer s strong_live (record { collection = id; index = i })) (2 ^ i) 0 + set_of (kept_from s id strong_live (i + 1) n)
+next_bit s id strong_live i n more =
+    ap set_of (next_kept s id strong_live i n more) ∙ by (keeps_buffer s strong_live (record { collection = id; index = i }))
+  where
+    by : (b : Bool) → let name : BufferName =
+        record { collection = id; index = i } in let on : List BufferName = kept_from s id strong_live (i + 1) n in
+        set_of (cond b (name ∷ on) on) ≡ cond b (2 ^ i) 0 + set_of on
+    by true = sum_by-cons (λ (b : BufferName). 2 ^ b.index) (record { collection = id; index = i }) (kept_from s id strong_live (i + 1) n)
+    by false = omega arith
+
+-- after the last one there is none
+pub none_kept : (s : State) (id : ℕ) (strong_live : Bool) (i n : ℕ) → n ≤ i → kept_from s id strong_live i n ≡ []
+none_kept s id strong_live i n last = let none : n - i ≡ 0 = omega arith in rw none refl
+
+-- the bit of a buffer fits beside those before it
+pub bit_fits : (set i : ℕ) → set < 2 ^ i → i < 64 → (1 * 2 ^ i % 2 ^ 64 ≡ 2 ^ i) × (set + 2 ^ i < 2 ^ (i + 1)) × (2 ^ (i + 1) ≤ 2 ^ 64)
+bit_fits set i small few =
+    let same : i + 1 ≡ suc i = omega arith in
+    let next : 2 ^ (i + 1) ≡ 2 * 2 ^ i = ap (λ k. 2 ^ k) same ∙ pow-succ' 2 i in
+    let within : 2 ^ (i + 1) ≤ 2 ^ 64 = pow_mono {i = i + 1} {j = 64} (omega arith) in
+    (omega (arith, small, next, within), omega (arith, small, next), within)

@@ -1,0 +1,42 @@
+use Rattle.std.proofs.Common.{◌<◌, ◌^◌, arith, rules}
+use Rattle.std.proofs.lemmas.Bool.{OnTrue_at}
+use Rattle.std.proofs.lemmas.Result.{on_ok_weaker}
+use Rattle.core_state.proofs.handles.Opening.{of-le-total}
+use Rattle.core_state.proofs.handles.Undoing.{moves_taken, moves_dropped, moves_given, moves_collected}
+use Rattle.core_state.proofs.hands.hand_over.Goals as goal
+
+pub returns-in-Taken-clause-ok : goal.returns-in-Taken-clause-ok
+returns-in-Taken-clause-ok c =
+    let t = c.in-Taken in
+    let fits : t.set < 2 ^ 64 = search rules in
+    rw (c.in-Take.is, c.in-Taken.is) (on_ok_weaker c.open_all.result (moves_taken c.args.client c.in-Take.field-0 t.collection t.strength
+    t.set fits c.args.holds.now c.open_all.new.holds) c.open_all.ensures.ok)
+
+-- what the client has open is open
+pub prove-unreachable-requires : goal.prove-unreachable-requires
+prove-unreachable-requires c =
+    let d = c.in-DropHandle in
+    let some = rw (c.in-DropHandle.is, c.in-Done-reply.is) at c.requires in
+    let all = of-le-total c.args.holds.now c.args.client d.buffer d.strength in
+    omega (arith, some, all, c.total.ensures.value)
+
+pub returns-in-Done-reply-clause-ok : goal.returns-in-Done-reply-clause-ok
+returns-in-Done-reply-clause-ok c =
+    let d = c.in-DropHandle in
+    let some = rw (c.in-DropHandle.is, c.in-Done-reply.is) at c.requires in
+    rw (c.in-DropHandle.is, c.in-Done-reply.is) (moves_dropped c.args.client d.buffer d.strength c.args.holds.now c.sub.new.self some
+    (OnTrue_at (c.sub.ensures.had.1 some) c.sub.ensures.closed))
+
+pub returns-in_ok-lift-in-GiveHandle-clause-ok : goal.returns-in_ok-lift-in-GiveHandle-clause-ok
+returns-in_ok-lift-in-GiveHandle-clause-ok c =
+    let g = c.in-GiveHandle in
+    let some = rw (c.in-GiveHandle.is, c.in-Done-reply-2.is) at c.requires in
+    rw (c.in-GiveHandle.is, c.in-Done-reply-2.is) (moves_given c.args.client g.buffer g.strength g.field-2 c.args.holds.now c.lift.new.self
+    some (OnTrue_at (c.in_ok-lift-in-GiveHandle.ensures.had.1 some) c.in_ok-lift-in-GiveHandle.ensures.lifted))
+
+pub returns-in-CollectedHandle-clause-ok : goal.returns-in-CollectedHandle-clause-ok
+returns-in-CollectedHandle-clause-ok c =
+    let h = c.in-CollectedHandle in
+    let some = rw (c.in-Collect.is, c.in-CollectedHandle.is) at c.requires in
+    rw (c.in-Collect.is, c.in-CollectedHandle.is) (moves_collected c.args.client h.buffer h.strength c.args.holds.now c.land.new.self some
+    c.land.ensures)

@@ -1,0 +1,37 @@
+-- Which number a new client and a new tracker have.
+use Rattle.std.proofs.Common.{ℕ, ◌≡◌, ◌+◌, refl, true, false, inl, inr, ◌⊎◌}
+use Rattle.sm_names.specs.declared.keys.NodeKey.{NodeKey}
+use Rattle.sm_names.specs.declared.messages.Call.{Call}
+use Rattle.sm_names.specs.declared.messages.Reply.{Reply}
+use Rattle.sm_names.specs.Answers.{Readings, answer, effect}
+use Rattle.sm_names.specs.Bounds.{Bound}
+use Rattle.sm_names.specs.Marks.{took_effect}
+use Rattle.sm_names.proofs.AnswerLaws.{took_effect_all}
+use Rattle.sm_names.proofs.RejectLaws.{is_refusal}
+use Rattle.sm_names.proofs.SamenessLaws.{both_ways}
+use Rattle.core_state.specs.Kinds.{is_join}
+use Rattle.core_state.proofs.answers.Passed.{passed}
+use Rattle.core_state.proofs.answers.Kinds.{reply-fits}
+
+-- a call that took effect is answered so, or as a Close is
+answered : (limits : Bound) (r : Readings) (client : ℕ) (new : NodeKey) (call : Call) (reply : Reply) → took_effect reply ≡ true →
+    reply ≡ answer limits r client new call →
+    (reply ≡ effect r client new call) ⊎ (reply ≡ Reply.Done)
+answered limits r client new (Call.Close key) reply effective told =
+    inr ((passed limits r client new (Call.Close key) reply key told (stands reply effective) refl).closed Reply.Done refl)
+  where
+    stands : (reply : Reply) → took_effect reply ≡ true → is_refusal reply ≡ false
+    stands (Reply.Refused refusal) h = cc
+    stands _ h = refl
+answered limits r client new call reply effective told = inl (took_effect_all limits r client new call reply effective refl told).answered
+
+-- a client that is told of is numbered by the event
+pub joined_number : (limits : Bound) (r : Readings) (client : ℕ) (new : NodeKey) (call : Call) (made : ℕ) →
+    Reply.Joined made ≡ answer limits r client new call → made ≡ r.events + 1
+joined_number limits r client new Call.Join made told =
+    number (took_effect_all limits r client new Call.Join (Reply.Joined made) refl refl told).answered
+  where
+    number : Reply.Joined made ≡ Reply.Joined (r.events + 1) → made ≡ r.events + 1
+    number is = cc
+joined_number limits r client new call made told =
+    both_ways (is_join call) (reply-fits limits r client new call (Reply.Joined made) told) refl

@@ -1,0 +1,7 @@
+-- Lists, whatever is in them.
+pub mod ByNumber
+pub mod Maps
+pub mod Parts
+pub mod Reorderings
+pub mod Rising
+pub mod Sorted

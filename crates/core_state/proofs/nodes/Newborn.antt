@@ -1,0 +1,257 @@
+-- What a birth makes of the nodes of a collection.
+use Rattle.std.proofs.Common.{ℕ, ◌≡◌, ◌+◌, refl, ap, ◌∙◌, subst, Bool, true, false, ◌||◌, ◌==◌, List, [], ◌∷◌, ◌++◌, map, Option, Some, None}
+use Rattle.std.proofs.lemmas.Bool.{eq-eqb}
+use Rattle.std.proofs.lemmas.List.{reverse-append, map-append}
+use Rattle.std.specs.List.{list_any, filter}
+use Rattle.std.specs.Option.{option_map_or}
+use Rattle.sm_names.specs.declared.keys.NodeKey.{NodeKey}
+use Rattle.sm_names.specs.declared.messages.Call.{Call}
+use Rattle.sm_names.specs.declared.messages.Reply.{Reply}
+use Rattle.sm_names.specs.Births.{Birth, births, birth_at, was_born, head}
+use Rattle.sm_names.specs.Bounds.{Bound}
+use Rattle.sm_names.specs.Ends.{binds, spent, holder, collector, in_transit}
+use Rattle.sm_names.specs.Losses.{allocated, is_allocation}
+use Rattle.sm_names.specs.Marks.{Mark, Timeline, Called, events}
+use Rattle.sm_names.specs.Members.{births_in}
+use Rattle.sm_names.specs.Sameness.{same_key}
+use Rattle.sm_names.specs.Weakness.{weak, covered, covers_children, sets_weak, sets_weak_ok}
+use Rattle.sm_names.proofs.GrowthLaws.{Grows}
+use Rattle.sm_names.proofs.ListLaws.{In, In-filter, In-reverse, map-In}
+use Rattle.sm_names.proofs.ReachLaws.{other_key}
+use Rattle.sm_names.proofs.SamenessLaws.{or_false, same_key-refl}
+use Rattle.sm_names.proofs.SettledLaws.{In-was_born}
+use Rattle.event_laws.proofs.TransitLaws.{end_at}
+use Rattle.forest_store.specs.declared.node.End.{End}
+use Rattle.forest_store.specs.declared.node.Node.{Node}
+use Rattle.forest_store.specs.Nodes.{new_root, new_child}
+use Rattle.core_state.specs.Shown.{node_after, nodes_after, end_after}
+use Rattle.core_state.proofs.nodes.Unborn.{IsUnsaid, unsaid}
+
+-- ---- the nodes that were there
+
+-- a birth changes no other node
+pub old_node : (marks : Timeline) (client : ℕ) (reply : Reply) (call : Call) (b x : Birth) →
+    birth_at (events marks + 1) (Called client reply call) ≡ Some b → same_key b.node x.node ≡ false →
+    node_after (Called client reply call ∷ marks) x ≡ node_after marks x
+old_node marks client (Reply.Token key collection) Call.OpenRoot b x h other =
+    let called : Timeline = Called client (Reply.Token key collection) Call.OpenRoot ∷ marks in
+    let other' : same_key key x.node ≡ false =
+    ap (λ (o : Option Birth). option_map_or (λ (c : Birth). same_key c.node x.node) o false) h ∙ other in
+    let heads : head (births called) x.node ≡ head (births marks) x.node = rw other' refl in
+    let allocates : allocated called x.node ≡ allocated marks x.node = ap (λ (k : NodeKey). list_any (is_allocation k) marks) heads in
+    rw other' (λ i. record (node_after marks x) { allocated = allocates i })
+old_node marks client (Reply.Token key collection) (Call.Duplicate parent) b x h other =
+    let called : Timeline = Called client (Reply.Token key collection) (Call.Duplicate parent) ∷ marks in
+    let other' : same_key key x.node ≡ false =
+    ap (λ (o : Option Birth). option_map_or (λ (c : Birth). same_key c.node x.node) o false) h ∙ other in
+    let heads : head (births called) x.node ≡ head (births marks) x.node = rw other' refl in
+    let allocates : allocated called x.node ≡ allocated marks x.node = ap (λ (k : NodeKey). list_any (is_allocation k) marks) heads in
+    rw other' (λ i. record (node_after marks x) { allocated = allocates i })
+old_node marks client (Reply.Token key collection) (Call.AttachToken parent) b x h other =
+    let called : Timeline = Called client (Reply.Token key collection) (Call.AttachToken parent) ∷ marks in
+    let other' : same_key key x.node ≡ false =
+    ap (λ (o : Option Birth). option_map_or (λ (c : Birth). same_key c.node x.node) o false) h ∙ other in
+    let heads : head (births called) x.node ≡ head (births marks) x.node = rw other' refl in
+    let allocates : allocated called x.node ≡ allocated marks x.node = ap (λ (k : NodeKey). list_any (is_allocation k) marks) heads in
+    rw other' (λ i. record (node_after marks x) { allocated = allocates i })
+old_node marks client reply call b x h other = cc
+
+-- ---- the new one
+
+module _ (pool : ℕ) (limits : Bound) (marks : Timeline) (grown : Grows pool limits [] marks) (client : ℕ) (key : NodeKey) (collection : ℕ)
+    (fresh : was_born (births marks) key ≡ false) where
+  -- nothing was said of it
+  blank : IsUnsaid marks key
+  blank = unsaid pool limits marks grown key fresh
+
+  -- and nobody had its end
+  idle : (spent marks key ≡ false) × (collector marks key ≡ None) × (in_transit marks key ≡ false) × (list_any (binds key) marks ≡ false)
+  idle = (end_at pool limits marks grown key).unborn fresh
+
+  -- a root that is new
+  abbrev pub root : Birth
+  root = record { node = key; parent = None; attached = false; collection = collection; event = events marks + 1; client = client }
+
+  -- it stands as a new root does
+  pub new_root_is : node_after (Called client (Reply.Token key collection) Call.OpenRoot ∷ marks) root ≡ new_root key collection
+      (events marks + 1) client
+  new_root_is =
+      let called : Timeline = Called client (Reply.Token key collection) Call.OpenRoot ∷ marks in
+      let heads : head (births called) key ≡ key = rw (same_key-refl key) refl in
+      let allocates : allocated called key ≡ false = ap (λ (k : NodeKey). list_any (is_allocation k) marks) heads ∙ blank.heads_none in
+      let weakens : weak called key ≡ false = rw (same_key-refl key) blank.not_weak in
+      let allows : (list_any (sets_weak key) marks || (list_any (sets_weak_ok key) marks || covered called key)) ≡ false =
+      rw (blank.not_set_weak, blank.not_weak_ok, same_key-refl key) blank.not_covered in
+      let covers : (list_any (covers_children key) marks || covered called key) ≡ false =
+      rw (blank.not_covering, same_key-refl key) blank.not_covered in
+      let held_by : holder called key ≡ client = rw (idle.1, same_key-refl key) refl in
+      let end_is : end_after called key ≡ End.Held client = rw (idle.0, idle.2, held_by) refl in
+      λ i. record {
+        key = key;
+        parent = None;
+        attached = false;
+        collection = collection;
+        event = events marks + 1;
+        head = heads i;
+        allocated = allocates i;
+        gone = blank.not_gone i;
+        fault = blank.no_fault i;
+        released = blank.not_released i;
+        dispensable = blank.not_dispensable i;
+        weak = weakens i;
+        weak_ok = allows i;
+        covers = covers i;
+        constraints = blank.not_constrained i;
+        took = blank.not_taken i;
+        trackers = blank.not_tracked i;
+        bound = idle.3 i;
+        end = end_is i;
+      }
+
+  -- a child that is new
+  abbrev pub child : NodeKey → Birth
+  child parent =
+      record { node = key; parent = Some parent; attached = false; collection = collection; event = events marks + 1; client = client }
+
+  -- it stands as a new child of its parent does
+  pub new_child_is : (p : Birth) → collection ≡ p.collection →
+      node_after (Called client (Reply.Token key collection) (Call.Duplicate p.node) ∷ marks) (child p.node) ≡ new_child false key
+      (events marks + 1) client (node_after marks p)
+  new_child_is p ours =
+      let called : Timeline = Called client (Reply.Token key collection) (Call.Duplicate p.node) ∷ marks in
+      let heads : head (births called) key ≡ head (births marks) p.node = rw (same_key-refl key) refl in
+      let allocates : allocated called key ≡ allocated marks p.node = ap (λ (k : NodeKey). list_any (is_allocation k) marks) heads in
+      let covering : Bool = list_any (covers_children p.node) marks || covered marks p.node in
+      let weakens : weak called key ≡ weak marks p.node = rw (same_key-refl key, blank.not_weak) (or_false (weak marks p.node)) in
+      let covers_it : covered called key ≡ covering = rw (same_key-refl key, blank.not_covered) (or_false covering) in
+      let allows : (list_any (sets_weak key) marks || (list_any (sets_weak_ok key) marks || covered called key)) ≡ covering =
+      rw (blank.not_set_weak, blank.not_weak_ok) covers_it in
+      let covers : (list_any (covers_children key) marks || covered called key) ≡ covering = rw blank.not_covering covers_it in
+      let held_by : holder called key ≡ client = rw (idle.1, same_key-refl key) refl in
+      let end_is : end_after called key ≡ End.Held client = rw (idle.0, idle.2, held_by) refl in
+      λ i. record {
+        key = key;
+        parent = Some p.node;
+        attached = false;
+        collection = ours i;
+        event = events marks + 1;
+        head = heads i;
+        allocated = allocates i;
+        gone = blank.not_gone i;
+        fault = blank.no_fault i;
+        released = blank.not_released i;
+        dispensable = blank.not_dispensable i;
+        weak = weakens i;
+        weak_ok = allows i;
+        covers = covers i;
+        constraints = blank.not_constrained i;
+        took = blank.not_taken i;
+        trackers = blank.not_tracked i;
+        bound = idle.3 i;
+        end = end_is i;
+      }
+
+  -- an attached child that is new
+  abbrev pub attached : NodeKey → Birth
+  attached parent =
+      record { node = key; parent = Some parent; attached = true; collection = collection; event = events marks + 1; client = client }
+
+  -- it stands as a new child of its parent does
+  pub new_attached_is : (p : Birth) → collection ≡ p.collection →
+      node_after (Called client (Reply.Token key collection) (Call.AttachToken p.node) ∷ marks) (attached p.node) ≡ new_child true key
+      (events marks + 1) client (node_after marks p)
+  new_attached_is p ours =
+      let called : Timeline = Called client (Reply.Token key collection) (Call.AttachToken p.node) ∷ marks in
+      let heads : head (births called) key ≡ key = rw (same_key-refl key) refl in
+      let allocates : allocated called key ≡ false = ap (λ (k : NodeKey). list_any (is_allocation k) marks) heads ∙ blank.heads_none in
+      let covering : Bool = list_any (covers_children p.node) marks || covered marks p.node in
+      let weakens : weak called key ≡ weak marks p.node = rw (same_key-refl key, blank.not_weak) (or_false (weak marks p.node)) in
+      let covers_it : covered called key ≡ covering = rw (same_key-refl key, blank.not_covered) (or_false covering) in
+      let allows : (list_any (sets_weak key) marks || (list_any (sets_weak_ok key) marks || covered called key)) ≡ covering =
+      rw (blank.not_set_weak, blank.not_weak_ok) covers_it in
+      let covers : (list_any (covers_children key) marks || covered called key) ≡ covering = rw blank.not_covering covers_it in
+      let held_by : holder called key ≡ client = rw (idle.1, same_key-refl key) refl in
+      let end_is : end_after called key ≡ End.Held client = rw (idle.0, idle.2, held_by) refl in
+      λ i. record {
+        key = key;
+        parent = Some p.node;
+        attached = true;
+        collection = ours i;
+        event = events marks + 1;
+        head = heads i;
+        allocated = allocates i;
+        gone = blank.not_gone i;
+        fault = blank.no_fault i;
+        released = blank.not_released i;
+        dispensable = blank.not_dispensable i;
+        weak = weakens i;
+        weak_ok = allows i;
+        covers = covers i;
+        constraints = blank.not_constrained i;
+        took = blank.not_taken i;
+        trackers = blank.not_tracked i;
+        bound = idle.3 i;
+        end = end_is i;
+      }
+
+  -- so it does under a node by that name
+  pub child_stands : (p : Birth) (parent : NodeKey) → p.node ≡ parent → collection ≡ p.collection →
+      node_after (Called client (Reply.Token key collection) (Call.Duplicate parent) ∷ marks) (child parent) ≡ new_child false key
+      (events marks + 1) client (node_after marks p)
+  child_stands p parent is ours =
+      subst (λ (k : NodeKey). node_after (Called client (Reply.Token key collection) (Call.Duplicate k) ∷ marks) (child k) ≡ new_child false
+      key (events marks + 1) client (node_after marks p)) is (new_child_is p ours)
+
+  -- and so does one that is attached
+  pub attached_stands : (p : Birth) (parent : NodeKey) → p.node ≡ parent → collection ≡ p.collection →
+      node_after (Called client (Reply.Token key collection) (Call.AttachToken parent) ∷ marks) (attached parent) ≡ new_child true key
+      (events marks + 1) client (node_after marks p)
+  attached_stands p parent is ours =
+      subst (λ (k : NodeKey). node_after (Called client (Reply.Token key collection) (Call.AttachToken k) ∷ marks) (attached k) ≡ new_child
+      true key (events marks + 1) client (node_after marks p)) is (new_attached_is p ours)
+
+-- ---- the nodes of collections
+
+-- one more birth comes last in its collection
+pub births-born : (marks : Timeline) (mark : Mark) (b : Birth) → birth_at (events marks + 1) mark ≡ Some b →
+    births_in (mark ∷ marks) b.collection ≡ births_in marks b.collection ++ b ∷ []
+births-born marks mark b h =
+    let ours : (b.collection == b.collection) ≡ true = eq-eqb b.collection b.collection refl in
+    rw (h, ours) (reverse-append (b ∷ []) (filter (λ (x : Birth). x.collection == b.collection) (births marks)))
+
+-- and in no other
+pub births-elsewhere : (marks : Timeline) (mark : Mark) (b : Birth) (collection : ℕ) → birth_at (events marks + 1) mark ≡ Some b →
+    (b.collection == collection) ≡ false → births_in (mark ∷ marks) collection ≡ births_in marks collection
+births-elsewhere marks mark b collection h other = rw (h, other) refl
+
+-- a mark that bears none
+pub births-none : (marks : Timeline) (mark : Mark) (collection : ℕ) → birth_at (events marks + 1) mark ≡ None →
+    births_in (mark ∷ marks) collection ≡ births_in marks collection
+births-none marks mark collection h = rw h refl
+
+module _ (marks : Timeline) (client : ℕ) (reply : Reply) (call : Call) (b : Birth) (born : birth_at (events marks + 1)
+    (Called client reply call) ≡ Some b) (fresh : was_born (births marks) b.node ≡ false) where
+  -- the nodes that were there stay
+  nodes_stay : (collection : ℕ) → map (node_after (Called client reply call ∷ marks)) (births_in marks collection) ≡ nodes_after marks
+      collection
+  nodes_stay collection = map-In (node_after (Called client reply call ∷ marks)) (node_after marks) (births_in marks collection) (λ x on.
+      let there : In x (births marks) =
+      (In-filter (λ (y : Birth). y.collection == collection) (births marks) x (In-reverse (filter (λ (y : Birth).
+      y.collection == collection) (births marks)) x on)).0 in
+      old_node marks client reply call b x born (other_key (births marks) x.node b.node (In-was_born (births marks) x there) fresh))
+
+  -- the new one comes last
+  pub nodes-born : nodes_after (Called client reply call ∷ marks) b.collection ≡ nodes_after marks b.collection ++ node_after
+      (Called client reply call ∷ marks) b ∷ []
+  nodes-born =
+      let called : Timeline = Called client reply call ∷ marks in
+      ap (map (node_after called)) (births-born marks (Called client reply call) b born)
+      ∙ (map-append (node_after called) (births_in marks b.collection) (b ∷ [])
+      ∙ ap (λ (ns : List Node). ns ++ node_after called b ∷ []) (nodes_stay b.collection))
+
+  -- in other collections all is as it was
+  pub nodes-elsewhere : (collection : ℕ) → (b.collection == collection) ≡ false →
+      nodes_after (Called client reply call ∷ marks) collection ≡ nodes_after marks collection
+  nodes-elsewhere collection other =
+      ap (map (node_after (Called client reply call ∷ marks))) (births-elsewhere marks (Called client reply call) b collection born other)
+      ∙ nodes_stay collection

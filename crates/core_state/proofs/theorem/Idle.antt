@@ -1,0 +1,224 @@
+-- A call that changes nothing, but that it is one event more.
+use Rattle.std.proofs.Common.{ℕ, ◌≡◌, ◌<◌, ◌+◌, ◌^◌, refl, sym, ◌∙◌, Bool, true, false, List, [], ◌∷◌, append-nil, map, None}
+use Rattle.sm_names.specs.declared.keys.BufferName.{BufferName}
+use Rattle.sm_names.specs.declared.keys.Strength.{Strength}
+use Rattle.sm_names.specs.declared.messages.Call.{Call}
+use Rattle.sm_names.specs.declared.messages.Reply.{Reply}
+use Rattle.sm_names.specs.Answers.{answer}
+use Rattle.sm_names.specs.Ends.{joined_at, shuts, given_at, collects}
+use Rattle.sm_names.specs.Handles.{opens, drops, lifts, lands}
+use Rattle.sm_names.specs.Marks.{Called, Mark}
+use Rattle.event_laws.specs.ByEvent.{GoesBy, anyone, gains, loses, only}
+use Rattle.buffer_holds.specs.Counts.{Counts, moving_count, of, total}
+use Rattle.buffer_pool.specs.Holdings.{Holdings}
+use Rattle.forest_store.specs.Forest.{Forest}
+use Rattle.forest_store.specs.Settling.{no_key}
+use Rattle.core_state.specs.Hands.{MovesHandles}
+use Rattle.core_state.specs.Reads.{readings_of, world_in}
+use Rattle.core_state.specs.State.{Client, State}
+use Rattle.core_state.specs.Steps.{Follows, client_by, clients_by, swept, tracker_by, without_over, work_of}
+use Rattle.core_state.specs.Tasks.{Parts, TakesEffect, carried_by, changes_nothing, with_key, spent_by}
+use Rattle.core_state.specs.Whole.{IsWhole, StillWaits}
+use Rattle.core_state.proofs.collections.ById.{all_tidy}
+use Rattle.event_laws.proofs.NumberLaws.{In-all}
+use Rattle.core_state.proofs.firing.Sweeps.{none_swept}
+use Rattle.core_state.proofs.theorem.EventParts.{Begins, begins, step_follows}
+use Rattle.core_state.proofs.theorem.Fields.{whole_then}
+
+-- ---- a mark that nobody sees
+
+-- the mark moves no handle, makes and shuts no client, and no parcel goes or comes
+record IsUnseen (mark : Mark) : Type 0 where
+  opened : (who : ℕ → Bool) (b : BufferName) (s : Strength) → opens who b s mark ≡ false
+  dropped : (who : ℕ → Bool) (b : BufferName) (s : Strength) → drops who b s mark ≡ false
+  lifted : (who : ℕ → Bool) (b : BufferName) (s : Strength) → lifts who b s mark ≡ false
+  landed : (who : ℕ → Bool) (b : BufferName) (s : Strength) → lands who b s mark ≡ false
+  joined : joined_at mark ≡ None
+  shut : (client : ℕ) → shuts client mark ≡ false
+  collected : (client : ℕ) → collects client mark ≡ false
+  given : (client : ℕ) → given_at client mark ≡ None
+
+-- a count to which nothing comes and from which nothing goes
+stays : (n : ℕ) (gained lost : Bool) → gained ≡ false → lost ≡ false → GoesBy n n gained lost
+stays n gained lost none nothing = rw (none, nothing) (record { adds_up = refl; was_there = λ e. cc; not_both = λ e. refl })
+
+module _ (mark : Mark) (unseen : IsUnseen mark) where
+  -- no handle moves
+  no_moves : (holds : Counts) → MovesHandles holds holds mark
+  no_moves holds = record {
+    each = λ client b s. stays (of holds client b s) (gains (only client) b s mark) (loses (only client) b s mark)
+        (rw (unseen.opened (only client) b s, unseen.landed (only client) b s) refl)
+        (rw (unseen.dropped (only client) b s, unseen.lifted (only client) b s) refl);
+    in_parcels = λ b s. stays (moving_count holds b s) (lifts anyone b s mark) (lands anyone b s mark) (unseen.lifted anyone b s)
+        (unseen.landed anyone b s);
+    in_all = λ b s. stays (total holds b s) (opens anyone b s mark) (drops anyone b s mark) (unseen.opened anyone b s)
+        (unseen.dropped anyone b s);
+  }
+
+  -- a client stays
+  same_client : (c : Client) → client_by mark c ≡ c
+  same_client c = rw (unseen.shut c.id, unseen.collected c.id, unseen.given c.id) (λ i. record c { waiting = append-nil c.waiting i })
+
+  -- and so do all
+  same_each : (clients : List Client) → map (client_by mark) clients ≡ clients
+  same_each [] = refl
+  same_each (c ∷ clients) = λ i. same_client c i ∷ same_each clients i
+
+  -- no client is made
+  same_clients : (clients : List Client) → clients ≡ clients_by mark clients
+  same_clients clients = sym (rw (unseen.joined) (append-nil (map (client_by mark) clients)) ∙ same_each clients)
+
+-- ---- an idle call
+
+no_work : (s : State) (client : ℕ) (call : Call) (asked : Reply) → changes_nothing call asked ≡ true → None ≡ work_of s client call asked
+no_work s client (Call.Sync key) Reply.Done idle = refl
+no_work s client _ Reply.Done idle = cc
+no_work s client call (Reply.Token key collection) idle = cc
+no_work s client call (Reply.Misused misuse) idle = cc
+no_work s client call (Reply.Taken collection strength set) idle = cc
+no_work s client call (Reply.Tracker id) idle = cc
+no_work s client call _ idle = refl
+
+no_spend : (call : Call) (asked : Reply) → changes_nothing call asked ≡ true → None ≡ spent_by call asked
+no_spend (Call.Close key) Reply.Done idle = cc
+no_spend (Call.Release key) Reply.Done idle = cc
+no_spend (Call.Release key) (Reply.PeerClosed cause origin) idle = cc
+no_spend _ _ idle = refl
+
+no_carry : (client : ℕ) (call : Call) (asked : Reply) → changes_nothing call asked ≡ true → None ≡ carried_by client call asked
+no_carry client (Call.Give key to) Reply.Done idle = cc
+no_carry client Call.Collect (Reply.Collected key kind collection) idle = cc
+no_carry client _ _ idle = refl
+
+no_track : (f : Forest) (call : Call) (asked : Reply) → changes_nothing call asked ≡ true → None ≡ tracker_by f call asked
+no_track f (Call.TrackNode key) (Reply.Tracker id) idle = cc
+no_track f (Call.TrackLifetime key most) (Reply.Tracker id) idle = cc
+no_track f (Call.TrackWeak buffer) (Reply.Tracker id) idle = cc
+no_track f _ _ idle = refl
+
+no_key_told : (call : Call) (asked : Reply) → changes_nothing call asked ≡ true → asked ≡ with_key asked None
+no_key_told call (Reply.Token key collection) idle = cc
+no_key_told call _ idle = refl
+
+none_sees : (client : ℕ) (call : Call) (asked : Reply) → changes_nothing call asked ≡ true → IsUnseen (Called client asked call)
+none_sees client (Call.Sync key) Reply.Done idle =
+    record {
+      opened = λ who b s. refl;
+      dropped = λ who b s. refl;
+      lifted = λ who b s. refl;
+      landed = λ who b s. refl;
+      joined = refl;
+      shut = λ c. refl;
+      collected = λ c. refl;
+      given = λ c. refl;
+    }
+none_sees client _ Reply.Done idle = cc
+none_sees client call Reply.Empty idle =
+    record {
+      opened = λ who b s. refl;
+      dropped = λ who b s. refl;
+      lifted = λ who b s. refl;
+      landed = λ who b s. refl;
+      joined = refl;
+      shut = λ c. refl;
+      collected = λ c. refl;
+      given = λ c. refl;
+    }
+none_sees client call Reply.Pending idle =
+    record {
+      opened = λ who b s. refl;
+      dropped = λ who b s. refl;
+      lifted = λ who b s. refl;
+      landed = λ who b s. refl;
+      joined = refl;
+      shut = λ c. refl;
+      collected = λ c. refl;
+      given = λ c. refl;
+    }
+none_sees client call (Reply.Allocated count size) idle =
+    record {
+      opened = λ who b s. refl;
+      dropped = λ who b s. refl;
+      lifted = λ who b s. refl;
+      landed = λ who b s. refl;
+      joined = refl;
+      shut = λ c. refl;
+      collected = λ c. refl;
+      given = λ c. refl;
+    }
+none_sees client call (Reply.Refused refusal) idle =
+    record {
+      opened = λ who b s. refl;
+      dropped = λ who b s. refl;
+      lifted = λ who b s. refl;
+      landed = λ who b s. refl;
+      joined = refl;
+      shut = λ c. refl;
+      collected = λ c. refl;
+      given = λ c. refl;
+    }
+none_sees client call (Reply.PeerClosed cause origin) idle =
+    record {
+      opened = λ who b s. refl;
+      dropped = λ who b s. refl;
+      lifted = λ who b s. refl;
+      landed = λ who b s. refl;
+      joined = refl;
+      shut = λ c. refl;
+      collected = λ c. refl;
+      given = λ c. refl;
+    }
+none_sees client call _ idle = cc
+
+-- ---- the event
+
+-- what a core keeps, as parts
+abbrev pub parts_of : State → Parts
+parts_of s = record { clients = s.clients; forest = s.forest; holds = s.holds; trackers = s.trackers }
+
+-- the core, where the event is idle: it is one event further, and the rest is as it was
+pub record Idles (s : State) (client : ℕ) (call : Call) (asked : Reply) : Type 0 where
+  pub begins : Begins s client call asked None None
+  pub takes : TakesEffect s.pool (parts_of s) (parts_of s) client call asked None None asked
+  pub carries : None ≡ carried_by client call asked
+  pub tidy : s.forest.collections ≡ without_over s.forest.collections
+  pub still : s.trackers ≡ swept (world_in s.forest (total s.holds)) (s.events + 1) s.trackers
+
+pub idles : (pool : Holdings) (s now : State) (client : ℕ) (call : Call) (asked : Reply) → s ≡ now →
+    IsWhole pool s.limits s.events s.clients s.forest s.holds s.trackers →
+    asked ≡ answer now.limits (readings_of now) client no_key call → changes_nothing call asked ≡ true → Idles s client call asked
+idles pool s now client call asked same whole told idle = record {
+  begins = begins pool s now client call asked None None same whole told (no_work now client call asked idle) (no_spend call asked idle) tt
+      tt (no_track now.forest call asked idle);
+  takes = record {
+    key = None;
+    told = no_key_told call asked idle;
+    clients = same_clients (Called client asked call) (none_sees client call asked idle) s.clients;
+    handles = no_moves (Called client asked call) (none_sees client call asked idle) s.holds;
+    work = (refl, refl);
+    trackers = refl;
+  };
+  carries = no_carry client call asked idle;
+  tidy = sym (all_tidy s.forest.collections whole.sound.tidy);
+  still = sym (none_swept (world_in s.forest (total s.holds)) (s.events + 1) s.trackers (λ t on.
+      (In-all (StillWaits s.forest (total s.holds)) s.trackers.unfired whole.waiting t on).undue));
+}
+
+module _ (s : State) (client : ℕ) (call : Call) (asked : Reply) (i : Idles s client call asked) where
+  -- the core, one event further
+  abbrev pub further : State
+  further = record s { events = s.events + 1 }
+
+  -- it follows
+  pub idle_follows : Follows s further client call asked
+  idle_follows = step_follows s client call asked asked None None i.begins (parts_of s) i.takes None i.carries s.forest s.trackers i.tidy
+      (record { limit = refl; keys = λ key. refl }) i.still
+
+  -- and the fields are whole
+  pub idle_whole : (pool : Holdings) → IsWhole pool s.limits s.events s.clients s.forest s.holds s.trackers → s.events < s.limits.events →
+      s.events + 1 < 2 ^ 32 →
+      IsWhole pool s.limits (s.events + 1) s.clients s.forest s.holds s.trackers
+  idle_whole pool whole room short =
+      whole_then s client call asked asked None None i.begins (parts_of s) i.takes pool pool s.forest None s.trackers whole refl whole.pages
+      refl refl room short i.tidy
+      (record { limit = refl; keys = λ key. refl }) whole.sound (λ most up. up) i.still

@@ -1,0 +1,188 @@
+-- What answers read of a core's state is what they read of the marks, so they are the same.
+use Rattle.std.proofs.Common.{ℕ, ◌≡◌, refl, ap, sym, ◌∙◌, Bool, true, false, cond, ◌&&◌, ◌||◌, ◌==◌, inl, inr, List, [], ◌∷◌, reverse, length, Option, Some, None, is_none}
+use Rattle.std.proofs.lemmas.List.{reverse-append, length-map, length-reverse}
+use Rattle.std.proofs.lemmas.List.Sums.{length-filter}
+use Rattle.std.specs.List.{find, filter, list_any}
+use Rattle.std.specs.Option.{option_map, option_map_or}
+use Rattle.std.proofs.lemmas.List.Folds.{list_any-append}
+use Rattle.sm_names.specs.declared.keys.NodeKey.{NodeKey}
+use Rattle.sm_names.specs.declared.messages.Call.{Call}
+use Rattle.sm_names.specs.declared.messages.Reply.{Reply}
+use Rattle.sm_names.specs.Answers.{Readings, IsAnswer, answer, new_key, key_told}
+use Rattle.sm_names.specs.Births.{Birth, births}
+use Rattle.sm_names.specs.Bounds.{Bound}
+use Rattle.sm_names.specs.Ends.{has_joined, clients, is_shut, parcels}
+use Rattle.sm_names.specs.Kept.{is_kept, is_kept_collection, kept_nodes, kept_collections}
+use Rattle.sm_names.specs.Marks.{Timeline}
+use Rattle.sm_names.specs.Reading.{readings}
+use Rattle.sm_names.specs.Sameness.{same_key}
+use Rattle.sm_names.specs.Trackers.{unfired}
+use Rattle.sm_names.proofs.GrowthLaws.{Grows}
+use Rattle.sm_names.proofs.ListLaws.{is_some-find}
+use Rattle.sm_names.proofs.SamenessLaws.{either_way, both_ways}
+use Rattle.event_laws.proofs.ParcelEventLaws.{stranger_waits_for_none}
+use Rattle.event_laws.proofs.WaitingLaws.{counted}
+use Rattle.forest_store.specs.Forest.{node_count}
+use Rattle.core_state.specs.Reads.{client_in, readings_of}
+use Rattle.core_state.specs.Shown.{IsAfter, node_after, collection_after, kept_ids, client_after, tracked_as}
+use Rattle.core_state.specs.State.{Client, State}
+use Rattle.core_state.proofs.joined.Joining.{stranger_not_shut}
+use Rattle.core_state.proofs.lists.Maps.{filter-reverse, find-map, find_number, list_any-map}
+use Rattle.core_state.proofs.lists.Reorderings.{length-mixed}
+use Rattle.core_state.proofs.views.Ends.{end_is}
+use Rattle.core_state.proofs.views.Nodes.{kept_births, kept_by_collection, all_nodes_are, mixed_births}
+
+-- ---- a list turned round passes as it stands
+
+-- and of one turned round
+any-reverse : {A : Type 0} (p : A → Bool) (xs : List A) → list_any p (reverse xs) ≡ list_any p xs
+any-reverse p [] = refl
+any-reverse p (x ∷ xs) =
+    ap (list_any p) (reverse-append (x ∷ []) xs)
+    ∙ (list_any-append p (reverse xs) (x ∷ []) ∙ (ap (λ (b : Bool). b || (p x || false)) (any-reverse p xs) ∙ turned (list_any p xs) (p x)))
+  where
+    turned : (a b : Bool) → (a || (b || false)) ≡ (b || a)
+    turned true true = refl
+    turned true false = refl
+    turned false true = refl
+    turned false false = refl
+
+-- ---- the readings
+
+module _ (s : State) (marks : Timeline) (shown : IsAfter s marks) where
+  -- who joined
+  joined_is : (client : ℕ) → list_any (λ (c : Client). c.id == client) s.clients ≡ has_joined marks client
+  joined_is client =
+      ap (list_any (λ (c : Client). c.id == client)) shown.clients
+      ∙ (list_any-map (λ (c : Client). c.id == client) (client_after marks) (reverse (clients marks))
+      ∙ any-reverse (λ c. c == client) (clients marks))
+
+  -- who joined is as the marks make it, and is found
+  client_is : (client : ℕ) → client_in s client ≡ cond (has_joined marks client) (Some (client_after marks client)) None
+  client_is client =
+      ap (find (λ (c : Client). c.id == client)) shown.clients
+      ∙ (find-map (λ (c : Client). c.id == client) (client_after marks) (reverse (clients marks))
+      ∙ (ap (option_map (client_after marks))
+      (find_number client (reverse (clients marks))
+      ∙ ap (λ (b : Bool). cond b (Some client) None) (any-reverse (λ c. c == client) (clients marks)))
+      ∙ inside (has_joined marks client)))
+    where
+      inside : (b : Bool) → option_map (client_after marks) (cond b (Some client) None) ≡ cond b (Some (client_after marks client)) None
+      inside true = refl
+      inside false = refl
+
+  -- how many collections are kept
+  collections_are : length s.forest.collections ≡ kept_collections marks
+  collections_are =
+      let test : Birth → Bool = λ (b : Birth). is_none b.parent && is_kept_collection marks b.collection in
+      ap length shown.collections
+      ∙ (length-map (kept_ids marks) (collection_after s.pool marks)
+      ∙ (length-map (filter test (reverse (births marks))) (λ (b : Birth). b.collection)
+      ∙ (ap length (filter-reverse test (births marks))
+      ∙ (length-reverse (filter test (births marks)) ∙ length-filter test (births marks)))))
+
+  -- how many trackers wait
+  unfired_is : length s.trackers.unfired ≡ unfired marks
+  unfired_is = sym (length-map s.trackers.unfired tracked_as) ∙ (ap length shown.trackers.waiting ∙ sym (counted marks))
+
+  -- a key that was given to a node was given
+  pub was_given : (key : NodeKey) → (readings marks).was_given key ≡ true → (readings_of s).was_given key ≡ true
+  was_given key h = shown.given key (sym (is_some-find (λ (b : Birth). same_key b.node key) (births marks)) ∙ h)
+
+  module _ (limits : Bound) (grown : Grows s.pool limits [] marks) where
+    -- how many nodes are kept
+    pub kept_is : node_count s.forest ≡ kept_nodes marks
+    kept_is =
+        ap length (all_nodes_are s marks shown)
+        ∙ (length-map (kept_by_collection marks) (node_after marks)
+        ∙ (length-mixed (kept_births marks) (kept_by_collection marks) (mixed_births s marks shown limits grown)
+        ∙ length-filter (λ (b : Birth). is_kept marks b.node) (births marks)))
+
+    -- who was shut
+    shut_is : (client : ℕ) → (readings_of s).is_shut client ≡ is_shut marks client
+    shut_is client = ap (λ (o : Option Client). option_map_or (λ (c : Client). c.shut) o false) (client_is client)
+        ∙ from (has_joined marks client) refl
+      where
+        from : (b : Bool) → has_joined marks client ≡ b →
+            option_map_or (λ (c : Client). c.shut) (cond b (Some (client_after marks client)) None) false ≡ is_shut marks client
+        from true h = refl
+        from false h = sym (stranger_not_shut s.pool limits marks grown client h)
+
+    -- and what waits for whom
+    waiting_is : (client : ℕ) → (readings_of s).waiting client ≡ parcels marks client
+    waiting_is client = ap (λ (o : Option Client). option_map_or (λ (c : Client). c.waiting) o []) (client_is client)
+        ∙ from (has_joined marks client) refl
+      where
+        from : (b : Bool) → has_joined marks client ≡ b →
+            option_map_or (λ (c : Client). c.waiting) (cond b (Some (client_after marks client)) None) [] ≡ parcels marks client
+        from true h = refl
+        from false h = sym (stranger_waits_for_none s.pool limits marks grown client h)
+
+    -- the state reads as the marks, but for which keys were given
+    pub readings_are : record (readings_of s) { was_given = (readings marks).was_given } ≡ readings marks
+    readings_are = λ i. record {
+      events = shown.events i;
+      has_joined = λ client. joined_is client i;
+      is_shut = λ client. shut_is client i;
+      end_of = λ key. end_is s marks shown limits grown key i;
+      waiting = λ client. waiting_is client i;
+      open_of = (shown.handles i).of;
+      open_total = (shown.handles i).total;
+      was_given = (readings marks).was_given;
+      kept_nodes = kept_is i;
+      kept_collections = collections_are i;
+      unfired = unfired_is i;
+    }
+
+-- ---- the answers
+
+-- no answer reads which keys were given
+answer-given : (limits : Bound) (r : Readings) (told : NodeKey → Bool) (client : ℕ) (new : NodeKey) (call : Call) →
+    answer limits r client new call ≡ answer limits (record r { was_given = told }) client new call
+answer-given limits r told client new Call.Join = refl
+answer-given limits r told client new Call.Shut = refl
+answer-given limits r told client new Call.OpenRoot = refl
+answer-given limits r told client new (Call.Duplicate key) = refl
+answer-given limits r told client new (Call.AttachToken key) = refl
+answer-given limits r told client new (Call.Sync key) = refl
+answer-given limits r told client new (Call.Give key to) = refl
+answer-given limits r told client new Call.Collect = refl
+answer-given limits r told client new (Call.Bind key) = refl
+answer-given limits r told client new (Call.SetDispensable key) = refl
+answer-given limits r told client new (Call.SetWeak key) = refl
+answer-given limits r told client new (Call.SetWeakOk key children) = refl
+answer-given limits r told client new (Call.SetConstraints key demand) = refl
+answer-given limits r told client new (Call.Check key) = refl
+answer-given limits r told client new (Call.Take key) = refl
+answer-given limits r told client new (Call.Release key) = refl
+answer-given limits r told client new (Call.Close key) = refl
+answer-given limits r told client new (Call.DupHandle buffer strength) = refl
+answer-given limits r told client new (Call.DropHandle buffer strength) = refl
+answer-given limits r told client new (Call.GiveHandle buffer strength to) = refl
+answer-given limits r told client new (Call.TrackNode key) = refl
+answer-given limits r told client new (Call.TrackLifetime key most) = refl
+answer-given limits r told client new (Call.TrackWeak buffer) = refl
+
+module _ (s : State) (marks : Timeline) (shown : IsAfter s marks) (bounds : Bound) (grown : Grows s.pool bounds [] marks) where
+  -- so the state and the marks answer alike
+  pub answers_are : (limits : Bound) (client : ℕ) (new : NodeKey) (call : Call) →
+      answer limits (readings_of s) client new call ≡ answer limits (readings marks) client new call
+  answers_are limits client new call =
+      answer-given limits (readings_of s) (readings marks).was_given client new call
+      ∙ ap (λ (r : Readings). answer limits r client new call) (readings_are s marks shown bounds grown)
+
+  -- and an answer to the state is one to the marks
+  pub answer_is : (limits : Bound) (client : ℕ) (call : Call) (reply : Reply) → IsAnswer limits (readings_of s) client call reply →
+      IsAnswer limits (readings marks) client call reply
+  answer_is limits client call reply is = record {
+    told = is.told ∙ answers_are limits client (key_told reply) call;
+    is_new = new (new_key reply) is.is_new;
+  }
+    where
+      new : (o : Option NodeKey) → option_map_or (readings_of s).was_given o false ≡ false →
+          option_map_or (readings marks).was_given o false ≡ false
+      new None h = refl
+      new (Some key) h = elim (either_way ((readings marks).was_given key)) [
+        | inl e ↦ both_ways ((readings_of s).was_given key) (was_given s marks shown key e) h
+        | inr e ↦ e
+      ]

@@ -1,0 +1,165 @@
+-- What trackers look at in a forest, once the work of an event is done, is what the marks tell.
+use Rattle.std.proofs.Common.{ℕ, ◌≡◌, ◌≢◌, refl, ap, sym, ◌∙◌, Bool, true, false, not, ◌&&◌, ◌||◌, ◌==◌, ◌⊎◌, inl, inr, [], length, Option, Some, None, is_some, arith}
+use Rattle.std.proofs.lemmas.Bool.{eqb-true, eqb-false, eq-eqb}
+use Rattle.std.specs.Option.{option_map_or}
+use Rattle.sm_names.specs.declared.keys.BufferName.{BufferName}
+use Rattle.sm_names.specs.declared.keys.NodeKey.{NodeKey}
+use Rattle.sm_names.specs.declared.keys.Strength.{Strength}
+use Rattle.sm_names.specs.Births.{births, was_born}
+use Rattle.sm_names.specs.Bounds.{Bound}
+use Rattle.sm_names.specs.Ends.{spent}
+use Rattle.sm_names.specs.Handles.{buffers_of, doomed, home, is_doomed, left, open_total}
+use Rattle.sm_names.specs.Kept.{is_kept, is_kept_collection}
+use Rattle.sm_names.specs.Losses.{gone, allocated}
+use Rattle.sm_names.specs.Marks.{Entry, Timeline, Called}
+use Rattle.sm_names.specs.Members.{members, some_strong_live}
+use Rattle.sm_names.specs.Timelines.{after}
+use Rattle.sm_names.proofs.DoomLaws.{StrongLive, strong_live, doomed_whole}
+use Rattle.sm_names.proofs.GoneLaws.{gone_stays}
+use Rattle.sm_names.proofs.GrowthLaws.{Grows}
+use Rattle.sm_names.proofs.KeptLaws.{kept-after}
+use Rattle.sm_names.proofs.SamenessLaws.{either_way, and_left, and_both, or_none_right, or_left, both_ways, false_if}
+use Rattle.sm_names.specs.Trackers.{World}
+use Rattle.event_laws.specs.Waiting.{IsRecalled}
+use Rattle.forest_store.specs.declared.node.Node.{Node}
+use Rattle.forest_store.specs.Forest.{Collection, Forest, collection_at, node_at}
+use Rattle.forest_store.specs.Nodes.{members_of}
+use Rattle.forest_store.specs.Settling.{Handles}
+use Rattle.core_state.specs.Reads.{world_in}
+use Rattle.core_state.proofs.ends.Forgotten.{open_kept}
+use Rattle.core_state.proofs.theorem.Follows.{Counts}
+use Rattle.core_state.proofs.collections.Roots.{collection_of_kept}
+
+-- the node that is found with this key is as the later marks tell; where none is found, it was over by the earlier ones
+abbrev pub SeesNode : Timeline → Timeline → NodeKey → Option Node → Type 0
+SeesNode marks later key None = is_kept marks key ≡ false
+SeesNode marks later key (Some n) = (n.gone ≡ gone later key) × (n.allocated ≡ allocated later key)
+
+-- the collection with this id was not kept by the earlier marks, nor is it by the later ones, and was given no more buffers
+pub record IsOver (marks later : Timeline) (id : ℕ) : Type 0 where
+  pub before : is_kept_collection marks id ≡ false
+  pub now : is_kept_collection later id ≡ false
+  pub given : buffers_of later id ≡ buffers_of marks id
+
+-- the collection is the one with this id, with the buffers that the marks tell and as many of them held as are left; some node
+-- of it is live and strong if one is by the marks
+pub record IsThere (later : Timeline) (id : ℕ) (c : Collection) : Type 0 where
+  pub same_id : c.id ≡ id
+  pub buffers : c.buffers ≡ buffers_of later id
+  pub held : length c.held ≡ left later id
+  pub strong : some_strong_live (members_of c.nodes) ≡ some_strong_live (members later id)
+
+-- the collection that is found with this id is as the later marks tell; where none is found, it is over
+abbrev pub SeesCollection : Timeline → Timeline → ℕ → Option Collection → Type 0
+SeesCollection marks later id None = IsOver marks later id
+SeesCollection marks later id (Some c) = IsThere later id c
+
+-- the forest, before it forgets anything, has what the later marks tell, but for what was over by the earlier ones
+pub record IsSeen (worked : Forest) (handles : Handles) (marks later : Timeline) : Type 0 where
+  pub nodes : (key : NodeKey) → was_born (births marks) key ≡ true → SeesNode marks later key (node_at worked key)
+  pub collections : (id : ℕ) → SeesCollection marks later id (collection_at worked id)
+  pub counts : Counts handles later
+
+-- ---- what was over
+
+-- a node that is not kept is gone
+over_gone : (marks : Timeline) (key : NodeKey) → is_kept marks key ≡ false → gone marks key ≡ true
+over_gone marks key over = from (gone marks key) (spent marks key) over
+  where
+    from : (g t : Bool) → (not g || not t) ≡ false → g ≡ true
+    from true t h = refl
+    from false t h = cc
+
+-- no buffer of a collection that is not kept is left
+none_left : (marks : Timeline) (id : ℕ) → is_kept_collection marks id ≡ false → left marks id ≡ 0
+none_left marks id lost = from (left marks id == 0) refl (or_none_right _ (not (left marks id == 0)) lost)
+  where
+    from : (b : Bool) → (left marks id == 0) ≡ b → not b ≡ false → left marks id ≡ 0
+    from true e h = eqb-true (left marks id) 0 e
+    from false e h = cc
+
+-- nor is a node of it live and strong
+none_strong : (marks : Timeline) (id : ℕ) → is_kept_collection marks id ≡ false → some_strong_live (members marks id) ≡ false
+none_strong marks id lost = false_if (some_strong_live (members marks id)) (λ h.
+    let s : StrongLive marks id = strong_live marks id h in
+    let kept : is_kept marks s.birth.node ≡ true = or_left _ _ (ap not s.here) in
+    both_ways (is_kept_collection marks id) (ap (is_kept_collection marks) (sym (eqb-true s.birth.collection id s.ours))
+    ∙ collection_of_kept marks s.birth s.there kept) lost)
+
+-- so each that it was given is home
+all_home : (pool : ℕ) (limits : Bound) (marks : Timeline) → Grows pool limits [] marks → (buffer : BufferName) →
+    is_kept_collection marks buffer.collection ≡ false → is_some (buffers_of marks buffer.collection) ≡ true →
+    home marks buffer ≡ true
+all_home pool limits marks grown buffer lost given =
+    and_both _ _ (doomed_whole marks buffer
+    (record { given = given; none_open = unopened Strength.Strong; none_strong = none_strong marks buffer.collection lost }))
+    (eq-eqb (open_total marks buffer Strength.Weak) 0 (unopened Strength.Weak))
+  where
+    unopened : (strength : Strength) → open_total marks buffer strength ≡ 0
+    unopened strength = elim (either_way (open_total marks buffer strength == 0)) [
+      | inl e ↦ eqb-true _ _ e
+      | inr e ↦
+          let some : open_total marks buffer strength ≢ 0 = eqb-false (open_total marks buffer strength) 0 e in
+          both_ways _ (open_kept pool limits marks grown buffer strength (omega (arith, some))) lost
+    ]
+
+-- ---- what trackers look at
+
+module _ (pool : ℕ) (limits : Bound) (marks : Timeline) (grown : Grows pool limits [] marks) (entry : Entry) (worked : Forest)
+    (handles : Handles) (seen : IsSeen worked handles marks (after pool marks entry)) where
+  -- the marks after the event
+  abbrev later : Timeline
+  later = after pool marks entry
+
+  -- the world that is seen
+  abbrev w : World
+  w = world_in worked handles
+
+  -- what is gone stays so
+  still_gone : (key : NodeKey) → gone marks key ≡ true → gone (after pool marks entry) key ≡ true
+  still_gone key h = kept-after (λ m. gone m key ≡ true) (λ m mark quiet g. gone_stays mark m key g) pool marks entry
+      (gone_stays (Called entry.0 entry.2 entry.1) marks key h)
+
+  -- which nodes are gone
+  nodes_recalled : (key : NodeKey) → was_born (births marks) key ≡ true → w.gone key ≡ gone later key
+  nodes_recalled key born = from (node_at worked key) (seen.nodes key born)
+    where
+      from : (o : Option Node) → SeesNode marks later key o → option_map_or (λ (n : Node). n.gone) o true ≡ gone later key
+      from None over = sym (still_gone key (over_gone marks key over))
+      from (Some n) is = is.0
+
+  -- which units are allocated
+  units_recalled : (key : NodeKey) → was_born (births marks) key ≡ true → (w.allocated key ≡ allocated later key) ⊎
+      ((gone marks key ≡ true) × (w.allocated key ≡ true))
+  units_recalled key born = from (node_at worked key) (seen.nodes key born)
+    where
+      from : (o : Option Node) → SeesNode marks later key o → (option_map_or (λ (n : Node). n.allocated) o true ≡ allocated later key) ⊎
+          ((gone marks key ≡ true) × (option_map_or (λ (n : Node). n.allocated) o true ≡ true))
+      from None over = inr (over_gone marks key over, refl)
+      from (Some n) is = inl is.1
+
+  -- how many buffers are left
+  counts_recalled : (id : ℕ) → w.left id ≡ left later id
+  counts_recalled id = from (collection_at worked id) (seen.collections id)
+    where
+      from : (o : Option Collection) → SeesCollection marks later id o →
+          option_map_or (λ (c : Collection). length c.held) o 0 ≡ left later id
+      from None over = sym (none_left later id over.now)
+      from (Some c) there = there.held
+
+  -- and which of them are doomed
+  dooms_recalled : (buffer : BufferName) → home marks buffer ≡ false → w.doomed buffer ≡ doomed later buffer
+  dooms_recalled buffer out = from (collection_at worked buffer.collection) (seen.collections buffer.collection)
+    where
+      from : (o : Option Collection) → SeesCollection marks later buffer.collection o →
+          option_map_or (λ (c : Collection). is_some c.buffers && is_doomed (handles buffer Strength.Strong)
+          (some_strong_live (members_of c.nodes))) o false ≡ doomed later buffer
+      from None over = sym (false_if (doomed later buffer) (λ h.
+          let given : is_some (buffers_of marks buffer.collection) ≡ true =
+          ap is_some (sym over.given) ∙ and_left (is_some (buffers_of later buffer.collection)) _ h in
+          both_ways _ (all_home pool limits marks grown buffer over.before given) out))
+      from (Some c) there = λ i. is_some (there.buffers i) && is_doomed (seen.counts buffer Strength.Strong i) (there.strong i)
+
+  -- trackers look at what the marks tell, but for what was over
+  pub recalled : IsRecalled marks (after pool marks entry) (world_in worked handles)
+  recalled = record { nodes = nodes_recalled; units = units_recalled; counts = counts_recalled; dooms = dooms_recalled }

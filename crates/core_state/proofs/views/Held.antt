@@ -1,0 +1,139 @@
+-- Which buffers are seen as held.
+use Rattle.std.proofs.Common.{ℕ, ◌≡◌, ◌≤◌, ◌<◌, ◌+◌, refl, ap, sym, ◌∙◌, subst, true, false, not, ◌&&◌, ◌==◌, nat_lt, nat_le, inl, inr, List, [], ◌∷◌, map, arith}
+use Rattle.std.proofs.lemmas.Bool.{eqb-true, lt-ltb, ltb-true}
+use Rattle.std.proofs.lemmas.List.Folds.{flat_map-map}
+use Rattle.std.specs.List.{flat_map, list_any, sum_by}
+use Rattle.event_laws.proofs.HandleCaseLaws.{same_buffer-refl}
+use Rattle.sm_names.specs.declared.keys.BufferName.{BufferName}
+use Rattle.sm_names.specs.declared.keys.Interval.{Interval}
+use Rattle.sm_names.specs.Apart.{AreApart}
+use Rattle.sm_names.specs.Bounds.{Bound}
+use Rattle.sm_names.specs.Handles.{buffer_names, home, left}
+use Rattle.sm_names.specs.Kept.{is_kept_collection}
+use Rattle.sm_names.specs.Marks.{Timeline}
+use Rattle.sm_names.specs.Pages.{meets}
+use Rattle.sm_names.specs.Sameness.{same_buffer}
+use Rattle.sm_names.specs.declared.keys.HeldBuffer.{HeldBuffer}
+use Rattle.sm_names.specs.Timelines.{held}
+use Rattle.sm_names.specs.Views.{held_by_page}
+use Rattle.sm_names.specs.Words.{sorted_by}
+use Rattle.sm_names.proofs.GrowthLaws.{Grows}
+use Rattle.sm_names.proofs.HandleLaws.{same_buffer-true}
+use Rattle.sm_names.proofs.HeldLaws.{are_held, stands_held}
+use Rattle.sm_names.proofs.ListLaws.{In, In-list_any, In-map-back}
+use Rattle.sm_names.proofs.SamenessLaws.{false_if, both_ways, and_left, and_right, and_both, or_right}
+use Rattle.sm_names.proofs.SumLaws.{one, In-le-sum_by}
+use Rattle.sm_names.proofs.StandingLaws.{In-any}
+use Rattle.buffer_pool.specs.Holdings.{Holdings, IsSound, in_order}
+use Rattle.buffer_pool.specs.Holes.{end_of}
+use Rattle.forest_store.specs.Forest.{Collection, Forest, IsPoolOf, all_held, held_by_page as held_in}
+use Rattle.core_state.specs.Shown.{IsAfter, collection_after, held_after, kept_ids}
+use Rattle.core_state.specs.State.{State}
+use Rattle.core_state.proofs.lists.Parts.{mixed_parts}
+use Rattle.core_state.proofs.lists.Reorderings.{Mixed, In-mixed_back, sum_by-mixed}
+use Rattle.core_state.proofs.collections.Roots.{listed_once}
+use Rattle.core_state.proofs.lists.ByNumber.{AreNumbered, sorted-mixed, mixed_sorted}
+
+-- ---- which are held
+
+module _ (pool : ℕ) (limits : Bound) (marks : Timeline) (grown : Grows pool limits [] marks) where
+  -- a held buffer is one of its collection's, and not home
+  held_named : (h : HeldBuffer) → In h (held pool marks) → In h.buffer (buffer_names marks h.buffer.collection) ×
+      (not (home marks h.buffer) ≡ true)
+  held_named h on =
+      let there : list_any (λ (k : HeldBuffer). same_buffer k.buffer h.buffer) (held pool marks) ≡ true =
+      In-any (λ (k : HeldBuffer). same_buffer k.buffer h.buffer) (held pool marks) h on (same_buffer-refl h.buffer) in
+      let both : (list_any (λ b. same_buffer b h.buffer) (buffer_names marks h.buffer.collection) && not (home marks h.buffer)) ≡ true =
+      sym (stands_held pool limits marks grown h.buffer) ∙ there in
+      let named = In-list_any (λ b. same_buffer b h.buffer) (buffer_names marks h.buffer.collection)
+      (and_left (list_any (λ b. same_buffer b h.buffer) (buffer_names marks h.buffer.collection)) (not (home marks h.buffer)) both) in
+      let is : named.0 ≡ h.buffer = same_buffer-true named.0 h.buffer named.2 in
+      let here : In named.0 (buffer_names marks h.buffer.collection) = named.1 in (
+        subst (λ (b : BufferName). In b (buffer_names marks h.buffer.collection)) is here,
+        and_right (list_any (λ b. same_buffer b h.buffer) (buffer_names marks h.buffer.collection)) (not (home marks h.buffer)) both,
+      )
+
+  -- so its collection is kept
+  pub held_kept : (h : HeldBuffer) → In h (held pool marks) → is_kept_collection marks h.buffer.collection ≡ true
+  held_kept h on =
+      let n = held_named h on in
+      let some : one (not (home marks h.buffer)) ≤ left marks h.buffer.collection =
+      In-le-sum_by (λ (b : BufferName). one (not (home marks b))) (buffer_names marks h.buffer.collection) h.buffer n.0 in
+      let more : 1 ≤ left marks h.buffer.collection = omega (arith, some, ap one n.1) in
+      let not_none : (left marks h.buffer.collection == 0) ≡ false = false_if (left marks h.buffer.collection == 0) (λ e.
+      let none : left marks h.buffer.collection ≡ 0 = eqb-true (left marks h.buffer.collection) 0 e in omega arith) in
+      or_right _ (not (left marks h.buffer.collection == 0)) (ap not not_none)
+
+-- ---- each has a page
+
+-- each buffer that the forest holds has a page
+abbrev pub HavePages : Forest → Type 0
+HavePages f = (h : HeldBuffer) → In h (all_held f) → 0 < h.pages.pages
+
+-- each interval of a pool has a page
+ordered_pages : (low high : ℕ) (is : List Interval) → in_order low high is ≡ true → (i : Interval) → In i is → 0 < i.pages
+ordered_pages low high [] h i on = absurd on
+ordered_pages low high (j ∷ is) h i on =
+    let rest : (nat_lt 0 j.pages && in_order (end_of j) high is) ≡ true = and_right (nat_le low j.start) _ h in
+    elim on [
+      | inl here ↦ let first : 0 < j.pages = ltb-true 0 j.pages (and_left (nat_lt 0 j.pages) _ rest) in rw here first
+      | inr there ↦ ordered_pages (end_of j) high is (and_right (nat_lt 0 j.pages) _ rest) i there
+    ]
+
+-- so it is of a forest whose pages lie in a pool
+pub have_pages : (pool : Holdings) (f : Forest) → IsPoolOf pool f → IsSound pool → HavePages f
+have_pages pool f is sound h on =
+    let pages : List Interval = map (λ (k : HeldBuffer). k.pages) (all_held f) in
+    let there : In h.pages (sorted_by (λ (i : Interval). i.start) pages) =
+    In-mixed_back pages (sorted_by (λ (i : Interval). i.start) pages) h.pages (mixed_sorted (λ (i : Interval). i.start) pages)
+    (In-map-back (λ (k : HeldBuffer). k.pages) (all_held f) h on) in
+    ordered_pages 0 pool.size pool.held sound.in_order h.pages (rw is there)
+
+-- ---- the held buffers of a state
+
+-- buffers that lie apart, each with a page, start at different ones
+apart_numbered : (hs : List HeldBuffer) → AreApart (map (λ (h : HeldBuffer). h.pages) hs) → ((h : HeldBuffer) → In h hs → 0 < h.pages.pages)
+    →
+    AreNumbered (λ (h : HeldBuffer). h.pages.start) hs
+apart_numbered [] apart paged = tt
+apart_numbered (h ∷ hs) apart paged = ((λ k on same. meet k on same), apart_numbered hs apart.1 (λ k on. paged k (inr on)))
+  where
+    meet : (k : HeldBuffer) → In k hs → k.pages.start ≡ h.pages.start → ⊥
+    meet k on same =
+        let here : 0 < h.pages.pages = paged h (inl refl) in
+        let there : 0 < k.pages.pages = paged k (inr on) in
+        let both : meets h.pages k.pages ≡ true =
+        and_both (nat_lt h.pages.start (k.pages.start + k.pages.pages)) (nat_lt k.pages.start (h.pages.start + h.pages.pages))
+        (lt-ltb _ _ (omega arith)) (lt-ltb _ _ (omega arith)) in
+        let some : list_any (meets h.pages) (map (λ (x : HeldBuffer). x.pages) hs) ≡ true =
+        In-any (meets h.pages) (map (λ (x : HeldBuffer). x.pages) hs) k.pages (In-map-back (λ (x : HeldBuffer). x.pages) hs k on) both in
+        both_ways (list_any (meets h.pages) (map (λ (x : HeldBuffer). x.pages) hs)) some apart.0
+
+module _ (s : State) (marks : Timeline) (shown : IsAfter s marks) (limits : Bound) (grown : Grows s.pool limits [] marks) where
+  -- the held buffers of the state, collection by collection
+  all_held_are : all_held s.forest ≡ flat_map (held_after s.pool marks) (kept_ids marks)
+  all_held_are =
+      ap (flat_map (λ (c : Collection). c.held)) shown.collections
+      ∙ flat_map-map (λ (c : Collection). c.held) (collection_after s.pool marks) (kept_ids marks)
+
+  -- they are those of the marks in another order
+  pub mixed_held : Mixed (held s.pool marks) (all_held s.forest)
+  mixed_held = rw all_held_are
+      (mixed_parts (λ (h : HeldBuffer). h.buffer.collection) (held s.pool marks) (kept_ids marks)
+      (λ h on. listed_once s.pool limits marks grown h.buffer.collection ∙ ap one (held_kept s.pool limits marks grown h on)))
+
+  -- with as many pages
+  pub held_pages_are : sum_by (λ (h : HeldBuffer). h.pages.pages) (all_held s.forest) ≡ sum_by (λ (h : HeldBuffer).
+      h.pages.pages) (held s.pool marks)
+  held_pages_are = sum_by-mixed (λ (h : HeldBuffer). h.pages.pages) (held s.pool marks) (all_held s.forest) mixed_held
+
+  -- where each has a page, no two start at the same one
+  starts_differ : HavePages s.forest → AreNumbered (λ (h : HeldBuffer). h.pages.start) (held s.pool marks)
+  starts_differ paged =
+      apart_numbered (held s.pool marks) (are_held s.pool limits marks grown).apart
+      (λ h on. paged h (In-mixed_back (held s.pool marks) (all_held s.forest) h mixed_held on))
+
+  -- so by page they are the same
+  pub held_by_page_is : HavePages s.forest → held_in s.forest ≡ held_by_page s.pool marks
+  held_by_page_is paged =
+      sorted-mixed (λ (h : HeldBuffer). h.pages.start) (held s.pool marks) (all_held s.forest) mixed_held (starts_differ paged)

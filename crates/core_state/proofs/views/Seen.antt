@@ -1,0 +1,15 @@
+-- What is seen of a core's state is what is seen of the marks.
+use Rattle.std.proofs.Common.{ℕ, ◌≡◌, ◌-◌, ap, []}
+use Rattle.sm_names.specs.Bounds.{Bound}
+use Rattle.sm_names.specs.Marks.{Timeline}
+use Rattle.sm_names.specs.Views.{free_pages}
+use Rattle.sm_names.proofs.GrowthLaws.{Grows}
+use Rattle.core_state.specs.Reads.{views_of}
+use Rattle.core_state.specs.Shown.{IsAfter}
+use Rattle.core_state.specs.State.{State}
+use Rattle.core_state.proofs.views.Held.{held_pages_are}
+
+module _ (s : State) (marks : Timeline) (shown : IsAfter s marks) (limits : Bound) (grown : Grows s.pool limits [] marks) where
+  -- the free pages of the state are those of the marks
+  pub free_is : (views_of s).free ≡ free_pages s.pool marks
+  free_is = ap (λ (n : ℕ). s.pool - n) (held_pages_are s marks shown limits grown)

@@ -1,0 +1,151 @@
+-- What is read and seen of a state that shows a history.
+use Rattle.std.proofs.Common.{ℕ, ◌≡◌, refl, ap, ◌∙◌, Bool, true, false, ◌==◌, not, cond, List, [], ◌∷◌, ◌++◌, length, map, reverse, Option, Some, None}
+use Rattle.std.proofs.lemmas.List.Folds.{flat_map-map}
+use Rattle.std.specs.List.{filter, flat_map}
+use Rattle.std.specs.Option.{option_map, option_map_or}
+use Rattle.sm_names.specs.declared.keys.BufferName.{BufferName}
+use Rattle.sm_names.specs.declared.keys.Interval.{Interval}
+use Rattle.sm_names.specs.declared.keys.Strength.{Strength}
+use Rattle.sm_names.specs.declared.keys.NodeKey.{NodeKey}
+use Rattle.sm_names.specs.declared.outcomes.Cause.{Cause}
+use Rattle.sm_names.specs.declared.outcomes.Fault.{Fault}
+use Rattle.sm_names.specs.Ends.{clients}
+use Rattle.sm_names.specs.Handles.{buffers_of, open_of, open_total, moving as moving_of}
+use Rattle.sm_names.specs.Kept.{is_kept, is_kept_collection}
+use Rattle.sm_names.specs.Losses.{fault, live}
+use Rattle.sm_names.specs.Marks.{Entry}
+use Rattle.sm_names.specs.Timelines.{timeline}
+use Rattle.sm_names.specs.Views.{live_nodes, held_by_page, free_pages}
+use Rattle.sm_names.proofs.GrowthLaws.{Grows, legal_grows}
+use Rattle.buffer_holds.specs.Counts.{of, moving_count, total}
+use Rattle.sm_names.specs.Births.{birth_of}
+use Rattle.forest_store.specs.Forest.{Collection, all_nodes, beside, collection_at, node_at, live_keys, held_by_page as held_in, pages_in}
+use Rattle.core_state.specs.Reads.{buffers_in, is_live_in, fault_in, views_of}
+use Rattle.core_state.specs.Shown.{Shows, client_after, collection_after, kept_ids, kept_nodes, node_after, pages_beside_after}
+use Rattle.core_state.specs.State.{Client, HandleCounts, State}
+use Rattle.core_state.proofs.theorem.EventCount.{events-timeline}
+use Rattle.core_state.proofs.views.Seen.{free_is}
+use Rattle.core_state.proofs.views.Held.{HavePages, held_by_page_is}
+use Rattle.core_state.proofs.views.Live.{live_is, fault_is, live_keys_are}
+use Rattle.core_state.proofs.views.Nodes.{collection_is, node_is}
+
+-- why and where, as a pair
+abbrev pub told_of : Fault → Cause × NodeKey
+told_of f = (f.cause, f.origin)
+
+module _ (s : State) (history : List Entry) (shows : Shows s history) where
+  -- the history is legal, so its timeline grows from nothing
+  pub grown : Grows s.pool s.limits [] (timeline s.pool history)
+  grown = legal_grows s.pool s.limits history shows.legal
+
+  -- how many events there were
+  pub events_shown : s.events ≡ length history
+  events_shown = shows.shown.events ∙ events-timeline s.pool history
+
+  -- which nodes are live
+  pub live_shown : (key : NodeKey) → is_live_in s key ≡ live (timeline s.pool history) key
+  live_shown = live_is s (timeline s.pool history) shows.shown s.limits grown
+
+  -- why and where a node failed
+  pub cause_shown : (key : NodeKey) → option_map told_of (fault_in s key)
+      ≡ cond (is_kept (timeline s.pool history) key) (option_map told_of (fault (timeline s.pool history) key)) None
+  cause_shown key =
+      ap (option_map told_of) (fault_is s (timeline s.pool history) shows.shown s.limits grown key)
+      ∙ inside (is_kept (timeline s.pool history) key) (fault (timeline s.pool history) key)
+    where
+      inside : (k : Bool) (o : Option Fault) → option_map told_of (cond k o None) ≡ cond k (option_map told_of o) None
+      inside true o = refl
+      inside false o = refl
+
+  -- the live nodes
+  pub live_keys_shown : live_keys s.forest ≡ live_nodes (timeline s.pool history)
+  live_keys_shown = live_keys_are s (timeline s.pool history) shows.shown s.limits grown
+
+  -- the held buffers, where each has a page
+  pub held_shown : HavePages s.forest → held_in s.forest ≡ held_by_page s.pool (timeline s.pool history)
+  held_shown paged = held_by_page_is s (timeline s.pool history) shows.shown s.limits grown paged
+
+  -- the free pages
+  pub free_shown : (views_of s).free ≡ free_pages s.pool (timeline s.pool history)
+  free_shown = free_is s (timeline s.pool history) shows.shown s.limits grown
+
+  -- the kept nodes
+  pub nodes_shown : all_nodes s.forest ≡ kept_nodes (timeline s.pool history)
+  nodes_shown =
+      ap (flat_map (λ (c : Collection). c.nodes)) shows.shown.collections
+      ∙ flat_map-map (λ (c : Collection). c.nodes) (collection_after s.pool (timeline s.pool history)) (kept_ids (timeline s.pool history))
+
+  -- the kept collections
+  pub kept_ids_shown : map (λ (c : Collection). c.id) s.forest.collections ≡ kept_ids (timeline s.pool history)
+  kept_ids_shown = ap (map (λ (c : Collection). c.id)) shows.shown.collections ∙ ids (kept_ids (timeline s.pool history))
+    where
+      ids : (ns : List ℕ) → map (λ (c : Collection). c.id) (map (collection_after s.pool (timeline s.pool history)) ns) ≡ ns
+      ids [] = refl
+      ids (n ∷ ns) = ap (λ (l : List ℕ). n ∷ l) (ids ns)
+
+  -- the pages beside a collection
+  pub beside_shown : (id : ℕ) → beside s.forest id ≡ pages_beside_after s.pool (timeline s.pool history) id
+  beside_shown id =
+      ap (λ (cs : List Collection). flat_map pages_in (filter (λ (c : Collection). not (c.id == id)) cs)) shows.shown.collections
+      ∙ others (kept_ids (timeline s.pool history))
+    where
+      of : ℕ → Collection
+      of = collection_after s.pool (timeline s.pool history)
+
+      others : (ns : List ℕ) → flat_map pages_in (filter (λ (c : Collection). not (c.id == id)) (map of ns))
+          ≡ flat_map (λ n. pages_in (of n)) (filter (λ n. not (n == id)) ns)
+      others [] = refl
+      others (n ∷ ns) = elim (n == id) as (λ b.
+          flat_map pages_in (cond (not b) (of n ∷ filter (λ (c : Collection). not (c.id == id)) (map of ns))
+          (filter (λ (c : Collection). not (c.id == id)) (map of ns)))
+          ≡ flat_map (λ m. pages_in (of m)) (cond (not b) (n ∷ filter (λ m. not (m == id)) ns) (filter (λ m. not (m == id)) ns))) [
+            | true ↦ others ns
+            | false ↦ ap (λ (is : List Interval). pages_in (of n) ++ is) (others ns)
+          ]
+
+  -- what a collection was given
+  pub given_shown : (id : ℕ) → buffers_in s id
+      ≡ cond (is_kept_collection (timeline s.pool history) id) (buffers_of (timeline s.pool history) id) None
+  given_shown id =
+      ap (λ (o : Option Collection). option_map_or (λ (c : Collection). c.buffers) o None)
+      (collection_is s (timeline s.pool history) shows.shown s.limits grown id)
+      ∙ inside (is_kept_collection (timeline s.pool history) id)
+    where
+      inside : (k : Bool) → option_map_or (λ (c : Collection). c.buffers)
+          (cond k (Some (collection_after s.pool (timeline s.pool history) id)) None) None
+          ≡ cond k (buffers_of (timeline s.pool history) id) None
+      inside true = refl
+      inside false = refl
+
+  -- the clients
+  pub clients_shown : map (λ (c : Client). c.id) s.clients ≡ reverse (clients (timeline s.pool history))
+  clients_shown = ap (map (λ (c : Client). c.id)) shows.shown.clients ∙ ids (reverse (clients (timeline s.pool history)))
+    where
+      ids : (ns : List ℕ) → map (λ (c : Client). c.id) (map (client_after (timeline s.pool history)) ns) ≡ ns
+      ids [] = refl
+      ids (n ∷ ns) = ap (λ (l : List ℕ). n ∷ l) (ids ns)
+
+  -- the handles that a client has open
+  pub open_shown : (client : ℕ) (buffer : BufferName) (strength : Strength) →
+      of s.holds client buffer strength ≡ open_of (timeline s.pool history) client buffer strength
+  open_shown client buffer strength = ap (λ (h : HandleCounts). h.of client buffer strength) shows.shown.handles
+
+  -- the handles that are in parcels
+  pub moving_shown : (buffer : BufferName) (strength : Strength) →
+      moving_count s.holds buffer strength ≡ moving_of (timeline s.pool history) buffer strength
+  moving_shown buffer strength = ap (λ (h : HandleCounts). h.moving buffer strength) shows.shown.handles
+
+  -- the handles that are open
+  pub total_shown : (buffer : BufferName) (strength : Strength) →
+      total s.holds buffer strength ≡ open_total (timeline s.pool history) buffer strength
+  total_shown buffer strength = ap (λ (h : HandleCounts). h.total buffer strength) shows.shown.handles
+
+  -- a collection, if it is kept
+  pub collection_shown : (id : ℕ) → collection_at s.forest id
+      ≡ cond (is_kept_collection (timeline s.pool history) id) (Some (collection_after s.pool (timeline s.pool history) id)) None
+  collection_shown id = collection_is s (timeline s.pool history) shows.shown s.limits grown id
+
+  -- a node, if it is kept
+  pub node_shown : (key : NodeKey) → node_at s.forest key
+      ≡ cond (is_kept (timeline s.pool history) key) (option_map (node_after (timeline s.pool history)) (birth_of (timeline s.pool history) key)) None
+  node_shown key = node_is s (timeline s.pool history) shows.shown s.limits grown key

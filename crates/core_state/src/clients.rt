@@ -1,0 +1,219 @@
+//! The clients, and the parcels that wait for them.
+ghost use Rattle.std.specs.Prelude.{◌≡◌, ◌==◌, ◌++◌, IfOk, OnOk, OnErr, [], ◌∷◌, map, length, true, false};
+ghost use Rattle.std.specs.List.{find, list_any, position, slice_get};
+ghost use Rattle.std.specs.Option.{option_map_or};
+ghost use Rattle.sm_names.specs.Marks.{Called};
+ghost use Rattle.core_state.specs.ClientRows.{with_client, now_shut, without_first, with_parcel};
+ghost use Rattle.core_state.specs.State.{Client as Row};
+ghost use Rattle.core_state.specs.Steps.{clients_by, new_client};
+ghost use Rattle.core_state.specs.Tasks.{takes_room};
+ghost use Rattle.core_state.specs.Whole.{Rise};
+
+use sm_names::{Call, ClientId, NoMemory, Parcel, Reply};
+use std::alloc::{AllocError, Global};
+use std::collections::VecDeque;
+use std::marker::Model;
+
+/// A client that joined.
+#[derive(Drop)]
+pub struct Client {
+    id: ClientId,
+    shut: bool,
+    // The first one first.
+    waiting: VecDeque<Parcel>,
+}
+
+impl Model for Client {
+    ghost use Rattle.core_state.specs.State.{Client};
+
+    ghost Value = { Client };
+
+    ghost view = { λ c. record { id = c.id; shut = c.shut; waiting = c.waiting.items } };
+}
+
+/// Whether the client joined: a look, or a binary search, since clients are numbered as they join.
+pub fn has_joined(clients: &[Client], client: ClientId) -> bool
+    requires { Rise (map (λ (c : Row). c.id) clients.now) }
+    ensures { result ≡ list_any (λ (c : Row). c.id == client) clients.now }
+{
+    place_of(clients, client).is_some()
+}
+
+/// Whether the client was shut. A look, or a binary search.
+pub fn is_shut(clients: &[Client], client: ClientId) -> bool
+    requires { Rise (map (λ (c : Row). c.id) clients.now) }
+    ensures { result ≡ option_map_or (λ (c : Row). c.shut)
+        (find (λ (c : Row). c.id == client) clients.now) false }
+{
+    match place_of(clients, client) {
+        Some(at) => {
+            let row = &clients[at];
+            row.shut
+        }
+        None => false,
+    }
+}
+
+/// How many parcels wait for the client. A look, or a binary search.
+pub fn count_waiting(clients: &[Client], client: ClientId) -> usize
+    requires { Rise (map (λ (c : Row). c.id) clients.now) }
+    ensures { result ≡ length (option_map_or (λ (c : Row). c.waiting)
+        (find (λ (c : Row). c.id == client) clients.now) []) }
+{
+    match place_of(clients, client) {
+        Some(at) => {
+            let row = &clients[at];
+            let (front, back) = row.waiting.as_slices();
+            front.len() + back.len()
+        }
+        None => 0,
+    }
+}
+
+/// The parcel that the client collects next. A look, or a binary search.
+pub fn first_waiting(clients: &[Client], client: ClientId) -> Option<Parcel>
+    requires { Rise (map (λ (c : Row). c.id) clients.now) }
+    ensures { result ≡ slice_get (option_map_or (λ (c : Row). c.waiting)
+        (find (λ (c : Row). c.id == client) clients.now) []) 0 }
+{
+    let row = &clients[place_of(clients, client)?];
+    row.waiting.front().copied()
+}
+
+/// Makes of the clients what the event makes of them: a client joins or is shut, or a parcel is
+/// given or collected.
+///
+/// `NoMemory` where there is no room for a client or a parcel more; then they are as they were. A
+/// look, or a binary search.
+#[inline(always)]
+pub fn note_client(
+    clients: &mut Vec<Client>,
+    client: ClientId,
+    call: &Call,
+    reply: &Reply,
+) -> Result<(), NoMemory>
+    requires { Rise (map (λ (c : Row). c.id) clients.old.items) }
+    ensures ok { OnOk result (clients.new.items
+        ≡ clients_by (Called client reply.now call.now) clients.old.items) }
+    ensures err { OnErr result (clients.new.items ≡ clients.old.items) }
+    ensures why { OnErr result (takes_room call.now reply.now ≡ true) }
+{
+    match *call {
+        Call::Join => {
+            if let Reply::Joined(made) = *reply {
+                return admit(clients, made);
+            }
+        }
+        Call::Shut => {
+            if let Reply::Shut(_) = *reply {
+                shut(clients, client);
+            }
+        }
+        Call::Give(key, to) => {
+            if let Reply::Done = *reply {
+                return send(clients, to, Parcel::End(key));
+            }
+        }
+        Call::GiveHandle(buffer, strength, to) => {
+            if let Reply::Done = *reply {
+                return send(clients, to, Parcel::Handle(buffer, strength));
+            }
+        }
+        Call::Collect => {
+            if let Reply::Collected { .. } | Reply::CollectedHandle { .. } = *reply {
+                collect(clients, client);
+            }
+        }
+        _ => {}
+    }
+    Ok(())
+}
+
+// Where the client stands: at once where nothing but joins came before its own, else by a search.
+fn place_of(clients: &[Client], client: ClientId) -> Option<usize>
+    requires { Rise (map (λ (c : Row). c.id) clients.now) }
+    ensures { result ≡ position (λ (c : Row). c.id == client) clients.now }
+{
+    let guess = client.wrapping_sub(1) as usize;
+    if let Some(row) = clients.get(guess) {
+        if row.id == client {
+            return Some(guess);
+        }
+    }
+    searched_place(clients, client)
+}
+
+// The same, by a binary search.
+#[inline(never)]
+fn searched_place(clients: &[Client], client: ClientId) -> Option<usize>
+    requires { Rise (map (λ (c : Row). c.id) clients.now) }
+    ensures { result ≡ position (λ (c : Row). c.id == client) clients.now }
+{
+    clients.binary_search_by_key(&client, |c| c.id).ok()
+}
+
+// Puts a client that joined just now behind all others.
+fn admit(clients: &mut Vec<Client>, made: ClientId) -> Result<(), NoMemory>
+    ensures ok { OnOk result (clients.new.items ≡ clients.old.items ++ new_client made ∷ []) }
+    ensures err { OnErr result (clients.new.items ≡ clients.old.items) }
+{
+    let alloc = *clients.allocator();
+    match clients.push(Client {
+        id: made,
+        shut: false,
+        waiting: VecDeque::new(alloc),
+    }) {
+        Ok(()) => Ok(()),
+        Err(_) => Err(NoMemory),
+    }
+}
+
+// Shuts the client.
+fn shut(clients: &mut Vec<Client>, client: ClientId)
+    requires { Rise (map (λ (c : Row). c.id) clients.old.items) }
+    ensures { clients.new.items ≡ with_client client now_shut clients.old.items }
+{
+    if let Some(at) = place_of(clients, client) {
+        let row = &mut clients[at];
+        row.shut = true;
+    }
+}
+
+// Puts the parcel behind those that wait for the client.
+fn send(clients: &mut Vec<Client>, to: ClientId, parcel: Parcel) -> Result<(), NoMemory>
+    requires { Rise (map (λ (c : Row). c.id) clients.old.items) }
+    ensures ok { OnOk result (clients.new.items
+        ≡ with_client to (with_parcel parcel) clients.old.items) }
+    ensures err { OnErr result (clients.new.items ≡ clients.old.items) }
+{
+    let Some(at) = place_of(clients, to) else {
+        return Ok(());
+    };
+    let row = &mut clients[at];
+    match row.waiting.push_back(parcel) {
+        Ok(()) => Ok(()),
+        Err(_) => Err(NoMemory),
+    }
+}
+
+// Takes the first parcel that waits for the client.
+fn collect(clients: &mut Vec<Client>, client: ClientId)
+    requires { Rise (map (λ (c : Row). c.id) clients.old.items) }
+    ensures { clients.new.items ≡ with_client client without_first clients.old.items }
+{
+    if let Some(at) = place_of(clients, client) {
+        let row = &mut clients[at];
+        row.waiting.pop_front();
+    }
+}
+
+/// The numbers of the clients, in their order.
+pub fn ids_of(alloc: Global, clients: &[Client]) -> Result<Vec<ClientId>, AllocError>
+    ensures { IfOk result (λ ids. ids.items ≡ map (λ (c : Row). c.id) clients.now) }
+{
+    let mut ids = Vec::with_capacity(alloc, clients.len())?;
+    for client in clients {
+        ids.push(client.id)?;
+    }
+    Ok(ids)
+}

@@ -1,0 +1,58 @@
+//! What ties a core's state to each history that it shows.
+ghost use Rattle.std.specs.Prelude.{◌≡◌, ◌<◌, ◌∷◌, ◌++◌, ℕ, List, true};
+ghost use Rattle.sm_names.specs.declared.keys.BufferName.{BufferName};
+ghost use Rattle.sm_names.specs.declared.keys.NodeKey.{NodeKey};
+ghost use Rattle.sm_names.specs.declared.keys.Strength.{Strength};
+ghost use Rattle.sm_names.specs.declared.messages.Call.{Call};
+ghost use Rattle.sm_names.specs.declared.messages.Reply.{Reply};
+ghost use Rattle.sm_names.specs.Answers.{IsAnswer, answer};
+ghost use Rattle.sm_names.specs.Bounds.{Bound};
+ghost use Rattle.sm_names.specs.Handles.{opens};
+ghost use Rattle.sm_names.specs.Marks.{Called, Entry};
+ghost use Rattle.sm_names.specs.Reading.{readings};
+ghost use Rattle.sm_names.specs.Timelines.{timeline};
+ghost use Rattle.core_state.specs.Reads.{readings_of};
+ghost use Rattle.core_state.specs.Shown.{Shows};
+ghost use Rattle.core_state.specs.State.{State};
+
+/// What answers read of a core is what they read of each history that it shows, but that a core may
+/// take more keys for given than the history gave: those of no node, which it never gives again.
+pub fn a_core_reads_as_its_history()
+    ensures readings { (s : State) (history : List Entry) → Shows s history →
+        record (readings_of s) { was_given = (readings (timeline s.pool history)).was_given }
+        ≡ readings (timeline s.pool history) }
+    ensures given { (s : State) (history : List Entry) → Shows s history → (key : NodeKey) →
+        (readings (timeline s.pool history)).was_given key ≡ true →
+        (readings_of s).was_given key ≡ true }
+{}
+
+/// So a core answers every call as each history that it shows does, also under other limits.
+pub fn a_core_answers_as_its_history()
+    ensures told { (s : State) (history : List Entry) → Shows s history →
+        (limits : Bound) (client : ℕ) (new : NodeKey) (call : Call) →
+        answer limits (readings_of s) client new call
+        ≡ answer limits (readings (timeline s.pool history)) client new call }
+    ensures answers { (s : State) (history : List Entry) → Shows s history →
+        (limits : Bound) (client : ℕ) (call : Call) (reply : Reply) →
+        IsAnswer limits (readings_of s) client call reply →
+        IsAnswer limits (readings (timeline s.pool history)) client call reply }
+{}
+
+/// No Take is answered with an empty set, neither in a history that a core shows nor by the core: a
+/// collection is given one buffer at least, and as long as a node of it is not gone, some strong
+/// node or strong handle keeps one of them.
+pub fn a_take_is_never_empty()
+    ensures taken { (s : State) (before more : List Entry) (client collection : ℕ)
+        (strength : Strength) (set : ℕ) (key : NodeKey) →
+        Shows s (before ++ (client, Call.Take key, Reply.Taken collection strength set) ∷ more) →
+        0 < set }
+    ensures opened { (s : State) (before more : List Entry) (client collection : ℕ)
+        (strength : Strength) (set : ℕ) (key : NodeKey) →
+        Shows s (before ++ (client, Call.Take key, Reply.Taken collection strength set) ∷ more) →
+        (buffer : BufferName) × (opens (λ c. true) buffer strength
+        (Called client (Reply.Taken collection strength set) (Call.Take key)) ≡ true) }
+    ensures next { (s : State) (history : List Entry) → Shows s history →
+        (limits : Bound) (client collection : ℕ) (strength : Strength) (set : ℕ) (key : NodeKey) →
+        IsAnswer limits (readings_of s) client (Call.Take key)
+        (Reply.Taken collection strength set) → 0 < set }
+{}

@@ -1,0 +1,13 @@
+//! The state of a core as plain data: what answers and views read of it, what an event makes of it, and the
+//! theorem that it then shows the history that went on by this event. And the code of a core that needs no
+//! forced step: its clients, its handles, and what is read of a call, of a reply and of one node.
+#![tactic(auto)]
+
+pub mod asked;
+pub mod clients;
+pub mod end_answers;
+pub mod hands;
+pub mod laws;
+pub mod reading;
+pub mod task;
+pub mod traits;

@@ -1,7 +1,0 @@
-use Rattle.std.proofs.Common.{◌≡◌, map, take}
-use Rattle.lifetime_core.specs.State.{Client}
-use Rattle.lifetime_core.proofs.clients.ids_of.Given as goal
-
--- so far the numbers of these clients
-abbrev pub invariant-loop-client : goal.invariant-loop-client
-invariant-loop-client l = l.ids.items ≡ map (λ (c : Client). c.id) (take l.client-index l.clients)

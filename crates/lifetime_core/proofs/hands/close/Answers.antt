@@ -1,7 +1,0 @@
-use Rattle.std.proofs.Common.{rules}
-use Rattle.lifetime_core.proofs.handles.Opening.{closes_one}
-use Rattle.lifetime_core.proofs.hands.close.Goals as goal
-
-pub returns-clause-closed : goal.returns-clause-closed
-returns-clause-closed c = λ some. closes_one c.args.holds.now c.sub.new.self c.tidy.new.self c.args.client c.args.buffer c.args.strength
-    some (search rules) c.tidy.ensures

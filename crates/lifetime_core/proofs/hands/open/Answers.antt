@@ -1,6 +1,0 @@
-use Rattle.lifetime_core.proofs.handles.Opening.{opens_one}
-use Rattle.lifetime_core.proofs.hands.open.Goals as goal
-
-pub returns-in-Ok-clause-ok : goal.returns-in-Ok-clause-ok
-returns-in-Ok-clause-ok c =
-    opens_one c.args.holds.now c.add_near.new.self c.args.client c.args.buffer c.args.strength c.in-Ok.ensures.opened

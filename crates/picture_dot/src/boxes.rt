@@ -1,0 +1,143 @@
+//! The boxes of nodes in the language of Graphviz.
+ghost use Rattle.std.specs.Prelude.{◌≡◌, ◌++◌, OnOk};
+ghost use Rattle.std.specs.List.{flat_map};
+ghost use Rattle.script_labels.specs.Names.{Names};
+ghost use Rattle.script_labels.specs.Tables.{Keeps};
+ghost use Rattle.script_tales.specs.Called.{Calls};
+ghost use Rattle.picture_dot.specs.DotPictures.{asked_line, border_text, box_head, box_lines, box_text, look_text, width_text};
+
+use alloc_event::Node;
+use script_labels::Tables;
+use script_lines::push;
+use script_pictures::colors::{edge_color, fill_color, ink_color};
+use script_pictures::{
+    Class, class_of, is_among, push_asked_line, push_kind_line, push_place, push_state_line,
+};
+use script_tales::Teller;
+use sm_names::{Constraints, NodeKey};
+use std::alloc::AllocError;
+use text_parts::{Part, push_parts};
+
+// Puts a box for each of the nodes behind what is there, of which these left at the event.
+pub(crate) fn push_boxes(
+    text: &mut Vec<u8>,
+    teller: &Teller,
+    nodes: &[Node],
+    left: &[NodeKey],
+) -> Result<(), AllocError>
+    ensures { OnOk result ((names : Names) → Keeps teller.now.session.tables names →
+        Calls teller.now.labels names → text.new.items ≡ text.old.items
+        ++ flat_map (box_text names left.now) nodes.now) }
+{
+    for node in nodes {
+        push_box(text, teller, node, left)?;
+    }
+    Ok(())
+}
+
+// Puts the box of a node behind what is there.
+#[tactic(auto, unfolding(crate::specs::DotPictures::box_text))]
+fn push_box(
+    text: &mut Vec<u8>,
+    teller: &Teller,
+    node: &Node,
+    left: &[NodeKey],
+) -> Result<(), AllocError>
+    ensures { OnOk result ((names : Names) → Keeps teller.now.session.tables names →
+        Calls teller.now.labels names → text.new.items ≡ text.old.items
+        ++ box_text names left.now node.now) }
+{
+    push_head(text, &teller.session.tables, node)?;
+    push_lines(text, teller, node)?;
+    push_look(text, left, node)
+}
+
+// Puts the begin of a box behind what is there, with the label of its node.
+#[tactic(auto, unfolding(crate::specs::DotPictures::box_head))]
+fn push_head(text: &mut Vec<u8>, tables: &Tables, node: &Node) -> Result<(), AllocError>
+    ensures { OnOk result ((names : Names) → Keeps tables.now names →
+        text.new.items ≡ text.old.items ++ box_head names node.now) }
+{
+    push_parts(
+        text,
+        &[
+            Part::Word("    n"),
+            Part::Number(node.event),
+            Part::Word(" [label=<<b>"),
+            Part::Name(tables.birth_label(node.key)),
+            Part::Word("</b>"),
+        ],
+    )
+}
+
+// Puts the lines of a box behind what is there.
+fn push_lines(text: &mut Vec<u8>, teller: &Teller, node: &Node) -> Result<(), AllocError>
+    ensures { OnOk result ((names : Names) → Keeps teller.now.session.tables names →
+        Calls teller.now.labels names → text.new.items ≡ text.old.items
+        ++ box_lines names node.now) }
+{
+    push(text, "<br/>")?;
+    push_state_line(text, &teller.session.tables, node)?;
+    push(text, "<br/>")?;
+    push_kind_line(text, teller, node)?;
+    push_asked(text, node.constraints)?;
+    push(text, "<br/>")?;
+    push_place(text, &teller.labels, node)
+}
+
+// Puts the line of what is asked for behind what is there, if something is.
+fn push_asked(text: &mut Vec<u8>, asked: Option<Constraints>) -> Result<(), AllocError>
+    ensures { OnOk result (text.new.items ≡ text.old.items ++ asked_line asked) }
+{
+    match asked {
+        Some(asked) => {
+            push(text, "<br/>")?;
+            push_asked_line(text, asked)
+        }
+        None => Ok(()),
+    }
+}
+
+// Puts behind what is there how the box of a node looks.
+#[tactic(auto, unfolding(crate::specs::DotPictures::look_text))]
+fn push_look(text: &mut Vec<u8>, left: &[NodeKey], node: &Node) -> Result<(), AllocError>
+    ensures { OnOk result (text.new.items ≡ text.old.items ++ look_text left.now node.now) }
+{
+    let class = class_of(node);
+    push_parts(
+        text,
+        &[
+            Part::Word(">, style=\"filled"),
+            Part::Word(border_of(class)),
+            Part::Word("\", fillcolor=\""),
+            Part::Word(fill_color(class)),
+            Part::Word("\", color=\""),
+            Part::Word(edge_color(class)),
+            Part::Word("\", fontcolor=\""),
+            Part::Word(ink_color(class)),
+            Part::Word(width_of(left, node.key)),
+        ],
+    )
+}
+
+// How the border of a box looks.
+fn border_of(class: Class) -> &'static str
+    ensures { result.now ≡ border_text class }
+{
+    match class {
+        Class::Orphan => ",dashed",
+        Class::Ended => ",dotted",
+        Class::Live | Class::Origin | Class::Taken => "",
+    }
+}
+
+// The end of a box, whose border is thick if its node is one of these.
+fn width_of(left: &[NodeKey], key: NodeKey) -> &'static str
+    ensures { result.now ≡ width_text left.now key }
+{
+    if is_among(left, key) {
+        "\", penwidth=3];\n"
+    } else {
+        "\", penwidth=1.5];\n"
+    }
+}

@@ -1,0 +1,218 @@
+//! The links of a tree in the language of Graphviz.
+ghost use Rattle.std.specs.Prelude.{◌≡◌, ◌++◌, IfOk, OnOk};
+ghost use Rattle.std.specs.List.{flat_map, list_any};
+ghost use Rattle.script_pictures.specs.Travels.{is_child_of as hangs_under};
+ghost use Rattle.picture_dot.specs.DotPictures.{arrow_text, begin_text, is_leaf as is_leaf_in, leaves_of as leaves_in, link_of, link_text, links_text, middle_of, parent_in, stop_words, table_link, table_link_of, dot_way_text};
+
+use crate::tables::has_table;
+use alloc_event::Node;
+use event_facts::ways::find;
+use script_lines::push;
+use script_pictures::{Travel, Tree, Way, way_of};
+use sm_names::NodeKey;
+use std::alloc::AllocError;
+use text_parts::{Part, push_parts};
+
+// Puts the links of a tree behind what is there, and one that keeps its table below it.
+#[tactic(auto, unfolding(crate::specs::DotPictures::links_text))]
+pub(crate) fn push_links(
+    text: &mut Vec<u8>,
+    tree: &Tree,
+    travels: &[Travel],
+) -> Result<(), AllocError>
+    ensures { OnOk result (text.new.items
+        ≡ text.old.items ++ links_text travels.now tree.now) }
+{
+    push_node_links(text, &tree.nodes, travels)?;
+    push_table_link(text, tree)
+}
+
+// Puts the link of each node to its parent behind what is there.
+fn push_node_links(text: &mut Vec<u8>, nodes: &[Node], travels: &[Travel]) -> Result<(), AllocError>
+    ensures { OnOk result (text.new.items
+        ≡ text.old.items ++ flat_map (link_of nodes.now travels.now) nodes.now) }
+{
+    for node in nodes {
+        push_link_of(text, nodes, node, travels)?;
+    }
+    Ok(())
+}
+
+// Puts the link of the node to its parent behind what is there, if it has one.
+fn push_link_of(
+    text: &mut Vec<u8>,
+    nodes: &[Node],
+    node: &Node,
+    travels: &[Travel],
+) -> Result<(), AllocError>
+    ensures { OnOk result (text.new.items
+        ≡ text.old.items ++ link_of nodes.now travels.now node.now) }
+{
+    match parent_of(nodes, node) {
+        Some(above) => push_link(text, above.event, node, way_of(travels, node.key)),
+        None => Ok(()),
+    }
+}
+
+// The parent of the node, if it has one.
+fn parent_of(nodes: &[Node], node: &Node) -> Option<Node>
+    ensures { result ≡ parent_in nodes.now node.now }
+{
+    match node.parent {
+        Some(parent) => find(nodes, parent),
+        None => None,
+    }
+}
+
+// Puts a link behind what is there, from the parent that was born at this event, and how a failure went
+// along it.
+fn push_link(
+    text: &mut Vec<u8>,
+    above: u64,
+    node: &Node,
+    way: Option<Way>,
+) -> Result<(), AllocError>
+    ensures { OnOk result (text.new.items ≡ text.old.items ++ link_text above node.now way) }
+{
+    push_parts(
+        text,
+        &[
+            Part::Word("  n"),
+            Part::Number(above),
+            Part::Word(" -> n"),
+            Part::Number(node.event),
+            Part::Word(begin_of(node)),
+        ],
+    )?;
+    push_way(text, way)?;
+    push(text, "];\n")
+}
+
+// What stands before how a link looks.
+fn begin_of(node: &Node) -> &'static str
+    ensures { result.now ≡ begin_text node.now }
+{
+    if node.attached {
+        " [style=dashed, "
+    } else {
+        " ["
+    }
+}
+
+// Puts behind what is there how a failure went along a link, if it did.
+fn push_way(text: &mut Vec<u8>, way: Option<Way>) -> Result<(), AllocError>
+    ensures { OnOk result (text.new.items ≡ text.old.items ++ dot_way_text way) }
+{
+    match way {
+        Some(Way::Up(step)) => push_arrow(text, "dir=back", "3", step),
+        Some(Way::Down(step)) => push_arrow(text, "dir=forward", "2", step),
+        Some(Way::Stop) => push(text, words_for_stop()),
+        None => push(text, "dir=none"),
+    }
+}
+
+// How a link looks at which a failure stopped.
+#[tactic(auto, unfolding(crate::specs::DotPictures::stop_words))]
+fn words_for_stop() -> &'static str
+    ensures { result.now ≡ stop_words }
+{
+    "dir=both, arrowhead=tee, arrowtail=none, arrowsize=1.6, color=\"#222222\", penwidth=2, \
+     label=\" stops\""
+}
+
+// Puts behind what is there how an arrow looks that a failure went along, at this step.
+fn push_arrow<'a>(
+    text: &mut Vec<u8>,
+    direction: &'a str,
+    width: &'a str,
+    step: u64,
+) -> Result<(), AllocError>
+    ensures { OnOk result (text.new.items
+        ≡ text.old.items ++ arrow_text direction.now width.now step) }
+{
+    push_parts(
+        text,
+        &[
+            Part::Word(direction),
+            Part::Word(", color=\"#D55E00\", penwidth="),
+            Part::Word(width),
+            Part::Word(", label=\" "),
+            Part::Number(step),
+            Part::Word("\", fontcolor=\"#D55E00\""),
+        ],
+    )
+}
+
+// Puts a link from the middle leaf to the table behind what is there, if there are both.
+fn push_table_link(text: &mut Vec<u8>, tree: &Tree) -> Result<(), AllocError>
+    ensures { OnOk result (text.new.items ≡ text.old.items ++ table_link_of tree.now) }
+{
+    if !has_table(tree) {
+        return Ok(());
+    }
+    let leaves = leaves_of(&tree.nodes)?;
+    match middle(&leaves) {
+        Some(event) => push_leaf_link(text, tree.id, event),
+        None => Ok(()),
+    }
+}
+
+// Puts a link behind what is there, from the node that was born at this event to the table of this number.
+fn push_leaf_link(text: &mut Vec<u8>, id: u64, event: u64) -> Result<(), AllocError>
+    ensures { OnOk result (text.new.items ≡ text.old.items ++ table_link id event) }
+{
+    push_parts(
+        text,
+        &[
+            Part::Word("  n"),
+            Part::Number(event),
+            Part::Word(" -> b"),
+            Part::Number(id),
+            Part::Word(" [style=invis];\n"),
+        ],
+    )
+}
+
+// The one in the middle.
+fn middle(events: &[u64]) -> Option<u64>
+    ensures { result ≡ middle_of events.now }
+{
+    events.get(events.len() / 2).copied()
+}
+
+// The events of the births of the nodes that have no child.
+fn leaves_of(nodes: &Vec<Node>) -> Result<Vec<u64>, AllocError>
+    ensures { IfOk result (λ leaves. leaves.items ≡ leaves_in nodes.now.items) }
+{
+    let mut leaves = Vec::new(*nodes.allocator());
+    for node in nodes {
+        if is_leaf(nodes, node) {
+            leaves.push(node.event)?;
+        }
+    }
+    Ok(leaves)
+}
+
+// Whether the node has no child among these.
+fn is_leaf(nodes: &[Node], node: &Node) -> bool
+    ensures { result ≡ is_leaf_in nodes.now node.now }
+{
+    !has_child(nodes, node.key)
+}
+
+// Whether the node with this key has a child among these.
+fn has_child(nodes: &[Node], key: NodeKey) -> bool
+    ensures { result ≡ list_any (hangs_under key) nodes.now }
+{
+    nodes.iter().any(|other| hangs_on(key, other))
+}
+
+// Whether the node hangs on the one with this key.
+fn hangs_on(above: NodeKey, node: &Node) -> bool
+    ensures { result ≡ hangs_under above node.now }
+{
+    match node.parent {
+        Some(parent) => above == parent,
+        None => false,
+    }
+}

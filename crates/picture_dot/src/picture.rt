@@ -1,0 +1,252 @@
+//! A picture in the language of Graphviz.
+ghost use Rattle.std.specs.Prelude.{◌≡◌, ◌++◌, OnOk};
+ghost use Rattle.std.specs.List.{flat_map};
+ghost use Rattle.script_labels.specs.Names.{Names};
+ghost use Rattle.script_labels.specs.Tables.{Keeps};
+ghost use Rattle.script_tales.specs.Called.{Calls};
+ghost use Rattle.picture_dot.specs.DotPictures.{box_words, cluster_text, dot_text, dot_tree, firing_text, graph_foot, graph_head, graph_words, link_words, pool_words, rank_text, when_text};
+
+use crate::boxes::push_boxes;
+use crate::links::push_links;
+use crate::tables::{has_table, push_table_of};
+use lifetime_core::Core;
+use script_labels::{Stop, Tables};
+use script_lines::{push, push_number};
+use script_pictures::{Picture, Travel, Tree, push_header};
+use script_tales::Teller;
+use sm_names::{ClientId, Fired};
+use std::alloc::AllocError;
+use text_parts::{Part, push_parts};
+
+/// Puts the picture behind what is there, where the last event has this line.
+///
+/// `NoMemory` where memory is refused. Costs O(n^2) for the n nodes of each tree, a look into a table for
+/// each label, and for each buffer a look-up for each client and strength.
+pub fn push_dot(
+    text: &mut Vec<u8>,
+    teller: &Teller,
+    picture: &Picture,
+    line: &[u8],
+) -> Result<(), Stop>
+    ensures { OnOk result ((names : Names) → Keeps teller.now.session.tables names →
+        Calls teller.now.labels names → text.new.items ≡ text.old.items
+        ++ dot_text teller.now.session.core names line.now
+        picture.now.trees.items picture.now.travels.items) }
+{
+    push_head(text, teller.session.core.events(), line)?;
+    let clients = teller.session.core.clients()?;
+    push_trees(text, teller, &clients, picture)?;
+    push_foot(
+        text,
+        &teller.session.core,
+        &teller.session.tables,
+        &picture.trees,
+    )?;
+    Ok(())
+}
+
+// Puts the begin of the graph behind what is there.
+fn push_head(text: &mut Vec<u8>, event: u64, line: &[u8]) -> Result<(), AllocError>
+    ensures { OnOk result (text.new.items ≡ text.old.items ++ graph_head event line.now) }
+{
+    push(text, "digraph sysmem {\n  graph [label=\"")?;
+    push_header(text, event, line)?;
+    push_parts(
+        text,
+        &[
+            Part::Word(words_for_graph()),
+            Part::Word(words_for_boxes()),
+            Part::Word(words_for_links()),
+        ],
+    )
+}
+
+// What is set for the graph, behind its title.
+#[tactic(auto, unfolding(crate::specs::DotPictures::graph_words))]
+fn words_for_graph() -> &'static str
+    ensures { result.now ≡ graph_words }
+{
+    "\\n \", labelloc=t, labeljust=l, fontsize=18, fontname=\"DejaVu Sans Mono\", nodesep=0.3, \
+     ranksep=0.55];\n"
+}
+
+// What is set for all boxes.
+#[tactic(auto, unfolding(crate::specs::DotPictures::box_words))]
+fn words_for_boxes() -> &'static str
+    ensures { result.now ≡ box_words }
+{
+    "  node [shape=box, fontname=\"DejaVu Sans Mono\", fontsize=11, margin=\"0.14,0.08\"];\n"
+}
+
+// What is set for all links.
+#[tactic(auto, unfolding(crate::specs::DotPictures::link_words))]
+fn words_for_links() -> &'static str
+    ensures { result.now ≡ link_words }
+{
+    "  edge [fontname=\"DejaVu Sans Mono\", fontsize=11, color=\"#808080\"];\n"
+}
+
+// Puts the trees behind what is there.
+fn push_trees(
+    text: &mut Vec<u8>,
+    teller: &Teller,
+    clients: &Vec<ClientId>,
+    picture: &Picture,
+) -> Result<(), AllocError>
+    ensures { OnOk result ((names : Names) → Keeps teller.now.session.tables names →
+        Calls teller.now.labels names → text.new.items ≡ text.old.items
+        ++ flat_map (dot_tree teller.now.session.core names clients.now.items
+        picture.now.travels.items) picture.now.trees.items) }
+{
+    for tree in &picture.trees {
+        push_tree(text, teller, clients, tree, &picture.travels)?;
+    }
+    Ok(())
+}
+
+// Puts a tree and its links behind what is there.
+#[tactic(auto, unfolding(crate::specs::DotPictures::dot_tree))]
+fn push_tree(
+    text: &mut Vec<u8>,
+    teller: &Teller,
+    clients: &Vec<ClientId>,
+    tree: &Tree,
+    travels: &[Travel],
+) -> Result<(), AllocError>
+    ensures { OnOk result ((names : Names) → Keeps teller.now.session.tables names →
+        Calls teller.now.labels names → text.new.items ≡ text.old.items
+        ++ dot_tree teller.now.session.core names clients.now.items travels.now tree.now) }
+{
+    push_cluster(text, teller, clients, tree)?;
+    push_links(text, tree, travels)
+}
+
+// Puts the boxes of a tree and the table of its buffers behind what is there.
+#[tactic(auto, unfolding(crate::specs::DotPictures::cluster_text))]
+fn push_cluster(
+    text: &mut Vec<u8>,
+    teller: &Teller,
+    clients: &Vec<ClientId>,
+    tree: &Tree,
+) -> Result<(), AllocError>
+    ensures { OnOk result ((names : Names) → Keeps teller.now.session.tables names →
+        Calls teller.now.labels names → text.new.items ≡ text.old.items
+        ++ cluster_text teller.now.session.core names clients.now.items tree.now) }
+{
+    push(text, "  subgraph cluster_")?;
+    push_number(text, tree.id)?;
+    push(text, " {\n    color=\"#BBBBBB\"; label=\"\";\n")?;
+    push_boxes(text, teller, &tree.nodes, &tree.left)?;
+    push_table_of(text, teller, clients, tree)?;
+    push(text, "  }\n")
+}
+
+// Puts the line of the pool and the firings behind what is there, and the end of the graph.
+#[tactic(auto, unfolding(crate::specs::DotPictures::graph_foot))]
+fn push_foot(
+    text: &mut Vec<u8>,
+    core: &Core,
+    tables: &Tables,
+    trees: &[Tree],
+) -> Result<(), AllocError>
+    ensures { OnOk result ((names : Names) → Keeps tables.now names →
+        text.new.items ≡ text.old.items ++ graph_foot core.now names trees.now) }
+{
+    push_pool(text, core)?;
+    push_firings(text, tables, core.fired(), core.events())?;
+    push(text, "\"];\n")?;
+    push_ranks(text, trees)?;
+    push(text, "}\n")
+}
+
+// Puts behind what is there how many pages of the pool are free.
+fn push_pool(text: &mut Vec<u8>, core: &Core) -> Result<(), AllocError>
+    ensures { OnOk result (text.new.items ≡ text.old.items ++ pool_words core.now) }
+{
+    push_parts(
+        text,
+        &[
+            Part::Word("  foot [shape=plaintext, label=\"pool: "),
+            Part::Number(core.free_pages() as u64),
+            Part::Word(" of "),
+            Part::Number(core.pages() as u64),
+            Part::Word(" pages free"),
+        ],
+    )
+}
+
+// Puts the firings behind what is there, where the last event has this number.
+fn push_firings(
+    text: &mut Vec<u8>,
+    tables: &Tables,
+    fired: &[Fired],
+    event: u64,
+) -> Result<(), AllocError>
+    ensures { OnOk result ((names : Names) → Keeps tables.now names →
+        text.new.items ≡ text.old.items ++ flat_map (firing_text names event) fired.now) }
+{
+    for firing in fired {
+        push_firing(text, tables, *firing, event)?;
+    }
+    Ok(())
+}
+
+// Puts behind what is there that a tracker fired, now or at an event before.
+#[tactic(auto, unfolding(crate::specs::DotPictures::firing_text))]
+fn push_firing(
+    text: &mut Vec<u8>,
+    tables: &Tables,
+    firing: Fired,
+    event: u64,
+) -> Result<(), AllocError>
+    ensures { OnOk result ((names : Names) → Keeps tables.now names →
+        text.new.items ≡ text.old.items ++ firing_text names event firing) }
+{
+    push_parts(
+        text,
+        &[
+            Part::Word("\\ntracker "),
+            Part::Name(tables.tracker_label(firing.tracker)),
+        ],
+    )?;
+    push_when(text, firing.event, event)
+}
+
+// Puts behind what is there that it was at this event, the last one or one before.
+fn push_when(text: &mut Vec<u8>, fired: u64, event: u64) -> Result<(), AllocError>
+    ensures { OnOk result (text.new.items ≡ text.old.items ++ when_text event fired) }
+{
+    if fired == event {
+        push(text, " fired now")
+    } else {
+        push_parts(text, &[Part::Word(" fired at event "), Part::Number(fired)])
+    }
+}
+
+// Puts behind what is there that the foot stands below each table.
+fn push_ranks(text: &mut Vec<u8>, trees: &[Tree]) -> Result<(), AllocError>
+    ensures { OnOk result (text.new.items ≡ text.old.items ++ flat_map rank_text trees.now) }
+{
+    for tree in trees {
+        push_rank(text, tree)?;
+    }
+    Ok(())
+}
+
+// Puts behind what is there that the foot stands below the table of the tree, if it has one.
+#[tactic(auto, unfolding(crate::specs::DotPictures::rank_text))]
+fn push_rank(text: &mut Vec<u8>, tree: &Tree) -> Result<(), AllocError>
+    ensures { OnOk result (text.new.items ≡ text.old.items ++ rank_text tree.now) }
+{
+    if !has_table(tree) {
+        return Ok(());
+    }
+    push_parts(
+        text,
+        &[
+            Part::Word("  b"),
+            Part::Number(tree.id),
+            Part::Word(" -> foot [style=invis];\n"),
+        ],
+    )
+}

@@ -1,0 +1,11 @@
+//! Pictures of a script's trees as vector graphics, laid out by the program itself.
+#![tactic(auto)]
+
+mod box_lines;
+mod elements;
+mod layout;
+mod links;
+mod picture;
+mod tree;
+
+pub use picture::push_svg;

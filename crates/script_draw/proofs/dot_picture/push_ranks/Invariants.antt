@@ -1,9 +1,0 @@
-use Rattle.std.proofs.Common.{◌≡◌, ◌++◌, take}
-use Rattle.std.specs.List.{flat_map}
-use Rattle.script_draw.specs.DotPictures.{rank_text}
-use Rattle.script_draw.proofs.dot_picture.push_ranks.Given as goal
-
--- those so far
-abbrev pub invariant-loop-tree : goal.invariant-loop-tree
-invariant-loop-tree l = l.text.items
-    ≡ l.initial.text.items ++ flat_map rank_text (take l.tree-index l.trees)
