@@ -36,7 +36,7 @@ all_below n [] all = tt
 all_below n (row ∷ rows) all = (all.0, all_below n rows all.1)
 
 -- a greater id is one that no row has
-fresh : (n : ℕ) (rows : List TrackerRow) → AllByRecursion (λ (r : TrackerRow). r.id < n) rows → NoneHas n rows
+pub fresh : (n : ℕ) (rows : List TrackerRow) → AllByRecursion (λ (r : TrackerRow). r.id < n) rows → NoneHas n rows
 fresh n [] all = tt
 fresh n (row ∷ rows) all = ((λ same. omega (arith, all.0)), fresh n rows all.1)
 
@@ -48,7 +48,7 @@ module _ (row : TrackerRow) where
   below_push n (other ∷ rows) above below = (below.0, below_push n rows above below.1)
 
   -- the ids rise on with a greater one
-  rising_push : (rows : List TrackerRow) → AllByRecursion (λ (r : TrackerRow). r.id < row.id) rows → IdsRise rows →
+  pub rising_push : (rows : List TrackerRow) → AllByRecursion (λ (r : TrackerRow). r.id < row.id) rows → IdsRise rows →
       IdsRise (rows ++ row ∷ [])
   rising_push [] all rising = (tt, tt)
   rising_push (other ∷ rows) all rising = (below_push other.id rows all.0 rising.0, rising_push rows all.1 rising.1)

@@ -20,25 +20,25 @@ use Rattle.trackers.proofs.Weights.{weigh_append}
 -- ---- the last of a list
 
 -- what holds of all holds of the last
-last_of : {A : Type 0} (P : A → Type 0) (xs : List A) (x : A) → AllByRecursion P (xs ++ x ∷ []) → P x
+pub last_of : {A : Type 0} (P : A → Type 0) (xs : List A) (x : A) → AllByRecursion P (xs ++ x ∷ []) → P x
 last_of P [] x all = all.0
 last_of P (y ∷ ys) x all = last_of P ys x all.1
 
 -- and of those before it
-front_of : {A : Type 0} (P : A → Type 0) (xs : List A) (x : A) → AllByRecursion P (xs ++ x ∷ []) → AllByRecursion P xs
+pub front_of : {A : Type 0} (P : A → Type 0) (xs : List A) (x : A) → AllByRecursion P (xs ++ x ∷ []) → AllByRecursion P xs
 front_of P [] x all = tt
 front_of P (y ∷ ys) x all = (all.0, front_of P ys x all.1)
 
 -- ---- ids below that of the last row
 
 -- the rows before the last have lower ids
-below_last : (rows : List TrackerRow) (row : TrackerRow) → IdsRise (rows ++ row ∷ []) →
+pub below_last : (rows : List TrackerRow) (row : TrackerRow) → IdsRise (rows ++ row ∷ []) →
     AllByRecursion (λ (r : TrackerRow). r.id < row.id) rows
 below_last [] row rising = tt
 below_last (other ∷ rows) row rising = (last_of (λ (r : TrackerRow). other.id < r.id) rows row rising.0, below_last rows row rising.1)
 
 -- and rise among themselves
-front_rises : (rows : List TrackerRow) (row : TrackerRow) → IdsRise (rows ++ row ∷ []) → IdsRise rows
+pub front_rises : (rows : List TrackerRow) (row : TrackerRow) → IdsRise (rows ++ row ∷ []) → IdsRise rows
 front_rises [] row rising = tt
 front_rises (other ∷ rows) row rising = (front_of (λ (r : TrackerRow). other.id < r.id) rows row rising.0, front_rises rows row rising.1)
 

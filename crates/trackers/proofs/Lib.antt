@@ -1,9 +1,11 @@
 pub mod AttachLemmas
 pub mod DetachLemmas
 pub mod IndexLemmas
+pub mod FiringLemmas
 pub mod FoundLemmas
 pub mod HeldLemmas
 pub mod PlaceLemmas
+pub mod SlotLemmas
 pub mod SweepLemmas
 pub mod Walks
 pub mod WaitListLemmas

@@ -1,14 +1,16 @@
--- What a search among rows of rising ids finds.
-use Rattle.std.proofs.Common.{◌≡◌, ◌≢◌, ℕ, zero, suc, ◌<◌, ◌≤◌, false, length, get_or, List, [], ◌∷◌, Result, Ok, Err, sym, subst, arith}
-use Rattle.std.specs.List.Sorted.{IsSearchInRange, IsBinarySearchResult, IsNonDecreasingBy}
-use Rattle.std.specs.Ordering.{nat_cmp, ordering_index}
-use Rattle.std.specs.Result.{result_ok}
-use Rattle.std.proofs.lemmas.Cmp.{ranked}
+-- What a search among places of rising ids finds.
+use Rattle.std.proofs.Common.{◌≡◌, ◌≢◌, ℕ, zero, suc, ◌<◌, ◌≤◌, Bool, true, false, length, get_or, List, [], ◌∷◌, refl, sym, ap, subst, ◌∙◌, nat_lt, arith}
+use Rattle.std.specs.List.{AllByRecursion}
+use Rattle.std.specs.List.Sorted.{IsNonDecreasingBy, IsPartitionPoint}
+use Rattle.std.proofs.lemmas.List.{length-map}
 use Rattle.std.proofs.lemmas.List.Elements.{All-from_recursion, recursion_from_All}
 use Rattle.std.proofs.lemmas.Bool.Decides.{nat_tests}
-use Rattle.trackers.specs.Row.{TrackerRow, Over}
-use Rattle.trackers.specs.Held.{IdsRise, Found, IsSearchAnswer}
-use Rattle.trackers.proofs.FoundLemmas.{found_at}
+use Rattle.sm_names.specs.declared.tracking.Fired.{Fired}
+use Rattle.trackers.specs.declared.place.Place.{Place}
+use Rattle.trackers.specs.Row.{TrackerRow}
+use Rattle.trackers.specs.Held.{IdsRise, NoneHas, Found}
+use Rattle.trackers.specs.Places.{Slots, row_at, rows_of}
+use Rattle.trackers.proofs.SlotLemmas.{get_map, found_there}
 
 -- each id is below those of later rows
 rises : (rows : List TrackerRow) → IdsRise rows → (i j : ℕ) (d : TrackerRow) → i ≤ j → j < length rows →
@@ -21,22 +23,44 @@ rises (row ∷ rows) rising zero (suc j) d le within =
 rises (row ∷ rows) rising (suc i) zero d le within = absurd (omega arith)
 rises (row ∷ rows) rising (suc i) (suc j) d le within = rises rows rising.1 i j d (omega arith) (omega arith)
 
--- the comparisons with an id rise along the rows, as a binary search asks
-comparisons_rise : (id : ℕ) (rows : List TrackerRow) → IdsRise rows →
-    IsNonDecreasingBy (λ (row : TrackerRow). ordering_index (nat_cmp row.id id)) rows
-comparisons_rise id rows rising i j d le within =
-    let up = rises rows rising i j d le within in
-    grind (arith, nat_tests)
+module _ (slots : Slots) (fired : List Fired) (places : List Place) (rising : IdsRise (rows_of slots fired places)) where
+  -- the id of a place
+  abbrev id_of : Place → ℕ
+  id_of q = (row_at slots fired q).id
 
--- a binary search by the id ends at its row, or there is none
-pub searched : (id : ℕ) (rows : List TrackerRow) → IdsRise rows → (r : Result ℕ ℕ) → IsSearchInRange r (length rows) →
-    IsBinarySearchResult (λ (row : TrackerRow). nat_cmp row.id id) rows r → IsSearchAnswer id rows (result_ok r)
-searched id rows rising (Ok at) in_range equal =
-    let d : TrackerRow = record { id = 0; cell = 0; state = Over 0; has_reader = false } in
-    let same : (get_or rows at d).id ≡ id = ranked _ id _ (sym (equal d)) in
-    (get_or rows at d, subst (λ i. Found i rows at (get_or rows at d)) same (found_at rows rising at d in_range))
-searched id rows rising (Err at) in_range parted = recursion_from_All (λ (row : TrackerRow). row.id ≢ id) rows (λ k d within same.
-    let sides = parted (comparisons_rise id rows rising) in
-    let before : k < at → (get_or rows k d).id < id = λ lt. ranked _ id _ (sym (sides.0 k d (omega arith) lt)) in
-    let behind : at ≤ k → id < (get_or rows k d).id = λ le. ranked _ id _ (sym (sides.1 k d le within)) in
-    grind arith)
+  -- there are as many rows as places
+  as_many : length (rows_of slots fired places) ≡ length places
+  as_many = length-map places (row_at slots fired)
+
+  -- the ids do not fall along the places
+  pub ids_rise : IsNonDecreasingBy id_of places
+  ids_rise i j d le within =
+      let up = rises (rows_of slots fired places) rising i j (row_at slots fired d) le (omega (arith, as_many)) in
+      rw (get_map (row_at slots fired) places i d, get_map (row_at slots fired) places j d) at up
+
+  module _ (id at : ℕ) (parted : IsPartitionPoint (λ q. nat_lt (id_of q) id ≡ true) (λ q. nat_lt (id_of q) id ≡ false) places at) where
+    -- the row at this place has the id
+    pub found_id : (place : Place) → get_or places at place ≡ place → at < length places → id_of place ≡ id →
+        (row : TrackerRow) × Found id (rows_of slots fired places) at row
+    found_id place is within same = (
+      row_at slots fired place,
+      subst (λ i. Found i (rows_of slots fired places) at (row_at slots fired place)) same (found_there slots fired places at place is within rising),
+    )
+
+    -- no row has it: those before are less, and the one at this place, if there is one, is greater
+    pub none_found : (at < length places → (d : Place) → id_of (get_or places at d) ≢ id) → NoneHas id (rows_of slots fired places)
+    none_found other = none_in places (recursion_from_All (λ (q : Place). id_of q ≢ id) places (λ k d within same.
+        let before : k < at → id_of (get_or places k d) < id = λ lt.
+        let less = parted.0 k d (omega arith) lt in
+        grind (arith, nat_tests, less) in
+        let behind : at ≤ k → id < id_of (get_or places k d) = λ le.
+        let not_less = parted.1 at d (omega arith) (omega (arith, le, within)) in
+        let up : id_of (get_or places at d) ≤ id_of (get_or places k d) = ids_rise at k d le within in
+        let differ : id_of (get_or places at d) ≢ id = other (omega (arith, le, within)) d in
+        grind (arith, nat_tests, not_less, up, differ) in
+        grind arith))
+      where
+        -- what holds of the ids of all places holds of all rows
+        none_in : (qs : List Place) → AllByRecursion (λ (q : Place). id_of q ≢ id) qs → NoneHas id (rows_of slots fired qs)
+        none_in [] all = tt
+        none_in (q ∷ qs) all = (all.0, none_in qs all.1)

@@ -1,14 +1,9 @@
 -- How the table keeps one tracker. No public clause cites this module.
-use Rattle.std.specs.Prelude.{ℕ, Bool, true, false, Option, Some, None, if◌then◌else◌}
+use Rattle.std.specs.Prelude.{ℕ, Bool, true, false, List, Option, Some, None, if◌then◌else◌}
 use Rattle.sm_names.specs.declared.tracking.Condition.{Condition}
 use Rattle.sm_names.specs.declared.tracking.Fired.{Fired}
 use Rattle.trackers.specs.declared.waiting.Waiting.{Waiting}
 use Rattle.trackers.specs.Table.{Reader}
-
--- the first of two that knows a firing decides
-abbrev pub first_known : Option Fired → Option Fired → Option Fired
-first_known None other = other
-first_known (Some fired) other = Some fired
 
 -- how far a tracker is: it waits, under a collection, or it fired at an event
 pub data RowState : Type 0 where
@@ -53,3 +48,29 @@ firing_of_row row = firing_at row.id row.state
 abbrev pub reader_of_row : TrackerRow → Option Reader
 reader_of_row row =
     if row.has_reader then Some (record { tracker = row.id; cell = row.cell; known = firing_of_row row }) else None
+
+-- the row of a tracker that waits: the tracker, the name of its cell, and whether its reader is still here
+pub record WaitingRow : Type 0 where
+  pub tracker : Waiting
+  pub cell : ℕ
+  pub has_reader : Bool
+
+-- it as a row among the others
+abbrev pub row_of_waiting : WaitingRow → TrackerRow
+row_of_waiting row = record {
+  id = row.tracker.id;
+  cell = row.cell;
+  state = Waits row.tracker.collection row.tracker.condition;
+  has_reader = row.has_reader;
+}
+
+-- its reader, if that is still here
+abbrev pub reader_of_waiting : WaitingRow → Option Reader
+reader_of_waiting row =
+    if row.has_reader then Some (record { tracker = row.tracker.id; cell = row.cell; known = None }) else None
+
+-- what the table keeps: the rows by rising id, the firings in their order, and how many firings there may be
+pub record KeptRows : Type 0 where
+  pub rows : List TrackerRow
+  pub fired : List Fired
+  pub room : ℕ

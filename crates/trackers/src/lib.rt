@@ -3,7 +3,9 @@
 #![tactic(auto)]
 
 mod index;
+mod place;
 mod row;
+mod rows;
 mod table;
 mod tracker;
 mod wait_list;

@@ -1,12 +1,15 @@
 //! All trackers of a service.
-ghost use Rattle.std.specs.Prelude.{◌≡◌, ◌≢◌, ℕ, ◌+◌, ◌^◌, ◌<◌, ◌≤◌, ◌==◌, ◌↔◌, [], ◌∷◌, ◌++◌, length, vec_len, vec_capacity, true, false, if◌then◌else◌, Some, None, All, OnOk, OnErr, IfSome, Err};
+ghost use Rattle.std.specs.Prelude.{◌≡◌, ◌≢◌, ℕ, ◌+◌, ◌^◌, ◌<◌, ◌≤◌, ◌==◌, ◌↔◌, [], ◌∷◌, ◌++◌, length, vec_capacity, true, false, if◌then◌else◌, Some, None, All, OnOk, OnErr, IfSome, Err};
 ghost use Rattle.trackers.specs.declared.waiting.Waiting.{Waiting};
 ghost use Rattle.trackers.specs.Table.{TrackerTable, Cell, empty, is_due, firings, still_waiting, firing_of, cell_of, is_untaken, without_id, reader_of, Attaches};
 ghost use Rattle.trackers.specs.WaitIndex.{Wish, entries_of, weigh};
-ghost use Rattle.trackers.specs.Held.{IdsRise, IsSearchAnswer, attached};
+ghost use Rattle.std.specs.List.{AllByRecursion};
+ghost use Rattle.trackers.specs.Row.{TrackerRow};
+ghost use Rattle.trackers.specs.Held.{attached};
 
 use crate::index::{WaitIndex, insert_row, remove_row, take_due_rows};
 use crate::row::Row;
+use crate::rows::Rows;
 use crate::tracker::Tracker;
 use crate::waiting::Waiting;
 use crate::walk::fire_due;
@@ -25,13 +28,12 @@ pub enum TrackFault {
     Full,
 }
 
-/// All trackers of a service, those that fired too: their cells are kept for good.
+/// All trackers of a service. One that waits takes a row, two allocations and its places in the
+/// tables; of one that fired 24 bytes are kept for good: its firing, and where that stands.
 #[derive(Drop)]
 pub struct Trackers {
     limit: u32,
-    // All that were attached, by rising id.
-    rows: Vec<Row>,
-    fired: Vec<Fired>,
+    rows: Rows,
     index: WaitIndex,
     // Room for the places of all that wait: a sweep sorts there those that are due.
     due: Vec<usize>,
@@ -45,11 +47,10 @@ impl Model for Trackers {
     ghost use Rattle.std.specs.Prelude.{vec_capacity};
     ghost use Rattle.trackers.specs.Held.{table_of, TableInvariant};
 
-    ghost view = { λ t. table_of t.limit t.rows.items t.fired.items };
+    ghost view = { λ t. table_of t.limit t.rows.rows t.rows.fired };
 
     ghost invariant = { λ t.
-        TableInvariant t.limit t.rows.items t.fired.items (vec_capacity t.fired)
-        (vec_capacity t.due) t.index };
+        TableInvariant t.limit t.rows.rows t.rows.fired t.rows.room (vec_capacity t.due) t.index };
 }
 
 impl Trackers {
@@ -59,8 +60,7 @@ impl Trackers {
     {
         Trackers {
             limit,
-            rows: Vec::new(alloc),
-            fired: Vec::new(alloc),
+            rows: Rows::new(alloc),
             index: HashMap::new(alloc),
             due: Vec::new(alloc),
         }
@@ -79,13 +79,12 @@ impl Trackers {
             ↔ (length self.old.unfired ≡ self.old.limit) }
         ensures err { OnErr result (self.new ≡ self.old) }
     {
-        let waiting = self.rows.len() - self.fired.len();
+        let waiting = self.rows.waiting();
         if waiting >= self.limit as usize {
             return Err(TrackFault::Full);
         }
         match add(
             &mut self.rows,
-            &mut self.fired,
             &mut self.index,
             &mut self.due,
             waiting,
@@ -100,8 +99,7 @@ impl Trackers {
     pub fn waiting(&self) -> usize
         ensures { result ≡ length self.now.unfired }
     {
-        let over = self.fired.len();
-        self.rows.len() - over
+        self.rows.waiting()
     }
 
     /// Takes out again the tracker that was attached last, under this collection, before any sweep:
@@ -137,7 +135,7 @@ impl Trackers {
         self.due.clear();
         take_due_rows(&mut self.index, collection, &mut self.due, world);
         self.due.sort_unstable();
-        fire_due(&mut self.rows, &mut self.fired, &self.due, event, world);
+        fire_due(&mut self.rows, &self.due, event, world);
     }
 
     /// The firings in their order: by event, as the sweeps came, and by rising id within one. It
@@ -145,7 +143,7 @@ impl Trackers {
     pub fn fired(&self) -> &[Fired]
         ensures { result.now ≡ self.now.fired }
     {
-        &self.fired
+        self.rows.fired()
     }
 
     /// The reader of the tracker with this id: `Some` once for each that was attached, and else
@@ -158,8 +156,8 @@ impl Trackers {
         ensures taken { self.new
             ≡ record self.old { untaken = without_id self.old.untaken id } }
     {
-        match find_row(&self.rows, id) {
-            Some(at) => self.rows[at].take(),
+        match self.rows.find(id) {
+            Some(at) => self.rows.take(at),
             None => None,
         }
     }
@@ -178,8 +176,11 @@ impl Trackers {
         ensures kept { self.new ≡ self.old }
         ensures tracker_kept { tracker.new ≡ tracker.old }
     {
-        match find_row(&self.rows, tracker.id()) {
-            Some(at) => self.rows[at].agree(tracker),
+        let Some(at) = self.rows.find(tracker.id()) else {
+            return false;
+        };
+        match self.rows.firing(at) {
+            Some(fired) => tracker.holds(fired),
             None => false,
         }
     }
@@ -187,48 +188,38 @@ impl Trackers {
 
 /// Adds a row that waits, with room for its firing beside those of the others that wait.
 fn add(
-    rows: &mut Vec<Row>,
-    fired: &mut Vec<Fired>,
+    rows: &mut Rows,
     index: &mut WaitIndex,
     due: &mut Vec<usize>,
     waiting: usize,
     tracker: Waiting,
 ) -> Result<(), AllocError>
-    requires { waiting < 2 ^ 32 }
-    ensures row { OnOk result ((cell : ℕ) × (rows.new.items
-        ≡ rows.old.items ++ attached cell tracker ∷ [])) }
-    ensures room { OnOk result (vec_len fired.old + (waiting + 1) ≤ vec_capacity fired.new) }
+    requires small { waiting < 2 ^ 32 }
+    requires rising { AllByRecursion (λ (r : TrackerRow). r.id < tracker.id) rows.old.rows }
+    ensures row { OnOk result ((cell : ℕ) × (rows.new.rows
+        ≡ rows.old.rows ++ attached cell tracker ∷ [])) }
+    ensures room { OnOk result (length rows.old.fired + (waiting + 1) ≤ rows.new.room) }
     ensures spare { OnOk result (waiting + 1 ≤ vec_capacity due.new) }
     ensures indexed { OnOk result ((c : ℕ) (f : Wish → ℕ) → weigh f (entries_of index.new c)
-        ≡ (if c == tracker.collection then f (tracker.condition, vec_len rows.old) + weigh f (entries_of index.old c)
+        ≡ (if c == tracker.collection then f (tracker.condition, length rows.old.rows) + weigh f (entries_of index.old c)
         else weigh f (entries_of index.old c))) }
-    ensures fired { fired.new.items ≡ fired.old.items }
-    ensures capacity { vec_capacity fired.old ≤ vec_capacity fired.new }
+    ensures fired { rows.new.fired ≡ rows.old.fired }
+    ensures capacity { rows.old.room ≤ rows.new.room }
     ensures more_spare { vec_capacity due.old ≤ vec_capacity due.new }
-    ensures rows_kept { OnErr result (rows.new.items ≡ rows.old.items) }
+    ensures rows_kept { OnErr result (rows.new.rows ≡ rows.old.rows) }
     ensures index_kept { OnErr result ((c : ℕ) (f : Wish → ℕ) →
         weigh f (entries_of index.new c) ≡ weigh f (entries_of index.old c)) }
 {
-    let alloc = *rows.allocator();
+    let alloc = *due.allocator();
     let row = Row::new(alloc, tracker)?;
-    rows.reserve(1)?;
-    fired.reserve(waiting + 1)?;
     due.reserve(waiting + 1)?;
-    insert_row(
-        index,
-        alloc,
-        tracker.collection,
-        tracker.condition,
-        rows.len(),
-    )?;
-    rows.push_reserved(row);
-    Ok(())
-}
-
-/// Where the row with this id stands.
-fn find_row(rows: &[Row], id: TrackerId) -> Option<usize>
-    requires { IdsRise rows.now }
-    ensures { IsSearchAnswer id rows.now result }
-{
-    rows.binary_search_by_key(&id, |row| row.id()).ok()
+    let at = rows.len();
+    rows.push(row, waiting)?;
+    match insert_row(index, alloc, tracker.collection, tracker.condition, at) {
+        Ok(()) => Ok(()),
+        Err(fault) => {
+            rows.pop();
+            Err(fault)
+        }
+    }
 }

@@ -1,5 +1,5 @@
 //! The reader of one tracker.
-ghost use Rattle.std.specs.Prelude.{◌≡◌, ◌↔◌, true, Some, None, IfSome};
+ghost use Rattle.std.specs.Prelude.{◌≡◌, ◌↔◌, true, Some, IfSome};
 ghost use Rattle.std.specs.Arc.{arc_value};
 ghost use Rattle.once_cell.specs.Once.{cell_name};
 ghost use Rattle.trackers.specs.Table.{Reader};
@@ -9,29 +9,34 @@ use sm_names::{Fired, TrackerId};
 use std::marker::Model;
 use std::sync::Arc;
 
+/// Where a reader finds the firing.
+#[derive(Drop)]
+enum Source {
+    /// In the cell, which the table sets.
+    Cell(Arc<OnceBox<Fired>>),
+    /// Here: it was told, since the tracker fired before the reader was taken.
+    Told(Fired),
+}
+
 /// Reads one tracker, outside the lock. It outlives the node, the collection and the table.
 #[derive(Drop)]
 pub struct Tracker {
     id: TrackerId,
-    cell: Arc<OnceBox<Fired>>,
+    source: Source,
     note: Note<Fired>,
-    // The firing, where it found its cell set by another. Then the cell is not read.
-    told: Option<Fired>,
 }
 
 impl Model for Tracker {
-    ghost use Rattle.std.specs.Prelude.{◌≡◌};
-    ghost use Rattle.std.specs.Arc.{arc_value};
-    ghost use Rattle.once_cell.specs.Once.{cell_name};
     ghost use Rattle.trackers.specs.Table.{Reader};
-    ghost use Rattle.trackers.specs.Row.{first_known};
 
     ghost Value = { Reader };
 
-    ghost view = { λ t.
-        record { tracker = t.id; cell = t.note.cell; known = first_known t.told t.note.known } };
+    ghost use Rattle.trackers.specs.Sources.{known_from, IsSourceOf};
 
-    ghost invariant = { λ t. t.note.cell ≡ cell_name (arc_value t.cell) };
+    ghost view = { λ t.
+        record { tracker = t.id; cell = t.note.cell; known = known_from t.source t.note.known } };
+
+    ghost invariant = { λ t. IsSourceOf t.note.cell t.source };
 }
 
 impl Tracker {
@@ -42,9 +47,20 @@ impl Tracker {
     {
         Tracker {
             id,
-            cell,
+            source: Source::Cell(cell),
             note,
-            told: None,
+        }
+    }
+
+    /// A reader that knows this firing, with a note of the cell that it would have read.
+    pub(crate) fn told(fired: Fired, note: Note<Fired>) -> Tracker
+        ensures { result
+            ≡ record { tracker = fired.tracker; cell = note.cell; known = Some fired } }
+    {
+        Tracker {
+            id: fired.tracker,
+            source: Source::Told(fired),
+            note,
         }
     }
 
@@ -54,12 +70,12 @@ impl Tracker {
         ensures known { self.new ≡ record self.old { known = result } }
         ensures for_good { IfSome self.old.known (λ f. result ≡ Some f) }
     {
-        if self.told.is_some() {
-            return self.told;
-        }
-        match self.cell.get_as(&mut self.note) {
-            Some(fired) => Some(*fired),
-            None => None,
+        match &self.source {
+            Source::Told(told) => Some(*told),
+            Source::Cell(cell) => match cell.get_as(&mut self.note) {
+                Some(fired) => Some(*fired),
+                None => None,
+            },
         }
     }
 
@@ -70,51 +86,19 @@ impl Tracker {
         self.id
     }
 
-    /// Tells the reader what the cell was set to.
-    pub(crate) fn learn(&mut self, note: Note<Fired>)
-        requires cell { note.cell ≡ self.old.cell }
-        requires nothing_yet { self.old.known ≡ None }
-        ensures { self.new ≡ record self.old { known = note.known } }
-    {
-        self.note = note;
-    }
-
-    /// Tells the reader of a firing that did not set the cell.
-    pub(crate) fn tell(&mut self, fired: Fired)
-        ensures { self.new ≡ record self.old { known = Some fired } }
-    {
-        self.told = Some(fired);
-    }
-
-    /// Whether the firing that the reader knows, if it knows one, is this one, to which its cell was set.
-    /// It reads no cell: two notes of one cell know the same.
-    pub(crate) fn compare(&mut self, note: &mut Note<Fired>, fired: Fired) -> bool
-        requires cell { note.old.cell ≡ self.old.cell }
-        requires set { note.old.known ≡ Some fired }
-        ensures kept { self.new ≡ self.old }
-        ensures note_kept { note.new ≡ note.old }
-        ensures same { IfSome self.old.known (λ f. (result ≡ true) ↔ (fired ≡ f)) }
-    {
-        if let Some(told) = self.told {
-            return told == fired;
-        }
-        note.compare(self.note.again());
-        true
-    }
-
     /// Whether the firing that the reader knows, or that its cell holds, is this one: one read of the
-    /// cell. The reader learns nothing.
+    /// cell at most. The reader learns nothing.
     pub(crate) fn holds(&mut self, fired: Fired) -> bool
         ensures kept { self.new ≡ self.old }
         ensures same { IfSome self.old.known (λ f. (result ≡ true) ↔ (fired ≡ f)) }
     {
-        if let Some(told) = self.told {
-            return told == fired;
-        }
         let mut note = self.note.again();
-        match self.cell.get_as(&mut note) {
-            Some(seen) => *seen == fired,
-            None => false,
+        match &self.source {
+            Source::Told(told) => *told == fired,
+            Source::Cell(cell) => match cell.get_as(&mut note) {
+                Some(seen) => *seen == fired,
+                None => false,
+            },
         }
     }
 }

@@ -1,24 +1,20 @@
-use Rattle.std.proofs.Common.{subst, sym, ◌∙◌, arith}
+use Rattle.std.proofs.Common.{subst, ◌∙◌, arith}
 use Rattle.std.proofs.lemmas.List.{drop_all}
 use Rattle.trackers.proofs.Walks.{Walked, stand_here, stands_within, stands_row, stands_step, counted_here, room_step, walked_rows, walked_fired}
 use Rattle.trackers.proofs.walk.fire_due.Goals as goal
 
-pub index_mut-requires : goal.index_mut-requires
-index_mut-requires g c =
-    omega (
-      arith,
-      stands_within _ _ _ _ _ _ _ _
-          (stand_here _ _ _ _ _ _ c.args.due.now c.loop-at.at-index c.loop-at-test.true c.loop-at.invariant.walked),
-    )
-
+-- the walk stands at a row, and there is room for its firing if it waits
 pub visit-requires : goal.visit-requires
 visit-requires g c =
     let stands = stand_here _ _ _ _ _ _ c.args.due.now c.loop-at.at-index c.loop-at-test.true c.loop-at.invariant.walked in
     let within = stands_within _ _ _ _ _ _ _ _ stands in
     record {
-      room = λ waits. omega (
+      within = within;
+      room = λ d waits. omega (
         arith,
-        counted_here c.loop-at.rows.items _ c.index_mut.result.now within (sym c.index_mut.ensures.value) waits,
+        counted_here c.loop-at.rows.rows _ stands.row within (stands_row _ _ _ _ _ _ _ _ stands stands.row) (rw (stands_row _ _ _ _ _ _ _ _ stands d) at waits),
+        c.loop-at.invariant.room,
+        c.loop-at.invariant.same,
       );
     }
 
@@ -27,13 +23,14 @@ loop-at-preserved g c =
     let w = g.W.World.seen c.args.world.now in
     let stands = stand_here _ _ _ _ _ _ c.args.due.now c.loop-at.at-index c.loop-at-test.true c.loop-at.invariant.walked in
     let within = stands_within _ _ _ _ _ _ _ _ stands in
-    let here = c.index_mut.ensures.value ∙ stands_row _ _ _ _ _ _ _ _ stands c.index_mut.result.now in
+    let here = stands_row _ _ _ _ _ _ _ _ stands stands.row in
     let step = stands_step _ _ _ _ _ _ _ _ stands in
-    rw (c.visit.ensures.row, c.visit.ensures.fired) record {
-      walked = rw here step;
-      room = room_step c.loop-at.rows.items _ c.index_mut.result.now within (sym c.index_mut.ensures.value) w c.args.event
-          c.loop-at.fired.items _ c.loop-at.invariant.room;
-      capacity = c.visit.ensures.capacity ∙ c.loop-at.invariant.capacity;
+    let row = rw here at (c.visit.ensures.row stands.row) in
+    let fired = rw here at (c.visit.ensures.fired stands.row) in
+    rw (row, fired) record {
+      walked = step;
+      room = room_step c.loop-at.rows.rows _ stands.row within here w c.args.event c.loop-at.rows.fired _ c.loop-at.invariant.room;
+      same = c.visit.ensures.room ∙ c.loop-at.invariant.same;
     }
 
 pub returns-clause-rows : goal.returns-clause-rows

@@ -1,46 +1,28 @@
-use Rattle.std.proofs.Common.{◌≡◌, ◌↔◌, Option, Some, None, IfSome, true, false, ◌∙◌, arith}
-use Rattle.sm_names.specs.declared.tracking.Fired.{Fired}
-use Rattle.trackers.proofs.FoundLemmas.{found_within, found_row, found_cell, found_told}
+use Rattle.std.proofs.Common.{refl, sym, ◌∙◌}
+use Rattle.trackers.proofs.FoundLemmas.{found_within, agreed, same_none, same_some}
+use Rattle.trackers.proofs.table.Trackers.agree.Goals.{in-Some-firing, in-None}
 use Rattle.trackers.proofs.table.Trackers.agree.Goals as goal
 
-pub index_mut-requires : goal.index_mut-requires
-index_mut-requires c =
-    let found = rw c.deref.ensures.value at c.in-Some.ensures in
-    omega (arith, found_within _ found.1)
-
--- the cell of the row is the one that was asked for
-pub agree-requires : goal.agree-requires
-agree-requires c =
-    let found = rw c.deref.ensures.value at c.in-Some.ensures in
-    let here = c.index_mut.ensures.value ∙ found_row _ found.1 c.index_mut.result.now in
-    let own = rw (← c.self.view_is, ← c.id.ensures) at c.requires.own in
-    let cell = found_cell _ found.1 in
-    cc
+pub firing-requires : goal.firing-requires
+firing-requires c = found_within _ c.in-Some.ensures.1
 
 -- the firing of the row is found under its id
-pub returns-in-Some-clause-same : goal.returns-in-Some-clause-same
-returns-in-Some-clause-same c =
-    let found = rw c.deref.ensures.value at c.in-Some.ensures in
-    let here = c.index_mut.ensures.value ∙ found_row _ found.1 c.index_mut.result.now in
-    let told = found_told _ c.self.inside.fired.items found.1 c.self.invariant.held.told in
-    rw (← c.self.view_is, ← c.id.ensures, told, ← here) c.agree.ensures.same
+pub returns-clause-same : goal.returns-clause-same
+returns-clause-same c =
+    let told = agreed _ c.self.inside.rows.fired c.in-Some.ensures.1 c.self.invariant.held.told c.firing.result c.firing.ensures in
+    elim c.match-firing.branch [
+      | in-Some-firing w ↦ rw (w.result-is, ← c.self.view_is, ← c.id.ensures) (same_some w.holds.result c.args.tracker.now.known _ _
+          (told ∙ w.in-Some-firing.is) w.holds.ensures.same)
+      | in-None w ↦ rw (w.result-is, ← c.self.view_is, ← c.id.ensures) (same_none c.args.tracker.now.known _ (told ∙ w.in-None.is))
+    ]
 
 -- so it is where it has none
-pub returns-in-Some-clause-waiting : goal.returns-in-Some-clause-waiting
-returns-in-Some-clause-waiting c =
-    let found = rw c.deref.ensures.value at c.in-Some.ensures in
-    let here = c.index_mut.ensures.value ∙ found_row _ found.1 c.index_mut.result.now in
-    let told = found_told _ c.self.inside.fired.items found.1 c.self.invariant.held.told in
-    rw (← c.self.view_is, ← c.id.ensures, told, ← here) c.agree.ensures.waiting
-
--- no reader knows a firing of what has none, where the answer is false
-false_of_none : (known : Option Fired) (firing : Option Fired) → firing ≡ None →
-    IfSome known (λ f. (false ≡ true) ↔ (firing ≡ Some f))
-false_of_none None firing none = tt
-false_of_none (Some f) firing none = ((λ e. absurd (cc)), (λ e. absurd (cc)))
-
--- a tracker that was never attached has no firing
-pub returns-in-None-clause-same : goal.returns-in-None-clause-same
-returns-in-None-clause-same c =
-    let none = rw c.deref.ensures.value at c.in-None.ensures in
-    rw (← c.self.view_is, ← c.id.ensures) (false_of_none c.args.tracker.now.known _ (c.self.invariant.held.own _ none))
+pub returns-clause-waiting : goal.returns-clause-waiting
+returns-clause-waiting c =
+    let told = agreed _ c.self.inside.rows.fired c.in-Some.ensures.1 c.self.invariant.held.told c.firing.result c.firing.ensures in
+    elim c.match-firing.branch [
+      | in-Some-firing w ↦ rw (← c.self.view_is, ← c.id.ensures) (λ none.
+          let bad = sym none ∙ told ∙ w.in-Some-firing.is in
+          absurd (cc))
+      | in-None w ↦ rw w.result-is (λ none. refl)
+    ]

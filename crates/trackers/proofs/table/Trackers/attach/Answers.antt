@@ -1,4 +1,4 @@
-use Rattle.std.proofs.Common.{◌≡◌, length, vec_len, refl, arith}
+use Rattle.std.proofs.Common.{◌≡◌, length, refl, arith}
 use Rattle.std.specs.List.{filter_map}
 use Rattle.std.proofs.lemmas.List.Elements.{recursion_from_All}
 use Rattle.trackers.specs.Row.{waiting_of_row}
@@ -6,21 +6,25 @@ use Rattle.trackers.proofs.AttachLemmas.{count_shown, all_below, sound_push, sou
 use Rattle.trackers.proofs.table.Trackers.attach.Goals.{in-Ok, in-Err}
 use Rattle.trackers.proofs.table.Trackers.attach.Goals as goal
 
+-- the ids so far are less than the new one
+pub add-requires-clause-rising : goal.add-requires-clause-rising
+add-requires-clause-rising c =
+    all_below c.args.tracker.id c.self.inside.rows.rows (recursion_from_All _ _ (rw (← c.self.view_is) at c.requires.rising))
+
 -- with one row more, or with more room alone
 pub invariant_of-self : goal.invariant_of-self
 invariant_of-self c =
     let held = c.self.invariant.held in
     elim c.match-add.branch [
       | in-Ok w ↦
-          let long : vec_len c.self.inside.rows ≡ length c.self.inside.rows.items = omega arith in
-          let all = all_below c.args.tracker.id c.self.inside.rows.items
+          let all = all_below c.args.tracker.id c.self.inside.rows.rows
           (recursion_from_All _ _ (rw (← c.self.view_is) at c.requires.rising)) in
           sound_push _ _ _ _ _ _ _ _ _ _ _ c.self.invariant c.add.ensures.fired w.in-Ok.ensures.row.0 c.args.tracker all
-          (omega (arith, held.counted, c.len.ensures, c.len-2.ensures))
-          (omega (arith, w.in-Ok.ensures.room, held.counted, c.len.ensures, c.len-2.ensures))
-          (omega (arith, w.in-Ok.ensures.spare, held.counted, c.len.ensures, c.len-2.ensures))
+          (omega (arith, held.counted, c.waiting-waiting.ensures))
+          (omega (arith, w.in-Ok.ensures.room, held.counted, c.waiting-waiting.ensures))
+          (omega (arith, w.in-Ok.ensures.spare, held.counted, c.waiting-waiting.ensures))
           w.in-Ok.ensures.row.1
-          (rw (← long) w.in-Ok.ensures.indexed)
+          w.in-Ok.ensures.indexed
       | in-Err w ↦ sound_grown _ _ _ _ _ _ _ _ _ _ _ c.self.invariant c.add.ensures.fired c.add.ensures.capacity c.add.ensures.more_spare
           w.in-Err.ensures.rows_kept w.in-Err.ensures.index_kept
     ]
@@ -28,10 +32,10 @@ invariant_of-self c =
 -- as many wait as may
 pub returns-then-waiting-self-clause-full : goal.returns-then-waiting-self-clause-full
 returns-then-waiting-self-clause-full c =
-    let shown = count_shown c.self.inside.rows.items in
+    let shown = count_shown c.self.inside.rows.rows in
     let held = c.self.invariant.held in
-    let full : length (filter_map waiting_of_row c.self.inside.rows.items) ≡ c.self.inside.limit =
-    omega (arith, shown, held.counted, held.within, c.len.ensures, c.len-2.ensures) in
+    let full : length (filter_map waiting_of_row c.self.inside.rows.rows) ≡ c.self.inside.limit =
+    omega (arith, shown, held.counted, held.within, c.waiting-waiting.ensures) in
     rw (← c.self.view_is) ((λ e. full), (λ e. refl))
 
 pub returns-clause-ok : goal.returns-clause-ok
@@ -44,14 +48,14 @@ returns-clause-ok c = elim c.match-add.branch [
 -- fewer wait
 pub returns-clause-full : goal.returns-clause-full
 returns-clause-full c =
-    let shown = count_shown c.self.inside.rows.items in
+    let shown = count_shown c.self.inside.rows.rows in
     let held = c.self.invariant.held in
     elim c.match-add.branch [
       | in-Ok w ↦ rw (w.result-is, ← c.self.view_is)
-          ((λ e. absurd (cc)), (λ full. absurd (omega (arith, shown, full, held.counted, c.len.ensures, c.len-2.ensures))))
+          ((λ e. absurd (cc)), (λ full. absurd (omega (arith, shown, full, held.counted, c.waiting-waiting.ensures))))
       | in-Err w ↦
           rw (w.result-is, ← c.self.view_is) (
             (λ e. absurd (cc)),
-            (λ full. absurd (omega (arith, shown, full, held.counted, c.len.ensures, c.len-2.ensures))),
+            (λ full. absurd (omega (arith, shown, full, held.counted, c.waiting-waiting.ensures))),
           )
     ]

@@ -1,44 +1,42 @@
-use Rattle.std.proofs.Common.{refl, ◌∙◌, arith}
+use Rattle.std.proofs.Common.{refl}
 use Rattle.trackers.proofs.FoundLemmas.{found_within, found_row, none_untaken, none_without, sound_taken, table_taken, reader_taken, reader_cell}
 use Rattle.trackers.proofs.table.Trackers.take_tracker.Goals as goal
 
-pub index_mut-requires : goal.index_mut-requires
-index_mut-requires c =
-    let found = rw c.deref.ensures.value at c.in-Some.ensures in
-    omega (arith, found_within _ found.1)
+pub take-requires : goal.take-requires
+take-requires c = found_within _ c.in-Some.ensures.1
 
 -- the row is the one that was searched for
 pub invariant_of-self : goal.invariant_of-self
 invariant_of-self c =
-    let found = rw c.deref.ensures.value at c.in-Some.ensures in
-    let here = c.index_mut.ensures.value ∙ found_row _ found.1 c.index_mut.result.now in
-    rw (c.take.ensures.taken, here) (sound_taken _ _ _ _ _ _ found.1 c.self.invariant)
+    let found = c.in-Some.ensures in
+    let here = found_row _ found.1 found.0 in
+    rw (c.take.ensures.taken found.0, here) (sound_taken _ _ _ _ _ _ found.1 c.self.invariant)
 
 pub returns-in-Some-clause-tracker : goal.returns-in-Some-clause-tracker
 returns-in-Some-clause-tracker c =
-    let found = rw c.deref.ensures.value at c.in-Some.ensures in
-    let here = c.index_mut.ensures.value ∙ found_row _ found.1 c.index_mut.result.now in
-    rw (← c.self.view_is, c.take.ensures.reader, here) (reader_taken _ c.self.inside.limit _ found.1 c.self.invariant.held.told)
+    let found = c.in-Some.ensures in
+    let here = found_row _ found.1 found.0 in
+    rw (← c.self.view_is, c.take.ensures.reader found.0, here) (reader_taken _ c.self.inside.limit _ found.1 c.self.invariant.held.told)
 
 pub returns-in-Some-clause-cell : goal.returns-in-Some-clause-cell
 returns-in-Some-clause-cell c =
-    let found = rw c.deref.ensures.value at c.in-Some.ensures in
-    let here = c.index_mut.ensures.value ∙ found_row _ found.1 c.index_mut.result.now in
-    rw (← c.self.view_is, c.take.ensures.reader, here) (reader_cell _ found.1)
+    let found = c.in-Some.ensures in
+    let here = found_row _ found.1 found.0 in
+    rw (← c.self.view_is, c.take.ensures.reader found.0, here) (reader_cell _ found.1)
 
 pub returns-in-Some-clause-taken : goal.returns-in-Some-clause-taken
 returns-in-Some-clause-taken c =
-    let found = rw c.deref.ensures.value at c.in-Some.ensures in
-    let here = c.index_mut.ensures.value ∙ found_row _ found.1 c.index_mut.result.now in
-    rw (← c.self.view_is, c.take.ensures.taken, here) (table_taken _ c.self.inside.limit _ found.1)
+    let found = c.in-Some.ensures in
+    let here = found_row _ found.1 found.0 in
+    rw (← c.self.view_is, c.take.ensures.taken found.0, here) (table_taken _ c.self.inside.limit _ found.1)
 
 -- no row has this id
 pub returns-in-None-clause-tracker : goal.returns-in-None-clause-tracker
 returns-in-None-clause-tracker c =
-    let none = rw c.deref.ensures.value at c.in-None.ensures in
-    rw (← c.self.view_is, none_untaken c.args.id c.self.inside.rows.items none) refl
+    let none = c.in-None.ensures in
+    rw (← c.self.view_is, none_untaken c.args.id c.self.inside.rows.rows none) refl
 
 pub returns-in-None-clause-taken : goal.returns-in-None-clause-taken
 returns-in-None-clause-taken c =
-    let none = rw c.deref.ensures.value at c.in-None.ensures in
-    rw (← c.self.view_is, none_without c.args.id c.self.inside.rows.items none) refl
+    let none = c.in-None.ensures in
+    rw (← c.self.view_is, none_without c.args.id c.self.inside.rows.rows none) refl

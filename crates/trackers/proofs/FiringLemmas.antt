@@ -1,0 +1,138 @@
+-- What a visit of one row and its firing leave.
+use Rattle.std.proofs.Common.{◌≡◌, ◌≢◌, ℕ, zero, suc, ◌+◌, ◌<◌, Bool, true, false, if◌then◌else◌, List, [], ◌∷◌, ◌++◌, length, get_or, set, option_to_list, Option, Some, None, IsSomeAnd, refl, sym, ap, subst, ◌∙◌, arith, append-nil}
+use Rattle.std.proofs.lemmas.List.{length_push, get_or_push, get_or_append_left, set-get_or}
+use Rattle.sm_names.specs.declared.tracking.Fired.{Fired}
+use Rattle.sm_names.specs.Trackers.{World}
+use Rattle.trackers.specs.declared.place.Place.{Place}
+use Rattle.trackers.specs.declared.place.Stage.{Stage}
+use Rattle.trackers.specs.declared.place.Stage.TheVariants.{InSlot, Untaken, Taken}
+use Rattle.trackers.specs.Row.{TrackerRow, RowState, Waits, Over, WaitingRow, row_of_waiting, is_waiting}
+use Rattle.trackers.specs.Held.{is_met, row_after, fires}
+use Rattle.trackers.specs.Places.{Slots, slot_at, firing_or_none, row_in, row_over, row_as, row_at, rows_of, IsKept, IsKeptAt, IsHere, RowsInvariant}
+use Rattle.trackers.proofs.SlotLemmas.{rows_long, row_there, kept_there, in_slot, at_place}
+use Rattle.trackers.proofs.Walks.{row_of}
+
+-- ---- the place after the firing
+
+module _ (slots : Slots) (fired : List Fired) (number name : ℕ) (stage : Stage) where
+  -- its row is one that fired, of which the reader is here or was taken
+  over_as : (b : Bool) → stage ≡ (if b then Untaken else Taken) → row_as slots fired number name stage ≡ row_over name b (firing_or_none fired number)
+  over_as true is = ap (row_as slots fired number name) is
+  over_as false is = ap (row_as slots fired number name) is
+
+  -- and its firing is there
+  over_kept : (b : Bool) → stage ≡ (if b then Untaken else Taken) → number < length fired → IsKept slots (length fired) number name stage
+  over_kept true is less = subst (IsKept slots (length fired) number name) (sym is) less
+  over_kept false is less = subst (IsKept slots (length fired) number name) (sym is) less
+
+-- the row of a place in a slot
+in_slot_row : (slots : Slots) (fired : List Fired) (number name : ℕ) (stage : Stage) (o : Option WaitingRow) → stage ≡ InSlot →
+    slot_at slots number ≡ o → row_as slots fired number name stage ≡ row_in o
+in_slot_row slots fired number name stage o stage_is is = ap (row_as slots fired number name) stage_is ∙ ap row_in is
+
+-- the row of a tracker that fired is that of the one that waited, at its event
+fired_in : (slots' : Slots) (fired : List Fired) (number' name name' event : ℕ) (stage' : Stage) (firing : Fired) (o : Option WaitingRow) →
+    IsSomeAnd o (λ (row : WaitingRow). row.cell ≡ name) → number' ≡ length fired → name' ≡ name →
+    stage' ≡ (if (row_in o).has_reader then Untaken else Taken) → firing ≡ record { tracker = (row_in o).id; event = event } →
+    (row_as slots' (fired ++ firing ∷ []) number' name' stage' ≡ record (row_in o) { state = Over event })
+    × IsKept slots' (length (fired ++ firing ∷ [])) number' name' stage'
+fired_in slots' fired number' name name' event stage' firing None here number_is name_is stage_is firing_is = absurd here
+fired_in slots' fired number' name name' event stage' firing (Some w) here number_is name_is stage_is firing_is =
+    let last : firing_or_none (fired ++ firing ∷ []) number' ≡ firing =
+    get_or_push fired firing (record { tracker = 0; event = 0 }) number' (sym number_is) in (
+      over_as slots' (fired ++ firing ∷ []) number' name' stage' w.has_reader stage_is
+          ∙ ap (row_over name' w.has_reader) (last ∙ firing_is)
+          ∙ ap (λ n. row_over n w.has_reader (record { tracker = w.tracker.id; event = event })) (name_is ∙ sym here),
+      over_kept slots' (fired ++ firing ∷ []) number' name' stage' w.has_reader stage_is (omega (arith, number_is, length_push fired firing)),
+    )
+
+-- so it is of places
+pub fired_row : (slots slots' : Slots) (fired : List Fired) (place place' : Place) (event : ℕ) (firing : Fired) → IsHere slots place →
+    place.stage ≡ InSlot → place'.number ≡ length fired → place'.note ≡ place.note →
+    place'.stage ≡ (if (row_in (slot_at slots place.number)).has_reader then Untaken else Taken) →
+    firing ≡ record { tracker = (row_in (slot_at slots place.number)).id; event = event } →
+    (row_at slots' (fired ++ firing ∷ []) place' ≡ record (row_at slots fired place) { state = Over event })
+    × IsKeptAt slots' (length (fired ++ firing ∷ [])) place'
+fired_row slots slots' fired place place' event firing here in_slot number_is note_is stage_is firing_is =
+    let both = fired_in slots' fired place'.number place.note.cell place'.note.cell event place'.stage firing (slot_at slots place.number) here
+    number_is
+    (ap (λ n. n.cell) note_is)
+    stage_is
+    firing_is in (
+      both.0 ∙ ap (λ (row : TrackerRow). record row { state = Over event })
+          (sym (in_slot_row slots fired place.number place.note.cell place.stage (slot_at slots place.number) in_slot refl)),
+      both.1,
+    )
+
+-- a place of which the row waits is in its slot
+waits_in : (slots : Slots) (fired : List Fired) (number name : ℕ) (stage : Stage) → is_waiting (row_as slots fired number name stage) ≡ true → stage ≡ InSlot
+waits_in slots fired number name InSlot waits = refl
+waits_in slots fired number name Untaken waits = absurd (cc)
+waits_in slots fired number name Taken waits = absurd (cc)
+
+pub in_slot_of_waiting : (slots : Slots) (fired : List Fired) (place : Place) → is_waiting (row_at slots fired place) ≡ true → place.stage ≡ InSlot
+in_slot_of_waiting slots fired place waits = waits_in slots fired place.number place.note.cell place.stage waits
+
+-- ---- the rows
+
+module _ (slots : Slots) (fired : List Fired) (places : List Place) (at : ℕ) (place : Place) (is : get_or places at place ≡ place)
+    (within : at < length (rows_of slots fired places)) (sound : RowsInvariant slots fired places) where
+  -- so many places
+  inside : at < length places
+  inside = omega (arith, within, rows_long slots fired places)
+
+  -- its row stands there
+  pub row_here : (d : TrackerRow) → get_or (rows_of slots fired places) at d ≡ row_at slots fired place
+  row_here = row_there slots fired places at place is inside
+
+  module _ (waits : (d : TrackerRow) → is_waiting (get_or (rows_of slots fired places) at d) ≡ true) where
+    -- where the row waits, the place names a slot
+    pub names_slot : place.stage ≡ InSlot
+    names_slot = in_slot_of_waiting slots fired place (ap is_waiting (sym (row_here (row_at slots fired place))) ∙ waits (row_at slots fired place))
+
+    -- with the row in it
+    pub slot_here : IsHere slots place
+    slot_here = in_slot slots (length fired) place.number place.note.cell place.stage (kept_there slots fired places at place is inside sound.kept) names_slot
+
+    -- and after the firing that row alone is another
+    pub fired_all : (slots' : Slots) (place' : Place) (event : ℕ) (firing : Fired) → place'.number ≡ length fired → place'.note ≡ place.note →
+        place'.stage ≡ (if (row_in (slot_at slots place.number)).has_reader then Untaken else Taken) →
+        firing ≡ record { tracker = (row_in (slot_at slots place.number)).id; event = event } →
+        ((n : ℕ) → n ≢ place.number → slot_at slots' n ≡ slot_at slots n) →
+        (rows_of slots' (fired ++ firing ∷ []) (set places at place')
+        ≡ set (rows_of slots fired places) at (record (row_at slots fired place) { state = Over event }))
+        × RowsInvariant slots' (fired ++ firing ∷ []) (set places at place')
+    fired_all slots' place' event firing number_is note_is stage_is firing_is others =
+        let both = fired_row slots slots' fired place place' event firing slot_here names_slot number_is note_is stage_is firing_is in
+        let all = at_place slots slots' fired (fired ++ firing ∷ []) (omega (arith, length_push fired firing))
+        (λ n less. get_or_append_left fired (firing ∷ []) (record { tracker = 0; event = 0 }) n less) place
+        (λ n clear. others n (clear names_slot)) places sound at is inside place' both.1 (ap (λ (r : TrackerRow). r.id) both.0) in
+        (all.0 ∙ ap (set (rows_of slots fired places) at) both.0, all.1)
+
+-- ---- a visit
+
+-- a row that is met waits
+met_waits_at : (w : World) (id cell : ℕ) (state : RowState) (has : Bool) → is_met w (row_of id cell state has) ≡ true →
+    is_waiting (row_of id cell state has) ≡ true
+met_waits_at w id cell (Waits place condition) has met = refl
+met_waits_at w id cell (Over event) has met = met
+
+pub met_waits : (w : World) (row : TrackerRow) → is_met w row ≡ true → is_waiting row ≡ true
+met_waits w row met = met_waits_at w row.id row.cell row.state row.has_reader met
+
+module _ (w : World) (e : ℕ) (rows : List TrackerRow) (fired : List Fired) (at : ℕ) (d : TrackerRow) where
+  -- a visit of a row that is not met leaves all
+  pub unmet_rows : is_met w (get_or rows at d) ≡ false → rows ≡ set rows at (row_after w e (get_or rows at d))
+  unmet_rows unmet = rw unmet (sym (set-get_or rows at d))
+
+  pub unmet_fired : is_met w (get_or rows at d) ≡ false → fired ≡ fired ++ option_to_list (fires w e (get_or rows at d))
+  unmet_fired unmet = rw unmet (sym (append-nil fired))
+
+  -- a row that is met is over
+  pub met_rows : is_met w (get_or rows at d) ≡ true →
+      set rows at (record (get_or rows at d) { state = Over e }) ≡ set rows at (row_after w e (get_or rows at d))
+  met_rows met = rw met refl
+
+  pub met_fired : is_met w (get_or rows at d) ≡ true →
+      fired ++ record { tracker = (get_or rows at d).id; event = e } ∷ [] ≡ fired ++ option_to_list (fires w e (get_or rows at d))
+  met_fired met = rw met refl

@@ -1,0 +1,205 @@
+//! Where what is kept of a tracker lies.
+ghost use Rattle.std.specs.Prelude.{◌≡◌, ◌+◌, ◌^◌, ◌<◌, ◌≤◌, [], ◌∷◌, ◌++◌, length, vec_len, vec_capacity, Some, None, OnOk, false, if◌then◌else◌};
+ghost use Rattle.slab.specs.Slab.{get, HasRoomFor, Updates};
+ghost use Rattle.trackers.specs.declared.place.Place.{Place as PlaceValue};
+ghost use Rattle.trackers.specs.Row.{firing_of_row, reader_of_row};
+ghost use Rattle.trackers.specs.Held.{IdsRise, IsSearchAnswer, is_met};
+ghost use Rattle.trackers.specs.Places.{firing_or_none, row_in, row_at, rows_of, IsKeptAt, IsHere, Leaves, Names};
+
+use crate::row::Row;
+use crate::tracker::Tracker;
+use crate::world::World;
+use once_cell::race::Note;
+use slab::Slab;
+use sm_names::{Fired, TrackerId};
+use std::alloc::AllocError;
+
+/// The first number that is too great for a place.
+const NUMBERS: usize = u32::MAX as usize;
+
+/// How far a tracker is.
+#[derive(Clone, Copy)]
+pub(crate) enum Stage {
+    /// It waits, and its row is in a slot.
+    InSlot,
+    /// It fired, and its reader is still here.
+    Untaken,
+    /// It fired, and its reader was taken.
+    Taken,
+}
+
+/// What is kept of a tracker for good: the slot of its row, or the place of its firing. The note,
+/// which takes no bytes, names its cell for the proofs.
+#[derive(Drop)]
+pub(crate) struct Place {
+    pub(crate) number: u32,
+    pub(crate) stage: Stage,
+    pub(crate) note: Note<Fired>,
+}
+
+/// The id of the tracker.
+pub(crate) fn id_at(place: &Place, slots: &Slab<Row>, fired: &[Fired]) -> TrackerId
+    ensures { result ≡ (row_at slots.now.slots fired.now place.now).id }
+{
+    let number = place.number as usize;
+    match place.stage {
+        Stage::InSlot => match slots.get(number) {
+            Some(row) => row.id(),
+            None => 0,
+        },
+        Stage::Untaken | Stage::Taken => id_of(fired, number),
+    }
+}
+
+/// The id in the firing at this place, or 0.
+fn id_of(fired: &[Fired], number: usize) -> TrackerId
+    ensures { result ≡ (firing_or_none fired.now number).tracker }
+{
+    if number < fired.len() {
+        fired[number].tracker
+    } else {
+        0
+    }
+}
+
+/// Whether the tracker waits, and what it waits for holds.
+pub(crate) fn is_due_at<W: World>(
+    place: &Place,
+    slots: &Slab<Row>,
+    fired: &[Fired],
+    world: &W,
+) -> bool
+    requires { IsKeptAt slots.now.slots (length fired.now) place.now }
+    ensures { result ≡ is_met (W.seen world.now) (row_at slots.now.slots fired.now place.now) }
+{
+    match place.stage {
+        Stage::InSlot => slots[place.number as usize].is_due(world),
+        Stage::Untaken | Stage::Taken => false,
+    }
+}
+
+/// The firing of the tracker, if it fired.
+pub(crate) fn firing_at(place: &Place, slots: &Slab<Row>, fired: &[Fired]) -> Option<Fired>
+    requires { IsKeptAt slots.now.slots (length fired.now) place.now }
+    ensures { result ≡ firing_of_row (row_at slots.now.slots fired.now place.now) }
+{
+    match place.stage {
+        Stage::InSlot => None,
+        Stage::Untaken | Stage::Taken => Some(fired[place.number as usize]),
+    }
+}
+
+/// Makes room for one place and one row, and for one firing beside those of so many that wait.
+pub(crate) fn make_room(
+    places: &mut Vec<Place>,
+    slots: &mut Slab<Row>,
+    fired: &mut Vec<Fired>,
+    waiting: usize,
+) -> Result<(), AllocError>
+    requires { waiting < 2 ^ 32 }
+    ensures place_room { OnOk result (vec_len places.new < vec_capacity places.new) }
+    ensures slot_room { OnOk result (HasRoomFor slots.new 1) }
+    ensures number { OnOk result (slots.new.vacant_key < 2 ^ 32) }
+    ensures room { OnOk result (vec_len fired.old + (waiting + 1) ≤ vec_capacity fired.new) }
+    ensures small { OnOk result (vec_len fired.old + (waiting + 1) ≤ 2 ^ 32) }
+    ensures places { places.new.items ≡ places.old.items }
+    ensures slots { slots.new ≡ record slots.old { capacity = slots.new.capacity } }
+    ensures fired { fired.new.items ≡ fired.old.items }
+    ensures more_room { vec_capacity fired.old ≤ vec_capacity fired.new }
+{
+    if slots.vacant_key() >= NUMBERS || fired.len() >= NUMBERS - waiting {
+        return Err(AllocError);
+    }
+    places.reserve(1)?;
+    slots.reserve(1)?;
+    fired.reserve(waiting + 1)?;
+    Ok(())
+}
+
+/// Puts the row into a slot, and its place behind the others.
+pub(crate) fn add(places: &mut Vec<Place>, slots: &mut Slab<Row>, row: Row)
+    requires place_room { vec_len places.old < vec_capacity places.old }
+    requires slot_room { HasRoomFor slots.old 1 }
+    requires number { slots.old.vacant_key < 2 ^ 32 }
+    ensures place { (p : PlaceValue) × (places.new.items ≡ places.old.items ++ p ∷ [])
+        × Names p slots.old.vacant_key row.cell }
+    ensures vacant { get slots.old slots.old.vacant_key ≡ None }
+    ensures slot { Updates slots.old slots.new slots.old.vacant_key (Some row) }
+{
+    let mut row = row;
+    let note = row.cell_note();
+    let number = slots.insert_reserved(row) as u32;
+    places.push_reserved(Place {
+        number,
+        stage: Stage::InSlot,
+        note,
+    });
+}
+
+/// Empties the slot of the place, if it has one.
+pub(crate) fn leave(slots: &mut Slab<Row>, place: &Place)
+    ensures { Leaves slots.old.slots slots.new.slots place.now }
+{
+    if let Stage::InSlot = place.stage {
+        let _row = slots.try_remove(place.number as usize);
+    }
+}
+
+/// Takes the row out of its slot and fires it: from then on the place names the firing of this number.
+pub(crate) fn fire_place(place: &mut Place, slots: &mut Slab<Row>, number: u32, event: u64) -> Fired
+    requires { IsHere slots.old.slots place.old }
+    ensures firing { result
+        ≡ record { tracker = (row_in (get slots.old place.old.number)).id; event = event } }
+    ensures number { place.new.number ≡ number }
+    ensures cell { place.new.note ≡ place.old.note }
+    ensures stage { place.new.stage ≡ (if (row_in (get slots.old place.old.number)).has_reader
+        then Stage.Untaken else Stage.Taken) }
+    ensures slots { Updates slots.old slots.new place.old.number None }
+{
+    let row = slots.remove(place.number as usize);
+    place.number = number;
+    place.stage = if row.has_reader() {
+        Stage::Untaken
+    } else {
+        Stage::Taken
+    };
+    row.fire(event)
+}
+
+/// The reader of the tracker, once.
+pub(crate) fn take_at(place: &mut Place, slots: &mut Slab<Row>, fired: &[Fired]) -> Option<Tracker>
+    requires { IsKeptAt slots.old.slots (length fired.now) place.old }
+    ensures reader { result ≡ reader_of_row (row_at slots.old.slots fired.now place.old) }
+    ensures taken { row_at slots.new.slots fired.now place.new
+        ≡ record (row_at slots.old.slots fired.now place.old) { has_reader = false } }
+    ensures kept { IsKeptAt slots.new.slots (length fired.now) place.new }
+    ensures others { Leaves slots.old.slots slots.new.slots place.old }
+{
+    let number = place.number as usize;
+    match place.stage {
+        Stage::InSlot => slots[number].take(),
+        Stage::Untaken => {
+            place.stage = Stage::Taken;
+            Some(Tracker::told(fired[number], place.note.again()))
+        }
+        Stage::Taken => None,
+    }
+}
+
+/// Where the place of the tracker with this id stands.
+pub(crate) fn find_place(
+    places: &[Place],
+    slots: &Slab<Row>,
+    fired: &[Fired],
+    id: TrackerId,
+) -> Option<usize>
+    requires { IdsRise (rows_of slots.now.slots fired.now places.now) }
+    ensures { IsSearchAnswer id (rows_of slots.now.slots fired.now places.now) result }
+{
+    let at = places.partition_point(|place| id_at(place, slots, fired) < id);
+    if at < places.len() && id_at(&places[at], slots, fired) == id {
+        Some(at)
+    } else {
+        None
+    }
+}

@@ -1,0 +1,167 @@
+//! The rows of all trackers: one that waits has a row in a slot, which is used again once it fired;
+//! of one that fired its firing is kept, and the number of that.
+ghost use Rattle.std.specs.Prelude.{◌≡◌, ◌+◌, ◌^◌, ◌<◌, ◌≤◌, [], ◌∷◌, ◌++◌, length, true, false, Option, None, OnOk, OnErr, IsTrue, slice_index_or, slice_set, option_to_list};
+ghost use Rattle.std.specs.List.{AllByRecursion};
+ghost use Rattle.trackers.specs.Row.{TrackerRow, Over, is_waiting, firing_of_row, reader_of_row, row_of_waiting};
+ghost use Rattle.trackers.specs.Held.{IsSearchAnswer, is_met, row_after, fires};
+
+use crate::place::{
+    Place, add, find_place, fire_place, firing_at, is_due_at, leave, make_room, take_at,
+};
+use crate::row::Row;
+use crate::tracker::Tracker;
+use crate::world::World;
+use slab::Slab;
+use sm_names::{Fired, TrackerId};
+use std::alloc::{AllocError, Global};
+use std::marker::Model;
+
+/// The rows of all trackers that were attached.
+#[derive(Drop)]
+pub(crate) struct Rows {
+    // By rising id.
+    places: Vec<Place>,
+    slots: Slab<Row>,
+    fired: Vec<Fired>,
+}
+
+impl Model for Rows {
+    ghost use Rattle.trackers.specs.Row.{KeptRows};
+
+    ghost Value = { KeptRows };
+
+    ghost use Rattle.std.specs.Prelude.{◌^◌, min, vec_capacity};
+    ghost use Rattle.trackers.specs.Places.{rows_of, RowsInvariant};
+
+    ghost view = { λ r. record {
+      rows = rows_of r.slots.slots r.fired.items r.places.items;
+      fired = r.fired.items;
+      room = min (vec_capacity r.fired) (2 ^ 32);
+    } };
+
+    ghost invariant = { λ r. RowsInvariant r.slots.slots r.fired.items r.places.items };
+}
+
+impl Rows {
+    /// No rows.
+    pub(crate) fn new(alloc: Global) -> Rows
+        ensures rows { result.rows ≡ [] }
+        ensures fired { result.fired ≡ [] }
+    {
+        Rows {
+            places: Vec::new(alloc),
+            slots: Slab::new(alloc),
+            fired: Vec::new(alloc),
+        }
+    }
+
+    /// How many trackers were attached.
+    pub(crate) fn len(&self) -> usize
+        ensures { result ≡ length self.now.rows }
+    {
+        self.places.len()
+    }
+
+    /// How many trackers wait.
+    pub(crate) fn waiting(&self) -> usize
+        requires { length self.now.fired ≤ length self.now.rows }
+        ensures { result + length self.now.fired ≡ length self.now.rows }
+    {
+        self.places.len() - self.fired.len()
+    }
+
+    /// The firings in their order.
+    pub(crate) fn fired(&self) -> &[Fired]
+        ensures { result.now ≡ self.now.fired }
+    {
+        &self.fired
+    }
+
+    /// Adds a row behind the others, with room for its firing beside those of the others that wait.
+    pub(crate) fn push(&mut self, row: Row, waiting: usize) -> Result<(), AllocError>
+        requires small { waiting < 2 ^ 32 }
+        requires rising { AllByRecursion (λ (r : TrackerRow). r.id < row.tracker.id) self.old.rows }
+        ensures row { OnOk result (self.new.rows ≡ self.old.rows ++ row_of_waiting row ∷ []) }
+        ensures room { OnOk result (length self.old.fired + (waiting + 1) ≤ self.new.room) }
+        ensures kept { OnErr result (self.new.rows ≡ self.old.rows) }
+        ensures fired { self.new.fired ≡ self.old.fired }
+        ensures more_room { self.old.room ≤ self.new.room }
+    {
+        make_room(&mut self.places, &mut self.slots, &mut self.fired, waiting)?;
+        add(&mut self.places, &mut self.slots, row);
+        Ok(())
+    }
+
+    /// Takes the last row out.
+    pub(crate) fn pop(&mut self)
+        ensures last { (o : Option TrackerRow) × (self.old.rows ≡ self.new.rows ++ option_to_list o)
+            × (o ≡ None → self.old.rows ≡ []) }
+        ensures fired { self.new.fired ≡ self.old.fired }
+        ensures room { self.new.room ≡ self.old.room }
+    {
+        let Some(place) = self.places.pop() else {
+            return;
+        };
+        leave(&mut self.slots, &place);
+    }
+
+    /// Where the row with this id stands: a binary search.
+    pub(crate) fn find(&self, id: TrackerId) -> Option<usize>
+        ensures { IsSearchAnswer id self.now.rows result }
+    {
+        find_place(&self.places, &self.slots, &self.fired, id)
+    }
+
+    /// The firing of the tracker at this place, if it fired.
+    pub(crate) fn firing(&self, at: usize) -> Option<Fired>
+        requires { at < length self.now.rows }
+        ensures { (d : TrackerRow) → result ≡ firing_of_row (slice_index_or self.now.rows at d) }
+    {
+        firing_at(&self.places[at], &self.slots, &self.fired)
+    }
+
+    /// Fires the tracker at this place, if it waits and what it waits for holds.
+    pub(crate) fn visit<W: World>(&mut self, at: usize, event: u64, world: &W)
+        requires within { at < length self.old.rows }
+        requires room { (d : TrackerRow) → IsTrue (is_waiting (slice_index_or self.old.rows at d))
+            → length self.old.fired < self.old.room }
+        ensures row { (d : TrackerRow) → self.new.rows ≡ slice_set self.old.rows at
+            (row_after (W.seen world.now) event (slice_index_or self.old.rows at d)) }
+        ensures fired { (d : TrackerRow) → self.new.fired ≡ self.old.fired ++ option_to_list
+            (fires (W.seen world.now) event (slice_index_or self.old.rows at d)) }
+        ensures room { self.new.room ≡ self.old.room }
+    {
+        if !is_due_at(&self.places[at], &self.slots, &self.fired, world) {
+            return;
+        }
+        self.fire(at, event);
+    }
+
+    /// Fires the tracker at this place, which waits.
+    fn fire(&mut self, at: usize, event: u64)
+        requires within { at < length self.old.rows }
+        requires waits { (d : TrackerRow) → is_waiting (slice_index_or self.old.rows at d) ≡ true }
+        requires room { length self.old.fired < self.old.room }
+        ensures row { (d : TrackerRow) → self.new.rows ≡ slice_set self.old.rows at
+            (record (slice_index_or self.old.rows at d) { state = Over event }) }
+        ensures fired { (d : TrackerRow) → self.new.fired ≡ self.old.fired
+            ++ (record { tracker = (slice_index_or self.old.rows at d).id; event = event }) ∷ [] }
+        ensures room { self.new.room ≡ self.old.room }
+    {
+        let number = self.fired.len() as u32;
+        let firing = fire_place(&mut self.places[at], &mut self.slots, number, event);
+        self.fired.push_reserved(firing);
+    }
+
+    /// The reader of the tracker at this place, once.
+    pub(crate) fn take(&mut self, at: usize) -> Option<Tracker>
+        requires { at < length self.old.rows }
+        ensures reader { (d : TrackerRow) → result ≡ reader_of_row (slice_index_or self.old.rows at d) }
+        ensures taken { (d : TrackerRow) → self.new ≡ record self.old {
+          rows = slice_set self.old.rows
+              at (record (slice_index_or self.old.rows at d) { has_reader = false });
+        } }
+    {
+        take_at(&mut self.places[at], &mut self.slots, &self.fired)
+    }
+}
