@@ -1,4 +1,4 @@
 pub mod DraftLaws
 pub mod MadeLaws
+pub mod ReplyLaws
 pub mod TakeLaws
-pub mod UnitLaws

@@ -1,5 +1,5 @@
 -- The handles of a Take, and their units.
-use Rattle.std.proofs.Common.{ℕ, suc, ◌≡◌, ◌<◌, ◌+◌, ◌-◌, ◌∙◌, refl, ap, sym, subst, true, false, ◌==◌, List, [], ◌∷◌, ◌++◌, length, append_assoc, append-nil, Option, Some, None, arith}
+use Rattle.std.proofs.Common.{ℕ, suc, ◌≡◌, ◌<◌, ◌+◌, ◌-◌, ◌∙◌, refl, ap, sym, subst, true, false, ◌==◌, List, [], ◌∷◌, ◌++◌, length, append_assoc, append-nil, arith}
 use Rattle.std.specs.Int.{bit_at}
 use Rattle.std.specs.List.{filter, range_with_len}
 use Rattle.sm_names.specs.declared.rules.TheConstants.{MAX_BUFFERS}
@@ -9,25 +9,12 @@ use Rattle.sm_names.specs.declared.keys.Strength.TheVariants.{Strong, Weak}
 use Rattle.sm_names.specs.declared.messages.Call.{Call}
 use Rattle.sm_names.specs.declared.messages.Reply.{Reply}
 use Rattle.event_laws.specs.HandleSums.{indices_in}
-use Rattle.service_lock.specs.Units.{Amounts, CountsEvent, HasOne, with_one}
-use Rattle.client_ends.specs.declared.taking.Taken.{Taken}
-use Rattle.client_ends.specs.Clients.{Grip, Made, SameHandles, Seen, no_amounts}
-use Rattle.client_ends.specs.Taking.{Took, grip_at, grips_at, grips_by, handful, told_taken}
-
--- the units that a Take brought
-abbrev pub units_by : Option Taken → Amounts
-units_by None = no_amounts
-units_by (Some taken) = handful taken.strength (length (indices_in taken.set))
-
--- who had no handle has those that were taken
-pub after_taking : (key : NodeKey) (reply : Reply) (units new : Amounts) → SameHandles units no_amounts →
-    CountsEvent units new (Call.Take key) reply →
-    SameHandles new (units_by (told_taken reply))
-after_taking key (Reply.Taken collection Strong set) units new none counts =
-    (omega (arith, none.0, counts.strong), omega (arith, none.1, counts.weak))
-after_taking key (Reply.Taken collection Weak set) units new none counts =
-    (omega (arith, none.0, counts.strong), omega (arith, none.1, counts.weak))
-after_taking key _ units new none counts = (omega (arith, none.0, counts.strong), omega (arith, none.1, counts.weak))
+use Rattle.service_lock.specs.Units.{Amounts, HasOne, with_one}
+use Rattle.client_accounts.specs.declared.taken.Taken.{Taken}
+use Rattle.client_accounts.specs.Accounts.{SameHandles, no_amounts}
+use Rattle.client_accounts.specs.Takes.{handful, told_taken}
+use Rattle.client_ends.specs.Clients.{Grip, Made, Seen}
+use Rattle.client_ends.specs.Taking.{Took, grip_at, grips_at, grips_by}
 
 -- the Take that was answered so brought these handles
 pub took : (old mid new : Seen) (key : NodeKey) (reply : Reply) (collection : ℕ) (strength : Strength) (set : ℕ) (handles : List Grip) →
@@ -43,11 +30,6 @@ took old mid new key reply collection strength set handles is made tells brought
           ∙ (ap (λ (r : Reply). grips_by mid.id (told_taken r)) tells
           ∙ ap (λ (o : Seen). grips_at o.id taken (indices_in set)) (sym is));
     }
-
--- it counts no event
-pub same_events : (strength : Strength) (old new : Amounts) → old ≡ with_one strength new → new.events ≡ old.events
-same_events Strong old new is = omega (arith, ap (λ (u : Amounts). u.events) is)
-same_events Weak old new is = omega (arith, ap (λ (u : Amounts). u.events) is)
 
 -- the buffers of a set among so many from this one on
 unfoldable pub indices_from : ℕ → ℕ → ℕ → List ℕ

@@ -1,20 +1,15 @@
 -- What a contract sees of clients and of what they hold.
-use Rattle.std.specs.Prelude.{Some, None, Result, Ok, Err, ◌≡◌, ℕ, ◌+◌, ◌-◌, Bool, true, false, List, [], ◌∷◌, ◌++◌, length, slice_get, map, Option, option_map}
+use Rattle.std.specs.Prelude.{◌≡◌, ℕ, ◌+◌, ◌-◌, Bool, true, false, List, ◌++◌, length, slice_get, map, Option, option_map}
 use Rattle.sm_names.specs.declared.keys.NodeKey.{NodeKey}
 use Rattle.sm_names.specs.declared.keys.BufferName.{BufferName}
 use Rattle.sm_names.specs.declared.keys.Strength.{Strength}
 use Rattle.sm_names.specs.declared.messages.Call.{Call}
 use Rattle.sm_names.specs.declared.messages.Reply.{Reply}
-use Rattle.sm_names.specs.declared.outcomes.StepFault.{StepFault}
 use Rattle.core_state.specs.Kinds.{fits_call}
-use Rattle.service_lock.specs.Units.{Amounts, with_one}
 use Rattle.event_laws.specs.declared.own.Own.{Own}
+use Rattle.client_accounts.specs.Accounts.{AppendsOwn}
+pub use Rattle.client_accounts.specs.Accounts.{is_done}
 use Rattle.client_ends.specs.declared.why.Why.{Why}
-
--- the amounts of a client's shares, and its own list
-pub record ClientAmounts : Type 0 where
-  pub units : Amounts
-  pub own : List Own
 
 -- a client: its id, the amount of its share of the events, and its own list
 pub record Seen : Type 0 where
@@ -31,11 +26,6 @@ pub record Tag : Type 0 where
 -- the reply of the last entry
 abbrev pub last_reply : List Own → Option Reply
 last_reply own = option_map (λ (o : Own). o.reply) (slice_get own (length own - 1))
-
--- the list with one entry more, of this call and this reply
-pub record AppendsOwn (old new : List Own) (call : Call) (reply : Reply) : Type 0 where
-  pub event : ℕ
-  pub next : new ≡ old ++ record { event = event; call = call; reply = reply } ∷ []
 
 -- the client made one event, of this call and this reply, which the call can have: its share rose by one, and it stands last in
 -- its own list
@@ -61,11 +51,6 @@ pub record MadeAll (old new : Seen) (asked : List Call) (told : List Reply) : Ty
   pub own : new.own ≡ old.own ++ added
   pub calls : calls_of added ≡ asked
   pub replies : replies_of added ≡ told
-
--- the reply is Done
-abbrev pub is_done : Reply → Bool
-is_done Reply.Done = true
-is_done _ = false
 
 -- a Release that was answered so has spent its end
 abbrev pub release_spends : Reply → Bool
@@ -105,51 +90,6 @@ pub record Grip : Type 0 where
   pub client : ℕ
   pub buffer : BufferName
   pub strength : Strength
-
--- nothing of any book
-abbrev pub no_amounts : Amounts
-no_amounts = record { events = 0; strong = 0; weak = 0 }
-
--- the unit of one handle of this strength
-abbrev pub handle_unit : Strength → Amounts
-handle_unit strength = with_one strength no_amounts
-
--- the strength of the handle that the call drops or gives: no other call lets one go
-abbrev pub lets_go : Call → Option Strength
-lets_go (Call.DropHandle buffer strength) = Some strength
-lets_go (Call.GiveHandle buffer strength to) = Some strength
-lets_go _ = None
-
--- the call can bring its caller one handle
-abbrev pub may_gain : Call → Bool
-may_gain (Call.DupHandle buffer strength) = true
-may_gain Call.Collect = true
-may_gain _ = false
-
--- the strength of the handle that the event brought: no other call brings one alone
-abbrev pub gained : Call → Reply → Option Strength
-gained (Call.DupHandle buffer strength) Reply.Done = Some strength
-gained Call.Collect (Reply.CollectedHandle buffer strength) = Some strength
-gained _ _ = None
-
--- the amounts with the handle that was brought
-abbrev pub with_gain : Option Strength → Amounts → Amounts
-with_gain None units = units
-with_gain (Some strength) units = with_one strength units
-
--- how many that is
-abbrev pub handle_gain : Option Strength → ℕ
-handle_gain None = 0
-handle_gain (Some strength) = 1
-
--- the amounts have the same handles
-abbrev pub SameHandles : Amounts → Amounts → Type 0
-SameHandles a b = (a.strong ≡ b.strong) × (a.weak ≡ b.weak)
-
--- the event was made and answered Done
-abbrev pub made_done : Result Reply StepFault → Bool
-made_done (Ok reply) = is_done reply
-made_done (Err fault) = false
 
 -- the call opens, drops and moves no handle, and collects nothing
 abbrev pub moves_no_handle : Call → Bool

@@ -1,20 +1,11 @@
 -- What a Take brings.
 use Rattle.std.specs.Prelude.{◌≡◌, ℕ, List, [], map, Option, Some, None}
 use Rattle.sm_names.specs.declared.keys.NodeKey.{NodeKey}
-use Rattle.sm_names.specs.declared.keys.Strength.{Strength}
-use Rattle.sm_names.specs.declared.keys.Strength.TheVariants.{Strong, Weak}
 use Rattle.sm_names.specs.declared.messages.Call.{Call}
 use Rattle.sm_names.specs.declared.messages.Reply.{Reply}
 use Rattle.event_laws.specs.HandleSums.{indices_in}
-use Rattle.service_lock.specs.Units.{Amounts}
-use Rattle.client_ends.specs.declared.taking.Taken.{Taken}
+use Rattle.client_accounts.specs.declared.taken.Taken.{Taken}
 use Rattle.client_ends.specs.Clients.{Grip, Made, Seen}
-
--- what the reply says that was taken
-abbrev pub told_taken : Reply → Option Taken
-told_taken (Reply.Taken collection strength set) =
-    Some (record { collection = collection; strength = strength; set = set })
-told_taken _ = None
 
 -- the client's handle on the buffer with this index
 abbrev pub grip_at : ℕ → Taken → ℕ → Grip
@@ -32,11 +23,6 @@ grips_at client taken indices = map (grip_at client taken) indices
 abbrev pub grips_by : ℕ → Option Taken → List Grip
 grips_by client None = []
 grips_by client (Some taken) = grips_at client taken (indices_in taken.set)
-
--- so many units of handles of this strength
-abbrev pub handful : Strength → ℕ → Amounts
-handful Strong n = record { events = 0; strong = n; weak = 0 }
-handful Weak n = record { events = 0; strong = 0; weak = n }
 
 -- one Take was made and answered so, and these are its handles: one on each buffer of its set
 pub record Took (old new : Seen) (key : NodeKey) (handles : List Grip) : Type 0 where

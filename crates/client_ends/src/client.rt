@@ -6,18 +6,18 @@ ghost use Rattle.sm_names.specs.declared.outcomes.StepFault.{StepFault as Fault}
 ghost use Rattle.client_ends.specs.declared.why.Why.{Why as Reason};
 ghost use Rattle.core_state.specs.Kinds.{fits_call};
 ghost use Rattle.service_lock.specs.States.{view_after, with_parts};
-ghost use Rattle.client_ends.specs.Clients.{Made, MadeOr, is_done, is_collect_reply, release_spends, moves_no_handle, is_take_reply, is_token_reply, is_tracker_reply, last_reply, lets_go, handle_unit};
+ghost use Rattle.client_accounts.specs.Accounts.{handle_unit, is_done, lets_go};
+ghost use Rattle.client_ends.specs.Clients.{Made, MadeOr, is_collect_reply, release_spends, moves_no_handle, is_take_reply, is_token_reply, is_tracker_reply, last_reply};
 ghost use Rattle.client_ends.specs.Collecting.{Collected, handles_collected};
 ghost use Rattle.client_ends.specs.Taking.{Took};
 
-use crate::account::Account;
-use crate::empty_units::empty;
 use crate::ended::Ended;
 use crate::ends::{CollectionEnd, TokenEnd};
 use crate::handle::Handle;
 use crate::held::End;
-use crate::taking::make_room;
+use crate::taking::{make_room, make_taking};
 use crate::why::Why;
+use client_accounts::{Account, empty};
 use event_laws::Own;
 use service_lock::{Service, Setup, State, Units, apply, take_back, take_tracker};
 use sm_names::{BufferName, Call, ClientId, Kind, NodeKey, Reply, StepFault, Strength};
@@ -211,7 +211,7 @@ impl<E: Setup, S: Ledger, W: Ledger> Client<E, S, W> {
     }
 
     // The tracker that the event makes.
-    #[tactic(auto, using(crate::proofs::UnitLaws::untaken_last))]
+    #[tactic(auto, using(crate::proofs::ReplyLaws::untaken_last))]
     pub(crate) fn tracker<R: Wait>(
         &mut self,
         rt: &R,
@@ -303,7 +303,7 @@ impl<E: Setup, S: Ledger, W: Ledger> Client<E, S, W> {
     }
 
     // The same, under a lock that was taken.
-    #[tactic(auto, using(crate::proofs::UnitLaws::none_doubled))]
+    #[tactic(auto, using(crate::proofs::ReplyLaws::none_doubled))]
     fn doubled_in(
         &mut self,
         state: &mut State<E, S, W>,
@@ -363,7 +363,7 @@ impl<E: Setup, S: Ledger, W: Ledger> Client<E, S, W> {
             Ok(handles) => handles,
             Err(fault) => return Err(Why::Fault(fault)),
         };
-        match self.account.make_taking(state, self.id, key, &mut handles) {
+        match make_taking(&mut self.account, state, self.id, key, &mut handles) {
             Ok(Reply::Taken { .. }) => return Ok(handles),
             Ok(reply) => {
                 handles.destroy_empty();
@@ -392,7 +392,7 @@ impl<E: Setup, S: Ledger, W: Ledger> Client<E, S, W> {
     }
 
     // The same, under a lock that was taken.
-    #[tactic(auto, using(crate::proofs::UnitLaws::none_collected))]
+    #[tactic(auto, using(crate::proofs::ReplyLaws::none_collected))]
     fn collect_in(&mut self, state: &mut State<E, S, W>) -> Result<Option<End<E, S, W>>, Why>
         ensures made { MatchResult result
             (λ found. Collected self.old self.new found)

@@ -5,9 +5,9 @@ ghost use Rattle.sm_names.specs.declared.outcomes.StepFault.{StepFault as Fault}
 ghost use Rattle.client_ends.specs.Drafts.{DraftStopped, IsSynced, drafted_call, with_call};
 
 use crate::client::Client;
-use crate::empty_units::memory_fault;
 use crate::ends::TokenEnd;
 use crate::syncing::{make_all, make_room};
+use client_accounts::memory_fault;
 use service_lock::{Service, Setup, State};
 use sm_names::{ClientId, NoMemory, Reply, StepFault};
 use std::alloc::Global;

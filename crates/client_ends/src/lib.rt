@@ -10,11 +10,9 @@
 //! list, which grow by doubling. No call searches a list.
 #![tactic(auto)]
 
-mod account;
 mod client;
 mod collections;
 mod draft;
-mod empty_units;
 mod ended;
 mod ends;
 mod handle;
@@ -25,8 +23,8 @@ mod tokens;
 mod why;
 
 pub use client::{Client, join};
+pub use client_accounts::memory_fault;
 pub use draft::{Draft, Part, Synced};
-pub use empty_units::memory_fault;
 pub use ended::{Ended, end};
 pub use ends::{Bound, CollectionEnd, EndOf, TokenEnd, Unbound};
 pub use event_laws::Own;

@@ -1,49 +1,24 @@
 //! The handles that a Take brings.
-ghost use Rattle.std.specs.Prelude.{◌≡◌, ◌+◌, ◌≤◌, ◌<◌, ◌↔◌, [], length, IfOk, IfErr, OnOk, vec_len, vec_capacity};
+ghost use Rattle.std.specs.Prelude.{◌≡◌, ◌+◌, ◌≤◌, ◌<◌, ◌↔◌, [], true, length, Err, IfOk, IfErr, OnErr, OnOk, vec_len, vec_capacity};
+ghost use Rattle.sm_names.specs.declared.messages.Call.{Call as Asked};
 ghost use Rattle.sm_names.specs.declared.outcomes.StepFault.{StepFault as Fault};
+ghost use Rattle.core_state.specs.Kinds.{fits_call};
 ghost use Rattle.event_laws.specs.HandleSums.{indices_in};
 ghost use Rattle.service_lock.specs.States.{with_parts};
 ghost use Rattle.service_lock.specs.Units.{HasOne, with_one};
-ghost use Rattle.client_ends.specs.Clients.{SameHandles, no_amounts};
-ghost use Rattle.client_ends.specs.Taking.{grip_at, grips_at, handful, told_taken};
+ghost use Rattle.client_accounts.specs.Accounts.{AppendsOwn, SameHandles, no_amounts};
+ghost use Rattle.client_accounts.specs.Takes.{handful, told_taken, units_by};
+ghost use Rattle.client_ends.specs.Taking.{grip_at, grips_at, grips_by};
 
-use crate::empty_units::{empty, memory_fault};
 use crate::handle::Handle;
-use service_lock::{Setup, State, Units, parts, pass};
-use sm_names::{
-    BufferName, ClientId, CollectionId, MAX_BUFFERS, Reply, StepFault, Strength, has_buffer,
-};
+use client_accounts::{Account, Taken, empty, memory_fault, taken_by};
+use service_lock::{Setup, State, parts};
+use sm_names::{BufferName, ClientId, MAX_BUFFERS, NodeKey, Reply, StepFault, has_buffer};
 use std::alloc::Global;
 use std::sync::ledger::Ledger;
 
 // How many bits the set of a Take has, one for each buffer.
 pub(crate) const SET_BITS: u8 = 64;
-
-/// What a Take opened: handles of this strength on the buffers of this set.
-#[derive(Drop)]
-pub(crate) struct Taken {
-    pub collection: CollectionId,
-    pub strength: Strength,
-    pub set: u64,
-}
-
-/// What the reply says that was taken.
-pub(crate) fn taken_by(reply: &Reply) -> Option<Taken>
-    ensures { result ≡ told_taken reply.now }
-{
-    match *reply {
-        Reply::Taken {
-            collection,
-            strength,
-            set,
-        } => Some(Taken {
-            collection,
-            strength,
-            set,
-        }),
-        _ => None,
-    }
-}
 
 /// A list with room for the handles that a Take may bring, `MAX_BUFFERS` at most, once as many units can be handed
 /// out.
@@ -68,21 +43,22 @@ pub(crate) fn make_room<E: Setup, S: Ledger, W: Ledger>(
 
 // One handle, which takes its unit.
 fn hand_one<E: Setup, S: Ledger, W: Ledger>(
+    account: &mut Account<E, S, W>,
     state: &mut State<E, S, W>,
-    units: &mut Units<E, S, W>,
     client: ClientId,
     taken: &Taken,
     index: u8,
 ) -> Handle<E, S, W>
-    requires unit { HasOne taken.now.strength units.old }
+    requires unit { HasOne taken.now.strength account.old.units }
     requires part { 0 < state.old.parts }
     ensures handle { result ≡ grip_at client taken.now index }
-    ensures units { units.old ≡ with_one taken.now.strength units.new }
+    ensures units { account.old.units ≡ with_one taken.now.strength account.new.units }
+    ensures own { account.new.own ≡ account.old.own }
     ensures part { state.old ≡ with_parts 1 state.new }
 {
     match empty(state) {
         Ok(mut unit) => {
-            pass(state, units, &mut unit, taken.strength);
+            account.pass_out(state, &mut unit, taken.strength);
             let buffer = BufferName {
                 collection: taken.collection,
                 index,
@@ -93,28 +69,85 @@ fn hand_one<E: Setup, S: Ledger, W: Ledger>(
     }
 }
 
-/// Gives each handle that was taken its unit, in the order of the buffers.
-pub(crate) fn hand_out<E: Setup, S: Ledger, W: Ledger>(
+// Gives each handle that was taken its unit, in the order of the buffers.
+fn hand_out<E: Setup, S: Ledger, W: Ledger>(
+    account: &mut Account<E, S, W>,
     state: &mut State<E, S, W>,
-    units: &mut Units<E, S, W>,
     handles: &mut Vec<Handle<E, S, W>>,
     client: ClientId,
     taken: &Taken,
 )
-    requires units { SameHandles units.old
+    requires units { SameHandles account.old.units
         (handful taken.now.strength (length (indices_in taken.now.set))) }
     requires none { handles.old.items ≡ [] }
     requires room { MAX_BUFFERS ≤ vec_capacity handles.old }
     requires parts { MAX_BUFFERS ≤ state.old.parts }
-    ensures units { SameHandles units.new no_amounts }
-    ensures events { units.new.events ≡ units.old.events }
+    ensures units { SameHandles account.new.units no_amounts }
+    ensures events { account.new.units.events ≡ account.old.units.events }
+    ensures own { account.new.own ≡ account.old.own }
     ensures handles { handles.new.items ≡ grips_at client taken.now (indices_in taken.now.set) }
     ensures parts { state.new.parts + vec_len handles.new ≡ state.old.parts }
 {
     'handing: for index in 0..SET_BITS {
         if has_buffer(taken.set, index) {
-            let handle = hand_one(state, units, client, taken, index);
+            let handle = hand_one(account, state, client, taken, index);
             handles.push_reserved(handle);
         }
     }
+}
+
+// The same, if handles were taken.
+fn hand_out_if<E: Setup, S: Ledger, W: Ledger>(
+    account: &mut Account<E, S, W>,
+    state: &mut State<E, S, W>,
+    handles: &mut Vec<Handle<E, S, W>>,
+    client: ClientId,
+    taken: Option<Taken>,
+)
+    requires units { SameHandles account.old.units (units_by taken) }
+    requires none { handles.old.items ≡ [] }
+    requires room { MAX_BUFFERS ≤ vec_capacity handles.old }
+    requires parts { MAX_BUFFERS ≤ state.old.parts }
+    ensures units { SameHandles account.new.units no_amounts }
+    ensures events { account.new.units.events ≡ account.old.units.events }
+    ensures own { account.new.own ≡ account.old.own }
+    ensures handles { handles.new.items ≡ grips_by client taken }
+    ensures parts { state.new.parts + vec_len handles.new ≡ state.old.parts }
+{
+    match taken {
+        Some(taken) => hand_out(account, state, handles, client, &taken),
+        None => {}
+    }
+}
+
+/// Makes a Take, whose handles go where room was made for them.
+pub(crate) fn make_taking<E: Setup, S: Ledger, W: Ledger>(
+    account: &mut Account<E, S, W>,
+    state: &mut State<E, S, W>,
+    client: ClientId,
+    key: NodeKey,
+    handles: &mut Vec<Handle<E, S, W>>,
+) -> Result<Reply, StepFault>
+    requires none { SameHandles account.old.units no_amounts }
+    requires empty { handles.old.items ≡ [] }
+    requires room { MAX_BUFFERS ≤ vec_capacity handles.old }
+    requires parts { MAX_BUFFERS ≤ state.old.parts }
+    ensures none { SameHandles account.new.units no_amounts }
+    ensures share { IfOk result (λ r.
+        account.new.units.events ≡ account.old.units.events + 1) }
+    ensures told { IfOk result (λ r.
+        AppendsOwn account.old.own account.new.own (Asked.Take key) r) }
+    ensures kind { IfOk result (λ r. fits_call (Asked.Take key) r ≡ true) }
+    ensures handles { IfOk result (λ r.
+        handles.new.items ≡ grips_by client (told_taken r)) }
+    ensures parts { OnOk result
+        (state.new.parts + vec_len handles.new ≡ state.old.parts) }
+    ensures fault { OnErr result ((account.new ≡ account.old) × (state.new ≡ state.old)
+        × (handles.new.items ≡ [])) }
+    ensures full { (result ≡ Err Fault.HistoryFull)
+        ↔ (state.old.limits.events ≤ length state.old.history) }
+{
+    let reply = account.make_take(state, client, key)?;
+    hand_out_if(account, state, handles, client, taken_by(&reply));
+    Ok(reply)
 }

@@ -1,5 +1,6 @@
 //! What an event does to the open handles of one strength.
 ghost use Rattle.std.specs.Prelude.{◌≡◌};
+ghost use Rattle.sm_names.specs.declared.messages.Reply.{Reply};
 ghost use Rattle.service_lock.specs.Counting.{moves_by};
 
 use event_laws::amounts::{count_one, count_set};
@@ -22,61 +23,54 @@ const NO_MOVES: HandleMoves = HandleMoves {
     got: 0,
 };
 
-/// What the call that was answered so does to the handles of this strength.
+// What the call does to the handles of this strength where it is answered Done.
+fn moves_when_done(strength: Strength, call: &Call) -> HandleMoves
+    ensures { result ≡ moves_by strength call.now Reply.Done }
+{
+    match *call {
+        Call::DupHandle(_, dup) => HandleMoves {
+            opened: count_one(strength, dup),
+            ..NO_MOVES
+        },
+        Call::DropHandle(_, dropped) => HandleMoves {
+            dropped: count_one(strength, dropped),
+            ..NO_MOVES
+        },
+        Call::GiveHandle(_, given, _) => HandleMoves {
+            sent: count_one(strength, given),
+            ..NO_MOVES
+        },
+        _ => NO_MOVES,
+    }
+}
+
+/// What the call that was answered so does to the handles of this strength. Takes a constant time.
 pub(crate) fn moves_of(strength: Strength, call: &Call, reply: &Reply) -> HandleMoves
     ensures { result ≡ moves_by strength call.now reply.now }
 {
-    match *call {
-        Call::Take(_) => {
-            if let Reply::Taken {
-                collection: _,
-                strength: taken,
-                set,
-            } = *reply
-            {
-                return HandleMoves {
-                    opened: count_set(strength, taken, set),
-                    ..NO_MOVES
-                };
-            }
-        }
-        Call::DupHandle(_, dup) => {
-            if let Reply::Done = *reply {
-                return HandleMoves {
-                    opened: count_one(strength, dup),
-                    ..NO_MOVES
-                };
-            }
-        }
-        Call::DropHandle(_, dropped) => {
-            if let Reply::Done = *reply {
-                return HandleMoves {
-                    dropped: count_one(strength, dropped),
-                    ..NO_MOVES
-                };
-            }
-        }
-        Call::GiveHandle(_, given, _) => {
-            if let Reply::Done = *reply {
-                return HandleMoves {
-                    sent: count_one(strength, given),
-                    ..NO_MOVES
-                };
-            }
-        }
-        Call::Collect => {
-            if let Reply::CollectedHandle {
-                buffer: _,
-                strength: got,
-            } = *reply
-            {
-                return HandleMoves {
-                    got: count_one(strength, got),
-                    ..NO_MOVES
-                };
-            }
-        }
-        _ => {}
+    match *reply {
+        Reply::Done => moves_when_done(strength, call),
+        Reply::Taken {
+            collection: _,
+            strength: taken,
+            set,
+        } => match *call {
+            Call::Take(_) => HandleMoves {
+                opened: count_set(strength, taken, set),
+                ..NO_MOVES
+            },
+            _ => NO_MOVES,
+        },
+        Reply::CollectedHandle {
+            buffer: _,
+            strength: got,
+        } => match *call {
+            Call::Collect => HandleMoves {
+                got: count_one(strength, got),
+                ..NO_MOVES
+            },
+            _ => NO_MOVES,
+        },
+        _ => NO_MOVES,
     }
-    NO_MOVES
 }

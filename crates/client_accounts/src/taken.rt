@@ -1,0 +1,33 @@
+//! What a Take opened.
+ghost use Rattle.std.specs.Prelude.{◌≡◌};
+ghost use Rattle.client_accounts.specs.Takes.{told_taken};
+
+use sm_names::{CollectionId, Reply, Strength};
+
+/// What a Take opened: a handle of this strength on each buffer of this set. Bit i of the set stands for the
+/// collection's buffer with index i.
+#[derive(Drop)]
+pub struct Taken {
+    pub collection: CollectionId,
+    pub strength: Strength,
+    pub set: u64,
+}
+
+/// What the reply says that was taken: `None` where it is no reply of a Take that opened handles. It costs a
+/// constant.
+pub fn taken_by(reply: &Reply) -> Option<Taken>
+    ensures { result ≡ told_taken reply.now }
+{
+    match *reply {
+        Reply::Taken {
+            collection,
+            strength,
+            set,
+        } => Some(Taken {
+            collection,
+            strength,
+            set,
+        }),
+        _ => None,
+    }
+}
