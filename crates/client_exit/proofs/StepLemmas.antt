@@ -14,11 +14,12 @@ use Rattle.core_state.specs.Shown.{Shows}
 use Rattle.core_state.specs.State.{IsSame, State}
 use Rattle.core_state.specs.Steps.{Follows}
 use Rattle.core_state.specs.Theorem.{GoesOn, tracker_told}
+use Rattle.core_state.proofs.answers.Kinds.{tracker-made}
 use Rattle.client_exit.specs.Parting.{AdvancesBy}
 
 -- a call that makes no tracker is told of none
 no_tracker : (call : Call) (reply : Reply) → makes_tracker call ≡ false → fits_call call reply ≡ true → tracker_told reply ≡ None
-no_tracker call (Reply.Tracker id) none fits = both_ways (makes_tracker call) fits none
+no_tracker call (Reply.Tracker id) none fits = both_ways (makes_tracker call) (sym (tracker-made call) ∙ fits) none
 no_tracker call _ none fits = refl
 
 -- the core goes on by an event

@@ -62,8 +62,8 @@ abbrev pub is_the : BufferName → Strength → BufferName → Strength → Bool
 is_the buffer strength b s = same_buffer buffer b && same_strength strength s
 
 -- the buffer is one of the set, below this index, and the strength is this one
-abbrev pub is_below : ℕ → Strength → ℕ → ℕ → BufferName → Strength → Bool
-is_below collection strength set end b s =
+abbrev pub is_in_set_below : ℕ → Strength → ℕ → ℕ → BufferName → Strength → Bool
+is_in_set_below collection strength set end b s =
     collection == b.collection && (same_strength strength s && (bit_at set b.index == 1 && nat_lt b.index end))
 
 -- from the old counts to the new the client opened one handle of each buffer and strength that pass, and no other

@@ -8,11 +8,12 @@ use Rattle.sm_names.specs.declared.outcomes.Fault.{Fault}
 use Rattle.sm_names.specs.declared.outcomes.Refusal.{Refusal}
 use Rattle.sm_names.specs.Answers.{Readings, kind_for, refused_if}
 use Rattle.sm_names.specs.Bounds.{Bound}
+use Rattle.sm_names.specs.CallRows.{is_collection, is_node, is_tracker}
 use Rattle.sm_names.specs.Sameness.{same_kind}
 use Rattle.forest_store.specs.declared.node.End.{End}
 use Rattle.core_state.specs.declared.traits.Traits.{Traits}
 use Rattle.core_state.specs.Reads.{holder_of, is_moving}
-use Rattle.core_state.specs.Traits.{is_collection, is_node, is_tracker, too_many}
+use Rattle.core_state.specs.Traits.{too_many}
 
 -- another client holds the end
 abbrev pub another_of : ℕ → End → Option Reply

@@ -76,17 +76,17 @@ abbrev pub node_named : State → Call → Option Node
 node_named s call = option_and_then (node_at s.forest) (key_of call)
 
 -- the client with this number, if it joined
-abbrev pub client_in : State → ℕ → Option Client
-client_in s client = find (λ (c : Client). c.id == client) s.clients
+abbrev pub joined_client : State → ℕ → Option Client
+joined_client s client = find (λ (c : Client). c.id == client) s.clients
 
 -- what answers read of the state
 abbrev pub readings_of : State → Readings
 readings_of s = record {
   events = s.events;
   has_joined = λ client. list_any (λ (c : Client). c.id == client) s.clients;
-  is_shut = λ client. option_map_or (λ (c : Client). c.shut) (client_in s client) false;
+  is_shut = λ client. option_map_or (λ (c : Client). c.shut) (joined_client s client) false;
   end_of = end_in s;
-  waiting = λ client. option_map_or (λ (c : Client). c.waiting) (client_in s client) [];
+  waiting = λ client. option_map_or (λ (c : Client). c.waiting) (joined_client s client) [];
   open_of = of s.holds;
   open_total = total s.holds;
   was_given = given s.forest;

@@ -80,8 +80,8 @@ kept_ids marks = map (λ (b : Birth). b.collection)
     (filter (λ (b : Birth). is_none b.parent && is_kept_collection marks b.collection) (reverse (births marks)))
 
 -- the nodes that are kept, as the marks make them: collection by collection, the earliest first, and by birth within each
-abbrev pub kept_nodes : Timeline → List Node
-kept_nodes marks = flat_map (λ id. filter (λ n. not (is_over n)) (nodes_after marks id)) (kept_ids marks)
+abbrev pub all_kept_nodes : Timeline → List Node
+all_kept_nodes marks = flat_map (λ id. filter (λ n. not (is_over n)) (nodes_after marks id)) (kept_ids marks)
 
 -- the pages of the buffers of all kept collections but this one: collection by collection, the earliest first, and by index within each
 abbrev pub pages_beside_after : ℕ → Timeline → ℕ → List Interval

@@ -1,7 +1,10 @@
--- What each call names and makes, said once for each call, and that it is what the rules of answers say.
-use Rattle.std.specs.Prelude.{◌≡◌, ℕ, Bool, true, false, Option, Some, None}
+-- What each call names and makes, as the table of calls says, and that it is what the rules of answers say.
+use Rattle.std.specs.Prelude.{◌≡◌, ℕ, Bool, false, Option, Some, None}
 use Rattle.std.specs.List.{list_any}
 use Rattle.std.specs.Option.{option_map_or}
+use Rattle.sm_names.specs.declared.call_parts.Argument.{Argument}
+use Rattle.sm_names.specs.declared.call_parts.Object.{Object}
+use Rattle.sm_names.specs.declared.call_parts.Product.{Product}
 use Rattle.sm_names.specs.declared.keys.BufferName.{BufferName}
 use Rattle.sm_names.specs.declared.keys.Kind.{Kind}
 use Rattle.sm_names.specs.declared.keys.NodeKey.{NodeKey}
@@ -10,50 +13,45 @@ use Rattle.sm_names.specs.declared.messages.Call.{Call}
 use Rattle.sm_names.specs.declared.messages.Reply.{Reply}
 use Rattle.sm_names.specs.Answers.{Readings, acquires, has_none, is_at_limit, kind_for, makes_collection, makes_node, makes_tracker, no_handle, receiver_of, strength_of, too_many_handles}
 use Rattle.sm_names.specs.Bounds.{Bound}
+use Rattle.sm_names.specs.CallRows.{argument_client, is_acquired, is_collection, is_node, is_tracker, parts_of, row_for, target_kind}
 use Rattle.sm_names.specs.Timelines.{key_of}
-use Rattle.core_state.specs.declared.traits.Made.{Made}
 use Rattle.core_state.specs.declared.traits.Named.{Named}
 use Rattle.core_state.specs.declared.traits.Traits.{Traits}
 
--- ---- the table
+-- ---- the traits
 
--- made on no node and no buffer
-abbrev pub of_nothing : Made → Traits
-of_nothing makes = record { on = Named.Nothing; to = None; kind = None; makes = makes }
+-- a call on nothing
+abbrev pub made_on_nothing : Product → Traits
+made_on_nothing makes = record { on = Named.Nothing; to = None; kind = None; makes = makes }
 
--- made on a node, and maybe on one kind of end alone
-abbrev pub of_end : NodeKey → Option Kind → Made → Traits
-of_end key kind makes = record { on = Named.End key; to = None; kind = kind; makes = makes }
+-- a call on an end, and maybe on one kind of end alone
+abbrev pub made_on_end : NodeKey → Option Kind → Product → Traits
+made_on_end key kind makes = record { on = Named.End key; to = None; kind = kind; makes = makes }
 
--- made on a handle
-abbrev pub of_handle : BufferName → Strength → Made → Traits
-of_handle buffer strength makes = record { on = Named.Handle buffer strength; to = None; kind = None; makes = makes }
+-- a call on a handle
+abbrev pub made_on_handle : BufferName → Strength → Product → Traits
+made_on_handle buffer strength makes = record { on = Named.Handle buffer strength; to = None; kind = None; makes = makes }
 
--- what the call names and makes
+-- the strength of the handle that a call with this argument is made on: where it says none, the handle is weak
+abbrev pub handle_strength : Argument ℕ → Strength
+handle_strength (Argument.Strength strength) = strength
+handle_strength (Argument.Gift strength to) = strength
+handle_strength _ = Strength.Weak
+
+-- what a call is made on
+abbrev pub made_on : Object NodeKey BufferName → Argument ℕ → Named
+made_on Object.Nothing argument = Named.Nothing
+made_on (Object.Node key) argument = Named.End key
+made_on (Object.Buffer buffer) argument = Named.Handle buffer (handle_strength argument)
+
+-- what the call names and makes, as the table of calls says
 abbrev pub traits_of : Call → Traits
-traits_of Call.Join = of_nothing Made.Nothing
-traits_of Call.Shut = of_nothing Made.Nothing
-traits_of Call.OpenRoot = of_nothing Made.Collection
-traits_of (Call.Duplicate key) = of_end key (Some Kind.Token) Made.Node
-traits_of (Call.AttachToken key) = of_end key (Some Kind.Collection) Made.Node
-traits_of (Call.Sync key) = of_end key None Made.Nothing
-traits_of (Call.Give key to) = record (of_end key None Made.Nothing) { to = Some to }
-traits_of Call.Collect = of_nothing Made.Nothing
-traits_of (Call.Bind key) = of_end key (Some Kind.Token) Made.Nothing
-traits_of (Call.SetDispensable key) = of_end key (Some Kind.Token) Made.Nothing
-traits_of (Call.SetWeak key) = of_end key None Made.Nothing
-traits_of (Call.SetWeakOk key children) = of_end key None Made.Nothing
-traits_of (Call.SetConstraints key demand) = of_end key (Some Kind.Collection) Made.Nothing
-traits_of (Call.Check key) = of_end key (Some Kind.Collection) Made.Nothing
-traits_of (Call.Take key) = of_end key (Some Kind.Collection) Made.Handles
-traits_of (Call.Release key) = of_end key None Made.Nothing
-traits_of (Call.Close key) = of_end key None Made.Nothing
-traits_of (Call.DupHandle buffer strength) = of_handle buffer strength Made.Handles
-traits_of (Call.DropHandle buffer strength) = of_handle buffer strength Made.Nothing
-traits_of (Call.GiveHandle buffer strength to) = record (of_handle buffer strength Made.Nothing) { to = Some to }
-traits_of (Call.TrackNode key) = of_end key None Made.Tracker
-traits_of (Call.TrackLifetime key most) = of_end key (Some Kind.Collection) Made.Tracker
-traits_of (Call.TrackWeak buffer) = of_handle buffer Strength.Weak Made.Tracker
+traits_of call = record {
+  on = made_on (parts_of call).object (parts_of call).argument;
+  to = argument_client (parts_of call).argument;
+  kind = target_kind (row_for call).on;
+  makes = (row_for call).brings;
+}
 
 -- ---- what is read of it
 
@@ -69,38 +67,6 @@ none_open r client Named.Nothing = None
 none_open r client (Named.End key) = None
 none_open r client (Named.Handle buffer strength) = has_none (r.open_of client buffer strength)
 
--- a node is made, alone or with its collection
-abbrev pub is_node : Made → Bool
-is_node Made.Nothing = false
-is_node Made.Collection = true
-is_node Made.Node = true
-is_node Made.Tracker = false
-is_node Made.Handles = false
-
--- a collection is made
-abbrev pub is_collection : Made → Bool
-is_collection Made.Nothing = false
-is_collection Made.Collection = true
-is_collection Made.Node = false
-is_collection Made.Tracker = false
-is_collection Made.Handles = false
-
--- a tracker is made
-abbrev pub is_tracker : Made → Bool
-is_tracker Made.Nothing = false
-is_tracker Made.Collection = false
-is_tracker Made.Node = false
-is_tracker Made.Tracker = true
-is_tracker Made.Handles = false
-
--- an end or a tracker is made for the caller
-abbrev pub is_acquired : Made → Bool
-is_acquired Made.Nothing = false
-is_acquired Made.Collection = true
-is_acquired Made.Node = true
-is_acquired Made.Tracker = true
-is_acquired Made.Handles = false
-
 -- the handles that would be opened on this are too many
 abbrev pub too_many_on : Bound → Readings → Named → Bool
 too_many_on limits r Named.Nothing = false
@@ -109,12 +75,9 @@ too_many_on limits r (Named.End key) =
 too_many_on limits r (Named.Handle buffer strength) = is_at_limit limits r strength buffer
 
 -- the handles that would be opened are too many
-abbrev pub too_many : Bound → Readings → Named → Made → Bool
-too_many limits r on Made.Nothing = false
-too_many limits r on Made.Collection = false
-too_many limits r on Made.Node = false
-too_many limits r on Made.Tracker = false
-too_many limits r on Made.Handles = too_many_on limits r on
+abbrev pub too_many : Bound → Readings → Named → Product → Bool
+too_many limits r on Product.Handles = too_many_on limits r on
+too_many limits r on _ = false
 
 -- ---- the law
 

@@ -120,7 +120,7 @@ abbrev pub AreUpTo : ℕ → Forest → Type 0
 AreUpTo most f = (c : Collection) → In c f.collections → c.id ≤ most
 
 -- what holds of the fields of each core
-pub record IsWhole (pool : Holdings) (limits : Bound) (events : ℕ) (clients : List Client) (forest : Forest) (holds : Counts)
+pub record IsWholeCore (pool : Holdings) (limits : Bound) (events : ℕ) (clients : List Client) (forest : Forest) (holds : Counts)
     (trackers : TrackerTable) : Type 0 where
   pub sized : (1 ≤ pool.size) × (pool.size ≤ 1048576)
   pub pages : IsPoolOf pool forest

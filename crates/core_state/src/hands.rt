@@ -3,7 +3,7 @@ ghost use Rattle.std.specs.Prelude.{◌≡◌, ◌+◌, ◌<◌, ◌≤◌, OnOk
 ghost use Rattle.std.specs.Int.{bit_at};
 ghost use Rattle.sm_names.specs.Marks.{Called};
 ghost use Rattle.buffer_holds.specs.Counts.{Counts, of, total};
-ghost use Rattle.core_state.specs.Hands.{MayMove, MovesHandles, CanUndo, Opens, CanOpen, collects_handle, is_the, is_below, takes_handle_room};
+ghost use Rattle.core_state.specs.Hands.{MayMove, MovesHandles, CanUndo, Opens, CanOpen, collects_handle, is_the, is_in_set_below, takes_handle_room};
 ghost use Rattle.core_state.specs.State.{counts_of};
 
 use buffer_holds::{HoldFault, Holds, Spot};
@@ -129,7 +129,7 @@ fn open_all(
 ) -> Result<(), NoMemory>
     requires { CanOpen holds.old collection strength set }
     ensures ok { OnOk result (Opens holds.old holds.new client
-        (is_below collection strength set 64)) }
+        (is_in_set_below collection strength set 64)) }
     ensures err { OnErr result (counts_of holds.new ≡ counts_of holds.old) }
     ensures limit { holds.new.limit ≡ holds.old.limit }
 {
@@ -156,7 +156,7 @@ fn close_below(
 )
     requires { end ≤ 64 }
     ensures counts { (before : Counts) →
-        Opens before holds.old client (is_below collection strength set end) →
+        Opens before holds.old client (is_in_set_below collection strength set end) →
         counts_of holds.new ≡ counts_of before }
     ensures limit { holds.new.limit ≡ holds.old.limit }
 {
@@ -181,8 +181,8 @@ fn open_at(
         total holds.old (record { collection = collection; index = index }) strength
         < holds.old.limit }
     ensures ok { OnOk result ((before : Counts) →
-        Opens before holds.old client (is_below collection strength set index) →
-        Opens before holds.new client (is_below collection strength set (index + 1))) }
+        Opens before holds.old client (is_in_set_below collection strength set index) →
+        Opens before holds.new client (is_in_set_below collection strength set (index + 1))) }
     ensures err { OnErr result (holds.new ≡ holds.old) }
     ensures limit { holds.new.limit ≡ holds.old.limit }
 {
@@ -209,8 +209,8 @@ fn close_at(
 )
     requires { index < 64 }
     ensures counts { (before : Counts) →
-        Opens before holds.old client (is_below collection strength set (index + 1)) →
-        Opens before holds.new client (is_below collection strength set index) }
+        Opens before holds.old client (is_in_set_below collection strength set (index + 1)) →
+        Opens before holds.new client (is_in_set_below collection strength set index) }
     ensures limit { holds.new.limit ≡ holds.old.limit }
 {
     if has_buffer(set, index) {

@@ -1,11 +1,11 @@
 //! What each call names and makes, said once.
 ghost use Rattle.std.specs.Prelude.{◌≡◌};
 ghost use Rattle.sm_names.specs.Timelines.{key_of as key_named};
-ghost use Rattle.core_state.specs.Traits.{Describes, is_acquired as is_acquired_in};
-ghost use Rattle.core_state.specs.Traits.{of_end as at_end, of_handle as at_handle};
-ghost use Rattle.core_state.specs.Traits.{of_nothing as at_nothing, traits_of as traits_in};
+ghost use Rattle.sm_names.specs.CallRows.{is_acquired as is_acquired_in};
+ghost use Rattle.core_state.specs.Traits.{Describes, made_on_end, made_on_handle};
+ghost use Rattle.core_state.specs.Traits.{made_on_nothing, traits_of as traits_in};
 
-use sm_names::{BufferName, Call, ClientId, Kind, NodeKey, Strength};
+use sm_names::{BufferName, Call, ClientId, Kind, NodeKey, Product, Strength};
 
 /// What a call is made on.
 #[derive(Clone, Copy, Debug)]
@@ -13,17 +13,6 @@ pub enum Named {
     Nothing,
     End(NodeKey),
     Handle(BufferName, Strength),
-}
-
-/// What a call makes or opens, if there is a limit to it.
-#[derive(Clone, Copy, Debug)]
-pub enum Made {
-    Nothing,
-    /// A collection, and its root.
-    Collection,
-    Node,
-    Tracker,
-    Handles,
 }
 
 /// What a call names and makes.
@@ -34,24 +23,24 @@ pub struct Traits {
     pub to: Option<ClientId>,
     /// The only kind of end on which it is made, if there is one.
     pub kind: Option<Kind>,
-    pub makes: Made,
+    pub makes: Product,
 }
 
 /// Whether an end or a tracker is made for the caller.
 #[inline(always)]
-pub fn is_acquired(makes: Made) -> bool
+pub fn is_acquired(makes: Product) -> bool
     ensures { result ≡ is_acquired_in makes }
 {
     match makes {
-        Made::Collection | Made::Node | Made::Tracker => true,
-        Made::Nothing | Made::Handles => false,
+        Product::Collection | Product::Node | Product::Tracker => true,
+        Product::Nothing | Product::Client | Product::Parcel | Product::Handles => false,
     }
 }
 
 // A call on no node and no buffer.
 #[inline(always)]
-fn of_nothing(makes: Made) -> Traits
-    ensures { result ≡ at_nothing makes }
+fn of_nothing(makes: Product) -> Traits
+    ensures { result ≡ made_on_nothing makes }
 {
     Traits {
         on: Named::Nothing,
@@ -63,8 +52,8 @@ fn of_nothing(makes: Made) -> Traits
 
 // A call on a node, and maybe on one kind of end alone.
 #[inline(always)]
-fn of_end(key: NodeKey, kind: Option<Kind>, makes: Made) -> Traits
-    ensures { result ≡ at_end key kind makes }
+fn of_end(key: NodeKey, kind: Option<Kind>, makes: Product) -> Traits
+    ensures { result ≡ made_on_end key kind makes }
 {
     Traits {
         on: Named::End(key),
@@ -76,8 +65,8 @@ fn of_end(key: NodeKey, kind: Option<Kind>, makes: Made) -> Traits
 
 // A call on a handle.
 #[inline(always)]
-fn of_handle(buffer: BufferName, strength: Strength, makes: Made) -> Traits
-    ensures { result ≡ at_handle buffer strength makes }
+fn of_handle(buffer: BufferName, strength: Strength, makes: Product) -> Traits
+    ensures { result ≡ made_on_handle buffer strength makes }
 {
     Traits {
         on: Named::Handle(buffer, strength),
@@ -95,31 +84,37 @@ pub fn traits_of(call: &Call) -> Traits
 {
     let (token, collection) = (Some(Kind::Token), Some(Kind::Collection));
     match *call {
-        Call::Join | Call::Shut | Call::Collect => of_nothing(Made::Nothing),
-        Call::OpenRoot => of_nothing(Made::Collection),
+        Call::Join => of_nothing(Product::Client),
+        Call::Shut => of_nothing(Product::Nothing),
+        Call::Collect => of_nothing(Product::Parcel),
+        Call::OpenRoot => of_nothing(Product::Collection),
         Call::Sync(key)
         | Call::SetWeak(key)
         | Call::SetWeakOk(key, _)
         | Call::Release(key)
-        | Call::Close(key) => of_end(key, None, Made::Nothing),
+        | Call::Close(key) => of_end(key, None, Product::Nothing),
         Call::Give(key, to) => Traits {
             to: Some(to),
-            ..of_end(key, None, Made::Nothing)
+            ..of_end(key, None, Product::Nothing)
         },
-        Call::Bind(key) | Call::SetDispensable(key) => of_end(key, token, Made::Nothing),
-        Call::SetConstraints(key, _) | Call::Check(key) => of_end(key, collection, Made::Nothing),
-        Call::Duplicate(key) => of_end(key, token, Made::Node),
-        Call::AttachToken(key) => of_end(key, collection, Made::Node),
-        Call::Take(key) => of_end(key, collection, Made::Handles),
-        Call::TrackNode(key) => of_end(key, None, Made::Tracker),
-        Call::TrackLifetime(key, _) => of_end(key, collection, Made::Tracker),
-        Call::DupHandle(buffer, strength) => of_handle(buffer, strength, Made::Handles),
-        Call::DropHandle(buffer, strength) => of_handle(buffer, strength, Made::Nothing),
+        Call::Bind(key) | Call::SetDispensable(key) => of_end(key, token, Product::Nothing),
+        Call::SetConstraints(key, _) | Call::Check(key) => of_end(
+            key,
+            collection,
+            Product::Nothing,
+        ),
+        Call::Duplicate(key) => of_end(key, token, Product::Node),
+        Call::AttachToken(key) => of_end(key, collection, Product::Node),
+        Call::Take(key) => of_end(key, collection, Product::Handles),
+        Call::TrackNode(key) => of_end(key, None, Product::Tracker),
+        Call::TrackLifetime(key, _) => of_end(key, collection, Product::Tracker),
+        Call::DupHandle(buffer, strength) => of_handle(buffer, strength, Product::Handles),
+        Call::DropHandle(buffer, strength) => of_handle(buffer, strength, Product::Nothing),
         Call::GiveHandle(buffer, strength, to) => Traits {
             to: Some(to),
-            ..of_handle(buffer, strength, Made::Nothing)
+            ..of_handle(buffer, strength, Product::Nothing)
         },
-        Call::TrackWeak(buffer) => of_handle(buffer, Strength::Weak, Made::Tracker),
+        Call::TrackWeak(buffer) => of_handle(buffer, Strength::Weak, Product::Tracker),
     }
 }
 

@@ -70,7 +70,7 @@ impl Model for Core {
 
     ghost Value = { State };
 
-    ghost use Rattle.core_state.specs.Whole.{IsWhole};
+    ghost use Rattle.core_state.specs.Whole.{IsWholeCore};
 
     ghost view = { λ c. record {
       pool = c.contents.pool.size;
@@ -82,7 +82,7 @@ impl Model for Core {
       trackers = c.contents.trackers;
     } };
 
-    ghost invariant = { λ c. IsWhole c.contents.pool c.limits c.events
+    ghost invariant = { λ c. IsWholeCore c.contents.pool c.limits c.events
         c.contents.clients.items c.contents.forest c.contents.holds
         c.contents.trackers };
 }

@@ -8,19 +8,19 @@ ghost use Rattle.sm_names.specs.Answers.{answers_first, closing, refused_if};
 ghost use Rattle.sm_names.specs.Answers.{unknown_client, shut_client, no_end, end_named};
 ghost use Rattle.sm_names.specs.Answers.{end_in_transit, peer_closed, wrong_kind};
 ghost use Rattle.sm_names.specs.Answers.{misuse as misuse_in, no_handle};
+ghost use Rattle.sm_names.specs.CallRows.{is_acquired as is_acquired_in};
 ghost use Rattle.sm_names.specs.Words.{first_some};
 ghost use Rattle.forest_store.specs.Nodes.{is_spent};
 ghost use Rattle.core_state.specs.Lines.{limits_of};
 ghost use Rattle.core_state.specs.Reads.{end_in, open_end_of, readings_of};
-ghost use Rattle.core_state.specs.Traits.{Describes, is_acquired as is_acquired_in};
-ghost use Rattle.core_state.specs.Traits.{key_in, too_many_on};
+ghost use Rattle.core_state.specs.Traits.{Describes, key_in, too_many_on};
 
 use crate::machine::Core;
 use crate::opening::{is_one_full, strength_of};
 use alloc_event::Node;
 use core_state::end_answers::answer_of_end;
-use core_state::traits::{Made, Named, Traits, is_acquired};
-use sm_names::{Call, ClientId, Refusal, Reply};
+use core_state::traits::{Named, Traits, is_acquired};
+use sm_names::{Call, ClientId, Product, Refusal, Reply};
 
 // ---- the clients
 
@@ -149,10 +149,10 @@ fn limit_met(core: &Core, traits: &Traits, node: Option<&Node>) -> Option<Reply>
         ≡ first_some (limits_of core.now.limits (readings_of core.now) traits.now) }
 {
     let refusal = match traits.makes {
-        Made::Collection | Made::Node if core.has_all_nodes() => Refusal::TooManyNodes,
-        Made::Collection if core.has_all_collections() => Refusal::TooManyCollections,
-        Made::Tracker if core.has_all_trackers() => Refusal::TrackersFull,
-        Made::Handles if opens_too_many(core, traits.on, node) => Refusal::TooManyHandles,
+        Product::Collection | Product::Node if core.has_all_nodes() => Refusal::TooManyNodes,
+        Product::Collection if core.has_all_collections() => Refusal::TooManyCollections,
+        Product::Tracker if core.has_all_trackers() => Refusal::TrackersFull,
+        Product::Handles if opens_too_many(core, traits.on, node) => Refusal::TooManyHandles,
         _ => {
             return None;
         }

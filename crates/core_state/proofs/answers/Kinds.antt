@@ -1,6 +1,7 @@
 -- Each reply is one that its call can have.
 use Rattle.std.proofs.Common.{ℕ, ◌≡◌, refl, ap, ◌∙◌, subst, Bool, true, false, List, [], ◌∷◌, Option, Some, None, is_some, ◌&&◌, nat_le}
 use Rattle.std.specs.Option.{option_and_then, option_map, option_map_or, unwrap_or}
+use Rattle.sm_names.specs.declared.call_parts.Answer.{Answer}
 use Rattle.sm_names.specs.declared.keys.NodeKey.{NodeKey}
 use Rattle.sm_names.specs.declared.messages.Call.{Call}
 use Rattle.sm_names.specs.declared.messages.Parcel.{Parcel}
@@ -9,28 +10,28 @@ use Rattle.sm_names.specs.declared.outcomes.Buffers.{Buffers}
 use Rattle.sm_names.specs.declared.outcomes.Fault.{Fault}
 use Rattle.sm_names.specs.declared.outcomes.Misuse.{Misuse}
 use Rattle.sm_names.specs.declared.outcomes.Refusal.{Refusal}
-use Rattle.sm_names.specs.Answers.{OpenEnd, Readings, answer, answers_first, closing, collected, effect, end_in_transit, misuse, misuse_of, misused_if, no_end, no_handle, peer_closed, refused_if, set_of, shut_client, strength_of, unknown_client, wrong_kind, makes_collection, makes_node, makes_tracker, too_many_handles}
+use Rattle.sm_names.specs.Answers.{OpenEnd, Readings, answer, answers_first, closing, collected, effect, end_in_transit, end_named, misuse, misuse_of, misused_if, no_end, no_handle, peer_closed, refused_if, shut_client, unknown_client, wrong_kind, makes_collection, makes_node, makes_tracker, too_many_handles}
 use Rattle.sm_names.specs.Bounds.{Bound}
 use Rattle.sm_names.specs.Timelines.{key_of}
 use Rattle.sm_names.specs.Words.{first_some}
 use Rattle.sm_names.proofs.RejectLaws.{Rejects, is_refusal, rejects_if, unknown_rejects, shut_rejects, no_end_rejects, in_transit_rejects, wrong_kind_rejects}
-use Rattle.core_state.specs.Kinds.{fits_call, needs_buffers}
+use Rattle.core_state.specs.Kinds.{fits_call, is_answered}
+
+-- ---- what the table says
+
+-- a call is answered with a token where it makes a node, as its row says of each
+pub token-made : (call : Call) → is_answered Answer.Token call ≡ makes_node call
+token-made Call.OpenRoot = refl
+token-made _ = refl
+
+-- and with a tracker where it makes one
+pub tracker-made : (call : Call) → is_answered Answer.Tracker call ≡ makes_tracker call
+tracker-made (Call.TrackWeak buffer) = refl
+tracker-made _ = refl
 
 -- ---- the effect
 
--- what is told of an end that is there, or not
-of_end-fits : (call : Call) (told : OpenEnd → Reply) (o : Option OpenEnd) → ((e : OpenEnd) → fits_call call (told e) ≡ true) →
-    fits_call call (option_map_or told o (Reply.Refused Refusal.NoSuchEnd)) ≡ true
-of_end-fits call told None each = refl
-of_end-fits call told (Some e) each = each e
-
--- or of buffers
-of_buffers-fits : (call : Call) (told : Buffers → Reply) (o : Option Buffers) → needs_buffers call ≡ true →
-    ((b : Buffers) → fits_call call (told b) ≡ true) → fits_call call (option_map_or told o Reply.Pending) ≡ true
-of_buffers-fits call told None waits each = waits
-of_buffers-fits call told (Some b) waits each = each b
-
--- or of a parcel
+-- what is told of a parcel: its row says that a Collect is told of one
 collected-fits : (r : Readings) (parcels : List Parcel) → fits_call Call.Collect (collected r parcels) ≡ true
 collected-fits r [] = refl
 collected-fits r (Parcel.Handle buffer strength ∷ more) = refl
@@ -41,23 +42,29 @@ collected-fits r (Parcel.End key ∷ more) = by (r.end_of key)
     by None = refl
     by (Some e) = refl
 
--- the effect of a call tells of nothing else
+-- the readings, where each end is this one
+abbrev at_end : Readings → Option OpenEnd → Readings
+at_end r end = record r { end_of = λ key. end }
+
+-- an effect on an end whose unit has these buffers or none is told by its row: it computes
+buffers-fit : (r : Readings) (client : ℕ) (new : NodeKey) (call : Call) (e : OpenEnd) (buffers : Option Buffers) →
+    fits_call call (effect (at_end r (Some (record e { buffers = buffers }))) client new call) ≡ true
+buffers-fit r client new Call.Collect e buffers =
+    collected-fits (at_end r (Some (record e { buffers = buffers }))) (r.waiting client)
+buffers-fit r client new call e None = refl
+buffers-fit r client new call e (Some b) = refl
+
+-- so is one on an end that is there or not
+end-fits : (r : Readings) (client : ℕ) (new : NodeKey) (call : Call) (end : Option OpenEnd) →
+    fits_call call (effect (at_end r end) client new call) ≡ true
+end-fits r client new Call.Collect end = collected-fits (at_end r end) (r.waiting client)
+end-fits r client new call None = refl
+end-fits r client new call (Some e) = buffers-fit r client new call e e.buffers
+
+-- so is each effect: it reads the end that the call names, and no other, but for a Collect
 effect-fits : (r : Readings) (client : ℕ) (new : NodeKey) (call : Call) → fits_call call (effect r client new call) ≡ true
-effect-fits r client new (Call.Duplicate key) =
-    of_end-fits (Call.Duplicate key) (λ e. Reply.Token new e.collection) (r.end_of key) (λ e. refl)
-effect-fits r client new (Call.AttachToken key) =
-    of_end-fits (Call.AttachToken key) (λ e. Reply.Token new e.collection) (r.end_of key) (λ e. refl)
 effect-fits r client new Call.Collect = collected-fits r (r.waiting client)
-effect-fits r client new (Call.Check key) =
-    of_end-fits (Call.Check key) (λ e. option_map_or (λ (b : Buffers). Reply.Allocated b.count b.size) e.buffers Reply.Pending)
-    (r.end_of key)
-    (λ e. of_buffers-fits (Call.Check key) (λ b. Reply.Allocated b.count b.size) e.buffers refl (λ b. refl))
-effect-fits r client new (Call.Take key) =
-    of_end-fits (Call.Take key) (λ e. option_map_or (λ (b : Buffers). Reply.Taken e.collection (strength_of e.weak) (set_of e.to_open))
-    e.buffers Reply.Pending) (r.end_of key)
-    (λ e. of_buffers-fits (Call.Take key) (λ b. Reply.Taken e.collection (strength_of e.weak) (set_of e.to_open)) e.buffers refl (λ b.
-    refl))
-effect-fits r client new _ = refl
+effect-fits r client new call = end-fits r client new call (end_named r call)
 
 -- ---- the lines
 

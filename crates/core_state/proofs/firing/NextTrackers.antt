@@ -59,10 +59,7 @@ tracker_is s marks shown limits grown client (Reply.Tracker id) (Call.TrackLifet
     answer.told in
     let n : Named marks key = named limits marks client none_key (Call.TrackLifetime key most) (Reply.Tracker id) key effective refl in
     rw (found s marks shown limits grown key n, n.found) refl
-tracker_is s marks shown limits grown client (Reply.Tracker id) (Call.TrackWeak buffer) answer = refl
 tracker_is s marks shown limits grown client reply (Call.TrackNode key) answer = refl
-tracker_is s marks shown limits grown client reply (Call.TrackLifetime key most) answer = refl
-tracker_is s marks shown limits grown client reply (Call.TrackWeak buffer) answer = refl
 tracker_is s marks shown limits grown client reply call answer = refl
 
 -- ---- the event

@@ -25,7 +25,7 @@ use Rattle.forest_store.specs.Settling.{MayChange, collection_or_new, no_key}
 use Rattle.core_state.specs.Reads.{readings_of}
 use Rattle.core_state.specs.State.{State}
 use Rattle.core_state.specs.Steps.{Work, leaves_tracker_room, work_of}
-use Rattle.core_state.specs.Whole.{IsSound, IsWhole}
+use Rattle.core_state.specs.Whole.{IsSound, IsWholeCore}
 use Rattle.core_state.proofs.collections.ById.{found_by_id}
 use Rattle.core_state.proofs.forced.Forest.{node_with_key}
 use Rattle.core_state.proofs.forced.Whole.{well}
@@ -156,7 +156,8 @@ pub record IsFitting (f : Forest) (w : Work) : Type 0 where
 
 -- that is so of what a call changes
 pub is_fitting : (pool : Holdings) (s now : State) (client : ℕ) (call : Call) (asked : Reply) → s ≡ now →
-    IsWhole pool s.limits s.events s.clients s.forest s.holds s.trackers → asked ≡ answer now.limits (readings_of now) client no_key call →
+    IsWholeCore pool s.limits s.events s.clients s.forest s.holds s.trackers →
+    asked ≡ answer now.limits (readings_of now) client no_key call →
     (w : Work) → Some w ≡ work_of now client call asked → IsFitting now.forest w
 is_fitting pool s now client call asked same whole told w work =
     subst (λ (x : State). IsFitting x.forest w) same (record {

@@ -33,7 +33,7 @@ use Rattle.core_state.specs.Reads.{end_in, open_end_of, readings_of}
 use Rattle.core_state.specs.State.{State}
 use Rattle.core_state.specs.Steps.{Work, at_node, done_to, drop_at, loss_at, work_of}
 use Rattle.core_state.specs.Tasks.{released_by, spent_by}
-use Rattle.core_state.specs.Whole.{AreUpTo, IsSound, IsWhole}
+use Rattle.core_state.specs.Whole.{AreUpTo, IsSound, IsWholeCore}
 use Rattle.core_state.proofs.forced.Dropping.{took_last}
 use Rattle.core_state.proofs.forced.Losing.{IsLosing, losing}
 use Rattle.core_state.proofs.answers.Passed.{Passed, is_closed, passed}
@@ -134,7 +134,7 @@ pub record Well (s : State) (call : Call) (asked : Reply) (w : Work) : Type 0 wh
 -- what is known of a core where the call is answered
 pub record Known (limits : Bound) (s : State) (client : ℕ) (call : Call) (asked : Reply) : Type 0 where
   pub pool : Holdings
-  pub whole : IsWhole pool limits s.events s.clients s.forest s.holds s.trackers
+  pub whole : IsWholeCore pool limits s.events s.clients s.forest s.holds s.trackers
   pub told : asked ≡ answer limits (readings_of s) client no_key call
 
 module _ (limits : Bound) (s : State) (client : ℕ) (call : Call) (asked : Reply) (known : Known limits s client call asked) where

@@ -35,7 +35,7 @@ use Rattle.forest_store.specs.Forest.{Collection, collection_at, node_at}
 use Rattle.forest_store.specs.Nodes.{is_spent, members_of}
 use Rattle.forest_store.specs.Settling.{buffer_names, no_key}
 use Rattle.core_state.specs.Hands.{CanOpen, MayMove}
-use Rattle.core_state.specs.Reads.{buffers_in, client_in, end_in, open_end_of, readings_of, to_open_in}
+use Rattle.core_state.specs.Reads.{buffers_in, joined_client, end_in, open_end_of, readings_of, to_open_in}
 use Rattle.core_state.specs.State.{Client, State, counts_of}
 use Rattle.core_state.specs.Whole.{AreSent, waiting_in}
 use Rattle.event_laws.proofs.FreeEndLaws.{passed}
@@ -116,9 +116,9 @@ first_end r (Parcel.End name ∷ more) key kind collection is = (name, more, ref
 -- the client of whom parcels are read
 pub client_of : (s : State) (client : ℕ) (p : Parcel) (more : List Parcel) → (readings_of s).waiting client ≡ p ∷ more →
     (c : Client) × In c s.clients × (c.id ≡ client) × (c.waiting ≡ p ∷ more)
-client_of s client p more is = by (client_in s client) refl is
+client_of s client p more is = by (joined_client s client) refl is
   where
-    by : (o : Option Client) → client_in s client ≡ o → option_map_or (λ (c : Client). c.waiting) o [] ≡ p ∷ more →
+    by : (o : Option Client) → joined_client s client ≡ o → option_map_or (λ (c : Client). c.waiting) o [] ≡ p ∷ more →
         (c : Client) × In c s.clients × (c.id ≡ client) × (c.waiting ≡ p ∷ more)
     by None found h = cc
     by (Some c) found h = let at = In-find (λ (c : Client). c.id == client) s.clients c found in (c, at.0, eqb-true c.id client at.1, h)

@@ -16,7 +16,7 @@ use Rattle.buffer_holds.specs.Rows.{row_at}
 use Rattle.buffer_holds.proofs.KindLemmas.{same_hold-one, same_kind-one, same_hold-refl, same_kind-refl}
 use Rattle.buffer_holds.proofs.RowLemmas.{weight_at-le-sum_by}
 use Rattle.buffer_holds.proofs.SoundLemmas.{weight_at-share}
-use Rattle.core_state.specs.Hands.{Opens, is_the, is_below}
+use Rattle.core_state.specs.Hands.{Opens, is_the, is_in_set_below}
 use Rattle.core_state.specs.State.{counts_of}
 
 -- a client's handles are at most all
@@ -136,8 +136,8 @@ module _ (collection : ℕ) (strength : Strength) (set : ℕ) where
 
   -- the buffers of the set below the next index are those below this one, and the one with this index
   next_below : (who : Bool) (index : ℕ) (b : BufferName) (s : Strength) → bit_at set index ≡ 1 →
-      one_if (who && is_below collection strength set (index + 1) b s)
-      ≡ one_if (who && is_below collection strength set index b s) + one_if (who && is_the (at index) strength b s)
+      one_if (who && is_in_set_below collection strength set (index + 1) b s)
+      ≡ one_if (who && is_in_set_below collection strength set index b s) + one_if (who && is_the (at index) strength b s)
   next_below who index b s has = split who (collection == b.collection) (same_strength strength s) (index == b.index) refl
     where
       split : (who here strong same : Bool) → (index == b.index) ≡ same →
@@ -156,7 +156,7 @@ module _ (collection : ℕ) (strength : Strength) (set : ℕ) where
 
   -- where the set has not the buffer with this index there is none more
   none_below : (index : ℕ) (b : BufferName) (s : Strength) → (bit_at set index == 1) ≡ false →
-      is_below collection strength set (index + 1) b s ≡ is_below collection strength set index b s
+      is_in_set_below collection strength set (index + 1) b s ≡ is_in_set_below collection strength set index b s
   none_below index b s lacks = ap (λ t. collection == b.collection && (same_strength strength s && t)) (by (index == b.index) refl)
     where
       by : (same : Bool) → (index == b.index) ≡ same →
@@ -168,13 +168,13 @@ module _ (collection : ℕ) (strength : Strength) (set : ℕ) where
       by false is = ap (λ t. bit_at set b.index == 1 && t) (next_lt b.index index is)
 
   -- nothing is below 0
-  nothing_below : (b : BufferName) (s : Strength) → is_below collection strength set 0 b s ≡ false
+  nothing_below : (b : BufferName) (s : Strength) → is_in_set_below collection strength set 0 b s ≡ false
   nothing_below b s =
       let never : nat_lt b.index 0 ≡ false = grind (arith, common_steps) in
       rw never (and_false (collection == b.collection) (same_strength strength s) (bit_at set b.index == 1))
 
   -- no handle was opened yet
-  pub opens_none : (holds : Counts) (client : ℕ) → Opens holds holds client (is_below collection strength set 0)
+  pub opens_none : (holds : Counts) (client : ℕ) → Opens holds holds client (is_in_set_below collection strength set 0)
   opens_none holds client = record {
     counts = λ c b s. rw (nothing_below b s) (none_more (client == c));
     parcels = λ b s. refl;
@@ -187,8 +187,8 @@ module _ (collection : ℕ) (strength : Strength) (set : ℕ) where
 
   -- one more, where the set has it
   pub opens_next : (before old new : Counts) (client index : ℕ) → bit_at set index ≡ 1 → Opens old new client (is_the (at index) strength) →
-      Opens before old client (is_below collection strength set index) →
-      Opens before new client (is_below collection strength set (index + 1))
+      Opens before old client (is_in_set_below collection strength set index) →
+      Opens before new client (is_in_set_below collection strength set (index + 1))
   opens_next before old new client index has one opened = record {
     counts = λ c b s. let d =
         one.counts c b s in let a = opened.counts c b s in let e = next_below (client == c) index b s has in omega arith;
@@ -199,12 +199,12 @@ module _ (collection : ℕ) (strength : Strength) (set : ℕ) where
   -- one less, where the set has it
   pub opens_less : (before old new : Counts) (client index : ℕ) → bit_at set index ≡ 1 → (0 < of old client (at index) strength →
       Opens new old client (is_the (at index) strength)) →
-      Opens before old client (is_below collection strength set (index + 1)) →
-      Opens before new client (is_below collection strength set index)
+      Opens before old client (is_in_set_below collection strength set (index + 1)) →
+      Opens before new client (is_in_set_below collection strength set index)
   opens_less before old new client index has closes opened =
       let strong : same_strength strength strength ≡ true =
       and_right (same_buffer (at index) (at index)) (same_strength strength strength) (same_kind-refl (kind_of (at index) strength)) in
-      let there : one_if (client == client && is_below collection strength set (index + 1) (at index) strength) ≡ 1 =
+      let there : one_if (client == client && is_in_set_below collection strength set (index + 1) (at index) strength) ≡ 1 =
       rw (eq-eqb client client refl, eq-eqb collection collection refl, strong, has, next_is index) refl in
       let one : Opens new old client (is_the (at index) strength) =
       closes (omega (arith, opened.counts client (at index) strength, there)) in
@@ -217,8 +217,8 @@ module _ (collection : ℕ) (strength : Strength) (set : ℕ) where
 
   -- none more, where the set lacks it
   pub opens_same : (before new : Counts) (client index : ℕ) → (bit_at set index == 1) ≡ false →
-      Opens before new client (is_below collection strength set index) →
-      Opens before new client (is_below collection strength set (index + 1))
+      Opens before new client (is_in_set_below collection strength set index) →
+      Opens before new client (is_in_set_below collection strength set (index + 1))
   opens_same before new client index lacks opened = record {
     counts = λ c b s. rw (none_below index b s lacks) (opened.counts c b s);
     parcels = opened.parcels;
@@ -227,19 +227,19 @@ module _ (collection : ℕ) (strength : Strength) (set : ℕ) where
 
   -- nor more from here on, where nothing is left of the set
   pub opens_on : (more : ℕ) (before new : Counts) (client index : ℕ) → set / 2 ^ index ≡ 0 →
-      Opens before new client (is_below collection strength set index) →
-      Opens before new client (is_below collection strength set (index + more))
+      Opens before new client (is_in_set_below collection strength set index) →
+      Opens before new client (is_in_set_below collection strength set (index + more))
   opens_on zero before new client index none opened =
       let same : index ≡ index + 0 = omega arith in
-      subst (λ end. Opens before new client (is_below collection strength set end)) same opened
+      subst (λ end. Opens before new client (is_in_set_below collection strength set end)) same opened
   opens_on (suc more) before new client index none opened =
       let next : (index + 1) + more ≡ index + suc more = omega arith in
-      subst (λ end. Opens before new client (is_below collection strength set end)) next
+      subst (λ end. Opens before new client (is_in_set_below collection strength set end)) next
       (opens_on more before new client (index + 1) (rest_next set index none)
       (opens_same before new client index (rest_bit set index none) opened))
 
   -- where none is left open the counts are those before
-  pub all_closed : (before new : Counts) (client : ℕ) → Opens before new client (is_below collection strength set 0) →
+  pub all_closed : (before new : Counts) (client : ℕ) → Opens before new client (is_in_set_below collection strength set 0) →
       counts_of new ≡ counts_of before
   all_closed before new client opened =
-      same_before before new new client (is_below collection strength set 0) opened (opens_none new client)
+      same_before before new new client (is_in_set_below collection strength set 0) opened (opens_none new client)

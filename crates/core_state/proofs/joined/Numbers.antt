@@ -9,7 +9,6 @@ use Rattle.sm_names.specs.Marks.{took_effect}
 use Rattle.sm_names.proofs.AnswerLaws.{took_effect_all}
 use Rattle.sm_names.proofs.RejectLaws.{is_refusal}
 use Rattle.sm_names.proofs.SamenessLaws.{both_ways}
-use Rattle.core_state.specs.Kinds.{is_join}
 use Rattle.core_state.proofs.answers.Passed.{passed}
 use Rattle.core_state.proofs.answers.Kinds.{reply-fits}
 
@@ -34,4 +33,4 @@ joined_number limits r client new Call.Join made told =
     number : Reply.Joined made ≡ Reply.Joined (r.events + 1) → made ≡ r.events + 1
     number is = cc
 joined_number limits r client new call made told =
-    both_ways (is_join call) (reply-fits limits r client new call (Reply.Joined made) told) refl
+    both_ways false (reply-fits limits r client new call (Reply.Joined made) told) refl

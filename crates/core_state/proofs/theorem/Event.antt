@@ -19,7 +19,7 @@ use Rattle.core_state.specs.State.{Client, HandleCounts, State}
 use Rattle.core_state.specs.Steps.{Work, Worked, clients_by, end_by, handles_by, tracker_by, work_of}
 use Rattle.core_state.specs.Tasks.{MayDo, Reworked, SpendsThere, with_key, released_by, spent_by, spent_in, work_in, work_on}
 use Rattle.core_state.proofs.forced.Whole.{Known, Well, well}
-use Rattle.core_state.proofs.answers.Kinds.{reply-fits}
+use Rattle.core_state.proofs.answers.Kinds.{reply-fits, token-made}
 
 -- ---- the task
 
@@ -67,7 +67,8 @@ within limits s client call asked task known work = by (work_in task) refl
 no_token : (limits : Bound) (s : State) (client : ℕ) (call : Call) (key : NodeKey) (c : ℕ) →
     Known limits s client call (Reply.Token key c) → makes_node call ≡ false → ⊥
 no_token limits s client call key c known makes =
-    both_ways (makes_node call) (reply-fits limits (readings_of s) client no_key call (Reply.Token key c) known.told) makes
+    both_ways (makes_node call)
+    (sym (token-made call) ∙ reply-fits limits (readings_of s) client no_key call (Reply.Token key c) known.told) makes
 
 -- where the call took effect, the answer is that of the effect, whatever the key
 passes : (limits : Bound) (r : Readings) (client : ℕ) (new key : NodeKey) (call : Call) (reply : Reply) →
@@ -223,7 +224,5 @@ pub same_tracker : (f : Forest) (call : Call) (asked : Reply) (key : Option Node
     tracker_by f call (with_key asked key) ≡ tracker_by f call asked
 same_tracker f call (Reply.Token first c) None = refl
 same_tracker f (Call.TrackNode node) (Reply.Token first c) (Some key) = refl
-same_tracker f (Call.TrackLifetime node most) (Reply.Token first c) (Some key) = refl
-same_tracker f (Call.TrackWeak buffer) (Reply.Token first c) (Some key) = refl
 same_tracker f _ (Reply.Token first c) (Some key) = refl
 same_tracker f call _ key = refl

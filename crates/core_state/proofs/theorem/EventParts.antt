@@ -26,7 +26,7 @@ use Rattle.core_state.specs.Reads.{open_end_of, readings_of, world_in}
 use Rattle.core_state.specs.State.{State, counts_of}
 use Rattle.core_state.specs.Steps.{Follows, GainsTracker, end_by, swept, tracker_by, with_place, without_over, work_of}
 use Rattle.core_state.specs.Tasks.{DoesSome, MayDo, Parts, Reworked, SpendsThere, TakesEffect, carried_by, with_key, end_placed, spent_by, spent_in, spent_place, takes_room, work_in, work_on}
-use Rattle.core_state.specs.Whole.{CanCarry, CanFinish, IsWhole}
+use Rattle.core_state.specs.Whole.{CanCarry, CanFinish, IsWholeCore}
 use Rattle.core_state.proofs.forced.Change.{can_finish}
 use Rattle.core_state.proofs.handles.Moves.{moved}
 use Rattle.core_state.proofs.theorem.Event.{IsKeyed, is_answer, is_keyed, may_do, same_clients, same_end, same_handles, same_tracker, worked_is}
@@ -136,7 +136,8 @@ pub record Begins (s : State) (client : ℕ) (call : Call) (asked : Reply) (task
 -- a core tells it of itself
 pub begins : (pool : Holdings) (s now : State) (client : ℕ) (call : Call) (asked : Reply) (task : Option Task)
     (tracking : Option Waiting) → s ≡ now →
-    IsWhole pool s.limits s.events s.clients s.forest s.holds s.trackers → asked ≡ answer now.limits (readings_of now) client no_key call →
+    IsWholeCore pool s.limits s.events s.clients s.forest s.holds s.trackers →
+    asked ≡ answer now.limits (readings_of now) client no_key call →
     work_in task ≡ work_of now client call asked → spent_in task ≡ spent_by call asked → IfSome task (SpendsThere now.forest) →
     IfSome task DoesSome →
     tracking ≡ tracker_by now.forest call asked → Begins s client call asked task tracking

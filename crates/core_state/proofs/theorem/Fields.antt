@@ -24,7 +24,7 @@ use Rattle.core_state.specs.Reads.{readings_of, world_in}
 use Rattle.core_state.specs.State.{Client, HandleCounts, State, counts_of}
 use Rattle.core_state.specs.Steps.{GainsTracker, Work, clients_by, handles_by, new_client, swept, with_place, without_over}
 use Rattle.core_state.specs.Tasks.{Parts, Reworked, TakesEffect, looked_in, work_in}
-use Rattle.core_state.specs.Whole.{AreOut, AreSent, AreUpTo, IsSound, IsWhole, Rise, StillWaits}
+use Rattle.core_state.specs.Whole.{AreOut, AreSent, AreUpTo, IsSound, IsWholeCore, Rise, StillWaits}
 use Rattle.core_state.proofs.theorem.EventParts.{Begins, finishes}
 use Rattle.core_state.proofs.handles.Movable.{may_move}
 use Rattle.core_state.proofs.handles.Parcels.{still_sent}
@@ -45,7 +45,8 @@ pub whole_same : (pool now : Holdings) (limits : Bound) (events : ℕ) (clients 
     (holds holds_now : Counts) (trackers trackers_now : TrackerTable) →
     clients_now ≡ clients → forest_now ≡ forest → now ≡ pool → counts_of holds_now ≡ counts_of holds → trackers_now ≡ trackers →
     holds_now.limit ≡ holds.limit →
-    IsWhole pool limits events clients forest holds trackers → IsWhole now limits events clients_now forest_now holds_now trackers_now
+    IsWholeCore pool limits events clients forest holds trackers →
+    IsWholeCore now limits events clients_now forest_now holds_now trackers_now
 whole_same pool now limits events clients clients_now forest forest_now holds holds_now trackers trackers_now same_clients same_forest
     same_pool same_counts same_trackers same_limit whole =
     let totals : total holds ≡ total holds_now = ap (λ (h : HandleCounts). h.total) (sym same_counts) in
@@ -188,13 +189,13 @@ module _ (s : State) (client : ℕ) (call : Call) (asked reply : Reply) (task : 
 
     -- the fields are whole again
     pub whole_then : (before pool : Holdings) (g : Forest) (place : Option Place) (trackers : TrackerTable) →
-        IsWhole before s.limits s.events s.clients s.forest s.holds s.trackers → pool.size ≡ before.size →
+        IsWholeCore before s.limits s.events s.clients s.forest s.holds s.trackers → pool.size ≡ before.size →
         IsPoolOf pool parts.forest → all_held g ≡ all_held parts.forest → parts.holds.limit ≡ s.holds.limit → s.events < s.limits.events →
         s.events + 1 < 2 ^ 32 →
         g.collections ≡ without_over (with_place place parts.forest).collections → SameKeys parts.forest g → IsSound g →
         ((most : ℕ) → AreUpTo most parts.forest → AreUpTo most g) →
         trackers ≡ swept (world_in parts.forest (total parts.holds)) (s.events + 1) parts.trackers →
-        IsWhole pool s.limits (s.events + 1) parts.clients g parts.holds trackers
+        IsWholeCore pool s.limits (s.events + 1) parts.clients g parts.holds trackers
     whole_then before pool g place trackers whole size pages held limit room short left keys sound up sweeps =
         let risen = clients_rise s.limits s client call asked b.known.told whole.rising whole.joined in
         let counts : counts_of parts.holds ≡ handles_by (Called client asked call) (counts_of s.holds) =

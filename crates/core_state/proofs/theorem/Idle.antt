@@ -18,7 +18,7 @@ use Rattle.core_state.specs.Reads.{readings_of, world_in}
 use Rattle.core_state.specs.State.{Client, State}
 use Rattle.core_state.specs.Steps.{Follows, client_by, clients_by, swept, tracker_by, without_over, work_of}
 use Rattle.core_state.specs.Tasks.{Parts, TakesEffect, carried_by, changes_nothing, with_key, spent_by}
-use Rattle.core_state.specs.Whole.{IsWhole, StillWaits}
+use Rattle.core_state.specs.Whole.{IsWholeCore, StillWaits}
 use Rattle.core_state.proofs.collections.ById.{all_tidy}
 use Rattle.event_laws.proofs.NumberLaws.{In-all}
 use Rattle.core_state.proofs.firing.Sweeps.{none_swept}
@@ -92,8 +92,7 @@ no_carry client _ _ idle = refl
 
 no_track : (f : Forest) (call : Call) (asked : Reply) → changes_nothing call asked ≡ true → None ≡ tracker_by f call asked
 no_track f (Call.TrackNode key) (Reply.Tracker id) idle = cc
-no_track f (Call.TrackLifetime key most) (Reply.Tracker id) idle = cc
-no_track f (Call.TrackWeak buffer) (Reply.Tracker id) idle = cc
+no_track f _ (Reply.Tracker id) idle = cc
 no_track f _ _ idle = refl
 
 no_key_told : (call : Call) (asked : Reply) → changes_nothing call asked ≡ true → asked ≡ with_key asked None
@@ -185,7 +184,7 @@ pub record Idles (s : State) (client : ℕ) (call : Call) (asked : Reply) : Type
   pub still : s.trackers ≡ swept (world_in s.forest (total s.holds)) (s.events + 1) s.trackers
 
 pub idles : (pool : Holdings) (s now : State) (client : ℕ) (call : Call) (asked : Reply) → s ≡ now →
-    IsWhole pool s.limits s.events s.clients s.forest s.holds s.trackers →
+    IsWholeCore pool s.limits s.events s.clients s.forest s.holds s.trackers →
     asked ≡ answer now.limits (readings_of now) client no_key call → changes_nothing call asked ≡ true → Idles s client call asked
 idles pool s now client call asked same whole told idle = record {
   begins = begins pool s now client call asked None None same whole told (no_work now client call asked idle) (no_spend call asked idle) tt
@@ -215,9 +214,10 @@ module _ (s : State) (client : ℕ) (call : Call) (asked : Reply) (i : Idles s c
       (record { limit = refl; keys = λ key. refl }) i.still
 
   -- and the fields are whole
-  pub idle_whole : (pool : Holdings) → IsWhole pool s.limits s.events s.clients s.forest s.holds s.trackers → s.events < s.limits.events →
+  pub idle_whole : (pool : Holdings) → IsWholeCore pool s.limits s.events s.clients s.forest s.holds s.trackers →
+      s.events < s.limits.events →
       s.events + 1 < 2 ^ 32 →
-      IsWhole pool s.limits (s.events + 1) s.clients s.forest s.holds s.trackers
+      IsWholeCore pool s.limits (s.events + 1) s.clients s.forest s.holds s.trackers
   idle_whole pool whole room short =
       whole_then s client call asked asked None None i.begins (parts_of s) i.takes pool pool s.forest None s.trackers whole refl whole.pages
       refl refl room short i.tidy

@@ -37,9 +37,6 @@ tracker_id limits s client (Call.TrackLifetime key most) (Reply.Tracker id) answ
     named limits s client no_key (Call.TrackLifetime key most) (Reply.Tracker id) key answer.told refl refl in
     rw n.at refl
 tracker_id limits s client (Call.TrackWeak buffer) (Reply.Tracker id) answer fits = refl
-tracker_id limits s client (Call.TrackNode key) reply answer fits = refl
-tracker_id limits s client (Call.TrackLifetime key most) reply answer fits = refl
-tracker_id limits s client (Call.TrackWeak buffer) reply answer fits = refl
 tracker_id limits s client call (Reply.Tracker id) answer fits = cc
 tracker_id limits s client call reply answer fits = refl
 

@@ -23,7 +23,7 @@ use Rattle.sm_names.proofs.SamenessLaws.{either_way, both_ways}
 use Rattle.event_laws.proofs.ParcelEventLaws.{stranger_waits_for_none}
 use Rattle.event_laws.proofs.WaitingLaws.{counted}
 use Rattle.forest_store.specs.Forest.{node_count}
-use Rattle.core_state.specs.Reads.{client_in, readings_of}
+use Rattle.core_state.specs.Reads.{joined_client, readings_of}
 use Rattle.core_state.specs.Shown.{IsAfter, node_after, collection_after, kept_ids, client_after, tracked_as}
 use Rattle.core_state.specs.State.{Client, State}
 use Rattle.core_state.proofs.joined.Joining.{stranger_not_shut}
@@ -58,7 +58,7 @@ module _ (s : State) (marks : Timeline) (shown : IsAfter s marks) where
       ∙ any-reverse (λ c. c == client) (clients marks))
 
   -- who joined is as the marks make it, and is found
-  client_is : (client : ℕ) → client_in s client ≡ cond (has_joined marks client) (Some (client_after marks client)) None
+  client_is : (client : ℕ) → joined_client s client ≡ cond (has_joined marks client) (Some (client_after marks client)) None
   client_is client =
       ap (find (λ (c : Client). c.id == client)) shown.clients
       ∙ (find-map (λ (c : Client). c.id == client) (client_after marks) (reverse (clients marks))
@@ -140,28 +140,7 @@ module _ (s : State) (marks : Timeline) (shown : IsAfter s marks) where
 answer-given : (limits : Bound) (r : Readings) (told : NodeKey → Bool) (client : ℕ) (new : NodeKey) (call : Call) →
     answer limits r client new call ≡ answer limits (record r { was_given = told }) client new call
 answer-given limits r told client new Call.Join = refl
-answer-given limits r told client new Call.Shut = refl
-answer-given limits r told client new Call.OpenRoot = refl
-answer-given limits r told client new (Call.Duplicate key) = refl
-answer-given limits r told client new (Call.AttachToken key) = refl
-answer-given limits r told client new (Call.Sync key) = refl
-answer-given limits r told client new (Call.Give key to) = refl
-answer-given limits r told client new Call.Collect = refl
-answer-given limits r told client new (Call.Bind key) = refl
-answer-given limits r told client new (Call.SetDispensable key) = refl
-answer-given limits r told client new (Call.SetWeak key) = refl
-answer-given limits r told client new (Call.SetWeakOk key children) = refl
-answer-given limits r told client new (Call.SetConstraints key demand) = refl
-answer-given limits r told client new (Call.Check key) = refl
-answer-given limits r told client new (Call.Take key) = refl
-answer-given limits r told client new (Call.Release key) = refl
-answer-given limits r told client new (Call.Close key) = refl
-answer-given limits r told client new (Call.DupHandle buffer strength) = refl
-answer-given limits r told client new (Call.DropHandle buffer strength) = refl
-answer-given limits r told client new (Call.GiveHandle buffer strength to) = refl
-answer-given limits r told client new (Call.TrackNode key) = refl
-answer-given limits r told client new (Call.TrackLifetime key most) = refl
-answer-given limits r told client new (Call.TrackWeak buffer) = refl
+answer-given limits r told client new _ = refl
 
 module _ (s : State) (marks : Timeline) (shown : IsAfter s marks) (bounds : Bound) (grown : Grows s.pool bounds [] marks) where
   -- so the state and the marks answer alike

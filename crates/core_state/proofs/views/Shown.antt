@@ -21,7 +21,7 @@ use Rattle.buffer_holds.specs.Counts.{of, moving_count, total}
 use Rattle.sm_names.specs.Births.{birth_of}
 use Rattle.forest_store.specs.Forest.{Collection, all_nodes, beside, collection_at, node_at, live_keys, held_by_page as held_in, pages_in}
 use Rattle.core_state.specs.Reads.{buffers_in, is_live_in, fault_in, views_of}
-use Rattle.core_state.specs.Shown.{Shows, client_after, collection_after, kept_ids, kept_nodes, node_after, pages_beside_after}
+use Rattle.core_state.specs.Shown.{Shows, client_after, collection_after, kept_ids, all_kept_nodes, node_after, pages_beside_after}
 use Rattle.core_state.specs.State.{Client, HandleCounts, State}
 use Rattle.core_state.proofs.theorem.EventCount.{events-timeline}
 use Rattle.core_state.proofs.views.Seen.{free_is}
@@ -70,7 +70,7 @@ module _ (s : State) (history : List Entry) (shows : Shows s history) where
   free_shown = free_is s (timeline s.pool history) shows.shown s.limits grown
 
   -- the kept nodes
-  pub nodes_shown : all_nodes s.forest ≡ kept_nodes (timeline s.pool history)
+  pub nodes_shown : all_nodes s.forest ≡ all_kept_nodes (timeline s.pool history)
   nodes_shown =
       ap (flat_map (λ (c : Collection). c.nodes)) shows.shown.collections
       ∙ flat_map-map (λ (c : Collection). c.nodes) (collection_after s.pool (timeline s.pool history)) (kept_ids (timeline s.pool history))

@@ -19,7 +19,7 @@ ghost use Rattle.forest_store.specs.Scenes.{IsSound as IsSoundCollection};
 ghost use Rattle.forest_store.specs.Snapshots.{collection_of};
 ghost use Rattle.buffer_holds.specs.Counts.{moving_count, of, total};
 ghost use Rattle.core_state.specs.Reads.{buffers_in, fault_in, is_live_in, views_of};
-ghost use Rattle.core_state.specs.Shown.{Shows, collection_after, kept_ids, kept_nodes, node_after, pages_beside_after};
+ghost use Rattle.core_state.specs.Shown.{Shows, collection_after, kept_ids, all_kept_nodes, node_after, pages_beside_after};
 ghost use Rattle.core_state.specs.State.{Client as ClientRow};
 
 use super::Core;
@@ -114,7 +114,7 @@ impl Core {
     pub fn nodes(&self) -> Result<Vec<Node>, NoMemory>
         ensures value { IfOk result (λ nodes. nodes.items ≡ all_nodes self.now.forest) }
         ensures shown { IfOk result (λ nodes. (history : List Entry) → Shows self.now history →
-            nodes.items ≡ kept_nodes (timeline self.now.pool history)) }
+            nodes.items ≡ all_kept_nodes (timeline self.now.pool history)) }
     {
         self.contents.forest.nodes()
     }

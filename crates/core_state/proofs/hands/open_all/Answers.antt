@@ -1,5 +1,5 @@
 use Rattle.std.proofs.Common.{◌≡◌, ◌+◌, ◌-◌, subst, arith}
-use Rattle.core_state.specs.Hands.{Opens, is_below}
+use Rattle.core_state.specs.Hands.{Opens, is_in_set_below}
 use Rattle.core_state.proofs.handles.Opening.{opens_on}
 use Rattle.core_state.proofs.hands.open_all.Goals as goal
 
@@ -11,4 +11,4 @@ returns-else-set-end-ne0-clause-ok c =
     let all : end + (64 - end) ≡ 64 = omega (arith, c.loop-end.invariant.0) in
     let opened = opens_on a.collection a.strength a.set (64 - end) a.holds.now c.loop-end.holds a.client end c.if-set-end-ne0.false
     c.loop-end.invariant.2 in
-    subst (λ most. Opens a.holds.now c.loop-end.holds a.client (is_below a.collection a.strength a.set most)) all opened
+    subst (λ most. Opens a.holds.now c.loop-end.holds a.client (is_in_set_below a.collection a.strength a.set most)) all opened

@@ -2,104 +2,64 @@ use Rattle.std.proofs.Common.{◌≡◌, ◌<◌, ◌+◌, ap, sym, ◌∙◌, N
 use Rattle.sm_names.specs.Answers.{key_told}
 use Rattle.core_state.specs.Reads.{readings_of}
 use Rattle.core_state.specs.State.{State}
-use Rattle.core_state.specs.Tasks.{Parts, with_key, end_placed}
-use Rattle.core_state.proofs.theorem.EventParts.{Begins, after, alone, begins, can_carry, finishes, lands, one, step_answers, step_follows}
+use Rattle.core_state.specs.Tasks.{with_key, end_placed}
+use Rattle.core_state.proofs.theorem.EventParts.{after, alone, can_carry, finishes, lands, one, step_answers, step_follows}
 use Rattle.core_state.proofs.answers.Kinds.{reply-fits}
 use Rattle.core_state.proofs.handles.Standing.{takes_none}
 use Rattle.core_state.proofs.theorem.GoesOn.{goes_on}
-use Rattle.core_state.proofs.theorem.Idle.{Idles, further, idle_follows, idle_whole, idles, parts_of}
+use Rattle.core_state.proofs.theorem.Idle.{further, idle_follows, idle_whole, parts_of}
 use Rattle.core_state.proofs.theorem.Leads.{untaken_after}
 use Rattle.core_state.proofs.forced.StillOut.{asks_only}
 use Rattle.core_state.proofs.theorem.Fields.{above, fits, moves, none_elsewhere, whole_same, whole_then}
+use Rattle.lifetime_core.proofs.machine.Core.take_asked.Answers.Points.{before, begun, idle, made}
 use Rattle.lifetime_core.proofs.machine.Core.take_asked.Goals as goal
+mod Points
 
 -- what the call does may be done
 pub take_effect-requires : goal.take_effect-requires
 take_effect-requires c =
-    let s : State =
-    record {
-      pool = c.self.inside.contents.pool.size;
-      limits = c.self.inside.limits;
-      events = c.self.inside.events;
-      clients = c.self.inside.contents.clients.items;
-      forest = c.self.inside.contents.forest;
-      holds = c.self.inside.contents.holds;
-      trackers = c.self.inside.contents.trackers;
-    } in
-    let b : Begins s c.args.client c.args.call.now c.args.asked.now.reply c.args.asked.now.task c.args.asked.now.tracking =
-    begins c.self.inside.contents.pool s c.args.self.now c.args.client c.args.call.now c.args.asked.now.reply c.args.asked.now.task
-    c.args.asked.now.tracking c.self.view_is c.self.invariant c.requires.reply
-    c.requires.work c.requires.spends c.requires.there c.requires.some
-    c.requires.tracking in
+    let s = before (goal.at.take_effect-requires c).After-changes_nothing in
+    let b = begun (goal.at.take_effect-requires c).After-changes_nothing in
     record {
       clients = c.self.invariant.rising;
-      handles = moves s c.args.client c.args.call.now c.args.asked.now.reply c.args.asked.now.reply c.args.asked.now.task
-          c.args.asked.now.tracking b;
+      handles = moves _ _ _ _ c.args.asked.now.reply _ _ b;
       may = b.may;
-      asks = asks_only s c.args.client c.args.call.now c.args.asked.now.reply c.args.asked.now.task b.work;
+      asks = asks_only s c.args.client _ _ _ b.work;
       out = c.self.invariant.out;
       pool = c.self.invariant.pages;
-      rising = above s c.args.client c.args.call.now c.args.asked.now.reply c.args.asked.now.reply c.args.asked.now.task
-          c.args.asked.now.tracking b;
-      room = fits s c.args.client c.args.call.now c.args.asked.now.reply c.args.asked.now.reply c.args.asked.now.task
-          c.args.asked.now.tracking b;
-      alone = alone s c.args.client c.args.call.now c.args.asked.now.reply c.args.asked.now.reply c.args.asked.now.task
-          c.args.asked.now.tracking b;
-      lands = lands s c.args.client c.args.call.now c.args.asked.now.reply c.args.asked.now.reply c.args.asked.now.task
-          c.args.asked.now.tracking b;
+      rising = above _ _ _ _ c.args.asked.now.reply _ _ b;
+      room = fits _ _ _ _ c.args.asked.now.reply _ _ b;
+      alone = alone _ _ _ _ c.args.asked.now.reply _ _ b;
+      lands = lands _ _ _ _ c.args.asked.now.reply _ _ b;
     }
 
 -- the call changes nothing, and the fields are still whole
 pub invariant_of-self : goal.invariant_of-self
 invariant_of-self c =
-    let s : State =
-    record {
-      pool = c.self.inside.contents.pool.size;
-      limits = c.self.inside.limits;
-      events = c.self.inside.events;
-      clients = c.self.inside.contents.clients.items;
-      forest = c.self.inside.contents.forest;
-      holds = c.self.inside.contents.holds;
-      trackers = c.self.inside.contents.trackers;
-    } in
-    let i : Idles s c.args.client c.args.call.now c.args.asked.now.reply =
-    idles c.self.inside.contents.pool s c.args.self.now c.args.client c.args.call.now c.args.asked.now.reply c.self.view_is c.self.invariant
-    c.requires.reply (sym c.changes_nothing.ensures ∙ c.if-changes_nothing.true) in
+    let s = before (goal.at.invariant_of-self c).After-changes_nothing in
+    let i = idle (goal.at.invariant_of-self c).After-changes_nothing c.if-changes_nothing.true in
     let next : c.next_event-self-inside.result ≡ s.events + 1 =
     c.next_event-self-inside.ensures ∙ ap (λ (x : State). x.events + 1) (sym c.self.view_is) in
-    rw next (idle_whole s c.args.client c.args.call.now c.args.asked.now.reply i c.self.inside.contents.pool c.self.invariant (omega arith)
-    (omega arith))
+    rw next (idle_whole _ _ _ _ i c.self.inside.contents.pool c.self.invariant (omega arith) (omega arith))
 
 -- and the new state follows
 pub returns-then-changes_nothing : goal.returns-then-changes_nothing
 returns-then-changes_nothing c =
-    let s : State =
-    record {
-      pool = c.self.inside.contents.pool.size;
-      limits = c.self.inside.limits;
-      events = c.self.inside.events;
-      clients = c.self.inside.contents.clients.items;
-      forest = c.self.inside.contents.forest;
-      holds = c.self.inside.contents.holds;
-      trackers = c.self.inside.contents.trackers;
-    } in
-    let i : Idles s c.args.client c.args.call.now c.args.asked.now.reply =
-    idles c.self.inside.contents.pool s c.args.self.now c.args.client c.args.call.now c.args.asked.now.reply c.self.view_is c.self.invariant
-    c.requires.reply (sym c.changes_nothing.ensures ∙ c.if-changes_nothing.true) in
+    let s = before (goal.at.returns-then-changes_nothing c).After-changes_nothing in
+    let i = idle (goal.at.returns-then-changes_nothing c).After-changes_nothing c.if-changes_nothing.true in
     let next : c.next_event-self-inside.result ≡ s.events + 1 =
     c.next_event-self-inside.ensures ∙ ap (λ (x : State). x.events + 1) (sym c.self.view_is) in
-    let answers = step_answers s c.args.client c.args.call.now c.args.asked.now.reply c.args.asked.now.reply None None i.begins (parts_of s)
-    i.takes in
-    let follows = idle_follows s c.args.client c.args.call.now c.args.asked.now.reply i in
+    let answers = step_answers _ _ _ _ _ None None i.begins (parts_of s) i.takes in
+    let follows = idle_follows _ _ _ _ i in
     let room : s.events < s.limits.events = omega arith in
     rw (next, ← c.self.view_is) (record {
       answer = answers;
       kind = reply-fits s.limits (readings_of s) c.args.client (key_told c.args.asked.now.reply) c.args.call.now c.args.asked.now.reply
           answers.told;
       after = follows;
-      goes_on = goes_on s (further s c.args.client c.args.call.now c.args.asked.now.reply i) c.args.client c.args.call.now c.args.asked.now.reply
+      goes_on = goes_on s (further _ _ _ _ i) c.args.client c.args.call.now c.args.asked.now.reply
           answers follows room;
-      untaken = untaken_after s (further s c.args.client c.args.call.now c.args.asked.now.reply i) c.args.client c.args.call.now
+      untaken = untaken_after s (further _ _ _ _ i) c.args.client c.args.call.now
           c.args.asked.now.reply answers follows;
       kept = search rules;
       equal = search rules;
@@ -122,21 +82,8 @@ invariant_of-self-in_default c =
 -- and neither a Shut nor a Collect was refused it
 pub returns-in_default : goal.returns-in_default
 returns-in_default c =
-    let s : State =
-    record {
-      pool = c.self.inside.contents.pool.size;
-      limits = c.self.inside.limits;
-      events = c.self.inside.events;
-      clients = c.self.inside.contents.clients.items;
-      forest = c.self.inside.contents.forest;
-      holds = c.self.inside.contents.holds;
-      trackers = c.self.inside.contents.trackers;
-    } in
-    let b : Begins s c.args.client c.args.call.now c.args.asked.now.reply c.args.asked.now.task c.args.asked.now.tracking =
-    begins c.self.inside.contents.pool s c.args.self.now c.args.client c.args.call.now c.args.asked.now.reply c.args.asked.now.task
-    c.args.asked.now.tracking c.self.view_is c.self.invariant c.requires.reply
-    c.requires.work c.requires.spends c.requires.there c.requires.some
-    c.requires.tracking in
+    let s = before (goal.at.returns-in_default c).After-changes_nothing in
+    let b = begun (goal.at.returns-in_default c).After-changes_nothing in
     record {
       answer = search rules;
       kind = search rules;
@@ -148,8 +95,7 @@ returns-in_default c =
       stays = search rules;
       full = search rules;
       memory = λ none.
-          let quiet = takes_none s c.args.client c.args.call.now c.args.asked.now.reply c.args.asked.now.task c.args.asked.now.tracking none
-          b.work b.tracks in
+          let quiet = takes_none s c.args.client _ _ _ _ none b.work b.tracks in
           let may = c.in_default.ensures.why in
           cc;
     }
@@ -157,96 +103,30 @@ returns-in_default c =
 -- trackers elsewhere are not due
 pub sweep-requires : goal.sweep-requires
 sweep-requires c =
-    let s : State =
-    record {
-      pool = c.self.inside.contents.pool.size;
-      limits = c.self.inside.limits;
-      events = c.self.inside.events;
-      clients = c.self.inside.contents.clients.items;
-      forest = c.self.inside.contents.forest;
-      holds = c.self.inside.contents.holds;
-      trackers = c.self.inside.contents.trackers;
-    } in
-    let b : Begins s c.args.client c.args.call.now c.args.asked.now.reply c.args.asked.now.task c.args.asked.now.tracking =
-    begins c.self.inside.contents.pool s c.args.self.now c.args.client c.args.call.now c.args.asked.now.reply c.args.asked.now.task
-    c.args.asked.now.tracking c.self.view_is c.self.invariant c.requires.reply
-    c.requires.work c.requires.spends c.requires.there c.requires.some
-    c.requires.tracking in
-    let parts : Parts =
-    record {
-      clients = c.take_effect.new.contents.clients.items;
-      forest = c.take_effect.new.contents.forest;
-      holds = c.take_effect.new.contents.holds;
-      trackers = c.take_effect.new.contents.trackers;
-    } in
+    let b = begun (goal.at.sweep-requires c).After-changes_nothing in
+    let parts = made (goal.at.sweep-requires c).In-Ok in
     record {
       elsewhere = rw (c.place_to_sweep-place.ensures, c.changed_by.ensures)
-          (none_elsewhere s c.args.client c.args.call.now c.args.asked.now.reply
-          (with_key c.args.asked.now.reply c.in-Ok.key) c.args.asked.now.task c.args.asked.now.tracking b parts c.in-Ok.ensures.ok);
+          (none_elsewhere _ _ _ _ _ _ _ b parts c.in-Ok.ensures.ok);
     }
 
 -- what is over can be forgotten
 pub put_end-requires : goal.put_end-requires
 put_end-requires c =
-    let s : State =
+    let b = begun (goal.at.put_end-requires c).After-changes_nothing in
+    let parts = made (goal.at.put_end-requires c).In-Ok in
     record {
-      pool = c.self.inside.contents.pool.size;
-      limits = c.self.inside.limits;
-      events = c.self.inside.events;
-      clients = c.self.inside.contents.clients.items;
-      forest = c.self.inside.contents.forest;
-      holds = c.self.inside.contents.holds;
-      trackers = c.self.inside.contents.trackers;
-    } in
-    let b : Begins s c.args.client c.args.call.now c.args.asked.now.reply c.args.asked.now.task c.args.asked.now.tracking =
-    begins c.self.inside.contents.pool s c.args.self.now c.args.client c.args.call.now c.args.asked.now.reply c.args.asked.now.task
-    c.args.asked.now.tracking c.self.view_is c.self.invariant c.requires.reply
-    c.requires.work c.requires.spends c.requires.there c.requires.some
-    c.requires.tracking in
-    let parts : Parts =
-    record {
-      clients = c.take_effect.new.contents.clients.items;
-      forest = c.take_effect.new.contents.forest;
-      holds = c.take_effect.new.contents.holds;
-      trackers = c.take_effect.new.contents.trackers;
-    } in
-    record {
-      task = finishes s c.args.client c.args.call.now c.args.asked.now.reply (with_key c.args.asked.now.reply c.in-Ok.key) c.args.asked.now.task
-          c.args.asked.now.tracking b parts c.in-Ok.ensures.ok;
-      carried = can_carry s c.args.client c.args.call.now c.args.asked.now.reply
-          (with_key c.args.asked.now.reply c.in-Ok.key) c.args.asked.now.task
-          c.args.asked.now.tracking b parts c.in-Ok.ensures.ok c.carried_end-carried.result c.carried_end-carried.ensures;
-      one = one s c.args.client c.args.call.now c.args.asked.now.reply (with_key c.args.asked.now.reply c.in-Ok.key) c.args.asked.now.task
-          c.args.asked.now.tracking b parts c.in-Ok.ensures.ok c.carried_end-carried.result c.carried_end-carried.ensures;
+      task = finishes _ _ _ _ _ _ _ b parts c.in-Ok.ensures.ok;
+      carried = can_carry _ _ _ _ _ _ _ b parts c.in-Ok.ensures.ok c.carried_end-carried.result c.carried_end-carried.ensures;
+      one = one _ _ _ _ _ _ _ b parts c.in-Ok.ensures.ok c.carried_end-carried.result c.carried_end-carried.ensures;
     }
 
 -- the fields are whole again
 pub invariant_of-self-2 : goal.invariant_of-self-2
 invariant_of-self-2 c =
-    let s : State =
-    record {
-      pool = c.self.inside.contents.pool.size;
-      limits = c.self.inside.limits;
-      events = c.self.inside.events;
-      clients = c.self.inside.contents.clients.items;
-      forest = c.self.inside.contents.forest;
-      holds = c.self.inside.contents.holds;
-      trackers = c.self.inside.contents.trackers;
-    } in
-    let b : Begins s c.args.client c.args.call.now c.args.asked.now.reply c.args.asked.now.task c.args.asked.now.tracking =
-    begins c.self.inside.contents.pool s c.args.self.now c.args.client c.args.call.now c.args.asked.now.reply c.args.asked.now.task
-    c.args.asked.now.tracking c.self.view_is c.self.invariant c.requires.reply
-    c.requires.work c.requires.spends c.requires.there c.requires.some
-    c.requires.tracking in
-    let parts : Parts =
-    record {
-      clients = c.take_effect.new.contents.clients.items;
-      forest = c.take_effect.new.contents.forest;
-      holds = c.take_effect.new.contents.holds;
-      trackers = c.take_effect.new.contents.trackers;
-    } in
-    whole_then s c.args.client c.args.call.now c.args.asked.now.reply (with_key c.args.asked.now.reply c.in-Ok.key) c.args.asked.now.task
-    c.args.asked.now.tracking b parts c.in-Ok.ensures.ok c.self.inside.contents.pool c.take_effect.new.contents.pool
+    let b = begun (goal.at.invariant_of-self-2 c).After-changes_nothing in
+    let parts = made (goal.at.invariant_of-self-2 c).In-Ok in
+    whole_then _ _ _ _ _ _ _ b parts c.in-Ok.ensures.ok c.self.inside.contents.pool c.take_effect.new.contents.pool
     c.put_end.new.forest
     (end_placed c.args.asked.now.task c.carried_end-carried.result) c.sweep.new.trackers c.self.invariant c.take_effect.ensures.size
     c.take_effect.ensures.pool c.put_end.ensures.held c.take_effect.ensures.limit
@@ -256,32 +136,13 @@ invariant_of-self-2 c =
 -- the reply is the answer, and the new state follows
 pub returns : goal.returns
 returns c =
-    let s : State =
-    record {
-      pool = c.self.inside.contents.pool.size;
-      limits = c.self.inside.limits;
-      events = c.self.inside.events;
-      clients = c.self.inside.contents.clients.items;
-      forest = c.self.inside.contents.forest;
-      holds = c.self.inside.contents.holds;
-      trackers = c.self.inside.contents.trackers;
-    } in
-    let b : Begins s c.args.client c.args.call.now c.args.asked.now.reply c.args.asked.now.task c.args.asked.now.tracking =
-    begins c.self.inside.contents.pool s c.args.self.now c.args.client c.args.call.now c.args.asked.now.reply c.args.asked.now.task
-    c.args.asked.now.tracking c.self.view_is c.self.invariant c.requires.reply
-    c.requires.work c.requires.spends c.requires.there c.requires.some
-    c.requires.tracking in
-    let parts : Parts =
-    record {
-      clients = c.take_effect.new.contents.clients.items;
-      forest = c.take_effect.new.contents.forest;
-      holds = c.take_effect.new.contents.holds;
-      trackers = c.take_effect.new.contents.trackers;
-    } in
-    let answers = step_answers s c.args.client c.args.call.now c.args.asked.now.reply (with_key c.args.asked.now.reply c.in-Ok.key)
-    c.args.asked.now.task c.args.asked.now.tracking b parts c.in-Ok.ensures.ok in
-    let follows = step_follows s c.args.client c.args.call.now c.args.asked.now.reply (with_key c.args.asked.now.reply c.in-Ok.key)
-    c.args.asked.now.task c.args.asked.now.tracking b parts c.in-Ok.ensures.ok c.carried_end-carried.result
+    let s = before (goal.at.returns c).After-changes_nothing in
+    let b = begun (goal.at.returns c).After-changes_nothing in
+    let parts = made (goal.at.returns c).In-Ok in
+    let next = after _ _ _ _ _ _ _ b parts c.in-Ok.ensures.ok c.carried_end-carried.result c.carried_end-carried.ensures
+    c.put_end.new.forest c.sweep.new.trackers c.put_end.ensures.collections c.put_end.ensures.keys c.sweep.ensures in
+    let answers = step_answers _ _ _ _ _ _ _ b parts c.in-Ok.ensures.ok in
+    let follows = step_follows _ _ _ _ _ _ _ b parts c.in-Ok.ensures.ok c.carried_end-carried.result
     c.carried_end-carried.ensures
     c.put_end.new.forest c.sweep.new.trackers
     c.put_end.ensures.collections c.put_end.ensures.keys c.sweep.ensures in
@@ -291,15 +152,9 @@ returns c =
       kind = reply-fits s.limits (readings_of s) c.args.client (key_told (with_key c.args.asked.now.reply c.in-Ok.key)) c.args.call.now
           (with_key c.args.asked.now.reply c.in-Ok.key) answers.told;
       after = rw (← c.self.view_is, c.take_effect.ensures.size) follows;
-      goes_on = rw (← c.self.view_is, c.take_effect.ensures.size) (goes_on s (after s c.args.client c.args.call.now c.args.asked.now.reply
-          (with_key c.args.asked.now.reply c.in-Ok.key) c.args.asked.now.task c.args.asked.now.tracking b parts c.in-Ok.ensures.ok
-          c.carried_end-carried.result c.carried_end-carried.ensures c.put_end.new.forest c.sweep.new.trackers c.put_end.ensures.collections
-          c.put_end.ensures.keys c.sweep.ensures) c.args.client c.args.call.now (with_key c.args.asked.now.reply c.in-Ok.key) answers follows
-          room);
-      untaken = rw (← c.self.view_is) (untaken_after s (after s c.args.client c.args.call.now c.args.asked.now.reply
-          (with_key c.args.asked.now.reply c.in-Ok.key) c.args.asked.now.task c.args.asked.now.tracking b parts c.in-Ok.ensures.ok
-          c.carried_end-carried.result c.carried_end-carried.ensures c.put_end.new.forest c.sweep.new.trackers c.put_end.ensures.collections
-          c.put_end.ensures.keys c.sweep.ensures) c.args.client c.args.call.now (with_key c.args.asked.now.reply c.in-Ok.key) answers
+      goes_on = rw (← c.self.view_is, c.take_effect.ensures.size) (goes_on s next c.args.client c.args.call.now
+          (with_key c.args.asked.now.reply c.in-Ok.key) answers follows room);
+      untaken = rw (← c.self.view_is) (untaken_after s next c.args.client c.args.call.now (with_key c.args.asked.now.reply c.in-Ok.key) answers
           follows);
       kept = search rules;
       equal = search rules;

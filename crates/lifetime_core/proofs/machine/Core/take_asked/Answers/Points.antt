@@ -1,0 +1,41 @@
+-- What the goals of `take_asked` have in common: the state before the call, and what the call begins with.
+use Rattle.std.proofs.Common.{◌≡◌, true, sym, ◌∙◌}
+use Rattle.core_state.specs.State.{State}
+use Rattle.core_state.specs.Tasks.{Parts}
+use Rattle.core_state.proofs.theorem.EventParts.{Begins, begins}
+use Rattle.core_state.proofs.theorem.Idle.{Idles, idles}
+use Rattle.lifetime_core.proofs.machine.Core.take_asked.Goals.{After-changes_nothing, In-Ok}
+
+-- the state before the call
+abbrev pub before : After-changes_nothing → State
+before c = record {
+  pool = c.self.inside.contents.pool.size;
+  limits = c.self.inside.limits;
+  events = c.self.inside.events;
+  clients = c.self.inside.contents.clients.items;
+  forest = c.self.inside.contents.forest;
+  holds = c.self.inside.contents.holds;
+  trackers = c.self.inside.contents.trackers;
+}
+
+-- the call begins there with what was asked: each premise is one of the function's
+pub begun : (c : After-changes_nothing) →
+    Begins (before c) c.args.client c.args.call.now c.args.asked.now.reply c.args.asked.now.task c.args.asked.now.tracking
+begun c = begins c.self.inside.contents.pool (before c) c.args.self.now c.args.client c.args.call.now c.args.asked.now.reply
+    c.args.asked.now.task c.args.asked.now.tracking c.self.view_is c.self.invariant c.requires.reply c.requires.work
+    c.requires.spends c.requires.there c.requires.some c.requires.tracking
+
+-- a call that changes nothing leaves the state, but for the number of events: the test is what the definition says
+pub idle : (c : After-changes_nothing) → c.changes_nothing.result ≡ true →
+    Idles (before c) c.args.client c.args.call.now c.args.asked.now.reply
+idle c nothing = idles c.self.inside.contents.pool (before c) c.args.self.now c.args.client c.args.call.now
+    c.args.asked.now.reply c.self.view_is c.self.invariant c.requires.reply (sym c.changes_nothing.ensures ∙ nothing)
+
+-- what the effect of the call left
+abbrev pub made : In-Ok → Parts
+made c = record {
+  clients = c.take_effect.new.contents.clients.items;
+  forest = c.take_effect.new.contents.forest;
+  holds = c.take_effect.new.contents.holds;
+  trackers = c.take_effect.new.contents.trackers;
+}
