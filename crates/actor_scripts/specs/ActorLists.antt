@@ -63,12 +63,12 @@ line_effect so_far (Line.Poll client tracker) = step_effect so_far client (Line.
 line_effect so_far (Line.Show view) = None
 
 -- one more line is counted
-abbrev pub counted : Reading → Reading
-counted so_far = record so_far { lines = so_far.lines + 1 }
+abbrev pub line_counted : Reading → Reading
+line_counted so_far = record so_far { lines = so_far.lines + 1 }
 
 -- what the bytes of one more line lead to; a bad line leads nowhere
 abbrev pub after_line : Reading → List ℕ → Option Reading
-after_line so_far bytes = option_map counted (option_and_then (line_effect so_far) (line_of bytes))
+after_line so_far bytes = option_map line_counted (option_and_then (line_effect so_far) (line_of bytes))
 
 -- what these lines lead to, or the number of the first bad one
 abbrev pub after_lines : Reading → List (List ℕ) → Result Reading ℕ

@@ -6,6 +6,7 @@ use Rattle.sm_names.specs.declared.rules.TheConstants.{MAX_BUFFERS}
 use Rattle.sm_names.specs.declared.call_parts.Argument.{Argument}
 use Rattle.sm_names.specs.declared.call_parts.Object.{Object as Named}
 use Rattle.sm_names.specs.declared.call_parts.Product.{Product}
+use Rattle.sm_names.specs.declared.call_parts.Spends.{Spends}
 use Rattle.sm_names.specs.declared.call_parts.Target.{Target}
 use Rattle.sm_names.specs.declared.keys.BufferName.{BufferName}
 use Rattle.sm_names.specs.declared.keys.Kind.{Kind}
@@ -208,16 +209,16 @@ abbrev pub with_objects : Known → List Object → Known
 with_objects state [] = state
 with_objects state (object ∷ objects) = with_objects (with_object state object) objects
 
+-- a call that spends so, answered so, spends what it is made on
+abbrev pub spends_by : Spends → Reply → Bool
+spends_by Spends.IfDone Reply.Done = true
+spends_by Spends.IfMet Reply.Done = true
+spends_by Spends.IfMet (Reply.PeerClosed cause origin) = true
+spends_by _ _ = false
+
 -- the call was answered so that the object on which it was made is gone
 abbrev pub spends_object : Call → Reply → Bool
-spends_object (Call.Bind key) Reply.Done = true
-spends_object (Call.Give key to) Reply.Done = true
-spends_object (Call.Close key) Reply.Done = true
-spends_object (Call.Release key) Reply.Done = true
-spends_object (Call.Release key) (Reply.PeerClosed cause origin) = true
-spends_object (Call.DropHandle buffer strength) Reply.Done = true
-spends_object (Call.GiveHandle buffer strength to) Reply.Done = true
-spends_object _ _ = false
+spends_object call reply = spends_by (row_for call).spends reply
 
 -- the handle that the call lets go
 abbrev pub handle_of : Call → Option (BufferName × Strength)

@@ -1,8 +1,10 @@
 //! What replies tell.
 ghost use Rattle.std.specs.Prelude.{◌≡◌};
-ghost use Rattle.actor_scripts.specs.ActorStates.{handle_of as handle_told, new_place as place_told, new_tracker as tracker_told, spends_object as is_spending};
+ghost use Rattle.actor_scripts.specs.ActorStates.{handle_of as handle_told, new_place as place_told, new_tracker as tracker_told, spends_by as spends_told, spends_object as is_spending};
 
-use sm_names::{BufferName, Call, CollectionId, NodeKey, Reply, Strength, TrackerId};
+use sm_names::{
+    BufferName, Call, CollectionId, NodeKey, Reply, Spends, Strength, TrackerId, parts_of, row_of,
+};
 
 /// The node that the reply tells of, and its collection.
 pub(crate) fn new_place(reply: &Reply) -> Option<(NodeKey, CollectionId)>
@@ -29,20 +31,22 @@ pub(crate) fn new_tracker(reply: &Reply) -> Option<TrackerId>
     }
 }
 
-/// Whether the object on which the call was made is gone.
+// Whether a call that spends so, answered so, spends what it is made on.
+fn spends_by(spends: Spends, reply: &Reply) -> bool
+    ensures { result ≡ spends_told spends reply.now }
+{
+    match (spends, *reply) {
+        (Spends::IfDone | Spends::IfMet, Reply::Done) => true,
+        (Spends::IfMet, Reply::PeerClosed { .. }) => true,
+        _ => false,
+    }
+}
+
+/// Whether the object on which the call was made is gone, as the table of calls says.
 pub(crate) fn spends_object(call: &Call, reply: &Reply) -> bool
     ensures { result ≡ is_spending call.now reply.now }
 {
-    match (*call, *reply) {
-        (Call::Bind(_), Reply::Done) => true,
-        (Call::Give(_, _), Reply::Done) => true,
-        (Call::Close(_), Reply::Done) => true,
-        (Call::Release(_), Reply::Done) => true,
-        (Call::Release(_), Reply::PeerClosed { .. }) => true,
-        (Call::DropHandle(_, _), Reply::Done) => true,
-        (Call::GiveHandle(_, _, _), Reply::Done) => true,
-        _ => false,
-    }
+    spends_by(row_of(parts_of(*call).kind).spends, reply)
 }
 
 /// The handle that the call lets go.

@@ -20,7 +20,7 @@ use Rattle.actor_scripts.specs.declared.object.StepCall.{StepCall}
 use Rattle.actor_scripts.specs.declared.object.Object.{Object}
 use Rattle.actor_scripts.specs.ActorStates.{FitsThere, bound, emptied, new_objects, handles_from, on_of, spends_object, object_at}
 use Rattle.client_actors.specs.declared.new_objects.NewObjects.{NewObjects}
-use Rattle.client_actors.specs.ObjectCalls.{NewHeldBy, Did, SlotHeldBy, full, handle_seen, lies, slots_for, there, objects_in}
+use Rattle.client_actors.specs.ObjectCalls.{NewHeldBy, Did, SlotHeldBy, filled_by, handle_seen, lies, slots_for, there, objects_in}
 use Rattle.client_actors.specs.ActorSteps.{MakesCall, Asks, last_objects_first, objects_in_slots, pairs_of, part_of}
 
 -- ---- one slot
@@ -84,7 +84,7 @@ asks_there old new call told items slot on on' (Err fault) so lt is did =
     (did.0, map-set there items slot on' ∙ (ap (λ o. set (lies items) slot (there o)) did.1 ∙ set_same items slot on lt is))
 
 -- the slots of what was brought
-handles_seen : (E S W : Type 0) (hs : List Grip) → lies {E = E} {S = S} {W = W} (map full hs) ≡ map Some (map handle_seen hs)
+handles_seen : (E S W : Type 0) (hs : List Grip) → lies {E = E} {S = S} {W = W} (map filled_by hs) ≡ map Some (map handle_seen hs)
 handles_seen E S W [] = refl
 handles_seen E S W (h ∷ hs) = ap (λ l. Some (handle_seen h) ∷ l) (handles_seen E S W hs)
 
@@ -98,14 +98,15 @@ brought_seen (NewObjects.Tracker tracker) = refl
 as_many : {E S W : Type 0} (brought : NewObjects E S W) → length (slots_for brought) ≡ length (objects_in brought)
 as_many NewObjects.Nothing = refl
 as_many (NewObjects.One end) = refl
-as_many (NewObjects.Handles handles) = length-map handles.items full ∙ sym (length-map handles.items handle_seen)
+as_many (NewObjects.Handles handles) = length-map handles.items filled_by ∙ sym (length-map handles.items handle_seen)
 as_many (NewObjects.Tracker tracker) = refl
 
 -- they are the client's
 full_owned : {E S W : Type 0} (client : ℕ) (hs : List Grip) → All (λ (h : Grip). h.client ≡ client) hs →
-    All (SlotHeldBy {E = E} {S = S} {W = W} client) (map full hs)
+    All (SlotHeldBy {E = E} {S = S} {W = W} client) (map filled_by hs)
 full_owned client [] all = All-nil (SlotHeldBy client)
-full_owned client (h ∷ hs) all = All-cons (SlotHeldBy client) (full h) (map full hs) (All-head (λ (x : Grip). x.client ≡ client) h hs all)
+full_owned client (h ∷ hs) all =
+    All-cons (SlotHeldBy client) (filled_by h) (map filled_by hs) (All-head (λ (x : Grip). x.client ≡ client) h hs all)
     (full_owned client hs (All-tail (λ (x : Grip). x.client ≡ client) h hs all))
 
 pub stored_owned : {E S W : Type 0} (client : ℕ) (slots : List (Option (End E S W))) (brought : NewObjects E S W) → All (SlotHeldBy client) slots →
@@ -114,7 +115,7 @@ stored_owned client slots NewObjects.Nothing all of = All-append (SlotHeldBy cli
 stored_owned client slots (NewObjects.One end) all of =
     All-append (SlotHeldBy client) slots (Some end ∷ []) all (All-cons (SlotHeldBy client) (Some end) [] of (All-nil (SlotHeldBy client)))
 stored_owned client slots (NewObjects.Handles handles) all of =
-    All-append (SlotHeldBy client) slots (map full handles.items) all (full_owned client handles.items of)
+    All-append (SlotHeldBy client) slots (map filled_by handles.items) all (full_owned client handles.items of)
 stored_owned client slots (NewObjects.Tracker tracker) all of = All-append (SlotHeldBy client) slots [] all (All-nil (SlotHeldBy client))
 
 -- with what it brought

@@ -89,7 +89,7 @@ Falters old new asked before after =
     ((new ≡ old) × (after ≡ before)) ⊎ MakesCall old new asked before after
 
 -- each list has room for so many objects more
-pub record HasRoom {E S W : Type 0} (held : Held E S W) (more : ℕ) : Type 0 where
+pub record ListsHaveRoom {E S W : Type 0} (held : Held E S W) (more : ℕ) : Type 0 where
   pub tokens : vec_len held.tokens + more ≤ vec_capacity held.tokens
   pub collections : vec_len held.collections + more ≤ vec_capacity held.collections
   pub handles : vec_len held.handles + more ≤ vec_capacity held.handles
@@ -98,7 +98,7 @@ pub record HasRoom {E S W : Type 0} (held : Held E S W) (more : ℕ) : Type 0 wh
 pub record ActorInvariant {E S W : Type 0} (actor : Actor E S W) : Type 0 where
   pub owned : All (SlotHeldBy actor.client.id) actor.slots.items
   pub none : held_in actor.held ≡ sorted []
-  pub room : HasRoom actor.held (vec_len actor.slots)
+  pub room : ListsHaveRoom actor.held (vec_len actor.slots)
 
 -- its slots are as it knows them
 abbrev pub IsAware : {E S W : Type 0} → Actor E S W → Type 0

@@ -2,8 +2,10 @@
 use Rattle.std.specs.Prelude.{ℕ, ◌≡◌, Bool, true, false, if◌then◌else◌, List, [], ◌∷◌, map, Option, Some, None, ⊤}
 use Rattle.std.specs.List.{All}
 use Rattle.std.specs.Option.{option_map}
+use Rattle.sm_names.specs.declared.call_parts.Spends.{Spends as Spending}
 use Rattle.sm_names.specs.declared.messages.Call.{Call}
 use Rattle.sm_names.specs.declared.messages.Reply.{Reply}
+use Rattle.sm_names.specs.CallRows.{row_for}
 use Rattle.client_ends.specs.declared.held.End.{End}
 use Rattle.client_ends.specs.Clients.{Grip, Made, Seen, Tag}
 use Rattle.client_ends.specs.Collecting.{end_client}
@@ -66,15 +68,15 @@ pub record Spent {E S W : Type 0} (old new : Seen) (call : Call) (before : Optio
   pub objects : objects_in brought ≡ new_objects before call reply
   pub owned : NewHeldBy old.id brought
 
+-- a call that spends so may spend what it is made on
+abbrev pub spends_ever : Spending → Bool
+spends_ever Spending.Never = false
+spends_ever Spending.IfDone = true
+spends_ever Spending.IfMet = true
+
 -- the call may spend what it is made on
 abbrev pub may_spend : Call → Bool
-may_spend (Call.Bind key) = true
-may_spend (Call.Give key to) = true
-may_spend (Call.Close key) = true
-may_spend (Call.Release key) = true
-may_spend (Call.DropHandle buffer strength) = true
-may_spend (Call.GiveHandle buffer strength to) = true
-may_spend _ = false
+may_spend call = spends_ever (row_for call).spends
 
 -- one event was made of a call that leaves what it is made on, and brought this
 pub record Lent {E S W : Type 0} (old new : Seen) (call : Call) (brought : NewObjects E S W) : Type 0 where
@@ -96,12 +98,12 @@ abbrev pub lies : {E S W : Type 0} → List (Option (End E S W)) → List (Optio
 lies slots = map there slots
 
 -- a slot in which a handle lies
-abbrev pub full : {E S W : Type 0} → Grip → Option (End E S W)
-full handle = Some (End.Handle handle)
+abbrev pub filled_by : {E S W : Type 0} → Grip → Option (End E S W)
+filled_by handle = Some (End.Handle handle)
 
 -- the slots of what was brought
 abbrev pub slots_for : {E S W : Type 0} → NewObjects E S W → List (Option (End E S W))
 slots_for NewObjects.Nothing = []
 slots_for (NewObjects.One end) = Some end ∷ []
-slots_for (NewObjects.Handles handles) = map full handles.items
+slots_for (NewObjects.Handles handles) = map filled_by handles.items
 slots_for (NewObjects.Tracker tracker) = []

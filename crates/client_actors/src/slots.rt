@@ -2,32 +2,34 @@
 ghost use Rattle.std.specs.Prelude.{◌≡◌, ◌+◌, ◌≤◌, ◌++◌, Some, None, false, true, map, MatchResult, vec_len, vec_capacity};
 ghost use Rattle.actor_scripts.specs.ActorStates.{FitsThere, FitsObject};
 ghost use Rattle.client_ends.specs.Collecting.{end_client};
-ghost use Rattle.client_actors.specs.ObjectCalls.{Did, SlotHeldBy, Lent, full, may_spend, there, object_seen};
+ghost use Rattle.client_actors.specs.ObjectCalls.{Did, SlotHeldBy, Lent, filled_by, may_spend, spends_ever as ever_spends, there, object_seen};
 
 use crate::lent_objects::{on_collection, on_handle, on_token};
 use crate::new_objects::NewObjects;
 use crate::spent_objects::spend;
 use client_ends::{Client, End, Handle, Kept, Why};
 use service_lock::{Service, Setup};
-use sm_names::{Call, StepFault};
+use sm_names::{Call, Spends, StepFault, parts_of, row_of};
 use std::alloc::Global;
 use std::mem;
 use std::sync::Wait;
 use std::sync::ledger::Ledger;
 
-// Whether the call may spend what it is made on.
+// Whether a call that spends so may spend what it is made on.
+fn spends_ever(spends: Spends) -> bool
+    ensures { result ≡ ever_spends spends }
+{
+    match spends {
+        Spends::Never => false,
+        Spends::IfDone | Spends::IfMet => true,
+    }
+}
+
+// Whether the call may spend what it is made on, as the table of calls says.
 fn is_spending(call: &Call) -> bool
     ensures { result ≡ may_spend call.now }
 {
-    match *call {
-        Call::Bind(_) => true,
-        Call::Give(_, _) => true,
-        Call::Close(_) => true,
-        Call::Release(_) => true,
-        Call::DropHandle(_, _) => true,
-        Call::GiveHandle(_, _, _) => true,
-        _ => false,
-    }
+    spends_ever(row_of(parts_of(*call).kind).spends)
 }
 
 // A call that leaves the object.
@@ -148,7 +150,7 @@ pub(crate) fn store_handles<E: Setup, S: Ledger, W: Ledger>(
     handles: Vec<Handle<E, S, W>>,
 )
     requires { vec_len slots.old + vec_len handles ≤ vec_capacity slots.old }
-    ensures objects { slots.new.items ≡ slots.old.items ++ map full handles.items }
+    ensures objects { slots.new.items ≡ slots.old.items ++ map filled_by handles.items }
     ensures room { vec_capacity slots.new ≡ vec_capacity slots.old }
     ensures len { vec_len slots.new ≡ vec_len slots.old + vec_len handles }
 {

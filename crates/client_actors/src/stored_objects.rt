@@ -2,7 +2,7 @@
 ghost use Rattle.std.specs.Prelude.{◌≡◌, ◌+◌, ◌≤◌, ◌++◌, length, OnOk, vec_len, vec_capacity};
 ghost use Rattle.client_parting.specs.Partings.{held_in, sorted};
 ghost use Rattle.client_parting.specs.Stacks.{both};
-ghost use Rattle.client_actors.specs.ActorSteps.{HasRoom, last_objects_first};
+ghost use Rattle.client_actors.specs.ActorSteps.{ListsHaveRoom, last_objects_first};
 ghost use Rattle.client_actors.specs.ObjectCalls.{slots_for};
 
 use crate::new_objects::NewObjects;
@@ -20,12 +20,12 @@ pub(crate) fn make_room<E: Setup, S: Ledger, W: Ledger>(
     slots: &mut Vec<Option<End<E, S, W>>>,
     held: &mut Held<E, S, W>,
 ) -> Result<(), StepFault>
-    requires { HasRoom held.old (vec_len slots.old) }
+    requires { ListsHaveRoom held.old (vec_len slots.old) }
     ensures slots { (slots.new.items ≡ slots.old.items) × (vec_len slots.new ≡ vec_len slots.old) }
     ensures held { held_in held.new ≡ held_in held.old }
-    ensures room { HasRoom held.new (vec_len slots.new) }
+    ensures room { ListsHaveRoom held.new (vec_len slots.new) }
     ensures more { OnOk result ((vec_len slots.new + MOST ≤ vec_capacity slots.new)
-        × HasRoom held.new (vec_len slots.new + MOST)) }
+        × ListsHaveRoom held.new (vec_len slots.new + MOST)) }
 {
     if slots.reserve(MOST).is_err() {
         return Err(StepFault::NoMemory);
@@ -62,7 +62,7 @@ pub(crate) fn unload<E: Setup, S: Ledger, W: Ledger>(
     slots: Vec<Option<End<E, S, W>>>,
     held: &mut Held<E, S, W>,
 )
-    requires { HasRoom held.old (vec_len slots) }
+    requires { ListsHaveRoom held.old (vec_len slots) }
     ensures { held_in held.new ≡ both (held_in held.old) (sorted (last_objects_first slots.items)) }
 {
     let mut slots = slots;

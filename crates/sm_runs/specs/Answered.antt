@@ -11,8 +11,8 @@ use Rattle.sm_names.specs.Marks.{Entry}
 use Rattle.sm_runs.specs.Words.{asks, buffer, key}
 
 -- a token is checked, and a collection bound
-abbrev pub wrong_kind : List Entry
-wrong_kind =
+abbrev pub wrong_kinds : List Entry
+wrong_kinds =
     (0, Call.Join, Reply.Joined 1)
     ∷ (1, Call.OpenRoot, Reply.Token (key 0) 2)
     ∷ (1, Call.Check (key 0), Reply.Refused Refusal.WrongKind)

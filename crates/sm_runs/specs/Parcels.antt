@@ -132,8 +132,8 @@ handles_counted =
     ∷ []
 
 -- client 1 is shut, gives its handle to client 2, and asks for a child
-abbrev pub shut_client : List Entry
-shut_client =
+abbrev pub handle_of_a_shut_client : List Entry
+handle_of_a_shut_client =
     (0, Call.Join, Reply.Joined 1)
     ∷ (0, Call.Join, Reply.Joined 2)
     ∷ (1, Call.OpenRoot, Reply.Token (key 0) 3)

@@ -8,16 +8,16 @@ ghost use Rattle.sm_names.specs.Legality.{IsLegal};
 ghost use Rattle.sm_names.specs.Timelines.{timeline};
 ghost use Rattle.sm_names.specs.Views.{live_nodes};
 ghost use Rattle.sm_runs.specs.Words.{answered_instead, full, key};
-ghost use Rattle.sm_runs.specs.Answered.{wrong_kind, second_constraints, late_weak, late_weak_ok, weak_takes_early, misuse_before_limits, nodes_full, collections_full, trackers_full, handles_full, history_full, gift_of_a_spent_end, strangers, given_to_nobody, forged_keys};
+ghost use Rattle.sm_runs.specs.Answered.{wrong_kinds, second_constraints, late_weak, late_weak_ok, weak_takes_early, misuse_before_limits, nodes_full, collections_full, trackers_full, handles_full, history_full, gift_of_a_spent_end, strangers, given_to_nobody, forged_keys};
 ghost use Rattle.sm_runs.specs.Failures.{end_spent};
 
 /// A call for an end of the other kind is refused and changes nothing.
 pub fn kinds_are_told_apart()
-    ensures legal { IsLegal 16 full wrong_kind }
-    ensures not_pending { IsLegal 16 full (answered_instead Reply.Pending (take 3 wrong_kind)) → ⊥ }
-    ensures not_done { IsLegal 16 full (answered_instead Reply.Done (take 5 wrong_kind)) → ⊥ }
+    ensures legal { IsLegal 16 full wrong_kinds }
+    ensures not_pending { IsLegal 16 full (answered_instead Reply.Pending (take 3 wrong_kinds)) → ⊥ }
+    ensures not_done { IsLegal 16 full (answered_instead Reply.Done (take 5 wrong_kinds)) → ⊥ }
     ensures not_allocated { IsLegal 16 full
-        (answered_instead (Reply.Allocated 0 1) wrong_kind) → ⊥ }
+        (answered_instead (Reply.Allocated 0 1) wrong_kinds) → ⊥ }
 {}
 
 /// Constraints that are sent twice, SetWeak after constraints and SetWeakOk after a Take fail the

@@ -11,7 +11,7 @@ ghost use Rattle.sm_names.specs.Marks.{events};
 ghost use Rattle.sm_runs.specs.Words.{answered_instead, at, buffer, full, key};
 ghost use Rattle.sm_names.specs.Timelines.{timeline};
 ghost use Rattle.sm_names.specs.Views.{held_by_page};
-ghost use Rattle.sm_runs.specs.Parcels.{end_given_to_itself, end_given_to_another, parcel_of_a_lost_node, lost_in_transit, two_parcels, handle_travels, handle_to_a_shut_client, handles_counted, shut_client};
+ghost use Rattle.sm_runs.specs.Parcels.{end_given_to_itself, end_given_to_another, parcel_of_a_lost_node, lost_in_transit, two_parcels, handle_travels, handle_to_a_shut_client, handles_counted, handle_of_a_shut_client};
 
 /// An end that was given is nobody's to use until it is collected.
 pub fn an_end_waits_in_a_parcel()
@@ -100,17 +100,17 @@ pub fn a_handle_travels()
 
 /// A shut client still drops, gives and doubles what it has; it acquires nothing more.
 pub fn a_shut_client_lets_go()
-    ensures legal { IsLegal 16 full shut_client }
+    ensures legal { IsLegal 16 full handle_of_a_shut_client }
     ensures not_refused_1 { IsLegal 16 full
-        (answered_instead (Reply.Refused Refusal.ClientShut) (take 10 shut_client)) → ⊥ }
+        (answered_instead (Reply.Refused Refusal.ClientShut) (take 10 handle_of_a_shut_client)) → ⊥ }
     ensures not_refused_2 { IsLegal 16 full
-        (answered_instead (Reply.Refused Refusal.ClientShut) (take 11 shut_client)) → ⊥ }
+        (answered_instead (Reply.Refused Refusal.ClientShut) (take 11 handle_of_a_shut_client)) → ⊥ }
     ensures not_refused_3 { IsLegal 16 full
-        (answered_instead (Reply.Refused Refusal.ClientShut) (take 12 shut_client)) → ⊥ }
+        (answered_instead (Reply.Refused Refusal.ClientShut) (take 12 handle_of_a_shut_client)) → ⊥ }
     ensures not_token { IsLegal 16 full
-        (answered_instead (Reply.Token (key 99) 3) (take 13 shut_client)) → ⊥ }
+        (answered_instead (Reply.Token (key 99) 3) (take 13 handle_of_a_shut_client)) → ⊥ }
     ensures not_refused_4 { IsLegal 16 full
-        (answered_instead (Reply.Refused Refusal.ClientShut) (take 15 shut_client)) → ⊥ }
+        (answered_instead (Reply.Refused Refusal.ClientShut) (take 15 handle_of_a_shut_client)) → ⊥ }
     ensures not_collection { IsLegal 16 full
-        (answered_instead (Reply.Collected (key 0) Kind.Collection 3) shut_client) → ⊥ }
+        (answered_instead (Reply.Collected (key 0) Kind.Collection 3) handle_of_a_shut_client) → ⊥ }
 {}
