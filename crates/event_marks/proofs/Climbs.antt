@@ -13,7 +13,7 @@ use Rattle.forest_store.specs.Nodes.{above_among, is_of}
 use Rattle.forest_store.specs.Questions.{is_below, is_live_node, lives_below}
 use Rattle.forest_store.specs.Scenes.{are_distinct}
 use Rattle.forest_store.proofs.lists.Lookups.{same_key-swap}
-use Rattle.event_marks.specs.KeySets.{climbed, climbs_into}
+use Rattle.event_marks.specs.KeySets.{climbed_past, climbs_into}
 use mathlib.Core.List.{reverse_aux}
 
 -- a climb from the one key, through these, the newest first, comes to the other
@@ -38,7 +38,7 @@ passes_by : (older : List Node) (n : Node) (at key : NodeKey) → same_key n.key
 passes_by older n at key other = rw other refl
 
 -- climbs stay where they stand
-stays : (n : Node) (stood : NodeKey → Bool) (key : NodeKey) → stood key ≡ true → climbed n stood key ≡ true
+stays : (n : Node) (stood : NodeKey → Bool) (key : NodeKey) → stood key ≡ true → climbed_past n stood key ≡ true
 stays n stood key h = from (is_live_node n || stood n.key)
   where
     own : (same_key n.key key || (option_map_or (λ parent. same_key parent key) n.parent false || stood key)) ≡ true
@@ -49,12 +49,12 @@ stays n stood key h = from (is_live_node n || stood n.key)
     from false = h
 
 -- one that goes on from the node stands at its own key
-at_own : (n : Node) (stood : NodeKey → Bool) → (is_live_node n || stood n.key) ≡ true → climbed n stood n.key ≡ true
+at_own : (n : Node) (stood : NodeKey → Bool) → (is_live_node n || stood n.key) ≡ true → climbed_past n stood n.key ≡ true
 at_own n stood goes = rw goes (or_left _ _ (same_key-refl n.key))
 
 -- and at its parent
 at_parent : (n : Node) (stood : NodeKey → Bool) (parent : NodeKey) → (is_live_node n || stood n.key) ≡ true → n.parent ≡ Some parent →
-    climbed n stood parent ≡ true
+    climbed_past n stood parent ≡ true
 at_parent n stood parent goes is = rw (goes, is) (or_right _ _ (or_left _ _ (same_key-refl parent)))
 
 -- what climbs through these come to, where they stand so
@@ -63,9 +63,9 @@ Reaching xs stood key = (at : NodeKey) → stood at ≡ true → passes xs at ke
 
 -- what a climb that goes on from the node passes is come to
 reached_from : (older : List Node) (n : Node) (stood : NodeKey → Bool) (key : NodeKey) → (is_live_node n || stood n.key) ≡ true →
-    Reaching older (climbed n stood) key → (o : Option NodeKey) → n.parent ≡ o →
+    Reaching older (climbed_past n stood) key → (o : Option NodeKey) → n.parent ≡ o →
     (same_key key n.key || list_any (same_key key) (option_map_or (λ parent. parent ∷ above_among older parent) o [])) ≡ true →
-    climbs_into older (climbed n stood) key ≡ true
+    climbs_into older (climbed_past n stood) key ≡ true
 reached_from older n stood key goes on None is passed =
     let own : same_key key n.key ≡ true = elim (or_cases (same_key key n.key) false passed) [ inl e ↦ e | inr bad ↦ cc ] in
     on n.key (at_own n stood goes) (or_left (same_key key n.key) (list_any (same_key key) (above_among older n.key)) own)
@@ -84,9 +84,10 @@ reached (n ∷ older) stood key at stands passed =
     elim (either_way (same_key n.key at)) [
       | inl e ↦
           let is : n.key ≡ at = same_key-true n.key at e in
-          reached_from older n stood key (or_right (is_live_node n) (stood n.key) (ap stood is ∙ stands)) (reached older (climbed n stood) key) n.parent refl
+          reached_from older n stood key (or_right (is_live_node n) (stood n.key) (ap stood is ∙ stands))
+          (reached older (climbed_past n stood) key) n.parent refl
           (sym (passes_here older n key) ∙ ap (λ (k : NodeKey). passes (n ∷ older) k key) is ∙ passed)
-      | inr e ↦ reached older (climbed n stood) key at (stays n stood at stands) (sym (passes_by older n at key e) ∙ passed)
+      | inr e ↦ reached older (climbed_past n stood) key at (stays n stood at stands) (sym (passes_by older n at key e) ∙ passed)
     ]
 
 -- no key of these lies above one that none of them has
@@ -120,10 +121,11 @@ from_live : (xs : List Node) (stood : NodeKey → Bool) (m : Node) (key : NodeKe
     passes xs m.key key ≡ true → climbs_into xs stood key ≡ true
 from_live [] stood m key distinct on live passed = absurd on
 from_live (n ∷ older) stood m key distinct (inl is) live passed =
-    reached_from older n stood key (or_left (is_live_node n) (stood n.key) (ap is_live_node (sym is) ∙ live)) (reached older (climbed n stood) key) n.parent refl
+    reached_from older n stood key (or_left (is_live_node n) (stood n.key) (ap is_live_node (sym is) ∙ live))
+    (reached older (climbed_past n stood) key) n.parent refl
     (sym (passes_here older n key) ∙ ap (λ (x : Node). passes (n ∷ older) x.key key) (sym is) ∙ passed)
 from_live (n ∷ older) stood m key distinct (inr on) live passed =
-    from_live older (climbed n stood) m key (rest_distinct n older distinct) on live
+    from_live older (climbed_past n stood) m key (rest_distinct n older distinct) on live
     (sym (passes_by older n m.key key (older_by n m older distinct on)) ∙ passed)
 
 -- why a key is come to: a climb from where one stood passes it, or one from a live node
@@ -192,7 +194,7 @@ only : (xs : List Node) (stood : NodeKey → Bool) (key : NodeKey) → are_disti
     Comes xs stood key
 only [] stood key distinct h = inl (key, h, passes_own key)
 only (n ∷ older) stood key distinct h =
-    elim (only older (climbed n stood) key (rest_distinct n older distinct) h) [
+    elim (only older (climbed_past n stood) key (rest_distinct n older distinct) h) [
       | inl c ↦ from_stood n older stood c.0 key distinct c.2 (is_live_node n || stood n.key) refl c.1
       | inr c ↦ inr (c.0, inr c.1, c.2, passes_by older n c.0.key key (older_by n c.0 older distinct c.1) ∙ c.3)
     ]

@@ -28,7 +28,7 @@ use Rattle.core_state.specs.Steps.{Work, at_collection, at_node, leaves_tracker_
 use Rattle.core_state.proofs.forced.Dropping.{took_last}
 use Rattle.core_state.proofs.forced.Losing.{losing, no_work}
 use Rattle.event_marks.specs.declared.told.Before.{Before}
-use Rattle.event_marks.specs.Marks.{Settles, Stage, StagesIn, StagesOf, own_stage}
+use Rattle.event_marks.specs.Marks.{SettlesInStages, Stage, StagesIn, StagesOf, own_stage}
 use Rattle.event_marks.specs.Moments.{IsBefore, IsCopied}
 use Rattle.event_marks.proofs.Sound.{changed_sound}
 
@@ -148,13 +148,13 @@ unwalked old new reply (Some w) absent = absurd absent
 -- what a walk made of equal things are the stages of the change
 pub stages_walked : (pool size : ℕ) (handles : Handles) (others beyond : List Interval) (change : Change) (c from start left : Collection)
     (own st : List Stage) → pool ≡ size → others ≡ beyond → from ≡ start → own ≡ own_stage change c →
-    Settles pool handles others from left own st → StagesOf size handles beyond change c start st
+    SettlesInStages pool handles others from left own st → StagesOf size handles beyond change c start st
 stages_walked pool size handles others beyond change c from start left own st pools pages starts owns by = (
   left,
-  subst (λ (p : ℕ). Settles p handles beyond start left (own_stage change c) st) pools
-      (subst (λ (is : List Interval). Settles pool handles is start left (own_stage change c) st) pages
-      (subst (λ (x : Collection). Settles pool handles others x left (own_stage change c) st) starts
-      (subst (λ (o : List Stage). Settles pool handles others from left o st) owns by))),
+  subst (λ (p : ℕ). SettlesInStages p handles beyond start left (own_stage change c) st) pools
+      (subst (λ (is : List Interval). SettlesInStages pool handles is start left (own_stage change c) st) pages
+      (subst (λ (x : Collection). SettlesInStages pool handles others x left (own_stage change c) st) starts
+      (subst (λ (o : List Stage). SettlesInStages pool handles others from left o st) owns by))),
 )
 
 -- what holds where a result is there holds of it as an option

@@ -13,7 +13,7 @@ use Rattle.sm_names.proofs.ListLaws.{In, In-filter, In-filter-back, In-list_any,
 use Rattle.sm_names.proofs.ReachLaws.{parent_born}
 use Rattle.sm_names.proofs.SamenessLaws.{and_left, and_right, either_way, none_or_some, same_key-refl, same_key-true, some-injective}
 use Rattle.sm_names.proofs.StandingLaws.{and_both}
-use Rattle.event_marks.specs.Explanations.{Handing, Moment, handed, handings, taken_at, way_of}
+use Rattle.event_marks.specs.Explanations.{Handing, Moment, handed, handings, taken_at, way_of_loss}
 use Rattle.event_marks.proofs.Reasons.{reason_below, root_reason, top_on_way}
 
 -- ---- rows of any nodes
@@ -106,7 +106,8 @@ module _ (marks : Timeline) (sound : AreSound (births marks))
   -- a node that a loss takes is on the way, or stands in a row
   pub loss_row : (origin : NodeKey) (cause : Cause) (node : NodeKey) → let m : Moment = record { mark = Loss origin cause; before = marks } in
       In node (taken_at m) →
-      (list_any (same_key node) (way_of m) ≡ true) ⊎ ((h : Handing) × In h (handings marks (way_of m) (taken_at m)) × In node h.below)
+      (list_any (same_key node) (way_of_loss m) ≡ true)
+      ⊎ ((h : Handing) × In h (handings marks (way_of_loss m) (taken_at m)) × In node h.below)
   loss_row origin cause node on = from (parent_of marks node) refl
     where
       m : Moment
@@ -118,14 +119,15 @@ module _ (marks : Timeline) (sound : AreSound (births marks))
       is : (takes marks (Loss origin cause) node ≡ true) × (gone marks node ≡ false)
       is = taken_is m node on
 
-      at_top : highest ≡ node → list_any (same_key node) (way_of m) ≡ true
-      at_top e = subst (λ (k : NodeKey). list_any (same_key k) (way_of m) ≡ true) e
+      at_top : highest ≡ node → list_any (same_key node) (way_of_loss m) ≡ true
+      at_top e = subst (λ (k : NodeKey). list_any (same_key k) (way_of_loss m) ≡ true) e
           (top_on_way (blocked marks) origin (ancestors (births marks) origin))
 
       from : (o : Option NodeKey) → parent_of marks node ≡ o →
-          (list_any (same_key node) (way_of m) ≡ true) ⊎ ((h : Handing) × In h (handings marks (way_of m) (taken_at m)) × In node h.below)
+          (list_any (same_key node) (way_of_loss m) ≡ true)
+          ⊎ ((h : Handing) × In h (handings marks (way_of_loss m) (taken_at m)) × In node h.below)
       from None none = inl (at_top (root_reason marks highest node is.0 none))
-      from (Some p) parent = elim (either_way (list_any (same_key node) (way_of m))) [
+      from (Some p) parent = elim (either_way (list_any (same_key node) (way_of_loss m))) [
         | inl e ↦ inl e
         | inr off ↦ elim (reason_below marks sound below highest node p is.0 is.1 parent) [
           | inl e ↦ inl (at_top e)
@@ -134,13 +136,13 @@ module _ (marks : Timeline) (sound : AreSound (births marks))
               let p_on : In p (taken_at m) = subst (λ (k : NodeKey). In k (taken_at m)) b.2
               (is_taken_at m b.0 b.1 (subst (λ (k : NodeKey). is_at_or_below (births marks) highest k ≡ true) (sym b.2) up.0)
               (subst (λ (k : NodeKey). gone marks k ≡ false) (sym b.2) up.1)) in
-              inr (has_row marks (way_of m) (taken_at m) node p on p_on parent off)
+              inr (has_row marks (way_of_loss m) (taken_at m) node p on p_on parent off)
         ]
       ]
 
   -- and one that an end takes is its top, or stands in a row
   pub end_row : (head node : NodeKey) → let m : Moment = record { mark = Ended head; before = marks } in In node (taken_at m) →
-      (head ≡ node) ⊎ ((h : Handing) × In h (handings marks (way_of m) (taken_at m)) × In node h.below)
+      (head ≡ node) ⊎ ((h : Handing) × In h (handings marks (way_of_loss m) (taken_at m)) × In node h.below)
   end_row head node on = from (parent_of marks node) refl
     where
       m : Moment
@@ -150,7 +152,7 @@ module _ (marks : Timeline) (sound : AreSound (births marks))
       is = taken_is m node on
 
       from : (o : Option NodeKey) → parent_of marks node ≡ o →
-          (head ≡ node) ⊎ ((h : Handing) × In h (handings marks (way_of m) (taken_at m)) × In node h.below)
+          (head ≡ node) ⊎ ((h : Handing) × In h (handings marks (way_of_loss m) (taken_at m)) × In node h.below)
       from None none = inl (root_reason marks head node is.0 none)
       from (Some p) parent = elim (reason_below marks sound below head node p is.0 is.1 parent) [
         | inl e ↦ inl e
@@ -159,5 +161,5 @@ module _ (marks : Timeline) (sound : AreSound (births marks))
             let p_on : In p (taken_at m) = subst (λ (k : NodeKey). In k (taken_at m)) b.2
             (is_taken_at m b.0 b.1 (subst (λ (k : NodeKey). is_at_or_below (births marks) head k ≡ true) (sym b.2) up.0)
             (subst (λ (k : NodeKey). gone marks k ≡ false) (sym b.2) up.1)) in
-            inr (has_row marks (way_of m) (taken_at m) node p on p_on parent refl)
+            inr (has_row marks (way_of_loss m) (taken_at m) node p on p_on parent refl)
       ]

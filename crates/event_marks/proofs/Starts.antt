@@ -7,7 +7,7 @@ use Rattle.sm_names.specs.Pages.{has_room, meets}
 use Rattle.sm_names.proofs.ListLaws.{In-find, is_some-find}
 use Rattle.sm_names.proofs.SamenessLaws.{and_both, and_left, and_right, either_way}
 use Rattle.sm_names.proofs.StandingLaws.{In-any}
-use Rattle.event_marks.specs.Steps.{end_of}
+use Rattle.buffer_pool.specs.Holes.{end_of}
 use Rattle.event_marks.proofs.Ranges.{find_from, find_nothing, find_to}
 
 -- so many pages from a start on

@@ -18,15 +18,15 @@ abbrev pub joins : (NodeKey → Bool) → NodeKey → Node → Bool
 joins under top n = same_key top n.key || option_map_or under n.parent false
 
 -- the keys at which climbs stand behind a node: those at which they stood; and its own and its parent's, if it is live or one stood at it
-abbrev pub climbed : Node → (NodeKey → Bool) → NodeKey → Bool
-climbed n stood key =
+abbrev pub climbed_past : Node → (NodeKey → Bool) → NodeKey → Bool
+climbed_past n stood key =
     let own : Bool = same_key n.key key || (option_map_or (λ parent. same_key parent key) n.parent false || stood key) in
     if is_live_node n || stood n.key then own else stood key
 
 -- the keys that climbs come to, from those at which they stand and from each live node of these, the newest first, up to the oldest
 abbrev pub climbs_into : List Node → (NodeKey → Bool) → NodeKey → Bool
 climbs_into [] stood key = stood key
-climbs_into (n ∷ older) stood key = climbs_into older (climbed n stood) key
+climbs_into (n ∷ older) stood key = climbs_into older (climbed_past n stood) key
 
 -- the node is a root or attached, not gone, and not one of these, at or below which a node is live
 abbrev pub is_deserted_by : (NodeKey → Bool) → Node → Bool

@@ -4,7 +4,7 @@ ghost use Rattle.std.specs.List.{list_all, list_any};
 ghost use Rattle.sm_names.specs.declared.keys.NodeKey.{NodeKey as Key};
 ghost use Rattle.forest_store.specs.Questions.{blocks_here, is_allocated_node, is_below, is_ready_node, lives_below};
 ghost use Rattle.forest_store.specs.Scenes.{are_distinct};
-ghost use Rattle.event_marks.specs.KeySets.{climbed, climbs_into, has, joins as joins_them};
+ghost use Rattle.event_marks.specs.KeySets.{climbed_past, climbs_into, has, joins as joins_them};
 
 use crate::key_sets::KeySet;
 use crate::questions::is_live;
@@ -69,7 +69,7 @@ fn climb_all(busy: &mut KeySet, nodes: &[Node]) -> Result<(), AllocError>
 // Goes on from the node to its parent, if the node is live or a climb came to it.
 fn climb(busy: &mut KeySet, node: &Node) -> Result<(), AllocError>
     ensures { OnOk result ((key : Key) →
-        has busy.new key ≡ climbed node.now (has busy.old) key) }
+        has busy.new key ≡ climbed_past node.now (has busy.old) key) }
 {
     if !is_live(node) && !busy.has(node.key) {
         return Ok(());

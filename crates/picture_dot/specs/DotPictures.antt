@@ -290,7 +290,7 @@ unfoldable pub dot_tree : State → Names → List ℕ → List Travel → Tree 
 dot_tree s names clients travels tree = joined (cluster_text s names clients tree ∷ links_text travels tree ∷ [])
 
 -- the picture of these trees behind the last event, of which this is the line, where failures went along these links
-abbrev pub dot_text : State → Names → List ℕ → List Tree → List Travel → List ℕ
+unfoldable pub dot_text : State → Names → List ℕ → List Tree → List Travel → List ℕ
 dot_text s names last trees travels = joined (
     graph_head s.events last
     ∷ flat_map (dot_tree s names (map (λ (c : Client). c.id) s.clients) travels) trees

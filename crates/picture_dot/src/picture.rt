@@ -22,6 +22,7 @@ use text_parts::{Part, push_parts};
 ///
 /// `NoMemory` where memory is refused. Costs O(n^2) for the n nodes of each tree, a look into a table for
 /// each label, and for each buffer a look-up for each client and strength.
+#[tactic(auto, unfolding(crate::specs::DotPictures::dot_text))]
 pub fn push_dot(
     text: &mut Vec<u8>,
     teller: &Teller,

@@ -20,8 +20,9 @@ use Rattle.script_tales.specs.Called.{last_label, other_text}
 use Rattle.script_tales.specs.FactTexts.{buffer_name, holders_text, joined}
 use Rattle.script_pictures.specs.declared.features.Class.{Class}
 use Rattle.script_pictures.specs.declared.picture.Tree.{Tree}
-use Rattle.script_pictures.specs.declared.rows.Row.{Row}
 use Rattle.script_pictures.specs.Features.{class_of, gap_behind, kind_text, pages_text, place_text}
+use Rattle.picture_text.specs.declared.outline.Row.{Row}
+use Rattle.picture_text.specs.Outlines.{Line, line_of, outline}
 use Rattle.picture_text.specs.declared.picture.TheConstants.{MOST_DRAWN}
 
 -- ---- the first line
@@ -45,20 +46,24 @@ abbrev pub full_name : Names → NodeKey → List ℕ
 full_name names node = let first = label_of_node names node in label_text first ++ in_parentheses (other_text (last_label names node) first)
 
 -- how many columns the lines that lead to the node take, and its name
-abbrev pub row_width : Names → Row → ℕ
+abbrev pub row_width : Names → Line → ℕ
 row_width names r = min (r.columns + length (full_name names r.node.key)) (2 ^ 64 - 1)
 
 -- the width of the widest of the rows
-abbrev pub widest : Names → List Row → ℕ
+abbrev pub widest : Names → List Line → ℕ
 widest names rows = fold (λ width r. max width (row_width names r)) 0 rows
+
+-- the same of rows as they are kept
+abbrev pub widest_row : Names → List Row → ℕ
+widest_row names rows = fold (λ width r. max width (row_width names (line_of r))) 0 rows
 
 -- spaces from so many columns up to this width
 abbrev pub spaces : ℕ → ℕ → List ℕ
 spaces taken width = replicate (width - taken) 32
 
 -- the lines that lead to the node, and its name, up to this width
-abbrev pub name_cell : Names → ℕ → Row → List ℕ
-name_cell names width r = joined (r.lines.items ∷ full_name names r.node.key ∷ spaces (row_width names r) width ∷ [])
+abbrev pub name_cell : Names → ℕ → Line → List ℕ
+name_cell names width r = joined (r.lines ∷ full_name names r.node.key ∷ spaces (row_width names r) width ∷ [])
 
 -- the sign of a node that left: a cross or a dot, in UTF-8
 abbrev pub sign_of_class : Class → List ℕ
@@ -118,7 +123,7 @@ abbrev pub signs_of_node : List NodeKey → Node → List ℕ
 signs_of_node left n = joined (codes "  " ∷ sign_of_class (class_of n) ∷ node_mark left n.key ∷ released_text n ∷ [])
 
 -- the row of a node, in a tree of this width, of which these nodes left at the event
-abbrev pub row_text : Names → ℕ → List NodeKey → Row → List ℕ
+abbrev pub row_text : Names → ℕ → List NodeKey → Line → List ℕ
 row_text names width left r = joined
     (name_cell names width r ∷ signs_of_node left r.node ∷ state_text names r.node ∷ facts_text names r.node ∷ [])
 
@@ -158,10 +163,11 @@ buffer_row s names clients width strong held =
 -- a tree behind an empty line: a row for each node, and one for each buffer with pages
 abbrev pub tree_text : State → Names → List ℕ → Tree → List ℕ
 tree_text s names clients tree =
-    let width = widest names tree.rows.items in
+    let rows : List Line = outline tree.nodes.items in
+    let width = widest names rows in
     joined (
     codes "\n"
-    ∷ flat_map (row_text names width tree.left.items) tree.rows.items
+    ∷ flat_map (row_text names width tree.left.items) rows
     ∷ flat_map (buffer_row s names clients width tree.strong.items) tree.held.items
     ∷ []
     )
@@ -196,7 +202,7 @@ fired_line names fired =
     if length fired == 0 then [] else joined (codes "fired" ∷ flat_map (fired_text names) fired ∷ codes "\n" ∷ [])
 
 -- the picture of these trees behind the last event, of which this is the line
-abbrev pub picture_text : State → Names → List ℕ → List Tree → List ℕ
+unfoldable pub picture_text : State → Names → List ℕ → List Tree → List ℕ
 picture_text s names last trees = joined (
     head_text s.events last
     ∷ flat_map (tree_text s names (map (λ (c : Client). c.id) s.clients)) trees

@@ -7,6 +7,7 @@ ghost use Rattle.script_labels.specs.Texts.{fired_text};
 ghost use Rattle.script_tales.specs.Called.{Calls};
 ghost use Rattle.picture_text.specs.TextPictures.{colon as colon_behind, fired_line, free_text, has_page, head_text, picture_text, pool_signs, pool_text, sign_of_page, signs_of_pages, tree_text};
 
+use crate::outline::outline_of;
 use crate::rows::{push_held_rows, push_rows, width_of};
 use lifetime_core::Core;
 use script_labels::{Stop, Tables, push_firing};
@@ -22,8 +23,9 @@ const MOST_DRAWN: u32 = 64;
 
 /// Puts the picture behind what is there, where the last event has this line.
 ///
-/// `NoMemory` where memory is refused. Costs O(n) for the n nodes of the trees, a look into a table for
+/// `NoMemory` where memory is refused. Costs O(n^2) for the n nodes of each tree, a look into a table for
 /// each label, and for each buffer a look-up for each client and strength.
+#[tactic(auto, unfolding(crate::specs::TextPictures::picture_text))]
 pub fn push_text(
     text: &mut Vec<u8>,
     teller: &Teller,
@@ -95,9 +97,10 @@ fn push_tree(
         Calls teller.now.labels names → text.new.items ≡ text.old.items
         ++ tree_text teller.now.session.core names clients.now.items tree.now) }
 {
-    let width = width_of(teller, &tree.rows)?;
+    let rows = outline_of(&tree.nodes)?;
+    let width = width_of(teller, &rows)?;
     push(text, "\n")?;
-    push_rows(text, teller, &tree.rows, &tree.left, width)?;
+    push_rows(text, teller, &rows, &tree.left, width)?;
     push_held_rows(text, teller, clients, tree, width)
 }
 

@@ -4,13 +4,15 @@ ghost use Rattle.std.specs.List.{flat_map};
 ghost use Rattle.script_labels.specs.Names.{Names, label_of_node};
 ghost use Rattle.script_labels.specs.Tables.{Keeps};
 ghost use Rattle.script_tales.specs.Called.{Calls, last_label, other_text};
-ghost use Rattle.picture_text.specs.TextPictures.{asked_text, buffer_row, dispensable_text, facts_text, fallen_text, full_name as full_name_of, in_parentheses, keepers_text, live_text, node_mark as mark_in, name_cell, pages_row, released_text, row_text, row_width as width_of_row, sign_of_class, signs_of_node, state_text, weak_text, widest};
+ghost use Rattle.picture_text.specs.Outlines.{line_of};
+ghost use Rattle.picture_text.specs.TextPictures.{asked_text, buffer_row, dispensable_text, facts_text, fallen_text, full_name as full_name_of, in_parentheses, keepers_text, live_text, node_mark as mark_in, name_cell, pages_row, released_text, row_text, row_width as width_of_row, sign_of_class, signs_of_node, state_text, weak_text, widest_row};
 
+use crate::outline::Row;
 use alloc_event::Node;
 use script_labels::{Tables, push_cause};
 use script_lines::push;
 use script_pictures::{
-    Class, Row, Tree, class_of, gap_behind, is_among, kind_name, push_pages, push_place,
+    Class, Tree, class_of, gap_behind, is_among, kind_name, push_pages, push_place,
 };
 use script_tales::words::push_nodes;
 use script_tales::{Teller, push_holders};
@@ -21,7 +23,7 @@ use text_parts::{Part, push_parts};
 // The width of the widest row: the lines that lead to its node, and the node's name.
 pub(crate) fn width_of(teller: &Teller, rows: &Vec<Row>) -> Result<u64, AllocError>
     ensures { IfOk result (λ width. (names : Names) → Keeps teller.now.session.tables names →
-        Calls teller.now.labels names → width ≡ widest names rows.now.items) }
+        Calls teller.now.labels names → width ≡ widest_row names rows.now.items) }
 {
     let mut width: u64 = 0;
     for row in rows {
@@ -33,7 +35,7 @@ pub(crate) fn width_of(teller: &Teller, rows: &Vec<Row>) -> Result<u64, AllocErr
 // The columns of the lines that lead to the row's node, and of its name.
 fn row_width(teller: &Teller, row: &Row) -> Result<u64, AllocError>
     ensures { IfOk result (λ width. (names : Names) → Keeps teller.now.session.tables names →
-        Calls teller.now.labels names → width ≡ width_of_row names row.now) }
+        Calls teller.now.labels names → width ≡ width_of_row names (line_of row.now)) }
 {
     let name = full_name(teller, row)?;
     Ok(row.columns.saturating_add(name.len() as u64))
@@ -98,7 +100,7 @@ pub(crate) fn push_rows(
 ) -> Result<(), AllocError>
     ensures { OnOk result ((names : Names) → Keeps teller.now.session.tables names →
         Calls teller.now.labels names → text.new.items ≡ text.old.items
-        ++ flat_map (row_text names width left.now) rows.now) }
+        ++ flat_map (λ r. row_text names width left.now (line_of r)) rows.now) }
 {
     for row in rows {
         push_row(text, teller, row, left, width)?;
@@ -116,7 +118,7 @@ fn push_row(
 ) -> Result<(), AllocError>
     ensures { OnOk result ((names : Names) → Keeps teller.now.session.tables names →
         Calls teller.now.labels names → text.new.items ≡ text.old.items
-        ++ row_text names width left.now row.now) }
+        ++ row_text names width left.now (line_of row.now)) }
 {
     push_name(text, teller, row, width)?;
     push_signs(text, left, &row.node)?;
@@ -128,7 +130,7 @@ fn push_row(
 fn push_name(text: &mut Vec<u8>, teller: &Teller, row: &Row, width: u64) -> Result<(), AllocError>
     ensures { OnOk result ((names : Names) → Keeps teller.now.session.tables names →
         Calls teller.now.labels names → text.new.items ≡ text.old.items
-        ++ name_cell names width row.now) }
+        ++ name_cell names width (line_of row.now)) }
 {
     let name = full_name(teller, row)?;
     let taken = row.columns.saturating_add(name.len() as u64);

@@ -20,7 +20,7 @@ use script_labels::{Act, Binds, Stop};
 use script_lines::{MOST_BYTES, line_end};
 use script_pictures::{Album, Picture, named_collection, picture_of};
 use script_tales::Teller;
-use sm_names::{Call, ClientId, Limits, NoMemory};
+use sm_names::{Call, ClientId, CollectionId, Limits, NoMemory};
 use std::alloc::Global;
 use std::io::{Read, Write};
 
@@ -433,9 +433,28 @@ impl Scroll {
         let event = self
             .teller
             .take(alloc, client, call, binds, &mut self.reply)?;
-        self.album
-            .update(alloc, &self.teller.session.core, named, &event)?;
-        self.event = Some(event);
+        keep(
+            alloc,
+            &self.teller,
+            &mut self.album,
+            &mut self.event,
+            named,
+            event,
+        )?;
         Ok(())
     }
+}
+
+// Takes the event into the album, where its call named this collection, and keeps it as the last.
+fn keep(
+    alloc: Global,
+    teller: &Teller,
+    album: &mut Album,
+    last: &mut Option<Event>,
+    named: Option<CollectionId>,
+    event: Event,
+) -> Result<(), Stop> {
+    let updated = album.update(alloc, &teller.session.core, named, &event);
+    *last = Some(event);
+    updated
 }

@@ -1,12 +1,17 @@
 //! All nodes that were ever born, as they were last seen.
+ghost use Rattle.std.specs.Prelude.{◌≡◌, []};
+ghost use Rattle.std.specs.Option.{option_map};
+ghost use Rattle.forest_store.specs.Forest.{node_at};
+ghost use Rattle.script_pictures.specs.Seen.{named_in};
+
 use alloc_event::{End, Node};
 use event_facts::Event;
 use event_facts::ways::way_up;
-use event_marks::questions::is_under;
+use event_marks::node_sets::nodes_under;
 use event_marks::{Forced, Moment};
 use lifetime_core::Core;
 use script_labels::Stop;
-use sm_names::{BufferName, Call, CollectionId, Fault, NodeKey, Reply};
+use sm_names::{Call, CollectionId, Fault, NodeKey, Object, Reply, parts_of};
 use std::alloc::{AllocError, Global};
 
 // A collection, and all nodes that were ever born in it, by birth. A node that the core forgot stands as
@@ -23,68 +28,39 @@ pub struct Album {
     pub(crate) families: Vec<Family>,
 }
 
-/// The collection of the node or the buffer that the call names, if it is kept. Costs a look-up.
-pub fn named_collection(core: &Core, call: &Call) -> Option<CollectionId> {
-    if let Some(buffer) = named_buffer(call) {
-        return Some(buffer.collection);
-    }
-    match named_node(call) {
-        Some(key) => collection_of(core, key),
-        None => None,
+/// The collection of the node or the buffer that the call names, if that is kept. Costs a look-up.
+pub fn named_collection(core: &Core, call: &Call) -> Option<CollectionId>
+    ensures { result ≡ named_in core.now call.now }
+{
+    match parts_of(*call).object {
+        Object::Nothing => None,
+        Object::Node(key) => collection_of(core, key),
+        Object::Buffer(buffer) => Some(buffer.collection),
     }
 }
 
 // The collection of the node with this key, if it is kept.
-fn collection_of(core: &Core, key: NodeKey) -> Option<CollectionId> {
+fn collection_of(core: &Core, key: NodeKey) -> Option<CollectionId>
+    ensures { result ≡ option_map (λ n. n.collection) (node_at core.now.forest key) }
+{
     match core.node(key) {
         Some(node) => Some(node.collection),
         None => None,
     }
 }
 
-// The node that the call names.
-fn named_node(call: &Call) -> Option<NodeKey> {
-    match *call {
-        Call::Duplicate(key)
-        | Call::AttachToken(key)
-        | Call::Sync(key)
-        | Call::Give(key, _)
-        | Call::Bind(key)
-        | Call::SetDispensable(key)
-        | Call::SetWeak(key)
-        | Call::SetWeakOk(key, _)
-        | Call::SetConstraints(key, _)
-        | Call::Check(key)
-        | Call::Take(key)
-        | Call::Release(key)
-        | Call::Close(key)
-        | Call::TrackNode(key)
-        | Call::TrackLifetime(key, _) => Some(key),
-        _ => None,
-    }
-}
-
-// The buffer that the call names.
-fn named_buffer(call: &Call) -> Option<BufferName> {
-    match *call {
-        Call::DupHandle(buffer, _)
-        | Call::DropHandle(buffer, _)
-        | Call::GiveHandle(buffer, _, _)
-        | Call::TrackWeak(buffer) => Some(buffer),
-        _ => None,
-    }
-}
-
 impl Album {
     /// No families. Takes a constant time.
-    pub fn new(alloc: Global) -> Album {
+    pub fn new(alloc: Global) -> Album
+        ensures { result.families.items ≡ [] }
+    {
         Album {
             families: Vec::new(alloc),
         }
     }
 
-    /// Takes in what an event changed, where its call named this collection. Costs O(n^2) for the n nodes
-    /// that were ever born in it.
+    /// Takes in what an event changed, where its call named this collection. Costs O(n log n) for the n
+    /// nodes that were ever born in it.
     ///
     /// `NoMemory` where memory is refused: then some of this may be left out.
     pub fn update(
@@ -205,9 +181,11 @@ fn left_below(
     top: NodeKey,
     fault: Option<Fault>,
 ) -> Result<Vec<Node>, AllocError> {
-    let mut later = Vec::new(*nodes.allocator());
+    let alloc = *nodes.allocator();
+    let under = nodes_under(alloc, nodes, top)?;
+    let mut later = Vec::new(alloc);
     for node in nodes {
-        let taken = !node.gone && is_under(nodes, top, node.key);
+        let taken = !node.gone && under.has(node.key);
         later.push(after_mark(*node, taken, fault))?;
     }
     Ok(later)
@@ -241,8 +219,8 @@ fn refresh(nodes: &mut [Node], core: &Core, last: Option<&[Node]>) {
 fn forgotten(node: Node, last: Option<&[Node]>) -> Node {
     let mut behind = node;
     if let Some(walked) = last {
-        if let Some(found) = walked.iter().find(|other| other.key == node.key) {
-            behind = *found;
+        if let Ok(at) = walked.binary_search_by_key(&node.event, |other| other.event) {
+            behind = walked[at];
         }
     }
     behind.gone = true;

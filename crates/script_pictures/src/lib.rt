@@ -7,12 +7,10 @@ pub mod colors;
 mod features;
 mod lines;
 mod picture;
-mod rows;
 mod travel;
 
 pub use album::{Album, named_collection};
 pub use features::{Class, class_of, gap_behind, is_among, kind_name, push_pages, push_place};
 pub use lines::{push_asked_line, push_header, push_kind_line, push_state_line};
 pub use picture::{Picture, ToldMark, Tree, picture_of};
-pub use rows::{Row, rows_of};
 pub use travel::{Travel, Way, way_of};

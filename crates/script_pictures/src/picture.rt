@@ -7,7 +7,6 @@ ghost use Rattle.core_state.specs.State.{State};
 ghost use Rattle.script_pictures.specs.Seen.{IsTree, held_of_collection, seen_in};
 
 use crate::album::{Album, Family};
-use crate::rows::{Row, rows_of};
 use crate::travel::{Travel, travels};
 use alloc_event::{End, Node, Snapshot};
 use event_facts::keepers::strong_live;
@@ -27,8 +26,6 @@ pub struct Tree {
     pub id: CollectionId,
     /// All nodes that were ever born in it, by birth.
     pub nodes: Vec<Node>,
-    /// The same as rows: the root first, and behind each node those below it.
-    pub rows: Vec<Row>,
     /// Those that left at the event.
     pub left: Vec<NodeKey>,
     /// Its buffers with pages.
@@ -174,11 +171,9 @@ fn grow(
     let (left, freed) = changed(alloc, family, &held, event)?;
     let nodes = seen_now(core, &family.nodes)?;
     let strong = strong_live(&nodes)?;
-    let rows = rows_of(&nodes)?;
     Ok(Tree {
         id: family.id,
         nodes,
-        rows,
         left,
         held,
         freed,
@@ -249,18 +244,21 @@ fn held_of(alloc: Global, copied: Option<Snapshot>) -> Vec<HeldBuffer>
     }
 }
 
-// The nodes that are gone, and were not among these earlier ones.
+// The nodes that are gone, and were not among these earlier ones. Costs O(n log n) for n nodes.
 fn left_since(nodes: &Vec<Node>, earlier: &[Node]) -> Result<Vec<NodeKey>, AllocError> {
     let mut left = Vec::new(*nodes.allocator());
     for node in nodes {
-        if node.gone && was_there(earlier, node.key) {
+        if node.gone && was_there(earlier, node) {
             left.push(node.key)?;
         }
     }
     Ok(left)
 }
 
-// Whether the node with this key was not gone among these.
-fn was_there(earlier: &[Node], key: NodeKey) -> bool {
-    earlier.iter().any(|other| other.key == key && !other.gone)
+// Whether the node was among these, which stand by birth, and was not gone.
+fn was_there(earlier: &[Node], node: &Node) -> bool {
+    match earlier.binary_search_by_key(&node.event, |other| other.event) {
+        Ok(at) => !earlier[at].gone,
+        Err(_) => false,
+    }
 }

@@ -9,6 +9,7 @@ use event_facts::ways::{find, way_up};
 use event_marks::{Forced, Moment};
 use sm_names::{Fault, NodeKey};
 use std::alloc::{AllocError, Global};
+use std::collections::BTreeMap;
 
 /// How a failure went along a link, and at which step of the event.
 #[derive(Clone, Copy)]
@@ -45,21 +46,68 @@ fn travel_of(travels: &[Travel], node: NodeKey) -> Option<Travel>
     travels.iter().find(|travel| travel.node == node).copied()
 }
 
-// The links along which the failures among these marks went.
+// The links along which failures went so far, each once, and the place of each node's link among them.
+#[derive(Drop)]
+struct Trail {
+    travels: Vec<Travel>,
+    places: BTreeMap<NodeKey, usize>,
+}
+
+impl Trail {
+    // No links. Takes a constant time.
+    fn new(alloc: Global) -> Trail {
+        Trail {
+            travels: Vec::new(alloc),
+            places: BTreeMap::new(alloc),
+        }
+    }
+
+    // Whether a failure went along the link of this node. Costs O(log n) for n links, as does `put`.
+    fn has(&self, node: NodeKey) -> bool {
+        self.places.contains_key(&node)
+    }
+
+    // Puts how a failure went along the link of the node in the place of what is there of it.
+    fn put(&mut self, node: NodeKey, way: Way) -> Result<(), AllocError> {
+        let place = self.places.get(&node).copied();
+        match place {
+            Some(at) => {
+                if at < self.travels.len() {
+                    self.travels[at] = Travel { node, way };
+                }
+            }
+            None => {
+                self.places.insert(node, self.travels.len())?;
+                self.travels.push(Travel { node, way })?;
+            }
+        }
+        Ok(())
+    }
+}
+
+// The links along which the failures among these marks went. Costs O(n log n) for the n nodes of each mark
+// that is a failure.
 pub(crate) fn travels(alloc: Global, moments: &[Moment]) -> Result<Vec<Travel>, AllocError> {
-    let mut found = Vec::new(alloc);
+    let mut trail = Trail::new(alloc);
+    follow(&mut trail, moments)?;
+    let Trail { travels, .. } = trail;
+    Ok(travels)
+}
+
+// The failures among these marks go on.
+fn follow(trail: &mut Trail, moments: &[Moment]) -> Result<(), AllocError> {
     let mut step: u64 = 0;
     for moment in moments {
         if let Forced::Loss(fault) = moment.mark {
-            step = go_on(&mut found, &moment.before, fault, step)?;
+            step = go_on(trail, &moment.before, fault, step)?;
         }
     }
-    Ok(found)
+    Ok(())
 }
 
 // The failure goes up, and down to all that it takes; answers the last step.
 fn go_on(
-    found: &mut Vec<Travel>,
+    trail: &mut Trail,
     scene: &Snapshot,
     fault: Fault,
     before: u64,
@@ -67,29 +115,29 @@ fn go_on(
     let way = way_up(&scene.nodes, fault.origin)?;
     match way.split_last() {
         Some((top, below)) => {
-            let step = go_up(found, below, before)?;
-            note_stop(found, &scene.nodes, *top)?;
+            let step = go_up(trail, below, before)?;
+            note_stop(trail, &scene.nodes, *top)?;
             let taken = taken_under(&scene.nodes, *top)?;
-            go_down(found, &taken, *top, step)
+            go_down(trail, &taken, step)
         }
         None => Ok(before),
     }
 }
 
 // The failure goes up from each of these; answers the last step.
-fn go_up(found: &mut Vec<Travel>, below: &[NodeKey], before: u64) -> Result<u64, AllocError> {
+fn go_up(trail: &mut Trail, below: &[NodeKey], before: u64) -> Result<u64, AllocError> {
     let mut step = before;
     for node in below {
         step = step.saturating_add(1);
-        put(found, *node, Way::Up(step))?;
+        trail.put(*node, Way::Up(step))?;
     }
     Ok(step)
 }
 
 // The failure stopped at the node, unless that is a root, or one went along its link already.
-fn note_stop(found: &mut Vec<Travel>, nodes: &[Node], top: NodeKey) -> Result<(), AllocError> {
-    if has_parent(nodes, top) && way_of(found, top).is_none() {
-        put(found, top, Way::Stop)?;
+fn note_stop(trail: &mut Trail, nodes: &[Node], top: NodeKey) -> Result<(), AllocError> {
+    if has_parent(nodes, top) && !trail.has(top) {
+        trail.put(top, Way::Stop)?;
     }
     Ok(())
 }
@@ -102,69 +150,77 @@ fn has_parent(nodes: &[Node], key: NodeKey) -> bool {
     }
 }
 
-// Puts how a failure went along the link of the node in the place of what is there of it.
-fn put(found: &mut Vec<Travel>, node: NodeKey, way: Way) -> Result<(), AllocError> {
-    match found.iter().position(|travel| travel.node == node) {
-        Some(at) => {
-            if at < found.len() {
-                found[at] = Travel { node, way };
-            }
-        }
-        None => {
-            found.push(Travel { node, way })?;
-        }
-    }
-    Ok(())
+// A node that a failure comes down to, and how many generations it is below the top one.
+#[derive(Clone, Copy)]
+struct Reached {
+    node: NodeKey,
+    generation: usize,
 }
 
-// The failure goes down from the top one to all that are taken, one generation a step; answers the last
-// step.
-fn go_down(
-    found: &mut Vec<Travel>,
-    taken: &Vec<Node>,
-    top: NodeKey,
-    before: u64,
-) -> Result<u64, AllocError> {
-    let mut step = before;
-    let mut above = Vec::new(*taken.allocator());
-    above.push(top)?;
-    for _ in 0..taken.len() {
-        let below = below_all(taken, &above)?;
-        if below.is_empty() {
-            return Ok(step);
+// The failure goes down to all that are taken, which stand by birth, the top one first, one generation a
+// step; answers the last step. A generation along whose links failures went already takes no step.
+fn go_down(trail: &mut Trail, taken: &Vec<Node>, before: u64) -> Result<u64, AllocError> {
+    let reached = reached_below(trail, taken)?;
+    let steps = steps_of(&reached, taken.len(), before)?;
+    for node in &reached {
+        if node.generation < steps.len() {
+            trail.put(node.node, Way::Down(steps[node.generation]))?;
         }
-        step = go_down_to(found, &below, step)?;
-        above = below;
     }
-    Ok(step)
+    Ok(steps.last().copied().unwrap_or(before))
 }
 
-// The children of these nodes among those that are taken.
-fn below_all(taken: &Vec<Node>, above: &[NodeKey]) -> Result<Vec<NodeKey>, AllocError> {
-    let mut below = Vec::new(*taken.allocator());
+// Those of the taken nodes below the top one along whose links no failure went.
+fn reached_below(trail: &Trail, taken: &Vec<Node>) -> Result<Vec<Reached>, AllocError> {
+    let alloc = *taken.allocator();
+    let mut generations = BTreeMap::new(alloc);
+    let mut reached = Vec::new(alloc);
     for node in taken {
-        if let Some(parent) = node.parent {
-            if above.contains(&parent) {
-                below.push(node.key)?;
-            }
+        let generation = generation_below(&generations, node);
+        generations.insert(node.key, generation)?;
+        if 0 < generation && !trail.has(node.key) {
+            reached.push(Reached {
+                node: node.key,
+                generation,
+            })?;
         }
     }
-    Ok(below)
+    Ok(reached)
 }
 
-// The failure goes down at one step to those of the nodes along whose links none went; answers the last
-// step.
-fn go_down_to(found: &mut Vec<Travel>, below: &[NodeKey], before: u64) -> Result<u64, AllocError> {
-    let step = before.saturating_add(1);
-    let mut last = before;
-    for node in below {
-        if way_of(found, *node).is_none() {
-            found.push(Travel {
-                node: *node,
-                way: Way::Down(step),
-            })?;
-            last = step;
-        }
+// The generation of a node whose parent is among these, and 0 for the top one.
+fn generation_below(above: &BTreeMap<NodeKey, usize>, node: &Node) -> usize {
+    let Some(parent) = node.parent else {
+        return 0;
+    };
+    match above.get(&parent) {
+        Some(generation) => generation.saturating_add(1),
+        None => 0,
     }
-    Ok(last)
+}
+
+// The last step behind each of so many generations, of which these are reached.
+fn steps_of(reached: &Vec<Reached>, count: usize, before: u64) -> Result<Vec<u64>, AllocError> {
+    let mut steps = vec![in *reached.allocator(); 0u64; count]?;
+    for node in reached {
+        set_one(&mut steps, node.generation);
+    }
+    add_up(&mut steps, before);
+    Ok(steps)
+}
+
+// Puts a one at this place.
+fn set_one(steps: &mut [u64], at: usize) {
+    if at < steps.len() {
+        steps[at] = 1;
+    }
+}
+
+// Puts the sum of all up to each place there, and of what was before.
+fn add_up(steps: &mut [u64], before: u64) {
+    let mut sum = before;
+    for at in 0..steps.len() {
+        sum = sum.saturating_add(steps[at]);
+        steps[at] = sum;
+    }
 }

@@ -1,12 +1,18 @@
 -- What clients and nodes are called, as labels stand for them.
-use Rattle.std.specs.Prelude.{ℕ, ◌≡◌, ◌==◌, if◌then◌else◌, List, [], map, Option, Some, None}
+use Rattle.std.specs.Prelude.{ℕ, ◌≡◌, ◌==◌, if◌then◌else◌, List, [], ◌++◌, map, Option, Some, None}
 use Rattle.std.specs.Map.{lookup}
 use Rattle.sm_names.specs.declared.keys.NodeKey.{NodeKey}
+use Rattle.sm_names.specs.declared.messages.Reply.{Reply}
+use Rattle.sm_names.specs.Marks.{Entry}
 use Rattle.sm_names.specs.Sameness.{same_key}
+use Rattle.core_state.specs.Shown.{Shows}
 use Rattle.script_lines.specs.declared.label.Label.{Label}
 use Rattle.script_lines.specs.Labels.{same_label, text_of_label}
-use Rattle.script_labels.specs.Names.{Names, Place}
-use Rattle.sm_script.specs.Scenes.{Scene}
+use Rattle.script_labels.specs.declared.act.Binds.{Binds}
+use Rattle.script_labels.specs.Names.{Names, Place, names_after}
+use Rattle.script_labels.specs.Tables.{Keeps}
+use Rattle.script_labels.specs.Texts.{reply_text}
+use Rattle.sm_script.specs.Scenes.{Scene, as_line}
 use Rattle.sm_script.specs.Sessions.{IsAt}
 use Rattle.script_tales.specs.declared.labels.Labels.{Labels}
 use Rattle.script_tales.specs.declared.teller.Teller.{Teller}
@@ -36,3 +42,13 @@ pub record Calls (labels : Labels) (names : Names) : Type 0 where
 pub record Knows (teller : Teller) (scene : Scene) : Type 0 where
   pub is_at : IsAt teller.session scene
   pub calls : Calls teller.labels scene.names
+
+-- the teller took note of the reply of a call: its text stands behind what was there, and what it made or brought is called as
+-- the line says
+pub record Notes (old new : Teller) (binds : Binds) (reply : Reply) (before after : List ℕ) : Type 0 where
+  pub pool : new.session.core.pool ≡ old.session.core.pool
+  pub limits : new.session.core.limits ≡ old.session.core.limits
+  pub shows : (history : List Entry) → Shows old.session.core history → Shows new.session.core history
+  pub text : (names : Names) → Keeps old.session.tables names → after ≡ before ++ as_line (reply_text names binds reply)
+  pub keeps : (names : Names) → Keeps old.session.tables names → Keeps new.session.tables (names_after names binds reply)
+  pub calls : (names : Names) → Calls old.labels names → Calls new.labels (names_after names binds reply)

@@ -2,3 +2,4 @@ pub mod Called
 pub mod EventTexts
 pub mod FactTexts
 pub mod LossTexts
+pub mod MarkTexts

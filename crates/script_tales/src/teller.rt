@@ -1,11 +1,13 @@
 //! A session whose events are told.
-ghost use Rattle.std.specs.Prelude.{◌≡◌, ◌≢◌, ◌≤◌, ◌++◌, [], IfErr, IfOk, OnOk};
+ghost use Rattle.std.specs.Prelude.{◌≡◌, ◌≢◌, ◌≤◌, ◌++◌, [], IfErr, IfOk, OnOk, option_map};
+ghost use Rattle.core_state.specs.Reads.{views_of};
 ghost use Rattle.script_labels.specs.Names.{Names, label_of_node};
 ghost use Rattle.sm_script.specs.Scenes.{Scene, first_scene, next_scene};
 ghost use Rattle.sm_script.specs.Sessions.{Advances, Gains, IsAt, IsStopped};
 ghost use Rattle.script_labels.specs.Tables.{Keeps};
-ghost use Rattle.script_tales.specs.Called.{Calls, Knows, last_label, other_text};
+ghost use Rattle.script_tales.specs.Called.{Calls, Knows, Notes, last_label, other_text};
 ghost use Rattle.script_tales.specs.FactTexts.{buffer_name};
+ghost use Rattle.script_tales.specs.MarkTexts.{allocated_text, mark_text, marks_text};
 
 use crate::allocations::{push_initial, push_logical};
 use crate::keepers::{push_kept, push_kept_by_nodes};
@@ -21,6 +23,7 @@ use script_labels::{Act, Binds, Stop};
 use script_lines::{Label, push_label};
 use sm_names::{
     BufferName, Buffers, Call, ClientId, HeldBuffer, Limits, NoMemory, NodeKey, Reply, StepFault,
+    object_key, parts_of,
 };
 use sm_script::Session;
 use std::alloc::{AllocError, Global};
@@ -143,9 +146,30 @@ impl Teller {
     {
         reply.clear();
         let event = taken(take_event(alloc, &mut self.session.core, client, call))?;
-        self.session.note(binds, event.reply, reply)?;
-        self.labels.note(binds, event.reply)?;
-        Ok(event)
+        let made = self.noted(binds, event, reply)?;
+        Ok(made)
+    }
+
+    // Takes note of the event's reply, and gives the event back.
+    fn noted(&mut self, binds: Binds, event: Event, text: &mut Vec<u8>) -> Result<Event, AllocError>
+        ensures same { IfOk result (λ made. made ≡ event) }
+        ensures notes { IfOk result (λ made.
+            Notes self.old self.new binds made.reply text.old.items text.new.items) }
+    {
+        match self.note(binds, event.reply, text) {
+            Ok(()) => Ok(event),
+            Err(fault) => Err(fault),
+        }
+    }
+
+    // Puts the text of the reply behind what is there, and takes note of what it made or brought.
+    fn note(&mut self, binds: Binds, reply: Reply, text: &mut Vec<u8>) -> Result<(), AllocError>
+        ensures { OnOk result
+            (Notes self.old self.new binds reply text.old.items text.new.items) }
+    {
+        self.session.note(binds, reply, text)?;
+        self.labels.note(binds, reply)?;
+        Ok(())
     }
 
     // Keeps the line with each loss that it made.
@@ -181,7 +205,11 @@ impl Teller {
     }
 
     // Puts the marks of the event behind what is there.
-    fn push_marks(&self, event: &Event, facts: &mut Vec<u8>) -> Result<(), AllocError> {
+    fn push_marks(&self, event: &Event, facts: &mut Vec<u8>) -> Result<(), AllocError>
+        ensures { OnOk result ((names : Names) → Keeps self.now.session.tables names →
+            facts.new.items ≡ facts.old.items ++ marks_text names
+            (views_of self.now.session.core).free event.now.after event.now.moments.items) }
+    {
         let mut rest = event.moments.as_slice();
         'marks: while let Some((moment, later)) = rest.split_first() {
             self.push_mark(moment, placed_by(later, event), facts)?;
@@ -212,7 +240,11 @@ impl Teller {
         moment: &Moment,
         placed: Option<(Buffers, &[HeldBuffer])>,
         facts: &mut Vec<u8>,
-    ) -> Result<(), AllocError> {
+    ) -> Result<(), AllocError>
+        ensures { OnOk result ((names : Names) → Keeps self.now.session.tables names →
+            facts.new.items ≡ facts.old.items ++ mark_text names
+            (views_of self.now.session.core).free (option_map (λ p. (p.0, p.1.now)) placed.entry) moment.now) }
+    {
         let tables = &self.session.tables;
         let scene = &moment.before;
         match moment.mark {
@@ -231,7 +263,11 @@ impl Teller {
         head: NodeKey,
         placed: Option<(Buffers, &[HeldBuffer])>,
         facts: &mut Vec<u8>,
-    ) -> Result<(), AllocError> {
+    ) -> Result<(), AllocError>
+        ensures { OnOk result ((names : Names) → Keeps self.now.session.tables names →
+            facts.new.items ≡ facts.old.items
+            ++ allocated_text names scene.now head (option_map (λ p. (p.0, p.1.now)) placed.entry)) }
+    {
         let tables = &self.session.tables;
         match (scene.buffers, placed) {
             (Some(given), _) => push_logical(facts, tables, scene, head, given),
@@ -254,7 +290,7 @@ impl Teller {
 
     // Puts behind what is there for whom the node that is asked about waits.
     fn push_pending(&self, call: &Call, facts: &mut Vec<u8>) -> Result<(), Stop> {
-        let (Call::Check(key) | Call::Take(key)) = *call else {
+        let Some(key) = object_key(parts_of(*call).object) else {
             return Ok(());
         };
         let Some(node) = self.session.core.node(key) else {

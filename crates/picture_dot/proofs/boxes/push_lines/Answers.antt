@@ -3,7 +3,7 @@ use Rattle.std.proofs.lemmas.Result.{on_ok_weaker}
 use Rattle.script_pictures.specs.BoxLines.{kind_words, state_words}
 use Rattle.script_pictures.specs.Features.{place_text}
 use Rattle.picture_dot.specs.DotPictures.{asked_line, box_lines}
-use Rattle.picture_dot.proofs.Texts.{after, last}
+use Rattle.script_pictures.proofs.Texts.{after, last}
 use Rattle.picture_dot.proofs.boxes.push_lines.Goals as goal
 
 -- one line behind the other

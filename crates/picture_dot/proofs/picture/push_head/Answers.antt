@@ -2,7 +2,7 @@ use Rattle.std.specs.Prelude.{codes}
 use Rattle.picture_dot.specs.DotPictures.{graph_head}
 use Rattle.std.proofs.lemmas.Result.{on_ok_weaker}
 use Rattle.script_pictures.specs.BoxLines.{header_text}
-use Rattle.picture_dot.proofs.Texts.{after}
+use Rattle.script_pictures.proofs.Texts.{after}
 use Rattle.picture_dot.proofs.picture.push_head.Goals as goal
 
 -- the title, and what is set behind it

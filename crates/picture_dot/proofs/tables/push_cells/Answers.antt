@@ -3,7 +3,7 @@ use Rattle.picture_dot.specs.DotPictures.{cells_text}
 use Rattle.std.proofs.lemmas.Result.{on_ok_weaker}
 use Rattle.script_tales.specs.FactTexts.{buffer_name}
 use Rattle.script_pictures.specs.Features.{pages_text}
-use Rattle.picture_dot.proofs.Texts.{after, last}
+use Rattle.script_pictures.proofs.Texts.{after, last}
 use Rattle.picture_dot.proofs.tables.push_cells.Goals as goal
 
 -- one text behind the other

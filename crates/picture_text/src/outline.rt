@@ -1,0 +1,214 @@
+//! The outline of a tree: its nodes, each behind the lines that lead to it.
+ghost use Rattle.std.specs.Prelude.{◌≡◌, ◌++◌, ◌∷◌, [], true, IfOk, OnOk, map, reverse};
+ghost use Rattle.std.specs.List.{filter};
+ghost use Rattle.script_pictures.specs.Travels.{is_child_of as hangs_under};
+ghost use Rattle.picture_text.specs.Outlines.{begin_text, branch_of, first_branches, line_of, line_of_branch, outline, stem_text, twig, twigs, twigs_below};
+
+use alloc_event::Node;
+use script_lines::push;
+use sm_names::NodeKey;
+use std::alloc::{AllocError, Global};
+
+// A node, the lines that lead to it, and how many columns they take.
+#[derive(Drop)]
+pub(crate) struct Row {
+    pub(crate) node: Node,
+    pub(crate) lines: Vec<u8>,
+    pub(crate) columns: u64,
+}
+
+// A node that has no row yet: what leads to the rows of its parent's children, how deep it hangs, and
+// whether it is the last of them. The root hangs at depth 0.
+#[derive(Drop)]
+struct Branch {
+    node: Node,
+    stem: Vec<u8>,
+    depth: u64,
+    last: bool,
+}
+
+// A row for each node, the root first, and behind each node the rows of its children, by birth. Costs
+// O(n^2) for n nodes, and the lines.
+#[tactic(auto, using(crate::proofs::Branches::lines_end))]
+pub(crate) fn outline_of(nodes: &Vec<Node>) -> Result<Vec<Row>, AllocError>
+    ensures { IfOk result (λ rows. map line_of rows.items ≡ outline nodes.now.items) }
+{
+    let mut rows = Vec::new(*nodes.allocator());
+    let mut waiting = begin(nodes)?;
+    for at in 0..nodes.len() {
+        let Some(next) = waiting.pop() else {
+            return Ok(rows);
+        };
+        push_below(nodes, &next, &mut waiting)?;
+        let row = row_of(next)?;
+        rows.push(row)?;
+    }
+    Ok(rows)
+}
+
+// The first of the nodes alone, which is the root, if there is one.
+fn begin(nodes: &Vec<Node>) -> Result<Vec<Branch>, AllocError>
+    ensures { IfOk result (λ waiting. map branch_of waiting.items ≡ first_branches nodes.now.items) }
+{
+    let alloc = *nodes.allocator();
+    match nodes.as_slice().split_first() {
+        Some((root, _)) => root_alone(alloc, *root),
+        None => Ok(Vec::new(alloc)),
+    }
+}
+
+// The root alone.
+fn root_alone(alloc: Global, root: Node) -> Result<Vec<Branch>, AllocError>
+    ensures { IfOk result (λ waiting. map branch_of waiting.items ≡ twig root [] 0 true ∷ []) }
+{
+    let mut waiting = Vec::new(alloc);
+    let stem = Vec::new(alloc);
+    waiting.push(Branch {
+        node: root,
+        stem,
+        depth: 0,
+        last: true,
+    })?;
+    Ok(waiting)
+}
+
+// Puts the children of the node onto those that have no row yet, the first on top.
+fn push_below(nodes: &Vec<Node>, next: &Branch, waiting: &mut Vec<Branch>) -> Result<(), AllocError>
+    ensures { OnOk result (reverse (map branch_of waiting.new.items)
+        ≡ twigs_below nodes.now.items (branch_of next.now) ++ reverse (map branch_of waiting.old.items)) }
+{
+    let children = children_of(nodes, next.node.key)?;
+    let stem = stem_below(next)?;
+    push_branches(waiting, children, &stem, next.depth.saturating_add(1))
+}
+
+// The children of the node with this key, by birth.
+fn children_of(nodes: &Vec<Node>, parent: NodeKey) -> Result<Vec<Node>, AllocError>
+    ensures { IfOk result (λ children.
+        children.items ≡ filter (hangs_under parent) nodes.now.items) }
+{
+    let mut children = Vec::new(*nodes.allocator());
+    for node in nodes {
+        if hangs_on(parent, node) {
+            children.push(*node)?;
+        }
+    }
+    Ok(children)
+}
+
+// Whether the node hangs on the one with this key.
+fn hangs_on(above: NodeKey, node: &Node) -> bool
+    ensures { result ≡ hangs_under above node.now }
+{
+    match node.parent {
+        Some(parent) => above == parent,
+        None => false,
+    }
+}
+
+// Puts these nodes onto those that have no row yet, the first on top, at this depth, where this leads to
+// their rows.
+fn push_branches(
+    waiting: &mut Vec<Branch>,
+    children: Vec<Node>,
+    stem: &[u8],
+    depth: u64,
+) -> Result<(), AllocError>
+    ensures { OnOk result (reverse (map branch_of waiting.new.items)
+        ≡ twigs stem.now depth true children.items ++ reverse (map branch_of waiting.old.items)) }
+{
+    let mut left = children;
+    let mut last = true;
+    'children: while let Some(node) = left.pop() {
+        push_branch(waiting, node, stem, depth, last)?;
+        last = false;
+    }
+    Ok(())
+}
+
+// Puts the node on top of those that have no row yet.
+fn push_branch(
+    waiting: &mut Vec<Branch>,
+    node: Node,
+    stem: &[u8],
+    depth: u64,
+    last: bool,
+) -> Result<(), AllocError>
+    ensures { OnOk result (map branch_of waiting.new.items ≡ map branch_of waiting.old.items
+        ++ twig node stem.now depth last ∷ []) }
+{
+    let stem = text_of(*waiting.allocator(), stem, "")?;
+    waiting.push(Branch {
+        node,
+        stem,
+        depth,
+        last,
+    })?;
+    Ok(())
+}
+
+// These words behind the text.
+fn text_of(alloc: Global, text: &[u8], words: &str) -> Result<Vec<u8>, AllocError>
+    ensures { IfOk result (λ whole. whole.items ≡ text.now ++ words.now) }
+{
+    let mut whole = Vec::new(alloc);
+    whole.extend_from_slice(text)?;
+    push(&mut whole, words)?;
+    Ok(whole)
+}
+
+// What leads to the rows of the node's children.
+fn stem_below(next: &Branch) -> Result<Vec<u8>, AllocError>
+    ensures { IfOk result (λ stem. stem.items ≡ next.now.stem.items ++ stem_text next.now.depth next.now.last) }
+{
+    let alloc = *next.stem.allocator();
+    text_of(alloc, &next.stem, stem_words(next.depth, next.last))
+}
+
+// What a node of this depth puts in front of the rows below it, where it is the last of its parent's
+// children or not.
+fn stem_words(depth: u64, last: bool) -> &'static str
+    ensures { result.now ≡ stem_text depth last }
+{
+    if depth == 0 {
+        ""
+    } else if last {
+        "    "
+    } else {
+        "│   "
+    }
+}
+
+// The row of the node.
+fn row_of(next: Branch) -> Result<Row, AllocError>
+    ensures { IfOk result (λ row. line_of row ≡ line_of_branch (branch_of next)) }
+{
+    let Branch {
+        node,
+        stem,
+        depth,
+        last,
+    } = next;
+    let mut lines = stem;
+    push(&mut lines, begin_words(depth, last, node.attached))?;
+    Ok(Row {
+        node,
+        lines,
+        columns: depth.saturating_mul(4),
+    })
+}
+
+// What leads to a node of this depth.
+fn begin_words(depth: u64, last: bool, attached: bool) -> &'static str
+    ensures { result.now ≡ begin_text depth last attached }
+{
+    if depth == 0 {
+        return "";
+    }
+    match (last, attached) {
+        (false, false) => "├── ",
+        (false, true) => "├╌╌ ",
+        (true, false) => "└── ",
+        (true, true) => "└╌╌ ",
+    }
+}
