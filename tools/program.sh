@@ -123,8 +123,11 @@ done
 try 2 '' '*' '' fly
 try 2 '' '*' '' run examples/first.script examples/first.script
 try 2 '' '*' '' run --fly
+try 2 '' 'a word of the command line is not UTF-8' '' run $'\xff'
 try 2 '' '*' '' threads --fly
-try 2 '' '*' ''
+try 2 '' 'a command is missing: run, threads, explain, draw or check; sysmem --help describes them' ''
+try 2 '' 'no such command: x.script; try sysmem run FILE' '' x.script
+try 2 '' 'no such command: ./x; try sysmem run FILE' '' ./x run
 
 # Counts what was seen, or tells what was not.
 count() {
@@ -215,11 +218,18 @@ for script in examples/*.script; do
   count is_transcript "${script%.script}.explained"
 done
 for event in 27 28; do count is_drawn examples/camera.script "$event"; done
-no_file() {
-  "$program" "$1" examples/none.script >"$room/out" 2>"$room/told"
-  [ $? = 1 ] && [ ! -s "$room/out" ] && hears "the file can't be opened"
+unopened() {
+  "$program" "$1" "$2" >"$room/out" 2>"$room/told"
+  [ $? = 1 ] && [ ! -s "$room/out" ] && hears "$2: $3"
 }
-for command in run threads explain draw check; do count no_file "$command"; done
+for command in run threads explain draw check; do count unopened "$command" examples/none.script 'no such file'; done
+count unopened run examples/first.script/none 'a part of its path is no directory'
+count unopened run "$(printf 'n%.0s' {1..300})" 'the name is too long'
+ln -s loop "$room/loop"
+count unopened run "$room/loop" 'too many symbolic links'
+touch "$room/locked" && chmod 000 "$room/locked"
+if [ "$(id -u)" != 0 ]; then count unopened run "$room/locked" 'permission denied'; fi
+rm -f "$room/locked"
 
 # Large scripts are explained, drawn and checked.
 is_transcript_of() {
@@ -324,15 +334,14 @@ count record_agrees "$room/crowd"
 
 # Version and help.
 try 0 'sysmem 0.1.0\n' '' '' --version
+try 0 'sysmem 0.1.0\n' '' '' -V
 helps() {
   "$program" "$1" --help >"$room/out" 2>"$room/told"
-  [ $? = 0 ] && grep -q 'show fired' "$room/out" && grep -q 'C trackweak B T' "$room/out" && grep -q '^Status: 0' "$room/out" && hears ''
+  [ $? = 0 ] && grep -q "^Status: 0 .* 1 FILE can't be opened" "$room/out" && grep -q "$2" "$room/out" && hears ''
 }
-for command in run threads; do count helps "$command"; done
-explains() {
-  "$program" explain --help >"$room/out" 2>"$room/told"
-  [ $? = 0 ] && grep -q 'C trackweak B T' "$room/out" && grep -q '^up: the failure went' "$room/out" && hears ''
-}
-count explains
+for command in run threads explain; do count helps "$command" '^ *C trackweak B T '; done
+for command in draw check; do count helps "$command" 'sysmem run --help'; done
+count helps explain '^up: the failure went'
+count helps check '^A transcript is'
 echo "$passed passed, $failed failed"
 [ "$failed" = 0 ]

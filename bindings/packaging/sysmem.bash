@@ -1,19 +1,29 @@
-# Completes the command line of sysmem in bash; zsh reads it after `bashcompinit`.
+# Completes the command line of sysmem in bash.
 _sysmem() {
   local word=${COMP_WORDS[COMP_CWORD]} before=${COMP_WORDS[COMP_CWORD - 1]} command=${COMP_WORDS[1]}
+  local commands='run threads explain draw check' options='--pages --help -h'
   COMPREPLY=()
+  if [ "$COMP_CWORD" = 1 ]; then
+    mapfile -t COMPREPLY < <(compgen -W "$commands help --help --version -h -V" -- "$word")
+    return
+  fi
+  # bash takes the = of --format=dot for a word.
+  if [ "$word" = = ]; then
+    word=''
+  elif [ "$before" = = ]; then
+    before=${COMP_WORDS[COMP_CWORD - 2]}
+  fi
   case $before in
-    --format) mapfile -t COMPREPLY < <(compgen -W 'text dot svg' -- "$word"); return ;;
+    --format) mapfile -t COMPREPLY < <(compgen -W 'text dot svg' -- "$word") && return ;;
     --pages | --at) return ;;
   esac
-  if [ "$COMP_CWORD" = 1 ]; then
-    mapfile -t COMPREPLY < <(compgen -W 'run explain draw check threads help --help --version' -- "$word")
+  if [ "$command" = help ]; then
+    [ "$COMP_CWORD" = 2 ] && mapfile -t COMPREPLY < <(compgen -W "$commands" -- "$word")
   elif [ "${word:0:1}" = - ]; then
-    local options='--pages --help'
     [ "$command" = draw ] && options+=' --format --at'
     [ "$command" = threads ] && options+=' --record'
     mapfile -t COMPREPLY < <(compgen -W "$options" -- "$word")
-  elif [[ $command != help ]]; then
+  else
     mapfile -t COMPREPLY < <(compgen -f -- "$word")
     compopt -o filenames 2>/dev/null
   fi

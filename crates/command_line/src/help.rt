@@ -11,7 +11,8 @@ Each command reads a script from FILE, or else from standard input:
     sysmem draw --at 28 camera.script
     sysmem explain < camera.script
 
-'sysmem run --help' lists the lines of a script.";
+`sysmem run --help` lists the lines of a script. If FILE can't be opened, the
+program names it with the reason, and ends with status 1.";
 
 pub(crate) const RUN_ABOUT: &str = "Answers each line of a script";
 
@@ -87,9 +88,10 @@ token, says that it camps on 2 buffers of at least 8192 bytes each, and asks
 whether the buffers are there. A line that uses an unbound label, or binds a
 bound one, is bad.
 
-Status: 0 all lines were answered; 1 read or write fault; 2 the command line was
-refused; 3 a bad line; 4 no memory, or history full. A fault is one line on
-standard error, after the answers to the lines before it.";
+Status: 0 all lines were answered; 1 FILE can't be opened, or read or write
+fault; 2 the command line was refused; 3 a bad line; 4 no memory, or history
+full. A fault is one line on standard error, after the answers to the lines
+before it.";
 
 pub(crate) const THREADS_HELP: &str = "\
     sysmem threads shared.actors
@@ -131,11 +133,12 @@ begin with #, and a node is called n and the number of the event of its birth:
 `sysmem threads --record shared.actors | sysmem explain` explains these events,
 if both commands have the same --pages.
 
-Status: 0 the report was written; 1 read or write fault; 2 the command line was
-refused; 3 a bad line: a show, a join behind a step or of a client that joined,
-a step of one that did not or for one, or no client at all; 4 no memory, no
-thread, or history full; 5 what the actors had at the end does not fit the
-record. A fault is told in one line on standard error, and nothing is reported.";
+Status: 0 the report was written; 1 FILE can't be opened, or read or write fault;
+2 the command line was refused; 3 a bad line: a show, a join behind a step or of
+a client that joined, a step of one that did not or for one, or no client at
+all; 4 no memory, no thread, or history full; 5 what the actors had at the end
+does not fit the record. A fault is told in one line on standard error, and
+nothing is reported.";
 
 pub(crate) const EXPLAIN_ABOUT: &str =
     "Repeats each line with its reply, what its event forced, and why";
@@ -163,9 +166,10 @@ whom an allocation waits. since: the line whose event made that loss.
 
 Lines that begin with two spaces are skipped, and count as lines.
 
-Status: 0 all lines were answered; 1 read or write fault; 2 the command line was
-refused; 3 a bad line; 4 no memory, or history full. A fault is one line on
-standard error, after the lines before it; a bad line has its reason.";
+Status: 0 all lines were answered; 1 FILE can't be opened, or read or write
+fault; 2 the command line was refused; 3 a bad line; 4 no memory, or history
+full. A fault is one line on standard error, after the lines before it; a bad
+line has its reason.";
 
 pub(crate) const DRAW_ABOUT: &str = "Draws the trees after the last line or an event";
 
@@ -182,9 +186,10 @@ asked for are not looked at. `sysmem run --help` lists the lines. So
 
 draws the trees after the last line of camera.script by Graphviz.
 
-Status: 0 the picture was written; 1 read or write fault; 2 the command line was
-refused, or there is no such event; 3 a bad line; 4 no memory, or history full.
-A fault is one line on standard error; a bad line has its reason.";
+Status: 0 the picture was written; 1 FILE can't be opened, or read or write
+fault; 2 the command line was refused, or there is no such event; 3 a bad line;
+4 no memory, or history full. A fault is one line on standard error; a bad line
+has its reason.";
 
 pub(crate) const CHECK_ABOUT: &str = "Compares the replies of a transcript with the machine's";
 
@@ -195,13 +200,16 @@ Compares the replies of a transcript with the machine's
 
 A transcript is a script in which a line may be followed by its reply, indented
 by two spaces, and by lines indented by four or more, which are ignored. What
-`sysmem explain` writes is one. If all replies agree, the numbers of lines that
-were played and of replies are written; else the first reply that differs:
+`sysmem explain` writes is one, and so is what `sysmem threads --record` writes.
+`sysmem run --help` lists the lines of a script. If all replies agree, the
+numbers of lines that were played and of replies are written; else the first
+reply that differs:
 
     line 41: enc check encoder
       recorded  pending
       legal     closed lost fordis
         since   line 36: dis close display
 
-Status: 0 all replies agree; 1 read or write fault; 2 the command line was
-refused; 3 a bad line; 4 no memory, or history full; 6 a reply differs.";
+Status: 0 all replies agree; 1 FILE can't be opened, or read or write fault; 2
+the command line was refused; 3 a bad line; 4 no memory, or history full; 6 a
+reply differs. A fault is one line on standard error; a bad line has its reason.";

@@ -1,6 +1,6 @@
 //! Calls and replies as numbers.
 ghost use Rattle.std.specs.Prelude.{◌≡◌};
-ghost use Rattle.sysmem.specs.Words.{argument_said, object_said, said, said_strength, said_constraints, reply_words};
+ghost use Rattle.sysmem.specs.Words.{argument_said, object_said, said, said_strength, said_constraints, blank_reply, reply_words};
 ghost use Rattle.sysmem.specs.Words.{strength_number, kind_number, cause_number};
 
 use sm_names::{
@@ -157,50 +157,87 @@ const NOTHING: ReplyWords = ReplyWords {
     index: 0,
 };
 
+// The words of a reply of this kind that tells an id.
+fn id_words(kind: u32, id: u64) -> ReplyWords
+    ensures { result ≡ record blank_reply { kind = kind; id = id } }
+{
+    ReplyWords {
+        kind,
+        id,
+        ..NOTHING
+    }
+}
+
+// The words of a reply of this kind that tells a node.
+fn node_words(kind: u32, node: NodeKey, detail: u32, id: u64) -> ReplyWords
+    ensures { result ≡ record blank_reply {
+      kind = kind;
+      slot = node.slot;
+      generation = node.generation;
+      detail = detail;
+      id = id;
+    } }
+{
+    ReplyWords {
+        kind,
+        slot: node.slot,
+        generation: node.generation,
+        detail,
+        id,
+        ..NOTHING
+    }
+}
+
+// The words of a reply of this kind that tells only why.
+fn detail_words(kind: u32, detail: u32) -> ReplyWords
+    ensures { result ≡ record blank_reply { kind = kind; detail = detail } }
+{
+    ReplyWords {
+        kind,
+        detail,
+        ..NOTHING
+    }
+}
+
+// The words of a reply that tells buffers of a strength: their set, or the index of one.
+fn buffer_words(kind: u32, collection: u64, strength: Strength, set: u64, index: u8) -> ReplyWords
+    ensures { result ≡ record blank_reply {
+      kind = kind;
+      detail = strength_number strength;
+      id = collection;
+      set = set;
+      index = index;
+    } }
+{
+    ReplyWords {
+        kind,
+        detail: strength_word(strength),
+        id: collection,
+        set,
+        index,
+        ..NOTHING
+    }
+}
+
 // The words of the reply.
 pub(crate) fn words_of(reply: &Reply) -> ReplyWords
     ensures { result ≡ reply_words reply.now }
 {
     match *reply {
         Reply::Done => NOTHING,
-        Reply::Joined(id) => ReplyWords {
-            kind: 1,
-            id,
-            ..NOTHING
-        },
-        Reply::Shut(id) => ReplyWords {
-            kind: 2,
-            id,
-            ..NOTHING
-        },
-        Reply::Token { key, collection } => ReplyWords {
-            kind: 3,
-            slot: key.slot,
-            generation: key.generation,
-            id: collection,
-            ..NOTHING
-        },
+        Reply::Joined(id) => id_words(1, id),
+        Reply::Shut(left) => id_words(2, left),
+        Reply::Token { key, collection } => node_words(3, key, 0, collection),
         Reply::Collected {
             key,
             kind,
             collection,
-        } => ReplyWords {
-            kind: 4,
-            slot: key.slot,
-            generation: key.generation,
-            detail: kind_word(kind),
-            id: collection,
-            ..NOTHING
-        },
-        Reply::CollectedHandle { buffer, strength } => ReplyWords {
-            kind: 5,
-            detail: strength_word(strength),
-            id: buffer.collection,
-            index: buffer.index,
-            ..NOTHING
-        },
-        Reply::Empty => ReplyWords { kind: 6, ..NOTHING },
-        Reply::Pending => ReplyWords { kind: 7, ..NOTHING },
+        } => node_words(4, key, kind_word(kind), collection),
+        Reply::CollectedHandle { buffer, strength } => {
+            buffer_words(5, buffer.collection, strength, 0, buffer.index)
+        }
+        Reply::Empty => detail_words(6, 0),
+        Reply::Pending => detail_words(7, 0),
         Reply::Allocated { count, size } => ReplyWords {
             kind: 8,
             count,
@@ -211,34 +248,10 @@ pub(crate) fn words_of(reply: &Reply) -> ReplyWords
             collection,
             strength,
             set,
-        } => ReplyWords {
-            kind: 9,
-            detail: strength_word(strength),
-            id: collection,
-            set,
-            ..NOTHING
-        },
-        Reply::Tracker(id) => ReplyWords {
-            kind: 10,
-            id,
-            ..NOTHING
-        },
-        Reply::Refused(refusal) => ReplyWords {
-            kind: 11,
-            detail: u32::from(refusal.number()),
-            ..NOTHING
-        },
-        Reply::Misused(misuse) => ReplyWords {
-            kind: 12,
-            detail: u32::from(misuse.number()),
-            ..NOTHING
-        },
-        Reply::PeerClosed { cause, origin } => ReplyWords {
-            kind: 13,
-            slot: origin.slot,
-            generation: origin.generation,
-            detail: cause_word(cause),
-            ..NOTHING
-        },
+        } => buffer_words(9, collection, strength, set, 0),
+        Reply::Tracker(id) => id_words(10, id),
+        Reply::Refused(refusal) => detail_words(11, u32::from(refusal.number())),
+        Reply::Misused(misuse) => detail_words(12, u32::from(misuse.number())),
+        Reply::PeerClosed { cause, origin } => node_words(13, origin, cause_word(cause), 0),
     }
 }

@@ -2,6 +2,8 @@
 //! explain` and `sysmem draw` tell what its events came to, `sysmem check` compares a transcript.
 #![tactic(auto)]
 
+mod messages;
+
 ghost use Rattle.std.specs.Prelude.{◌≡◌};
 ghost use Rattle.std.specs.Process.{exit_status};
 ghost use Rattle.std.specs.IoError.{error_kind};
@@ -12,6 +14,7 @@ ghost use Rattle.sysmem_main.specs.Statuses.{refusal_status, unread_status};
 use clap::error::ErrorKind;
 use clap::{ArgMatches, Command, Error};
 use command_line::{Format, Request, Task, View, command, request_of};
+use messages::{Misplaced, NO_COMMAND, Unopened, misplaced_file, reason_of};
 use script_draw::draw_to_exit;
 use script_explain::{check_to_exit, explain_to_exit};
 use sm_script::run_to_exit;
@@ -35,14 +38,27 @@ fn status_of(kind: ErrorKind) -> u8
     }
 }
 
-// What clap says: help on standard output with status 0, a refusal on standard error with 2.
-fn refuse(rt: &(impl Print + Eprint), error: Error) -> ExitCode
+// Says why the words ask for no run: a missing command and a file in its place in words of our own,
+// all else in clap's.
+fn tell(rt: &(impl Print + Eprint), error: &Error, words: &[String]) {
+    let _ = match error.kind() {
+        ErrorKind::MissingSubcommand => rt.eprintln(NO_COMMAND),
+        ErrorKind::InvalidSubcommand => match misplaced_file(words) {
+            Some(name) => rt.eprintln(Misplaced { name }),
+            None => error.print(rt),
+        },
+        _ => error.print(rt),
+    };
+}
+
+// Help on standard output with status 0, a refusal on standard error with 2.
+fn refuse(rt: &(impl Print + Eprint), error: Error, words: &[String]) -> ExitCode
     ensures { exit_status result ≡ refusal_status (kind_of error) }
 {
     match error.kind() {
         ErrorKind::OutOfMemory => no_memory(rt),
         kind => {
-            let _ = error.print(rt);
+            tell(rt, &error, words);
             ExitCode::from(status_of(kind))
         }
     }
@@ -62,7 +78,7 @@ fn unread(rt: &impl Eprint, error: &io::Error) -> ExitCode
     match error.kind() {
         io::ErrorKind::OutOfMemory => no_memory(rt),
         _ => {
-            let _ = rt.eprintln("the command line can't be read");
+            let _ = rt.eprintln("a word of the command line is not UTF-8");
             ExitCode::from(2)
         }
     }
@@ -106,7 +122,7 @@ fn parsed<'a>(
 ) -> Result<Request<'a>, ExitCode> {
     match command.try_get_matches_from(words) {
         Ok(matches) => asked(rt, &matches),
-        Err(error) => Err(refuse(rt, error)),
+        Err(error) => Err(refuse(rt, error, words)),
     }
 }
 
@@ -144,12 +160,18 @@ fn read<H: Threads + Wait + Clock + Sync>(
         None => play(rt, host, seed, &mut rt.reader(), request),
         Some(name) => match fs::open(rt, name) {
             Ok(mut file) => play(rt, host, seed, &mut file, request),
-            Err(_) => {
-                let _ = rt.eprintln("the file can't be opened");
-                ExitCode::from(1)
-            }
+            Err(error) => unopened(rt, name, &error),
         },
     }
+}
+
+// The file of this name can't be opened.
+fn unopened(rt: &impl Eprint, name: &str, error: &io::Error) -> ExitCode
+    ensures { exit_status result ≡ 1 }
+{
+    let reason = reason_of(error.kind());
+    let _ = rt.eprintln(Unopened { name, reason });
+    ExitCode::from(1)
 }
 
 // Does with the script that the reader holds what is asked for. Actors get their threads from the host.

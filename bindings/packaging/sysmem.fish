@@ -1,0 +1,21 @@
+# Completes the command line of sysmem in fish.
+set -l commands run threads explain draw check
+complete -c sysmem -n __fish_use_subcommand -f
+complete -c sysmem -n __fish_use_subcommand -a run -d 'Answers each line of a script'
+complete -c sysmem -n __fish_use_subcommand -a threads \
+    -d 'Runs the clients of a script side by side, and reports on them'
+complete -c sysmem -n __fish_use_subcommand -a explain \
+    -d 'Repeats each line with its reply, what its event forced, and why'
+complete -c sysmem -n __fish_use_subcommand -a draw -d 'Draws the trees after the last line or an event'
+complete -c sysmem -n __fish_use_subcommand -a check \
+    -d "Compares the replies of a transcript with the machine's"
+complete -c sysmem -n __fish_use_subcommand -a help -d 'Describes a command'
+complete -c sysmem -n __fish_use_subcommand -s V -l version -d 'Names the version'
+complete -c sysmem -s h -l help -d 'Describes the commands, or a command'
+complete -c sysmem -n '__fish_seen_subcommand_from help' -f -a "$commands"
+complete -c sysmem -n "__fish_seen_subcommand_from $commands" -l pages -x -d 'The number of pages of the pool'
+complete -c sysmem -n '__fish_seen_subcommand_from threads' -l record -d 'Writes all events before the report'
+complete -c sysmem -n '__fish_seen_subcommand_from draw' -l format -x -a 'text dot svg' \
+    -d 'The format of the picture'
+complete -c sysmem -n '__fish_seen_subcommand_from draw' -l at -x \
+    -d 'The event after which the trees are drawn'
