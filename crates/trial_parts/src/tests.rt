@@ -1,4 +1,5 @@
 mod cells;
 mod counts;
 mod falls;
+mod names;
 mod pages;

@@ -1,4 +1,5 @@
 //! Clients with ends, handles and parcels are parted with, and nothing is left.
+use super::lending::on_core;
 use client_exit::{PartFault, Parted, part_with};
 use lifetime_core::Core;
 use sm_names::{BufferName, Call, ClientId, Constraints, Limits, NodeKey, Strength};
@@ -97,16 +98,13 @@ fn leaves_nothing(core: &mut Core) -> bool {
         && is_empty(core)
 }
 
+// Whether they share a tree, take handles, and leave nothing.
+fn come_and_go(alloc: Global, core: &mut Core) -> bool {
+    share(alloc, core) && ask(alloc, core) && give(alloc, core) && leaves_nothing(core)
+}
+
 fn two_clients_leave_nothing(alloc: Global) -> bool {
-    match Core::new(alloc, 16, Limits::full()) {
-        Ok(mut core) => {
-            share(alloc, &mut core)
-                && ask(alloc, &mut core)
-                && give(alloc, &mut core)
-                && leaves_nothing(&mut core)
-        }
-        Err(_) => false,
-    }
+    on_core(alloc, Limits::full(), |core| come_and_go(alloc, core))
 }
 
 #[test]

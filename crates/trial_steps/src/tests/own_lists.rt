@@ -1,7 +1,6 @@
 //! Own lists that are parts of a record, and lists that are not.
 use event_laws::{Own, Parts};
 use sm_names::{Call, ClientId, Reply};
-use std::process::Abort;
 use std::test::Fail;
 
 // Clients 1 and 3 join; client 1 makes events 2 and 5, client 3 event 4.
@@ -42,36 +41,37 @@ fn differs(parts: &Parts, client: ClientId, own: &[Own], wanted: Option<u64>) ->
     parts.differ(client, own) == wanted
 }
 
-fn finds(rt: &impl Abort, parts: &Parts) {
-    assert!(rt; differs(parts, 1, &[SECOND, FIFTH], None));
-    assert!(rt; differs(parts, 3, &[FOURTH], None));
-    assert!(rt; differs(parts, 9, &[], None));
+// Whether the parts of the record are told from other lists.
+fn finds(parts: &Parts) -> bool {
     // The event of the record, where the list has another one or is over.
     let misheard = Own {
         reply: Reply::Shut(1),
         ..FIFTH
     };
-    assert!(rt; differs(parts, 1, &[SECOND, misheard], Some(5)));
     let miscalled = Own {
         call: Call::Collect,
         ..FIFTH
     };
-    assert!(rt; differs(parts, 1, &[SECOND, miscalled], Some(5)));
-    assert!(rt; differs(parts, 1, &[FIFTH, SECOND], Some(2)));
-    assert!(rt; differs(parts, 1, &[SECOND, NINTH], Some(5)));
-    assert!(rt; differs(parts, 1, &[SECOND], Some(5)));
-    assert!(rt; differs(parts, 1, &[], Some(2)));
-    assert!(rt; differs(parts, 3, &[FIFTH], Some(4)));
-    // The event of the list, where the record has no more.
-    assert!(rt; differs(parts, 1, &[SECOND, FIFTH, NINTH], Some(9)));
-    assert!(rt; differs(parts, 9, &[NINTH], Some(9)));
+    differs(parts, 1, &[SECOND, FIFTH], None)
+        && differs(parts, 3, &[FOURTH], None)
+        && differs(parts, 9, &[], None)
+        && differs(parts, 1, &[SECOND, misheard], Some(5))
+        && differs(parts, 1, &[SECOND, miscalled], Some(5))
+        && differs(parts, 1, &[FIFTH, SECOND], Some(2))
+        && differs(parts, 1, &[SECOND, NINTH], Some(5))
+        && differs(parts, 1, &[SECOND], Some(5))
+        && differs(parts, 1, &[], Some(2))
+        && differs(parts, 3, &[FIFTH], Some(4))
+        // The event of the list, where the record has no more.
+        && differs(parts, 1, &[SECOND, FIFTH, NINTH], Some(9))
+        && differs(parts, 9, &[NINTH], Some(9))
 }
 
 #[test]
 fn a_list_that_differs_is_told_by_the_event(rt: HostRuntime) -> Result<(), Fail> {
     match Parts::new(rt.alloc(), &RECORD) {
         Ok(parts) => {
-            finds(&rt, &parts);
+            assert!(rt; finds(&parts));
             Ok(())
         }
         Err(_) => Err(Fail::from("no memory")),

@@ -108,21 +108,31 @@ fn skips(state: &mut ActorState, step: Step) -> bool {
     told(state, step, Reply::Done).is_none()
 }
 
+// Whether the step makes a call on what lies in this slot, which is answered so.
+fn is_made(state: &mut ActorState, step: Step, reply: Reply, slot: usize) -> bool {
+    told(state, step, reply) == Some(Some(slot))
+}
+
+// Whether an actor makes the calls for which it was told enough, and skips the others.
+fn knows(state: &mut ActorState) -> bool {
+    told(state, open(), token()).is_some()
+        && skips(state, open())
+        && is_made(state, ask(CallKind::Bind), Reply::Done, 0)
+        && skips(state, ask(CallKind::Bind))
+        && is_made(state, ask(CallKind::Check), Reply::Pending, 1)
+        && is_made(state, ask(CallKind::Take), taken(), 1)
+        && skips(state, give(2))
+        && is_made(state, give(1), Reply::Done, 1)
+        && skips(state, ask(CallKind::Close))
+        && skips(state, Step::Poll { tracker: 1 })
+        && is_made(state, drop_third(), Reply::Done, 3)
+        && skips(state, drop_third())
+        && skips(state, track(1))
+        && state.tracker(1).is_none()
+}
+
 #[test]
 fn an_actor_knows_what_it_was_told(rt: HostRuntime) {
     let mut state = ActorState::new(rt.alloc());
-    assert!(rt; told(&mut state, open(), token()).is_some());
-    assert!(rt; skips(&mut state, open()));
-    assert!(rt; told(&mut state, ask(CallKind::Bind), Reply::Done) == Some(Some(0)));
-    assert!(rt; skips(&mut state, ask(CallKind::Bind)));
-    assert!(rt; told(&mut state, ask(CallKind::Check), Reply::Pending) == Some(Some(1)));
-    assert!(rt; told(&mut state, ask(CallKind::Take), taken()) == Some(Some(1)));
-    assert!(rt; skips(&mut state, give(2)));
-    assert!(rt; told(&mut state, give(1), Reply::Done) == Some(Some(1)));
-    assert!(rt; skips(&mut state, ask(CallKind::Close)));
-    assert!(rt; skips(&mut state, Step::Poll { tracker: 1 }));
-    assert!(rt; told(&mut state, drop_third(), Reply::Done) == Some(Some(3)));
-    assert!(rt; skips(&mut state, drop_third()));
-    assert!(rt; skips(&mut state, track(1)));
-    assert!(rt; state.tracker(1).is_none());
+    assert!(rt; knows(&mut state));
 }

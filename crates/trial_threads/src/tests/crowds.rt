@@ -2,6 +2,7 @@
 use crate::tests::fixture::check_gathered;
 use script_lines::push_number;
 use std::test::Fail;
+use std::time::Instant;
 
 // Twenty steps of an actor: `@` stands for its number, `%` for that of the next one, and `#` for the
 // round. A root, a child that is given away, and handles of both; what comes is collected, used and
@@ -13,6 +14,12 @@ c@ constrain m# 0 0 1\nc@ take m#\nc@ tracknode r# t#\nc@ poll t#\nc@ collect n#
 c@ droph r#.0 strong\nc@ close m#\nc@ release r#\nc@ check r#\n";
 
 const ACTORS: u64 = 64;
+
+// So often they run, each time in another order of events. Once so many seconds have passed no further run begins: a
+// build that looks for misused memory takes a hundred times as long as one that is proved.
+const RUNS: u64 = 20;
+
+const SECONDS: u64 = 45;
 
 // Puts the lines of the template behind the text.
 fn push_lines(text: &mut Vec<u8>, template: &str, actor: u64, round: u64) -> Result<(), Fail> {
@@ -39,8 +46,13 @@ fn sixty_four_actors_make_a_thousand_steps_each(rt: HostRuntime) -> Result<(), F
             push_lines(&mut script, ROUND, actor, round)?;
         }
     }
-    for _ in 0..20 {
+    let began = Instant::now(&rt).map_err(|_| "no clock")?;
+    for _ in 0..RUNS {
         check_gathered(&rt, rt.alloc(), script.as_slice(), 64);
+        let passed = began.elapsed(&rt).map_err(|_| "no clock")?;
+        if passed.as_secs() >= SECONDS {
+            break;
+        }
     }
     Ok(())
 }
