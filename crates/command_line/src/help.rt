@@ -65,6 +65,8 @@ if a label has more than 16 letters and digits, a number is out of its range, or
 an index is over 63. docs/SCRIPT.md has the whole language, examples/ scripts.";
 
 pub(crate) const RUN_HELP: &str = "\
+Example:
+
     sysmem run first.script
 
 answers each line of first.script by one line. So
@@ -94,6 +96,8 @@ full. A fault is one line on standard error, after the answers to the lines
 before it.";
 
 pub(crate) const THREADS_HELP: &str = "\
+Example:
+
     sysmem threads shared.actors
 
 runs each client as an actor in a thread of its own. The lines that begin with
