@@ -20,7 +20,7 @@ use Rattle.trackers.proofs.Weights.{weigh_append}
 -- ---- the last of a list
 
 -- what holds of all holds of the last
-pub last_of : {A : Type 0} (P : A → Type 0) (xs : List A) (x : A) → AllByRecursion P (xs ++ x ∷ []) → P x
+last_of : {A : Type 0} (P : A → Type 0) (xs : List A) (x : A) → AllByRecursion P (xs ++ x ∷ []) → P x
 last_of P [] x all = all.0
 last_of P (y ∷ ys) x all = last_of P ys x all.1
 

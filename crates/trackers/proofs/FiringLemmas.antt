@@ -1,12 +1,12 @@
 -- What a visit of one row and its firing leave.
-use Rattle.std.proofs.Common.{◌≡◌, ◌≢◌, ℕ, zero, suc, ◌+◌, ◌<◌, Bool, true, false, if◌then◌else◌, List, [], ◌∷◌, ◌++◌, length, get_or, set, option_to_list, Option, Some, None, IsSomeAnd, refl, sym, ap, subst, ◌∙◌, arith, append-nil}
+use Rattle.std.proofs.Common.{◌≡◌, ◌≢◌, ℕ, ◌<◌, Bool, true, false, if◌then◌else◌, List, [], ◌∷◌, ◌++◌, length, get_or, set, option_to_list, Option, Some, None, IsSomeAnd, refl, sym, ap, subst, ◌∙◌, arith, append-nil}
 use Rattle.std.proofs.lemmas.List.{length_push, get_or_push, get_or_append_left, set-get_or}
 use Rattle.sm_names.specs.declared.tracking.Fired.{Fired}
 use Rattle.sm_names.specs.Trackers.{World}
 use Rattle.trackers.specs.declared.place.Place.{Place}
 use Rattle.trackers.specs.declared.place.Stage.{Stage}
 use Rattle.trackers.specs.declared.place.Stage.TheVariants.{InSlot, Untaken, Taken}
-use Rattle.trackers.specs.Row.{TrackerRow, RowState, Waits, Over, WaitingRow, row_of_waiting, is_waiting}
+use Rattle.trackers.specs.Row.{TrackerRow, RowState, Waits, Over, WaitingRow, is_waiting}
 use Rattle.trackers.specs.Held.{is_met, row_after, fires}
 use Rattle.trackers.specs.Places.{Slots, slot_at, firing_or_none, row_in, row_over, row_as, row_at, rows_of, IsKept, IsKeptAt, IsHere, RowsInvariant}
 use Rattle.trackers.proofs.SlotLemmas.{rows_long, row_there, kept_there, in_slot, at_place}

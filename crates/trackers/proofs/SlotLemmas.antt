@@ -1,7 +1,7 @@
 -- What a change of one place, its slot and the firings leaves of the rows.
-use Rattle.std.proofs.Common.{◌≡◌, ◌≢◌, ℕ, zero, suc, ◌+◌, ◌<◌, ◌≤◌, Bool, true, false, if◌then◌else◌, List, [], ◌∷◌, ◌++◌, map, length, get_or, set, option_to_list, Option, Some, None, IsSomeAnd, refl, sym, ap, subst, ◌∙◌, arith, append-nil}
+use Rattle.std.proofs.Common.{◌≡◌, ◌≢◌, ℕ, zero, suc, ◌<◌, ◌≤◌, true, false, List, [], ◌∷◌, ◌++◌, map, length, get_or, set, option_to_list, Option, Some, None, IsSomeAnd, refl, sym, ap, subst, ◌∙◌, arith}
 use Rattle.std.specs.List.{AllByRecursion}
-use Rattle.std.proofs.lemmas.List.{map_push, length_push, length-map, get_or_default, get_or_append_left, get_or_push, same_from_push}
+use Rattle.std.proofs.lemmas.List.{map_push, length-map, get_or_default, same_from_push}
 use Rattle.std.proofs.lemmas.List.Elements.{All-from_recursion}
 use Rattle.sm_names.specs.declared.tracking.Fired.{Fired}
 use Rattle.trackers.specs.declared.place.Place.{Place}
@@ -12,7 +12,7 @@ use Rattle.trackers.specs.Held.{IdsRise, NoneHas, Found, here, later}
 use Rattle.trackers.specs.Places.{Slots, slot_at, firing_or_none, row_in, row_over, row_as, row_at, rows_of, IsKept, IsKeptAt, RowsInvariant, Leaves, Names}
 use Rattle.trackers.proofs.FoundLemmas.{found_at}
 use Rattle.trackers.proofs.AttachLemmas.{rising_push, fresh}
-use Rattle.trackers.proofs.DetachLemmas.{front_of, last_of, below_last, front_rises}
+use Rattle.trackers.proofs.DetachLemmas.{front_of, below_last, front_rises}
 
 -- rows as they are kept
 abbrev pub kept_with : List TrackerRow → List Fired → ℕ → KeptRows

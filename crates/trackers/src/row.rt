@@ -1,5 +1,5 @@
 //! One tracker that waits, as the table keeps it.
-ghost use Rattle.std.specs.Prelude.{◌≡◌, true, false, None, IfOk};
+ghost use Rattle.std.specs.Prelude.{◌≡◌, true, false, IfOk};
 ghost use Rattle.sm_names.specs.Trackers.{holds};
 ghost use Rattle.trackers.specs.Row.{WaitingRow, reader_of_waiting};
 

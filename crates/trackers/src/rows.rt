@@ -3,7 +3,7 @@
 ghost use Rattle.std.specs.Prelude.{◌≡◌, ◌+◌, ◌^◌, ◌<◌, ◌≤◌, [], ◌∷◌, ◌++◌, length, true, false, Option, None, OnOk, OnErr, IsTrue, slice_index_or, slice_set, option_to_list};
 ghost use Rattle.std.specs.List.{AllByRecursion};
 ghost use Rattle.trackers.specs.Row.{TrackerRow, Over, is_waiting, firing_of_row, reader_of_row, row_of_waiting};
-ghost use Rattle.trackers.specs.Held.{IsSearchAnswer, is_met, row_after, fires};
+ghost use Rattle.trackers.specs.Held.{IsSearchAnswer, row_after, fires};
 
 use crate::place::{
     Place, add, find_place, fire_place, firing_at, is_due_at, leave, make_room, take_at,

@@ -22,14 +22,15 @@ use std::marker::Model;
 /// Why a tracker was not attached. Then nothing changed.
 #[derive(Clone, Copy, Debug, PartialEq, Eq)]
 pub enum TrackFault {
-    /// Memory was refused.
+    /// Memory was refused, or 4,294,967,295 trackers were attached before.
     NoMemory,
     /// As many trackers wait as may.
     Full,
 }
 
-/// All trackers of a service. One that waits takes a row, two allocations and its places in the
-/// tables; of one that fired 24 bytes are kept for good: its firing, and where that stands.
+/// All trackers of a service. One that waits takes a row, a cell with the room for its value, and its
+/// places in the tables. Of one that fired 24 bytes are kept for good: its firing, and the place that
+/// names it.
 #[derive(Drop)]
 pub struct Trackers {
     limit: u32,

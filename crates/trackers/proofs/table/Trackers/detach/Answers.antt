@@ -1,4 +1,3 @@
-use Rattle.std.proofs.Common.{arith}
 use Rattle.trackers.proofs.DetachLemmas.{shown_again, sound_detached}
 use Rattle.trackers.proofs.table.Trackers.detach.Goals as goal
 
