@@ -152,7 +152,8 @@ impl Holds {
     /// of one kind were open at once. It costs a constant.
     pub fn have_room(&self) -> bool
         ensures { result ≡ true →
-            (buffer : BufferName) (strength : Strength) → total self.now buffer strength < self.now.limit }
+            (buffer : BufferName) (strength : Strength) →
+            total self.now buffer strength < self.now.limit }
     {
         self.most < self.limit
     }
@@ -198,9 +199,12 @@ impl Holds {
         strength: Strength,
     ) -> Result<(), HoldFault>
         ensures opened { OnOk result (Sets self.old self.new client buffer strength
-            (of self.old client buffer strength + 1) (moving_count self.old buffer strength) (total self.old buffer strength + 1)) }
-        ensures too_many { IsErrOf result HoldFault.TooMany ↔ (total self.old buffer strength ≡ self.old.limit) }
-        ensures room { IsTrue (has_handle_room self.old client buffer strength) → IsOkUnless result HoldFault.TooMany }
+            (of self.old client buffer strength + 1) (moving_count self.old buffer strength)
+            (total self.old buffer strength + 1)) }
+        ensures too_many { IsErrOf result HoldFault.TooMany
+            ↔ (total self.old buffer strength ≡ self.old.limit) }
+        ensures room { IsTrue (has_handle_room self.old client buffer strength) →
+            IsOkUnless result HoldFault.TooMany }
         ensures err { OnErr result (self.new ≡ self.old) }
     {
         let mut near = self.last.spot(strength);
@@ -217,9 +221,12 @@ impl Holds {
         near: &mut Spot,
     ) -> Result<(), HoldFault>
         ensures opened { OnOk result (Sets self.old self.new client buffer strength
-            (of self.old client buffer strength + 1) (moving_count self.old buffer strength) (total self.old buffer strength + 1)) }
-        ensures too_many { IsErrOf result HoldFault.TooMany ↔ (total self.old buffer strength ≡ self.old.limit) }
-        ensures room { IsTrue (has_handle_room self.old client buffer strength) → IsOkUnless result HoldFault.TooMany }
+            (of self.old client buffer strength + 1) (moving_count self.old buffer strength)
+            (total self.old buffer strength + 1)) }
+        ensures too_many { IsErrOf result HoldFault.TooMany
+            ↔ (total self.old buffer strength ≡ self.old.limit) }
+        ensures room { IsTrue (has_handle_room self.old client buffer strength) →
+            IsOkUnless result HoldFault.TooMany }
         ensures err { OnErr result (self.new ≡ self.old) }
     {
         let kind = HandleKind { buffer, strength };
@@ -242,7 +249,8 @@ impl Holds {
     pub fn sub(&mut self, client: ClientId, buffer: BufferName, strength: Strength) -> bool
         ensures had { IsTrue result ↔ (0 < of self.old client buffer strength) }
         ensures closed { OnTrue result (Sets self.old self.new client buffer strength
-            (of self.old client buffer strength - 1) (moving_count self.old buffer strength) (total self.old buffer strength - 1)) }
+            (of self.old client buffer strength - 1) (moving_count self.old buffer strength)
+            (total self.old buffer strength - 1)) }
         ensures unchanged { OnFalse result (self.new ≡ self.old) }
     {
         let kind = HandleKind { buffer, strength };
@@ -279,8 +287,10 @@ impl Holds {
         strength: Strength,
     ) -> Result<bool, NoMemory>
         ensures had { IfOk result (λ had. IsTrue had ↔ (0 < of self.old client buffer strength)) }
-        ensures lifted { IfOk result (λ had. OnTrue had (Sets self.old self.new client buffer strength
-            (of self.old client buffer strength - 1) (moving_count self.old buffer strength + 1) (total self.old buffer strength))) }
+        ensures lifted { IfOk result
+            (λ had. OnTrue had (Sets self.old self.new client buffer strength
+            (of self.old client buffer strength - 1) (moving_count self.old buffer strength + 1)
+            (total self.old buffer strength))) }
         ensures unchanged { IfOk result (λ had. OnFalse had (self.new ≡ self.old)) }
         ensures err { OnErr result (self.new ≡ self.old) }
     {
@@ -307,7 +317,8 @@ impl Holds {
     pub fn land(&mut self, client: ClientId, buffer: BufferName, strength: Strength)
         requires { 0 < moving_count self.old buffer strength }
         ensures { Sets self.old self.new client buffer strength
-            (of self.old client buffer strength + 1) (moving_count self.old buffer strength - 1) (total self.old buffer strength) }
+            (of self.old client buffer strength + 1) (moving_count self.old buffer strength - 1)
+            (total self.old buffer strength) }
     {
         let kind = HandleKind { buffer, strength };
         let sent = self.sent - 1;

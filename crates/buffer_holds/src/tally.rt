@@ -203,7 +203,9 @@ fn open_first(
     requires first { tally_row tallies.old.entries hold.kind ≡ None }
     requires none { row_at rows.old.entries hold ≡ None }
     ensures raised { OnOk result (Raises rows.old.entries rows.new.entries hold) }
-    ensures tallied { OnOk result (OpensOne rows.old.entries rows.new.entries tallies.old.entries tallies.new.entries hold.kind) }
+    ensures tallied { OnOk result
+        (OpensOne rows.old.entries rows.new.entries
+        tallies.old.entries tallies.new.entries hold.kind) }
     ensures too_many { IsErrOf result HoldFault.TooMany ↔ (0 ≡ limit) }
     ensures more { most.old ≤ most.new }
     ensures most { OnOk result ((tally_at tallies.old.entries hold.kind).total + 1 ≤ most.new) }
@@ -244,13 +246,19 @@ pub(crate) fn open(
     free: u32,
 ) -> Result<(), HoldFault>
     requires within { (tally_at tallies.old.entries hold.kind).total ≤ limit }
-    requires counted { count_at rows.old.entries hold ≤ (tally_at tallies.old.entries hold.kind).total }
-    requires with { tally_row tallies.old.entries hold.kind ≡ None → row_at rows.old.entries hold ≡ None }
+    requires counted { count_at rows.old.entries hold
+        ≤ (tally_at tallies.old.entries hold.kind).total }
+    requires with { tally_row tallies.old.entries hold.kind ≡ None →
+        row_at rows.old.entries hold ≡ None }
     requires listed { (tally_at tallies.old.entries hold.kind).clients ≤ length rows.old.entries }
     ensures raised { OnOk result (Raises rows.old.entries rows.new.entries hold) }
-    ensures tallied { OnOk result (OpensOne rows.old.entries rows.new.entries tallies.old.entries tallies.new.entries hold.kind) }
-    ensures too_many { IsErrOf result HoldFault.TooMany ↔ ((tally_at tallies.old.entries hold.kind).total ≡ limit) }
-    ensures room { IsSome (row_at rows.old.entries hold) → IsSome (tally_row tallies.old.entries hold.kind)
+    ensures tallied { OnOk result
+        (OpensOne rows.old.entries rows.new.entries
+        tallies.old.entries tallies.new.entries hold.kind) }
+    ensures too_many { IsErrOf result HoldFault.TooMany
+        ↔ ((tally_at tallies.old.entries hold.kind).total ≡ limit) }
+    ensures room { IsSome (row_at rows.old.entries hold) →
+        IsSome (tally_row tallies.old.entries hold.kind)
         → IsOkUnless result HoldFault.TooMany }
     ensures more { most.old ≤ most.new }
     ensures most { OnOk result ((tally_at tallies.old.entries hold.kind).total + 1 ≤ most.new) }

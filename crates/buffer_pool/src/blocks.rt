@@ -87,7 +87,8 @@ impl Blocks {
         requires none { self.old.spares ≡ 0 }
         ensures items { all_in self.new.lists ≡ all_in self.old.lists }
         ensures capacity { capacity_of self.new ≡ capacity_of self.old }
-        ensures spare { length (all_in self.old.lists) < capacity_of self.old → 0 < self.new.spares }
+        ensures spare { length (all_in self.old.lists) < capacity_of self.old →
+            0 < self.new.spares }
     {
         let at = short_pair(&self.used);
         if at + 1 < self.used.len() {
@@ -99,7 +100,8 @@ impl Blocks {
     pub(crate) fn loosen(&mut self)
         ensures items { all_in self.new.lists ≡ all_in self.old.lists }
         ensures capacity { capacity_of self.new ≡ capacity_of self.old }
-        ensures spare { length (all_in self.old.lists) < capacity_of self.old → 0 < self.new.spares }
+        ensures spare { length (all_in self.old.lists) < capacity_of self.old →
+            0 < self.new.spares }
     {
         if !self.has_spare() {
             self.gather();
@@ -109,7 +111,8 @@ impl Blocks {
     /// The interval at a spot.
     pub(crate) fn get(&self, spot: Spot) -> Interval
         requires { HasIntervalAt self.now.lists spot }
-        ensures { result ≡ slice_index_or (all_in self.now.lists) (spot_index self.now.lists spot) result }
+        ensures { result ≡ slice_index_or (all_in self.now.lists)
+            (spot_index self.now.lists spot) result }
     {
         self.used[spot.block].get(spot.offset)
     }
@@ -272,9 +275,11 @@ impl Blocks {
     // Moves the intervals of a block behind those of the one before it.
     fn merge(&mut self, at: usize)
         requires there { at + 1 < length self.old.lists }
-        requires room { length (get_or self.old.lists at []) + length (get_or self.old.lists (at + 1) []) ≤ FULL }
+        requires room { length (get_or self.old.lists at [])
+            + length (get_or self.old.lists (at + 1) []) ≤ FULL }
         ensures lists { self.new.lists
-            ≡ set (remove self.old.lists (at + 1)) at (get_or self.old.lists at [] ++ get_or self.old.lists (at + 1) []) }
+            ≡ set (remove self.old.lists (at + 1)) at
+            (get_or self.old.lists at [] ++ get_or self.old.lists (at + 1) []) }
         ensures spares { self.new.spares ≡ self.old.spares + 1 }
     {
         let mut block = self.used.remove(at + 1);
@@ -358,7 +363,8 @@ impl Blocks {
     pub(crate) fn has_rooms(&self, from: Spot, count: u32, pages_each: u32) -> bool
         requires pages { 1 ≤ pages_each }
         requires within { IsInsertSpot self.now.lists from }
-        requires first { spot_index self.now.lists from ≡ prefix_len (too_small pages_each) (all_in self.now.lists) }
+        requires first { spot_index self.now.lists from
+            ≡ prefix_len (too_small pages_each) (all_in self.now.lists) }
         ensures { result ≡ nat_le count (rooms pages_each (all_in self.now.lists)) }
     {
         let mut left = count;
@@ -378,7 +384,8 @@ impl Blocks {
 fn short_pair(blocks: &[Block]) -> usize
     requires { length blocks.now < 2 ^ 63 }
     ensures within { result ≤ length blocks.now }
-    ensures none { length blocks.now ≤ result + 1 → (length blocks.now - 1) * HALF ≤ length (all_in blocks.now) }
+    ensures none { length blocks.now ≤ result + 1 →
+        (length blocks.now - 1) * HALF ≤ length (all_in blocks.now) }
     ensures short { result + 1 < length blocks.now
         → length (get_or blocks.now result []) + length (get_or blocks.now (result + 1) []) ≤ FULL }
 {

@@ -24,7 +24,8 @@ pub(crate) fn let_go(held: &mut Blocks, first: Interval, count: u32)
     requires up { IsTrue (in_order 0 MAX_PAGES (all_in held.old.lists)) }
     requires some { 1 ≤ count }
     requires there { HasRun first.start first.pages count (all_in held.old.lists) }
-    ensures { all_in held.new.lists ≡ without_run first.start first.pages count (all_in held.old.lists) }
+    ensures { all_in held.new.lists
+        ≡ without_run first.start first.pages count (all_in held.old.lists) }
 {
     let mut spot = held.find(u64::from(first.start), false);
     let mut left = count as usize;

@@ -146,8 +146,10 @@ fn seek(blocks: &mut Blocks, known: u32, reach: Reach, pages_each: u32) -> Reach
 fn loosened(blocks: &mut Blocks, reach: Reach) -> Reach
     ensures items { all_in blocks.new.lists ≡ all_in blocks.old.lists }
     ensures capacity { capacity_of blocks.new ≡ capacity_of blocks.old }
-    ensures spare { length (all_in blocks.old.lists) < capacity_of blocks.old → 0 < blocks.new.spares }
-    ensures passed { (pages : ℕ) → IsPassed pages reach blocks.old.lists → IsPassed pages result blocks.new.lists }
+    ensures spare { length (all_in blocks.old.lists) < capacity_of blocks.old →
+        0 < blocks.new.spares }
+    ensures passed { (pages : ℕ) → IsPassed pages reach blocks.old.lists →
+        IsPassed pages result blocks.new.lists }
 {
     if blocks.has_spare() {
         return reach;
@@ -160,7 +162,8 @@ fn loosened(blocks: &mut Blocks, reach: Reach) -> Reach
 fn lowered(reach: Reach, spot: Spot) -> Reach
     ensures block { result.spot.block ≤ spot.block }
     ensures offset { result.spot.offset ≡ 0 }
-    ensures passed { (pages : ℕ) (lists : List (List Interval)) → IsPassed pages reach lists → IsPassed pages result lists }
+    ensures passed { (pages : ℕ) (lists : List (List Interval)) → IsPassed pages reach lists →
+        IsPassed pages result lists }
 {
     if reach.spot.block <= spot.block {
         Reach {
@@ -177,11 +180,13 @@ fn lowered(reach: Reach, spot: Spot) -> Reach
 
 // Takes pages from the front of the first hole that is not too small, and gives their start.
 fn shorten(blocks: &mut Blocks, spot: Spot, pages_each: u32) -> u32
-    requires first { spot_index blocks.old.lists spot ≡ prefix_len (too_small pages_each) (all_in blocks.old.lists) }
+    requires first { spot_index blocks.old.lists spot
+        ≡ prefix_len (too_small pages_each) (all_in blocks.old.lists) }
     requires some { HasIntervalAt blocks.old.lists spot }
     requires fits { All (λ h. end_of h < 2 ^ 32) (all_in blocks.old.lists) }
     ensures start { result ≡ first_fit pages_each (all_in blocks.old.lists) }
-    ensures changed { IsChanged blocks.old blocks.new spot (taken pages_each (all_in blocks.old.lists)) }
+    ensures changed { IsChanged blocks.old blocks.new spot
+        (taken pages_each (all_in blocks.old.lists)) }
     ensures within { IsInsertSpot blocks.new.lists spot }
 {
     let hole = blocks.get(spot);
@@ -200,7 +205,8 @@ fn shorten(blocks: &mut Blocks, spot: Spot, pages_each: u32) -> u32
 // Whether there is a hole at this spot that ends at this page.
 fn ends_at(blocks: &Blocks, spot: Spot, page: u32) -> bool
     requires { IsNextOrEnd blocks.now.lists spot }
-    ensures { result ≡ first_ends page (drop (spot_index blocks.now.lists spot) (all_in blocks.now.lists)) }
+    ensures { result
+        ≡ first_ends page (drop (spot_index blocks.now.lists spot) (all_in blocks.now.lists)) }
 {
     blocks.has_interval(spot) && edge(blocks.get(spot), true) == u64::from(page)
 }
@@ -208,7 +214,8 @@ fn ends_at(blocks: &Blocks, spot: Spot, page: u32) -> bool
 // Whether there is a hole at this spot that begins at this page.
 fn begins_at(blocks: &Blocks, spot: Spot, page: u64) -> bool
     requires { IsNextOrEnd blocks.now.lists spot }
-    ensures { result ≡ first_begins page (drop (spot_index blocks.now.lists spot) (all_in blocks.now.lists)) }
+    ensures { result
+        ≡ first_begins page (drop (spot_index blocks.now.lists spot) (all_in blocks.now.lists)) }
 {
     blocks.has_interval(spot) && edge(blocks.get(spot), false) == page
 }
@@ -250,7 +257,8 @@ fn put_back(blocks: &mut Blocks, spot: Spot, back: Interval)
     requires fits { All (λ h. end_of h < 2 ^ 32) (all_in blocks.old.lists) }
     requires back_fits { end_of back < 2 ^ 32 }
     requires room { length (with_released back (all_in blocks.old.lists)) ≤ capacity_of blocks.old }
-    requires spare { length (all_in blocks.old.lists) < capacity_of blocks.old → 0 < blocks.old.spares }
+    requires spare { length (all_in blocks.old.lists) < capacity_of blocks.old →
+        0 < blocks.old.spares }
     ensures { IsChanged blocks.old blocks.new spot (with_released back (all_in blocks.old.lists)) }
 {
     if ends_at(blocks, spot, back.start) {

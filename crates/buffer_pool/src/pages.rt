@@ -128,7 +128,8 @@ impl Pool {
     pub fn give_back_run(&mut self, start: u32, pages: u32, count: u32)
         requires some { 1 ≤ count }
         requires held { HasRun start pages count self.old.held }
-        ensures held { self.new ≡ record self.old { held = without_run start pages count self.old.held } }
+        ensures held { self.new
+            ≡ record self.old { held = without_run start pages count self.old.held } }
         ensures sound { IsSound self.new }
     {
         let_go(&mut self.held, Interval { start, pages }, count);
@@ -181,7 +182,8 @@ fn reserve(
     ensures kept { holes.old.capacity ≤ holes.new.capacity }
     ensures starts { IfOk result (λ starts. starts.items ≡ []) }
     ensures starts_room { IfOk result (λ starts. count ≤ vec_capacity starts) }
-    ensures held_room { OnOk result (length (all_in held.new.lists) + count ≤ capacity_of held.new) }
+    ensures held_room { OnOk result
+        (length (all_in held.new.lists) + count ≤ capacity_of held.new) }
     ensures holes_room { OnOk result (length (all_in held.new.lists) + count ≤ holes.new.capacity) }
 {
     let starts = Vec::with_capacity(held.allocator(), count as usize)?;
@@ -212,7 +214,8 @@ fn fill(
     ensures looks { result.looks ≡ looks_in pages_each count holes.old.items }
     ensures holes { holes.new.items ≡ holes_after pages_each count holes.old.items }
     ensures held { all_in held.new.lists
-        ≡ with_buffers pages_each (starts_in pages_each count holes.old.items) (all_in held.old.lists) }
+        ≡ with_buffers pages_each (starts_in pages_each count holes.old.items)
+        (all_in held.old.lists) }
     ensures capacity { holes.new.capacity ≡ holes.old.capacity }
 {
     let mut looks = 0;

@@ -121,7 +121,8 @@ pub fn walk_within<N, B: Bound<N>>(
     ensures keys { OnOk result ((key : Key) → Contains keys.new.items key
         ↔ Within (parent_at table.now) (stopped_at (B.stops bound.now) table.now top) top key) }
     ensures once { OnOk result (AllPairs (λ (a b : Key). a ≢ b) keys.new.items) }
-    ensures layers { OnOk result (IsByLayers (children_within (B.stops bound.now) table.now top) keys.new.items) }
+    ensures layers { OnOk result
+        (IsByLayers (children_within (B.stops bound.now) table.now top) keys.new.items) }
     ensures err { OnErr result (keys.new.items ≡ []) }
     ensures room { table_len table.now ≤ vec_capacity keys.old → IsOk result }
     ensures capacity { vec_capacity keys.old ≤ vec_capacity keys.new }
@@ -141,7 +142,8 @@ fn walk<N, B: Bound<N>>(
     bound: &B,
 ) -> Result<u64, NoMemory>
     requires { IsSome (row_at table.now top) }
-    ensures keys { OnOk result (IsWalk (children_within (B.stops bound.now) table.now top) (depth_at table.now)
+    ensures keys { OnOk result (IsWalk (children_within (B.stops bound.now) table.now top)
+        (depth_at table.now)
         top (length keys.new.items) keys.new.items) }
     ensures visits { IfOk result (λ visits. visits ≡ length keys.new.items) }
     ensures few { IfOk result (λ visits. visits < 2 ^ 63) }
@@ -169,8 +171,10 @@ fn append_within<N, B: Bound<N>>(
     keys: &mut Vec<NodeKey>,
     bound: &B,
 ) -> Result<(), NoMemory>
-    ensures ok { OnOk result (keys.new.items ≡ keys.old.items ++ children_within (B.stops bound.now) table.now top key) }
-    ensures room { vec_len keys.old + length (children_within (B.stops bound.now) table.now top key) ≤ vec_capacity keys.old
+    ensures ok { OnOk result (keys.new.items
+        ≡ keys.old.items ++ children_within (B.stops bound.now) table.now top key) }
+    ensures room { vec_len keys.old
+        + length (children_within (B.stops bound.now) table.now top key) ≤ vec_capacity keys.old
         → IsOk result }
     ensures capacity { vec_capacity keys.old ≤ vec_capacity keys.new }
     ensures forest { stopped_at (B.stops bound.now) table.now top key ≡ false → IsForest table.now }

@@ -282,7 +282,8 @@ impl<N> NodeTable<N> {
         ensures parent { link_in (λ e. e.parent) (option_copied result) ≡ parent_at self.now key }
         ensures first { link_in (λ e. e.first) (option_copied result)
             ≡ first_key (children_at self.now key) }
-        ensures next { IsSome (parent_at self.now key) → link_in (λ e. e.next) (option_copied result)
+        ensures next { IsSome (parent_at self.now key) →
+            link_in (λ e. e.next) (option_copied result)
             ≡ next_key key (siblings_at self.now key) }
         ensures forest { IsForest self.now }
     {

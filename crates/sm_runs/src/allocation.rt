@@ -29,7 +29,8 @@ pub fn buffers_are_allocated()
         (answered_instead (Reply.Allocated 3 8192) two_buffers) → ⊥ }
     ensures not_pending { IsLegal 16 full (answered_instead Reply.Pending two_buffers) → ⊥ }
     ensures not_closed { IsLegal 16 full
-        (answered_instead (Reply.PeerClosed (Cause.Failed Failure.NoBuffers) (key 0)) two_buffers) → ⊥ }
+        (answered_instead (Reply.PeerClosed (Cause.Failed Failure.NoBuffers) (key 0)) two_buffers) →
+        ⊥ }
 {}
 
 /// What two participants camp on is summed: 64 buffers are allocated and 65 fail the collection, and that before the
@@ -40,7 +41,8 @@ pub fn no_more_than_64_buffers_are_allocated()
     ensures not_allocated_1 { IsLegal 64 full
         (answered_instead (Reply.Allocated 32 4096) most_buffers) → ⊥ }
     ensures not_closed_1 { IsLegal 64 full
-        (answered_instead (Reply.PeerClosed (Cause.Failed Failure.TooManyBuffers) (key 0)) most_buffers) → ⊥ }
+        (answered_instead
+        (Reply.PeerClosed (Cause.Failed Failure.TooManyBuffers) (key 0)) most_buffers) → ⊥ }
     ensures too_many_buffers { IsLegal 64 full too_many_buffers }
     ensures free_2 { free_pages 64 (timeline 64 too_many_buffers) ≡ 64 }
     ensures not_allocated_2 { IsLegal 64 full
@@ -49,7 +51,8 @@ pub fn no_more_than_64_buffers_are_allocated()
         (answered_instead (Reply.Allocated 65 4096) too_many_buffers) → ⊥ }
     ensures too_many_for_the_pool_too { IsLegal 16 full too_many_for_the_pool_too }
     ensures not_closed_2 { IsLegal 16 full
-        (answered_instead (Reply.PeerClosed (Cause.Failed Failure.PoolFull) (key 0)) too_many_for_the_pool_too)
+        (answered_instead
+        (Reply.PeerClosed (Cause.Failed Failure.PoolFull) (key 0)) too_many_for_the_pool_too)
         → ⊥ }
 {}
 
@@ -68,7 +71,8 @@ pub fn a_full_pool_fails_the_collection()
 pub fn no_strong_node_is_looked_at_first()
     ensures legal { IsLegal 16 full weak_and_no_buffers }
     ensures not_closed { IsLegal 16 full
-        (answered_instead (Reply.PeerClosed (Cause.Failed Failure.NoBuffers) (key 0)) weak_and_no_buffers)
+        (answered_instead
+        (Reply.PeerClosed (Cause.Failed Failure.NoBuffers) (key 0)) weak_and_no_buffers)
         → ⊥ }
 {}
 

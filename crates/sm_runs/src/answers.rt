@@ -14,7 +14,8 @@ ghost use Rattle.sm_runs.specs.Failures.{end_spent};
 /// A call for an end of the other kind is refused and changes nothing.
 pub fn kinds_are_told_apart()
     ensures legal { IsLegal 16 full wrong_kinds }
-    ensures not_pending { IsLegal 16 full (answered_instead Reply.Pending (take 3 wrong_kinds)) → ⊥ }
+    ensures not_pending { IsLegal 16 full (answered_instead Reply.Pending (take 3 wrong_kinds)) →
+        ⊥ }
     ensures not_done { IsLegal 16 full (answered_instead Reply.Done (take 5 wrong_kinds)) → ⊥ }
     ensures not_allocated { IsLegal 16 full
         (answered_instead (Reply.Allocated 0 1) wrong_kinds) → ⊥ }
@@ -63,7 +64,8 @@ pub fn limits_refuse_exactly_at_their_number()
     ensures not_done { IsLegal 16 (record full { handles = 1 })
         (answered_instead Reply.Done handles_full) → ⊥ }
     ensures history_full { IsLegal 16 (record full { events = 2 }) history_full }
-    ensures no_more { IsLegal 16 (record full { events = 2 }) (history_full ++ (1, Call.Sync (key 0), Reply.Done) ∷ []) → ⊥ }
+    ensures no_more { IsLegal 16 (record full { events = 2 })
+        (history_full ++ (1, Call.Sync (key 0), Reply.Done) ∷ []) → ⊥ }
 {}
 
 /// A gift to nobody is refused first, then one to a shut client, and then the end is looked at.
@@ -81,7 +83,8 @@ pub fn strangers_are_refused()
     ensures not_joined { IsLegal 16 full ((1, Call.Join, Reply.Joined 1) ∷ []) → ⊥ }
     ensures to_nobody { IsLegal 16 full given_to_nobody }
     ensures not_done { IsLegal 16 full (answered_instead Reply.Done (take 3 given_to_nobody)) → ⊥ }
-    ensures not_refused { IsLegal 16 full (answered_instead (Reply.Refused Refusal.NoSuchEnd) (take 4 given_to_nobody)) → ⊥ }
+    ensures not_refused { IsLegal 16 full (answered_instead (Reply.Refused Refusal.NoSuchEnd)
+        (take 4 given_to_nobody)) → ⊥ }
 {}
 
 /// Keys that no node has, keys of an earlier generation, keys of others, and handles that the caller
@@ -90,11 +93,13 @@ pub fn forged_keys_are_refused()
     ensures legal { IsLegal 16 full forged_keys }
     ensures live { live_nodes (timeline 16 forged_keys) ≡ record { slot = 0; generation = 1 } ∷ [] }
     ensures not_done { IsLegal 16 full (answered_instead Reply.Done (take 5 forged_keys)) → ⊥ }
-    ensures not_done_by_another { IsLegal 16 full (answered_instead Reply.Done (take 6 forged_keys)) → ⊥ }
+    ensures not_done_by_another { IsLegal 16 full
+        (answered_instead Reply.Done (take 6 forged_keys)) → ⊥ }
     ensures not_dropped { IsLegal 16 full (answered_instead Reply.Done (take 8 forged_keys)) → ⊥ }
 {}
 
 /// A key is given to one node only: a new node never gets a key that an earlier one had.
 pub fn keys_are_given_once()
-    ensures not_again { IsLegal 16 full (answered_instead (Reply.Token (key 0) 4) (take 4 end_spent)) → ⊥ }
+    ensures not_again { IsLegal 16 full (answered_instead (Reply.Token (key 0) 4)
+        (take 4 end_spent)) → ⊥ }
 {}

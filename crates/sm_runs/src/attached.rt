@@ -29,13 +29,15 @@ pub fn an_attached_subtree_fails_alone()
     ensures not_allocated_2 { IsLegal 16 full
         (answered_instead (Reply.Allocated 2 4096) (take 13 too_large)) → ⊥ }
     ensures not_closed_1 { IsLegal 16 full
-        (answered_instead (Reply.PeerClosed (Cause.Failed Failure.TooSmall) (key 2)) too_large) → ⊥ }
+        (answered_instead (Reply.PeerClosed (Cause.Failed Failure.TooSmall) (key 2)) too_large) →
+        ⊥ }
     ensures at_least_two { IsLegal 16 full at_least_two }
     ensures not_allocated_3 { IsLegal 16 full
         (answered_instead (Reply.Allocated 1 4096) at_least_two) → ⊥ }
     ensures too_few_and_too_small { IsLegal 16 full too_few_and_too_small }
     ensures not_closed_2 { IsLegal 16 full
-        (answered_instead (Reply.PeerClosed (Cause.Failed Failure.TooSmall) (key 1)) too_few_and_too_small)
+        (answered_instead
+        (Reply.PeerClosed (Cause.Failed Failure.TooSmall) (key 1)) too_few_and_too_small)
         → ⊥ }
     ensures bytes_and_not_pages { IsLegal 16 full bytes_and_not_pages }
     ensures not_allocated_4 { IsLegal 16 full
@@ -76,7 +78,8 @@ pub fn an_attached_subtree_ends()
     ensures not_allocated_1 { IsLegal 16 full
         (answered_instead (Reply.Allocated 2 4096) (take 16 attached_with_a_child)) → ⊥ }
     ensures not_closed_2 { IsLegal 16 full
-        (answered_instead (Reply.PeerClosed (Cause.Failed Failure.TooFew) (key 4)) attached_with_a_child)
+        (answered_instead
+        (Reply.PeerClosed (Cause.Failed Failure.TooFew) (key 4)) attached_with_a_child)
         → ⊥ }
     ensures attached_below_attached { IsLegal 16 full attached_below_attached }
     ensures not_allocated_2 { IsLegal 16 full
@@ -93,6 +96,7 @@ pub fn a_strong_attached_node_counts()
     ensures attached_token_keeps { IsLegal 16 full attached_token_keeps }
     ensures not_done { IsLegal 16 full (answered_instead Reply.Done attached_token_keeps) → ⊥ }
     ensures not_closed_2 { IsLegal 16 full
-        (answered_instead (Reply.PeerClosed (Cause.Failed Failure.NoStrong) (key 0)) attached_token_keeps)
+        (answered_instead
+        (Reply.PeerClosed (Cause.Failed Failure.NoStrong) (key 0)) attached_token_keeps)
         → ⊥ }
 {}

@@ -59,7 +59,8 @@ pub fn the_first_failure_is_told()
         (answered_instead (Reply.PeerClosed Cause.Lost (key 0)) failed_and_then_lost) → ⊥ }
     ensures failed_and_abandoned { IsLegal 16 full failed_and_abandoned }
     ensures not_closed_2 { IsLegal 16 full
-        (answered_instead (Reply.PeerClosed Cause.NoStrong (key 0)) (take 14 failed_and_abandoned)) → ⊥ }
+        (answered_instead (Reply.PeerClosed Cause.NoStrong (key 0))
+        (take 14 failed_and_abandoned)) → ⊥ }
 {}
 
 /// A closed end is spent, and its collection leaves the others as they are.

@@ -79,15 +79,18 @@ pub fn a_handle_travels()
         ≡ 1 }
     ensures moving_1 { moving (timeline 16 (take 7 handles_counted)) (buffer 3 0) Strength.Strong
         ≡ 1 }
-    ensures of_client_1 { open_of (timeline 16 (take 7 handles_counted)) 1 (buffer 3 0) Strength.Strong
+    ensures of_client_1 { open_of (timeline 16 (take 7 handles_counted)) 1
+        (buffer 3 0) Strength.Strong
         ≡ 0 }
-    ensures of_client_2 { open_of (timeline 16 (take 7 handles_counted)) 2 (buffer 3 0) Strength.Strong
+    ensures of_client_2 { open_of (timeline 16 (take 7 handles_counted)) 2
+        (buffer 3 0) Strength.Strong
         ≡ 0 }
     ensures held_4 { held_by_page 16 (timeline 16 (take 7 handles_counted))
         ≡ at (buffer 3 0) 0 1 ∷ [] }
     ensures moving_2 { moving (timeline 16 (take 9 handles_counted)) (buffer 3 0) Strength.Strong
         ≡ 0 }
-    ensures of_client_3 { open_of (timeline 16 (take 9 handles_counted)) 2 (buffer 3 0) Strength.Strong
+    ensures of_client_3 { open_of (timeline 16 (take 9 handles_counted)) 2
+        (buffer 3 0) Strength.Strong
         ≡ 1 }
     ensures events_2 { events (timeline 16 handles_counted) ≡ 10 }
     ensures open_2 { open_total (timeline 16 handles_counted) (buffer 3 0) Strength.Strong ≡ 0 }
@@ -102,15 +105,19 @@ pub fn a_handle_travels()
 pub fn a_shut_client_lets_go()
     ensures legal { IsLegal 16 full handle_of_a_shut_client }
     ensures not_refused_1 { IsLegal 16 full
-        (answered_instead (Reply.Refused Refusal.ClientShut) (take 10 handle_of_a_shut_client)) → ⊥ }
+        (answered_instead (Reply.Refused Refusal.ClientShut) (take 10 handle_of_a_shut_client)) →
+        ⊥ }
     ensures not_refused_2 { IsLegal 16 full
-        (answered_instead (Reply.Refused Refusal.ClientShut) (take 11 handle_of_a_shut_client)) → ⊥ }
+        (answered_instead (Reply.Refused Refusal.ClientShut) (take 11 handle_of_a_shut_client)) →
+        ⊥ }
     ensures not_refused_3 { IsLegal 16 full
-        (answered_instead (Reply.Refused Refusal.ClientShut) (take 12 handle_of_a_shut_client)) → ⊥ }
+        (answered_instead (Reply.Refused Refusal.ClientShut) (take 12 handle_of_a_shut_client)) →
+        ⊥ }
     ensures not_token { IsLegal 16 full
         (answered_instead (Reply.Token (key 99) 3) (take 13 handle_of_a_shut_client)) → ⊥ }
     ensures not_refused_4 { IsLegal 16 full
-        (answered_instead (Reply.Refused Refusal.ClientShut) (take 15 handle_of_a_shut_client)) → ⊥ }
+        (answered_instead (Reply.Refused Refusal.ClientShut) (take 15 handle_of_a_shut_client)) →
+        ⊥ }
     ensures not_collection { IsLegal 16 full
         (answered_instead (Reply.Collected (key 0) Kind.Collection 3) handle_of_a_shut_client) → ⊥ }
 {}

@@ -61,14 +61,16 @@ pub fn weak_handles_keep_only_pages()
     ensures legal { IsLegal 16 full weak_holders }
     ensures held_1 { held_by_page 16 (timeline 16 (take 14 weak_holders))
         ≡ at (buffer 2 0) 0 1 ∷ at (buffer 2 1) 1 1 ∷ [] }
-    ensures fires_1 { fired_at (timeline 16 (take 16 weak_holders)) (tracking 12 (Condition.Weak (buffer 2 1)))
+    ensures fires_1 { fired_at (timeline 16 (take 16 weak_holders))
+        (tracking 12 (Condition.Weak (buffer 2 1)))
         ≡ Some 16 }
     ensures held_2 { held_by_page 16 (timeline 16 (take 17 weak_holders))
         ≡ at (buffer 2 0) 0 1 ∷ at (buffer 2 1) 1 1 ∷ [] }
     ensures held_3 { held_by_page 16 (timeline 16 (take 18 weak_holders))
         ≡ at (buffer 2 1) 1 1 ∷ [] }
     ensures held_4 { held_by_page 16 (timeline 16 weak_holders) ≡ [] }
-    ensures fires_2 { fired_at (timeline 16 weak_holders) (tracking 11 (Condition.Lifetime (key 1) 2 0))
+    ensures fires_2 { fired_at (timeline 16 weak_holders)
+        (tracking 11 (Condition.Lifetime (key 1) 2 0))
         ≡ Some 20 }
     ensures not_taken { IsLegal 16 full
         (answered_instead (Reply.Taken 2 Strength.Weak 3) (take 15 weak_holders)) → ⊥ }
