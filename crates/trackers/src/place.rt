@@ -2,7 +2,7 @@
 ghost use Rattle.std.specs.Prelude.{◌≡◌, ◌+◌, ◌^◌, ◌<◌, ◌≤◌, [], ◌∷◌, ◌++◌, length, vec_len, vec_capacity, Some, None, OnOk, false, if◌then◌else◌};
 ghost use Rattle.slab.specs.Slab.{get, HasRoomFor, Updates};
 ghost use Rattle.trackers.specs.declared.place.Place.{Place as PlaceValue};
-ghost use Rattle.trackers.specs.Row.{firing_of_row, reader_of_row};
+ghost use Rattle.trackers.specs.Row.{reader_of_row};
 ghost use Rattle.trackers.specs.Held.{IdsRise, IsSearchAnswer, is_met};
 ghost use Rattle.trackers.specs.Places.{firing_or_none, row_in, row_at, rows_of, IsKeptAt, IsHere, Leaves, Names};
 
@@ -75,17 +75,6 @@ pub(crate) fn is_due_at<W: World>(
     match place.stage {
         Stage::InSlot => slots[place.number as usize].is_due(world),
         Stage::Untaken | Stage::Taken => false,
-    }
-}
-
-/// The firing of the tracker, if it fired.
-pub(crate) fn firing_at(place: &Place, slots: &Slab<Row>, fired: &[Fired]) -> Option<Fired>
-    requires { IsKeptAt slots.now.slots (length fired.now) place.now }
-    ensures { result ≡ firing_of_row (row_at slots.now.slots fired.now place.now) }
-{
-    match place.stage {
-        Stage::InSlot => None,
-        Stage::Untaken | Stage::Taken => Some(fired[place.number as usize]),
     }
 }
 

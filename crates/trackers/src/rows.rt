@@ -6,7 +6,7 @@ ghost use Rattle.trackers.specs.Row.{TrackerRow, Over, is_waiting, firing_of_row
 ghost use Rattle.trackers.specs.Held.{IsSearchAnswer, row_after, fires};
 
 use crate::place::{
-    Place, add, find_place, fire_place, firing_at, is_due_at, leave, make_room, take_at,
+    Place, Stage, add, find_place, fire_place, is_due_at, leave, make_room, take_at,
 };
 use crate::row::Row;
 use crate::tracker::Tracker;
@@ -117,7 +117,11 @@ impl Rows {
         requires { at < length self.now.rows }
         ensures { (d : TrackerRow) → result ≡ firing_of_row (slice_index_or self.now.rows at d) }
     {
-        firing_at(&self.places[at], &self.slots, &self.fired)
+        let place = &self.places[at];
+        match place.stage {
+            Stage::InSlot => None,
+            Stage::Untaken | Stage::Taken => Some(self.fired[place.number as usize]),
+        }
     }
 
     /// Fires the tracker at this place, if it waits and what it waits for holds.
@@ -156,7 +160,8 @@ impl Rows {
     /// The reader of the tracker at this place, once.
     pub(crate) fn take(&mut self, at: usize) -> Option<Tracker>
         requires { at < length self.old.rows }
-        ensures reader { (d : TrackerRow) → result ≡ reader_of_row (slice_index_or self.old.rows at d) }
+        ensures reader { (d : TrackerRow) →
+            result ≡ reader_of_row (slice_index_or self.old.rows at d) }
         ensures taken { (d : TrackerRow) → self.new ≡ record self.old {
           rows = slice_set self.old.rows
               at (record (slice_index_or self.old.rows at d) { has_reader = false });

@@ -202,7 +202,8 @@ fn add(
     ensures room { OnOk result (length rows.old.fired + (waiting + 1) ≤ rows.new.room) }
     ensures spare { OnOk result (waiting + 1 ≤ vec_capacity due.new) }
     ensures indexed { OnOk result ((c : ℕ) (f : Wish → ℕ) → weigh f (entries_of index.new c)
-        ≡ (if c == tracker.collection then f (tracker.condition, length rows.old.rows) + weigh f (entries_of index.old c)
+        ≡ (if c == tracker.collection then f (tracker.condition, length rows.old.rows)
+        + weigh f (entries_of index.old c)
         else weigh f (entries_of index.old c))) }
     ensures fired { rows.new.fired ≡ rows.old.fired }
     ensures capacity { rows.old.room ≤ rows.new.room }

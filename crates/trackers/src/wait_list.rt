@@ -15,5 +15,6 @@ pub(crate) struct WaitList {
     pub(crate) condition: Condition,
     /// How many buffers may be left, or 0, and the place of the row.
     pub(crate) waiting: BinaryHeap<(u32, usize)>,
-    ghost widest_first: { IsHeap (λ x y. ordering_then (nat_cmp x.0 y.0) (nat_cmp x.1 y.1)) (heap_items waiting) } by { Prim.hlevel props },
+    ghost widest_first: { IsHeap (λ x y. ordering_then (nat_cmp x.0 y.0) (nat_cmp x.1 y.1))
+        (heap_items waiting) } by { Prim.hlevel props },
 }
