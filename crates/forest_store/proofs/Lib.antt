@@ -1,3 +1,4 @@
+pub mod Basics
 pub mod Common
 pub mod allocation
 pub mod changes

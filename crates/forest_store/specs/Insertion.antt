@@ -11,7 +11,7 @@ use Rattle.forest_store.specs.declared.node.Node.{Node}
 use Rattle.forest_store.specs.declared.unit_counts.Unit.{Unit}
 use Rattle.forest_store.specs.Calm.{AreCounted, IsForest}
 use Rattle.forest_store.specs.Forest.{IsPoolOf}
-use Rattle.forest_store.specs.Settling.{Handles, MayChange, collection_or_new, with_birth}
+use Rattle.forest_store.specs.Settling.{Handles, collection_or_new, with_birth}
 use Rattle.forest_store.specs.Shelves.{Bears, Finishes, Gives, born, forest_of, put_shelf, shelf_of, shelves_of}
 use Rattle.forest_store.specs.Still.{shelf_before, shelf_with}
 

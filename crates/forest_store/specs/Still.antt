@@ -1,5 +1,5 @@
 -- The shelf of a collection before a birth and after it. No public clause of `alloc_event` cites this module.
-use Rattle.std.specs.Prelude.{ℕ, not, List, [], ◌∷◌, ◌++◌, ◌==◌, None}
+use Rattle.std.specs.Prelude.{ℕ, List, [], ◌∷◌, ◌++◌, ◌==◌, None}
 use Rattle.std.specs.List.{find}
 use Rattle.std.specs.Option.{unwrap_or}
 use Rattle.sm_names.specs.declared.keys.NodeKey.{NodeKey}

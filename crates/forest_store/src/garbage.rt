@@ -108,14 +108,6 @@ fn is_born_before(table: &NodeTable<Node>, key: NodeKey, event: u64) -> bool
     }
 }
 
-/// How many of the keys, which stand by birth, are of nodes that were born before this event. A
-/// binary search.
-fn born_before(table: &NodeTable<Node>, keys: &[NodeKey], event: u64) -> usize
-    ensures { result ≤ length keys.now }
-{
-    keys.partition_point(|key| is_born_before(table, *key, event))
-}
-
 /// The place, if the key stands there.
 fn found_at(keys: &[NodeKey], at: usize, key: NodeKey) -> Option<usize>
     ensures { IfSome result (λ at. IsPlace keys.now key at) }
@@ -146,7 +138,7 @@ pub(crate) fn place_by_birth(
         return Some(at);
     }
     let node = table.get(key)?;
-    let at = born_before(table, keys, node.event);
+    let at = keys.partition_point(|key| is_born_before(table, *key, node.event));
     found_at(keys, at, key)
 }
 

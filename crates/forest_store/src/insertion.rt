@@ -95,19 +95,6 @@ fn insert<N: Drop>(
     }
 }
 
-/// Stores a copy of the node so.
-fn insert_copy(
-    table: &mut NodeTable<Node>,
-    parent: Option<NodeKey>,
-    node: &Node,
-) -> Result<NodeKey, NoMemory>
-    requires { IfSome parent (λ p. IsSome (row_at table.old p)) }
-    ensures ok { IfOk result (Births table.old table.new parent node.now) }
-    ensures err { OnErr result (table.new ≡ table.old) }
-{
-    insert(table, parent, Node { ..*node })
-}
-
 /// One more node in the table, which is given its key.
 fn insert_node(table: &mut NodeTable<Node>, draft: &Node) -> Result<NodeKey, NoMemory>
     requires first { table.old.first ≡ 0 }
@@ -115,7 +102,7 @@ fn insert_node(table: &mut NodeTable<Node>, draft: &Node) -> Result<NodeKey, NoM
     ensures ok { IfOk result (λ key. Bears table.old table.new (named key draft.now)) }
     ensures err { OnErr result (table.new ≡ table.old) }
 {
-    let key = insert_copy(table, draft.parent, draft)?;
+    let key = insert(table, draft.parent, Node { ..*draft })?;
     name_at(table, key);
     Ok(key)
 }

@@ -26,7 +26,10 @@ impl Model for KeyList {
 
     ghost Value = { Listed };
 
-    ghost view = { λ k. record { items = drop k.front k.cells.items; capacity = vec_capacity k.cells - k.front } };
+    ghost view = { λ k. record {
+      items = drop k.front k.cells.items;
+      capacity = vec_capacity k.cells - k.front;
+    } };
 
     ghost invariant = { λ k. k.front ≤ length k.cells.items };
 }

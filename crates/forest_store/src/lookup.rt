@@ -90,7 +90,8 @@ pub fn live_by_birth(
 ) -> Result<Vec<NodeKey>, AllocError>
     ensures { IfOk result (λ keys. keys.items
         ≡ map (λ n. n.key) (sorted_by (λ n.
-        n.event) (filter is_live_node (nodes_with table.now (all_keys (shelves_of entries.now)))))) }
+        n.event) (filter is_live_node
+        (nodes_with table.now (all_keys (shelves_of entries.now)))))) }
 {
     let mut nodes = Vec::new(alloc);
     for entry in entries {
@@ -107,7 +108,8 @@ pub fn live_by_birth(
 /// The buffers of all collections, by page.
 pub fn held_by_page(alloc: Global, entries: &[Entry]) -> Result<Vec<HeldBuffer>, AllocError>
     ensures { IfOk result (λ held. held.items
-        ≡ sorted_by (λ h. h.pages.start) (flat_map (λ (e : EntryValue). e.held.items) entries.now)) }
+        ≡ sorted_by (λ h. h.pages.start)
+        (flat_map (λ (e : EntryValue). e.held.items) entries.now)) }
 {
     let mut held = Vec::new(alloc);
     for entry in entries {

@@ -116,16 +116,6 @@ fn count(units: &mut Vec<Unit>, node: &Node)
     put_unit(units, slot, more);
 }
 
-/// The head of the unit of the node with this key.
-fn head_of(table: &NodeTable<Node>, key: NodeKey) -> Option<NodeKey>
-    ensures { result ≡ head_of table.now key }
-{
-    match table.get(key) {
-        Some(node) => Some(node.head),
-        None => None,
-    }
-}
-
 /// The head of the unit right above the one that the node heads, if it heads one and is not gone.
 pub(crate) fn head_above(table: &NodeTable<Node>, node: &Node) -> Option<NodeKey>
     ensures { result ≡ head_above table.now node.now }
@@ -133,8 +123,8 @@ pub(crate) fn head_above(table: &NodeTable<Node>, node: &Node) -> Option<NodeKey
     if node.gone || !node.attached {
         return None;
     }
-    match node.parent {
-        Some(above) => head_of(table, above),
+    match table.get(node.parent?) {
+        Some(above) => Some(above.head),
         None => None,
     }
 }
@@ -155,34 +145,17 @@ fn count_below(units: &mut Vec<Unit>, head: Option<NodeKey>)
     }
 }
 
-/// Counts the node with this key for its unit, unless it is gone.
-fn count_own(units: &mut Vec<Unit>, table: &NodeTable<Node>, key: NodeKey)
-    ensures { units.new.items ≡ tallied (nodes_with table.now (key ∷ [])) units.old.items }
-{
-    if let Some(node) = table.get(key) {
-        if !node.gone {
-            count(units, node);
-        }
-    }
-}
-
-/// Counts the node with this key for the unit right above the one that it heads, if it heads one
-/// and is not gone.
-fn hang_at(units: &mut Vec<Unit>, table: &NodeTable<Node>, key: NodeKey)
-    ensures { units.new.items ≡ hung table.now (nodes_with table.now (key ∷ [])) units.old.items }
-{
-    if let Some(node) = table.get(key) {
-        count_below(units, head_above(table, node));
-    }
-}
-
 /// Counts the node with this key, for its unit and for the one right above that.
 pub(crate) fn count_at(units: &mut Vec<Unit>, table: &NodeTable<Node>, key: NodeKey)
     ensures { units.new.items
         ≡ reckoned table.now (nodes_with table.now (key ∷ [])) units.old.items }
 {
-    count_own(units, table, key);
-    hang_at(units, table, key);
+    if let Some(node) = table.get(key) {
+        if !node.gone {
+            count(units, node);
+        }
+        count_below(units, head_above(table, node));
+    }
 }
 
 /// No table has more nodes than a number can tell.

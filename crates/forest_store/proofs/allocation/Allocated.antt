@@ -1,10 +1,6 @@
 -- Attached units that are allocated in their places: what is forced besides stays as it was.
-use Rattle.forest_store.proofs.Common.{◌≡◌, refl, ap, ◌∙◌, Bool, true, false, not, ◌&&◌, ◌||◌, is_none, List, [], ◌∷◌, map, Option, Some, None, list_all, list_any, find, option_map_or, option_and_then, NodeKey, Cause, same_key, when, In-find, and_left, both_ways, false_if, same_key-true, Node, has_strong, waiting, Collection, is_deserted_node, is_ready_node, is_root_left, heads_itself}
-use Rattle.std.specs.Option.{option_map}
-use Rattle.forest_store.specs.Decisions.{Decision, Loses}
+use Rattle.forest_store.proofs.Common.{◌≡◌, refl, ap, ◌∙◌, Bool, true, false, not, ◌&&◌, ◌||◌, is_none, List, [], ◌∷◌, map, Option, Some, None, list_all, list_any, find, option_map_or, option_and_then, NodeKey, Cause, same_key, when, In-find, and_left, both_ways, false_if, same_key-true, Node, has_strong, waiting, Collection, is_deserted_node, is_ready_node, is_root_left, heads_itself, Decision, Loses, IsSound, is_root_of, option_map}
 use Rattle.forest_store.specs.Falls.{given_all}
-use Rattle.forest_store.specs.Scenes.{IsSound}
-use Rattle.forest_store.specs.Settling.{is_root_of}
 use Rattle.forest_store.proofs.quiescence.Calming.{find_map}
 use Rattle.forest_store.proofs.quiescence.Steps.{all-In, found_by_key}
 
@@ -44,38 +40,37 @@ module _ (c : Collection) (sound : IsSound c) (hs : List NodeKey) (children : Ar
 
   -- allocation does not change whether a node is ready
   pub ready_on : (head : NodeKey) → list_all (is_ready_node head) after ≡ list_all (is_ready_node head) c.nodes
-  ready_on head = all_same (is_ready_node head) (is_ready_node head) f c.nodes (λ n. refl)
+  ready_on head = all_same _ _ f c.nodes (λ n. refl)
 
   -- allocation changes neither parents nor what is gone
   pub root_on : find is_root_left after ≡ option_map f (find is_root_left c.nodes)
-  root_on = find_map is_root_left is_root_left f c.nodes (λ n. refl)
+  root_on = find_map _ _ f c.nodes (λ n. refl)
 
   -- the root is of another unit
   pub root_same : (r : Node) → find is_root_left c.nodes ≡ Some r → (list_any (same_key r.head) hs || r.allocated) ≡ r.allocated
   root_same r e =
-      let on = In-find is_root_left c.nodes r e in
-      let root : is_none r.parent ≡ true = and_left (is_none r.parent) (not r.gone) on.1 in
-      let own : heads_itself r ≡ true = all-In heads_itself c.nodes r on.0 sound.heads in
+      let on = In-find _ _ r e in
+      let root : is_none r.parent ≡ true = and_left _ _ on.1 in
+      let own : heads_itself r ≡ true = all-In _ _ r on.0 sound.heads in
       let head : same_key r.head r.key ≡ true = rw root at own in
       let found : is_root_of c r.key ≡ is_none r.parent =
-      ap (λ (o : Option Node). option_map_or (λ (m : Node). is_none m.parent) o false) (found_by_key c.nodes r sound.distinct on.0) in
-      ap (λ (b : Bool). b || r.allocated) (false_if (list_any (same_key r.head) hs) (λ s.
-      both_ways (is_root_of c r.head) (ap (is_root_of c) (same_key-true r.head r.key head) ∙ found ∙ root) (children r.head s)))
+      ap (λ (o : Option Node). option_map_or (λ (m : Node). is_none m.parent) o false) (found_by_key _ r sound.distinct on.0) in
+      ap (λ (b : Bool). b || r.allocated) (false_if _ (λ s.
+      both_ways _ (ap (is_root_of c) (same_key-true _ _ head) ∙ found ∙ root) (children r.head s)))
 
   -- the root unit waits or has its buffers, as before
   pub wait_on : waiting c.nodes ≡ None → waiting after ≡ None
   wait_on h =
       ap (option_and_then (λ (root : Node). when (not root.allocated && list_all (is_ready_node root.key) after) root)) root_on
-      ∙ from (find is_root_left c.nodes) refl h
+      ∙ from _ refl h
     where
       from : (o : Option Node) → find is_root_left c.nodes ≡ o →
           option_and_then (λ (root : Node). when (not root.allocated && list_all (is_ready_node root.key) c.nodes) root) o ≡ None →
           option_and_then (λ (root : Node). when (not root.allocated && list_all (is_ready_node root.key) after) root) (option_map f o)
           ≡ None
       from None e h = refl
-      from (Some r) e h =
-          (λ i. when (not (root_same r e i) && ready_on r.key i) (f r))
-          ∙ still (not r.allocated && list_all (is_ready_node r.key) c.nodes) h
+      from (Some r) e h = (λ i. when (not (root_same r e i) && ready_on r.key i) (f r))
+          ∙ still _ h
         where
           still : (b : Bool) → when b r ≡ None → when b (f r) ≡ None
           still true h = cc

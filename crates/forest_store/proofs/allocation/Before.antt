@@ -1,17 +1,7 @@
 -- A unit that is to be allocated, as the table tells before it is.
-use Rattle.forest_store.proofs.Common.{◌≡◌, refl, ap, sym, ◌∙◌, subst, Bool, true, false, not, ◌&&◌, ◌||◌, ◌==◌, inl, inr, is_none, List, [], ◌∷◌, Option, Some, None, eq-eqb, not-true, cons_option, find, list_all, list_any, option_map_or, NodeKey, same_key, In, In-list_any, and_both, and_left, and_right, both_ways, either_way, or_left, or_right, same_key-refl, same_key-true, Table, node_at, parent_at, Node, Unit, unit_at, waits_in, Collection, IsStored, IsWhole, Shelf, collection_in, nodes_with, is_of, is_ready_node, heads_itself}
-use Rattle.sm_names.proofs.ListLaws.{times-zero}
-use Rattle.forest_store.specs.Counts.{HasUnit, HasUnits}
-use Rattle.forest_store.specs.Questions.{has_buffers}
-use Rattle.forest_store.specs.Scenes.{IsSound}
-use Rattle.forest_store.specs.UnitAllocation.{hangs_below, has_turn_at, is_left_out, is_of_some, has_buffers_there, is_waiting_head, left_out_at}
-use Rattle.forest_store.specs.Settling.{is_root_of}
-use Rattle.forest_store.proofs.quiescence.Steps.{all-In, found_by_key}
-use Rattle.forest_store.proofs.changes.Altering.{found_whole}
-use Rattle.forest_store.proofs.allocation.Next.{hangs_in_some}
-use Rattle.forest_store.proofs.tables.Hanging.{in_all, looked_there}
-use Rattle.forest_store.proofs.tables.Rooted.{left_node, left_parent}
-use Rattle.forest_store.proofs.tallies.Holding.{head_there}
+use Rattle.forest_store.proofs.Common.{◌≡◌, refl, ap, sym, ◌∙◌, subst, Bool, true, false, not, ◌&&◌, ◌||◌, ◌==◌, inl, inr, is_none, List, [], ◌∷◌, Option, Some, None, eq-eqb, not-true, cons_option, find, list_all, list_any, option_map_or, NodeKey, same_key, In, In-list_any, and_both, and_left, and_right, both_ways, either_way, or_left, or_right, same_key-refl, same_key-true, Table, node_at, parent_at, Node, Unit, unit_at, waits_in, Collection, IsStored, IsWhole, Shelf, collection_in, nodes_with, is_of, is_ready_node, times-zero, HasUnits, has_buffers, IsSound, is_root_of}
+use Rattle.forest_store.specs.UnitAllocation.{hangs_below, has_turn_at, is_left_out, is_of_some, is_waiting_head, left_out_at}
+use Rattle.forest_store.proofs.Basics.{all-In, found_by_key, found_whole, hangs_in_some, in_all, looked_there, left_node, left_parent, head_there}
 
 -- a key that passes is one of those that pass
 pub any_key : (test : NodeKey → Bool) (keys : List NodeKey) (key : NodeKey) → list_any (same_key key) keys ≡ true → test key ≡ true →
@@ -35,15 +25,14 @@ key_listed t named (k ∷ ks) n on = by (λ there. key_listed t named ks n there
     by : (In n (nodes_with t ks) → list_any (same_key n.key) ks ≡ true) → (o : Option Node) → node_at t k ≡ o →
         In n (cons_option o (nodes_with t ks)) → list_any (same_key n.key) (k ∷ ks) ≡ true
     by rest None at there = or_right (same_key n.key k) (list_any (same_key n.key) ks) (rest there)
-    by rest (Some m) at (inl is) =
-        or_left (same_key n.key k) (list_any (same_key n.key) ks)
-        (subst (λ (j : NodeKey). same_key n.key j ≡ true) (ap (λ (x : Node). x.key) is ∙ named k m at) (same_key-refl n.key))
+    by rest (Some m) at (inl is) = or_left (same_key n.key k) (list_any (same_key n.key) ks)
+        (rw (← (ap (λ (x : Node). x.key) is ∙ named k m at)) (same_key-refl n.key))
     by rest (Some m) at (inr there) = or_right (same_key n.key k) (list_any (same_key n.key) ks) (rest there)
 
 -- a node with a parent is no root
 pub no_root : (c : Collection) → IsSound c → (h : Node) → In h c.nodes → (p : NodeKey) → h.parent ≡ Some p → is_root_of c h.key ≡ false
 no_root c sound h on p up =
-    ap (λ (o : Option Node). option_map_or (λ (m : Node). is_none m.parent) o false) (found_by_key c.nodes h sound.distinct on)
+    ap (λ (o : Option Node). option_map_or (λ (m : Node). is_none m.parent) o false) (found_by_key _ h sound.distinct on)
     ∙ ap is_none up
 
 -- what is there
@@ -92,11 +81,11 @@ module _ (t : Table Node) (ss : List Shelf) (kept : IsStored t ss) (s : Shelf) (
 
   -- each collection is whole
   pub whole_before : IsWhole (collection_in t s)
-  whole_before = found_whole t s.id ss s kept.whole found
+  whole_before = found_whole t _ _ s kept.whole found
 
   -- each node stands in the table under its key
   pub at_key : (m : Node) → In m nodes → node_at t m.key ≡ Some m
-  at_key m there = in_all (λ (x : Node). node_at t x.key ≡ Some x) nodes (looked_there t kept.named s.keys) m there
+  at_key m there = in_all _ _ (looked_there t kept.named s.keys) m there
 
   -- the constructor is injective
   one_node : (a b : Node) → Some a ≡ Some b → a ≡ b
@@ -105,48 +94,45 @@ module _ (t : Table Node) (ss : List Shelf) (kept : IsStored t ss) (s : Shelf) (
   -- an attached node heads its unit
   heads : (none attached own : Bool) → attached ≡ true → (not (none || attached) || own) ≡ true → (h : Node) → h.key ≡ k →
       own ≡ same_key h.head h.key → h.head ≡ k
-  heads true attached own e all h key is = same_key-true h.head h.key (sym is ∙ all) ∙ key
-  heads false true own e all h key is = same_key-true h.head h.key (sym is ∙ all) ∙ key
+  heads true attached own e all h key is = same_key-true _ _ (sym is ∙ all) ∙ key
+  heads false true own e all h key is = same_key-true _ _ (sym is ∙ all) ∙ key
   heads false false own e all h key is = cc
 
   -- a unit that is ready waits for none
   waits_for_none : (us : List Unit) → HasUnits us nodes → (m : Node) → In m nodes → list_all (is_ready_node m.key) nodes ≡ true →
       (unit_at us m.key.slot).unready ≡ 0
-  waits_for_none us counts m on ready =
-      ap (λ (u : Unit). u.unready) (in_all (HasUnit us nodes) nodes counts m on).1
-      ∙ times-zero (waits_in m.key) nodes (λ x there. ap not (all-In (is_ready_node m.key) nodes x there ready))
+  waits_for_none us counts m on ready = ap (λ (u : Unit). u.unready) (in_all _ _ counts m on).1
+      ∙ times-zero (waits_in m.key) nodes (λ x there. ap not (all-In _ _ x there ready))
 
   -- the head has its turn by the table, and stands in the collection as the table has it
   pub due_head : has_turn_at t k ≡ true → (n : Node) → In n nodes → n.gone ≡ false → n.head ≡ k → IsDueHead t nodes k
   due_head turn n on here own =
-      let h = head_there nodes whole_before.sound.distinct whole_before.sound.heads whole_before.rooted whole_before.united n on here in
+      let h = head_there _ whole_before.sound.distinct whole_before.sound.heads whole_before.rooted whole_before.united n on here in
       let head : Node = h.0 in
       let key : head.key ≡ k = h.2 ∙ own in
-      let waits = node_there is_waiting_head (node_at t k) (and_left (option_map_or is_waiting_head (node_at t k) false) _ turn) in
-      let one : waits.0 ≡ head = one_node waits.0 head (sym waits.1 ∙ (ap (node_at t) (sym key) ∙ at_key head h.1)) in
-      let is : is_waiting_head head ≡ true = subst (λ (m : Node). is_waiting_head m ≡ true) one waits.2 in
-      let above = some_there (has_buffers_there t) (parent_at t k)
-      (and_right (option_map_or is_waiting_head (node_at t k) false) _ turn) in
-      let over = node_there has_buffers (node_at t above.0) above.2 in
-      let up : head.parent ≡ Some above.0 =
-      sym (kept.linked head.key head (at_key head h.1) h.3) ∙ (ap (parent_at t) key ∙ above.1) in
-      let left = left_node nodes above.0 (left_parent nodes whole_before.rooted head above.0 h.1 h.3 up) in
-      let same : over.0 ≡ left.node = one_node over.0 left.node (sym over.1 ∙ (ap (node_at t) (sym left.is) ∙ at_key left.node left.on)) in
+      let waits = node_there _ _ (and_left _ _ turn) in
+      let one : waits.0 ≡ head = one_node _ _ (sym waits.1 ∙ (ap (node_at t) (sym key) ∙ at_key _ h.1)) in
+      let is : is_waiting_head head ≡ true = rw (← one) waits.2 in
+      let above = some_there _ _ (and_right _ _ turn) in
+      let over = node_there _ _ above.2 in
+      let up = sym (kept.linked head.key head (at_key _ h.1) h.3) ∙ (ap (parent_at t) key ∙ above.1) in
+      let left = left_node _ _ (left_parent _ whole_before.rooted _ _ h.1 h.3 up) in
+      let same : over.0 ≡ left.node = one_node _ _ (sym over.1 ∙ (ap (node_at t) (sym left.is) ∙ at_key _ left.on)) in
       let serves : has_buffers left.node ≡ true = subst (λ (m : Node). has_buffers m ≡ true) same over.2 in
       record {
         head = head;
         on = h.1;
         key = key;
-        own = heads (is_none head.parent) head.attached (same_key head.head head.key) (and_left head.attached _ is)
-            (all-In heads_itself nodes head h.1 whole_before.sound.heads) head key refl;
-        attached = and_left head.attached _ is;
+        own = heads (is_none head.parent) head.attached _ (and_left _ _ is)
+            (all-In _ _ _ h.1 whole_before.sound.heads) head key refl;
+        attached = and_left _ _ is;
         here = h.3;
-        waits = not-true head.allocated (and_right (not head.gone) _ (and_right head.attached _ is));
+        waits = not-true head.allocated (and_right _ _ (and_right _ _ is));
         above = left.node;
         above_on = left.on;
         up = up ∙ ap Some (sym left.is);
         above_here = left.here;
-        served = and_right (not left.node.gone) _ serves;
+        served = and_right _ _ serves;
       }
 
   -- each unit that is ready and hangs right below one of these is one of them
@@ -170,6 +156,5 @@ module _ (t : Table Node) (ss : List Shelf) (kept : IsStored t ss) (s : Shelf) (
         both_ways (list_any (left_out_at t us hs) s.keys)
         (any_key (left_out_at t us hs) s.keys m.key (key_listed t kept.named s.keys m on)
         (ap (λ (o : Option Node). option_map_or (is_left_out t us hs) o false) (at_key m on)
-        ∙ and_both (hangs_below t us hs m) _ hangs (ap not e)))
-        none
+        ∙ and_both (hangs_below t us hs m) _ hangs (ap not e))) none
   ]

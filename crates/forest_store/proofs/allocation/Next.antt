@@ -1,6 +1,5 @@
 -- Attached units that become ready are what is allocated next, and nothing after them.
-use Rattle.forest_store.proofs.Common.{◌≡◌, Bool, true, false, not, ◌&&◌, ◌||◌, is_none, List, list_any, option_map_or, NodeKey, same_key, In, same_key-true, Node, Collection, is_of, heads_itself}
-use Rattle.forest_store.specs.Scenes.{IsSound}
+use Rattle.forest_store.proofs.Common.{◌≡◌, Bool, true, false, not, ◌&&◌, ◌||◌, List, list_any, option_map_or, NodeKey, same_key, In, same_key-true, Node, Collection, is_of, IsSound}
 use Rattle.forest_store.proofs.quiescence.Steps.{all-In}
 use Rattle.forest_store.proofs.allocation.Allocated.{AreChildren}
 
@@ -10,9 +9,7 @@ hangs_in_some nodes hs n = option_map_or (λ p. list_any (λ (q : Node). is_of p
 
 -- an attached node heads its unit
 pub head_own : (c : Collection) → IsSound c → (n : Node) → In n c.nodes → n.attached ≡ true → n.head ≡ n.key
-head_own c sound n on attached =
-    same_key-true n.head n.key (by (is_none n.parent) n.attached (same_key n.head n.key) attached
-    (all-In heads_itself c.nodes n on sound.heads))
+head_own c sound n on attached = same_key-true _ _ (by _ _ _ attached (all-In _ _ n on sound.heads))
   where
     by : (none attached own : Bool) → attached ≡ true → (not (none || attached) || own) ≡ true → own ≡ true
     by true attached own e h = h

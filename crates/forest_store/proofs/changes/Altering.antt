@@ -1,13 +1,10 @@
 -- A change to a collection that is there: what it keeps of the nodes, and where they lie.
-use Rattle.forest_store.proofs.Common.{◌≡◌, ℕ, ◌<◌, ◌==◌, nat_lt, Bool, true, false, ◌||◌, ◌&&◌, not, List, [], ◌∷◌, map, Option, Some, None, option_map, is_some, cond, refl, sym, ap, subst, ◌∙◌, inl, inr, arith, list_any, list_all, find, cons_option, AllByRecursion, option_map_or, eqb-true, eq-eqb, lt-ltb, false≢true, NodeKey, same_key, and_left, and_right, or_cases, same_key-true, Table, node_at, Change, Effect, Node, Collection, with_nodes, Shelf, AreRising, IsStored, IsWhole, put_shelf, collection_in, nodes_with, forest_of, all_keys, are_filed, is_filed, affected}
-use Rattle.std.proofs.lemmas.Bool.{ne_eqb, ltb-true}
-use Rattle.std.proofs.lemmas.List.Folds.{list_any-append}
+use Rattle.forest_store.proofs.Common.{◌≡◌, ℕ, ◌<◌, ◌==◌, true, false, ◌&&◌, not, List, [], ◌∷◌, map, Option, Some, None, option_map, is_some, cond, refl, sym, ap, ◌∙◌, inl, inr, arith, list_any, list_all, find, cons_option, AllByRecursion, option_map_or, eqb-true, eq-eqb, lt-ltb, false≢true, NodeKey, same_key, and_left, and_right, or_cases, same_key-true, Table, node_at, Change, Effect, Node, Collection, with_nodes, Shelf, AreRising, IsStored, IsWhole, put_shelf, collection_in, nodes_with, forest_of, all_keys, are_filed, is_filed, affected, ne_eqb, ltb-true, list_any-append, all_of, lost, is_taken, changed, is_birth, no_key, is_there, has_collection, In-find, either_way}
+use Rattle.forest_store.proofs.tables.Hanging.{all_at}
 use Rattle.sm_names.specs.declared.rules.TheConstants.{MAX_NODE_TRACKERS}
 use Rattle.forest_store.specs.Forest.{node_at as forest_node}
-use Rattle.forest_store.specs.Shelves.{all_of}
-use Rattle.forest_store.specs.Nodes.{lost, is_taken}
 use Rattle.forest_store.specs.Scenes.{has_tracker_room}
-use Rattle.forest_store.specs.Settling.{changed, is_birth, no_key, fits, is_there, has_collection}
+use Rattle.forest_store.specs.Settling.{fits}
 use Rattle.forest_store.proofs.changes.Finishing.{keys_in}
 use Rattle.forest_store.proofs.shelves.Putting.{cases_place, above-weaker}
 use Rattle.forest_store.proofs.shelves.Showing.{node_is, collection_is, filed_found}
@@ -54,15 +51,6 @@ change_makes Change.Nothing key c h = record {
 
 -- ---- the shelf of a collection
 
--- by whether it is the first
-found_id-by : (id : ℕ) (x : Shelf) (xs : List Shelf) (s : Shelf) (here : Bool) → (x.id == id) ≡ here →
-    cond here (Some x) (find (λ (y : Shelf). y.id == id) xs) ≡ Some s → (find (λ (y : Shelf). y.id == id) xs ≡ Some s → s.id ≡ id) →
-    s.id ≡ id
-found_id-by id x xs s true here found on =
-    let same : x ≡ s = cc in
-    ap (λ (y : Shelf). y.id) (sym same) ∙ eqb-true x.id id here
-found_id-by id x xs s false here found on = on found
-
 -- one shelf is the other
 pub Some-shelf : (x s : Shelf) → Some x ≡ Some s → x ≡ s
 Some-shelf x s e = cc
@@ -77,19 +65,17 @@ none_above id (s ∷ ss) all =
 
 -- a shelf that is found has the id
 pub found_id : (id : ℕ) (ss : List Shelf) (s : Shelf) → find (λ (x : Shelf). x.id == id) ss ≡ Some s → s.id ≡ id
-found_id id [] s found = absurd (cc)
-found_id id (x ∷ xs) s found = found_id-by id x xs s (x.id == id) refl found (found_id id xs s)
+found_id id ss s found = eqb-true _ _ (In-find (λ (x : Shelf). x.id == id) ss s found).1
 
 -- a shelf that is found stands in its place
 pub found_put : (s : Shelf) (ss : List Shelf) → AreRising ss → find (λ (x : Shelf). x.id == s.id) ss ≡ Some s → put_shelf s ss ≡ ss
 found_put s [] rising found = absurd (cc)
-found_put s (x ∷ xs) rising found = cases_place x.id s.id (put_shelf s (x ∷ xs) ≡ x ∷ xs)
+found_put s (x ∷ xs) rising found = cases_place _ _ _
     (λ same. let one : x ≡ s = Some-shelf x s (rw same at found) in rw same (ap (λ y. y ∷ xs) (sym one)))
     (λ other above.
     let less : s.id < x.id = ltb-true _ _ above in
-    let none = none_above s.id xs (above-weaker s.id x.id xs less rising.0) in
-    let some = rw (other, none) at found in absurd (cc))
-    (λ other below. rw (other, below) (ap (λ l. x ∷ l) (found_put s xs rising.1 (rw other at found))))
+    let none = none_above _ _ (above-weaker _ _ _ less rising.0) in
+    absurd (cc)) (λ other below. rw (other, below) (ap (λ l. x ∷ l) (found_put s xs rising.1 (rw other at found))))
 
 -- by what the first key finds
 looked-of-by : (id : ℕ) (o : Option Node) (ns : List Node) → option_map_or (λ (n : Node). n.collection == id) o false ≡ true →
@@ -139,14 +125,14 @@ there_kept-by : (t : Table Node) (ss : List Shelf) → IsStored t ss → (id : �
 there_kept-by t ss ok id key None is there = absurd (false≢true there)
 there_kept-by t ss ok id key (Some n) is there =
     let own : n.collection ≡ id = eqb-true _ _ (and_left _ _ there) in
-    subst (λ (i : ℕ). is_some (find (λ (s : Shelf). s.id == i) ss) ≡ true) own (kept_of t ss key n ok.filed is (ok.there key n is))
+    rw (← own) (kept_of t _ _ n ok.filed is (ok.there key n is))
 
 -- a key that is in the collection, and its collection
 there_kept : (t : Table Node) (ss : List Shelf) → IsStored t ss → (id : ℕ) (key : NodeKey) → is_there (forest_of t ss) id key ≡ true →
     is_some (find (λ (s : Shelf). s.id == id) ss) ≡ true
 there_kept t ss ok id key there =
-    there_kept-by t ss ok id key (node_at t key) refl (ap (λ o. option_map_or (λ (n : Node). n.collection == id && not n.gone) o false)
-    (sym (node_is t ss ok key)) ∙ there)
+    there_kept-by t _ ok _ _ _ refl (ap (λ o. option_map_or (λ (n : Node). n.collection == id && not n.gone) o false)
+    (sym (node_is t _ ok key)) ∙ there)
 
 -- what is kept of a shelf is kept of a collection
 mapped_some : (t : Table Node) (o : Option Shelf) → is_some (option_map (collection_in t) o) ≡ is_some o
@@ -156,28 +142,26 @@ mapped_some t (Some s) = refl
 -- a collection that is kept has a shelf
 collection_kept : (t : Table Node) (ss : List Shelf) (id : ℕ) → has_collection (forest_of t ss) id ≡ true →
     is_some (find (λ (s : Shelf). s.id == id) ss) ≡ true
-collection_kept t ss id fit = sym (mapped_some t (find (λ (s : Shelf). s.id == id) ss)) ∙ ap is_some (sym (collection_is t id ss)) ∙ fit
+collection_kept t ss id fit = sym (mapped_some t _) ∙ ap is_some (sym (collection_is t id ss)) ∙ fit
 
 -- a collection that is changed is there
 pub change_kept : (t : Table Node) (ss : List Shelf) → IsStored t ss → (id : ℕ) (change : Change) → is_birth change ≡ false →
     fits (forest_of t ss) id change ≡ true → is_some (find (λ (s : Shelf). s.id == id) ss) ≡ true
 change_kept t ss ok id (Change.Birth parent attached client event) h fit = absurd (false≢true (sym h))
-change_kept t ss ok id (Change.Effect key effect) h fit = there_kept t ss ok id key fit
-change_kept t ss ok id (Change.Loss origin cause) h fit = there_kept t ss ok id origin fit
+change_kept t ss ok id (Change.Effect key effect) h fit = there_kept t _ ok _ _ fit
+change_kept t ss ok id (Change.Loss origin cause) h fit = there_kept t _ ok _ _ fit
 change_kept t ss ok id Change.Nothing h fit = collection_kept t ss id fit
-
--- by whether it is that node
-tracker_room-by : (key : NodeKey) (n : Node) (same : Bool) → same_key key n.key ≡ same → (key ≡ n.key → n.trackers < MAX_NODE_TRACKERS) →
-    (not same || nat_lt n.trackers MAX_NODE_TRACKERS) ≡ true
-tracker_room-by key n true same few = lt-ltb n.trackers MAX_NODE_TRACKERS (few (same_key-true key n.key same))
-tracker_room-by key n false same few = refl
 
 -- the node of a tracker has room for it
 pub tracker_room : (t : Table Node) (ss : List Shelf) → IsStored t ss → (asked : NodeKey) (effect : Effect) →
     ((n : Node) → effect ≡ Effect.Tracked → forest_node (forest_of t ss) asked ≡ Some n → n.trackers < MAX_NODE_TRACKERS) → (key : NodeKey) (n : Node) →
     node_at t key ≡ Some n → has_tracker_room asked effect n ≡ true
-tracker_room t ss ok asked Effect.Tracked few key n is = tracker_room-by asked n (same_key asked n.key) refl (λ same.
-    few n refl (node_is t ss ok asked ∙ ap (node_at t) (same ∙ ok.named key n is) ∙ is))
+tracker_room t ss ok asked Effect.Tracked few key n is = elim (either_way (same_key asked n.key)) [
+  | inl e ↦
+      let same : asked ≡ key = same_key-true _ _ e ∙ ok.named key n is in
+      rw e (lt-ltb n.trackers MAX_NODE_TRACKERS (few n refl (node_is t _ ok asked ∙ ap (node_at t) same ∙ is)))
+  | inr e ↦ rw e refl
+]
 tracker_room t ss ok asked Effect.Bound few key n is = refl
 tracker_room t ss ok asked Effect.Dispensable few key n is = refl
 tracker_room t ss ok asked Effect.Weak few key n is = refl
@@ -197,19 +181,10 @@ pub found_filed : (t : Table Node) (id : ℕ) (ss : List Shelf) (s : Shelf) → 
     find (λ (x : Shelf). x.id == id) ss ≡ Some s → list_all (is_filed t s.id) s.keys ≡ true
 found_filed t id ss s filed found = filed_found t id ss filed s found
 
--- by whether the first is found
-found_whole-by : (t : Table Node) (id : ℕ) (x : Shelf) (xs : List Shelf) (s : Shelf) (here : Bool) →
-    AllByRecursion (λ (y : Shelf). IsWhole (collection_in t y)) (x ∷ xs) →
-    cond here (Some x) (find (λ (y : Shelf). y.id == id) xs) ≡ Some s → (find (λ (y : Shelf). y.id == id) xs ≡ Some s →
-    IsWhole (collection_in t s)) → IsWhole (collection_in t s)
-found_whole-by t id x xs s true all found on = subst (λ (y : Shelf). IsWhole (collection_in t y)) (Some-shelf x s found) all.0
-found_whole-by t id x xs s false all found on = on found
-
 -- its collection is whole
 pub found_whole : (t : Table Node) (id : ℕ) (ss : List Shelf) (s : Shelf) → AllByRecursion (λ (x : Shelf). IsWhole (collection_in t x)) ss →
     find (λ (x : Shelf). x.id == id) ss ≡ Some s → IsWhole (collection_in t s)
-found_whole t id [] s all found = absurd (cc)
-found_whole t id (x ∷ xs) s all found = found_whole-by t id x xs s (x.id == id) all found (found_whole t id xs s all.1)
+found_whole t id ss s all found = all_at _ _ all s (In-find _ _ s found).0
 
 module _ (t : Table Node) (ss : List Shelf) (ok : IsStored t ss) (id : ℕ) (s : Shelf)
     (found : find (λ (x : Shelf). x.id == id) ss ≡ Some s) (change : Change) (birth : is_birth change ≡ false)

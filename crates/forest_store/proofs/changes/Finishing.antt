@@ -1,8 +1,6 @@
 -- What stays true where a collection that was worked on is put back.
-use Rattle.forest_store.proofs.Common.{◌≡◌, ◌≢◌, ℕ, ◌<◌, ◌==◌, Bool, true, false, List, [], ◌∷◌, map, Option, Some, None, option_map, is_some, cond, refl, sym, ap, subst, ◌∙◌, inl, inr, arith, list_all, AllByRecursion, cons_option, option_map_or, eqb-true, eqb-false, false≢true, NodeKey, same_key, In, and_left, and_right, same_key-true, Table, node_at, parent_at, Node, Collection, Shelf, AreRising, IsStored, IsWhole, put_shelf, collection_in, nodes_with, all_keys, are_filed, is_filed, put}
-use Rattle.std.proofs.lemmas.Bool.{cases_eq, ltb-true}
-use Rattle.node_table.specs.Table.{was_given}
-use Rattle.forest_store.specs.Shelves.{AreHeadsGiven, Stores, all_of, stored, written}
+use Rattle.forest_store.proofs.Common.{◌≡◌, ◌≢◌, ℕ, ◌<◌, ◌==◌, Bool, true, false, List, [], ◌∷◌, map, Option, Some, None, option_map, is_some, cond, refl, sym, ap, ◌∙◌, inl, inr, arith, list_all, AllByRecursion, cons_option, option_map_or, eqb-true, eqb-false, false≢true, NodeKey, same_key, and_left, and_right, same_key-true, Table, node_at, parent_at, Node, Collection, Shelf, AreRising, IsStored, IsWhole, put_shelf, collection_in, nodes_with, all_keys, are_filed, is_filed, put, cases_eq, ltb-true, was_given, Stores, all_of, stored, written}
+use Rattle.forest_store.specs.Shelves.{AreHeadsGiven}
 use Rattle.forest_store.proofs.tables.Kin.{kin_kept}
 use Rattle.forest_store.proofs.tables.Writing.{given-same}
 use Rattle.forest_store.proofs.tables.Hanging.{in_all}
@@ -31,7 +29,7 @@ pub looked-keys : (t : Table Node) (id : ℕ) → ((key : NodeKey) (n : Node) �
     list_all (is_filed t id) keys ≡ true → keys_in (nodes_with t keys) ≡ keys
 looked-keys t id named [] filed = refl
 looked-keys t id named (k ∷ ks) filed =
-    looked-key id k (node_at t k) (nodes_with t ks) ks (named k) (and_left _ _ filed) (looked-keys t id named ks (and_right _ _ filed))
+    looked-key _ k _ _ _ (named k) (and_left _ _ filed) (looked-keys t id named ks (and_right _ _ filed))
 
 -- ---- collections
 
@@ -44,13 +42,13 @@ written-of id m n false mine own = own
 stored-of : (id : ℕ) (ns : List Node) (n : Node) → all_of id ns ≡ true → n.collection ≡ id → (stored ns n).collection ≡ id
 stored-of id [] n all own = own
 stored-of id (m ∷ ms) n all own =
-    stored-of id ms (written m n) (and_right _ _ all) (written-of id m n (same_key m.key n.key) (eqb-true _ _ (and_left _ _ all)) own)
+    stored-of id ms (written m n) (and_right _ _ all) (written-of _ m n _ (eqb-true _ _ (and_left _ _ all)) own)
 
 -- a node of another collection has none of these keys
 unwritten : (t : Table Node) (id : ℕ) (m n : Node) (same : Bool) → same_key m.key n.key ≡ same → is_filed t id m.key ≡ true →
     node_at t n.key ≡ Some n → n.collection ≢ id → cond same m n ≡ n
 unwritten t id m n true same filed found other =
-    let there : node_at t m.key ≡ Some n = ap (node_at t) (same_key-true m.key n.key same) ∙ found in
+    let there : node_at t m.key ≡ Some n = ap (node_at t) (same_key-true _ _ same) ∙ found in
     let own : (n.collection == id) ≡ true = rw there at filed in
     absurd (other (eqb-true _ _ own))
 unwritten t id m n false same filed found other = refl
@@ -60,7 +58,7 @@ stored-beside : (t : Table Node) (id : ℕ) (ns : List Node) (n : Node) → list
     node_at t n.key ≡ Some n → n.collection ≢ id → stored ns n ≡ n
 stored-beside t id [] n filed found other = refl
 stored-beside t id (m ∷ ms) n filed found other =
-    rw (unwritten t id m n (same_key m.key n.key) refl (and_left _ _ filed) found other) (stored-beside t id ms n (and_right _ _ filed)
+    rw (unwritten t _ m n _ refl (and_left _ _ filed) found other) (stored-beside t id ms n (and_right _ _ filed)
     found other)
 
 -- a node of another collection stays
@@ -70,7 +68,7 @@ node-beside : (t : Table Node) (id : ℕ) (ns : List Node) → list_all (is_file
 node-beside t id ns own other differ key None is named filed = refl
 node-beside t id ns own other differ key (Some n) is named filed =
     let found : node_at t n.key ≡ Some n = ap (node_at t) (named n is) ∙ is in
-    ap Some (stored-beside t id ns n own found (λ same. differ (sym (eqb-true _ _ filed) ∙ same)))
+    ap Some (stored-beside t _ _ n own found (λ same. differ (sym (eqb-true _ _ filed) ∙ same)))
 
 -- the nodes of another collection stay
 nodes-beside : (t now : Table Node) (id : ℕ) (ns : List Node) →
@@ -81,7 +79,7 @@ nodes-beside t now id ns look named own other differ [] filed = refl
 nodes-beside t now id ns look named own other differ (k ∷ ks) filed =
     let rest : nodes_with now ks ≡ nodes_with t ks = nodes-beside t now id ns look named own other differ ks (and_right _ _ filed) in
     rw (look k, rest)
-    (ap (λ o. cons_option o (nodes_with t ks)) (node-beside t id ns own other differ k (node_at t k) refl (named k) (and_left _ _ filed)))
+    (ap (λ o. cons_option o (nodes_with t ks)) (node-beside t _ _ own _ differ k _ refl (named k) (and_left _ _ filed)))
 
 -- what holds while a collection is put back: its nodes are in the table, in the places of those with their keys
 module _ (t now : Table Node) (id : ℕ) (ns : List Node) (stores : Stores t now ns) (named : (key : NodeKey) (n : Node) →
@@ -98,12 +96,12 @@ module _ (t now : Table Node) (id : ℕ) (ns : List Node) (stores : Stores t now
       option_map_or (λ (n : Node). n.collection == other) (option_map (stored ns) o) false ≡ option_map_or (λ (n : Node).
       n.collection == other) o false
   filed-still-by all other key None is = refl
-  filed-still-by all other key (Some n) is = ap (λ (c : ℕ). c == other) (stored-own all key n is)
+  filed-still-by all other key (Some n) is = ap (λ (c : ℕ). c == other) (stored-own all _ n is)
 
   -- each key is filed where it was
   filed-still : all_of id ns ≡ true → (other : ℕ) (key : NodeKey) → is_filed now other key ≡ is_filed t other key
   filed-still all other key = ap (λ o. option_map_or (λ (n : Node). n.collection == other) o false) (stores.look key)
-      ∙ filed-still-by all other key (node_at t key) refl
+      ∙ filed-still-by all other _ _ refl
 
   -- another collection stays
   pub collection-beside : (s : Shelf) → s.id ≢ id → list_all (is_filed t s.id) s.keys ≡ true → collection_in now s ≡ collection_in t s
@@ -128,13 +126,10 @@ module _ (t now : Table Node) (id : ℕ) (ns : List Node) (stores : Stores t now
       are_filed t (put_shelf old ss) ≡ true →
       map (collection_in now) (put_shelf new ss) ≡ put (collection_in now new) (map (collection_in t) ss)
   collections-put new old [] is was rising filed = refl
-  collections-put new old (s ∷ ss) is was rising filed =
-      cases_place s.id new.id (map (collection_in now) (put_shelf new (s ∷ ss)) ≡ put (collection_in now new)
-      (map (collection_in t) (s ∷ ss)))
+  collections-put new old (s ∷ ss) is was rising filed = cases_place _ _ _
       (λ same. rw same (ap (λ cs. collection_in now new ∷ cs)
-      (collections-above ss (subst (λ (low : ℕ). AllByRecursion (λ (later : Shelf). low < later.id) ss) (eqb-true s.id new.id same
-      ∙ is) rising.0) (and_right _ _ (rw (was, same) at filed)))))
-      (λ other above.
+      (collections-above _ (rw (← (eqb-true s.id new.id same
+      ∙ is)) rising.0) (and_right _ _ (rw (was, same) at filed))))) (λ other above.
       let less : id < s.id = omega (arith, is, ltb-true _ _ above) in
       rw (other, above) (ap (λ cs. collection_in now new ∷ cs)
       (collections-above (s ∷ ss) (less, above-weaker id s.id ss less rising.0) (and_right _ _ (rw (was, other, above) at filed)))))
@@ -158,26 +153,25 @@ module _ (t now : Table Node) (id : ℕ) (ns : List Node) (stores : Stores t now
       node_at t key ≡ Some n → n.gone ≡ false → parent_at t key ≡ n.parent) →
       (key : NodeKey) (n : Node) → node_at now key ≡ Some n → n.gone ≡ false → parent_at now key ≡ n.parent
   linked-put all linked key n is here =
-      let was = found-before key (node_at t key) n (sym (stores.look key) ∙ is) in
+      let was = found-before key _ n (sym (stores.look key) ∙ is) in
       stores.parents key ∙ (elim (stored_one ns was.0) [
         | inl same ↦
             let one : was.0 ≡ n = sym same ∙ was.3 in
             linked key was.0 was.1 (ap (λ (x : Node). x.gone) one ∙ here) ∙ ap (λ (x : Node). x.parent) one
-        | inr on ↦
-            ap (parent_at t) (sym (was.2 ∙ named key was.0 was.1))
-            ∙ in_all (λ (m : Node). m.gone ≡ false → parent_at t m.key ≡ m.parent) ns all n (subst (λ (m : Node). In m ns) was.3 on) here
+        | inr on ↦ ap (parent_at t) (sym (was.2 ∙ named key was.0 was.1))
+            ∙ in_all _ _ all n (rw (← was.3) on) here
       ])
 
   -- the heads were given, as those of all that were stored were
   heads-put : AreHeadsGiven t ns → now.first ≡ t.first → now.nexts ≡ t.nexts → ((key : NodeKey) (n : Node) → node_at t key ≡ Some n →
       was_given t n.head ≡ true) → (key : NodeKey) (n : Node) → node_at now key ≡ Some n → was_given now n.head ≡ true
   heads-put all first nexts heads key n is =
-      let was = found-before key (node_at t key) n (sym (stores.look key) ∙ is) in
+      let was = found-before key _ n (sym (stores.look key) ∙ is) in
       given-same t now first nexts n.head ∙ (elim (stored_one ns was.0) [
         | inl same ↦
             let one : was.0 ≡ n = sym same ∙ was.3 in
             ap (λ (x : Node). was_given t x.head) (sym one) ∙ heads key was.0 was.1
-        | inr on ↦ in_all (λ (m : Node). was_given t m.head ≡ true) ns all n (subst (λ (m : Node). In m ns) was.3 on)
+        | inr on ↦ in_all _ _ all n (rw (← was.3) on)
       ])
 
   -- all stays so
@@ -186,17 +180,17 @@ module _ (t now : Table Node) (id : ℕ) (ns : List Node) (stores : Stores t now
       AreHeadsGiven t ns →
       AllByRecursion (λ (s : Shelf). IsWhole (collection_in now s)) (put_shelf new ss) → IsStored now (put_shelf new ss)
   kept-put all new old ss ids keys rising ok linked heads whole =
-      let same_keys : all_keys (put_shelf new ss) ≡ all_keys (put_shelf old ss) = sym (keys-put old new ss ids keys) in
+      let same_keys : all_keys (put_shelf new ss) ≡ all_keys (put_shelf old ss) = sym (keys-put _ _ ss ids keys) in
       record {
         first = stores.same.first ∙ ok.first;
-        rising = rising-put new ss rising;
+        rising = rising-put new _ rising;
         apart = rw same_keys ok.apart;
         named = λ key n is.
-            let was = found-before key (node_at t key) n (sym (stores.look key) ∙ is) in
+            let was = found-before key _ n (sym (stores.look key) ∙ is) in
             was.2 ∙ named key was.0 was.1;
-        filed = filed-same t now (filed-still all) (put_shelf new ss) ∙ sym (filed-put t old new ss ids keys) ∙ ok.filed;
+        filed = filed-same t now (filed-still all) (put_shelf new ss) ∙ sym (filed-put t _ new ss ids keys) ∙ ok.filed;
         there = λ key n is.
-            let was = found-before key (node_at t key) n (sym (stores.look key) ∙ is) in
+            let was = found-before key _ n (sym (stores.look key) ∙ is) in
             rw same_keys (ok.there key was.0 was.1);
         counted = rw same_keys ok.counted ∙ sym stores.same.len;
         linked = linked-put linked ok.linked;
@@ -204,8 +198,8 @@ module _ (t now : Table Node) (id : ℕ) (ns : List Node) (stores : Stores t now
         whole = whole;
         parents = λ key p up. given-same t now stores.same.first stores.same.nexts p ∙ ok.parents key p (sym (stores.parents key) ∙ up);
         kin = kin_kept t now
-            (λ key n is. let was = found-before key (node_at t key) n (sym (stores.look key) ∙ is) in
-            (was.0, was.1, ap (λ (x : Node). x.collection) (sym was.3) ∙ stored-own all key was.0 was.1))
+            (λ key n is. let was = found-before key _ n (sym (stores.look key) ∙ is) in
+            (was.0, was.1, ap (λ (x : Node). x.collection) (sym was.3) ∙ stored-own all _ _ was.1))
             (λ key p up. sym (stores.parents key) ∙ up) ok.kin;
       }
 

@@ -1,9 +1,7 @@
 -- A collection to which an effect may be made, found at the place of its id.
-use Rattle.forest_store.proofs.Common.{◌≡◌, ℕ, ◌==◌, List, get_or, Some, option_map, sym, ap, subst, ◌∙◌, find, Table, Change, Entry, Node, Unit, IsStored, Shelf, forest_of, shelf_of, shelves_of}
-use Rattle.forest_store.specs.Calm.{AreCounted, IsCounted}
+use Rattle.forest_store.proofs.Common.{◌≡◌, ℕ, ◌==◌, List, get_or, Some, option_map, sym, ap, subst, ◌∙◌, find, Table, Change, Entry, Node, Unit, IsStored, Shelf, forest_of, shelf_of, shelves_of, AreCounted, IsCounted, MayChange}
 use Rattle.forest_store.specs.Counts.{HaveUnits}
 use Rattle.forest_store.specs.Unforced.{IsOpen}
-use Rattle.forest_store.specs.Settling.{MayChange}
 use Rattle.forest_store.proofs.shelves.Entries.{IsPlace}
 use Rattle.forest_store.proofs.shelves.Showing.{shelf_found}
 use Rattle.forest_store.proofs.quiescence.Watched.{found_counted}
@@ -22,12 +20,12 @@ module _ (t : Table Node) (es : List Entry) (id at : ℕ) (old : Entry) (place :
   -- the entry at the place is counted, as each is, and its shelf is found
   pub opens_at : IsOpen t us (shelves_of es) (shelf_of old) change old.strong
   opens_at =
-      let counted : IsCounted t old = found_counted t id es old all found in
+      let counted : IsCounted t old = found_counted t _ _ _ all found in
       record {
         kept = kept;
         found = subst (λ (i : ℕ). find (λ (x : Shelf). x.id == i) (shelves_of es) ≡ Some (shelf_of old)) (sym own_id) (shelf_found id es
             ∙ ap (option_map shelf_of) found);
-        may = subst (λ (i : ℕ). MayChange (forest_of t (shelves_of es)) i change) (sym own_id) may;
+        may = rw own_id may;
         calm = counted.calm;
         strong = counted.strong;
         units = units;

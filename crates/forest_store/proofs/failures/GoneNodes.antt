@@ -1,10 +1,6 @@
 -- A node that goes: what it keeps, what it counts for no more, and how it is written.
-use Rattle.forest_store.proofs.Common.{◌≡◌, ℕ, ◌==◌, refl, ap, sym, ◌∙◌, subst, Bool, true, false, not, ◌&&◌, ◌||◌, ◌⊎◌, inl, inr, if◌then◌else◌, List, [], ◌∷◌, map, Option, Some, None, cons_option, list_all, list_any, option_map_or, NodeKey, same_key, In, and_both, and_left, and_right, either_way, or_cases, same_key-refl, same_key-true, Table, node_at, Node, lives_in, waits_in, is_filed, nodes_with}
-use Rattle.std.proofs.Math.Bool.{and-false, and-true}
-use Rattle.forest_store.specs.declared.loss_marks.Going.{Going}
-use Rattle.forest_store.specs.LossMarks.{gone_by}
-use Rattle.forest_store.specs.Shelves.{all_of, is_strong, stored, written}
-use Rattle.forest_store.specs.Reserved.{camped}
+use Rattle.forest_store.proofs.Common.{◌≡◌, ℕ, ◌==◌, refl, ap, sym, ◌∙◌, subst, Bool, true, false, not, ◌&&◌, ◌||◌, ◌⊎◌, inl, inr, if◌then◌else◌, List, [], ◌∷◌, map, Option, Some, None, cons_option, list_all, list_any, option_map_or, NodeKey, same_key, In, and_both, and_left, and_right, either_way, or_cases, same_key-refl, same_key-true, Table, node_at, Node, lives_in, waits_in, is_filed, nodes_with, and-false, Going, gone_by, all_of, is_strong, stored, written, camped}
+use Rattle.std.proofs.Math.Bool.{and-true}
 use Rattle.forest_store.proofs.changes.Finishing.{keys_in}
 use Rattle.forest_store.proofs.lists.Lookups.{same_key-swap}
 use Rattle.forest_store.proofs.tallies.Reckoning.{lives_gone, waits_gone}
@@ -81,15 +77,15 @@ strong_gone m e = rw e refl
 
 -- a node that goes is counted no longer, and one that stays as before
 pub strong_but : (keys : List NodeKey) (going : Going) (n : Node) → is_strong (goes_of going keys n) ≡ but is_strong keys n
-strong_but keys going n = but_is is_strong strong_gone going keys n
+strong_but keys going n = but_is _ strong_gone _ keys n
 
 -- the same for the live nodes of a unit
 pub lives_but : (k : NodeKey) (keys : List NodeKey) (going : Going) (n : Node) → lives_in k (goes_of going keys n) ≡ but (lives_in k) keys n
-lives_but k keys going n = but_is (lives_in k) (lives_gone k) going keys n
+lives_but k keys going n = but_is _ (lives_gone k) going keys n
 
 -- the same for the nodes that a unit waits for
 pub waits_but : (k : NodeKey) (keys : List NodeKey) (going : Going) (n : Node) → waits_in k (goes_of going keys n) ≡ but (waits_in k) keys n
-waits_but k keys going n = but_is (waits_in k) (waits_gone k) going keys n
+waits_but k keys going n = but_is _ (waits_gone k) going keys n
 
 -- a gone node camps on nothing
 pub camped_of : (keys : List NodeKey) (going : Going) (n : Node) → camped (goes_of going keys n) ≡ camped_but keys n
@@ -105,37 +101,34 @@ module _ (t : Table Node) (named : (key : NodeKey) (n : Node) → node_at t key 
   -- a node whose key is among these is found by them
   pub in_looked : (ks : List NodeKey) (n : Node) → node_at t n.key ≡ Some n → list_any (same_key n.key) ks ≡ true → In n (nodes_with t ks)
   in_looked [] n is h = cc
-  in_looked (k ∷ ks) n is h =
-      by (λ rest. in_looked ks n is rest) (node_at t k) refl (or_cases (same_key n.key k) (list_any (same_key n.key) ks) h)
+  in_looked (k ∷ ks) n is h = by (λ rest. in_looked ks n is rest) _ refl (or_cases _ _ h)
     where
       by : (list_any (same_key n.key) ks ≡ true → In n (nodes_with t ks)) → (o : Option Node) → node_at t k ≡ o →
           (same_key n.key k ≡ true) ⊎ (list_any (same_key n.key) ks ≡ true) → In n (cons_option o (nodes_with t ks))
-      by on None at (inl e) = let both : Some n ≡ None = sym is ∙ (ap (node_at t) (same_key-true n.key k e) ∙ at) in cc
+      by on None at (inl e) = let both : Some n ≡ None = sym is ∙ (ap (node_at t) (same_key-true _ k e) ∙ at) in cc
       by on None at (inr e) = on e
-      by on (Some m) at (inl e) = let both : Some n ≡ Some m = sym is ∙ (ap (node_at t) (same_key-true n.key k e) ∙ at) in inl cc
+      by on (Some m) at (inl e) = let both : Some n ≡ Some m = sym is ∙ (ap (node_at t) (same_key-true _ k e) ∙ at) in inl cc
       by on (Some m) at (inr e) = inr (on e)
 
   -- what is found by keys is filed
   pub filed_fallen : (id : ℕ) (ks : List NodeKey) → all_of id (nodes_with t ks) ≡ true →
       list_all (is_filed t id) (keys_in (map (gone_by going) (nodes_with t ks))) ≡ true
   filed_fallen id [] own = refl
-  filed_fallen id (k ∷ ks) own = by (λ rest. filed_fallen id ks rest) (node_at t k) refl own
+  filed_fallen id (k ∷ ks) own = by (λ rest. filed_fallen id ks rest) _ refl own
     where
       by : (all_of id (nodes_with t ks) ≡ true → list_all (is_filed t id) (keys_in (map (gone_by going) (nodes_with t ks))) ≡ true) →
           (o : Option Node) → node_at t k ≡ o → all_of id (cons_option o (nodes_with t ks)) ≡ true →
           list_all (is_filed t id) (keys_in (map (gone_by going) (cons_option o (nodes_with t ks)))) ≡ true
       by on None at own = on own
-      by on (Some m) at own =
-          and_both (is_filed t id (gone_by going m).key) _
+      by on (Some m) at own = and_both _ _
           (ap (λ (o : Option Node). option_map_or (λ (n : Node). n.collection == id) o false) (ap (node_at t) ((gone_same going m).key
-          ∙ named k m at) ∙ at) ∙ and_left (m.collection == id) _ own)
-          (on (and_right (m.collection == id) _ own))
+          ∙ named k m at) ∙ at) ∙ and_left _ _ own) (on (and_right _ _ own))
 
   -- a node is written as it goes where its key is among these
   pub stored_goes : (ks : List NodeKey) (n : Node) → node_at t n.key ≡ Some n → (x : Node) → (x ≡ n) ⊎ (x ≡ gone_by going n) →
       stored (map (gone_by going) (nodes_with t ks)) x ≡ (if list_any (same_key n.key) ks then gone_by going n else x)
   stored_goes [] n is x one = refl
-  stored_goes (k ∷ ks) n is x one = by (λ y two. stored_goes ks n is y two) (node_at t k) refl (either_way (same_key n.key k))
+  stored_goes (k ∷ ks) n is x one = by (λ y two. stored_goes ks n is y two) _ refl (either_way (same_key n.key k))
     where
       x_key : x.key ≡ n.key
       x_key = elim one [
@@ -153,10 +146,10 @@ module _ (t : Table Node) (named : (key : NodeKey) (n : Node) → node_at t key 
           (o : Option Node) → node_at t k ≡ o → (same_key n.key k ≡ true) ⊎ (same_key n.key k ≡ false) →
           stored (map (gone_by going) (cons_option o (nodes_with t ks))) x ≡ (if same_key n.key k || list_any (same_key n.key)
           ks then gone_by going n else x)
-      by on None at (inl e) = let both : Some n ≡ None = sym is ∙ (ap (node_at t) (same_key-true n.key k e) ∙ at) in cc
+      by on None at (inl e) = let both : Some n ≡ None = sym is ∙ (ap (node_at t) (same_key-true _ k e) ∙ at) in cc
       by on None at (inr e) = on x one ∙ (λ i. if sym e i || list_any (same_key n.key) ks then gone_by going n else x)
       by on (Some m) at (inl e) =
-          let both : Some n ≡ Some m = sym is ∙ (ap (node_at t) (same_key-true n.key k e) ∙ at) in
+          let both : Some n ≡ Some m = sym is ∙ (ap (node_at t) (same_key-true _ k e) ∙ at) in
           let node : m ≡ n = cc in
           let own : same_key (gone_by going m).key x.key ≡ true = ap (λ (k : NodeKey). same_key k x.key) (gone_same going m).key
           ∙ ap (λ (y : Node). same_key y.key x.key) node ∙ (ap (same_key n.key) x_key ∙ same_key-refl n.key) in
@@ -164,7 +157,7 @@ module _ (t : Table Node) (named : (key : NodeKey) (n : Node) → node_at t key 
           (λ i. if own i then gone_by going m else x) ∙ ap (gone_by going) node in
           ap (stored (map (gone_by going) (nodes_with t ks))) here
           ∙ (on (gone_by going n) (inr refl)
-          ∙ (both_go (list_any (same_key n.key) ks)
+          ∙ (both_go _
           ∙ (λ i. if sym e i || list_any (same_key n.key) ks then gone_by going n else x)))
       by on (Some m) at (inr e) =
           let other : same_key (gone_by going m).key x.key ≡ false = ap (λ (j : NodeKey). same_key j x.key) ((gone_same going m).key

@@ -1,28 +1,15 @@
 -- Nodes that are written as they go, one after another.
-use Rattle.forest_store.proofs.Common.{◌≡◌, ◌≢◌, ℕ, zero, suc, ◌<◌, Bool, true, false, ◌||◌, inl, if◌then◌else◌, List, [], ◌∷◌, ◌++◌, length, map, take, get_or, Option, Some, None, option_map, refl, ap, sym, ◌∙◌, subst, arith, cons_option, list_any, option_map_or, NodeKey, same_key, or_right, same_key-refl, Table, node_at, Node, nodes_with, is_over}
+use Rattle.forest_store.proofs.Common.{◌≡◌, ◌≢◌, ℕ, zero, suc, ◌<◌, Bool, true, false, ◌||◌, inl, if◌then◌else◌, List, [], ◌∷◌, ◌++◌, length, map, take, get_or, Option, Some, None, option_map, refl, ap, sym, ◌∙◌, subst, arith, cons_option, list_any, option_map_or, NodeKey, same_key, or_right, same_key-refl, Table, node_at, Node, nodes_with, is_over, map-append, filter_map-append, list_any-append, AllPairs, or_none_left, or_none_right, Writes, table_with_node, Going, gone_by, Stores, stored}
 use Rattle.std.proofs.Math.Bool.{or-false}
-use Rattle.std.proofs.lemmas.List.{append-nil, map-append}
-use Rattle.std.proofs.lemmas.List.Elements.{filter_map-append}
-use Rattle.std.proofs.lemmas.List.Folds.{list_any-append}
-use Rattle.std.specs.List.{AllPairs}
-use Rattle.sm_names.proofs.SamenessLaws.{or_none_left, or_none_right}
-use Rattle.node_table.specs.Changes.{Writes}
-use Rattle.node_table.specs.Lending.{table_with_node}
-use Rattle.forest_store.specs.declared.loss_marks.Going.{Going}
-use Rattle.forest_store.specs.LossMarks.{gone_by}
-use Rattle.forest_store.specs.Shelves.{Stores, stored}
-use Rattle.forest_store.proofs.failures.GoneNodes.{gone_same, stored_goes}
-use Rattle.forest_store.proofs.lists.Lookups.{same_key-swap}
-use Rattle.forest_store.proofs.tables.Storing.{Stores-more}
-use Rattle.forest_store.proofs.tallies.Untold.{first_once, rest_once}
+use Rattle.std.proofs.lemmas.List.{append-nil}
+use Rattle.forest_store.proofs.Basics.{gone_same, stored_goes, same_key-swap, Stores-more, first_once, rest_once}
 
 -- a key that is not among these is not the one that stands here
 none_at : (k : NodeKey) (ks : List NodeKey) (i : ℕ) (d : NodeKey) → list_any (same_key k) ks ≡ false → i < length ks →
     same_key k (get_or ks i d) ≡ false
 none_at k [] i d none within = absurd (omega arith)
-none_at k (x ∷ xs) zero d none within = or_none_left (same_key k x) (list_any (same_key k) xs) none
-none_at k (x ∷ xs) (suc i) d none within =
-    none_at k xs i d (or_none_right (same_key k x) (list_any (same_key k) xs) none) (omega arith)
+none_at k (x ∷ xs) zero d none within = or_none_left _ _ none
+none_at k (x ∷ xs) (suc i) d none within = none_at k xs i d (or_none_right _ _ none) (omega arith)
 
 -- a key that stands once is not among those before it
 pub once_before : (ks : List NodeKey) (i : ℕ) (d : NodeKey) → AllPairs (λ (a b : NodeKey). a ≢ b) ks → i < length ks →
@@ -31,9 +18,8 @@ once_before [] i d once within = absurd (omega arith)
 once_before (k ∷ ks) zero d once within = refl
 once_before (k ∷ ks) (suc i) d once within =
     let inside : i < length ks = omega arith in
-    let apart : same_key (get_or ks i d) k ≡ false =
-    same_key-swap (get_or ks i d) k ∙ none_at k ks i d (first_once k ks once) inside in
-    (λ j. apart j || list_any (same_key (get_or ks i d)) (take i ks)) ∙ once_before ks i d (rest_once k ks once) inside
+    let apart = same_key-swap _ k ∙ none_at k _ i d (first_once k _ once) inside in
+    (λ j. apart j || list_any (same_key (get_or ks i d)) (take i ks)) ∙ once_before ks i d (rest_once k _ once) inside
 
 module _ (t : Table Node) (named : (key : NodeKey) (n : Node) → node_at t key ≡ Some n → n.key ≡ key) (going : Going)
     (done : List NodeKey) (k : NodeKey) (apart : list_any (same_key k) done ≡ false) (u : Table Node)
@@ -43,39 +29,35 @@ module _ (t : Table Node) (named : (key : NodeKey) (n : Node) → node_at t key 
 
   -- a node that did not go yet stands as it was
   pub still_there : node_at u k ≡ node_at t k
-  still_there = stores.look k ∙ by (node_at t k) refl
+  still_there = stores.look k ∙ by _ refl
     where
       by : (o : Option Node) → node_at t k ≡ o → option_map (stored went) o ≡ o
       by None at = refl
       by (Some n) at =
           let key : n.key ≡ k = named k n at in
           let none : list_any (same_key n.key) done ≡ false = ap (λ (j : NodeKey). list_any (same_key j) done) key ∙ apart in
-          ap Some (stored_goes t named going done n (ap (node_at t) key ∙ at) n (inl refl)
+          ap Some (stored_goes t named _ done n (ap (node_at t) key ∙ at) n (inl refl)
           ∙ (λ i. if none i then gone_by going n else n))
 
   -- with the node of one key more
   with_more : nodes_with t (done ++ k ∷ []) ≡ nodes_with t done ++ cons_option (node_at t k) []
-  with_more = filter_map-append (node_at t) done (k ∷ [])
+  with_more = filter_map-append _ done _
 
   -- one node more is written as it goes
   pub went_more : (now : Table Node) → (node_at u k ≡ None → now ≡ u) →
       ((n : Node) → node_at u k ≡ Some n → now ≡ table_with_node u k (gone_by going n)) →
       ((n : Node) → node_at u k ≡ Some n → Writes u now k (gone_by going n)) →
       Stores t now (map (gone_by going) (nodes_with t (done ++ k ∷ [])))
-  went_more now none becomes writes =
-      subst (λ (ns : List Node). Stores t now (map (gone_by going) ns)) (sym with_more) (by (node_at t k) refl)
+  went_more now none becomes writes = rw with_more (by _ refl)
     where
       by : (o : Option Node) → node_at t k ≡ o → Stores t now (map (gone_by going) (nodes_with t done ++ cons_option o []))
       by None at =
-          subst (λ (ns : List Node). Stores t now (map (gone_by going) ns)) (sym (append-nil (nodes_with t done)))
-          (subst (λ (x : Table Node). Stores t x went) (sym (none (still_there ∙ at))) stores)
+          rw (append-nil (nodes_with t done)) (subst (λ (x : Table Node). Stores t x went) (sym (none (still_there ∙ at))) stores)
       by (Some n) at =
           let is : node_at u k ≡ Some n = still_there ∙ at in
           let key : k ≡ (gone_by going n).key = sym ((gone_same going n).key ∙ named k n at) in
           subst (Stores t now) (sym (map-append (gone_by going) (nodes_with t done) (n ∷ [])))
-          (Stores-more t u now went (gone_by going n) named stores
-          (subst (λ (j : NodeKey). now ≡ table_with_node u j (gone_by going n)) key (becomes n is))
-          (subst (λ (j : NodeKey). Writes u now j (gone_by going n)) key (writes n is)))
+          (Stores-more t u _ _ _ named stores (rw (← key) (becomes n is)) (rw (← key) (writes n is)))
 
   -- one of them is over where one was, or this one is
   pub over_more : (over one : Bool) → over ≡ list_any is_over went →
@@ -83,23 +65,22 @@ module _ (t : Table Node) (named : (key : NodeKey) (n : Node) → node_at t key 
       (over || one) ≡ list_any is_over (map (gone_by going) (nodes_with t (done ++ k ∷ [])))
   over_more over one was is =
       (λ i. was i || (is ∙ ap (λ (o : Option Node). option_map_or (λ (n : Node). is_over (gone_by going n)) o false) still_there) i)
-      ∙ (by (node_at t k)
+      ∙ (by _
       ∙ ap (λ (ns : List Node). list_any is_over (map (gone_by going) ns)) (sym with_more))
     where
       by : (o : Option Node) → (list_any is_over went || option_map_or (λ (n : Node). is_over (gone_by going n)) o false)
           ≡ list_any is_over (map (gone_by going) (nodes_with t done ++ cons_option o []))
       by None = or-false (list_any is_over went)
           ∙ ap (λ (ns : List Node). list_any is_over (map (gone_by going) ns)) (sym (append-nil (nodes_with t done)))
-      by (Some n) =
-          ap (λ (b : Bool). list_any is_over went || b) (sym (or-false (is_over (gone_by going n))))
-          ∙ (sym (list_any-append is_over went (gone_by going n ∷ []))
+      by (Some n) = ap (λ (b : Bool). list_any is_over went || b) (sym (or-false (is_over (gone_by going n))))
+          ∙ (sym (list_any-append is_over went _)
           ∙ ap (list_any is_over) (sym (map-append (gone_by going) (nodes_with t done) (n ∷ []))))
 
 -- the keys of nodes that went find them as they are then
 pub went_now : (t : Table Node) → ((key : NodeKey) (n : Node) → node_at t key ≡ Some n → n.key ≡ key) → (going : Going)
     (keys : List NodeKey) (now : Table Node) → Stores t now (map (gone_by going) (nodes_with t keys)) →
     nodes_with now keys ≡ map (gone_by going) (nodes_with t keys)
-went_now t named going keys now stores = among keys (λ k on. on)
+went_now t named going keys now stores = among _ (λ k on. on)
   where
     find_gone : (k : NodeKey) → list_any (same_key k) keys ≡ true → (o : Option Node) → node_at t k ≡ o →
         node_at now k ≡ option_map (gone_by going) o
@@ -108,7 +89,7 @@ went_now t named going keys now stores = among keys (λ k on. on)
         let key : n.key ≡ k = named k n at in
         let there : list_any (same_key n.key) keys ≡ true = ap (λ (j : NodeKey). list_any (same_key j) keys) key ∙ on in
         stores.look k ∙ ap (option_map (stored (map (gone_by going) (nodes_with t keys)))) at
-        ∙ ap Some (stored_goes t named going keys n (ap (node_at t) key ∙ at) n (inl refl)
+        ∙ ap Some (stored_goes t named _ keys n (ap (node_at t) key ∙ at) n (inl refl)
         ∙ (λ i. if there i then gone_by going n else n))
 
     mapped : (o : Option Node) (ns : List Node) →
@@ -120,8 +101,6 @@ went_now t named going keys now stores = among keys (λ k on. on)
         nodes_with now ks ≡ map (gone_by going) (nodes_with t ks)
     among [] within = refl
     among (k ∷ ks) within =
-        let here : node_at now k ≡ option_map (gone_by going) (node_at t k) =
-        find_gone k (within k (λ i. same_key-refl k i || list_any (same_key k) ks)) (node_at t k) refl in
-        let rest : nodes_with now ks ≡ map (gone_by going) (nodes_with t ks) =
-        among ks (λ j on. within j (or_right (same_key j k) (list_any (same_key j) ks) on)) in
-        (λ i. cons_option (here i) (rest i)) ∙ mapped (node_at t k) (nodes_with t ks)
+        let here = find_gone k (within k (λ i. same_key-refl k i || list_any (same_key k) ks)) _ refl in
+        let rest = among ks (λ j on. within j (or_right _ _ on)) in
+        (λ i. cons_option (here i) (rest i)) ∙ mapped _ _

@@ -1,30 +1,24 @@
 -- What is left once the nodes of a collection that are over are forgotten.
-use Rattle.forest_store.proofs.Common.{◌≡◌, ℕ, ◌==◌, Bool, true, false, cond, inl, inr, Option, Some, None, List, [], ◌∷◌, map, refl, sym, ap, subst, ◌∙◌, cons_option, find, list_all, list_any, Table, node_at, NodeKey, same_key, In, and_left, and_right, both_ways, either_way, or_cases, same_key-true, In-any, Node, Shelf, AreRising, IsStored, are_filed, collection_in, is_filed, nodes_with, is_over}
-use Rattle.forest_store.specs.Forest.{without_over_in}
-use Rattle.forest_store.specs.Garbage.{left_at, thin_in, thinned, unless_over, without_bare}
-use Rattle.forest_store.proofs.changes.Altering.{found_id}
-use Rattle.forest_store.proofs.shelves.Showing.{filed_found}
+use Rattle.forest_store.proofs.Common.{◌≡◌, ℕ, ◌==◌, Bool, true, false, cond, inl, inr, Option, Some, None, List, [], ◌∷◌, map, refl, sym, ap, subst, ◌∙◌, cons_option, find, list_any, Table, node_at, NodeKey, same_key, In, and_left, and_right, both_ways, either_way, or_cases, same_key-true, In-any, Node, Shelf, AreRising, IsStored, are_filed, collection_in, nodes_with, is_over, without_over_in, left_at, thin_in, thinned, unless_over, without_bare}
 use Rattle.forest_store.proofs.leaving.Thinning.{thinned-same}
 use Rattle.forest_store.proofs.leaving.Tidying.{bare-kept, bare_others, none_others, over_none, thin_others, thinned_all, tidied_all}
+use Rattle.forest_store.proofs.Basics.{found_id, filed_found}
 
 module _ (t now : Table Node) (id : ℕ) (ss : List Shelf) (s : Shelf) (ok : IsStored t ss)
     (found : find (λ (x : Shelf). x.id == id) ss ≡ Some s) (look : (k : NodeKey) → node_at now k ≡ left_at t s.keys k) where
   -- the shelf has the id
   own : s.id ≡ id
-  own = found_id id ss s found
+  own = found_id _ _ s found
 
   -- the collections
   pub forgot_collections : map (collection_in now) (without_bare id (thin_in now id ss)) ≡ without_over_in id (map (collection_in t) ss)
   forgot_collections =
-      subst (λ (i : ℕ). map (collection_in now) (without_bare i (thin_in now i ss)) ≡ without_over_in i (map (collection_in t) ss)) own
-      (tidied_all t now s (filed_found t id ss ok.filed s found) look ss ok.rising ok.filed
+      rw (← own) (tidied_all t now s (filed_found t id ss ok.filed s found) look _ ok.rising ok.filed
       (subst (λ (i : ℕ). find (λ (x : Shelf). x.id == i) ss ≡ Some s) (sym own) found))
 
   -- thinning this collection thins all
   pub forgot_thinned : thin_in now id ss ≡ map (thinned now) ss
-  forgot_thinned =
-      subst (λ (i : ℕ). thin_in now i ss ≡ map (thinned now) ss) own
-      (thinned_all t now s (filed_found t id ss ok.filed s found) look ss ok.rising ok.filed)
+  forgot_thinned = rw (← own) (thinned_all t now s (filed_found t id ss ok.filed s found) look _ ok.rising ok.filed)
 
   -- the ids rise once the keys are dropped
   pub forgot_rising : IsStored now (map (thinned now) ss) → AreRising (thin_in now id ss)
@@ -32,17 +26,17 @@ module _ (t now : Table Node) (id : ℕ) (ss : List Shelf) (s : Shelf) (ok : IsS
 
   -- all that holds of forests holds in the end
   pub forgot_kept : IsStored now (map (thinned now) ss) → IsStored now (without_bare id (thin_in now id ss))
-  forgot_kept kept = bare-kept now id (thin_in now id ss) (subst (IsStored now) (sym forgot_thinned) kept)
+  forgot_kept kept = bare-kept _ id _ (subst (IsStored now) (sym forgot_thinned) kept)
 
 -- ---- where nothing is over, and where there is no such collection
 
 -- shelves whose keys the table has stay as they are
 pub thin_filed : (t : Table Node) (id : ℕ) (ss : List Shelf) → are_filed t ss ≡ true → thin_in t id ss ≡ ss
 thin_filed t id [] filed = refl
-thin_filed t id (s ∷ ss) filed = λ i. by (s.id == id) i ∷ thin_filed t id ss (and_right (list_all (is_filed t s.id) s.keys) _ filed) i
+thin_filed t id (s ∷ ss) filed = λ i. by (s.id == id) i ∷ thin_filed t id ss (and_right _ _ filed) i
   where
     by : (b : Bool) → cond b (thinned t s) s ≡ s
-    by true = thinned-same t s (and_left (list_all (is_filed t s.id) s.keys) _ filed)
+    by true = thinned-same t s (and_left _ _ filed)
     by false = refl
 
 -- the node of a key is among those of the keys
@@ -79,31 +73,31 @@ module _ (t now : Table Node) (id : ℕ) (ss : List Shelf) (ok : IsStored t ss)
     (none : find (λ (x : Shelf). x.id == id) ss ≡ None → now ≡ t) where
   -- the ids rise once the keys are dropped
   pub forgotten_rising : IsStored now (map (thinned now) ss) → AreRising (thin_in now id ss)
-  forgotten_rising kept = by (find (λ (x : Shelf). x.id == id) ss) refl
+  forgotten_rising kept = by _ refl
     where
       by : (o : Option Shelf) → find (λ (x : Shelf). x.id == id) ss ≡ o → AreRising (thin_in now id ss)
-      by None is = subst AreRising (sym (thin_others now id ss (none_others id ss is))) ok.rising
-      by (Some s) is = forgot_rising t now id ss s ok is (look s is) kept
+      by None is = subst AreRising (sym (thin_others now _ _ (none_others _ _ is))) ok.rising
+      by (Some s) is = forgot_rising t _ _ _ s ok is (look s is) kept
 
   -- the collections
   pub forgotten_collections : map (collection_in now) (without_bare id (thin_in now id ss)) ≡ without_over_in id (map (collection_in t) ss)
-  forgotten_collections = by (find (λ (x : Shelf). x.id == id) ss) refl
+  forgotten_collections = by _ refl
     where
       by : (o : Option Shelf) → find (λ (x : Shelf). x.id == id) ss ≡ o →
           map (collection_in now) (without_bare id (thin_in now id ss)) ≡ without_over_in id (map (collection_in t) ss)
       by None is =
-          ap (λ (l : List Shelf). map (collection_in now) (without_bare id l)) (thin_others now id ss (none_others id ss is))
-          ∙ ap (map (collection_in now)) (bare_others id ss (none_others id ss is))
+          ap (λ (l : List Shelf). map (collection_in now) (without_bare id l)) (thin_others now _ _ (none_others _ _ is))
+          ∙ ap (map (collection_in now)) (bare_others _ _ (none_others _ _ is))
           ∙ ap (λ (x : Table Node). map (collection_in x) ss) (none is)
-          ∙ over_none t id ss is
-      by (Some s) is = forgot_collections t now id ss s ok is (look s is)
+          ∙ over_none t _ _ is
+      by (Some s) is = forgot_collections t now _ _ s ok is (look s is)
 
   -- all that holds of forests holds in the end
   pub forgotten_kept : IsStored now (map (thinned now) ss) → IsStored now (without_bare id (thin_in now id ss))
-  forgotten_kept kept = by (find (λ (x : Shelf). x.id == id) ss) refl
+  forgotten_kept kept = by _ refl
     where
       by : (o : Option Shelf) → find (λ (x : Shelf). x.id == id) ss ≡ o → IsStored now (without_bare id (thin_in now id ss))
-      by None is = bare-kept now id (thin_in now id ss)
-          (subst (λ (l : List Shelf). IsStored now l) (sym (thin_others now id ss (none_others id ss is))) (subst (λ (x : Table Node).
+      by None is = bare-kept _ id _
+          (rw (thin_others now _ _ (none_others _ _ is)) (subst (λ (x : Table Node).
           IsStored x ss) (sym (none is)) ok))
-      by (Some s) is = forgot_kept t now id ss s ok is (look s is) kept
+      by (Some s) is = forgot_kept t _ _ _ s ok is (look s is) kept

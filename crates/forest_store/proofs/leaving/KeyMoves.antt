@@ -1,7 +1,6 @@
 -- A key that is taken out of a list whose first cells are left over.
-use Rattle.forest_store.proofs.Common.{ℕ, suc, ◌≡◌, ◌+◌, ◌<◌, ◌≤◌, ap, sym, ◌∙◌, List, ◌++◌, length, take, drop, arith}
-use Rattle.std.proofs.Common.{◌-◌, append_assoc}
-use Rattle.std.specs.List.{copy_within, remove}
+use Rattle.forest_store.proofs.Common.{ℕ, suc, ◌≡◌, ◌+◌, ◌<◌, ◌≤◌, ap, sym, ◌∙◌, List, ◌++◌, length, take, drop, arith, ◌-◌, append_assoc, remove}
+use Rattle.std.specs.List.{copy_within}
 use Rattle.std.proofs.lemmas.List.{drop-drop, drop_at, length-take-le, take-append-drop}
 use Rattle.std.proofs.lemmas.List.Edits.{remove-append_right}
 
@@ -25,6 +24,6 @@ moved_down xs front at within =
     let low : length (take front xs) ≡ front = length-take-le front xs within in
     let same : front + at - front ≡ at = omega arith in
     ap (λ ys. drop front (remove ys (front + at))) (sym (take-append-drop front xs))
-    ∙ ap (drop front) (remove-append_right (take front xs) (drop front xs) front (front + at) low (omega arith))
+    ∙ ap (drop front) (remove-append_right _ _ _ _ low (omega arith))
     ∙ drop_at (take front xs) (remove (drop front xs) (front + at - front)) front low
     ∙ ap (remove (drop front xs)) same

@@ -1,13 +1,8 @@
 -- A collection of which no other nodes are over than are noted: to look at those is to look at all.
-use Rattle.forest_store.proofs.Common.{◌≡◌, refl, ap, sym, ◌∙◌, subst, Bool, true, false, not, ◌&&◌, ◌||◌, ◌⊎◌, inl, inr, List, [], ◌∷◌, cond, Option, Some, None, is_some, ◌==◌, eqb-true, filter, list_all, list_any, option_map_or, NodeKey, same_key, In, In-list_any, both_ways, either_way, same_key-true, Table, node_at, Entry, Node, over_except, is_filed, nodes_with, is_over}
-use Rattle.std.proofs.Math.Bool.{and-false}
-use Rattle.sm_names.proofs.ListLaws.{filter-In}
-use Rattle.forest_store.specs.Garbage.{IsForgettable, is_found, is_left_by, is_own_if_over, left_at, unless_over}
-use Rattle.forest_store.proofs.quiescence.Steps.{all-In}
+use Rattle.forest_store.proofs.Common.{◌≡◌, refl, ap, sym, ◌∙◌, Bool, true, false, not, ◌&&◌, ◌||◌, ◌⊎◌, inl, inr, List, [], ◌∷◌, cond, Option, Some, None, is_some, ◌==◌, eqb-true, filter, list_all, list_any, option_map_or, NodeKey, same_key, In, In-list_any, both_ways, either_way, same_key-true, Table, node_at, Entry, Node, is_filed, is_over, and-false, filter-In, IsForgettable, is_found, is_left_by, is_own_if_over, left_at, unless_over}
 use Rattle.forest_store.proofs.leaving.Forgotten.{in_nodes}
-use Rattle.forest_store.proofs.leaving.Noted.{none_but}
-use Rattle.forest_store.proofs.lists.Lookups.{same_key-swap}
 use Rattle.forest_store.proofs.shelves.Counted.{none_each, own_key}
+use Rattle.forest_store.proofs.Basics.{all-In, none_but, same_key-swap}
 
 module _ (t : Table Node) (e : Entry) (can : IsForgettable t e) (garbage_known : e.garbage_known ≡ true)
     (own : list_all (is_own_if_over t e.id) e.garbage.items ≡ true) where
@@ -21,7 +16,7 @@ module _ (t : Table Node) (e : Entry) (can : IsForgettable t e) (garbage_known :
   unnoted : (k : NodeKey) (n : Node) → node_at t k ≡ Some n → list_any (same_key k) keys ≡ true → list_any (same_key k) garbage ≡ false →
       is_over n ≡ false
   unnoted k n is there other =
-      none_but garbage n (none_each (over_except garbage) (nodes_with t keys) (can.garbage_known garbage_known) n (in_nodes t keys k n is there))
+      none_but _ n (none_each _ _ (can.garbage_known garbage_known) n (in_nodes t _ k n is there))
       (ap (λ (j : NodeKey). list_any (same_key j) garbage) (can.named k n is) ∙ other)
 
   -- a noted node that is over is one of the collection
@@ -30,10 +25,8 @@ module _ (t : Table Node) (e : Entry) (can : IsForgettable t e) (garbage_known :
   listed k n is on over =
       let x = In-list_any (same_key k) garbage on in
       let test : is_own_if_over t e.id k ≡ true =
-      subst (λ (j : NodeKey). is_own_if_over t e.id j ≡ true) (sym (same_key-true k x.0 x.2))
-      (all-In (is_own_if_over t e.id) garbage x.0 x.1 own) in
-      let id : (n.collection == e.id) ≡ true =
-      (λ i. not (sym over i) || n.collection == e.id)
+      rw (same_key-true k _ x.2) (all-In (is_own_if_over t e.id) garbage x.0 x.1 own) in
+      let id : (n.collection == e.id) ≡ true = (λ i. not (sym over i) || n.collection == e.id)
       ∙ ap (λ (o : Option Node). option_map_or (λ (m : Node). not (is_over m) || m.collection == e.id) o true) (sym is) ∙ test in
       can.all k n is (eqb-true n.collection e.id id)
 
@@ -48,7 +41,7 @@ module _ (t : Table Node) (e : Entry) (can : IsForgettable t e) (garbage_known :
       by true on false there None is = refl
       by false on true there None is = refl
       by true on false there (Some n) is = elim (either_way (is_over n)) [
-        | inl over ↦ both_ways (list_any (same_key k) keys) (listed k n is on over) there
+        | inl over ↦ both_ways _ (listed k n is on over) there
         | inr e ↦ rw e refl
       ]
       by false on true there (Some n) is = let e : is_over n ≡ false = unnoted k n is there on in rw e refl
@@ -56,15 +49,12 @@ module _ (t : Table Node) (e : Entry) (can : IsForgettable t e) (garbage_known :
   -- so it is for the keys of the collection
   pub noted_found : (now : Table Node) → ((k : NodeKey) → node_at now k ≡ left_at t keys k) →
       filter (is_left_by t garbage) keys ≡ filter (is_found now) keys
-  noted_found now look =
-      filter-In (is_left_by t garbage) (is_found now) keys
-      (λ k on. from k on (node_at t k) refl (all-In (is_filed t e.id) keys k on can.filed))
+  noted_found now look = filter-In (is_left_by t garbage) (is_found now) keys
+      (λ k on. from k on (node_at t k) refl (all-In _ _ k on can.filed))
     where
       from : (k : NodeKey) → In k keys → (o : Option Node) → node_at t k ≡ o → is_filed t e.id k ≡ true →
           is_left_by t garbage k ≡ is_found now k
-      from k on None is filed =
-          let no : false ≡ true = ap (λ (o : Option Node). option_map_or (λ (n : Node). n.collection == e.id) o false) (sym is) ∙ filed in
-          absurd (cc)
+      from k on None is filed = absurd (cc)
       from k on (Some n) is filed =
           let there : list_any (same_key k) keys ≡ true = own_key keys k on in
           let now_is : node_at now k ≡ unless_over (Some n) = look k ∙ rw there (ap unless_over is) in
@@ -75,7 +65,7 @@ module _ (t : Table Node) (e : Entry) (can : IsForgettable t e) (garbage_known :
           by : (is_over n ≡ true) ⊎ (is_over n ≡ false) → not (list_any (same_key k) garbage && is_over n) ≡ is_some (unless_over (Some n))
           by (inl over) = elim (either_way (list_any (same_key k) garbage)) [
             | inl h ↦ rw (over, h) refl
-            | inr h ↦ both_ways (is_over n) over (unnoted k n is (own_key keys k on) h)
+            | inr h ↦ both_ways _ over (unnoted k n is (own_key keys k on) h)
           ]
           by (inr e) = rw e (ap not (and-false (list_any (same_key k) garbage)))
 
@@ -106,7 +96,7 @@ left_dropped t key later e (k ∷ ks) = by (either_way (same_key key k)) (left_d
         filter (is_left_by t later) (filter (λ other. not (same_key key other)) (k ∷ ks)) ≡ filter (is_left_by t (key ∷ later)) (k ∷ ks)
     by (inl same) rest =
         let over : option_map_or is_over (node_at t k) false ≡ true =
-        ap (λ (j : NodeKey). option_map_or is_over (node_at t j) false) (sym (same_key-true key k same)) ∙ e in
+        ap (λ (j : NodeKey). option_map_or is_over (node_at t j) false) (sym (same_key-true _ k same)) ∙ e in
         let out : is_left_by t (key ∷ later) k ≡ false =
         (λ i. not (((same_key-swap k key ∙ same) i || list_any (same_key k) later) && over i)) in
         rw (same, out) rest

@@ -1,11 +1,7 @@
 -- A key of a list in which no key stands twice, and its place.
-use Rattle.forest_store.proofs.Common.{◌≡◌, ℕ, zero, suc, ◌<◌, refl, ap, sym, ◌∙◌, subst, Bool, true, false, not, ◌||◌, ◌==◌, cond, get_or, List, [], ◌∷◌, ◌++◌, length, Some, arith, filter, find, list_any, false≢true, not-true, NodeKey, same_key, and_both, and_left, and_right, false_if, or_left, or_right, same_key-refl, same_key-true, Shelf, all_keys}
-use Rattle.std.specs.List.{remove}
-use Rattle.std.proofs.lemmas.List.Folds.{list_any-append}
-use Rattle.sm_names.proofs.SamenessLaws.{or_none_left}
-use Rattle.forest_store.specs.Shelves.{are_apart}
-use Rattle.forest_store.proofs.changes.Altering.{Some-shelf}
+use Rattle.forest_store.proofs.Common.{◌≡◌, ℕ, zero, suc, ◌<◌, refl, ap, sym, ◌∙◌, subst, Bool, true, false, not, ◌==◌, cond, get_or, List, [], ◌∷◌, ◌++◌, length, Some, arith, filter, find, list_any, false≢true, not-true, NodeKey, same_key, and_both, and_left, and_right, false_if, or_left, or_right, same_key-refl, same_key-true, Shelf, all_keys, remove, list_any-append, or_none_left, are_apart}
 use Rattle.forest_store.proofs.leaving.Thinning.{lacks-filter}
+use Rattle.forest_store.proofs.changes.Altering.{Some-shelf}
 
 -- what stands at a place is listed
 pub listed_at : (key : NodeKey) (ks : List NodeKey) (at : ℕ) → at < length ks → get_or ks at key ≡ key → list_any (same_key key) ks ≡ true
@@ -18,23 +14,21 @@ pub without_at : (key : NodeKey) (ks : List NodeKey) (at : ℕ) → are_apart ks
     filter (λ other. not (same_key key other)) ks ≡ remove ks at
 without_at key [] at apart within is = absurd (omega (arith, within))
 without_at key (k ∷ ks) zero apart within is =
-    let here : same_key key k ≡ true = subst (λ (x : NodeKey). same_key key x ≡ true) (sym is) (same_key-refl key) in
-    let lone : list_any (same_key key) ks ≡ false =
-    subst (λ (x : NodeKey). list_any (same_key x) ks ≡ false) is (not-true _ (and_left _ _ apart)) in
+    let here : same_key key k ≡ true = rw is (same_key-refl key) in
+    let lone = subst (λ (x : NodeKey). list_any (same_key x) ks ≡ false) is (not-true _ (and_left _ _ apart)) in
     rw here (lacks-filter key ks lone)
 without_at key (k ∷ ks) (suc n) apart within is =
     let there : list_any (same_key key) ks ≡ true = listed_at key ks n (omega (arith, within)) is in
     let other : same_key key k ≡ false = false_if (same_key key k) (λ same.
     false≢true (sym (not-true _ (and_left _ _ apart))
-    ∙ subst (λ (x : NodeKey). list_any (same_key x) ks ≡ true) (same_key-true key k same) there)) in
+    ∙ subst (λ (x : NodeKey). list_any (same_key x) ks ≡ true) (same_key-true _ k same) there)) in
     rw other (ap (λ l. k ∷ l) (without_at key ks n (and_right _ _ apart) (omega (arith, within)) is))
 
 -- keys that are apart are so in each part
 apart_left : (xs ys : List NodeKey) → are_apart (xs ++ ys) ≡ true → are_apart xs ≡ true
 apart_left [] ys h = refl
 apart_left (x ∷ xs) ys h =
-    let both : (list_any (same_key x) xs || list_any (same_key x) ys) ≡ false =
-    sym (list_any-append (same_key x) xs ys) ∙ not-true _ (and_left _ _ h) in
+    let both = sym (list_any-append _ xs ys) ∙ not-true _ (and_left _ _ h) in
     and_both _ _ (ap not (or_none_left _ _ both)) (apart_left xs ys (and_right _ _ h))
 
 -- by induction over the first list
@@ -49,7 +43,6 @@ found_apart id [] s apart found = absurd (cc)
 found_apart id (x ∷ xs) s apart found = by (x.id == id) found (found_apart id xs s (apart_right x.keys (all_keys xs) apart))
   where
     by : (b : Bool) → cond b (Some x) (find (λ (y : Shelf). y.id == id) xs) ≡ Some s →
-        (find (λ (y : Shelf). y.id == id) xs ≡ Some s → are_apart s.keys ≡ true) →
-        are_apart s.keys ≡ true
-    by true is on = subst (λ (y : Shelf). are_apart y.keys ≡ true) (Some-shelf x s is) (apart_left x.keys (all_keys xs) apart)
+        (find (λ (y : Shelf). y.id == id) xs ≡ Some s → are_apart s.keys ≡ true) → are_apart s.keys ≡ true
+    by true is on = rw (← (Some-shelf x s is)) (apart_left x.keys (all_keys xs) apart)
     by false is on = on is

@@ -1,23 +1,7 @@
 -- What stays true of a forest where a node was taken out, and its key is dropped.
-use Rattle.forest_store.proofs.Common.{◌≡◌, ℕ, suc, ◌+◌, ◌==◌, ◌<◌, Bool, true, false, ◌||◌, not, List, [], ◌∷◌, ◌++◌, map, length, drop, Option, Some, None, is_some, cond, refl, sym, ap, subst, ◌∙◌, inl, inr, arith, list_any, list_all, filter, cons_option, AllByRecursion, option_map_or, false≢true, not-true, NodeKey, same_key, In, and_both, and_left, and_right, either_way, or_cases, or_left, or_right, same_key-true, Table, node_at, parent_at, Node, Collection, with_nodes, Shelf, AreRising, IsStored, IsWhole, all_keys, are_filed, collection_in, is_filed, nodes_with, is_of, are_distinct, heads_itself}
-use Rattle.std.proofs.lemmas.List.Elements.{filter-append}
-use Rattle.sm_names.proofs.ListLaws.{filter-list_all, list_all-filter}
-use Rattle.sm_names.proofs.SamenessLaws.{or_both, or_none_left, or_none_right}
-use Rattle.node_table.specs.Table.{table_len}
-use Rattle.node_table.proofs.Keys.{same_key-equal}
-use Rattle.forest_store.specs.Garbage.{TakesOut, is_found, thinned}
-use Rattle.forest_store.specs.Shelves.{are_apart}
-use Rattle.forest_store.specs.Scenes.{IsSound}
-use Rattle.forest_store.proofs.tables.Hanging.{looked_gone}
-use Rattle.forest_store.proofs.tables.KeptRoots.{rooted_filter}
-use Rattle.forest_store.proofs.tables.Kin.{kin_kept}
+use Rattle.forest_store.proofs.Common.{◌≡◌, ℕ, ◌+◌, ◌==◌, ◌<◌, Bool, true, false, not, List, [], ◌∷◌, ◌++◌, map, length, drop, Option, Some, None, is_some, cond, refl, sym, ap, subst, ◌∙◌, inl, inr, arith, list_any, list_all, filter, cons_option, AllByRecursion, option_map_or, false≢true, not-true, NodeKey, same_key, In, and_both, and_left, and_right, either_way, or_cases, or_left, or_right, same_key-true, Table, node_at, parent_at, Node, Collection, with_nodes, Shelf, AreRising, IsStored, IsWhole, all_keys, are_filed, collection_in, is_filed, nodes_with, is_of, are_distinct, heads_itself, filter-append, filter-list_all, list_all-filter, or_both, or_none_left, or_none_right, table_len, same_key-equal, TakesOut, is_found, thinned, are_apart, IsSound}
 use Rattle.forest_store.proofs.tables.LeftParents.{childless}
-use Rattle.forest_store.proofs.lists.Lookups.{looked-without}
-use Rattle.forest_store.proofs.tables.Rooted.{whole_rooted}
-use Rattle.forest_store.proofs.tables.TakingOut.{same_first}
-use Rattle.forest_store.proofs.quiescence.Together.{together_filter}
-use Rattle.forest_store.proofs.quiescence.United.{united_filter}
-use Rattle.forest_store.proofs.changes.Finishing.{place-filed}
+use Rattle.forest_store.proofs.Basics.{looked_gone, rooted_filter, kin_kept, looked-without, whole_rooted, same_first, together_filter, united_filter, place-filed}
 
 -- ---- lists of which some elements are kept
 
@@ -85,25 +69,17 @@ lacks-filter key [] none = refl
 lacks-filter key (k ∷ ks) none =
     rw (or_none_left (same_key key k) (list_any (same_key key) ks) none) (ap (λ l. k ∷ l) (lacks-filter key ks (or_none_right _ _ none)))
 
--- by whether the first is the key
-one_less-by : (key k : NodeKey) (ks : List NodeKey) (same : Bool) → same_key key k ≡ same → list_any (same_key k) ks ≡ false →
-    (same || list_any (same_key key) ks) ≡ true → (list_any (same_key key) ks ≡ true →
-    length (filter (λ x. not (same_key key x)) ks) + 1 ≡ length ks) →
-    length (cond (not same) (k ∷ filter (λ x. not (same_key key x)) ks) (filter (λ x. not (same_key key x)) ks)) + 1 ≡ suc
-    (length ks)
-one_less-by key k ks true is lone there on =
-    let none : list_any (same_key key) ks ≡ false =
-    subst (λ (x : NodeKey). list_any (same_key x) ks ≡ false) (sym (same_key-true key k is)) lone in
-    let left = ap length (lacks-filter key ks none) in
-    omega (arith, left)
-one_less-by key k ks false is lone there on = let less = on there in omega (arith, less)
-
--- keys that stand once are one fewer without one of them
+-- by induction: keys that stand once are one fewer without one of them
 pub one_less : (key : NodeKey) (ks : List NodeKey) → are_apart ks ≡ true → list_any (same_key key) ks ≡ true →
     length (filter (λ k. not (same_key key k)) ks) + 1 ≡ length ks
 one_less key [] apart there = absurd (false≢true there)
-one_less key (k ∷ ks) apart there =
-    one_less-by key k ks (same_key key k) refl (not-true _ (and_left _ _ apart)) there (one_less key ks (and_right _ _ apart))
+one_less key (k ∷ ks) apart there = elim (either_way (same_key key k)) [
+  | inl same ↦
+      let lone : list_any (same_key k) ks ≡ false = not-true _ (and_left _ _ apart) in
+      let none = subst (λ (x : NodeKey). list_any (same_key x) ks ≡ false) (sym (same_key-true _ k same)) lone in
+      rw same (omega (arith, ap length (lacks-filter key ks none)))
+  | inr other ↦ rw other (omega (arith, one_less key ks (and_right _ _ apart) (rw other at there)))
+]
 
 -- ---- collections
 
@@ -147,22 +123,22 @@ thinned-above t low (s ∷ ss) all = (all.0, thinned-above t low ss all.1)
 -- the ids still rise
 thinned-rising : (t : Table Node) (ss : List Shelf) → AreRising ss → AreRising (map (thinned t) ss)
 thinned-rising t [] rising = tt
-thinned-rising t (s ∷ ss) rising = (thinned-above t s.id ss rising.0, thinned-rising t ss rising.1)
+thinned-rising t (s ∷ ss) rising = (thinned-above t _ _ rising.0, thinned-rising t ss rising.1)
 
 -- the keys are those that the table has
 pub thinned-keys : (t : Table Node) (ss : List Shelf) → all_keys (map (thinned t) ss) ≡ filter (is_found t) (all_keys ss)
 thinned-keys t [] = refl
 thinned-keys t (s ∷ ss) =
-    ap (λ ks. filter (is_found t) s.keys ++ ks) (thinned-keys t ss) ∙ sym (filter-append (is_found t) s.keys (all_keys ss))
+    ap (λ ks. filter (is_found t) s.keys ++ ks) (thinned-keys t ss) ∙ sym (filter-append _ s.keys _)
 
 -- so have all
 pub filed_all : (t : Table Node) (id : ℕ) (ks : List NodeKey) → list_all (is_filed t id) ks ≡ true → list_all (is_found t) ks ≡ true
 filed_all t id [] h = refl
-filed_all t id (k ∷ ks) h = and_both _ _ (place-filed id (node_at t k) (and_left _ _ h)) (filed_all t id ks (and_right _ _ h))
+filed_all t id (k ∷ ks) h = and_both _ _ (place-filed _ _ (and_left _ _ h)) (filed_all t id ks (and_right _ _ h))
 
 -- a shelf whose keys are filed has only keys that the table has
 pub thinned-same : (t : Table Node) (s : Shelf) → list_all (is_filed t s.id) s.keys ≡ true → thinned t s ≡ s
-thinned-same t s filed = λ i. record s { keys = filter-list_all (is_found t) s.keys (filed_all t s.id s.keys filed) i }
+thinned-same t s filed = λ i. record s { keys = filter-list_all (is_found t) s.keys (filed_all t _ _ filed) i }
 
 -- so have all shelves
 pub all_thinned-same : (t : Table Node) (ss : List Shelf) → are_filed t ss ≡ true → map (thinned t) ss ≡ ss
@@ -174,18 +150,17 @@ pub thinned-twice : (t now : Table Node) → ((k : NodeKey) → is_found now k �
     map (thinned now) (map (thinned t) ss) ≡ map (thinned now) ss
 thinned-twice t now fewer [] = refl
 thinned-twice t now fewer (s ∷ ss) =
-    λ i. record s { keys = filter-twice (is_found now) (is_found t) fewer s.keys i } ∷ thinned-twice t now fewer ss i
+    λ i. record s { keys = filter-twice _ _ fewer s.keys i } ∷ thinned-twice t now fewer ss i
 
 -- ---- one node less
 
 module _ (t now : Table Node) (key : NodeKey) (out : TakesOut t now key) where
   -- a node that is there was there, under another key
   still : (k : NodeKey) (n : Node) → node_at now k ≡ Some n → (same_key key k ≡ false) × (node_at t k ≡ Some n)
-  still k n is = by (same_key key k) refl (sym (out.look k) ∙ is)
-    where
-      by : (b : Bool) → same_key key k ≡ b → cond b None (node_at t k) ≡ Some n → (same_key key k ≡ false) × (node_at t k ≡ Some n)
-      by true e found = absurd (cc)
-      by false e found = (e, found)
+  still k n is = elim (either_way (same_key key k)) [
+    | inl e ↦ let found = rw e at (sym (out.look k) ∙ is) in absurd (cc)
+    | inr e ↦ (e, rw e at (sym (out.look k) ∙ is))
+  ]
 
   -- a key that is found was found
   found-by : (k : NodeKey) (b : Bool) → is_some (cond b None (node_at t k)) ≡ true → is_found t k ≡ true
@@ -194,7 +169,7 @@ module _ (t now : Table Node) (key : NodeKey) (out : TakesOut t now key) where
 
   -- what is found in the smaller table was found before
   pub found_before : (k : NodeKey) → is_found now k ≡ true → is_found t k ≡ true
-  found_before k found = found-by k (same_key key k) (sym (ap is_some (out.look k)) ∙ found)
+  found_before k found = found-by k _ (sym (ap is_some (out.look k)) ∙ found)
 
   -- a key is filed still, if it is found
   filed-kept : (id : ℕ) (ks : List NodeKey) → list_all (is_filed t id) ks ≡ true →
@@ -215,7 +190,7 @@ module _ (t now : Table Node) (key : NodeKey) (out : TakesOut t now key) where
   -- by induction over the shelves
   all_filed-kept : (ss : List Shelf) → are_filed t ss ≡ true → are_filed now (map (thinned now) ss) ≡ true
   all_filed-kept [] filed = refl
-  all_filed-kept (s ∷ ss) filed = and_both _ _ (filed-kept s.id s.keys (and_left _ _ filed)) (all_filed-kept ss (and_right _ _ filed))
+  all_filed-kept (s ∷ ss) filed = and_both _ _ (filed-kept _ _ (and_left _ _ filed)) (all_filed-kept ss (and_right _ _ filed))
 
   -- of keys that were found all are found but this one
   found-others : (ks : List NodeKey) → list_all (is_found t) ks ≡ true → filter (is_found now) ks ≡ filter (λ k. not (same_key key k)) ks
@@ -243,7 +218,7 @@ module _ (t now : Table Node) (key : NodeKey) (out : TakesOut t now key) where
   -- the nodes are the others
   pub nodes_left : ((k : NodeKey) (n : Node) → node_at t k ≡ Some n → n.key ≡ k) → (ks : List NodeKey) →
       nodes_with now (filter (is_found now) ks) ≡ filter (λ n. not (is_of key n)) (nodes_with t ks)
-  nodes_left named ks = only_found ks ∙ looked-without key (node_at t) (node_at now) named out.look ks
+  nodes_left named ks = only_found ks ∙ looked-without _ _ _ named out.look ks
     where
       by : (k : NodeKey) (o : Option Node) (ks : List NodeKey) (ns : List Node) → node_at now k ≡ o → nodes_with now ks ≡ ns →
           nodes_with now (cond (is_some o) (k ∷ ks) ks) ≡ cons_option o ns
@@ -252,7 +227,7 @@ module _ (t now : Table Node) (key : NodeKey) (out : TakesOut t now key) where
 
       only_found : (ks : List NodeKey) → nodes_with now (filter (is_found now) ks) ≡ nodes_with now ks
       only_found [] = refl
-      only_found (k ∷ ks) = by k (node_at now k) (filter (is_found now) ks) (nodes_with now ks) refl (only_found ks)
+      only_found (k ∷ ks) = by k _ _ _ refl (only_found ks)
 
   -- the collections stay whole, where the node is gone
   whole-kept : ((m : Node) → node_at t key ≡ Some m → m.gone ≡ true) → ((k : NodeKey) (n : Node) → node_at t k ≡ Some n → n.key ≡ k) →
@@ -270,7 +245,7 @@ module _ (t now : Table Node) (key : NodeKey) (out : TakesOut t now key) where
       node_at now k ≡ Some n → n.gone ≡ false → parent_at now k ≡ n.parent
   linked-kept goes ss ok k n is here =
       let was = still k n is in
-      out.parents k (λ same. false≢true (sym was.0 ∙ same_key-equal key k (sym same))) (childless t ss ok key goes k n was.1 here)
+      out.parents k (λ same. false≢true (sym was.0 ∙ same_key-equal _ k (sym same))) (childless t ss ok _ goes k n was.1 here)
       ∙ ok.linked k n was.1 here
 
   -- by the node that is gone

@@ -1,11 +1,6 @@
 -- A collection without the nodes that are over, and collections without those of which nothing is left.
-use Rattle.forest_store.proofs.Common.{◌≡◌, ℕ, suc, ◌==◌, ◌<◌, Bool, true, false, ◌&&◌, not, List, [], ◌∷◌, ◌++◌, map, length, Option, Some, None, is_some, cond, refl, sym, ap, ◌∙◌, inl, inr, arith, find, list_any, list_all, filter, cons_option, AllByRecursion, option_map_or, false≢true, eqb-true, eqb-false, eq-eqb, NodeKey, same_key, and_both, and_left, and_right, or_cases, or_left, or_right, same_key-true, Table, node_at, Node, Shelf, AreRising, IsStored, IsWhole, all_keys, are_filed, collection_in, is_filed, nodes_with, is_over}
-use Rattle.std.proofs.lemmas.Bool.{ne_eqb, false_from_ne_true}
-use Rattle.sm_names.proofs.ListLaws.{filter-list_all, list_all-filter}
-use Rattle.node_table.proofs.Keys.{same_key-equal}
-use Rattle.forest_store.specs.Forest.{is_left, tidied, without_over_in}
-use Rattle.forest_store.specs.Garbage.{is_bare, is_found, left_at, thin_in, thinned, unless_over, without_bare}
-use Rattle.forest_store.specs.Shelves.{are_apart}
+use Rattle.forest_store.proofs.Common.{◌≡◌, ℕ, suc, ◌==◌, ◌<◌, Bool, true, false, ◌&&◌, not, List, [], ◌∷◌, ◌++◌, map, length, Option, Some, None, is_some, cond, refl, sym, ap, ◌∙◌, inl, inr, arith, find, list_any, list_all, filter, cons_option, AllByRecursion, option_map_or, false≢true, eqb-true, eqb-false, eq-eqb, NodeKey, same_key, and_both, and_left, and_right, or_cases, or_left, or_right, same_key-true, Table, node_at, Node, Shelf, AreRising, IsStored, IsWhole, all_keys, are_filed, collection_in, is_filed, nodes_with, is_over, ne_eqb, filter-list_all, list_all-filter, same_key-equal, is_left, tidied, without_over_in, is_bare, is_found, left_at, thin_in, thinned, unless_over, without_bare, are_apart, either_way}
+use Rattle.std.proofs.lemmas.Bool.{false_from_ne_true}
 use Rattle.forest_store.proofs.leaving.Thinning.{filed_all}
 
 -- a key of a collection has a node of it
@@ -37,8 +32,7 @@ module _ (t now : Table Node) (s : Shelf) (filed : list_all (is_filed t s.id) s.
   other_look id key other own =
       let off : list_any (same_key key) s.keys ≡ false =
       false_from_ne_true _ (λ there. eqb-false id s.id other
-      (one_collection-by id s.id (node_at t key) own (filed_there t s.id s.keys key filed
-      there))) in
+      (one_collection-by _ _ _ own (filed_there t _ _ _ filed there))) in
       look key ∙ (rw off refl)
 
   -- so do all of its keys
@@ -46,32 +40,31 @@ module _ (t now : Table Node) (s : Shelf) (filed : list_all (is_filed t s.id) s.
       nodes_with now ks ≡ nodes_with t ks
   other_nodes id [] other own = refl
   other_nodes id (k ∷ ks) other own =
-      let here : node_at now k ≡ node_at t k = other_look id k other (and_left _ _ own) in
+      let here : node_at now k ≡ node_at t k = other_look _ k other (and_left _ _ own) in
       ap (λ o. cons_option o (nodes_with now ks)) here ∙ ap (cons_option (node_at t k)) (other_nodes id ks other (and_right _ _ own))
 
   -- another collection stays
   pub other_same : (x : Shelf) → (x.id == s.id) ≡ false → list_all (is_filed t x.id) x.keys ≡ true → collection_in now x ≡ collection_in t x
-  other_same x other own = λ i. record { id = x.id; nodes = other_nodes x.id x.keys other own i; buffers = x.buffers; held = x.held }
+  other_same x other own = λ i. record { id = x.id; nodes = other_nodes _ _ other own i; buffers = x.buffers; held = x.held }
 
   -- the table has its keys still
   other_found : (id : ℕ) (ks : List NodeKey) → (id == s.id) ≡ false → list_all (is_filed t id) ks ≡ true → list_all (is_found now) ks ≡ true
   other_found id [] other own = refl
   other_found id (k ∷ ks) other own =
-      let here : node_at now k ≡ node_at t k = other_look id k other (and_left _ _ own) in
-      and_both _ _ (ap is_some here ∙ and_left (is_found t k) (list_all (is_found t) ks) (filed_all t id (k ∷ ks) own))
+      let here : node_at now k ≡ node_at t k = other_look _ k other (and_left _ _ own) in
+      and_both _ _ (ap is_some here ∙ and_left _ _ (filed_all t id (k ∷ ks) own))
       (other_found id ks other (and_right _ _ own))
 
   -- so its shelf stays
   pub other_thinned : (x : Shelf) → (x.id == s.id) ≡ false → list_all (is_filed t x.id) x.keys ≡ true → thinned now x ≡ x
-  other_thinned x other own = λ i. record x { keys = filter-list_all (is_found now) x.keys (other_found x.id x.keys other own) i }
+  other_thinned x other own = λ i. record x { keys = filter-list_all (is_found now) x.keys (other_found _ _ other own) i }
 
   -- the nodes of some of its keys are those that are not over
   own_nodes : (ks : List NodeKey) → ((k : NodeKey) → list_any (same_key k) ks ≡ true → list_any (same_key k) s.keys ≡ true) →
       nodes_with now (filter (is_found now) ks) ≡ filter (λ n. not (is_over n)) (nodes_with t ks)
   own_nodes [] within = refl
   own_nodes (k ∷ ks) within =
-      let here : node_at now k ≡ unless_over (node_at t k) =
-      look k ∙ (rw (within k (or_left _ _ (same_key-equal k k refl))) refl) in
+      let here = look k ∙ (rw (within k (or_left _ _ (same_key-equal k k refl))) refl) in
       by (node_at now k) refl ∙ (rw here (ap (cons_option (unless_over (node_at t k))) (own_nodes ks (λ x there.
       within x (or_right _ _ there)))))
       ∙ unless_first (node_at t k) (nodes_with t ks)
@@ -84,12 +77,12 @@ module _ (t now : Table Node) (s : Shelf) (filed : list_all (is_filed t s.id) s.
 
   -- the collection is as it is without those
   pub own_tidied : collection_in now (thinned now s) ≡ tidied (collection_in t s)
-  own_tidied = λ i. record { id = s.id; nodes = own_nodes s.keys (λ k there. there) i; buffers = s.buffers; held = s.held }
+  own_tidied = λ i. record { id = s.id; nodes = own_nodes _ (λ k there. there) i; buffers = s.buffers; held = s.held }
 
 -- as many nodes as keys that are found
 found-length : (t : Table Node) (ks : List NodeKey) → length (nodes_with t (filter (is_found t) ks)) ≡ length (filter (is_found t) ks)
 found-length t [] = refl
-found-length t (k ∷ ks) = by (found-length t ks) (node_at t k) refl
+found-length t (k ∷ ks) = by (found-length t ks) _ refl
   where
     by : length (nodes_with t (filter (is_found t) ks)) ≡ length (filter (is_found t) ks) → (o : Option Node) → node_at t k ≡ o →
         length (nodes_with t (cond (is_some o) (k ∷ filter (is_found t) ks) (filter (is_found t) ks))) ≡ length
@@ -131,18 +124,15 @@ over_others t id (s ∷ ss) others = rw others.0 (ap (λ l. collection_in t s �
 pub none_others : (id : ℕ) (ss : List Shelf) → find (λ (x : Shelf). x.id == id) ss ≡ None →
     AllByRecursion (λ (x : Shelf). (x.id == id) ≡ false) ss
 none_others id [] none = tt
-none_others id (s ∷ ss) none = by (none_others id ss) (s.id == id) refl none
-  where
-    by : (find (λ (x : Shelf). x.id == id) ss ≡ None → AllByRecursion (λ (x : Shelf). (x.id == id) ≡ false) ss) → (b : Bool) →
-        (s.id == id) ≡ b → cond b (Some s) (find (λ (x : Shelf). x.id == id) ss) ≡ None →
-        AllByRecursion (λ (x : Shelf). (x.id == id) ≡ false) (s ∷ ss)
-    by on true same none = absurd (cc)
-    by on false other none = (other, on none)
+none_others id (s ∷ ss) none = elim (either_way (s.id == id)) [
+  | inl same ↦ let some = rw same at none in absurd (cc)
+  | inr other ↦ (other, none_others id ss (rw other at none))
+]
 
 -- and nothing is forgotten
 pub over_none : (t : Table Node) (id : ℕ) (ss : List Shelf) → find (λ (x : Shelf). x.id == id) ss ≡ None →
     map (collection_in t) ss ≡ without_over_in id (map (collection_in t) ss)
-over_none t id ss none = sym (over_others t id ss (none_others id ss none))
+over_none t id ss none = sym (over_others t _ _ (none_others _ _ none))
 
 module _ (t now : Table Node) (s : Shelf) (filed : list_all (is_filed t s.id) s.keys ≡ true) (look : (k : NodeKey) →
     node_at now k ≡ left_at t s.keys k) where
@@ -184,8 +174,7 @@ module _ (t now : Table Node) (s : Shelf) (filed : list_all (is_filed t s.id) s.
           let own : (s.id == s.id) ≡ true = eq-eqb s.id s.id refl in
           rw (one, own, own, thin_others now s.id xs others, bare_others s.id xs others)
           (tidied_here xs (and_right _ _ all) others (is_bare (thinned now s)) refl)
-      by on false other is =
-          rw (other, other)
+      by on false other is = rw (other, other)
           (λ i. other_same t now s filed look x other (and_left _ _ all) i ∷ on is i)
 
   -- the shelves of others have only keys that the table has
@@ -198,15 +187,13 @@ module _ (t now : Table Node) (s : Shelf) (filed : list_all (is_filed t s.id) s.
   -- so thinning one shelf thins all
   pub thinned_all : (ss : List Shelf) → AreRising ss → are_filed t ss ≡ true → thin_in now s.id ss ≡ map (thinned now) ss
   thinned_all [] rising all = refl
-  thinned_all (x ∷ xs) rising all = by (thinned_all xs rising.1 (and_right _ _ all)) (x.id == s.id) refl
-    where
-      by : thin_in now s.id xs ≡ map (thinned now) xs → (b : Bool) → (x.id == s.id) ≡ b →
-          cond b (thinned now x) x ∷ thin_in now s.id xs ≡ thinned now x ∷ map (thinned now) xs
-      by on true same =
-          let others = above_other s.id x.id xs rising.0 same in
-          ap (λ l. thinned now x ∷ l) (thin_others now s.id xs others ∙ sym (others_thinned xs (and_right _ _ all) others))
-      by on false other =
-          λ i. sym (other_thinned t now s filed look x other (and_left _ _ all)) i ∷ on i
+  thinned_all (x ∷ xs) rising all = elim (either_way (x.id == s.id)) [
+    | inl same ↦
+        let others = above_other _ _ _ rising.0 same in
+        rw same (ap (λ l. thinned now x ∷ l) (thin_others now _ _ others ∙ sym (others_thinned _ (and_right _ _ all) others)))
+    | inr other ↦ rw other (λ i. sym (other_thinned t now s filed look x other (and_left _ _ all)) i
+        ∷ thinned_all xs rising.1 (and_right _ _ all) i)
+  ]
 
 -- ---- shelves without a bare one
 
@@ -227,7 +214,7 @@ bare-rising id [] rising = tt
 bare-rising id (s ∷ ss) rising =
     elim (s.id == id && is_bare s) as (λ b. AreRising (cond (not b) (s ∷ without_bare id ss) (without_bare id ss))) [
       | true ↦ bare-rising id ss rising.1
-      | false ↦ (bare-above id s.id ss rising.0, bare-rising id ss rising.1)
+      | false ↦ (bare-above id _ _ rising.0, bare-rising id ss rising.1)
     ]
 
 -- the keys stay
@@ -238,14 +225,12 @@ no_keys (k ∷ ks) none = absurd (let zero = eqb-true _ _ none in omega (arith, 
 -- by induction: a bare shelf has no key
 bare-keys : (id : ℕ) (ss : List Shelf) → all_keys (without_bare id ss) ≡ all_keys ss
 bare-keys id [] = refl
-bare-keys id (s ∷ ss) = by (bare-keys id ss) (s.id == id && is_bare s) refl
-  where
-    by : all_keys (without_bare id ss) ≡ all_keys ss → (b : Bool) → (s.id == id && is_bare s) ≡ b →
-        all_keys (cond (not b) (s ∷ without_bare id ss) (without_bare id ss)) ≡ s.keys ++ all_keys ss
-    by on true bare =
-        let none : s.keys ≡ [] = no_keys s.keys (and_left _ _ (and_right (s.id == id) (is_bare s) bare)) in
-        rw none on
-    by on false other = ap (λ ks. s.keys ++ ks) on
+bare-keys id (s ∷ ss) = elim (either_way (s.id == id && is_bare s)) [
+  | inl bare ↦
+      let none : s.keys ≡ [] = no_keys _ (and_left _ _ (and_right _ _ bare)) in
+      rw (bare, none) (bare-keys id ss)
+  | inr other ↦ rw other (ap (λ ks. s.keys ++ ks) (bare-keys id ss))
+]
 
 -- they are filed still
 bare-filed : (t : Table Node) (id : ℕ) (ss : List Shelf) → are_filed t ss ≡ true → are_filed t (without_bare id ss) ≡ true

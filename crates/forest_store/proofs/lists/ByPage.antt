@@ -1,8 +1,6 @@
 -- Intervals in order of page, as a pool keeps them.
-use Rattle.forest_store.proofs.Common.{ℕ, ◌≡◌, ◌<◌, ◌≤◌, refl, ap, sym, ◌∙◌, Bool, true, false, ◌||◌, nat_lt, cond, List, [], ◌∷◌, ◌++◌, map, inl, inr, arith, lt-ltb, list_any, Interval, either_way}
-use Rattle.std.proofs.lemmas.Bool.{ltb-true, ltb-false}
+use Rattle.forest_store.proofs.Common.{ℕ, ◌≡◌, ◌<◌, ◌≤◌, refl, ap, sym, ◌∙◌, Bool, true, false, ◌||◌, nat_lt, cond, List, [], ◌∷◌, ◌++◌, map, inl, inr, arith, lt-ltb, list_any, Interval, either_way, ltb-true, ltb-false, insert_by}
 use Rattle.sm_names.specs.Apart.{at_pages}
-use Rattle.sm_names.specs.Words.{insert_by}
 use Rattle.forest_store.specs.Scenes.{by_page}
 use Rattle.forest_store.proofs.lists.SameIntervals.{or_swap}
 use Rattle.buffer_pool.specs.Holdings.{with_buffers, with_interval}
@@ -57,8 +55,7 @@ swap_in pages a b [] = elim (either_way (nat_lt b a)) [
 ]
 swap_in pages a b (i ∷ is) = elim (either_way (nat_lt i.start a)) [
   | inl ia ↦ elim (either_way (nat_lt i.start b)) [
-    | inl ib ↦
-        ap (put_in (at_pages pages a)) (behind (at_pages pages b) i is ib)
+    | inl ib ↦ ap (put_in (at_pages pages a)) (behind (at_pages pages b) i is ib)
         ∙ (behind (at_pages pages a) i (put_in (at_pages pages b) is) ia
         ∙ (ap (λ (l : List Interval). i ∷ l) (swap_in pages a b is)
         ∙ (sym (behind (at_pages pages b) i (put_in (at_pages pages a) is) ib)
@@ -83,8 +80,7 @@ swap_in pages a b (i ∷ is) = elim (either_way (nat_lt i.start a)) [
         ∙ (ap (λ (l : List Interval). at_pages pages a ∷ l) (sym (behind (at_pages pages b) i is ib))
         ∙ (sym (behind (at_pages pages b) (at_pages pages a) (i ∷ is) ab)
         ∙ ap (put_in (at_pages pages b)) (sym (front (at_pages pages a) i is ia)))))
-    | inr ib ↦
-        ap (put_in (at_pages pages a)) (front (at_pages pages b) i is ib)
+    | inr ib ↦ ap (put_in (at_pages pages a)) (front (at_pages pages b) i is ib)
         ∙ (at_front ia ib ∙ ap (put_in (at_pages pages b)) (sym (front (at_pages pages a) i is ia)))
   ]
 ]
@@ -99,8 +95,7 @@ swap_in pages a b (i ∷ is) = elim (either_way (nat_lt i.start a)) [
           ∙ (ap (λ (l : List Interval). at_pages pages b ∷ l) (front (at_pages pages a) i is ia)
           ∙ sym (front (at_pages pages b) (at_pages pages a) (i ∷ is) f))
       | inr e ↦ elim (either_way (nat_lt a b)) [
-        | inl f ↦
-            front (at_pages pages a) (at_pages pages b) (i ∷ is) e
+        | inl f ↦ front (at_pages pages a) (at_pages pages b) (i ∷ is) e
             ∙ (ap (λ (l : List Interval). at_pages pages a ∷ l) (sym (front (at_pages pages b) i is ib))
             ∙ sym (behind (at_pages pages b) (at_pages pages a) (i ∷ is) f))
         | inr f ↦
@@ -118,16 +113,14 @@ with_buffers_put pages s [] is = refl
 with_buffers_put pages s (t ∷ ts) is =
     ap (with_buffers pages ts) (put_is (at_pages pages t) (put_in (at_pages pages s) is) ∙ swap_in pages t s is)
     ∙ (with_buffers_put pages s ts (put_in (at_pages pages t) is)
-    ∙ ap (λ (l : List Interval). put_in (at_pages pages s) (with_buffers pages ts l))
-    (sym (put_is (at_pages pages t) is)))
+    ∙ ap (λ (l : List Interval). put_in (at_pages pages s) (with_buffers pages ts l)) (sym (put_is _ is)))
 
 -- buffers that are placed are in order with the others
 pub with_buffers_sorted : (pages : ℕ) (starts : List ℕ) (is : List Interval) →
     with_buffers pages starts (by_page is) ≡ by_page (map (at_pages pages) starts ++ is)
 with_buffers_sorted pages [] is = refl
-with_buffers_sorted pages (s ∷ ss) is =
-    ap (with_buffers pages ss) (put_is (at_pages pages s) (by_page is))
-    ∙ (with_buffers_put pages s ss (by_page is)
+with_buffers_sorted pages (s ∷ ss) is = ap (with_buffers pages ss) (put_is (at_pages pages s) (by_page is))
+    ∙ (with_buffers_put pages s ss _
     ∙ ap (put_in (at_pages pages s)) (with_buffers_sorted pages ss is))
 
 -- what is asked of some interval, in order or not
@@ -135,8 +128,7 @@ any_put : (test : Interval → Bool) (new : Interval) (is : List Interval) →
     list_any test (put_in new is) ≡ (test new || list_any test is)
 any_put test new [] = refl
 any_put test new (i ∷ is) = elim (either_way (nat_lt i.start new.start)) [
-  | inl e ↦
-      ap (list_any test) (behind new i is e)
+  | inl e ↦ ap (list_any test) (behind new i is e)
       ∙ (ap (λ (b : Bool). test i || b) (any_put test new is) ∙ or_swap (test i) (test new) (list_any test is))
   | inr e ↦ ap (list_any test) (front new i is e)
 ]
@@ -144,4 +136,4 @@ any_put test new (i ∷ is) = elim (either_way (nat_lt i.start new.start)) [
 -- the order does not matter to a test of some interval
 pub any_sorted : (test : Interval → Bool) (is : List Interval) → list_any test (by_page is) ≡ list_any test is
 any_sorted test [] = refl
-any_sorted test (i ∷ is) = any_put test i (by_page is) ∙ ap (λ (b : Bool). test i || b) (any_sorted test is)
+any_sorted test (i ∷ is) = any_put test i _ ∙ ap (λ (b : Bool). test i || b) (any_sorted test is)

@@ -1,11 +1,6 @@
 -- Tests over lists that were filtered and mapped.
-use Rattle.forest_store.proofs.Common.{ℕ, ◌≡◌, ◌<◌, ◌≤◌, nat_lt, refl, ap, sym, ◌∙◌, Bool, true, false, not, ◌&&◌, ◌||◌, cond, if◌then◌else◌, List, [], ◌∷◌, map, Option, Some, None, inl, inr, arith, list_any, list_all, find, filter, cons_option, lt-ltb, either_way, or_cases, or_right}
-use Rattle.std.proofs.Common.{max}
-use Rattle.std.specs.List.{filter_map, fold}
-use Rattle.std.specs.Option.{option_map}
-use Rattle.std.proofs.lemmas.Bool.{ltb-true, ltb-false}
+use Rattle.forest_store.proofs.Common.{ℕ, ◌≡◌, ◌<◌, ◌≤◌, nat_lt, refl, ap, sym, ◌∙◌, Bool, true, false, not, ◌&&◌, ◌||◌, cond, if◌then◌else◌, List, [], ◌∷◌, map, Option, Some, None, inl, inr, arith, list_any, list_all, find, filter, cons_option, lt-ltb, either_way, or_cases, or_right, max, filter_map, fold, ltb-true, ltb-false, or_false, option_map}
 use Rattle.std.proofs.Math.Bool.{or_assoc}
-use Rattle.sm_names.proofs.SamenessLaws.{or_false}
 use Rattle.sm_names.proofs.StandingLaws.{both_tests}
 use Rattle.sm_names.proofs.BitLaws.{none_below}
 
@@ -65,8 +60,7 @@ module _ {A : Type 0} (asked p : A → Bool) where
 
 -- what is made of those that were asked for twice
 pub made-filter_map : {A B C : Type 0} (asked : A → Bool) (f : A → B) (again : B → Bool) (h : B → Option C)
-    (xs : List A) →
-    filter_map h (filter again (map f (filter asked xs)))
+    (xs : List A) → filter_map h (filter again (map f (filter asked xs)))
     ≡ filter_map (λ x. if asked x && again (f x) then h (f x) else None) xs
 made-filter_map asked f again h [] = refl
 made-filter_map asked f again h (x ∷ xs) =
@@ -81,7 +75,7 @@ made-filter_map asked f again h (x ∷ xs) =
 -- a number is below the greater of two, if it is below one of them
 below_max : (n a b : ℕ) → nat_lt n (max a b) ≡ (nat_lt n a || nat_lt n b)
 below_max n a b = both_tests (nat_lt n (max a b)) (nat_lt n a || nat_lt n b) (λ h. one (ltb-true n (max a b) h))
-    (λ h. elim (or_cases (nat_lt n a) (nat_lt n b) h) [
+    (λ h. elim (or_cases _ _ h) [
       | inl e ↦ let l : n < a = ltb-true n a e in lt-ltb n (max a b) (omega arith)
       | inr e ↦ let l : n < b = ltb-true n b e in lt-ltb n (max a b) (omega arith)
     ])
@@ -90,15 +84,14 @@ below_max n a b = both_tests (nat_lt n (max a b)) (nat_lt n a || nat_lt n b) (λ
     one h = elim (either_way (nat_lt n a)) [
       | inl e ↦ rw e refl
       | inr e ↦ let le : a ≤ n = ltb-false n a e in let lt : n < b = omega arith in
-          or_right (nat_lt n a) (nat_lt n b) (lt-ltb n b lt)
+          or_right _ _ (lt-ltb n b lt)
     ]
 
 -- some number is above this one exactly if the greatest is
 above_from : {A : Type 0} (f : A → ℕ) (n start : ℕ) (xs : List A) →
     nat_lt n (fold (λ k x. max k (f x)) start xs) ≡ (nat_lt n start || list_any (λ x. nat_lt n (f x)) xs)
 above_from f n start [] = sym (or_false (nat_lt n start))
-above_from f n start (x ∷ xs) =
-    above_from f n (max start (f x)) xs
+above_from f n start (x ∷ xs) = above_from f n (max start (f x)) xs
     ∙ (ap (λ (b : Bool). b || list_any (λ y. nat_lt n (f y)) xs) (below_max n start (f x))
     ∙ or_assoc (nat_lt n start) (nat_lt n (f x)) (list_any (λ y. nat_lt n (f y)) xs))
 

@@ -1,7 +1,6 @@
 -- The nodes that a list of keys finds, by a look-up of one key.
-use Rattle.forest_store.proofs.Common.{◌≡◌, Bool, true, false, ◌||◌, not, List, [], ◌∷◌, map, Option, Some, None, option_map, cond, if◌then◌else◌, refl, sym, ap, ◌∙◌, filter, list_any, cons_option, NodeKey, same_key, same_key-true, Node, is_of, node_of}
-use Rattle.std.specs.List.{filter_map}
-use Rattle.node_table.proofs.Keys.{same_key-equal, same_key-apart, false-same_key}
+use Rattle.forest_store.proofs.Common.{◌≡◌, Bool, true, false, ◌||◌, not, List, [], ◌∷◌, map, Option, Some, None, option_map, cond, if◌then◌else◌, refl, sym, ap, ◌∙◌, filter, list_any, cons_option, NodeKey, same_key, same_key-true, Node, is_of, node_of, filter_map, same_key-equal, same_key-apart, either_way, inl, inr}
+use Rattle.node_table.proofs.Keys.{false-same_key}
 
 -- a look-up of nodes by key
 abbrev pub Look : Type 0
@@ -11,14 +10,12 @@ Look = NodeKey → Option Node
 abbrev pub Knows : Look → Type 0
 Knows look = (key : NodeKey) (n : Node) → look key ≡ Some n → n.key ≡ key
 
--- by whether they are one
-same_key-swap-by : (a b : NodeKey) (s : Bool) → same_key a b ≡ s → same_key a b ≡ same_key b a
-same_key-swap-by a b true e = e ∙ sym (same_key-equal b a (sym (same_key-true a b e)))
-same_key-swap-by a b false e = e ∙ sym (same_key-apart b a (λ same. false-same_key a b e (sym same)))
-
 -- the test of keys takes them in either order
 pub same_key-swap : (a b : NodeKey) → same_key a b ≡ same_key b a
-same_key-swap a b = same_key-swap-by a b (same_key a b) refl
+same_key-swap a b = elim (either_way (same_key a b)) [
+  | inl e ↦ e ∙ sym (same_key-equal b a (sym (same_key-true a b e)))
+  | inr e ↦ e ∙ sym (same_key-apart b a (λ same. false-same_key a b e (sym same)))
+]
 
 -- nothing on either side
 pub nothing : (b : Bool) → cond {A = Option Node} b None None ≡ None
@@ -30,12 +27,12 @@ node_of-first : (look : Look) → Knows look → (key k : NodeKey) (ns : List No
     (same : Bool) → same_key key k ≡ same → node_of ns key ≡ cond there (look key) None →
     node_of (cons_option o ns) key ≡ cond (same || there) (look key) None
 node_of-first look knows key k ns there None is true same on =
-    let here : look key ≡ None = ap look (same_key-true key k same) ∙ is in
+    let here : look key ≡ None = ap look (same_key-true _ k same) ∙ is in
     on ∙ (rw here (nothing there))
 node_of-first look knows key k ns there None is false same on = on
 node_of-first look knows key k ns there (Some n) is true same on =
-    let one : same_key n.key key ≡ true = same_key-equal _ _ (knows k n is ∙ sym (same_key-true key k same)) in
-    rw one (sym (ap look (same_key-true key k same) ∙ is))
+    let one : same_key n.key key ≡ true = same_key-equal _ _ (knows k n is ∙ sym (same_key-true _ k same)) in
+    rw one (sym (ap look (same_key-true _ k same) ∙ is))
 node_of-first look knows key k ns there (Some n) is false same on =
     let other : same_key n.key key ≡ false = rw (knows k n is, same_key-swap k key) same in
     rw other on
@@ -44,16 +41,14 @@ node_of-first look knows key k ns there (Some n) is false same on =
 pub node_of-looked : (look : Look) → Knows look → (keys : List NodeKey) (key : NodeKey) →
     node_of (filter_map look keys) key ≡ (if list_any (same_key key) keys then look key else None)
 node_of-looked look knows [] key = refl
-node_of-looked look knows (k ∷ ks) key =
-    node_of-first look knows key k (filter_map look ks) (list_any (same_key key) ks) (look k) refl (same_key key k) refl
+node_of-looked look knows (k ∷ ks) key = node_of-first _ knows _ k _ _ _ refl _ refl
     (node_of-looked look knows ks key)
 
 -- what is found where each node is as f makes it
 pub looked-map : (f : Node → Node) (look now : Look) → ((key : NodeKey) → now key ≡ option_map f (look key)) → (keys : List NodeKey) →
     filter_map now keys ≡ map f (filter_map look keys)
 looked-map f look now each [] = refl
-looked-map f look now each (k ∷ ks) =
-    rw (each k, looked-map f look now each ks)
+looked-map f look now each (k ∷ ks) = rw (each k, looked-map f look now each ks)
     (elim (look k) as (λ o. cons_option (option_map f o) (map f (filter_map look ks)) ≡ map f (cons_option o (filter_map look ks)))
     [ None ↦ refl | Some n ↦ refl ])
 
@@ -64,7 +59,7 @@ looked-without-first : (look now : Look) → Knows look → (key k : NodeKey) (n
 looked-without-first look now knows key k ns None is true same = refl
 looked-without-first look now knows key k ns None is false same = refl
 looked-without-first look now knows key k ns (Some n) is true same =
-    let one : same_key n.key key ≡ true = same_key-equal _ _ (knows k n is ∙ sym (same_key-true key k same)) in
+    let one : same_key n.key key ≡ true = same_key-equal _ _ (knows k n is ∙ sym (same_key-true _ k same)) in
     rw one refl
 looked-without-first look now knows key k ns (Some n) is false same =
     let other : same_key n.key key ≡ false = rw (knows k n is, same_key-swap k key) same in
@@ -74,21 +69,16 @@ looked-without-first look now knows key k ns (Some n) is false same =
 pub looked-without : (key : NodeKey) (look now : Look) → Knows look → ((k : NodeKey) → now k ≡ (if same_key key k then None else look k)) →
     (keys : List NodeKey) → filter_map now keys ≡ filter (λ n. not (is_of key n)) (filter_map look keys)
 looked-without key look now knows each [] = refl
-looked-without key look now knows each (k ∷ ks) =
-    rw (each k, looked-without key look now knows each ks)
-    (looked-without-first look now knows key k (filter_map look ks) (look k) refl (same_key key k) refl)
-
--- the first key, by whether it is left out
-looked-kept-by : (key : NodeKey) (now : Look) → now key ≡ None → (k : NodeKey) (ks : List NodeKey) (ns : List Node) →
-    filter_map now ks ≡ ns → (same : Bool) → same_key key k ≡ same → filter_map now (cond (not same) (k ∷ ks) ks) ≡ cons_option (now k) ns
-looked-kept-by key now none k ks ns on true same =
-    let here : now k ≡ None = sym (ap now (same_key-true key k same)) ∙ none in
-    rw here on
-looked-kept-by key now none k ks ns on false same = ap (cons_option (now k)) on
+looked-without key look now knows each (k ∷ ks) = rw (each k, looked-without key look now knows each ks)
+    (looked-without-first _ now knows _ k _ _ refl _ refl)
 
 -- keys that find nothing can be left out
 pub looked-kept : (key : NodeKey) (now : Look) → now key ≡ None → (keys : List NodeKey) →
     filter_map now (filter (λ k. not (same_key key k)) keys) ≡ filter_map now keys
 looked-kept key now none [] = refl
-looked-kept key now none (k ∷ ks) = looked-kept-by key now none k (filter (λ x. not (same_key key x)) ks) (filter_map now ks)
-    (looked-kept key now none ks) (same_key key k) refl
+looked-kept key now none (k ∷ ks) = elim (either_way (same_key key k)) [
+  | inl same ↦
+      let here : now k ≡ None = sym (ap now (same_key-true _ k same)) ∙ none in
+      rw (same, here) (looked-kept key now none ks)
+  | inr other ↦ rw other (ap (cons_option (now k)) (looked-kept key now none ks))
+]

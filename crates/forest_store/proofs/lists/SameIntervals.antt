@@ -1,7 +1,6 @@
 -- Lists of the same intervals in another order, of which no two begin at one page: sorted by page they are one list.
-use Rattle.forest_store.proofs.Common.{◌≡◌, ◌≢◌, ℕ, ◌<◌, ◌≤◌, ◌==◌, nat_lt, Bool, true, false, ◌||◌, ◌&&◌, not, List, [], ◌∷◌, ◌++◌, cond, refl, sym, ap, ◌∙◌, inl, inr, arith, list_any, lt-ltb, eq-eqb, eqb-true, eqb-false, false≢true, Interval, and_left, and_right}
-use Rattle.std.proofs.lemmas.Bool.{le-ltb, ne_eqb, cases_lt, ltb-true, leb-true}
-use Rattle.sm_names.specs.Words.{insert_by, sorted_by}
+use Rattle.forest_store.proofs.Common.{◌≡◌, ◌≢◌, ℕ, ◌<◌, ◌≤◌, ◌==◌, nat_lt, Bool, true, false, ◌||◌, ◌&&◌, not, List, [], ◌∷◌, ◌++◌, cond, refl, ap, ◌∙◌, inl, inr, arith, list_any, lt-ltb, Interval, and_left, and_right, le-ltb, ne_eqb, cases_lt, ltb-true, leb-true, insert_by, sorted_by}
+use Rattle.std.proofs.lemmas.Grind.{common_steps}
 use Rattle.forest_store.specs.Starts.{begins_with, starts_differ}
 use Rattle.buffer_pool.specs.Holdings.{in_order}
 use Rattle.buffer_pool.specs.Holes.{end_of}
@@ -22,43 +21,23 @@ Alike-refl xs = record { any = λ test. refl; parted = refl; sorted = λ parted.
 
 -- one fact after the other
 pub Alike-trans : (xs ys zs : List Interval) → Alike xs ys → Alike ys zs → Alike xs zs
-Alike-trans xs ys zs p q = record {
-  any = λ test. p.any test ∙ q.any test;
-  parted = p.parted ∙ q.parted;
-  sorted = λ parted. p.sorted parted ∙ q.sorted (sym p.parted ∙ parted);
-}
+Alike-trans xs ys zs p q = grind (arith, common_steps)
 
 -- with one more in front
 Alike-cons : (x : Interval) (xs ys : List Interval) → Alike xs ys → Alike (x ∷ xs) (x ∷ ys)
-Alike-cons x xs ys p = record {
-  any = λ test. ap (λ b. test x || b) (p.any test);
-  parted = rw (p.any (begins_with x), p.parted) refl;
-  sorted = λ parted. ap (insert_by start_of x) (p.sorted (and_right _ _ parted));
-}
+Alike-cons x xs ys p = grind (arith, common_steps)
 
 -- tests in either order
 pub or_swap : (a b c : Bool) → (a || (b || c)) ≡ (b || (a || c))
-or_swap true true c = refl
-or_swap true false c = refl
-or_swap false true c = refl
-or_swap false false c = refl
+or_swap a b c = grind arith
 
 -- two in front part in either order
 pub part_swap : (a b c d : Bool) → (not (a || b) && (not c && d)) ≡ (not (a || c) && (not b && d))
-part_swap true b c d = refl
-part_swap false true true d = refl
-part_swap false true false d = refl
-part_swap false false true d = refl
-part_swap false false false d = refl
-
--- by whether they are equal
-eqb-swap-by : (a b : ℕ) (same : Bool) → (a == b) ≡ same → (a == b) ≡ (b == a)
-eqb-swap-by a b true e = e ∙ sym (eq-eqb b a (sym (eqb-true a b e)))
-eqb-swap-by a b false e = e ∙ sym (ne_eqb b a (λ same. eqb-false a b e (sym same)))
+part_swap a b c d = grind arith
 
 -- equal either way
 eqb-swap : (a b : ℕ) → (a == b) ≡ (b == a)
-eqb-swap a b = eqb-swap-by a b (a == b) refl
+eqb-swap a b = grind (arith, common_steps)
 
 -- not equal and no less is greater
 pub less_of : (a b : ℕ) → a ≢ b → b ≤ a → b < a
@@ -99,9 +78,7 @@ insert-swap x y (z ∷ zs) differ = elim (cases_lt z.start x.start) [
 
 -- the first begins elsewhere than the second
 parts_first : (x y : Interval) (zs : List Interval) → starts_differ (x ∷ y ∷ zs) ≡ true → x.start ≢ y.start
-parts_first x y zs parted same =
-    let one : (y.start == x.start) ≡ true = eq-eqb _ _ (sym same) in
-    false≢true (rw one at parted)
+parts_first x y zs parted = grind (arith, common_steps)
 
 -- the first two in the other order
 Alike-swap : (x y : Interval) (zs : List Interval) → Alike (x ∷ y ∷ zs) (y ∷ x ∷ zs)
@@ -114,27 +91,24 @@ Alike-swap x y zs = record {
 
 -- one from behind others to the front
 Alike-move : (xs : List Interval) (y : Interval) (zs : List Interval) → Alike (xs ++ y ∷ zs) (y ∷ (xs ++ zs))
-Alike-move [] y zs = Alike-refl (y ∷ zs)
-Alike-move (x ∷ xs) y zs =
-    Alike-trans _ _ _ (Alike-cons x (xs ++ y ∷ zs) (y ∷ (xs ++ zs)) (Alike-move xs y zs)) (Alike-swap x y (xs ++ zs))
+Alike-move [] y zs = Alike-refl _
+Alike-move (x ∷ xs) y zs = Alike-trans _ _ _ (Alike-cons x _ _ (Alike-move xs y zs)) (Alike-swap x y _)
 
 -- behind others
 pub Alike-front : (xs ys zs : List Interval) → Alike ys zs → Alike (xs ++ ys) (xs ++ zs)
 Alike-front [] ys zs p = p
-Alike-front (x ∷ xs) ys zs p = Alike-cons x (xs ++ ys) (xs ++ zs) (Alike-front xs ys zs p)
+Alike-front (x ∷ xs) ys zs p = Alike-cons x _ _ (Alike-front xs ys zs p)
 
 -- some from behind others to the front
 pub Alike-shift : (xs ys zs : List Interval) → Alike (xs ++ (ys ++ zs)) (ys ++ (xs ++ zs))
-Alike-shift xs [] zs = Alike-refl (xs ++ zs)
-Alike-shift xs (y ∷ ys) zs =
-    Alike-trans _ _ _ (Alike-move xs y (ys ++ zs)) (Alike-cons y (xs ++ (ys ++ zs)) (ys ++ (xs ++ zs)) (Alike-shift xs ys zs))
+Alike-shift xs [] zs = Alike-refl _
+Alike-shift xs (y ∷ ys) zs = Alike-trans _ _ _ (Alike-move xs y _) (Alike-cons y _ _ (Alike-shift xs ys zs))
 
 -- what one more in its place passes
 any-insert : (test : Interval → Bool) (x : Interval) (zs : List Interval) →
     list_any test (insert_by start_of x zs) ≡ (test x || list_any test zs)
 any-insert test x [] = refl
-any-insert test x (z ∷ zs) =
-    elim (nat_lt z.start x.start) as (λ b.
+any-insert test x (z ∷ zs) = elim (nat_lt z.start x.start) as (λ b.
     list_any test (cond b (z ∷ insert_by start_of x zs) (x ∷ z ∷ zs)) ≡ (test x || (test z || list_any test zs))) [
       | true ↦ ap (λ b. test z || b) (any-insert test x zs) ∙ or_swap (test z) (test x) (list_any test zs)
       | false ↦ refl
@@ -145,7 +119,7 @@ parted-insert : (x : Interval) (zs : List Interval) → starts_differ (insert_by
 parted-insert x [] = refl
 parted-insert x (z ∷ zs) =
     elim (nat_lt z.start x.start) as (λ b. starts_differ (cond b (z ∷ insert_by start_of x zs) (x ∷ z ∷ zs)) ≡ starts_differ (x ∷ z ∷ zs)) [
-      | true ↦ rw (any-insert (begins_with z) x zs, parted-insert x zs, eqb-swap x.start z.start)
+      | true ↦ rw (any-insert _ x zs, parted-insert x zs, eqb-swap x.start z.start)
           (part_swap (z.start == x.start) (list_any (begins_with z) zs) (list_any (begins_with x) zs) (starts_differ zs))
       | false ↦ refl
     ]
@@ -153,12 +127,12 @@ parted-insert x (z ∷ zs) =
 -- sorting parts no less
 any-sorted : (test : Interval → Bool) (xs : List Interval) → list_any test (sorted_by start_of xs) ≡ list_any test xs
 any-sorted test [] = refl
-any-sorted test (x ∷ xs) = any-insert test x (sorted_by start_of xs) ∙ ap (λ b. test x || b) (any-sorted test xs)
+any-sorted test (x ∷ xs) = any-insert test x _ ∙ ap (λ b. test x || b) (any-sorted test xs)
 
 -- by induction: no two begin at one page before or after sorting
 pub parted-sorted : (xs : List Interval) → starts_differ (sorted_by start_of xs) ≡ starts_differ xs
 parted-sorted [] = refl
-parted-sorted (x ∷ xs) = parted-insert x (sorted_by start_of xs) ∙ rw (any-sorted (begins_with x) xs, parted-sorted xs) refl
+parted-sorted (x ∷ xs) = parted-insert x _ ∙ rw (any-sorted _ xs, parted-sorted xs) refl
 
 -- intervals in order from a page on begin at no page before
 none_before : (low high : ℕ) (x : Interval) (is : List Interval) → in_order low high is ≡ true → x.start < low →
@@ -176,4 +150,4 @@ parted-in_order low high (i ∷ is) ok =
     let some : 0 < i.pages = ltb-true _ _ (and_left _ _ (and_right _ _ ok)) in
     let rest : in_order (end_of i) high is ≡ true = and_right _ _ (and_right _ _ ok) in
     let behind : i.start < end_of i = omega arith in
-    rw (none_before (end_of i) high i is rest behind) (parted-in_order (end_of i) high is rest)
+    rw (none_before _ _ i _ rest behind) (parted-in_order (end_of i) high is rest)

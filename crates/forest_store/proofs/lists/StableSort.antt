@@ -1,44 +1,19 @@
 -- A stable sort by a number gives what putting the elements in place one after another gives.
-use Rattle.forest_store.proofs.Common.{ℕ, suc, ◌≡◌, ◌==◌, ◌<◌, ◌≤◌, refl, ap, sym, ◌∙◌, Bool, true, false, ◌&&◌, not, nat_lt, cond, inl, inr, List, [], ◌∷◌, length, arith, filter, AllByRecursion, eqb-true, eqb-false, eq-eqb, either_way}
-use Rattle.std.specs.List.{slice_index_or}
-use Rattle.std.specs.List.Sorted.{ties, IsNonDecreasingBy, IsSortedByKey, IsStableByKey}
+use Rattle.forest_store.proofs.Common.{ℕ, suc, ◌≡◌, ◌==◌, ◌<◌, ◌≤◌, refl, ap, sym, ◌∙◌, Bool, true, false, ◌&&◌, not, nat_lt, cond, inl, inr, List, [], ◌∷◌, length, arith, filter, AllByRecursion, eq-eqb, either_way, IsNonDecreasingBy, ne_eqb, ltb-true, ltb-false, insert_by, sorted_by, slice_index_or}
+use Rattle.std.proofs.lemmas.Grind.{common_steps}
+use Rattle.std.specs.List.Sorted.{ties, IsSortedByKey, IsStableByKey}
 use Rattle.std.specs.Ordering.{is_lt, nat_cmp}
-use Rattle.std.proofs.lemmas.Bool.{ne_eqb, ltb-true, ltb-false}
 use Rattle.std.proofs.lemmas.List.Sorted.{IsNonDecreasingBy-from_sort}
-use Rattle.sm_names.specs.Words.{insert_by, sorted_by}
-use Rattle.forest_store.proofs.lists.ByPage.{not_lt}
 
 -- ---- numbers
 
 -- whether a number is less, by the order
 less_is : (a b : ℕ) → is_lt (nat_cmp a b) ≡ nat_lt a b
-less_is a b = elim (either_way (nat_lt a b)) [
-  | inl e ↦ rw e refl
-  | inr e ↦ elim (either_way (a == b)) [
-    | inl f ↦ rw (e, f) refl
-    | inr f ↦ rw (e, f) refl
-  ]
-]
+less_is a b = grind (arith, common_steps)
 
 -- neither of two numbers is less where they are the same
 neither_is : (a b : ℕ) → (not (nat_lt a b) && not (nat_lt b a)) ≡ (a == b)
-neither_is a b = elim (either_way (a == b)) [
-  | inl e ↦
-      let same : a ≡ b = eqb-true a b e in
-      rw (not_lt a b (omega arith), not_lt b a (omega arith), e) refl
-  | inr e ↦ elim (either_way (nat_lt a b)) [
-    | inl l ↦ rw (l, e) refl
-    | inr l ↦
-        let far : b ≤ a = ltb-false a b l in
-        let less : nat_lt b a ≡ true = elim (either_way (nat_lt b a)) [
-          | inl m ↦ m
-          | inr m ↦
-              let near : a ≤ b = ltb-false b a m in
-              absurd (eqb-false a b e (omega arith))
-        ] in
-        rw (l, less, e) refl
-  ]
-]
+neither_is a b = grind (arith, common_steps)
 
 -- a number that is less is not the same
 pub other_number : (a b : ℕ) → a < b → (a == b) ≡ false
@@ -67,9 +42,7 @@ module _ {A : Type 0} (number : A → ℕ) where
   -- one with a smaller number comes first too
   first_weaker : (x y : A) (xs : List A) → number x ≤ number y → IsFirst y xs → IsFirst x xs
   first_weaker x y [] le first = tt
-  first_weaker x y (z ∷ zs) le first =
-      let on : number y ≤ number z = first.0 in
-      (omega arith, first_weaker x y zs le first.1)
+  first_weaker x y (z ∷ zs) le first = (omega arith, first_weaker x y zs le first.1)
 
   -- ---- the elements put in place
 
@@ -97,17 +70,12 @@ module _ {A : Type 0} (number : A → ℕ) where
   -- so the numbers rise in the end
   rises_sorted : (xs : List A) → Rises (sorted_by number xs)
   rises_sorted [] = tt
-  rises_sorted (x ∷ xs) = rises_insert x (sorted_by number xs) (rises_sorted xs)
+  rises_sorted (x ∷ xs) = rises_insert x _ (rises_sorted xs)
 
   -- of two with other numbers at most one has this number
   filter_swap : (z x y : A) (xs : List A) → number y < number x →
       filter (beside z) (y ∷ x ∷ xs) ≡ filter (beside z) (x ∷ y ∷ xs)
-  filter_swap z x y xs less = elim (either_way (beside z x)) [
-    | inl e ↦
-        let same : number z ≡ number x = eqb-true (number z) (number x) e in
-        rw (e, other_greater (number z) (number y) (omega arith)) refl
-    | inr e ↦ rw e refl
-  ]
+  filter_swap z x y xs less = grind (arith, common_steps)
 
   -- one that is put in place stands before those with its number
   filter_insert : (z x : A) (xs : List A) → filter (beside z) (insert_by number x xs) ≡ filter (beside z) (x ∷ xs)
@@ -122,8 +90,7 @@ module _ {A : Type 0} (number : A → ℕ) where
   -- so those with one number keep their order
   filter_sorted : (z : A) (xs : List A) → filter (beside z) (sorted_by number xs) ≡ filter (beside z) xs
   filter_sorted z [] = refl
-  filter_sorted z (x ∷ xs) =
-      filter_insert z x (sorted_by number xs)
+  filter_sorted z (x ∷ xs) = filter_insert z x _
       ∙ ap (λ (l : List A). cond (beside z x) (x ∷ l) l) (filter_sorted z xs)
 
   -- ---- there is one such list
@@ -132,7 +99,6 @@ module _ {A : Type 0} (number : A → ℕ) where
   none_below : (x y : A) (xs : List A) → number x < number y → IsFirst y xs → filter (beside x) xs ≡ []
   none_below x y [] less first = refl
   none_below x y (z ∷ zs) less first =
-      let on : number y ≤ number z = first.0 in
       rw (other_number (number x) (number z) (omega arith)) (none_below x y zs less first.1)
 
   -- an element has its own number
@@ -144,8 +110,7 @@ module _ {A : Type 0} (number : A → ℕ) where
       filter (beside x) (x ∷ xs) ≡ filter (beside x) (y ∷ ys) → number x < number y → ⊥
   not_below x xs y ys rises same less =
       let some : filter (beside x) (x ∷ xs) ≡ x ∷ filter (beside x) xs = rw (beside_itself x) refl in
-      let none : filter (beside x) (y ∷ ys) ≡ [] = rw (other_number (number x) (number y) less) (none_below x y ys less rises.0) in
-      let wrong : x ∷ filter (beside x) xs ≡ [] = sym some ∙ (same ∙ none) in
+      let none : filter (beside x) (y ∷ ys) ≡ [] = rw (other_number _ _ less) (none_below x y _ less rises.0) in
       cc
 
   -- the rests keep the order that the wholes keep
@@ -202,14 +167,12 @@ module _ {A : Type 0} (number : A → ℕ) where
 
   -- those that tie have the same number
   ties_are : ties (λ (x y : A). is_lt (nat_cmp (number x) (number y))) ≡ beside
-  ties_are = λ i x y.
-      ((λ j. not (less_is (number x) (number y) j) && not (less_is (number y) (number x) j))
-      ∙ neither_is (number x) (number y)) i
+  ties_are = grind (arith, common_steps)
 
   -- a stable sort by the number gives the elements by their numbers
   pub stable_sorted : (xs ys : List A) → IsSortedByKey number nat_cmp ys → IsStableByKey number nat_cmp xs ys → ys ≡ sorted_by number xs
   stable_sorted xs ys up stable =
-      rises_same ys (sorted_by number xs) (rises_from ys (IsNonDecreasingBy-from_sort number ys up)) (rises_sorted xs)
+      rises_same _ _ (rises_from _ (IsNonDecreasingBy-from_sort number _ up)) (rises_sorted xs)
       (λ z. ap (λ (p : A → A → Bool). filter (p z) ys) (sym ties_are)
       ∙ (stable z
       ∙ (ap (λ (p : A → A → Bool). filter (p z) xs) ties_are

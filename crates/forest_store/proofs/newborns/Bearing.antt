@@ -1,13 +1,7 @@
 -- A node that is born: what the table has, and what stays true.
-use Rattle.forest_store.proofs.Common.{◌≡◌, ℕ, ◌+◌, nat_lt, Bool, true, false, length, Option, Some, None, option_map, cond, if◌then◌else◌, refl, sym, ap, subst, ◌∙◌, inl, inr, arith, option_map_or, lt-ltb, false≢true, NodeKey, same_key, either_way, Table, node_at, parent_at, Node}
-use Rattle.std.proofs.Common.{nat_le, Result, Ok, Err, IfOk}
-use Rattle.std.proofs.lemmas.Bool.{ne_eqb, le-leb, cases_eq}
-use Rattle.std.proofs.lemmas.List.{get_or_past}
-use Rattle.node_table.specs.Table.{Row, row_at, parent_in, next_at, was_given}
-use Rattle.node_table.specs.Changes.{Births, Writes, at_parent, with_child}
-use Rattle.node_table.specs.Lending.{table_with_node}
-use Rattle.node_table.proofs.Keys.{key_cases, same_key-equal, same_key-apart}
-use Rattle.forest_store.specs.Shelves.{Bears, born, named}
+use Rattle.forest_store.proofs.Common.{◌≡◌, ℕ, ◌+◌, nat_lt, Bool, true, false, length, Option, Some, None, option_map, cond, if◌then◌else◌, refl, sym, ap, subst, ◌∙◌, inl, inr, arith, option_map_or, lt-ltb, false≢true, NodeKey, same_key, either_way, Table, node_at, parent_at, Node, nat_le, Result, Ok, Err, IfOk, ne_eqb, cases_eq, get_or_past, Row, row_at, parent_in, next_at, was_given, Writes, at_parent, table_with_node, key_cases, same_key-equal, same_key-apart, Bears, born, named}
+use Rattle.std.proofs.lemmas.Bool.{le-leb}
+use Rattle.node_table.specs.Changes.{Births, with_child}
 use Rattle.forest_store.proofs.tables.Writing.{look-written, parents-written}
 
 -- ---- the table
@@ -125,5 +119,5 @@ pub named_bears : {E : Type 0} (t now : Table Node) (above : Option Node) (attac
     IfOk result (λ key. Bears t now (named key draft)) →
     IfOk result (λ key. Bears t now (born above attached id event client key))
 named_bears t now above attached id event client any draft is (Ok key) bears =
-    subst (Bears t now) (ap (named key) is ∙ born_named above attached id event client any key) bears
+    subst (Bears t now) (ap (named key) is ∙ born_named above _ id event client any key) bears
 named_bears t now above attached id event client any draft is (Err e) bears = bears

@@ -1,15 +1,5 @@
 -- A birth leaves a calm collection calm.
-use Rattle.forest_store.proofs.Common.{◌≡◌, ℕ, ap, refl, sym, subst, ◌∙◌, Bool, true, false, not, ◌&&◌, List, [], ◌∷◌, ◌++◌, Option, Some, None, option_map, is_some, find, list_any, option_and_then, option_map_or, NodeKey, Buffers, Cause, when, Change, Node, waiting, Collection, is_of, members_of, node_of, is_deserted_node, is_next_node}
-use Rattle.sm_names.specs.Forced.{Standing, is_deserted, is_next_head, logical_failure, outcome}
-use Rattle.sm_names.specs.Marks.{Ended, Loss, Mark}
-use Rattle.sm_names.specs.Members.{Member, demands, reserved, root_left, some_strong_live, unit}
-use Rattle.sm_names.proofs.PlaceLaws.{map-None}
-use Rattle.sm_names.proofs.RestLaws.{AtRest}
-use Rattle.sm_names.proofs.SamenessLaws.{none_is}
-use Rattle.forest_store.specs.Calm.{IsQuiescent}
-use Rattle.forest_store.specs.Decisions.{later_step}
-use Rattle.forest_store.specs.Nodes.{member_of, new_child, new_root}
-use Rattle.forest_store.specs.Settling.{changed}
+use Rattle.forest_store.proofs.Common.{◌≡◌, ℕ, ap, refl, sym, subst, ◌∙◌, Bool, true, false, not, ◌&&◌, List, [], ◌∷◌, ◌++◌, Option, Some, None, option_map, is_some, find, list_any, option_and_then, option_map_or, NodeKey, Buffers, Cause, when, Change, Node, Collection, is_of, members_of, node_of, is_next_node, Standing, is_next_head, logical_failure, outcome, Ended, Loss, Mark, Member, demands, reserved, some_strong_live, unit, map-None, AtRest, none_is, IsQuiescent, member_of, new_child, new_root, changed}
 use Rattle.forest_store.proofs.quiescence.Calming.{calm_none, later, none_calm, wait_tie}
 use Rattle.forest_store.proofs.quiescence.Forcing.{deserted_tie, next_tie}
 use Rattle.forest_store.proofs.newborns.Members.{IsNewborn, rests_with}
@@ -30,7 +20,7 @@ module _ (c : Collection) where
       option_and_then (λ (root : Member). when (root.allocated && (not (some_strong_live ms) && false)) (Loss root.key Cause.NoStrong)) o
       ≡ None
   not_abandoned None = refl
-  not_abandoned (Some root) = from root.allocated (some_strong_live ms)
+  not_abandoned (Some root) = from _ (some_strong_live ms)
     where
       from : (a s : Bool) → when (a && (not s && false)) (Loss root.key Cause.NoStrong) ≡ None
       from false s = refl
@@ -43,7 +33,7 @@ module _ (c : Collection) where
 
   -- the next head is the same on both sides
   none_next : find (is_next_head ms) ms ≡ None → find (is_next_node c.nodes) c.nodes ≡ None
-  none_next none = map-None (member_of c.nodes) (find (is_next_node c.nodes) c.nodes) (sym (next_tie c.nodes) ∙ none)
+  none_next none = map-None _ _ (sym (next_tie c.nodes) ∙ none)
 
   -- the allocation of an attached unit
   abbrev served : Option Buffers → Option Mark
@@ -53,15 +43,12 @@ module _ (c : Collection) where
   -- without buffers nothing is served; with them no head is next
   none_served : (o : Option Buffers) → later c.nodes o ≡ None → served o ≡ None
   none_served None h = refl
-  none_served (Some b) h =
-      rw (next_none (map-None (λ (n : Node). later_step c.nodes b n.key) (find (is_next_node c.nodes) c.nodes) h)) refl
+  none_served (Some b) h = rw (next_none (map-None _ _ h)) refl
 
   -- the same from the members to the nodes
   none_later : (o : Option Buffers) → served o ≡ None → later c.nodes o ≡ None
   none_later None h = refl
-  none_later (Some b) h =
-      rw (none_next (map-None (λ (head : Member). outcome head.key (logical_failure (demands (unit head.key ms)) (reserved ms) b))
-      (find (is_next_head ms) ms) h)) refl
+  none_later (Some b) h = rw (none_next (map-None _ _ h)) refl
 
   -- no step is left in the collection, so none is among its members
   pub calm_rest : IsQuiescent c → AtRest (kept_open c)
@@ -69,19 +56,18 @@ module _ (c : Collection) where
       let none = none_calm c calm in
       record {
         none_ends = ap (option_map (λ (m : Member). Ended m.key)) (deserted_tie c.nodes ∙ ap (option_map (member_of c.nodes)) none.no_end);
-        none_abandoned = not_abandoned (root_left ms);
+        none_abandoned = not_abandoned _;
         none_waits = wait_tie c.nodes ∙ ap is_some none.no_root;
-        no_head = none_served c.buffers none.no_head;
+        no_head = none_served _ none.no_head;
       }
 
   -- no step is left among the members, so none is in the collection
   pub rest_calm : AtRest (kept_open c) → IsQuiescent c
   rest_calm rest =
       calm_none c (record {
-        no_end = map-None (member_of c.nodes) (find (is_deserted_node c.nodes) c.nodes)
-            (sym (deserted_tie c.nodes) ∙ map-None (λ (m : Member). Ended m.key) (find (is_deserted ms) ms) rest.none_ends);
-        no_root = none_is (waiting c.nodes) (sym (wait_tie c.nodes) ∙ rest.none_waits);
-        no_head = none_later c.buffers rest.no_head;
+        no_end = map-None _ _ (sym (deserted_tie c.nodes) ∙ map-None _ _ rest.none_ends);
+        no_root = none_is _ (sym (wait_tie c.nodes) ∙ rest.none_waits);
+        no_head = none_later _ rest.no_head;
       })
 
 -- ---- births
@@ -93,34 +79,31 @@ module _ (c : Collection) (calm : IsQuiescent c) where
   node_calm b fresh here newborn =
       let grown : Collection = record c { nodes = c.nodes ++ b ∷ [] } in
       let is : kept_open grown ≡ record (kept_open c) { members = members_of c.nodes ++ member_of (c.nodes ++ b ∷ []) b ∷ [] } =
-      (λ i. record (kept_open c) { members = members_more c.nodes b fresh here i }) in
-      rest_calm grown (subst AtRest (sym is)
-      (rests_with (kept_open c) (member_of (c.nodes ++ b ∷ []) b) newborn (calm_rest c calm)))
+      (λ i. record (kept_open c) { members = members_more _ b fresh here i }) in
+      rest_calm grown (subst AtRest (sym is) (rests_with _ _ newborn (calm_rest c calm)))
 
   -- a birth leaves it calm: its key is none of the nodes'
   pub births_calm : (parent : Option NodeKey) (attached : Bool) (client event : ℕ) (key : NodeKey) →
       list_any (is_of key) c.nodes ≡ false → HaveOthers c.nodes key →
       IsQuiescent (changed (Change.Birth parent attached client event) key c)
-  births_calm None attached client event key fresh parents =
-      node_calm (new_root key c.id event client) fresh refl
+  births_calm None attached client event key fresh parents = node_calm _ fresh refl
       (record {
         live = refl;
         asks_nothing = refl;
         heads = λ e. refl;
         waits = λ e. refl;
-        childless = childless c.nodes (new_root key c.id event client) fresh parents;
+        childless = childless _ (new_root key c.id event client) fresh parents;
       })
   births_calm (Some above) attached client event key fresh parents = from (node_of c.nodes above)
     where
       from : (o : Option Node) →
           IsQuiescent (option_map_or (λ n. record c { nodes = c.nodes ++ new_child attached key event client n ∷ [] }) o c)
       from None = calm
-      from (Some n) =
-          node_calm (new_child attached key event client n) fresh refl
+      from (Some n) = node_calm _ fresh refl
           (record {
             live = refl;
             asks_nothing = refl;
             heads = λ e. rw e refl;
             waits = λ e. cc;
-            childless = childless c.nodes (new_child attached key event client n) fresh parents;
+            childless = childless _ (new_child attached key event client n) fresh parents;
           })

@@ -1,18 +1,11 @@
 -- The entries once a node is born of which nothing else follows.
-use Rattle.forest_store.proofs.Common.{◌≡◌, ℕ, ◌+◌, ◌==◌, Bool, false, if◌then◌else◌, List, [], Option, Some, None, option_map, get_or, set, refl, sym, ap, subst, ◌∙◌, arith, find, list_any, option_map_or, NodeKey, Table, Entry, Node, strong_count, over_except, Collection, IsStored, Shelf, collection_in, forest_of, place_in, put_shelf, shelf_of, shelves_of, nodes_with, reserved_count, collection_or_new}
-use Rattle.std.proofs.Common.{Result, Ok, Err, IfOk, OnOk, OnErr}
-use Rattle.std.proofs.lemmas.List.{get_or_default}
-use Rattle.std.specs.Option.{unwrap_or}
-use Rattle.forest_store.specs.Calm.{AreCounted, IsQuiescent, IsCounted, put_in}
-use Rattle.forest_store.specs.Shelves.{Bears, born}
-use Rattle.forest_store.specs.Still.{no_shelf, shelf_before, shelf_with}
+use Rattle.forest_store.proofs.Common.{◌≡◌, ℕ, ◌+◌, ◌==◌, Bool, false, if◌then◌else◌, List, [], Option, Some, None, option_map, get_or, set, refl, sym, ap, subst, ◌∙◌, arith, find, list_any, option_map_or, NodeKey, Table, Entry, Node, strong_count, over_except, Collection, IsStored, Shelf, collection_in, forest_of, place_in, put_shelf, shelf_of, shelves_of, nodes_with, reserved_count, collection_or_new, Result, Ok, Err, IfOk, get_or_default, unwrap_or, AreCounted, IsQuiescent, IsCounted, put_in, Bears, born, no_shelf, shelf_before, shelf_with}
+use Rattle.std.proofs.Common.{OnErr}
 use Rattle.forest_store.proofs.newborns.Forest.{still_collection}
 use Rattle.forest_store.proofs.shelves.Counted.{counted_but, counted_put, counted_set, moved_all, recounted, set_shelves, shelves_put}
-use Rattle.forest_store.proofs.shelves.Entries.{IsPlace, set_put}
 use Rattle.forest_store.proofs.newborns.Newborn.{Above}
 use Rattle.forest_store.proofs.newborns.Quiet.{counted_born}
-use Rattle.forest_store.proofs.shelves.Showing.{collection_is, shelf_found}
-use Rattle.forest_store.proofs.quiescence.Watched.{found_counted}
+use Rattle.forest_store.proofs.Basics.{IsPlace, set_put, collection_is, shelf_found, found_counted}
 
 -- what two facts of a result make true of it
 pub by_both : {A E : Type 0} {P Q R : A → Type 0} (r : Result A E) → IfOk r P → IfOk r Q → ((a : A) → P a → Q a → R a) → IfOk r R
@@ -41,7 +34,7 @@ module _ (t : Table Node) (es : List Entry) (ok : IsStored t (shelves_of es)) (a
 
     -- each entry is counted
     counted : IsCounted t old
-    counted = found_counted t id es old all found
+    counted = found_counted t _ _ _ all found
 
     -- the count is no more than the keys
     before_is : shelf_before id (shelves_of es) ≡ shelf_of old
@@ -50,19 +43,19 @@ module _ (t : Table Node) (es : List Entry) (ok : IsStored t (shelves_of es)) (a
     -- the collection is there, so it is the one of the entry
     at_is : collection_or_new (forest_of t (shelves_of es)) id ≡ collection_in t (shelf_of old)
     at_is = ap (λ (o : Option Collection). unwrap_or o (record { id = id; nodes = []; buffers = None; held = [] }))
-        (collection_is t id (shelves_of es) ∙ ap (option_map (collection_in t)) (shelf_found id es ∙ ap (option_map shelf_of) found))
+        (collection_is t id _ ∙ ap (option_map (collection_in t)) (shelf_found id es ∙ ap (option_map shelf_of) found))
 
     -- where memory was refused
     module _ (new : Entry) (same : shelf_of new ≡ shelf_of old) (strong : new.strong ≡ old.strong)
         (reserved : new.reserved ≡ old.reserved) (garbage_known : new.garbage_known ≡ old.garbage_known) (garbage : new.garbage.items ≡ old.garbage.items) where
       -- a refusal keeps the shelf, so the list of shelves stays
       pub refused_shelves : shelves_of (set es at new) ≡ shelves_of es
-      refused_shelves = set_shelves es at new (λ within. same ∙ ap shelf_of (is ∙ get_or_default es at old new within))
+      refused_shelves = set_shelves _ at new (λ within. same ∙ ap shelf_of (is ∙ get_or_default _ at old new within))
 
       -- a refusal keeps counts, notes and nodes
       pub refused_counted : AreCounted t (set es at new)
-      refused_counted = counted_set t es at new
-          (λ within was. recounted t old new (ap (collection_in t) same) strong reserved (λ h.
+      refused_counted = counted_set t _ at new
+          (λ within was. recounted t _ _ (ap (collection_in t) same) strong reserved (λ h.
           ap (λ (ks : List NodeKey). list_any (over_except ks) (nodes_with t old.keys.items)) garbage ∙ counted.garbage_known (sym garbage_known ∙ h)) counted)
           all
 
@@ -70,7 +63,7 @@ module _ (t : Table Node) (es : List Entry) (ok : IsStored t (shelves_of es)) (a
     module _ (key : NodeKey) (new : Entry) (shelf : shelf_of new ≡ shelf_with (shelf_of old) key) where
       -- the entry is set at the place of its id
       put_is : set es at new ≡ put_in new es
-      put_is = set_put new es at ok.rising (subst (λ (i : ℕ). place_in i es ≡ Some at) (sym (ap (λ (s : Shelf). s.id) shelf ∙ old_id)) told)
+      put_is = set_put _ _ at ok.rising (rw (ap (λ (s : Shelf). s.id) shelf ∙ old_id) told)
 
       -- the shelf has one key more
       shelf_is : shelf_of new ≡ shelf_with (shelf_before id (shelves_of es)) key
@@ -83,15 +76,16 @@ module _ (t : Table Node) (es : List Entry) (ok : IsStored t (shelves_of es)) (a
       module _ (now : Table Node) (parent : Option NodeKey) (attached : Bool) (client event : ℕ) (above : Option Node)
           (over : Above t (shelves_of es) id parent above)
           (bears : Bears t now (born above attached id event client key))
-          (strong : new.strong ≡ old.strong + more_strong above) (reserved : new.reserved ≡ old.reserved) (garbage_known : new.garbage_known ≡ old.garbage_known)
+          (strong : new.strong ≡ old.strong + more_strong above) (reserved : new.reserved ≡ old.reserved)
+          (garbage_known : new.garbage_known ≡ old.garbage_known)
           (garbage : new.garbage.items ≡ old.garbage.items) where
         -- the others are counted as before, and the one with the new node by its own count
         pub among_counted : AreCounted now (set es at new)
         among_counted = subst (AreCounted now) (sym put_is)
-            (counted_put now new es ok.rising
-            (counted_but now new.id es (moved_all t now es ok.filed (λ e filed. still_collection t now _ bears (shelf_of e) filed) all))
-            (counted_born t now (shelves_of es) ok id parent attached client event above over key bears
-            (subst IsQuiescent (sym at_is) counted.calm) new shelf_is
+            (counted_put _ _ _ ok.rising
+            (counted_but _ new.id _ (moved_all t _ _ ok.filed (λ e filed. still_collection t now _ bears _ filed) all))
+            (counted_born t now _ ok _ parent _ client event _ over _ bears
+            (subst IsQuiescent (sym at_is) counted.calm) _ shelf_is
             (strong ∙ ap (λ (n : ℕ). n + more_strong above) (counted.strong ∙ ap (λ (c : Collection). strong_count c.nodes) (sym at_is)))
             (reserved ∙ counted.reserved ∙ ap (λ (c : Collection). reserved_count c.nodes) (sym at_is))
             (λ h. (λ i. list_any (over_except (garbage i)) (at_is i).nodes) ∙ counted.garbage_known (sym garbage_known ∙ h))))
@@ -110,7 +104,7 @@ module _ (t : Table Node) (es : List Entry) (ok : IsStored t (shelves_of es)) (a
     -- a collection that is not there is a new one
     empty_is : collection_or_new (forest_of t (shelves_of es)) id ≡ record { id = id; nodes = []; buffers = None; held = [] }
     empty_is = ap (λ (o : Option Collection). unwrap_or o (record { id = id; nodes = []; buffers = None; held = [] }))
-        (collection_is t id (shelves_of es) ∙ ap (option_map (collection_in t)) none_is)
+        (collection_is t id _ ∙ ap (option_map (collection_in t)) none_is)
 
     -- the new shelf is put among them
     pub first_shelves : shelves_of (put_in new es) ≡ put_shelf (shelf_with (shelf_before id (shelves_of es)) key) (shelves_of es)
@@ -122,13 +116,10 @@ module _ (t : Table Node) (es : List Entry) (ok : IsStored t (shelves_of es)) (a
         (reserved : new.reserved ≡ 0) where
       -- the others are counted as before, and the new one by its only node
       pub first_counted : AreCounted now (put_in new es)
-      first_counted =
-          counted_put now new es ok.rising
+      first_counted = counted_put now new es ok.rising
           (counted_but now new.id es (moved_all t now es ok.filed (λ e filed. still_collection t now _ bears (shelf_of e) filed) all))
           (counted_born t now (shelves_of es) ok id parent attached client event above over key bears
           (subst IsQuiescent (sym empty_is) refl) new first_is
-          (let base : strong_count (collection_or_new (forest_of t (shelves_of es)) id).nodes ≡ 0 =
-          ap (λ (c : Collection). strong_count c.nodes) empty_is in
-          omega (arith, strong, base))
-          (reserved ∙ sym (ap (λ (c : Collection). reserved_count c.nodes) empty_is))
+          (let base = ap (λ (c : Collection). strong_count c.nodes) empty_is in
+          omega (arith, strong, base)) (reserved ∙ sym (ap (λ (c : Collection). reserved_count c.nodes) empty_is))
           (λ h. ap (λ (c : Collection). list_any (over_except new.garbage.items) c.nodes) empty_is))

@@ -1,20 +1,6 @@
 -- What stays true of a forest with one node more.
-use Rattle.forest_store.proofs.Common.{◌≡◌, ℕ, suc, ◌<◌, ◌==◌, ◌⊎◌, Bool, true, false, ◌||◌, List, [], ◌∷◌, ◌++◌, map, length, Option, Some, None, refl, sym, ap, subst, ◌∙◌, inl, inr, arith, list_any, list_all, find, cons_option, AllByRecursion, option_map_or, eq-eqb, false≢true, NodeKey, same_key, HeldBuffer, and_left, and_right, or_right, same_key-true, some-injective, Table, node_at, parent_at, Node, Collection, Shelf, AreRising, IsStored, IsWhole, put_shelf, collection_in, nodes_with, forest_of, all_keys, are_filed, is_filed, put}
-use Rattle.std.proofs.Common.{append_assoc}
-use Rattle.std.specs.List.{flat_map}
-use Rattle.std.proofs.lemmas.Bool.{ltb-true}
-use Rattle.std.proofs.lemmas.List.Elements.{filter_map-append}
-use Rattle.std.proofs.lemmas.List.Folds.{list_any-append}
-use Rattle.node_table.specs.Table.{was_given}
-use Rattle.node_table.proofs.Keys.{key_cases, same_key-equal, same_key-apart}
-use Rattle.forest_store.specs.Forest.{all_held}
-use Rattle.forest_store.specs.Shelves.{AreKin, Bears, are_apart}
-use Rattle.forest_store.proofs.lists.SameIntervals.{or_swap, part_swap}
-use Rattle.forest_store.proofs.changes.Altering.{none_above}
-use Rattle.forest_store.proofs.changes.Finishing.{whole-map, whole-unmap}
-use Rattle.forest_store.proofs.lists.Lookups.{same_key-swap}
-use Rattle.forest_store.proofs.newborns.Bearing.{given_there}
-use Rattle.forest_store.proofs.shelves.Putting.{cases_place, rising-put, above-weaker, put-map}
+use Rattle.forest_store.proofs.Common.{◌≡◌, ℕ, suc, ◌<◌, ◌==◌, ◌⊎◌, Bool, true, false, ◌||◌, List, [], ◌∷◌, ◌++◌, map, length, Option, Some, None, refl, sym, ap, subst, ◌∙◌, inl, inr, arith, list_any, list_all, find, cons_option, AllByRecursion, option_map_or, eq-eqb, false≢true, NodeKey, same_key, HeldBuffer, and_left, and_right, or_right, same_key-true, some-injective, Table, node_at, parent_at, Node, Collection, Shelf, AreRising, IsStored, IsWhole, put_shelf, collection_in, nodes_with, forest_of, all_keys, are_filed, is_filed, put, append_assoc, flat_map, ltb-true, filter_map-append, list_any-append, was_given, key_cases, same_key-equal, same_key-apart, all_held, AreKin, Bears, are_apart}
+use Rattle.forest_store.proofs.Basics.{or_swap, part_swap, none_above, whole-map, whole-unmap, same_key-swap, given_there, cases_place, rising-put, above-weaker, put-map}
 
 -- ---- keys in another order
 
@@ -50,14 +36,14 @@ SameKeys-swap x y zs = record {
 
 -- by induction: the key moves forward one place at a time
 SameKeys-move : (xs : List NodeKey) (y : NodeKey) (zs : List NodeKey) → SameKeys (xs ++ y ∷ zs) (y ∷ (xs ++ zs))
-SameKeys-move [] y zs = SameKeys-refl (y ∷ zs)
+SameKeys-move [] y zs = SameKeys-refl _
 SameKeys-move (x ∷ xs) y zs =
-    SameKeys-trans _ _ _ (SameKeys-cons x (xs ++ y ∷ zs) (y ∷ (xs ++ zs)) (SameKeys-move xs y zs)) (SameKeys-swap x y (xs ++ zs))
+    SameKeys-trans _ _ _ (SameKeys-cons x _ _ (SameKeys-move xs y zs)) (SameKeys-swap x y _)
 
 -- by induction over the first list
 SameKeys-front : (xs ys zs : List NodeKey) → SameKeys ys zs → SameKeys (xs ++ ys) (xs ++ zs)
 SameKeys-front [] ys zs p = p
-SameKeys-front (x ∷ xs) ys zs p = SameKeys-cons x (xs ++ ys) (xs ++ zs) (SameKeys-front xs ys zs p)
+SameKeys-front (x ∷ xs) ys zs p = SameKeys-cons x _ _ (SameKeys-front xs ys zs p)
 
 -- ---- a shelf with one key more
 
@@ -71,34 +57,28 @@ held_before id ss = option_map_or (λ (s : Shelf). s.held) (find (λ (s : Shelf)
 -- all keys are those there were, and this one
 pub keys-born : (new : Shelf) (key : NodeKey) (ss : List Shelf) → AreRising ss → new.keys ≡ keys_before new.id ss ++ key ∷ [] →
     SameKeys (all_keys (put_shelf new ss)) (key ∷ all_keys ss)
-keys-born new key [] rising keys = rw keys (SameKeys-refl (key ∷ []))
-keys-born new key (s ∷ ss) rising keys = cases_place s.id new.id (SameKeys (all_keys (put_shelf new (s ∷ ss))) (key ∷ all_keys (s ∷ ss)))
-    (λ same.
+keys-born new key [] rising keys = rw keys (SameKeys-refl _)
+keys-born new key (s ∷ ss) rising keys = cases_place _ _ _ (λ same.
     let own : new.keys ≡ s.keys ++ key ∷ [] = rw same at keys in
-    rw (same, own, append_assoc s.keys (key ∷ []) (all_keys ss)) (SameKeys-move s.keys key (all_keys ss)))
-    (λ other above.
+    rw (same, own, append_assoc s.keys (key ∷ []) (all_keys ss)) (SameKeys-move s.keys key _)) (λ other above.
     let less : new.id < s.id = ltb-true _ _ above in
-    let none = none_above new.id ss (above-weaker new.id s.id ss less rising.0) in
+    let none = none_above _ _ (above-weaker _ _ _ less rising.0) in
     let own : new.keys ≡ key ∷ [] = rw (other, none) at keys in
-    rw (other, above, own) (SameKeys-refl (key ∷ (s.keys ++ all_keys ss))))
-    (λ other below.
+    rw (other, above, own) (SameKeys-refl _)) (λ other below.
     let own : new.keys ≡ keys_before new.id ss ++ key ∷ [] = rw other at keys in
-    rw (other, below) (SameKeys-trans _ _ _ (SameKeys-front s.keys (all_keys (put_shelf new ss)) (key ∷ all_keys ss)
-    (keys-born new key ss rising.1 own)) (SameKeys-move s.keys key (all_keys ss))))
+    rw (other, below) (SameKeys-trans _ _ _ (SameKeys-front s.keys _ _
+    (keys-born new key ss rising.1 own)) (SameKeys-move s.keys key _)))
 
 -- the pages are those there were
 pub helds-born : (new : Shelf) (ss : List Shelf) → AreRising ss → new.held ≡ held_before new.id ss →
     flat_map (λ (s : Shelf). s.held) (put_shelf new ss) ≡ flat_map (λ (s : Shelf). s.held) ss
 helds-born new [] rising held = rw held refl
-helds-born new (s ∷ ss) rising held =
-    cases_place s.id new.id (flat_map (λ (x : Shelf). x.held) (put_shelf new (s ∷ ss)) ≡ flat_map (λ (x : Shelf). x.held) (s ∷ ss))
-    (λ same. let own : new.held ≡ s.held = rw same at held in rw (same, own) refl)
-    (λ other above.
+helds-born new (s ∷ ss) rising held = cases_place _ _ _
+    (λ same. let own : new.held ≡ s.held = rw same at held in rw (same, own) refl) (λ other above.
     let less : new.id < s.id = ltb-true _ _ above in
-    let none = none_above new.id ss (above-weaker new.id s.id ss less rising.0) in
+    let none = none_above _ _ (above-weaker _ _ _ less rising.0) in
     let own : new.held ≡ [] = rw (other, none) at held in
-    rw (other, above, own) refl)
-    (λ other below.
+    rw (other, above, own) refl) (λ other below.
     let own : new.held ≡ held_before new.id ss = rw other at held in
     rw (other, below) (ap (λ l. s.held ++ l) (helds-born new ss rising.1 own)))
 
@@ -112,9 +92,7 @@ filed-born : (t : Table Node) (new : Shelf) (ss : List Shelf) → list_all (is_f
     are_filed t (put_shelf new ss) ≡ true
 filed-born t new [] own all = rw own refl
 filed-born t new (s ∷ ss) own all = cases_place s.id new.id (are_filed t (put_shelf new (s ∷ ss)) ≡ true)
-    (λ same. let rest : are_filed t ss ≡ true = and_right _ _ all in rw (same, own) rest)
-    (λ other above. rw (other, above, own) all)
-    (λ other below.
+    (λ same. rw (same, own) (and_right _ _ all)) (λ other above. rw (other, above, own) all) (λ other below.
     let first : list_all (is_filed t s.id) s.keys ≡ true = and_left _ _ all in
     rw (other, below, first) (filed-born t new ss own (and_right _ _ all)))
 
@@ -122,8 +100,7 @@ filed-born t new (s ∷ ss) own all = cases_place s.id new.id (are_filed t (put_
 whole-born : (new : Collection) (cs : List Collection) → IsWhole new → AllByRecursion IsWhole cs → AllByRecursion IsWhole (put new cs)
 whole-born new [] ok all = (ok, tt)
 whole-born new (c ∷ cs) ok all = cases_place c.id new.id (AllByRecursion IsWhole (put new (c ∷ cs)))
-    (λ same. rw same (ok, all.1))
-    (λ other above. rw (other, above) (ok, all))
+    (λ same. rw same (ok, all.1)) (λ other above. rw (other, above) (ok, all))
     (λ other below. rw (other, below) (all.0, whole-born new cs ok all.1))
 
 -- neither test holds
@@ -148,64 +125,61 @@ module _ (t now : Table Node) (node : Node) (bears : Bears t now node) where
 
   -- the node has its key
   pub born_at : node_at now node.key ≡ Some node
-  born_at = bears.look node.key ∙ rw (same_key-equal node.key node.key refl) refl
+  born_at = bears.look node.key ∙ rw (same_key-equal _ _ refl) refl
 
   -- by what was there
   still_filed-by : (id : ℕ) (key : NodeKey) (o : Option Node) → node_at t key ≡ o →
       option_map_or (λ (n : Node). n.collection == id) o false ≡ true → is_filed now id key ≡ true
   still_filed-by id key None is filed = absurd (false≢true filed)
-  still_filed-by id key (Some n) is filed = rw (still_at key n is) filed
+  still_filed-by id key (Some n) is filed = rw (still_at _ n is) filed
 
   -- a filed key finds the node that it found
   still_found : (id : ℕ) (key : NodeKey) (o : Option Node) → node_at t key ≡ o →
       option_map_or (λ (n : Node). n.collection == id) o false ≡ true → node_at now key ≡ node_at t key
   still_found id key None is filed = absurd (false≢true filed)
-  still_found id key (Some n) is filed = still_at key n is ∙ sym is
+  still_found id key (Some n) is filed = still_at _ n is ∙ sym is
 
   -- filed keys find the nodes that they found
   still_looked : (id : ℕ) (keys : List NodeKey) → list_all (is_filed t id) keys ≡ true → nodes_with now keys ≡ nodes_with t keys
   still_looked id [] filed = refl
   still_looked id (k ∷ ks) filed =
       let rest = still_looked id ks (and_right _ _ filed) in
-      λ i. cons_option (still_found id k (node_at t k) refl (and_left _ _ filed) i) (rest i)
+      λ i. cons_option (still_found _ k _ refl (and_left _ _ filed) i) (rest i)
 
   -- and are filed still
   still_filed : (id : ℕ) (keys : List NodeKey) → list_all (is_filed t id) keys ≡ true → list_all (is_filed now id) keys ≡ true
   still_filed id [] filed = refl
   still_filed id (k ∷ ks) filed =
-      let first : is_filed now id k ≡ true = still_filed-by id k (node_at t k) refl (and_left _ _ filed) in
+      let first : is_filed now id k ≡ true = still_filed-by _ k _ refl (and_left _ _ filed) in
       rw first (still_filed id ks (and_right _ _ filed))
 
   -- all of them
   still_all_filed : (ss : List Shelf) → are_filed t ss ≡ true → are_filed now ss ≡ true
   still_all_filed [] filed = refl
   still_all_filed (s ∷ ss) filed =
-      let first : list_all (is_filed now s.id) s.keys ≡ true = still_filed s.id s.keys (and_left _ _ filed) in
-      rw first (still_all_filed ss (and_right _ _ filed))
+      rw (still_filed _ _ (and_left _ _ filed)) (still_all_filed ss (and_right _ _ filed))
 
   -- a collection stays
   pub still_collection : (s : Shelf) → list_all (is_filed t s.id) s.keys ≡ true → collection_in now s ≡ collection_in t s
-  still_collection s filed = λ i. record { id = s.id; nodes = still_looked s.id s.keys filed i; buffers = s.buffers; held = s.held }
+  still_collection s filed = λ i. record { id = s.id; nodes = still_looked _ _ filed i; buffers = s.buffers; held = s.held }
 
   -- so do all
   pub still_collections : (ss : List Shelf) → are_filed t ss ≡ true → map (collection_in now) ss ≡ map (collection_in t) ss
   still_collections [] filed = refl
   still_collections (s ∷ ss) filed =
-      let first = still_collection s (and_left _ _ filed) in
       let rest = still_collections ss (and_right _ _ filed) in
-      λ i. first i ∷ rest i
+      λ i. still_collection s (and_left _ _ filed) i ∷ rest i
 
   -- the keys with that of the node find the nodes with the node
   pub born_looked : (id : ℕ) (keys : List NodeKey) → list_all (is_filed t id) keys ≡ true →
       nodes_with now (keys ++ node.key ∷ []) ≡ nodes_with t keys ++ node ∷ []
-  born_looked id keys filed =
-      filter_map-append (node_at now) keys (node.key ∷ [])
-      ∙ λ i. still_looked id keys filed i ++ cons_option (born_at i) []
+  born_looked id keys filed = filter_map-append _ keys _
+      ∙ λ i. still_looked _ _ filed i ++ cons_option (born_at i) []
 
   -- a filed key is not the new one
   not_this : (id : ℕ) (key : NodeKey) (same : Bool) → same_key node.key key ≡ same → is_filed t id key ≡ true → same ≡ false
   not_this id key true same filed =
-      let none : node_at t key ≡ None = ap (node_at t) (sym (same_key-true node.key key same)) ∙ bears.none in
+      let none : node_at t key ≡ None = ap (node_at t) (sym (same_key-true _ _ same)) ∙ bears.none in
       absurd (false≢true (rw none at filed))
   not_this id key false same filed = refl
 
@@ -213,7 +187,7 @@ module _ (t now : Table Node) (node : Node) (bears : Bears t now node) where
   pub none_there : (id : ℕ) (keys : List NodeKey) → list_all (is_filed t id) keys ≡ true → list_any (same_key node.key) keys ≡ false
   none_there id [] filed = refl
   none_there id (k ∷ ks) filed =
-      both_none (not_this id k (same_key node.key k) refl (and_left _ _ filed)) (none_there id ks (and_right _ _ filed))
+      both_none (not_this _ k _ refl (and_left _ _ filed)) (none_there id ks (and_right _ _ filed))
 
   -- a node that is found is the new one, or was found
   found_more : (key : NodeKey) (n : Node) → node_at now key ≡ Some n → ((node.key ≡ key) × (node ≡ n)) ⊎ (node_at t key ≡ Some n)
@@ -263,13 +237,13 @@ module _ (t now : Table Node) (node : Node) (bears : Bears t now node) where
     -- the key of each parent was given
     parents_more : (key p : NodeKey) → parent_at now key ≡ Some p → was_given now p ≡ true
     parents_more key p up =
-        let was : was_given t p ≡ true = elim (key_cases node.key key) [
+        let was : was_given t p ≡ true = elim (key_cases _ key) [
           | inl same ↦
               let q = above p (sym (bears.parents key ∙ rw (same_key-equal node.key key same) refl) ∙ up) in
-              given_there t p q.0 ok.first q.1
-          | inr differ ↦ ok.parents key p (sym (bears.parents key ∙ rw (same_key-apart node.key key differ) refl) ∙ up)
+              given_there t p _ ok.first q.1
+          | inr differ ↦ ok.parents key p (sym (bears.parents key ∙ rw (same_key-apart _ _ differ) refl) ∙ up)
         ] in
-        bears.gives.given p ∙ or_right (same_key node.key p) (was_given t p) was
+        bears.gives.given p ∙ or_right _ _ was
 
     -- each node is of the collection of its parent
     kin_more : AreKin now
@@ -296,12 +270,12 @@ module _ (t now : Table Node) (node : Node) (bears : Bears t now node) where
   -- no shelf has the key yet
   none_yet : (ss : List Shelf) → are_filed t ss ≡ true → list_any (same_key node.key) (all_keys ss) ≡ false
   none_yet [] filed = refl
-  none_yet (s ∷ ss) filed = list_any-append (same_key node.key) s.keys (all_keys ss)
-      ∙ both_none (none_there s.id s.keys (and_left _ _ filed)) (none_yet ss (and_right _ _ filed))
+  none_yet (s ∷ ss) filed = list_any-append _ s.keys _
+      ∙ both_none (none_there _ _ (and_left _ _ filed)) (none_yet ss (and_right _ _ filed))
 
   -- it stands apart
   apart_more : {ss : List Shelf} → IsStored t ss → are_apart (node.key ∷ all_keys ss) ≡ true
-  apart_more {ss} ok = rw (none_yet ss ok.filed) ok.apart
+  apart_more {ss} ok = rw (none_yet _ ok.filed) ok.apart
 
   -- the shelf is filed
   own_more : (new : Shelf) (ss : List Shelf) → new.keys ≡ keys_before new.id ss ++ node.key ∷ [] →
@@ -317,20 +291,20 @@ module _ (t now : Table Node) (node : Node) (bears : Bears t now node) where
       IsWhole (collection_in now new) → ((p : NodeKey) → node.parent ≡ Some p → (q : Node) × (node_at t p ≡ Some q) ×
       (q.collection ≡ node.collection)) → IsStored now (put_shelf new ss)
   kept-born new ss ok keys own of head whole above =
-      let same = keys-born new node.key ss ok.rising keys in
+      let same = keys-born _ _ _ ok.rising keys in
       record {
         first = bears.gives.first ∙ ok.first;
-        rising = rising-put new ss ok.rising;
+        rising = rising-put new _ ok.rising;
         apart = same.apart ∙ apart_more ok;
-        named = λ key n is. named_more ok key n is;
-        filed = filed-born now new ss (own_more new ss keys own of) (still_all_filed ss ok.filed);
-        there = λ key n is. same.any (same_key key) ∙ there_more ok key n is;
+        named = λ key n is. named_more ok _ n is;
+        filed = filed-born now new ss (own_more new _ keys own of) (still_all_filed ss ok.filed);
+        there = λ key n is. same.any (same_key key) ∙ there_more ok _ n is;
         counted = same.len ∙ omega (arith, ok.counted, bears.len);
         linked = linked_more ok;
         heads = heads_more ok head;
-        whole = whole-unmap now (put_shelf new ss) (subst (AllByRecursion IsWhole) (sym (put-map now new ss
-            ∙ ap (put (collection_in now new)) (still_collections ss ok.filed)))
-            (whole-born (collection_in now new) (map (collection_in t) ss) whole (whole-map t ss ok.whole)));
+        whole = whole-unmap now _ (subst (AllByRecursion IsWhole) (sym (put-map now new ss
+            ∙ ap (put (collection_in now new)) (still_collections _ ok.filed)))
+            (whole-born _ _ whole (whole-map t _ ok.whole)));
         parents = parents_more ok above;
         kin = kin_more ok above;
       }

@@ -1,15 +1,9 @@
 -- Where nothing was forced, a newborn that comes last among the nodes of a collection forces nothing.
-use Rattle.forest_store.proofs.Common.{◌≡◌, refl, ap, sym, ◌∙◌, Bool, true, false, cond, ◌&&◌, ◌||◌, not, ◌⊎◌, inl, inr, List, [], ◌∷◌, ◌++◌, Option, Some, None, is_some, list_any, list_all, find, option_map_or, option_and_then, NodeKey, Buffers, Cause, Demand, same_key, when, In, and_left, both_ways, either_way, or_left, or_right, same_key-refl, same_key-true}
-use Rattle.std.proofs.lemmas.List.Elements.{filter-append}
-use Rattle.std.proofs.lemmas.List.Folds.{find-append, list_any-append, list_all-append}
-use Rattle.std.specs.Option.{option_map, option_or}
-use Rattle.sm_names.specs.Forced.{Standing, ending, abandoned, logical_allocation, logical_failure, outcome, is_allocated, is_deserted, is_next_head}
-use Rattle.sm_names.specs.Marks.{Mark, Loss, Ended}
-use Rattle.sm_names.specs.Members.{Member, is_live, is_ready, is_root, is_settled, is_under, root_left, some_live, some_strong_live, subtree, unit, demands, reserved}
+use Rattle.forest_store.proofs.Common.{◌≡◌, refl, ap, sym, ◌∙◌, Bool, true, false, cond, ◌&&◌, ◌||◌, not, ◌⊎◌, inl, inr, List, [], ◌∷◌, ◌++◌, Option, Some, None, is_some, list_any, list_all, find, option_map_or, option_and_then, NodeKey, Buffers, Cause, Demand, same_key, when, In, and_left, both_ways, either_way, or_left, or_right, same_key-refl, same_key-true, filter-append, list_any-append, Standing, ending, abandoned, logical_allocation, logical_failure, outcome, is_allocated, is_deserted, is_next_head, Mark, Loss, Ended, Member, is_live, is_ready, is_root, is_settled, root_left, some_live, some_strong_live, subtree, unit, demands, reserved, AtRest, or_both, or_parts, map-None, option_map, arith}
+use Rattle.std.proofs.Math.Bool.{and-false, or-false, or-true}
+use Rattle.std.proofs.lemmas.List.Folds.{find-append, list_all-append}
+use Rattle.std.specs.Option.{option_or}
 use Rattle.sm_names.proofs.ListLaws.{find-none, none-find}
-use Rattle.sm_names.proofs.RestLaws.{AtRest}
-use Rattle.sm_names.proofs.SamenessLaws.{or_both, or_parts}
-use Rattle.sm_names.proofs.PlaceLaws.{map-None}
 
 -- ---- lists
 
@@ -18,29 +12,21 @@ any-less : {A : Type 0} (p q : A → Bool) (xs : List A) → ((x : A) → In x x
     list_any q xs ≡ false → list_any p xs ≡ false
 any-less p q [] more none = refl
 any-less p q (x ∷ xs) more none =
-    let parts = or_parts (q x) (list_any q xs) none in
+    let parts = or_parts _ _ none in
     elim (either_way (p x)) [
-      | inl e ↦ both_ways (q x) (more x (inl refl) e) parts.0
-      | inr e ↦ or_both (p x) (list_any p xs) e (any-less p q xs (λ y on. more y (inr on)) parts.1)
+      | inl e ↦ both_ways _ (more x (inl refl) e) parts.0
+      | inr e ↦ or_both _ _ e (any-less p q xs (λ y on. more y (inr on)) parts.1)
     ]
 
 -- ---- tests
 
 -- a test that asks that two others fail
 no_more : (u g a b : Bool) → (u && (not g && not (a || b))) ≡ true → (u && (not g && not a)) ≡ true
-no_more false g a b h = cc
-no_more true true a b h = cc
-no_more true false true b h = cc
-no_more true false false b h = refl
+no_more u g a b h = grind arith
 
 -- a test that asks for two others at its end
 more_asked : (a g l p r s : Bool) → (a && (not g && (not l && (p && (r && s))))) ≡ true → (a && (not g && (not l && (p && r)))) ≡ true
-more_asked false g l p r s h = cc
-more_asked true true l p r s h = cc
-more_asked true false true p r s h = cc
-more_asked true false false false r s h = cc
-more_asked true false false true false s h = cc
-more_asked true false false true true s h = refl
+more_asked a g l p r s h = grind arith
 
 -- what the newborn is among these
 pub record IsNewborn (ms : List Member) (m : Member) : Type 0 where
@@ -58,7 +44,7 @@ module _ (ms : List Member) (m : Member) (newborn : IsNewborn ms m) where
 
   -- it waits for constraints
   not_settled : is_settled m ≡ false
-  not_settled = from m.gone m.released m.constraints newborn.live newborn.asks_nothing
+  not_settled = from _ _ m.constraints newborn.live newborn.asks_nothing
     where
       from : (g r : Bool) (o : Option Demand) → (not g && not r) ≡ true → o ≡ None → (g || (r || is_some o)) ≡ false
       from true r o live none = cc
@@ -72,11 +58,11 @@ module _ (ms : List Member) (m : Member) (newborn : IsNewborn ms m) where
 
   -- some node below another is live, as far as some was
   live_more : (key : NodeKey) → some_live (subtree key more) ≡ (some_live (subtree key ms) || some_live (subtree key (m ∷ [])))
-  live_more key = ap some_live (filter-append (is_under key) ms (m ∷ [])) ∙ list_any-append is_live (subtree key ms) (subtree key (m ∷ []))
+  live_more key = ap some_live (filter-append _ ms _) ∙ list_any-append is_live (subtree key ms) (subtree key (m ∷ []))
 
   -- a unit is ready, as far as it was
   ready_more : (key : NodeKey) → is_ready key more ≡ (is_ready key ms && is_ready key (m ∷ []))
-  ready_more key = ap (list_all is_settled) (filter-append (λ (x : Member). same_key x.head key) ms (m ∷ []))
+  ready_more key = ap (list_all is_settled) (filter-append _ ms _)
       ∙ list_all-append is_settled (unit key ms) (unit key (m ∷ []))
 
   -- the newborn's own unit is not ready
@@ -85,17 +71,17 @@ module _ (ms : List Member) (m : Member) (newborn : IsNewborn ms m) where
 
   -- some strong node is live, as far as some was
   strong_more : some_strong_live more ≡ (some_strong_live ms || some_strong_live (m ∷ []))
-  strong_more = list_any-append (λ (x : Member). is_live x && not x.weak) ms (m ∷ [])
+  strong_more = list_any-append _ ms _
 
   -- a root that is left stays the root
   root_more : root_left more ≡ option_or (root_left ms) (root_left (m ∷ []))
-  root_more = find-append (λ (x : Member). is_root x && not x.gone) ms (m ∷ [])
+  root_more = find-append _ ms _
 
   -- what holds where there is none, and of the newborn if it is a root, holds of the newborn's own root
   newest_root : (P : Option Member → Type 0) → P None → (is_root m ≡ true → P (Some m)) → P (root_left (m ∷ []))
   newest_root P none some =
       (elim (is_root m && not m.gone) as (λ (b : Bool). (is_root m && not m.gone) ≡ b → P (cond b (Some m) None)) [
-        | true ↦ λ e. some (and_left (is_root m) (not m.gone) e)
+        | true ↦ λ e. some (and_left _ _ e)
         | false ↦ λ e. none
       ]) refl
 
@@ -103,40 +89,23 @@ module _ (ms : List Member) (m : Member) (newborn : IsNewborn ms m) where
 
   -- no other is deserted that was not
   deserted_less : (x : Member) → is_deserted more x ≡ true → is_deserted ms x ≡ true
-  deserted_less x h =
-      no_more (is_root x || x.attached) x.gone (some_live (subtree x.key ms)) (some_live (subtree x.key (m ∷ [])))
-      (rw (live_more x.key) at h)
+  deserted_less x h = no_more _ _ _ _ (rw (live_more x.key) at h)
 
   -- nor is the newborn
   not_deserted : is_deserted more m ≡ false
-  not_deserted = rw (live_more m.key, lives_here) (never (is_root m || m.attached) m.gone (some_live (subtree m.key ms)))
-    where
-      never : (u g a : Bool) → (u && (not g && not (a || true))) ≡ false
-      never false g a = refl
-      never true true a = refl
-      never true false true = refl
-      never true false false = refl
+  not_deserted = rw (live_more m.key, lives_here) (simp (or-true, and-false))
 
   -- so none is, where none was
   none_deserted : list_any (is_deserted ms) ms ≡ false → list_any (is_deserted more) more ≡ false
-  none_deserted none =
-      list_any-append (is_deserted more) ms (m ∷ [])
+  none_deserted none = list_any-append (is_deserted more) ms (m ∷ [])
       ∙ or_both (list_any (is_deserted more) ms) (list_any (is_deserted more) (m ∷ []))
-      (any-less (is_deserted more) (is_deserted ms) ms (λ x on. deserted_less x) none)
-      (rw not_deserted refl)
+      (any-less (is_deserted more) (is_deserted ms) ms (λ x on. deserted_less x) none) (rw not_deserted refl)
 
   -- ---- heads of units
 
   -- a node is in an allocated unit as it was, but for the newborn
   allocated_more : (key : NodeKey) → same_key m.key key ≡ false → is_allocated more key ≡ is_allocated ms key
-  allocated_more key other =
-      list_any-append (λ (x : Member). x.allocated && same_key x.key key) ms (m ∷ [])
-      ∙ rw other (no_other (is_allocated ms key) m.allocated)
-    where
-      no_other : (a b : Bool) → (a || ((b && false) || false)) ≡ a
-      no_other true b = refl
-      no_other false true = refl
-      no_other false false = refl
+  allocated_more key other = list_any-append _ ms _ ∙ rw other (simp (and-false, or-false))
 
   -- so is the parent of a node that was there
   parent_more : (x : Member) → In x ms → (o : Option NodeKey) → x.parent ≡ o →
@@ -145,40 +114,26 @@ module _ (ms : List Member) (m : Member) (newborn : IsNewborn ms m) where
   parent_more x on (Some p) is = allocated_more p (from (either_way (same_key m.key p)))
     where
       from : (same_key m.key p ≡ true) ⊎ (same_key m.key p ≡ false) → same_key m.key p ≡ false
-      from (inl e) = absurd (newborn.childless x on (is ∙ ap Some (sym (same_key-true m.key p e))))
+      from (inl e) = absurd (newborn.childless x on (is ∙ ap Some (sym (same_key-true _ p e))))
       from (inr e) = e
 
   -- no other is the next head that was not
   next_less : (x : Member) → In x ms → is_next_head more x ≡ true → is_next_head ms x ≡ true
   next_less x on h =
       more_asked x.attached x.gone x.allocated (option_map_or (is_allocated ms) x.parent false) (is_ready x.key ms)
-      (is_ready x.key (m ∷ []))
-      (rw (parent_more x on x.parent refl, ready_more x.key) at h)
+      (is_ready x.key (m ∷ [])) (rw (parent_more x on _ refl, ready_more x.key) at h)
 
   -- nor is the newborn
   not_next : is_next_head more m ≡ false
-  not_next =
-      elim (either_way m.attached) [
-        | inl e ↦ rw (ready_more m.key, waits_here (newborn.heads (or_right (is_root m) m.attached e)))
-            (never m.attached m.gone m.allocated (option_map_or (is_allocated more) m.parent false) (is_ready m.key ms))
-        | inr e ↦ rw e refl
-      ]
-    where
-      never : (a g l p r : Bool) → (a && (not g && (not l && (p && (r && false))))) ≡ false
-      never false g l p r = refl
-      never true true l p r = refl
-      never true false true p r = refl
-      never true false false false r = refl
-      never true false false true true = refl
-      never true false false true false = refl
+  not_next = elim (either_way m.attached) [
+    | inl e ↦ rw (ready_more m.key, waits_here (newborn.heads (or_right _ _ e))) (simp and-false)
+    | inr e ↦ rw e refl
+  ]
 
   -- so none is, where none was
   none_next : list_any (is_next_head ms) ms ≡ false → list_any (is_next_head more) more ≡ false
-  none_next none =
-      list_any-append (is_next_head more) ms (m ∷ [])
-      ∙ or_both (list_any (is_next_head more) ms) (list_any (is_next_head more) (m ∷ []))
-      (any-less (is_next_head more) (is_next_head ms) ms next_less none)
-      (rw not_next refl)
+  none_next none = list_any-append _ ms _
+      ∙ or_both _ _ (any-less _ _ _ next_less none) (rw not_next refl)
 
 -- the loss of a root that has its buffers, where neither a strong node nor a strong handle keeps them
 abbrev loss_of : Bool → Bool → Member → Option Mark
@@ -200,27 +155,22 @@ module _ (s : Standing) (m : Member) (newborn : IsNewborn s.members m) (rest : A
   -- no node ends
   none_ends : ending with_it ≡ None
   none_ends =
-      let was : find (is_deserted s.members) s.members ≡ None =
-      map-None (λ (top : Member). Ended top.key) (find (is_deserted s.members) s.members) rest.none_ends in
+      let was : find (is_deserted s.members) s.members ≡ None = map-None _ _ rest.none_ends in
       let none : list_any (is_deserted s.members) s.members ≡ false = none-find (is_deserted s.members) s.members was in
       ap (option_map (λ (top : Member). Ended top.key))
-      (find-none (is_deserted with_it.members) with_it.members (none_deserted s.members m newborn none))
+      (find-none (is_deserted with_it.members) with_it.members (none_deserted _ m newborn none))
 
   -- no root is abandoned
   abandons_none : abandoned with_it ≡ None
   abandons_none = rw (root_more s.members m newborn, strong_more s.members m newborn) (from (root_left s.members) rest.none_abandoned)
     where
       less : (l a b o : Bool) (mark : Mark) → when (l && (not a && not o)) mark ≡ None → when (l && (not (a || b) && not o)) mark ≡ None
-      less false a b o mark h = refl
-      less true true b o mark h = refl
-      less true false true o mark h = refl
-      less true false false o mark h = h
+      less l a b o mark h = grind arith
 
       from : (o : Option Member) → option_and_then (loss_of (some_strong_live s.members) s.strong_open) o ≡ None →
           option_and_then (loss_of (some_strong_live s.members || some_strong_live (m ∷ [])) s.strong_open)
           (option_or o (root_left (m ∷ []))) ≡ None
-      from None h =
-          newest_root s.members m newborn
+      from None h = newest_root s.members m newborn
           (λ o. option_and_then (loss_of (some_strong_live s.members || some_strong_live (m ∷ [])) s.strong_open) o ≡ None)
           refl (λ e. rw (newborn.waits e) refl)
       from (Some root) h =
@@ -231,28 +181,20 @@ module _ (s : Standing) (m : Member) (newborn : IsNewborn s.members m) (rest : A
   none_waits = rw (root_more s.members m newborn) (from (root_left s.members) rest.none_waits)
     where
       less : (l a b : Bool) → (not l && a) ≡ false → (not l && (a && b)) ≡ false
-      less true a b h = refl
-      less false false b h = refl
-      less false true b h = cc
-
-      never : (l a : Bool) → (not l && (a && false)) ≡ false
-      never true a = refl
-      never false true = refl
-      never false false = refl
+      less l a b h = grind arith
 
       from : (o : Option Member) → option_map_or (is_due s.members) o false ≡ false →
           option_map_or (is_due with_it.members) (option_or o (root_left (m ∷ []))) false ≡ false
       from None h =
           newest_root s.members m newborn (λ o. option_map_or (is_due with_it.members) o false ≡ false) refl
-          (λ e. rw (ready_more s.members m newborn m.key, waits_here s.members m newborn (newborn.heads (or_left (is_root m) m.attached e)))
-          (never m.allocated (is_ready m.key s.members)))
-      from (Some root) h =
-          rw (ready_more s.members m newborn root.key)
+          (λ e. rw (ready_more s.members m newborn m.key, waits_here s.members m newborn (newborn.heads (or_left _ _ e)))
+          (simp and-false))
+      from (Some root) h = rw (ready_more s.members m newborn root.key)
           (less root.allocated (is_ready root.key s.members) (is_ready root.key (m ∷ [])) h)
 
   -- no attached unit is next
   no_head : logical_allocation with_it ≡ None
-  no_head = from s.buffers rest.no_head
+  no_head = from _ rest.no_head
     where
       from : (o : Option Buffers) →
           option_and_then (λ buffers. option_map (becomes s.members buffers) (find (is_next_head s.members) s.members)) o ≡ None →
@@ -260,11 +202,9 @@ module _ (s : Standing) (m : Member) (newborn : IsNewborn s.members m) (rest : A
           o ≡ None
       from None h = refl
       from (Some buffers) h =
-          let was : find (is_next_head s.members) s.members ≡ None =
-          map-None (becomes s.members buffers) (find (is_next_head s.members) s.members) h in
-          let none : list_any (is_next_head s.members) s.members ≡ false = none-find (is_next_head s.members) s.members was in
+          let was : find (is_next_head s.members) s.members ≡ None = map-None _ _ h in
           ap (option_map (becomes with_it.members buffers))
-          (find-none (is_next_head with_it.members) with_it.members (none_next s.members m newborn none))
+          (find-none _ with_it.members (none_next _ m newborn (none-find _ s.members was)))
 
   -- so the collection rests with the newborn
   pub rests_with : AtRest with_it

@@ -1,11 +1,6 @@
 -- The members of a collection with one more node.
-use Rattle.forest_store.proofs.Common.{◌≡◌, refl, ap, sym, ◌∙◌, false, not, inl, inr, List, [], ◌∷◌, ◌++◌, map, reverse, Some, not-true, filter, list_any, NodeKey, same_key, In, In-map, both_ways, either_way, In-any, Node, is_of, members_of}
-use Rattle.std.proofs.lemmas.List.{map-append, reverse-append}
-use Rattle.std.proofs.lemmas.List.Elements.{filter-append}
-use Rattle.sm_names.specs.Members.{Member}
-use Rattle.sm_names.proofs.ListLaws.{In-filter, map-In}
+use Rattle.forest_store.proofs.Common.{◌≡◌, refl, ap, sym, ◌∙◌, false, not, inl, inr, List, [], ◌∷◌, ◌++◌, map, reverse, Some, not-true, filter, list_any, NodeKey, same_key, In, In-map, both_ways, either_way, In-any, Node, is_of, members_of, map-append, reverse-append, filter-append, Member, In-filter, map-In, above_among, member_of}
 use Rattle.sm_names.proofs.SamenessLaws.{same_key-comm}
-use Rattle.forest_store.specs.Nodes.{above_among, member_of}
 
 -- no node that is not gone has the key as its parent
 abbrev pub HaveOthers : List Node → NodeKey → Type 0
@@ -20,7 +15,7 @@ module _ (nodes : List Node) (b : Node) (fresh : list_any (is_of b.key) nodes �
   other : (n : Node) → In n nodes → same_key b.key n.key ≡ false
   other n on =
       elim (either_way (same_key b.key n.key)) [
-        | inl e ↦ both_ways (list_any (is_of b.key) nodes) (In-any (is_of b.key) nodes n on (same_key-comm b.key n.key e)) fresh
+        | inl e ↦ both_ways _ (In-any _ _ n on (same_key-comm b.key n.key e)) fresh
         | inr e ↦ e
       ]
 
@@ -30,17 +25,14 @@ module _ (nodes : List Node) (b : Node) (fresh : list_any (is_of b.key) nodes �
 
   -- the newborn comes last among those that are left, and the others stay
   pub members_more : b.gone ≡ false → members_of more ≡ members_of nodes ++ member_of more b ∷ []
-  members_more here =
-      ap (map (member_of more)) (filter-append (λ (n : Node). not n.gone) nodes (b ∷ []) ∙ (rw here refl))
+  members_more here = ap (map (member_of more)) (filter-append _ nodes _ ∙ (rw here refl))
       ∙ (map-append (member_of more) (filter (λ (n : Node). not n.gone) nodes) (b ∷ [])
       ∙ ap (λ (ms : List Member). ms ++ member_of more b ∷ [])
-      (map-In (member_of more) (member_of nodes) (filter (λ (n : Node). not n.gone) nodes)
-      (λ n on. let there = In-filter (λ (n : Node). not n.gone) nodes n on in
-      λ i. record (member_of nodes n) { above = above_same n there.0 i })))
+      (map-In _ _ _ (λ n on. λ i. record (member_of nodes n) { above = above_same n (In-filter _ _ n on).0 i })))
 
   -- none of the others is its child
   pub childless : HaveOthers nodes b.key → (m : Member) → In m (members_of nodes) → m.parent ≡ Some b.key → ⊥
   childless others m on up =
-      let from = In-map (member_of nodes) (filter (λ (n : Node). not n.gone) nodes) m on in
-      let left = In-filter (λ (n : Node). not n.gone) nodes from.0 from.1 in
+      let from = In-map _ _ m on in
+      let left = In-filter _ _ _ from.1 in
       others from.0 left.0 (not-true from.0.gone left.1) (sym (ap (λ (x : Member). x.parent) from.2) ∙ up)

@@ -1,26 +1,8 @@
 -- A birth in a collection where nothing else changes with it.
-use Rattle.forest_store.proofs.Common.{◌≡◌, ℕ, ◌+◌, Bool, true, false, ◌||◌, ◌==◌, not, if◌then◌else◌, List, [], ◌∷◌, ◌++◌, map, reverse, Option, Some, None, option_map, refl, sym, ap, subst, ◌∙◌, arith, find, list_any, option_map_or, NodeKey, same_key, both_ways, same_key-refl, In-any, Table, Entry, Node, strong_count, over_except, Collection, Shelf, IsStored, put_shelf, collection_in, forest_of, shelf_of, is_of, reserved_count, collection_or_new, put, are_rooted}
-use Rattle.std.specs.Option.{unwrap_or}
-use Rattle.std.proofs.lemmas.List.{map-append}
-use Rattle.std.proofs.lemmas.List.Folds.{list_any-append}
-use Rattle.sm_names.proofs.ListLaws.{times-append}
-use Rattle.sm_names.proofs.SamenessLaws.{or_both}
-use Rattle.forest_store.specs.Calm.{IsQuiescent, IsCounted}
-use Rattle.forest_store.proofs.leaving.Noted.{not_over_but}
-use Rattle.forest_store.specs.Forest.{all_held}
-use Rattle.forest_store.specs.Shelves.{Bears, born, is_strong}
-use Rattle.forest_store.specs.Settling.{with_birth}
-use Rattle.forest_store.specs.Still.{no_shelf, shelf_before, shelf_with}
-use Rattle.forest_store.proofs.changes.Altering.{shelf_by}
-use Rattle.forest_store.proofs.newborns.NothingForced.{HaveOthers}
-use Rattle.forest_store.proofs.newborns.Calmness.{births_calm}
+use Rattle.forest_store.proofs.Common.{◌≡◌, ℕ, ◌+◌, Bool, true, false, ◌||◌, ◌==◌, not, if◌then◌else◌, List, [], ◌∷◌, ◌++◌, map, reverse, Option, Some, None, option_map, refl, sym, ap, subst, ◌∙◌, arith, find, list_any, option_map_or, NodeKey, same_key, both_ways, same_key-refl, In-any, Table, Entry, Node, strong_count, over_except, Collection, Shelf, IsStored, put_shelf, collection_in, forest_of, shelf_of, is_of, reserved_count, collection_or_new, put, are_rooted, unwrap_or, map-append, list_any-append, times-append, or_both, IsQuiescent, IsCounted, all_held, Bears, born, is_strong, with_birth, no_shelf, shelf_before, shelf_with}
 use Rattle.forest_store.proofs.newborns.Forest.{still_collections}
-use Rattle.forest_store.proofs.tallies.Reserved.{reserved_append, reserved_one}
-use Rattle.forest_store.proofs.changes.Finishing.{keys_in, looked-keys}
 use Rattle.forest_store.proofs.newborns.Newborn.{Above, before_is, born_collection, born_fresh, born_held, born_here, born_is, born_kept, born_shown, key_is}
-use Rattle.forest_store.proofs.shelves.Putting.{put-map}
-use Rattle.forest_store.proofs.tables.Rooted.{left_node, left_parent}
-use Rattle.forest_store.proofs.shelves.Showing.{collection_is, filed_found}
+use Rattle.forest_store.proofs.Basics.{not_over_but, shelf_by, HaveOthers, births_calm, reserved_append, reserved_one, keys_in, looked-keys, put-map, left_node, left_parent, collection_is, filed_found}
 
 -- ---- parents
 
@@ -28,8 +10,8 @@ use Rattle.forest_store.proofs.shelves.Showing.{collection_is, filed_found}
 no_children : (nodes : List Node) (key : NodeKey) → are_rooted (reverse nodes) ≡ true → list_any (is_of key) nodes ≡ false →
     HaveOthers nodes key
 no_children nodes key rooted fresh n on here up =
-    let x = left_node nodes key (left_parent nodes rooted n key on here up) in
-    both_ways (list_any (is_of key) nodes) (In-any (is_of key) nodes x.node x.on (ap (λ (k : NodeKey). same_key k key) x.is
+    let x = left_node _ _ (left_parent _ rooted n _ on here up) in
+    both_ways _ (In-any _ _ _ x.on (ap (λ (k : NodeKey). same_key k key) x.is
     ∙ same_key-refl key)) fresh
 
 -- ---- the birth
@@ -48,39 +30,37 @@ module _ (t now : Table Node) (ss : List Shelf) (ok : IsStored t ss) (id : ℕ) 
     after = with_birth parent attached client event key c0
 
     pub grown_is : after ≡ record c0 { nodes = c0.nodes ++ node ∷ [] }
-    grown_is = born_is t now ss ok id parent attached client event above at key bears
+    grown_is = born_is t now ss ok id parent _ client event above at key bears
 
     own : node.key ≡ key
-    own = key_is t now ss ok id parent attached client event above at key bears
+    own = key_is t now ss ok id parent _ client event above at key bears
 
     fresh : list_any (is_of key) c0.nodes ≡ false
-    fresh = subst (λ (k : NodeKey). list_any (is_of k) c0.nodes ≡ false) own (born_fresh t now ss ok id parent attached client event above at
-        key bears)
+    fresh = rw (← own) (born_fresh t now ss ok id parent _ client event above at key bears)
 
     others : HaveOthers c0.nodes key
-    others = no_children c0.nodes key (before_is t ss ok id).whole.rooted fresh
+    others = no_children _ _ (before_is t _ ok id).whole.rooted fresh
 
     -- the collection is as calm as it was
     pub calm_after : IsQuiescent (collection_or_new (forest_of t ss) id) → IsQuiescent after
-    calm_after calm = births_calm c0 calm parent attached client event key fresh others
+    calm_after calm = births_calm _ calm parent _ client event _ fresh others
 
     -- the shelf that showed the collection
     before_shelf : shelf_by c0 ≡ shelf_before id ss
     before_shelf =
         ap (λ (o : Option Collection). shelf_by (unwrap_or o (record { id = id; nodes = []; buffers = None; held = [] })))
         (collection_is t id ss)
-        ∙ from (find (λ (s : Shelf). s.id == id) ss) refl
+        ∙ from _ refl
       where
         from : (o : Option Shelf) → find (λ (s : Shelf). s.id == id) ss ≡ o →
             shelf_by (unwrap_or (option_map (collection_in t) o) (record { id = id; nodes = []; buffers = None; held = [] })) ≡ unwrap_or o
             (no_shelf id)
         from None found = refl
-        from (Some s) found = λ i. record s { keys = looked-keys t s.id ok.named s.keys (filed_found t id ss ok.filed s found) i }
+        from (Some s) found = λ i. record s { keys = looked-keys t _ ok.named _ (filed_found t _ ss ok.filed s found) i }
 
     -- with the key behind it shows the collection with the node
     shelf_is : shelf_with (shelf_before id ss) key ≡ shelf_by (born_collection t now ss ok id parent attached client event above at key bears)
-    shelf_is =
-        ap (λ (s : Shelf). shelf_with s key) (sym before_shelf)
+    shelf_is = ap (λ (s : Shelf). shelf_with s key) (sym before_shelf)
         ∙ λ i. record {
           id = c0.id;
           keys = sym (map-append (λ (n : Node). n.key) c0.nodes (node ∷ []) ∙ ap (λ (k : NodeKey). keys_in c0.nodes ++ k ∷ []) own) i;
@@ -92,11 +72,8 @@ module _ (t now : Table Node) (ss : List Shelf) (ok : IsStored t ss) (id : ℕ) 
     strong_more : (up : Option Node) → strong_count (born up attached id event client key ∷ []) ≡ (if option_map_or (λ (n : Node).
         n.weak) up false then 0 else 1)
     strong_more None = refl
-    strong_more (Some up) = from up.weak
-      where
-        from : (b : Bool) → (if not b then 0 + 1 else 0) ≡ (if b then 0 else 1)
-        from true = refl
-        from false = refl
+    strong_more (Some up) =
+        elim up.weak as (λ (b : Bool). (if not b then 0 + 1 else 0) ≡ (if b then 0 else 1)) [ true ↦ refl | false ↦ refl ]
 
     -- it camps on nothing
     reserved_more : reserved_count c0.nodes ≡ reserved_count (c0.nodes ++ node ∷ [])
@@ -115,8 +92,8 @@ module _ (t now : Table Node) (ss : List Shelf) (ok : IsStored t ss) (id : ℕ) 
         e.reserved ≡ reserved_count c0.nodes →
         (e.garbage_known ≡ true → list_any (over_except e.garbage.items) c0.nodes ≡ false) → IsCounted now e
     counted_born calm e is strong reserved garbage_known =
-        let shown : collection_in now (shelf_of e) ≡ born_collection t now ss ok id parent attached client event above at key bears =
-        ap (collection_in now) (is ∙ shelf_is) ∙ born_shown t now ss ok id parent attached client event above at key bears in
+        let shown : collection_in now (shelf_of e) ≡ born_collection t now ss ok id parent _ client event above at key bears =
+        ap (collection_in now) (is ∙ shelf_is) ∙ born_shown t now ss ok id parent _ client event above at key bears in
         record {
           calm = subst IsQuiescent (sym (shown ∙ sym grown_is)) (calm_after calm);
           strong = strong ∙ ap (λ (n : ℕ). strong_count c0.nodes + n) (sym (strong_more above))
@@ -124,7 +101,7 @@ module _ (t now : Table Node) (ss : List Shelf) (ok : IsStored t ss) (id : ℕ) 
           reserved = reserved ∙ reserved_more ∙ ap (λ (c : Collection). reserved_count c.nodes) (sym shown);
           garbage_known = λ h. ap (λ (c : Collection). list_any (over_except e.garbage.items) c.nodes) shown
               ∙ list_any-append (over_except e.garbage.items) c0.nodes (node ∷ [])
-              ∙ or_both (list_any (over_except e.garbage.items) c0.nodes) _ (garbage_known h)
+              ∙ or_both _ _ (garbage_known h)
               (ap (λ (b : Bool). b || false) (not_over_but e.garbage.items node (rw (born_here above attached id event client key) refl)));
         }
 
@@ -137,15 +114,15 @@ module _ (t now : Table Node) (ss : List Shelf) (ok : IsStored t ss) (id : ℕ) 
       pub behind_shown : map (collection_in now) behind ≡ put (born_collection t now ss ok id parent attached client event above at key bears)
           (map (collection_in t) ss)
       behind_shown = ap (map (collection_in now)) behind_is
-          ∙ put-map now (shelf_by (born_collection t now ss ok id parent attached client event above at key bears)) ss
-          ∙ (λ i. put (born_shown t now ss ok id parent attached client event above at key bears i) (still_collections t now node bears ss
+          ∙ put-map now _ ss
+          ∙ (λ i. put (born_shown t now ss ok id parent _ client event above at key bears i) (still_collections t now node bears ss
           ok.filed i))
 
       -- all that holds of forests holds
       pub quiet_kept : IsStored now behind
-      quiet_kept = subst (IsStored now) (sym behind_is) (born_kept t now ss ok id parent attached client event above at key bears)
+      quiet_kept = subst (IsStored now) (sym behind_is) (born_kept t now ss ok id parent _ client event above at key bears)
 
       -- the pages stay
       pub quiet_held : all_held (forest_of now behind) ≡ all_held (forest_of t ss)
       quiet_held = ap (λ (b : List Shelf). all_held (forest_of now b)) behind_is
-          ∙ born_held t now ss ok id parent attached client event above at key bears
+          ∙ born_held t now ss ok id parent _ client event above at key bears

@@ -1,24 +1,9 @@
 -- The counts of units, once a node is born and counted.
-use Rattle.forest_store.proofs.Common.{◌≡◌, ◌≢◌, ℕ, ◌+◌, ◌<◌, ◌≤◌, ◌==◌, nat_lt, Bool, true, false, if◌then◌else◌, List, [], ◌∷◌, ◌++◌, map, length, reverse, set, Option, Some, None, refl, sym, ap, subst, ◌∙◌, ◌⊎◌, inl, inr, arith, eqb-true, cons_option, list_all, list_any, NodeKey, same_key, times, In, In-find, both_ways, either_way, same_key-refl, In-any, Table, node_at, Node, Unit, AreUnits, lives_in, unit_at, waits_in, Collection, IsStored, IsWhole, Shelf, all_keys, collection_in, forest_of, is_filed, nodes_with, put_shelf, is_of, are_distinct, collection_or_new, put, are_rooted}
-use Rattle.std.proofs.lemmas.List.{get_or-set_other, get_or-set_same, length-append, length-set}
-use Rattle.std.specs.Option.{unwrap_or}
-use Rattle.sm_names.proofs.ListLaws.{In-append, times-append, times-le-length, times-zero}
-use Rattle.node_table.specs.Table.{table_len}
-use Rattle.forest_store.specs.Counts.{AreUnitsExcept, HasUnit, HasUnits, head_above, heads_below, no_unit, reckoned, tallied, unit_of}
-use Rattle.forest_store.specs.Forest.{collection_at}
-use Rattle.forest_store.specs.Shelves.{Bears, born}
-use Rattle.forest_store.specs.Still.{shelf_before, shelf_with}
-use Rattle.forest_store.proofs.changes.Altering.{looked-of, shelf_by}
-use Rattle.forest_store.proofs.tables.Hanging.{all_in, in_all, looked_there}
-use Rattle.forest_store.proofs.tallies.Holding.{head_there}
-use Rattle.forest_store.proofs.tallies.Hung.{above_node, hung_hangs, hung_is, hung_long, hung_other, is_above, is_hung}
+use Rattle.forest_store.proofs.Common.{◌≡◌, ◌≢◌, ℕ, ◌+◌, ◌<◌, ◌≤◌, Bool, true, false, if◌then◌else◌, List, [], ◌∷◌, ◌++◌, map, length, reverse, set, Option, Some, None, refl, sym, ap, subst, ◌∙◌, ◌⊎◌, inl, inr, arith, eqb-true, cons_option, list_all, list_any, NodeKey, same_key, times, In, In-find, both_ways, either_way, same_key-refl, In-any, Table, node_at, Node, Unit, AreUnits, lives_in, unit_at, waits_in, Collection, IsStored, IsWhole, Shelf, all_keys, collection_in, forest_of, is_filed, nodes_with, put_shelf, is_of, are_distinct, collection_or_new, put, are_rooted, get_or-set_other, get_or-set_same, length-append, length-set, unwrap_or, In-append, times-append, times-le-length, times-zero, table_len, AreUnitsExcept, HasUnit, HasUnits, head_above, heads_below, no_unit, reckoned, tallied, unit_of, collection_at, Bears, born, shelf_before, shelf_with}
 use Rattle.forest_store.proofs.newborns.Newborn.{Above, IsBefore, before_is, born_collection, born_fresh, born_here, born_shown, key_is}
 use Rattle.forest_store.proofs.newborns.Quiet.{behind_is, behind_shown, quiet_kept}
-use Rattle.forest_store.proofs.tallies.Reckoning.{lives_gone, lives_other, tallied_adds, tallied_long, tallied_other, waits_gone, waits_other}
-use Rattle.forest_store.proofs.shelves.Showing.{filed-length}
 use Rattle.forest_store.proofs.tallies.Slots.{Stays, all_at, but_put, one_slot, units_own}
-use Rattle.forest_store.proofs.tallies.Untold.{times_same}
-use Rattle.forest_store.proofs.quiescence.Steps.{all-In}
+use Rattle.forest_store.proofs.Basics.{looked-of, shelf_by, all_in, in_all, looked_there, head_there, above_node, hung_hangs, hung_is, hung_long, hung_other, is_above, is_hung, lives_gone, lives_other, tallied_adds, tallied_long, tallied_other, waits_gone, waits_other, filed-length, times_same, all-In}
 
 -- the table has the old nodes of the collection and the one that was born, and the others have their counts
 module _ (t : Table Node) (ss : List Shelf) (kept : IsStored t ss) (id : ℕ) (s : Shelf) (on : In s ss) (own : s.id ≡ id) (old : List Node)
@@ -47,11 +32,11 @@ module _ (t : Table Node) (ss : List Shelf) (kept : IsStored t ss) (id : ℕ) (s
 
   -- each collection is whole
   whole : IsWhole (collection_in t s)
-  whole = all_at (λ (x : Shelf). IsWhole (collection_in t x)) ss kept.whole s on
+  whole = all_at _ _ kept.whole s on
 
   -- each node stands in the table under its key
   at : (n : Node) → In n nodes → node_at t n.key ≡ Some n
-  at n there = in_all (λ (m : Node). node_at t m.key ≡ Some m) nodes (looked_there t kept.named s.keys) n there
+  at n there = in_all _ _ (looked_there t kept.named s.keys) n there
 
   -- the new node is the last
   born_on : In node nodes
@@ -63,7 +48,7 @@ module _ (t : Table Node) (ss : List Shelf) (kept : IsStored t ss) (id : ℕ) (s
 
   -- the older nodes stand before it
   was_old : (n : Node) → In n old → In n nodes
-  was_old n there = subst (In n) (sym grown) (In-front old there)
+  was_old n there = subst (In n) (sym grown) (In-front _ there)
     where
       In-front : (ns : List Node) → In n ns → In n (ns ++ node ∷ [])
       In-front [] there = absurd there
@@ -72,11 +57,11 @@ module _ (t : Table Node) (ss : List Shelf) (kept : IsStored t ss) (id : ℕ) (s
 
   -- the head of the new node's unit is there
   head : (h : Node) × In h nodes × (h.key ≡ node.head)
-  head = let h = head_there nodes whole.sound.distinct whole.sound.heads whole.rooted whole.united node born_on here in (h.0, h.1, h.2)
+  head = let h = head_there _ whole.sound.distinct whole.sound.heads whole.rooted whole.united _ born_on here in (h.0, h.1, h.2)
 
   -- it stands in the table under its key
   head_at : node_at t node.head ≡ Some head.0
-  head_at = ap (node_at t) (sym head.2) ∙ at head.0 head.1
+  head_at = ap (node_at t) (sym head.2) ∙ at _ head.1
 
   -- no old node is of its unit, if it heads one
   none_counted : (n : Node) → In n old → (lives_in node.key n ≡ false) × (waits_in node.key n ≡ false)
@@ -94,35 +79,35 @@ module _ (t : Table Node) (ss : List Shelf) (kept : IsStored t ss) (id : ℕ) (s
 
   -- nor does one hang right below that
   none_hung : (n : Node) → In n old → is_hung t node.key n ≡ false
-  none_hung n there = from (head_above t n) refl
+  none_hung n there = from _ refl
     where
       from : (o : Option NodeKey) → head_above t n ≡ o → is_above node.key o ≡ false
       from None is = refl
       from (Some h) is =
-          let x = above_node t old distinct rooted (λ m on. at m (was_old m on)) n there h is in
+          let x = above_node t _ distinct rooted (λ m on. at m (was_old m on)) n there h is in
           let a = olds x.0 x.1 x.2 in
           elim (either_way (same_key h node.key)) [
-            | inl d ↦ both_ways (list_any (is_of node.key) old)
-                (In-any (is_of node.key) old a.0 a.1 (ap (λ (k : NodeKey). same_key k node.key) (a.2 ∙ x.3) ∙ d)) fresh
+            | inl d ↦ both_ways _
+                (In-any _ _ _ a.1 (ap (λ (k : NodeKey). same_key k node.key) (a.2 ∙ x.3) ∙ d)) fresh
             | inr d ↦ d
           ]
 
   -- how many hang right below a unit of the old nodes
   below_old : (k : NodeKey) → times (is_hung t k) old ≡ times (heads_below old k) old
-  below_old k = times_same (is_hung t k) (heads_below old k) old (hung_is t old distinct rooted (λ m on. at m (was_old m on)) k)
+  below_old k = times_same _ _ _ (hung_is t _ distinct rooted (λ m on. at m (was_old m on)) k)
 
   -- the head of the unit right above the one that the node heads
   above_of : (m : Node) → In m nodes → (h : NodeKey) → head_above t m ≡ Some h → (a : Node) × In a nodes × (a.key ≡ h)
   above_of m there h is =
-      let x = above_node t nodes whole.sound.distinct whole.rooted at m there h is in
-      let a = head_there nodes whole.sound.distinct whole.sound.heads whole.rooted whole.united x.0 x.1 x.2 in
+      let x = above_node t _ whole.sound.distinct whole.rooted at m there h is in
+      let a = head_there _ whole.sound.distinct whole.sound.heads whole.rooted whole.united _ x.1 x.2 in
       (a.0, a.1, a.2 ∙ x.3)
 
   -- an old node has another slot
   old_slot : (n : Node) → In n old → n.key.slot ≢ node.key.slot
   old_slot n there slots =
-      let same : n.key ≡ node.key = one_slot t n.key node.key n node (at n (was_old n there)) (at node born_on) slots in
-      both_ways (list_any (is_of node.key) old) (In-any (is_of node.key) old n there (ap (λ (k : NodeKey). same_key k node.key) same
+      let same : n.key ≡ node.key = one_slot t _ _ n _ (at n (was_old n there)) (at _ born_on) slots in
+      both_ways _ (In-any _ _ n there (ap (λ (k : NodeKey). same_key k node.key) same
       ∙ same_key-refl node.key)) fresh
 
   -- counting keeps the length
@@ -131,11 +116,11 @@ module _ (t : Table Node) (ss : List Shelf) (kept : IsStored t ss) (id : ℕ) (s
 
   -- the slot of each node's key is in the list
   slot_in : (n : Node) → In n nodes → n.key.slot < length us1
-  slot_in n there = subst (λ (l : ℕ). n.key.slot < l) (sym long1) (by_place (In-append old (node ∷ []) n (subst (In n) grown there)))
+  slot_in n there = rw long1 (by_place (In-append _ _ n (subst (In n) grown there)))
     where
       by_place : In n old ⊎ In n (node ∷ []) → n.key.slot < length us
-      by_place (inl o) = (in_all (HasUnit us old) old has n o).0
-      by_place (inr (inl is)) = subst (λ (m : Node). m.key.slot < length us) (sym is) own_inside
+      by_place (inl o) = (in_all _ _ has n o).0
+      by_place (inr (inl is)) = rw is own_inside
       by_place (inr (inr none)) = absurd none
 
   -- what each slot had before the node was counted
@@ -148,17 +133,15 @@ module _ (t : Table Node) (ss : List Shelf) (kept : IsStored t ss) (id : ℕ) (s
     where
       last : In n (node ∷ []) → unit_at us1 n.key.slot ≡ unit_of old n.key
       last (inl is) =
-          let l : times (lives_in node.key) old ≡ 0 = times-zero (lives_in node.key) old (λ m o. (none_counted m o).0) in
-          let w : times (waits_in node.key) old ≡ 0 = times-zero (waits_in node.key) old (λ m o. (none_counted m o).1) in
-          let b : times (heads_below old node.key) old ≡ 0 =
-          sym (below_old node.key) ∙ times-zero (is_hung t node.key) old none_hung in
-          subst (λ (m : Node). unit_at us1 m.key.slot ≡ unit_of old m.key) (sym is)
-          (get_or-set_same us node.key.slot no_unit no_unit own_inside ∙ (λ i. record { live = sym l i; unready = sym w i; below = sym b i }))
+          let l : times (lives_in node.key) old ≡ 0 = times-zero _ _ (λ m o. (none_counted m o).0) in
+          let w : times (waits_in node.key) old ≡ 0 = times-zero _ _ (λ m o. (none_counted m o).1) in
+          let b : times (heads_below old node.key) old ≡ 0 = sym (below_old _) ∙ times-zero _ _ none_hung in
+          rw is (get_or-set_same us node.key.slot no_unit no_unit own_inside ∙ (λ i. record { live = sym l i; unready = sym w i; below = sym b i }))
       last (inr none) = absurd none
 
   -- the slot of each head has its old counts and those of the new node
   has_new : HasUnits new nodes
-  has_new = all_in (HasUnit new nodes) nodes (λ n there.
+  has_new = all_in _ _ (λ n there.
       let inside = slot_in n there in
       let was = before n there in
       let l0 : (unit_at us1 n.key.slot).live ≡ times (lives_in n.key) old = ap (λ (u : Unit). u.live) was in
@@ -170,9 +153,6 @@ module _ (t : Table Node) (ss : List Shelf) (kept : IsStored t ss) (id : ℕ) (s
       let w1 = times-le-length (waits_in n.key) old in
       let count : length nodes ≡ length old + 1 = ap length grown ∙ long_more old in
       let adds = tallied_adds (node ∷ []) us1 n.key inside (head_of n there) (omega arith) (omega arith) in
-      let a = adds.live in
-      let b = adds.unready in
-      let d = adds.below in
       let hangs = hung_hangs t (node ∷ []) own_new n.key (omega arith) (above_at n there) (omega arith) in
       let e = hangs.live in
       let f = hangs.unready in
@@ -180,20 +160,17 @@ module _ (t : Table Node) (ss : List Shelf) (kept : IsStored t ss) (id : ℕ) (s
       let told : times (is_hung t n.key) nodes ≡ times (heads_below nodes n.key) nodes =
       times_same (is_hung t n.key) (heads_below nodes n.key) nodes (hung_is t nodes whole.sound.distinct whole.rooted at n.key) in
       let before_told = below_old n.key in
-      let h2 : times (is_hung t n.key) nodes ≡ times (is_hung t n.key) old + times (is_hung t n.key) (node ∷ []) =
-      ap (times (is_hung t n.key)) grown ∙ times-append (is_hung t n.key) old (node ∷ []) in
-      let l2 : times (lives_in n.key) nodes ≡ times (lives_in n.key) old + times (lives_in n.key) (node ∷ []) =
-      ap (times (lives_in n.key)) grown ∙ times-append (lives_in n.key) old (node ∷ []) in
-      let w2 : times (waits_in n.key) nodes ≡ times (waits_in n.key) old + times (waits_in n.key) (node ∷ []) =
-      ap (times (waits_in n.key)) grown ∙ times-append (waits_in n.key) old (node ∷ []) in
+      let h2 = ap (times (is_hung t n.key)) grown ∙ times-append (is_hung t n.key) old (node ∷ []) in
+      let l2 = ap (times (lives_in n.key)) grown ∙ times-append (lives_in n.key) old (node ∷ []) in
+      let w2 = ap (times (waits_in n.key)) grown ∙ times-append (waits_in n.key) old (node ∷ []) in
       let l : (unit_at new n.key.slot).live ≡ times (lives_in n.key) nodes = omega arith in
       let w : (unit_at new n.key.slot).unready ≡ times (waits_in n.key) nodes = omega arith in
       let h : (unit_at new n.key.slot).below ≡ times (heads_below nodes n.key) nodes = omega arith in
-      (subst (λ (m : ℕ). n.key.slot < m) (sym long) inside, λ i. record { live = l i; unready = w i; below = h i }))
+      (rw long inside, λ i. record { live = l i; unready = w i; below = h i }))
     where
       long_more : (ns : List Node) → length (ns ++ node ∷ []) ≡ length ns + 1
       long_more [] = refl
-      long_more (n ∷ ns) = let on = long_more ns in omega arith
+      long_more (n ∷ ns) = omega (arith, long_more ns)
 
       head_of : (n : Node) → In n nodes → (m : Node) → In m (node ∷ []) → m.gone ≡ false → m.head.slot ≡ n.key.slot → m.head ≡ n.key
       head_of n there m (inl is) stays slots =
@@ -205,7 +182,7 @@ module _ (t : Table Node) (ss : List Shelf) (kept : IsStored t ss) (id : ℕ) (s
       above_at : (n : Node) → In n nodes → (m : Node) → In m (node ∷ []) → (h : NodeKey) → head_above t m ≡ Some h →
           h.slot ≡ n.key.slot → h ≡ n.key
       above_at n there m (inl is) h above slots =
-          let x = above_of m (subst (λ (y : Node). In y nodes) (sym is) born_on) h above in
+          let x = above_of m (rw is born_on) h above in
           one_slot t h n.key x.0 n (ap (node_at t) (sym x.2) ∙ at x.0 x.1) (at n there) slots
       above_at n there m (inr none) h above slots = absurd none
 
@@ -213,38 +190,37 @@ module _ (t : Table Node) (ss : List Shelf) (kept : IsStored t ss) (id : ℕ) (s
   stays_new : Stays t id us new
   stays_new k n is differ within =
       let long_too : length us ≡ length new = sym (long ∙ long1) in (
-        subst (λ (l : ℕ). k.slot < l) long_too within,
-        hung_other t (node ∷ []) own_new k.slot aboves ∙ tallied_other (node ∷ []) us1 k.slot heads
-            ∙ get_or-set_other us node.key.slot k.slot no_unit no_unit (apart node.key node (at node born_on) (of node born_on)),
+        rw (← long_too) within,
+        hung_other t (node ∷ []) own_new _ aboves ∙ tallied_other (node ∷ []) us1 _ heads
+            ∙ get_or-set_other us node.key.slot k.slot no_unit no_unit (apart _ _ (at _ born_on) (of node born_on)),
       )
     where
       apart : (j : NodeKey) (m : Node) → node_at t j ≡ Some m → m.collection ≡ id → k.slot ≢ j.slot
       apart j m found owned slots =
           let same : k ≡ j = one_slot t k j n m is found slots in
-          let both : Some n ≡ Some m = sym is ∙ (ap (node_at t) same ∙ found) in
           let one : n ≡ m = cc in
           differ (ap (λ (y : Node). y.collection) one ∙ owned)
 
       heads : (m : Node) → In m (node ∷ []) → m.gone ≡ false → m.head.slot ≢ k.slot
-      heads m (inl e) stays slots = apart node.head head.0 head_at (of head.0 head.1) (sym slots ∙ ap (λ (y : Node). y.head.slot) e)
+      heads m (inl e) stays slots = apart _ _ head_at (of head.0 head.1) (sym slots ∙ ap (λ (y : Node). y.head.slot) e)
       heads m (inr none) stays slots = absurd none
 
       aboves : (m : Node) → In m (node ∷ []) → (h : NodeKey) → head_above t m ≡ Some h → h.slot ≢ k.slot
       aboves m (inl e) h above slots =
-          let x = above_of m (subst (λ (y : Node). In y nodes) (sym e) born_on) h above in
-          apart h x.0 (ap (node_at t) (sym x.2) ∙ at x.0 x.1) (of x.0 x.1) (sym slots)
+          let x = above_of m (rw e born_on) h above in
+          apart h _ (ap (node_at t) (sym x.2) ∙ at _ x.1) (of x.0 x.1) (sym slots)
       aboves m (inr none) h above slots = absurd none
 
   -- so all have their counts
   pub born_units : AreUnits new (map (collection_in t) ss)
-  born_units = units_own t ss kept id us new stays_new but s on own has_new
+  born_units = units_own t _ kept _ _ _ stays_new but s on own has_new
 
 -- ---- a birth where nothing else changes
 
 -- a shelf that is put among others is one of them
 in_put_shelf : (s : Shelf) (ss : List Shelf) → In s (put_shelf s ss)
 in_put_shelf s [] = inl refl
-in_put_shelf s (x ∷ xs) = from (x.id == s.id) (nat_lt s.id x.id) (in_put_shelf s xs)
+in_put_shelf s (x ∷ xs) = from _ _ (in_put_shelf s xs)
   where
     from : (here above : Bool) → In s (put_shelf s xs) → In s (if here then s ∷ xs else (if above then s ∷ x ∷ xs else x ∷ put_shelf s xs))
     from true above on = inl refl
@@ -255,18 +231,13 @@ in_put_shelf s (x ∷ xs) = from (x.id == s.id) (nat_lt s.id x.id) (in_put_shelf
 keys_fewer : (s : Shelf) (ss : List Shelf) → In s ss → length s.keys ≤ length (all_keys ss)
 keys_fewer s [] on = absurd on
 keys_fewer s (x ∷ xs) (inl is) =
-    let a = length-append x.keys (all_keys xs) in
     let b : length s.keys ≡ length x.keys = ap (λ (y : Shelf). length y.keys) is in
-    omega arith
-keys_fewer s (x ∷ xs) (inr on) =
-    let a = length-append x.keys (all_keys xs) in
-    let b = keys_fewer s xs on in
-    omega arith
+    omega (arith, length-append x.keys (all_keys xs))
+keys_fewer s (x ∷ xs) (inr on) = omega (arith, length-append x.keys (all_keys xs), keys_fewer s xs on)
 
 module _ (t now : Table Node) (ss : List Shelf) (ok : IsStored t ss) (id : ℕ) (parent : Option NodeKey) (attached : Bool) (client event : ℕ)
     (above : Option Node) (up : Above t ss id parent above) (key : NodeKey) (bears : Bears t now (born above attached id event client key))
-    (behind : List Shelf)
-    (placed : behind ≡ put_shelf (shelf_with (shelf_before id ss) key) ss) where
+    (behind : List Shelf) (placed : behind ≡ put_shelf (shelf_with (shelf_before id ss) key) ss) where
   abbrev c0 : Collection
   c0 = collection_or_new (forest_of t ss) id
 
@@ -278,47 +249,44 @@ module _ (t now : Table Node) (ss : List Shelf) (ok : IsStored t ss) (id : ℕ) 
 
   -- the collection before the birth, with what holds of it
   before_it : IsBefore t ss id c0
-  before_it = before_is t ss ok id
+  before_it = before_is t _ ok id
 
   -- a birth of which nothing follows keeps the store
   kept_now : IsStored now behind
-  kept_now = quiet_kept t now ss ok id parent attached client event above up key bears behind placed
+  kept_now = quiet_kept t now _ ok _ parent _ client event above up _ bears _ placed
 
   -- the shelf that was put is among them
   shelf_on : In (shelf_by with_it) behind
-  shelf_on = subst (In (shelf_by with_it)) (sym (behind_is t now ss ok id parent attached client event above up key bears
-      behind placed)) (in_put_shelf (shelf_by with_it) ss)
+  shelf_on = subst (In (shelf_by with_it)) (sym (behind_is t now _ ok _ parent _ client event above up _ bears
+      _ placed)) (in_put_shelf _ ss)
 
   -- the shelf shows the old nodes and the child
   shown_nodes : nodes_with now (shelf_by with_it).keys ≡ c0.nodes ++ child ∷ []
-  shown_nodes = ap (λ (c : Collection). c.nodes) (born_shown t now ss ok id parent attached client event above up key bears)
+  shown_nodes = ap (λ (c : Collection). c.nodes) (born_shown t now ss ok id parent _ client event above up key bears)
 
   -- each key of each shelf is filed
   filed_keys : list_all (is_filed now (shelf_by with_it).id) (shelf_by with_it).keys ≡ true
-  filed_keys = all-In (λ (x : Shelf). list_all (is_filed now x.id) x.keys) behind (shelf_by with_it) shelf_on kept_now.filed
+  filed_keys = all-In _ _ _ shelf_on kept_now.filed
 
   -- the new key has the new node
   found_key : node_at now key ≡ Some child
-  found_key = bears.look key ∙ (rw (ap (λ (k : NodeKey). same_key k key) (key_is t now ss ok id parent attached client event above up key
+  found_key = bears.look key ∙ (rw (ap (λ (k : NodeKey). same_key k key) (key_is t now ss ok id parent _ client event above up key
       bears) ∙ same_key-refl key) refl)
 
   -- the collection that is found has its counts; a new one has no node
   had : (us : List Unit) → AreUnits us (map (collection_in t) ss) → HasUnits us c0.nodes
-  had us all = from (collection_at (forest_of t ss) id) refl
+  had us all = from _ refl
     where
       from : (o : Option Collection) → collection_at (forest_of t ss) id ≡ o →
           HasUnits us (unwrap_or o (record { id = id; nodes = []; buffers = None; held = [] })).nodes
       from None is = tt
-      from (Some c) is = all_at (λ (d : Collection). HasUnits us d.nodes) (map (collection_in t) ss) all c (In-find (λ (d : Collection).
-          d.id == id) (map (collection_in t) ss) c is).0
+      from (Some c) is = all_at _ _ all c (In-find _ _ c is).0
 
   -- no list of keys is longer than the table
   few_nodes : table_len now ≤ 18446744073709551615 → length (nodes_with now (shelf_by with_it).keys) ≤ 18446744073709551615
   few_nodes few =
       let a = filed-length now (shelf_by with_it).id (shelf_by with_it).keys filed_keys in
-      let b = keys_fewer (shelf_by with_it) behind shelf_on in
-      let d = kept_now.counted in
-      omega arith
+      omega (arith, keys_fewer (shelf_by with_it) behind shelf_on, kept_now.counted)
 
   -- all have their counts, once the slot of the node is started and the node counted
   pub newborn_units : (us : List Unit) → AreUnits us (map (collection_in t) ss) → key.slot < length us →
@@ -326,22 +294,19 @@ module _ (t now : Table Node) (ss : List Shelf) (ok : IsStored t ss) (id : ℕ) 
       AreUnits (reckoned now (nodes_with now (key ∷ [])) (set us key.slot no_unit)) (map (collection_in now) behind)
   newborn_units us all inside few =
       let own : c0.id ≡ id = before_it.id_is in
-      let named : child.key ≡ key = key_is t now ss ok id parent attached client event above up key bears in
+      let named : child.key ≡ key = key_is t now ss ok id parent _ client event above up key bears in
       let one : nodes_with now (key ∷ []) ≡ child ∷ [] = ap (λ (o : Option Node). cons_option o []) found_key in
       let but : AreUnitsExcept us id (map (collection_in now) behind) =
-      subst (AreUnitsExcept us id) (sym (behind_shown t now ss ok id parent attached client event above up key bears behind
-      placed))
-      (subst (λ (i : ℕ). AreUnitsExcept us i (put with_it (map (collection_in t) ss))) own (but_put us with_it (map (collection_in t) ss)
+      subst (AreUnitsExcept us id) (sym (behind_shown t now _ ok _ parent _ client event above up _ bears _ placed))
+      (subst (λ (i : ℕ). AreUnitsExcept us i (put with_it (map (collection_in t) ss))) own (but_put _ with_it _
       all)) in
       let made : AreUnits (reckoned now (child ∷ []) (set us child.key.slot no_unit)) (map (collection_in now) behind) =
-      born_units now behind kept_now id (shelf_by with_it) shelf_on own c0.nodes child shown_nodes (born_here above attached id event client
-      key)
-      (born_fresh t now ss ok id parent attached client event above up key bears)
+      born_units _ _ kept_now _ _ shelf_on own _ _ shown_nodes (born_here above _ id event client key)
+      (born_fresh t now ss ok id parent _ client event above up key bears)
       before_it.whole.sound.distinct before_it.whole.rooted
-      (λ n on here. let h = head_there c0.nodes before_it.whole.sound.distinct before_it.whole.sound.heads before_it.whole.rooted
+      (λ n on here. let h = head_there _ before_it.whole.sound.distinct before_it.whole.sound.heads before_it.whole.rooted
       before_it.whole.united n on here in (h.0, h.1, h.2))
-      (λ n on. eqb-true n.collection (shelf_by with_it).id (all-In (λ (m : Node). m.collection == (shelf_by with_it).id)
-      (nodes_with now (shelf_by with_it).keys) n on (looked-of now (shelf_by with_it).id (shelf_by with_it).keys filed_keys)) ∙ own)
-      us (subst (λ (k : NodeKey). k.slot < length us) (sym named) inside) (had us all) but (few_nodes few) in
-      subst (λ (ns : List Node). AreUnits (reckoned now ns (set us key.slot no_unit)) (map (collection_in now) behind)) (sym one)
-      (subst (λ (k : NodeKey). AreUnits (reckoned now (child ∷ []) (set us k.slot no_unit)) (map (collection_in now) behind)) named made)
+      (λ n on. eqb-true n.collection (shelf_by with_it).id (all-In _
+      _ n on (looked-of now (shelf_by with_it).id (shelf_by with_it).keys filed_keys)) ∙ own)
+      us (rw named inside) (had _ all) but (few_nodes few) in
+      rw one (subst (λ (k : NodeKey). AreUnits (reckoned now (child ∷ []) (set us k.slot no_unit)) (map (collection_in now) behind)) named made)

@@ -1,17 +1,7 @@
 -- Where no step would be forced in a collection, were a strong handle open: then none is while a strong node lives.
-use Rattle.forest_store.proofs.Common.{◌≡◌, ℕ, ◌+◌, refl, ap, sym, ◌∙◌, Bool, true, false, not, ◌&&◌, ◌||◌, inl, inr, List, [], ◌∷◌, map, reverse, Option, Some, None, is_none, is_some, arith, not-true, list_any, list_all, find, filter, option_map_or, option_and_then, NodeKey, Buffers, Cause, same_key, when, times, In, both_ways, either_way, Node, strong_count, has_strong, waiting, Collection, with_nodes, IsWhole, members_of, node_of, is_deserted_node, is_live_node, is_next_node, is_ready_node, is_root_left}
-use Rattle.std.specs.Option.{option_map}
+use Rattle.forest_store.proofs.Common.{◌≡◌, ℕ, ◌+◌, refl, ap, sym, ◌∙◌, Bool, true, false, not, ◌&&◌, ◌||◌, inl, inr, List, [], ◌∷◌, map, reverse, Option, Some, None, is_none, is_some, arith, not-true, list_any, list_all, find, filter, option_map_or, option_and_then, NodeKey, Buffers, Cause, same_key, when, times, In, both_ways, either_way, Node, strong_count, has_strong, waiting, Collection, with_nodes, IsWhole, members_of, node_of, is_deserted_node, is_live_node, is_next_node, is_ready_node, is_root_left, is_deserted, is_next_head, Member, is_ready, root_left, first_some, In-filter, In-filter-back, map-In, none_is, map-None, IsQuiescent, Decision, Ends, Loses, decided, first_step, later_step, above_among, member_of, is_allocated_node, is_below, lives_below, option_map}
 use Rattle.std.proofs.Math.Bool.{or-true}
-use Rattle.sm_names.specs.Forced.{is_deserted, is_next_head}
-use Rattle.sm_names.specs.Members.{Member, is_ready, root_left}
-use Rattle.sm_names.specs.Words.{first_some}
-use Rattle.sm_names.proofs.ListLaws.{In-filter, In-filter-back, filter-swap, map-In, filter-all}
-use Rattle.sm_names.proofs.SamenessLaws.{none_is}
-use Rattle.sm_names.proofs.PlaceLaws.{map-None}
-use Rattle.forest_store.specs.Calm.{IsQuiescent}
-use Rattle.forest_store.specs.Decisions.{Decision, Ends, Loses, decided, first_step, later_step}
-use Rattle.forest_store.specs.Nodes.{above_among, member_of}
-use Rattle.forest_store.specs.Questions.{is_allocated_node, is_below, lives_below}
+use Rattle.sm_names.proofs.ListLaws.{filter-swap, filter-all}
 use Rattle.forest_store.proofs.tables.Chains.{one_line}
 use Rattle.forest_store.proofs.quiescence.Forcing.{deserted_tie, next_tie, ready_tie, root_tie}
 use Rattle.forest_store.proofs.tables.KeptRoots.{map-reverse_aux, rooted_filter}
@@ -45,11 +35,11 @@ none_four a b c d ha hb hc hd = rw (ha, hb, hc, hd) refl
 -- where nothing is decided, no step is left
 pub decided_parts : (nodes : List Node) (buffers : Option Buffers) (strong_open : Bool) → decided nodes buffers strong_open ≡ None →
     AreNone nodes buffers
-decided_parts nodes buffers strong_open h =
+decided_parts nodes _ strong_open h =
     let n = four_none _ _ _ _ h in
     record {
-      no_end = map-None (λ (n : Node). Ends n.key) (find (is_deserted_node nodes) nodes) n.0;
-      no_root = map-None (λ (n : Node). first_step nodes n.key) (waiting nodes) n.2;
+      no_end = map-None _ _ n.0;
+      no_root = map-None _ _ n.2;
       no_head = n.3;
     }
 
@@ -57,31 +47,26 @@ decided_parts nodes buffers strong_open h =
 kept_root : (strong strong_open : Bool) → (strong || strong_open) ≡ true → (o : Option Node) →
     option_and_then (λ (root : Node). when (root.allocated && (not strong && not strong_open)) (Loses root.key Cause.NoStrong)) o ≡ None
 kept_root strong strong_open some None = refl
-kept_root strong strong_open some (Some root) = from root.allocated strong strong_open some
+kept_root strong strong_open some (Some root) = from _ strong strong_open some
   where
     from : (a s h : Bool) → (s || h) ≡ true → when (a && (not s && not h)) (Loses root.key Cause.NoStrong) ≡ None
-    from false s h some = refl
-    from true true h some = refl
-    from true false true some = refl
-    from true false false some = cc
+    from a s h some = grind arith
 
 -- and so nothing is decided there
 pub none_decided : (nodes : List Node) (buffers : Option Buffers) (strong_open : Bool) → (has_strong nodes || strong_open) ≡ true →
     AreNone nodes buffers → decided nodes buffers strong_open ≡ None
-none_decided nodes buffers strong_open some none =
-    none_four _ _ _ _
+none_decided nodes buffers strong_open some none = none_four _ _ _ _
     (ap (option_map (λ (n : Node). Ends n.key)) none.no_end)
     (kept_root (has_strong nodes) strong_open some (find is_root_left nodes))
-    (ap (option_map (λ (n : Node). first_step nodes n.key)) none.no_root)
-    none.no_head
+    (ap (option_map (λ (n : Node). first_step nodes n.key)) none.no_root) none.no_head
 
 -- where none of the four steps is left, none is decided: the second is excluded by the open handle
 pub calm_none : (c : Collection) → AreNone c.nodes c.buffers → IsQuiescent c
-calm_none c none = none_decided c.nodes c.buffers true (or-true (has_strong c.nodes)) none
+calm_none c none = none_decided _ _ _ (or-true (has_strong c.nodes)) none
 
 -- and the other way round: a calm collection has none of them left
 pub none_calm : (c : Collection) → IsQuiescent c → AreNone c.nodes c.buffers
-none_calm c calm = decided_parts c.nodes c.buffers true calm
+none_calm c calm = decided_parts _ _ true calm
 
 -- ---- counts
 
@@ -110,7 +95,7 @@ pub wait_tie : (nodes : List Node) →
 wait_tie nodes =
     ap (λ (o : Option Member). option_map_or (λ (root : Member). not root.allocated && is_ready root.key (members_of nodes)) o false)
     (root_tie nodes)
-    ∙ from (find is_root_left nodes)
+    ∙ from _
   where
     told : (b : Bool) (root : Node) → b ≡ is_some (when b root)
     told true root = refl
@@ -120,9 +105,8 @@ wait_tie nodes =
         (option_map (member_of nodes) o) false
         ≡ is_some (option_and_then (λ (root : Node). when (not root.allocated && list_all (is_ready_node root.key) nodes) root) o)
     from None = refl
-    from (Some root) =
-        ap (λ (b : Bool). not root.allocated && b) (ready_tie nodes root.key)
-        ∙ told (not root.allocated && list_all (is_ready_node root.key) nodes) root
+    from (Some root) = ap (λ (b : Bool). not root.allocated && b) (ready_tie nodes _)
+        ∙ told _ root
 
 -- nodes with the same members are as calm
 pub none_same : (old new : List Node) (buffers : Option Buffers) → members_of new ≡ members_of old → AreNone old buffers →
@@ -140,11 +124,10 @@ none_same old new buffers same none = record {
   where
     from : (o : Option Buffers) → later old o ≡ None → later new o ≡ None
     from None h = refl
-    from (Some b) h =
-        ap (option_map (λ (n : Node). later_step new b n.key))
-        (map-None (member_of new) (find (is_next_node new) new)
+    from (Some b) h = ap (option_map (λ (n : Node). later_step new b n.key))
+        (map-None _ _
         (sym (next_tie new) ∙ ap (λ (ms : List Member). find (is_next_head ms) ms) same ∙ next_tie old
-        ∙ ap (option_map (member_of old)) (map-None (λ (n : Node). later_step old b n.key) (find (is_next_node old) old) h)))
+        ∙ ap (option_map (member_of old)) (map-None _ _ h)))
 
 module _ (c : Collection) (whole : IsWhole c) (p : Node → Bool) (over : (n : Node) → In n c.nodes → p n ≡ false → n.gone ≡ true) where
   abbrev nodes : List Node
@@ -156,14 +139,14 @@ module _ (c : Collection) (whole : IsWhole c) (p : Node → Bool) (over : (n : N
 
   -- those that pass the test do so too, since only gone nodes fail it
   fewer : IsRooted (filter p nodes)
-  fewer = rooted_filter nodes old p over
+  fewer = rooted_filter _ old p over
 
   abbrev up : NodeKey → Option NodeKey
   up key = option_map_or (λ (n : Node). n.parent) (node_of nodes key) None
 
   -- a node that is not gone is found by its key, so its parent is found
   linked : (n : Node) → In n nodes → n.gone ≡ false → up n.key ≡ n.parent
-  linked n on here = ap (λ (o : Option Node). option_map_or (λ (m : Node). m.parent) o None) (found_by_key nodes n whole.sound.distinct on)
+  linked n on here = ap (λ (o : Option Node). option_map_or (λ (m : Node). m.parent) o None) (found_by_key _ n whole.sound.distinct on)
 
   -- a node that is not gone passes the test, since one that fails it is gone
   passes : (n : Node) → In n nodes → n.gone ≡ false → p n ≡ true
@@ -174,26 +157,23 @@ module _ (c : Collection) (whole : IsWhole c) (p : Node → Bool) (over : (n : N
 
   -- above a node that is not gone lie the same nodes
   above_same : (n : Node) → In n nodes → n.gone ≡ false → above_among (reverse (filter p nodes)) n.key ≡ above_among (reverse nodes) n.key
-  above_same n on here =
-      one_line up n.key (above_among (reverse (filter p nodes)) n.key) (above_among (reverse nodes) n.key)
-      (line_of (filter p nodes) up fewer.one (λ m there stays. linked m (In-filter p nodes m there).0 stays) fewer.rooted n.key
-      (left_in (filter p nodes) n (In-filter-back p nodes n on (passes n on here)) here)).chain
-      (line_of nodes up old.one linked old.rooted n.key (left_in nodes n on here)).chain
+  above_same n on here = one_line _ _ _ _
+      (line_of _ _ fewer.one (λ m there stays. linked m (In-filter p _ m there).0 stays) fewer.rooted _
+      (left_in _ n (In-filter-back p _ n on (passes n on here)) here)).chain
+      (line_of _ _ old.one linked old.rooted _ (left_in _ n on here)).chain
 
   -- the members are the nodes that are not gone, and each of these passes
   members_filter : members_of (filter p nodes) ≡ members_of nodes
-  members_filter =
-      ap (map (member_of (filter p nodes)))
-      (filter-swap (λ (n : Node). not n.gone) p nodes
-      ∙ filter-all p (filter (λ (n : Node). not n.gone) nodes)
-      (λ n on. let x = In-filter (λ (n : Node). not n.gone) nodes n on in passes n x.0 (not-true n.gone x.1)))
-      ∙ map-In (member_of (filter p nodes)) (member_of nodes) (filter (λ (n : Node). not n.gone) nodes)
-      (λ n on. let x = In-filter (λ (n : Node). not n.gone) nodes n on in
+  members_filter = ap (map (member_of (filter p nodes)))
+      (filter-swap _ p nodes
+      ∙ filter-all p _ (λ n on. let x = In-filter _ _ n on in passes n x.0 (not-true n.gone x.1)))
+      ∙ map-In _ _ _
+      (λ n on. let x = In-filter _ _ n on in
       λ i. record (member_of nodes n) { above = above_same n x.0 (not-true n.gone x.1) i })
 
   -- so the collection stays calm without nodes that are gone
   pub calm_filter : IsQuiescent c → IsQuiescent (with_nodes (filter p) c)
-  calm_filter calm = calm_none (with_nodes (filter p) c) (none_same nodes (filter p nodes) c.buffers members_filter (none_calm c calm))
+  calm_filter calm = calm_none (with_nodes (filter p) c) (none_same _ (filter p nodes) _ members_filter (none_calm c calm))
 
 -- and its count stays
 pub strong_filter : (p : Node → Bool) (ns : List Node) → ((n : Node) → In n ns → p n ≡ false → n.gone ≡ true) →
@@ -203,7 +183,7 @@ strong_filter p (n ∷ ns) over =
     let rest = strong_filter p ns (λ m on. over m (inr on)) in
     elim (either_way (p n)) [
       | inl e ↦ rw (e, rest) refl
-      | inr e ↦ let gone : n.gone ≡ true = over n (inl refl) e in rw (e, gone) rest
+      | inr e ↦ rw (e, over n (inl refl) e) rest
     ]
 
 -- ---- nodes of which a call changed something
@@ -267,9 +247,8 @@ module _ (nodes : List Node) (f : Node → Node) (plain : (n : Node) → IsPlain
 
   -- a node lies below another as before, since the same nodes lie above it
   below_map : (top key : NodeKey) → is_below now top key ≡ is_below nodes top key
-  below_map top key =
-      ap (λ ks. list_any (same_key top) (key ∷ ks))
-      (ap (λ (ns : List Node). above_among ns key) (sym (map-reverse_aux f nodes [])) ∙ above_map (reverse nodes) key)
+  below_map top key = ap (λ ks. list_any (same_key top) (key ∷ ks))
+      (ap (λ (ns : List Node). above_among ns key) (sym (map-reverse_aux f nodes _)) ∙ above_map _ key)
 
   -- being live and lying below are kept by the map
   lives_map : (top : NodeKey) (n : Node) → lives_below now top (f n) ≡ lives_below nodes top n
@@ -283,16 +262,16 @@ module _ (nodes : List Node) (f : Node → Node) (plain : (n : Node) → IsPlain
       (λ i. (is_none ((plain n).parent i) || (plain n).attached i) && (not ((plain n).gone i) && not
       (list_any (lives_below now ((plain n).key i)) now)))
       ∙ ap (λ (b : Bool). (is_none n.parent || n.attached) && (not n.gone && not b))
-      (any_map (lives_below now n.key) (lives_below nodes n.key) f nodes (lives_map n.key))
+      (any_map _ _ f nodes (lives_map n.key))
 
   -- whether a node is ready is read from its flags and head, which are kept
   ready_map : (head : NodeKey) → list_all (is_ready_node head) now ≡ list_all (is_ready_node head) nodes
-  ready_map head = all_map (is_ready_node head) (is_ready_node head) f nodes
+  ready_map head = all_map _ _ f nodes
       (λ n. λ i. (plain n).gone i || (not (same_key ((plain n).head i) head) || ((plain n).released i || (plain n).asks i)))
 
   -- being allocated is read from flags and the key, which are kept
   allocated_map : (key : NodeKey) → list_any (is_allocated_node key) now ≡ list_any (is_allocated_node key) nodes
-  allocated_map key = any_map (is_allocated_node key) (is_allocated_node key) f nodes
+  allocated_map key = any_map _ _ f nodes
       (λ n. λ i. not ((plain n).gone i) && ((plain n).allocated i && same_key ((plain n).key i) key))
 
   -- whether a head is next is read from its flags, the parent's allocation and the unit's readiness, all kept
@@ -301,23 +280,21 @@ module _ (nodes : List Node) (f : Node → Node) (plain : (n : Node) → IsPlain
       (λ i. (plain n).attached i && (not ((plain n).gone i) && (not ((plain n).allocated i)
       && (option_map_or (λ parent. allocated_map parent i) ((plain n).parent i) false && list_all (is_ready_node ((plain n).key i)) now))))
       ∙ ap (λ (b : Bool). n.attached && (not n.gone && (not n.allocated && (option_map_or (λ parent.
-      list_any (is_allocated_node parent) nodes) n.parent false && b))))
-      (ready_map n.key)
+      list_any (is_allocated_node parent) nodes) n.parent false && b)))) (ready_map n.key)
 
   -- being a root that is left is read from the parent and the flag, which are kept
   root_map : find is_root_left now ≡ option_map f (find is_root_left nodes)
-  root_map = find_map is_root_left is_root_left f nodes (λ n. λ i. is_none ((plain n).parent i) && not ((plain n).gone i))
+  root_map = find_map _ _ f nodes (λ n. λ i. is_none ((plain n).parent i) && not ((plain n).gone i))
 
   -- no root waits after the map where none did: the same root is found, and its unit is as ready as before
   wait_map : (o : Option Node) →
       option_and_then (λ (root : Node). when (not root.allocated && list_all (is_ready_node root.key) nodes) root) o ≡ None →
       option_and_then (λ (root : Node). when (not root.allocated && list_all (is_ready_node root.key) now) root) (option_map f o) ≡ None
   wait_map None h = refl
-  wait_map (Some root) h =
-      ap (λ (b : Bool). when b (f root))
+  wait_map (Some root) h = ap (λ (b : Bool). when b (f root))
       ((λ i. not ((plain root).allocated i) && list_all (is_ready_node ((plain root).key i)) now)
-      ∙ ap (λ (b : Bool). not root.allocated && b) (ready_map root.key))
-      ∙ still (not root.allocated && list_all (is_ready_node root.key) nodes) h
+      ∙ ap (λ (b : Bool). not root.allocated && b) (ready_map _))
+      ∙ still _ h
     where
       still : (b : Bool) → when b root ≡ None → when b (f root) ≡ None
       still true h = cc
@@ -334,11 +311,10 @@ module _ (nodes : List Node) (f : Node → Node) (plain : (n : Node) → IsPlain
     where
       from : (o : Option Buffers) → later nodes o ≡ None → later now o ≡ None
       from None h = refl
-      from (Some b) h =
-          ap (option_map (λ (n : Node). later_step now b n.key))
-          (find_map (is_next_node now) (is_next_node nodes) f nodes next_map
-          ∙ ap (option_map f) (map-None (λ (n : Node). later_step nodes b n.key) (find (is_next_node nodes) nodes) h))
+      from (Some b) h = ap (option_map (λ (n : Node). later_step now b n.key))
+          (find_map _ _ f nodes next_map
+          ∙ ap (option_map f) (map-None _ _ h))
 
 -- and the collection stays calm
 pub calm_map : (c : Collection) (f : Node → Node) → ((n : Node) → IsPlain (f n) n) → IsQuiescent c → IsQuiescent (with_nodes (map f) c)
-calm_map c f plain calm = calm_none (with_nodes (map f) c) (none_map c.nodes f plain c.buffers (none_calm c calm))
+calm_map c f plain calm = calm_none (with_nodes (map f) c) (none_map _ f plain _ (none_calm c calm))

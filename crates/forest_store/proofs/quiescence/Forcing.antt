@@ -1,19 +1,10 @@
 -- What the code decides is what is forced.
-use Rattle.forest_store.proofs.Common.{ℕ, ◌+◌, ◌≡◌, refl, ap, ◌∙◌, Bool, true, false, not, ◌&&◌, ◌||◌, ◌==◌, nat_lt, if◌then◌else◌, is_none, is_some, List, [], ◌∷◌, ◌++◌, map, Option, Some, None, list_any, list_all, find, filter, sum_by, option_map_or, option_and_then, Interval, NodeKey, Buffers, Cause, Demand, forced, same_key, when, Node, has_strong, waiting, Collection, members_of, is_deserted_node, is_next_node, is_ready_node, is_root_left, Handles, standing}
-use Rattle.std.proofs.Common.{max}
-use Rattle.std.specs.List.{filter_map}
-use Rattle.std.specs.Option.{option_map}
-use Rattle.sm_names.specs.declared.outcomes.Failure.{Failure}
-use Rattle.sm_names.specs.Forced.{Standing, ending, abandoned, initial_allocation, initial_failure, logical_allocation, logical_failure, outcome, is_deserted, is_allocated, is_next_head}
-use Rattle.sm_names.specs.Marks.{Mark, Loss, Ended}
-use Rattle.sm_names.specs.Members.{Member, is_live, is_root, is_settled, is_under, is_ready, some_live, some_strong_live, subtree, unit, root_left, demands, greatest, wanted, asked, reserved}
+use Rattle.forest_store.proofs.Common.{ℕ, ◌+◌, ◌≡◌, refl, ap, ◌∙◌, Bool, true, false, not, ◌&&◌, ◌||◌, ◌==◌, nat_lt, if◌then◌else◌, is_none, is_some, List, [], ◌∷◌, ◌++◌, map, Option, Some, None, list_any, list_all, find, filter, sum_by, option_map_or, option_and_then, Interval, NodeKey, Buffers, Cause, Demand, forced, same_key, when, Node, has_strong, waiting, Collection, members_of, is_deserted_node, is_next_node, is_ready_node, is_root_left, Handles, standing, max, filter_map, Failure, Standing, ending, abandoned, logical_allocation, logical_failure, outcome, is_deserted, is_allocated, is_next_head, Mark, Loss, Ended, Member, is_live, is_ready, some_live, some_strong_live, subtree, unit, root_left, demands, reserved, first_some, MAX_BUFFERS, Allocates, Decision, Ends, Loses, Places, decided, first_step, late_failure, later_step, wanted_by, pages_in, member_of, demands_of, is_allocated_node, is_below, has_buffers, lives_below, option_map}
+use Rattle.sm_names.specs.Forced.{initial_allocation, initial_failure}
+use Rattle.sm_names.specs.Members.{greatest, wanted, asked}
 use Rattle.sm_names.specs.Pages.{places, pages_of}
-use Rattle.sm_names.specs.Words.{first_some}
-use Rattle.sm_names.specs.declared.rules.TheConstants.{MAX_BUFFERS}
-use Rattle.forest_store.specs.Decisions.{Allocates, Decision, Ends, Loses, Places, decided, decisions, early_failure, first_step, late_failure, later_step, mark_of, wanted_by}
-use Rattle.forest_store.specs.Forest.{pages_in}
-use Rattle.forest_store.specs.Nodes.{member_of}
-use Rattle.forest_store.specs.Questions.{demands_of, is_allocated_node, is_below, is_in_unit, has_buffers, lives_below}
+use Rattle.forest_store.specs.Decisions.{decisions, mark_of}
+use Rattle.forest_store.specs.Questions.{is_in_unit}
 use Rattle.forest_store.proofs.lists.Filters.{any-map_filter, all-map_filter, find-map_filter, any-filter, all-filter, made-filter_map, above_greatest}
 use Rattle.forest_store.proofs.lists.Booleans.{and_again_behind, and_again_last, and_again_pair, and_again_swap, settled_once}
 
@@ -36,71 +27,59 @@ module _ (nodes : List Node) where
 
   -- a member is a node that is not gone, so both ask the same nodes
   pub strong_tie : some_strong_live ms ≡ has_strong nodes
-  strong_tie =
-      any-map_filter left (member_of nodes) (λ m. is_live m && not m.weak) nodes
+  strong_tie = any-map_filter left _ _ nodes
       ∙ (λ i. list_any (λ (n : Node). and_again_pair (not n.gone) (not n.released) (not n.weak) i) nodes)
 
   -- the members of a unit are its nodes that are not gone, and gone nodes count as ready
   pub ready_tie : (head : NodeKey) → is_ready head ms ≡ list_all (is_ready_node head) nodes
-  ready_tie head =
-      all-filter (λ (m : Member). same_key m.head head) is_settled ms
-      ∙ (all-map_filter left (member_of nodes) (λ m. not (same_key m.head head) || is_settled m) nodes
+  ready_tie head = all-filter _ _ ms
+      ∙ (all-map_filter left _ _ nodes
       ∙ (λ i. list_all (λ (n : Node). settled_once n.gone (same_key n.head head) (n.released || is_some n.constraints)
       i) nodes))
 
   -- the members below a node are the nodes below it that are not gone
   live_tie : (top : NodeKey) → some_live (subtree top ms) ≡ list_any (lives_below nodes top) nodes
-  live_tie top =
-      any-filter (is_under top) is_live ms
-      ∙ (any-map_filter left (member_of nodes) (λ m. is_under top m && is_live m) nodes
+  live_tie top = any-filter _ is_live ms
+      ∙ (any-map_filter left _ _ nodes
       ∙ (λ i. list_any (λ (n : Node). and_again_swap (not n.gone) (is_below nodes top n.key) (not n.released) i) nodes))
 
   -- a gone node is no member, and counts as not allocated
   allocated_tie : (key : NodeKey) → is_allocated ms key ≡ list_any (is_allocated_node key) nodes
-  allocated_tie key = any-map_filter left (member_of nodes) (λ m. m.allocated && same_key m.key key) nodes
+  allocated_tie key = any-map_filter left _ _ nodes
 
   -- the root among the members is the root that is not gone
   pub root_tie : root_left ms ≡ option_map (member_of nodes) (find is_root_left nodes)
-  root_tie =
-      find-map_filter left (member_of nodes) (λ m. is_root m && not m.gone) nodes
+  root_tie = find-map_filter left _ _ nodes
       ∙ (λ i. option_map (member_of nodes)
       (find (λ (n : Node). and_again_last (not n.gone) (is_none n.parent) i) nodes))
 
   -- both find the first head below which nothing lives, one among members, one among nodes
   pub deserted_tie : find (is_deserted ms) ms ≡ option_map (member_of nodes) (find (is_deserted_node nodes) nodes)
-  deserted_tie =
-      find-map_filter left (member_of nodes) (is_deserted ms) nodes
+  deserted_tie = find-map_filter left _ _ nodes
       ∙ (λ i. option_map (member_of nodes) (find (λ n. same n i) nodes))
     where
       same : (n : Node) → (left n && is_deserted ms (member_of nodes n)) ≡ is_deserted_node nodes n
-      same n =
-          and_again_behind (left n) (is_none n.parent || n.attached) (not (some_live (subtree n.key ms)))
+      same n = and_again_behind (left n) _ _
           ∙ ap (λ (b : Bool). (is_none n.parent || n.attached) && (not n.gone && not b)) (live_tie n.key)
 
   -- both find the first head that is next, one among members, one among nodes
   pub next_tie : find (is_next_head ms) ms ≡ option_map (member_of nodes) (find (is_next_node nodes) nodes)
-  next_tie =
-      find-map_filter left (member_of nodes) (is_next_head ms) nodes
+  next_tie = find-map_filter left _ _ nodes
       ∙ (λ i. option_map (member_of nodes) (find (λ n. same n i) nodes))
     where
       same : (n : Node) → (left n && is_next_head ms (member_of nodes n)) ≡ is_next_node nodes n
-      same n =
-          and_again_behind (left n) n.attached
-          (not n.allocated && (option_map_or (is_allocated ms) n.parent false && is_ready n.key ms))
+      same n = and_again_behind (left n) _ _
           ∙ (λ i. n.attached && (not n.gone &&
           (not n.allocated && (option_map_or (λ key. allocated_tie key i) n.parent false && ready_tie n.key i))))
 
   -- a gone node asks for nothing, so members and nodes ask for the same
   unit_tie : (head : NodeKey) → demands (unit head ms) ≡ demands_of (is_in_unit head) nodes
-  unit_tie head =
-      made-filter_map left (member_of nodes) (λ m. same_key m.head head) (λ m. if m.gone then None else m.constraints)
-      nodes
+  unit_tie head = made-filter_map left _ _ _ nodes
       ∙ (λ i. filter_map (λ (n : Node). once_gone n.gone (same_key n.head head) n.constraints i) nodes)
 
   -- the same for the nodes whose unit is allocated
   served_tie : demands (filter (λ m. m.allocated) ms) ≡ demands_of has_buffers nodes
-  served_tie =
-      made-filter_map left (member_of nodes) (λ m. m.allocated) (λ m. if m.gone then None else m.constraints) nodes
+  served_tie = made-filter_map left _ _ _ nodes
       ∙ (λ i. filter_map (λ (n : Node). once_gone n.gone n.allocated n.constraints i) nodes)
 
   -- the same demands give the same number and size
@@ -115,7 +94,7 @@ module _ (nodes : List Node) where
   asked_tie root e =
       ap (λ (o : Option Member). wanted (option_map_or (λ (r : Member). unit r.key ms) o [])) (root_tie
       ∙ ap (option_map (member_of nodes)) e)
-      ∙ wanted_tie root.key
+      ∙ wanted_tie _
 
   abbrev ds : NodeKey → List Demand
   ds head = demands_of (is_in_unit head) nodes
@@ -128,8 +107,7 @@ module _ (nodes : List Node) where
       when (nat_lt b.count (sum_by (λ (d : Demand). d.camping) (demands_of has_buffers nodes) + sum_by
       (λ (d : Demand). d.camping) (ds head))
       || above_greatest (λ (d : Demand). d.at_least) b.count (ds head) i) Failure.TooFew
-      ∷ when (above_greatest (λ (d : Demand). d.size) b.size (ds head) i) Failure.TooSmall
-      ∷ []))
+      ∷ when (above_greatest (λ (d : Demand). d.size) b.size (ds head) i) Failure.TooSmall ∷ []))
 
 -- ---- the four steps
 
@@ -165,7 +143,7 @@ module _ (handles : Handles) (pool : ℕ) (others : List Interval) (c : Collecti
   ending_made : ending s ≡ option_map mark
       (option_map (λ (n : Node). Ends n.key) (find (is_deserted_node c.nodes) c.nodes))
   ending_made = ap (option_map (λ (m : Member). Ended m.key)) (deserted_tie c.nodes)
-      ∙ from (find (is_deserted_node c.nodes) c.nodes)
+      ∙ from _
     where
       from : (o : Option Node) → option_map (λ (m : Member). Ended m.key) (option_map (member_of c.nodes) o)
           ≡ option_map mark (option_map (λ (n : Node). Ends n.key) o)
@@ -175,13 +153,12 @@ module _ (handles : Handles) (pool : ℕ) (others : List Interval) (c : Collecti
   -- the root and the strong nodes are the same on both sides
   abandoned_made : abandoned s ≡ option_map mark (option_and_then
       (λ (root : Node). when (root.allocated && (not (has_strong c.nodes) && not s.strong_open))
-      (Loses root.key Cause.NoStrong))
-      (find is_root_left c.nodes))
+      (Loses root.key Cause.NoStrong)) (find is_root_left c.nodes))
   abandoned_made =
       (λ i. option_and_then (λ (root : Member). when
       (root.allocated && (not (strong_tie c.nodes i) && not s.strong_open)) (Loss root.key Cause.NoStrong))
       (root_tie c.nodes i))
-      ∙ from (find is_root_left c.nodes)
+      ∙ from _
     where
       from : (o : Option Node) →
           option_and_then (λ (root : Member). when (root.allocated && (not (has_strong c.nodes) && not s.strong_open))
@@ -190,8 +167,7 @@ module _ (handles : Handles) (pool : ℕ) (others : List Interval) (c : Collecti
           (λ (root : Node). when (root.allocated && (not (has_strong c.nodes) && not s.strong_open))
           (Loses root.key Cause.NoStrong)) o)
       from None = refl
-      from (Some root) = when_made mark (root.allocated && (not (has_strong c.nodes) && not s.strong_open))
-          (Loses root.key Cause.NoStrong)
+      from (Some root) = when_made mark _ _
 
   abbrev full : NodeKey → Option Failure
   full root = when (is_none (places pool (pages_of (wanted_by root c.nodes).size) (wanted_by root c.nodes).count
@@ -207,7 +183,7 @@ module _ (handles : Handles) (pool : ℕ) (others : List Interval) (c : Collecti
       ∙ last_failure (when (not (has_strong c.nodes)) Failure.NoStrong)
       (when ((wanted_by root c.nodes).count == 0) Failure.NoBuffers)
       (when (nat_lt MAX_BUFFERS (wanted_by root c.nodes).count) Failure.TooManyBuffers) (full root))
-      ∙ from (early_failure root c.nodes)
+      ∙ from _
     where
       from : (o : Option Failure) → outcome root (option_map_or Some o (full root))
           ≡ mark (option_map_or (λ why. Loses root (Cause.Failed why)) o (Places root (wanted_by root c.nodes)))
@@ -220,14 +196,14 @@ module _ (handles : Handles) (pool : ℕ) (others : List Interval) (c : Collecti
 
   initial_made : initial_allocation pool s
       ≡ option_map mark (option_map (λ (n : Node). first_step c.nodes n.key) (waiting c.nodes))
-  initial_made = ap step (root_tie c.nodes) ∙ from (find is_root_left c.nodes) refl
+  initial_made = ap step (root_tie c.nodes) ∙ from _ refl
     where
       made : (root : Node) (b : Bool) → asked (members_of c.nodes) ≡ wanted_by root.key c.nodes →
           when b (outcome root.key (initial_failure pool s (asked (members_of c.nodes))))
           ≡ option_map mark (option_map (λ (n : Node). first_step c.nodes n.key) (when b root))
       made root false is = refl
       made root true is = ap Some (ap (λ (w : Buffers). outcome root.key (initial_failure pool s w)) is
-          ∙ early_made root.key)
+          ∙ early_made _)
 
       from : (o : Option Node) → find is_root_left c.nodes ≡ o → step (option_map (member_of c.nodes) o)
           ≡ option_map mark (option_map (λ (n : Node). first_step c.nodes n.key)
@@ -236,14 +212,14 @@ module _ (handles : Handles) (pool : ℕ) (others : List Interval) (c : Collecti
       from None e = refl
       from (Some root) e =
           ap (λ (b : Bool). when (not root.allocated && b)
-          (outcome root.key (initial_failure pool s (asked (members_of c.nodes))))) (ready_tie c.nodes root.key)
-          ∙ made root (not root.allocated && list_all (is_ready_node root.key) c.nodes) (asked_tie c.nodes root e)
+          (outcome root.key (initial_failure pool s (asked (members_of c.nodes))))) (ready_tie c.nodes _)
+          ∙ made _ _ (asked_tie c.nodes _ e)
 
   -- a later unit fails, or is allocated
   later_made : (b : Buffers) (key : NodeKey) →
       outcome key (logical_failure (demands (unit key (members_of c.nodes))) (reserved (members_of c.nodes)) b)
       ≡ mark (later_step c.nodes b key)
-  later_made b key = ap (outcome key) (late_tie c.nodes key b) ∙ from (late_failure key c.nodes b)
+  later_made b key = ap (outcome key) (late_tie c.nodes key b) ∙ from _
     where
       from : (o : Option Failure) → outcome key o
           ≡ mark (option_map_or (λ why. Loses key (Cause.Failed why)) o (Allocates key))
@@ -254,7 +230,7 @@ module _ (handles : Handles) (pool : ℕ) (others : List Interval) (c : Collecti
   logical_made : logical_allocation s
       ≡ option_map mark (option_and_then
       (λ b. option_map (λ (n : Node). later_step c.nodes b n.key) (find (is_next_node c.nodes) c.nodes)) c.buffers)
-  logical_made = from c.buffers
+  logical_made = from _
     where
       next : (b : Buffers) (o : Option Node) →
           option_map (λ (head : Member). outcome head.key
@@ -275,7 +251,7 @@ module _ (handles : Handles) (pool : ℕ) (others : List Interval) (c : Collecti
       from (Some b) = ap (option_map (λ (head : Member). outcome head.key
           (logical_failure (demands (unit head.key (members_of c.nodes))) (reserved (members_of c.nodes)) b)))
           (next_tie c.nodes)
-          ∙ next b (find (is_next_node c.nodes) c.nodes)
+          ∙ next b _
 
   -- the decision comes to the mark that is forced
   pub forced_made : forced pool s ≡ option_map mark (decided c.nodes c.buffers s.strong_open)

@@ -1,7 +1,5 @@
 -- What the counts of a unit tell of what holds it.
-use Rattle.forest_store.proofs.Common.{◌≡◌, ℕ, ◌<◌, nat_lt, refl, Bool, true, false, not, ◌&&◌, ◌||◌, ◌⊎◌, inl, inr, List, [], ◌∷◌, arith, list_any, NodeKey, same_key, times, In-list_any, either_way, or_cases, or_left, or_right, In-any, Node, lives_in}
-use Rattle.std.proofs.lemmas.Bool.{ltb-true}
-use Rattle.forest_store.specs.Counts.{heads_below}
+use Rattle.forest_store.proofs.Common.{◌≡◌, ℕ, ◌<◌, nat_lt, Bool, true, not, ◌&&◌, ◌||◌, ◌⊎◌, inl, inr, List, [], ◌∷◌, arith, list_any, NodeKey, same_key, times, In-list_any, either_way, or_cases, or_left, or_right, In-any, Node, lives_in, ltb-true, heads_below}
 use Rattle.forest_store.proofs.tallies.Holding.{hangs_in, holds_unit}
 
 -- some pass where the count is not 0
@@ -22,10 +20,7 @@ lives_held nodes head some =
     head x.0) x.2)
   where
     lives_hold : (g r s b : Bool) → ((not g && not r) && s) ≡ true → (not g && ((s && not r) || b)) ≡ true
-    lives_hold true r s b h = cc
-    lives_hold false true s b h = cc
-    lives_hold false false true b h = refl
-    lives_hold false false false b h = cc
+    lives_hold g r s b h = grind arith
 
 -- a head right below a unit holds it
 pub below_held : (nodes : List Node) (head : NodeKey) → 0 < times (heads_below nodes head) nodes →
@@ -36,9 +31,7 @@ below_held nodes head some =
     (x.0.attached && hangs_in nodes head x.0) x.2)
   where
     heads_hold : (g a b : Bool) → (not g && b) ≡ true → (not g && (a || b)) ≡ true
-    heads_hold true a b h = cc
-    heads_hold false true b h = refl
-    heads_hold false false b h = h
+    heads_hold g a b h = grind arith
 
 -- a live node, or a unit right below
 pub either_holds : (live below : ℕ) → (nat_lt 0 live || nat_lt 0 below) ≡ true → (0 < live) ⊎ (0 < below)

@@ -1,7 +1,5 @@
 -- A collection that rests, whether one of its strong nodes is live or not: nothing is forced in it, and no buffer goes home.
-use Rattle.forest_store.proofs.Common.{◌≡◌, ℕ, ◌==◌, ◌⊎◌, Bool, true, false, ◌&&◌, not, nat_lt, inl, inr, List, [], ◌∷◌, drop, Option, Some, None, option_map, is_none, is_some, refl, ap, ◌∙◌, cons_option, find, list_all, option_map_or, option_and_then, NodeKey, Buffers, Cause, forced, when, and_both, and_left, and_right, either_way, or_cases, or_left, or_right, Table, node_at, Node, has_strong, Shelf, is_filed, nodes_with, is_root_left, Handles, In}
-use Rattle.sm_names.specs.Words.{first_some}
-use Rattle.forest_store.specs.Decisions.{Decision, Ends, Loses, decided, first_step}
+use Rattle.forest_store.proofs.Common.{◌≡◌, ℕ, ◌==◌, ◌⊎◌, Bool, true, false, ◌&&◌, not, nat_lt, inl, inr, List, [], ◌∷◌, drop, Option, Some, None, option_map, is_none, is_some, refl, ap, ◌∙◌, cons_option, find, list_all, option_map_or, option_and_then, NodeKey, Buffers, Cause, when, and_both, and_left, and_right, either_way, or_cases, or_left, or_right, Table, node_at, Node, has_strong, Shelf, is_filed, nodes_with, is_root_left, Handles, In, first_some, Decision, Ends, Loses, decided, first_step}
 use Rattle.forest_store.specs.Dropped.{has_given_root}
 use Rattle.forest_store.specs.Resting.{is_at_rest, is_kept_by}
 use Rattle.forest_store.specs.Scenes.{is_held_strongly, is_out}
@@ -12,12 +10,10 @@ use Rattle.forest_store.proofs.quiescence.Calming.{AreNone, none_decided}
 -- where all have parents, none is a root
 no_root : (ns : List Node) → list_all (λ (n : Node). is_some n.parent) ns ≡ true → find is_root_left ns ≡ None
 no_root [] all = refl
-no_root (n ∷ ns) all =
-    let other : is_root_left n ≡ false = from n.parent (and_left (is_some n.parent) _ all) in
-    rw other (no_root ns (and_right (is_some n.parent) _ all))
+no_root (n ∷ ns) all = rw (from _ (and_left _ _ all)) (no_root ns (and_right _ _ all))
   where
     from : (o : Option NodeKey) → is_some o ≡ true → (is_none o && not n.gone) ≡ false
-    from None there = let no : false ≡ true = there in cc
+    from None there = cc
     from (Some key) there = refl
 
 -- only the first node may be a root
@@ -25,13 +21,13 @@ pub root_first : (t : Table Node) (id : ℕ) (keys : List NodeKey) → list_all 
     list_all (λ (n : Node). is_some n.parent) (drop 1 (nodes_with t keys)) ≡ true → has_given_root t keys ≡ false →
     option_map_or (λ (root : Node). root.allocated) (find is_root_left (nodes_with t keys)) false ≡ false
 root_first t id [] filed one none = refl
-root_first t id (k ∷ ks) filed one none = from (node_at t k) (and_left (is_filed t id k) _ filed) one none
+root_first t id (k ∷ ks) filed one none = from (node_at t k) (and_left _ _ filed) one none
   where
     from : (o : Option Node) → option_map_or (λ (n : Node). n.collection == id) o false ≡ true →
         list_all (λ (n : Node). is_some n.parent) (drop 1 (cons_option o (nodes_with t ks))) ≡ true →
         option_map_or (λ (n : Node). is_root_left n && n.allocated) o false ≡ false →
         option_map_or (λ (root : Node). root.allocated) (find is_root_left (cons_option o (nodes_with t ks))) false ≡ false
-    from None filed one none = let no : false ≡ true = filed in cc
+    from None filed one none = cc
     from (Some n) filed one none = elim (either_way (is_root_left n)) [
       | inl e ↦ let waits : n.allocated ≡ false = rw e at none in rw e waits
       | inr e ↦
@@ -47,27 +43,23 @@ kept_root : (strong strong_open : Bool) (o : Option Node) →
     (option_map_or (λ (root : Node). root.allocated) o false && not strong_open) ≡ false →
     option_and_then (λ (root : Node). when (root.allocated && (not strong && not strong_open)) (Loses root.key Cause.NoStrong)) o ≡ None
 kept_root strong strong_open None none = refl
-kept_root strong strong_open (Some root) none = from root.allocated strong strong_open none
+kept_root strong strong_open (Some root) none = from _ strong strong_open none
   where
     from : (a s h : Bool) → (a && not h) ≡ false → when (a && (not s && not h)) (Loses root.key Cause.NoStrong) ≡ None
     from false s h none = refl
     from true true h none = refl
     from true false true none = refl
-    from true false false none = let no : true ≡ false = none in cc
+    from true false false none = cc
 
 -- so nothing is forced in a calm collection, where the root is not abandoned
 pub still_decided : (nodes : List Node) (buffers : Option Buffers) (strong_open : Bool) → AreNone nodes buffers →
     (has_strong nodes ≡ true)
     ⊎ ((option_map_or (λ (root : Node). root.allocated) (find is_root_left nodes) false && not strong_open) ≡ false) →
     decided nodes buffers strong_open ≡ None
-still_decided nodes buffers strong_open none (inl strong) =
-    none_decided nodes buffers strong_open (rw strong refl) none
-still_decided nodes buffers strong_open none (inr kept) =
-    none_four _ _ _ _
-    (ap (option_map (λ (n : Node). Ends n.key)) none.no_end)
-    (kept_root (has_strong nodes) strong_open (find is_root_left nodes) kept)
-    (ap (option_map (λ (n : Node). first_step nodes n.key)) none.no_root)
-    none.no_head
+still_decided nodes buffers strong_open none (inl strong) = none_decided _ _ _ (rw strong refl) none
+still_decided nodes buffers strong_open none (inr kept) = none_four _ _ _ _
+    (ap (option_map (λ (n : Node). Ends n.key)) none.no_end) (kept_root _ _ _ kept)
+    (ap (option_map (λ (n : Node). first_step nodes n.key)) none.no_root) none.no_head
 
 -- ---- what becomes of it
 
@@ -78,7 +70,7 @@ pub roots_stay : (t now : Table Node) (f : Node → Node) → ((key : NodeKey) �
 roots_stay t now f look [] stays none = refl
 roots_stay t now f look (k ∷ ks) stays none =
     ap (λ (o : Option Node). option_map_or (λ (n : Node). is_root_left n && n.allocated) o false) (look k)
-    ∙ from (node_at t k) stays none
+    ∙ from _ stays none
   where
     from : (o : Option Node) → ((n : Node) → In n (cons_option o (nodes_with t ks)) → (is_root_left n && n.allocated) ≡ false →
         (is_root_left (f n) && (f n).allocated) ≡ false) → option_map_or (λ (n : Node). is_root_left n && n.allocated) o false ≡ false →

@@ -1,14 +1,6 @@
 -- A decision is on nodes that are there, and changes something.
-use Rattle.forest_store.proofs.Common.{ℕ, ◌≡◌, ◌≤◌, zero, suc, refl, ap, sym, ◌∙◌, subst, Bool, true, false, not, ◌&&◌, ◌||◌, ◌==◌, nat_lt, is_none, List, [], ◌∷◌, Option, Some, None, inl, inr, arith, not-true, list_any, list_all, find, option_map_or, option_and_then, NodeKey, Buffers, Cause, same_key, when, In, In-find, and_left, and_right, and_both, or_left, or_right, both_ways, false_if, same_key-true, same_key-refl, In-any, Node, has_strong, is_left_of, Collection, is_of, node_of, is_deserted_node, is_next_node, is_ready_node, is_root_left, are_distinct, heads_itself}
-use Rattle.std.proofs.lemmas.Bool.{ltb-false}
-use Rattle.std.specs.Option.{option_map, IfSome}
-use Rattle.sm_names.specs.declared.outcomes.Failure.{Failure}
-use Rattle.sm_names.specs.Words.{first_some}
-use Rattle.sm_names.specs.declared.rules.TheConstants.{MAX_BUFFERS}
-use Rattle.forest_store.specs.Decisions.{Allocates, Ends, IsStep, Loses, Places, decided, early_failure, first_step, has_waiting, late_failure, later_step, wanted_by}
-use Rattle.forest_store.specs.Questions.{is_allocated_node}
-use Rattle.forest_store.specs.Scenes.{IsSound}
-use Rattle.forest_store.specs.Settling.{is_root_of}
+use Rattle.forest_store.proofs.Common.{ℕ, ◌≡◌, ◌≤◌, zero, suc, refl, ap, sym, ◌∙◌, subst, Bool, true, false, not, ◌&&◌, ◌||◌, ◌==◌, nat_lt, is_none, List, [], ◌∷◌, Option, Some, None, inl, inr, arith, not-true, list_any, list_all, find, option_map_or, option_and_then, NodeKey, Buffers, Cause, same_key, when, In, In-find, and_left, and_right, and_both, or_left, or_right, both_ways, false_if, same_key-true, same_key-refl, In-any, Node, has_strong, is_left_of, Collection, is_of, node_of, is_deserted_node, is_next_node, is_ready_node, is_root_left, are_distinct, ltb-false, Failure, first_some, MAX_BUFFERS, Allocates, Ends, Loses, Places, decided, early_failure, first_step, later_step, wanted_by, is_allocated_node, IsSound, is_root_of, option_map, IfSome}
+use Rattle.forest_store.specs.Decisions.{IsStep, has_waiting}
 use Rattle.forest_store.proofs.quiescence.Forcing.{asked_tie}
 
 -- ---- nodes by their keys
@@ -16,8 +8,8 @@ use Rattle.forest_store.proofs.quiescence.Forcing.{asked_tie}
 -- what all pass, each passes
 pub all-In : {A : Type 0} (test : A → Bool) (xs : List A) (x : A) → In x xs → list_all test xs ≡ true → test x ≡ true
 all-In test [] x on h = absurd on
-all-In test (y ∷ ys) x (inl is) h = ap test is ∙ and_left (test y) (list_all test ys) h
-all-In test (y ∷ ys) x (inr on) h = all-In test ys x on (and_right (test y) (list_all test ys) h)
+all-In test (y ∷ ys) x (inl is) h = ap test is ∙ and_left _ _ h
+all-In test (y ∷ ys) x (inr on) h = all-In test ys x on (and_right _ _ h)
 
 -- where no two have one key, a node is found by its key
 pub found_by_key : (nodes : List Node) (n : Node) → are_distinct nodes ≡ true → In n nodes →
@@ -26,20 +18,17 @@ found_by_key [] n h on = absurd on
 found_by_key (m ∷ ns) n h (inl is) = rw same (ap Some (sym is))
   where
     same : is_of n.key m ≡ true
-    same = subst (λ (k : NodeKey). same_key m.key k ≡ true) (ap (λ (x : Node). x.key) (sym is)) (same_key-refl m.key)
-found_by_key (m ∷ ns) n h (inr on) =
-    rw other (found_by_key ns n (and_right (not (list_any (is_of m.key) ns)) (are_distinct ns) h) on)
+    same = rw (← (ap (λ (x : Node). x.key) (sym is))) (same_key-refl m.key)
+found_by_key (m ∷ ns) n h (inr on) = rw other (found_by_key ns n (and_right _ _ h) on)
   where
     none : list_any (is_of m.key) ns ≡ false
-    none = not-true (list_any (is_of m.key) ns) (and_left (not (list_any (is_of m.key) ns)) (are_distinct ns) h)
+    none = not-true (list_any (is_of m.key) ns) (and_left _ _ h)
 
     other : is_of n.key m ≡ false
-    other = false_if (is_of n.key m) (λ e.
-        let is : m.key ≡ n.key = same_key-true m.key n.key e in
-        let there : list_any (is_of m.key) ns ≡ true =
-        In-any (is_of m.key) ns n on (subst (λ (k : NodeKey). same_key n.key k ≡ true) (sym is)
-        (same_key-refl n.key)) in
-        both_ways (list_any (is_of m.key) ns) there none)
+    other = false_if _ (λ e.
+        let is : m.key ≡ n.key = same_key-true _ _ e in
+        let there : list_any (is_of m.key) ns ≡ true = In-any _ _ n on (rw is (same_key-refl n.key)) in
+        both_ways _ there none)
 
 -- ---- what a decision is on
 
@@ -55,33 +44,30 @@ first_has P None None None None ha hb hc hd = tt
 module _ (c : Collection) (sound : IsSound c) where
   -- a node that is there and not gone is found to be
   left_is : (n : Node) → In n c.nodes → n.gone ≡ false → is_left_of c.nodes n.key ≡ true
-  left_is n on stays = In-any (λ (m : Node). is_of n.key m && not m.gone) c.nodes n on
-      (and_both (is_of n.key n) (not n.gone) (same_key-refl n.key) (ap not stays))
+  left_is n on stays = In-any _ _ n on (and_both _ _ (same_key-refl n.key) (ap not stays))
 
   -- a root or attached node that is neither gone nor allocated waits
   waits_is : (n : Node) → In n c.nodes → (is_none n.parent || n.attached) ≡ true → n.gone ≡ false →
       n.allocated ≡ false → has_waiting c.nodes n.key ≡ true
   waits_is n on heads stays waits =
-      let own : heads_itself n ≡ true = all-In heads_itself c.nodes n on sound.heads in
-      let head : same_key n.head n.key ≡ true = rw heads at own in
-      In-any (λ (m : Node). same_key n.key m.head && (not m.gone && not m.allocated)) c.nodes n on
-      (and_both (same_key n.key n.head) (not n.gone && not n.allocated)
-      (subst (λ (k : NodeKey). same_key n.key k ≡ true) (sym (same_key-true n.head n.key head)) (same_key-refl n.key))
-      (and_both (not n.gone) (not n.allocated) (ap not stays) (ap not waits)))
+      let head : same_key n.head n.key ≡ true = rw heads at (all-In _ _ n on sound.heads) in
+      In-any _ _ n on
+      (and_both _ _
+      (subst (λ (k : NodeKey). same_key n.key k ≡ true) (sym (same_key-true _ _ head)) (same_key-refl n.key))
+      (and_both _ _ (ap not stays) (ap not waits)))
 
   -- whether a node that is there is a root
   root_is : (n : Node) → In n c.nodes → is_root_of c n.key ≡ is_none n.parent
   root_is n on = ap (λ (o : Option Node). option_map_or (λ (m : Node). is_none m.parent) o false)
-      (found_by_key c.nodes n sound.distinct on)
+      (found_by_key _ n sound.distinct on)
 
   -- a deserted head is one of the nodes, and not gone
   ends_step : (o : Option Node) → find (is_deserted_node c.nodes) c.nodes ≡ o →
       IfSome (option_map (λ (n : Node). Ends n.key) o) (IsStep c)
   ends_step None e = tt
   ends_step (Some n) e =
-      let f = In-find (is_deserted_node c.nodes) c.nodes n e in
-      let rest = and_right (is_none n.parent || n.attached) _ f.1 in
-      left_is n f.0 (not-true n.gone (and_left (not n.gone) _ rest))
+      let f = In-find _ _ n e in
+      left_is n f.0 (not-true n.gone (and_left _ _ (and_right _ _ f.1)))
 
   -- an abandoned root is one of the nodes, and not gone
   loses_step : (strong_open : Bool) (o : Option Node) → find is_root_left c.nodes ≡ o →
@@ -89,9 +75,8 @@ module _ (c : Collection) (sound : IsSound c) where
       (Loses root.key Cause.NoStrong)) o) (IsStep c)
   loses_step strong_open None e = tt
   loses_step strong_open (Some n) e =
-      let f = In-find is_root_left c.nodes n e in
-      let is_left : is_left_of c.nodes n.key ≡ true =
-      left_is n f.0 (not-true n.gone (and_right (is_none n.parent) (not n.gone) f.1)) in
+      let f = In-find _ _ n e in
+      let is_left : is_left_of c.nodes n.key ≡ true = left_is n f.0 (not-true n.gone (and_right _ _ f.1)) in
       elim (n.allocated && (not (has_strong c.nodes) && not strong_open)) as
       (λ (b : Bool). IfSome (when b (Loses n.key Cause.NoStrong)) (IsStep c)) [
         | true ↦ is_left
@@ -101,7 +86,7 @@ module _ (c : Collection) (sound : IsSound c) where
   -- where nothing fails early, the count is in range
   count_is : (head : NodeKey) → early_failure head c.nodes ≡ None →
       (1 ≤ (wanted_by head c.nodes).count) × ((wanted_by head c.nodes).count ≤ MAX_BUFFERS)
-  count_is head e = from (not (has_strong c.nodes)) ((wanted_by head c.nodes).count == 0)
+  count_is head e = from _ ((wanted_by head c.nodes).count == 0)
       (nat_lt MAX_BUFFERS (wanted_by head c.nodes).count) refl refl e
     where
       from : (a b d : Bool) → ((wanted_by head c.nodes).count == 0) ≡ b → nat_lt MAX_BUFFERS (wanted_by head c.nodes).count ≡ d →
@@ -110,11 +95,10 @@ module _ (c : Collection) (sound : IsSound c) where
       from true b d eb ed h = cc
       from false true d eb ed h = cc
       from false false true eb ed h = cc
-      from false false false eb ed h =
-          (positive (wanted_by head c.nodes).count eb, ltb-false MAX_BUFFERS (wanted_by head c.nodes).count ed)
+      from false false false eb ed h = (positive _ eb, ltb-false MAX_BUFFERS (wanted_by head c.nodes).count ed)
         where
           positive : (n : ℕ) → (n == 0) ≡ false → 1 ≤ n
-          positive zero h = let t : (0 == 0) ≡ true = refl in both_ways (0 == 0) t h
+          positive zero h = both_ways _ refl h
           positive (suc n) h = omega arith
 
   -- the root that waits is one of the nodes, is not gone, and has no buffers yet
@@ -122,21 +106,19 @@ module _ (c : Collection) (sound : IsSound c) where
       early_failure n.key c.nodes ≡ o →
       IsStep c (option_map_or (λ why. Loses n.key (Cause.Failed why)) o (Places n.key (wanted_by n.key c.nodes)))
   first_is n e waits (Some why) early =
-      let f = In-find is_root_left c.nodes n e in
-      left_is n f.0 (not-true n.gone (and_right (is_none n.parent) (not n.gone) f.1))
+      let f = In-find _ _ n e in
+      left_is n f.0 (not-true n.gone (and_right _ _ f.1))
   first_is n e waits None early =
-      let f = In-find is_root_left c.nodes n e in
-      let root : is_none n.parent ≡ true = and_left (is_none n.parent) (not n.gone) f.1 in
-      let stays : n.gone ≡ false = not-true n.gone (and_right (is_none n.parent) (not n.gone) f.1) in
+      let f = In-find _ _ n e in
+      let root : is_none n.parent ≡ true = and_left _ _ f.1 in
+      let stays : n.gone ≡ false = not-true n.gone (and_right _ _ f.1) in
       record {
         root = root_is n f.0 ∙ root;
         left = left_is n f.0 stays;
-        waits = waits_is n f.0 (or_left (is_none n.parent) n.attached root) stays waits;
-        unplaced = In-any (λ (m : Node). is_none m.parent && (not m.gone && not m.allocated)) c.nodes n f.0
-            (and_both (is_none n.parent) (not n.gone && not n.allocated) root
-            (and_both (not n.gone) (not n.allocated) (ap not stays) (ap not waits)));
+        waits = waits_is n f.0 (or_left _ _ root) stays waits;
+        unplaced = In-any _ _ n f.0 (and_both _ _ root (and_both _ _ (ap not stays) (ap not waits)));
         asked_for = asked_tie c.nodes n e;
-        count = count_is n.key early;
+        count = count_is _ early;
       }
 
   -- the root that is found waits for no node, and its allocation or its failure concerns it alone
@@ -145,27 +127,24 @@ module _ (c : Collection) (sound : IsSound c) where
       (option_and_then (λ (root : Node). when (not root.allocated && list_all (is_ready_node root.key) c.nodes) root)
       o)) (IsStep c)
   places_step None e = tt
-  places_step (Some n) e = from (not n.allocated && list_all (is_ready_node n.key) c.nodes) refl
+  places_step (Some n) e = from _ refl
     where
       from : (b : Bool) → (not n.allocated && list_all (is_ready_node n.key) c.nodes) ≡ b →
           IfSome (option_map (λ (n : Node). first_step c.nodes n.key) (when b n)) (IsStep c)
       from false h = tt
-      from true h = first_is n e (not-true n.allocated (and_left (not n.allocated) _ h)) (early_failure n.key c.nodes)
-          refl
+      from true h = first_is n e (not-true n.allocated (and_left _ _ h)) _ refl
 
   -- the head that is next is attached, is one of the nodes, and has no buffers yet
   later_is : (b : Buffers) (n : Node) → find (is_next_node c.nodes) c.nodes ≡ Some n → (o : Option Failure) →
       IsStep c (option_map_or (λ why. Loses n.key (Cause.Failed why)) o (Allocates n.key))
   later_is b n e o =
-      let f = In-find (is_next_node c.nodes) c.nodes n e in
-      let attached : n.attached ≡ true = and_left n.attached _ f.1 in
-      let rest = and_right n.attached _ f.1 in
-      let stays : n.gone ≡ false = not-true n.gone (and_left (not n.gone) _ rest) in
-      let more = and_right (not n.gone) _ rest in
-      let waits : n.allocated ≡ false = not-true n.allocated (and_left (not n.allocated) _ more) in
-      let above : option_map_or (λ parent. list_any (is_allocated_node parent) c.nodes) n.parent false ≡ true =
-      and_left _ _ (and_right (not n.allocated) _ more) in
-      from o f.0 attached stays waits (has_parent n.parent above)
+      let f = In-find _ _ n e in
+      let rest = and_right _ _ f.1 in
+      let stays : n.gone ≡ false = not-true n.gone (and_left _ _ rest) in
+      let more = and_right _ _ rest in
+      let waits : n.allocated ≡ false = not-true n.allocated (and_left _ _ more) in
+      let above = and_left _ _ (and_right _ _ more) in
+      from o f.0 (and_left _ _ f.1) stays waits (has_parent _ above)
     where
       has_parent : (p : Option NodeKey) →
           option_map_or (λ parent. list_any (is_allocated_node parent) c.nodes) p false ≡ true → is_none p ≡ false
@@ -178,7 +157,7 @@ module _ (c : Collection) (sound : IsSound c) where
       from (Some why) on attached stays waits child = left_is n on stays
       from None on attached stays waits child = record {
         attached = root_is n on ∙ child;
-        waits = waits_is n on (or_right (is_none n.parent) n.attached attached) stays waits;
+        waits = waits_is n on (or_right _ _ attached) stays waits;
       }
 
   -- without buffers no unit is next; with them the next head is a step by the lemma above
@@ -186,18 +165,14 @@ module _ (c : Collection) (sound : IsSound c) where
       IfSome (option_and_then (λ b. option_map (λ (n : Node). later_step c.nodes b n.key)
       (find (is_next_node c.nodes) c.nodes)) o) (IsStep c)
   allocates_step None = tt
-  allocates_step (Some b) = from (find (is_next_node c.nodes) c.nodes) refl
+  allocates_step (Some b) = from _ refl
     where
       from : (o : Option Node) → find (is_next_node c.nodes) c.nodes ≡ o →
           IfSome (option_map (λ (n : Node). later_step c.nodes b n.key) o) (IsStep c)
       from None e = tt
-      from (Some n) e = later_is b n e (late_failure n.key c.nodes b)
+      from (Some n) e = later_is b n e _
 
   -- a decision may be made, and changes something
   pub decided_steps : (strong_open : Bool) → IfSome (decided c.nodes c.buffers strong_open) (IsStep c)
-  decided_steps strong_open =
-      first_has (IsStep c) _ _ _ _
-      (ends_step (find (is_deserted_node c.nodes) c.nodes) refl)
-      (loses_step strong_open (find is_root_left c.nodes) refl)
-      (places_step (find is_root_left c.nodes) refl)
-      (allocates_step c.buffers)
+  decided_steps strong_open = first_has (IsStep c) _ _ _ _ (ends_step _ refl) (loses_step strong_open _ refl)
+      (places_step _ refl) (allocates_step c.buffers)

@@ -1,12 +1,7 @@
 -- The nodes of a unit go together, whatever is changed or forced.
-use Rattle.forest_store.proofs.Common.{◌≡◌, ℕ, zero, suc, ◌<◌, refl, ap, sym, ◌∙◌, subst, Bool, true, false, ◌||◌, ◌⊎◌, inl, inr, is_none, length, List, [], ◌∷◌, ◌++◌, map, reverse, Some, arith, list_all, NodeKey, same_key, In, In-map, both_ways, either_way, Effect, Node, is_left_of, affected, are_distinct, heads_itself, are_rooted, is_head}
-use Rattle.std.proofs.Common.{filter}
-use Rattle.sm_names.proofs.ListLaws.{In-append, In-filter}
-use Rattle.sm_names.proofs.SamenessLaws.{or_none_left, or_none_right}
-use Rattle.forest_store.specs.Nodes.{after_allocation, after_effect, given_buffers}
-use Rattle.forest_store.specs.Units.{GoTogether, are_united}
-use Rattle.forest_store.proofs.tables.Rooted.{distinct_one, left_parent}
-use Rattle.forest_store.proofs.tallies.Holding.{has_parent, line, own_head, shared, step, still_here}
+use Rattle.forest_store.proofs.Common.{◌≡◌, refl, ap, sym, ◌∙◌, Bool, true, false, ◌||◌, ◌⊎◌, inl, inr, List, [], ◌∷◌, ◌++◌, map, reverse, Some, list_all, NodeKey, same_key, In, In-map, both_ways, either_way, Effect, Node, affected, are_distinct, heads_itself, are_rooted, In-append, In-filter, or_none_left, or_none_right, after_allocation, after_effect, given_buffers, GoTogether, are_united, filter}
+use Rattle.forest_store.proofs.tables.Rooted.{distinct_one}
+use Rattle.forest_store.proofs.tallies.Holding.{in_unit, own_head}
 
 -- ---- some nodes
 
@@ -69,15 +64,15 @@ together_taken nodes f taken keeps goes old = record {
     stayed : (n a : Node) → a ≡ f n → a.gone ≡ false → (taken n ≡ false) × (n.gone ≡ false)
     stayed n a is here =
         let none : (taken n || n.gone) ≡ false = sym (keeps.gone n) ∙ (ap (λ (m : Node). m.gone) (sym is) ∙ here) in
-        (or_none_left (taken n) n.gone none, or_none_right (taken n) n.gone none)
+        (or_none_left _ _ none, or_none_right (taken n) _ none)
 
 -- where none goes
 pub together_same : (nodes : List Node) (f : Node → Node) → KeepsPlace f (λ n. false) → GoTogether nodes → GoTogether (map f nodes)
-together_same nodes f keeps = together_taken nodes f (λ n. false) keeps (λ n h on there unit own here stays bare e. cc)
+together_same nodes f keeps = together_taken _ f _ keeps (λ n h on there unit own here stays bare e. cc)
 
 -- an effect changes neither a node's unit nor its allocation, and takes none
 pub together_effect : (key : NodeKey) (effect : Effect) (nodes : List Node) → GoTogether nodes → GoTogether (after_effect key effect nodes)
-together_effect key effect nodes = together_same nodes (affected key effect) (keeps effect)
+together_effect key effect nodes = together_same _ _ (keeps effect)
   where
     keeps : (effect : Effect) → KeepsPlace (affected key effect) (λ n. false)
     keeps Effect.Bound = record { key = λ n. refl; head = λ n. refl; allocated = λ n. refl; gone = λ n. refl }
@@ -141,8 +136,7 @@ together_born nodes b here fresh alone kind old = record {
 
     -- the head of the newborn, where it is older
     above : (h : Node) → In h nodes → b.head ≡ h.key → (b.head ≡ b.key) ⊎ ((q : Node) × In q nodes × (b.head ≡ q.head)
-        × (b.allocated ≡ q.allocated)) →
-        (q : Node) × In q nodes × (b.head ≡ q.head) × (b.allocated ≡ q.allocated)
+        × (b.allocated ≡ q.allocated)) → (q : Node) × In q nodes × (b.head ≡ q.head) × (b.allocated ≡ q.allocated)
     above h there unit (inl own) = absurd (fresh h there (sym unit ∙ own))
     above h there unit (inr q) = q
 
@@ -179,41 +173,12 @@ StepsUp nodes taken = (n q : Node) (p : NodeKey) → In n nodes → In q nodes �
     n.attached ≡ false → n.allocated ≡ false → taken n ≡ true → taken q ≡ true
 
 module _ (nodes : List Node) (formed : AreFormed nodes) where
-  abbrev line_at : NodeKey → List NodeKey
-  line_at = line nodes formed.distinct formed.heads formed.rooted formed.united
-
-  -- no two nodes of the list have one key
-  one : (a b : Node) → In a nodes → In b nodes → a.key ≡ b.key → a ≡ b
-  one = distinct_one nodes formed.distinct
-
-  -- the line above a node is its parent and the line above that
-  step_at : (n : Node) → In n nodes → n.gone ≡ false → (p : NodeKey) → n.parent ≡ Some p → line_at n.key ≡ p ∷ line_at p
-  step_at = step nodes formed.distinct formed.heads formed.rooted formed.united
-
-  -- so goes its head
-  climbs : (taken : Node → Bool) → StepsUp nodes taken → (h : Node) → In h nodes → h.head ≡ h.key → h.gone ≡ false →
-      h.allocated ≡ false → (fuel : ℕ) (n : Node) → In n nodes → n.head ≡ h.key → n.gone ≡ false → length (line_at n.key) < fuel →
-      taken n ≡ true → taken h ≡ true
-  climbs taken steps h there own stays bare zero n on unit here few e = absurd (omega arith)
-  climbs taken steps h there own stays bare (suc fuel) n on unit here few e = elim (either_way (is_head n)) [
-    | inl is ↦
-        let same : n ≡ h = one n h on there
-        (sym (own_head nodes formed.distinct formed.heads formed.rooted formed.united n on is) ∙ unit) in
-        subst (λ (m : Node). taken m ≡ true) same e
-    | inr inner ↦
-        let up' = has_parent nodes formed.distinct formed.heads formed.rooted formed.united n inner in
-        let x = shared nodes formed.distinct formed.heads formed.rooted formed.united n on here inner up'.0 up'.1 in
-        let left : is_left_of nodes x.0.key ≡ true =
-        subst (λ (k : NodeKey). is_left_of nodes k ≡ true) (sym x.2) (left_parent nodes formed.rooted n up'.0 on here up'.1) in
-        let above : x.0.gone ≡ false = still_here nodes formed.distinct formed.heads formed.rooted formed.united x.0 x.1 left in
-        let long : length (line_at n.key) ≡ length (up'.0 ∷ line_at up'.0) = ap length (step_at n on here up'.0 up'.1) in
-        let same : length (line_at x.0.key) ≡ length (line_at up'.0) = ap (λ (k : NodeKey). length (line_at k)) x.2 in
-        climbs taken steps h there own stays bare fuel x.0 x.1 (x.3 ∙ unit) above (omega arith)
-        (steps n x.0 up'.0 on x.1 up'.1 x.2 here (or_none_right (is_none n.parent) n.attached inner)
-        (formed.together.alike n h on there unit own stays ∙ bare) e)
-  ]
-
   -- by induction on the line above: each step up stays in the unit until its head
   pub goes_up : (taken : Node → Bool) → StepsUp nodes taken → GoesUp nodes taken
-  goes_up taken steps n h on there unit own here stays bare e =
-      climbs taken steps h there own stays bare (suc (length (line_at n.key))) n on unit here (omega arith) e
+  goes_up taken steps n h on there unit own here stays bare =
+      in_unit nodes formed.distinct formed.heads formed.rooted formed.united
+      (λ m. m.head ≡ h.key → taken m ≡ true → taken h ≡ true)
+      (λ m on_m here_m top to e. rw (← (distinct_one _ formed.distinct m h on_m there
+      (sym (own_head nodes formed.distinct formed.heads formed.rooted formed.united m on_m top) ∙ to))) e)
+      (λ m q on_m here_m inner on_q up same climbs to e. climbs (same ∙ to) (steps m q q.key on_m on_q up refl here_m
+      (or_none_right _ _ inner) (formed.together.alike m h on_m there to own stays ∙ bare) e)) n on here unit

@@ -1,8 +1,5 @@
 -- The nodes of a unit are of one unit still, whatever is changed or forced.
-use Rattle.forest_store.proofs.Common.{◌≡◌, refl, ap, sym, ◌∙◌, Bool, true, false, ◌||◌, ◌&&◌, not, inl, inr, List, [], ◌∷◌, ◌++◌, map, reverse, is_none, filter, list_all, option_map_or, same_key, In, and_both, and_left, and_right, either_way, all_on, Node}
-use Rattle.std.proofs.lemmas.List.{reverse-append}
-use Rattle.sm_names.proofs.ListLaws.{In-reverse, list_all-filter}
-use Rattle.forest_store.specs.Units.{are_united, shares_unit}
+use Rattle.forest_store.proofs.Common.{◌≡◌, refl, ap, sym, ◌∙◌, Bool, true, false, ◌||◌, ◌&&◌, not, inl, inr, List, [], ◌∷◌, ◌++◌, map, reverse, is_none, filter, list_all, option_map_or, same_key, In, and_both, and_left, and_right, either_way, all_on, Node, reverse-append, In-reverse, list_all-filter, are_united, shares_unit}
 use Rattle.forest_store.proofs.tables.KeptRoots.{filter-reverse_aux, map-reverse_aux}
 
 -- what is kept of a node that stays in its unit
@@ -30,7 +27,7 @@ module _ (f : Node → Node) (keeps : KeepsUnit f) where
 
   -- nodes that are changed so stay united
   pub united_mapped : (ns : List Node) → are_united (reverse (map f ns)) ≡ are_united (reverse ns)
-  united_mapped ns = ap are_united (sym (map-reverse_aux f ns [])) ∙ united_map (reverse ns)
+  united_mapped ns = ap are_united (sym (map-reverse_aux f ns [])) ∙ united_map _
 
 -- ---- some of the nodes
 
@@ -38,25 +35,20 @@ module _ (f : Node → Node) (keeps : KeepsUnit f) where
 united_some : (p : Node → Bool) (ns : List Node) → are_united ns ≡ true → are_united (filter p ns) ≡ true
 united_some p [] united = refl
 united_some p (n ∷ ns) united =
-    let here : list_all (shares_unit n) ns ≡ true = and_left (list_all (shares_unit n) ns) (are_united ns) united in
-    let rest : are_united (filter p ns) ≡ true = united_some p ns (and_right (list_all (shares_unit n) ns) (are_united ns) united) in
+    let rest : are_united (filter p ns) ≡ true = united_some p ns (and_right _ _ united) in
     elim (either_way (p n)) [
-      | inl e ↦ rw e (and_both (list_all (shares_unit n) (filter p ns)) (are_united (filter p ns))
-          (list_all-filter (shares_unit n) p ns here)
-          rest)
+      | inl e ↦ rw e (and_both _ _ (list_all-filter _ p _ (and_left _ _ united)) rest)
       | inr e ↦ rw e rest
     ]
 
 -- they are united still
 pub united_filter : (p : Node → Bool) (ns : List Node) → are_united (reverse ns) ≡ true → are_united (reverse (filter p ns)) ≡ true
-united_filter p ns united = ap are_united (sym (filter-reverse_aux p ns [])) ∙ united_some p (reverse ns) united
+united_filter p ns united = ap are_united (sym (filter-reverse_aux p ns [])) ∙ united_some p _ united
 
 -- ---- one more node
 
 -- the new node stands first in the list turned round, and shares its unit with its parent
 pub united_born : (ns : List Node) (b : Node) → ((q : Node) → In q ns → shares_unit b q ≡ true) → are_united (reverse ns) ≡ true →
     are_united (reverse (ns ++ b ∷ [])) ≡ true
-united_born ns b shares united =
-    ap are_united (reverse-append ns (b ∷ []))
-    ∙ and_both (list_all (shares_unit b) (reverse ns)) (are_united (reverse ns)) (all_on (shares_unit b) (reverse ns) (λ q on.
-    shares q (In-reverse ns q on))) united
+united_born ns b shares united = ap are_united (reverse-append ns (b ∷ []))
+    ∙ and_both _ _ (all_on _ _ (λ q on. shares q (In-reverse _ q on))) united

@@ -1,25 +1,11 @@
 -- Entries that are counted stay so, where one is put among them.
-use Rattle.forest_store.proofs.Common.{◌≡◌, ℕ, zero, suc, ◌+◌, ◌<◌, ◌≤◌, ◌==◌, ◌&&◌, Bool, true, false, ◌⊎◌, inl, inr, List, [], ◌∷◌, map, length, get_or, set, if◌then◌else◌, cond, Option, Some, None, option_map, is_some, sym, ap, subst, ◌∙◌, refl, arith, AllByRecursion, cons_option, filter, list_all, list_any, eqb-true, eqb-false, NodeKey, same_key, In, In-map, and_left, and_right, both_ways, either_way, same_key-refl, same_key-true, some-injective, In-any, Table, node_at, Entry, Node, strong_count, over_except, Collection, AreRising, IsWhole, Shelf, are_filed, collection_in, is_filed, nodes_with, place_in, put_shelf, shelf_of, shelves_of, is_over, reserved_count}
-use Rattle.std.specs.List.{remove}
-use Rattle.std.proofs.lemmas.Bool.{ltb-true}
-use Rattle.sm_names.proofs.ListLaws.{times-le-length}
+use Rattle.forest_store.proofs.Common.{◌≡◌, ℕ, zero, suc, ◌+◌, ◌<◌, ◌≤◌, ◌==◌, ◌&&◌, Bool, true, false, ◌⊎◌, inl, inr, List, [], ◌∷◌, map, length, get_or, set, if◌then◌else◌, cond, Option, Some, None, option_map, is_some, sym, ap, subst, ◌∙◌, refl, arith, AllByRecursion, cons_option, filter, list_all, list_any, eqb-true, eqb-false, NodeKey, same_key, In, In-map, and_left, and_right, both_ways, either_way, same_key-refl, same_key-true, some-injective, In-any, Table, node_at, Entry, Node, strong_count, over_except, Collection, AreRising, IsWhole, Shelf, are_filed, collection_in, is_filed, nodes_with, place_in, put_shelf, shelf_of, shelves_of, is_over, reserved_count, remove, ltb-true, times-le-length, AreCounted, IsQuiescent, IsCounted, put_in, IsNotedIn, IsNoting, IsThinned, is_found, left_at, unless_over, is_strong, is_spent, camped}
+use Rattle.sm_names.proofs.SamenessLaws.{none_or_some}
 use Rattle.forest_store.specs.declared.node.End.{End}
-use Rattle.forest_store.specs.Calm.{AreCounted, AreCountedExcept, IsQuiescent, IsCounted, put_in}
-use Rattle.forest_store.specs.Garbage.{IsNotedIn, IsNoting, IsThinned}
-use Rattle.forest_store.specs.Garbage.{is_found, left_at, unless_over}
-use Rattle.forest_store.specs.Shelves.{is_strong}
-use Rattle.forest_store.specs.Nodes.{is_spent, with_end}
-use Rattle.forest_store.specs.Reserved.{camped}
-use Rattle.forest_store.proofs.changes.Altering.{looked-of}
-use Rattle.forest_store.proofs.quiescence.Calming.{IsPlain, calm_filter, calm_map, strong_filter, times_map}
-use Rattle.forest_store.proofs.tables.Hanging.{in_all, looked_there}
-use Rattle.forest_store.proofs.lists.Lookups.{looked-map}
-use Rattle.forest_store.proofs.leaving.Noted.{fewer_over, more_noted, not_over_but, noted_not}
-use Rattle.forest_store.proofs.shelves.Putting.{cases_place}
-use Rattle.forest_store.proofs.shelves.Showing.{filed-length}
-use Rattle.forest_store.proofs.quiescence.Steps.{all-In}
+use Rattle.forest_store.specs.Calm.{AreCountedExcept}
+use Rattle.forest_store.specs.Nodes.{with_end}
 use Rattle.forest_store.proofs.leaving.Thinning.{none-filter}
-use Rattle.forest_store.proofs.tallies.Reserved.{reserved_filter, reserved_map}
+use Rattle.forest_store.proofs.Basics.{looked-of, IsPlain, calm_filter, calm_map, strong_filter, times_map, in_all, looked_there, looked-map, fewer_over, more_noted, not_over_but, noted_not, cases_place, filed-length, all-In, reserved_filter, reserved_map}
 
 -- what is told of the collection of an entry by one table is told by another that shows the same
 pub moved : (t now : Table Node) (e : Entry) → collection_in now (shelf_of e) ≡ collection_in t (shelf_of e) → IsCounted t e →
@@ -77,9 +63,7 @@ counted_put t new [] rising but own = (own, tt)
 counted_put t new (e ∷ es) rising but own = cases_place e.id new.id (AreCounted t (put_in new (e ∷ es)))
     (λ same. rw same (
       own,
-      counted_behind t new.id es
-          (subst (λ (low : ℕ). AllByRecursion (λ (later : Shelf). low < later.id) (shelves_of es)) (eqb-true e.id new.id same) rising.0)
-          but.1,
+      counted_behind t new.id es (rw (← (eqb-true e.id new.id same)) rising.0) but.1,
     ))
     (λ other above. rw (other, above) (
       own,
@@ -94,8 +78,7 @@ counted_put t new (e ∷ es) rising but own = cases_place e.id new.id (AreCounte
 pub shelves_put : (new : Entry) (es : List Entry) → shelves_of (put_in new es) ≡ put_shelf (shelf_of new) (shelves_of es)
 shelves_put new [] = refl
 shelves_put new (e ∷ es) = cases_place e.id new.id (shelves_of (put_in new (e ∷ es)) ≡ put_shelf (shelf_of new) (shelves_of (e ∷ es)))
-    (λ same. rw same refl)
-    (λ other above. rw (other, above) refl)
+    (λ same. rw same refl) (λ other above. rw (other, above) refl)
     (λ other below. rw (other, below) (ap (λ ss. shelf_of e ∷ ss) (shelves_put new es)))
 
 -- ---- nodes that are forgotten
@@ -125,9 +108,8 @@ module _ (t now : Table Node) (named : (k : NodeKey) (n : Node) → node_at t k 
   -- by induction over the keys
   dropped_nodes : (keys : List NodeKey) → nodes_with now keys ≡ filter stays (nodes_with t keys)
   dropped_nodes [] = refl
-  dropped_nodes (k ∷ ks) =
-      ap (cons_option (node_at now k)) (dropped_nodes ks)
-      ∙ dropped_first k (node_at t k) (nodes_with t ks) refl (drops k)
+  dropped_nodes (k ∷ ks) = ap (cons_option (node_at now k)) (dropped_nodes ks)
+      ∙ dropped_first k _ _ refl (drops k)
 
   -- what does not stay was dropped, so it was gone
   dropped_over : (n : Node) → node_at t n.key ≡ Some n → stays n ≡ false → n.gone ≡ true
@@ -141,14 +123,14 @@ module _ (t now : Table Node) (named : (k : NodeKey) (n : Node) → node_at t k 
   dropped e whole counted =
       let nodes : List Node = nodes_with t e.keys.items in
       let over : (n : Node) → In n nodes → stays n ≡ false → n.gone ≡ true =
-      λ n on out. dropped_over n (in_all (λ (m : Node). node_at t m.key ≡ Some m) nodes (looked_there t named e.keys.items) n on) out in
+      λ n on out. dropped_over n (in_all _ _ (looked_there t named _) n on) out in
       record {
         calm = subst IsQuiescent (λ i. record (collection_in t (shelf_of e)) { nodes = sym (dropped_nodes e.keys.items) i })
-            (calm_filter (collection_in t (shelf_of e)) whole stays over counted.calm);
-        strong = counted.strong ∙ sym (strong_filter stays nodes over) ∙ ap strong_count (sym (dropped_nodes e.keys.items));
-        reserved = counted.reserved ∙ sym (reserved_filter stays nodes over) ∙ ap reserved_count (sym (dropped_nodes e.keys.items));
-        garbage_known = λ h. ap (list_any (over_except e.garbage.items)) (dropped_nodes e.keys.items)
-            ∙ none-filter stays (over_except e.garbage.items) nodes (counted.garbage_known h);
+            (calm_filter _ whole _ over counted.calm);
+        strong = counted.strong ∙ sym (strong_filter _ _ over) ∙ ap strong_count (sym (dropped_nodes _));
+        reserved = counted.reserved ∙ sym (reserved_filter _ _ over) ∙ ap reserved_count (sym (dropped_nodes _));
+        garbage_known = λ h. ap (list_any (over_except e.garbage.items)) (dropped_nodes _)
+            ∙ none-filter stays _ _ (counted.garbage_known h);
       }
 
   -- by induction over the entries
@@ -167,7 +149,7 @@ pub mapped_all : (t now : Table Node) (f : Node → Node) → ((n : Node) → Is
     AreCounted t es → AreCounted now es
 mapped_all t now f plain strong camps look [] garbage_known all = tt
 mapped_all t now f plain strong camps look (e ∷ es) garbage_known all =
-    let nodes : nodes_with now e.keys.items ≡ map f (nodes_with t e.keys.items) =
+    let nodes =
     looked-map f (node_at t) (node_at now) look e.keys.items in (
       record {
         calm = subst IsQuiescent (λ i. record (collection_in t (shelf_of e)) { nodes = sym nodes i }) (calm_map (collection_in t (shelf_of e)) f
@@ -190,8 +172,7 @@ counted_removed t (e ∷ es) (suc n) all = (all.0, counted_removed t es n all.1)
 
 -- and where one is another that is counted
 pub counted_set : (t : Table Node) (es : List Entry) (at : ℕ) (new : Entry) → (at < length es → IsCounted t (get_or es at new) →
-    IsCounted t new) →
-    AreCounted t es → AreCounted t (set es at new)
+    IsCounted t new) → AreCounted t es → AreCounted t (set es at new)
 counted_set t [] at new own all = tt
 counted_set t (e ∷ es) zero new own all = (own (omega arith) all.0, all.1)
 counted_set t (e ∷ es) (suc n) new own all = (all.0, counted_set t es n new (λ within. own (omega arith)) all.1)
@@ -254,7 +235,7 @@ none_left t now keys look (k ∷ ks) within =
 
 -- a key is one of its own list
 pub own_key : (ks : List NodeKey) (k : NodeKey) → In k ks → list_any (same_key k) ks ≡ true
-own_key ks k on = In-any (same_key k) ks k on (same_key-refl k)
+own_key ks k on = In-any _ _ k on (same_key-refl k)
 
 -- ---- ends that are put elsewhere
 
@@ -281,7 +262,7 @@ module _ (t : Table Node) (named : (k : NodeKey) (n : Node) → node_at t k ≡ 
       (is_over (record n { end = end }) ≡ true → e.id ≡ n.collection → list_any (same_key key) e.garbage.items ≡ true) →
       list_any (over_except e.garbage.items) (map f (nodes_with t e.keys.items)) ≡ false
   end_tidy e filed none apart = each_none (over_except e.garbage.items) (map f (nodes_with t e.keys.items)) (λ m there.
-      let x = In-map f (nodes_with t e.keys.items) m there in
+      let x = In-map f _ m there in
       ap (over_except e.garbage.items) x.2 ∙ from x.0 x.1 (either_way (same_key key x.0.key)))
     where
       from : (m : Node) → In m (nodes_with t e.keys.items) → (same_key key m.key ≡ true) ⊎ (same_key key m.key ≡ false) →
@@ -290,17 +271,14 @@ module _ (t : Table Node) (named : (k : NodeKey) (n : Node) → node_at t k ≡ 
           let same : f m ≡ m = λ i. record m { end = if other i then end else m.end } in
           ap (over_except e.garbage.items) same ∙ none_each (over_except e.garbage.items) (nodes_with t e.keys.items) none m on
       from m on (inl same) =
-          let found : node_at t m.key ≡ Some m =
-          in_all (λ (x : Node). node_at t x.key ≡ Some x) (nodes_with t e.keys.items) (looked_there t named e.keys.items) m on in
-          let two : Some n ≡ Some m = sym was ∙ ap (node_at t) (same_key-true key m.key same) ∙ found in
+          let found : node_at t m.key ≡ Some m = in_all _ _ (looked_there t named e.keys.items) m on in
+          let two : Some n ≡ Some m = sym was ∙ ap (node_at t) (same_key-true _ _ same) ∙ found in
           let one : n ≡ m = cc in
-          let own : (m.collection == e.id) ≡ true =
-          all-In (λ (x : Node). x.collection == e.id) (nodes_with t e.keys.items) m on (looked-of t e.id e.keys.items filed) in
+          let own : (m.collection == e.id) ≡ true = all-In _ _ m on (looked-of t e.id e.keys.items filed) in
           let is : is_over (f m) ≡ is_over (record n { end = end }) = rw same (ap (λ (x : Node). x.gone && is_spent end) (sym one)) in
           elim (either_way (is_over (record n { end = end }))) [
             | inl over ↦
-                noted_not e.garbage.items (f m) (subst (λ (j : NodeKey). list_any (same_key j) e.garbage.items ≡ true)
-                (same_key-true key m.key same)
+                noted_not e.garbage.items (f m) (rw (← (same_key-true key m.key same))
                 (apart over (sym (eqb-true m.collection e.id own) ∙ ap (λ (x : Node). x.collection) (sym one))))
             | inr not_over ↦ not_over_but e.garbage.items (f m) (is ∙ not_over)
           ]
@@ -319,12 +297,11 @@ module _ (t : Table Node) (named : (k : NodeKey) (n : Node) → node_at t k ≡ 
 -- an entry that notes more
 pub garbage : (t : Table Node) (es : List Entry) (at : ℕ) (new : Entry) → (at < length es → IsNoting (get_or es at new) new) →
     AreCounted t es → AreCounted t (set es at new)
-garbage t es at new known all = counted_set t es at new
-    (λ within counted.
+garbage t es at new known all = counted_set t _ at new (λ within counted.
     let old : Entry = get_or es at new in
     let more = known within in
-    recounted t old new (ap (collection_in t) more.shelf) more.strong more.reserved
-    (λ garbage_known. more_noted old.garbage.items new.garbage.items more.more (nodes_with t old.keys.items) (counted.garbage_known (more.garbage_known garbage_known)))
+    recounted t _ _ (ap (collection_in t) more.shelf) more.strong more.reserved
+    (λ garbage_known. more_noted _ _ more.more (nodes_with t old.keys.items) (counted.garbage_known (more.garbage_known garbage_known)))
     counted) all
 
 -- one of which the keys were thinned
@@ -332,13 +309,11 @@ pub counted_thinned : (t now : Table Node) (es : List Entry) (at : ℕ) (new : E
     (at < length es → IsThinned now (get_or es at new) new) →
     (at < length es → (k : NodeKey) → node_at now k ≡ left_at t (get_or es at new).keys.items k) →
     AreCounted now es → AreCounted now (set es at new)
-counted_thinned t now es at new thinned look all = counted_set now es at new
-    (λ within counted.
-    let old : Entry = get_or es at new in
+counted_thinned t now es at new thinned look all = counted_set _ _ at new (λ within counted.
     let is = thinned within in
-    let keys : List NodeKey = old.keys.items in
-    let none : list_any is_over (nodes_with now keys) ≡ false = none_left t now keys (look within) keys (own_key keys) in
-    recounted now old new
+    let keys : List NodeKey = (get_or es at new).keys.items in
+    let none : list_any is_over (nodes_with now keys) ≡ false = none_left t now _ (look within) _ (own_key _) in
+    recounted _ _ _
     (λ i. record {
       id = is.id i;
       nodes = (ap (nodes_with now) is.keys ∙ found_nodes now keys) i;
@@ -348,46 +323,41 @@ counted_thinned t now es at new thinned look all = counted_set now es at new
 
 -- and the others of the id, which there are not
 pub noted_set : (P : Entry → Type 0) (id : ℕ) (es : List Entry) (at : ℕ) (new : Entry) → AreRising (shelves_of es) →
-    place_in id es ≡ Some at → P new →
-    AllByRecursion (λ (e : Entry). e.id ≡ id → P e) (set es at new)
+    place_in id es ≡ Some at → P new → AllByRecursion (λ (e : Entry). e.id ≡ id → P e) (set es at new)
 noted_set P id [] at new rising told untidy = tt
-noted_set P id (e ∷ es) at new rising told untidy =
-    from (λ n is. noted_set P id es n new rising.1 is untidy) (e.id == id) refl (place_in id es) refl told
+noted_set P id (e ∷ es) at new rising told untidy = elim (either_way (e.id == id)) [
+  | inl here ↦
+      let given = rw here at told in
+      let first : zero ≡ at = cc in
+      rw (← first) (
+        λ same. untidy,
+        above es (subst (λ (low : ℕ). AllByRecursion (λ (later : Shelf). low < later.id) (shelves_of es)) (eqb-true _ _ here) rising.0),
+      )
+  | inr other ↦ elim (none_or_some (place_in id es)) [
+    | inl none ↦ let given = rw (other, none) at told in absurd (cc)
+    | inr x ↦
+        let given = rw (other, x.1) at told in
+        let next : at ≡ suc x.0 = omega (arith, some-injective (x.0 + 1) at given) in
+        rw next (λ same. absurd (eqb-false _ _ other same), noted_set P id es x.0 new rising.1 x.1 untidy)
+  ]
+]
   where
     above : (xs : List Entry) → AllByRecursion (λ (later : Shelf). id < later.id) (shelves_of xs) →
         AllByRecursion (λ (x : Entry). x.id ≡ id → P x) xs
     above [] all = tt
     above (x ∷ xs) all = (λ is. absurd (omega (arith, all.0)), above xs all.1)
 
-    from : ((n : ℕ) → place_in id es ≡ Some n → AllByRecursion (λ (x : Entry). x.id ≡ id → P x) (set es n new)) →
-        (here : Bool) → (e.id == id) ≡ here → (behind : Option ℕ) → place_in id es ≡ behind →
-        cond here (Some 0) (option_map (λ n. n + 1) behind) ≡ Some at →
-        AllByRecursion (λ (x : Entry). x.id ≡ id → P x) (set (e ∷ es) at new)
-    from on true here behind is told =
-        let first : zero ≡ at = cc in
-        rw (← first) (
-          λ same. untidy,
-          above es
-              (subst (λ (low : ℕ). AllByRecursion (λ (later : Shelf). low < later.id) (shelves_of es)) (eqb-true e.id id here) rising.0),
-        )
-    from on false other None is told = absurd (cc)
-    from on false other (Some n) is told =
-        let next : at ≡ suc n = omega (arith, some-injective (n + 1) at told) in
-        rw next (λ same. absurd (eqb-false e.id id other same), on n is)
-
 -- where none has the id
-pub noted_none : (P : Entry → Type 0) (id : ℕ) (es : List Entry) → place_in id es ≡ None → AllByRecursion (λ (e : Entry). e.id ≡ id →
-    P e) es
+pub noted_none : (P : Entry → Type 0) (id : ℕ) (es : List Entry) → place_in id es ≡ None →
+    AllByRecursion (λ (e : Entry). e.id ≡ id → P e) es
 noted_none P id [] told = tt
-noted_none P id (e ∷ es) told = from (noted_none P id es) (e.id == id) refl (place_in id es) refl told
-  where
-    from : (place_in id es ≡ None → AllByRecursion (λ (x : Entry). x.id ≡ id → P x) es) →
-        (here : Bool) → (e.id == id) ≡ here → (behind : Option ℕ) → place_in id es ≡ behind →
-        cond here (Some 0) (option_map (λ n. n + 1) behind) ≡ None →
-        AllByRecursion (λ (x : Entry). x.id ≡ id → P x) (e ∷ es)
-    from on true here behind is told = absurd (cc)
-    from on false other None is told = (λ same. absurd (eqb-false e.id id other same), on is)
-    from on false other (Some n) is told = absurd (cc)
+noted_none P id (e ∷ es) told = elim (either_way (e.id == id)) [
+  | inl here ↦ let given = rw here at told in absurd (cc)
+  | inr other ↦ elim (none_or_some (place_in id es)) [
+    | inl none ↦ (λ same. absurd (eqb-false _ _ other same), noted_none P id es none)
+    | inr x ↦ let given = rw (other, x.1) at told in absurd (cc)
+  ]
+]
 
 -- an entry that shows the same in the place of another
 pub set_shelves : (es : List Entry) (at : ℕ) (new : Entry) → (at < length es → shelf_of new ≡ shelf_of (get_or es at new)) →

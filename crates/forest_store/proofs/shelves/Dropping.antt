@@ -1,10 +1,7 @@
 -- Entries of which one loses keys, or goes.
-use Rattle.forest_store.proofs.Common.{◌≡◌, ℕ, zero, suc, ◌+◌, ◌==◌, Bool, true, false, List, [], ◌∷◌, get_or, set, Option, Some, None, option_map, cond, refl, sym, ap, subst, ◌∙◌, arith, eq-eqb, find, some-injective, Table, Entry, Node, Shelf, AreRising, place_in, shelf_of, shelves_of}
-use Rattle.std.proofs.Common.{remove}
-use Rattle.forest_store.specs.Garbage.{is_bare, thin_in, thinned, without_bare}
-use Rattle.forest_store.proofs.shelves.Entries.{none_in}
-use Rattle.forest_store.proofs.shelves.Showing.{shelf_found}
+use Rattle.forest_store.proofs.Common.{◌≡◌, ℕ, zero, suc, ◌+◌, ◌==◌, Bool, true, false, List, [], ◌∷◌, get_or, set, Option, Some, None, option_map, cond, refl, sym, ap, subst, ◌∙◌, arith, eq-eqb, find, some-injective, Table, Entry, Node, Shelf, AreRising, place_in, shelf_of, shelves_of, is_bare, thin_in, thinned, without_bare, remove}
 use Rattle.forest_store.proofs.leaving.Tidying.{above_other, bare_others, none_others, thin_others}
+use Rattle.forest_store.proofs.Basics.{none_in, shelf_found}
 
 -- where no entry has the id no shelf has it
 pub no_shelf : (id : ℕ) (es : List Entry) → place_in id es ≡ None → find (λ (s : Shelf). s.id == id) (shelves_of es) ≡ None
@@ -12,18 +9,18 @@ no_shelf id es none = shelf_found id es ∙ ap (option_map shelf_of) (none_in id
 
 -- and nothing goes
 pub bare_none : (id : ℕ) (es : List Entry) → place_in id es ≡ None → shelves_of es ≡ without_bare id (shelves_of es)
-bare_none id es none = sym (bare_others id (shelves_of es) (none_others id (shelves_of es) (no_shelf id es none)))
+bare_none id es none = sym (bare_others _ _ (none_others _ _ (no_shelf id es none)))
 
 -- what is told of the first place, or of one behind it
 place_cases : (id : ℕ) (x : Entry) (es : List Entry) (at : ℕ) (P : ℕ → Type 0) → place_in id (x ∷ es) ≡ Some at →
     ((x.id == id) ≡ true → P zero) → ((n : ℕ) → (x.id == id) ≡ false → place_in id es ≡ Some n → P (suc n)) → P at
-place_cases id x es at P told first behind = by (x.id == id) refl (place_in id es) refl told
+place_cases id x es at P told first behind = by _ refl _ refl told
   where
     by : (b : Bool) → (x.id == id) ≡ b → (o : Option ℕ) → place_in id es ≡ o → cond b (Some 0) (option_map (λ n. n + 1) o) ≡ Some at → P at
     by true same o is told = let start : zero ≡ at = cc in subst P start (first same)
     by false other None is told = absurd (cc)
     by false other (Some n) is told =
-        let next : suc n ≡ at = omega (arith, some-injective (n + 1) at told) in
+        let next : suc n ≡ at = omega (arith, some-injective _ at told) in
         subst P next (behind n other is)
 
 -- the entry at the place of the id keeps the keys that the table has
@@ -31,42 +28,37 @@ pub set_thin : (t : Table Node) (id : ℕ) (es : List Entry) (at : ℕ) (e : Ent
     shelf_of e ≡ thinned t (shelf_of (get_or es at e)) → shelves_of (set es at e) ≡ thin_in t id (shelves_of es)
 set_thin t id [] at e rising told is = absurd (cc)
 set_thin t id (x ∷ es) at e rising told is =
-    place_cases id x es at (λ at. shelf_of e ≡ thinned t (shelf_of (get_or (x ∷ es) at e)) →
+    place_cases _ x _ at (λ at. shelf_of e ≡ thinned t (shelf_of (get_or (x ∷ es) at e)) →
     shelves_of (set (x ∷ es) at e) ≡ thin_in t id (shelves_of (x ∷ es))) told
-    (λ same is. rw (same, thin_others t id (shelves_of es) (above_other id x.id (shelves_of es) rising.0 same)) (ap (λ s.
-    s ∷ shelves_of es) is))
-    (λ n other told is. rw other (ap (λ l. shelf_of x ∷ l) (set_thin t id es n e rising.1 told is)))
-    is
+    (λ same is. rw (same, thin_others t _ _ (above_other _ _ _ rising.0 same)) (ap (λ s. s ∷ shelves_of es) is))
+    (λ n other told is. rw other (ap (λ l. shelf_of x ∷ l) (set_thin t id es n e rising.1 told is))) is
 
 -- the entry at the place of the id goes, if it is bare
 pub remove_bare : (id : ℕ) (es : List Entry) (at : ℕ) (d : Entry) → AreRising (shelves_of es) → place_in id es ≡ Some at →
     is_bare (shelf_of (get_or es at d)) ≡ true → shelves_of (remove es at) ≡ without_bare id (shelves_of es)
 remove_bare id [] at d rising told bare = absurd (cc)
 remove_bare id (x ∷ es) at d rising told bare =
-    place_cases id x es at (λ at. is_bare (shelf_of (get_or (x ∷ es) at d)) ≡ true →
+    place_cases _ x _ at (λ at. is_bare (shelf_of (get_or (x ∷ es) at d)) ≡ true →
     shelves_of (remove (x ∷ es) at) ≡ without_bare id (shelves_of (x ∷ es))) told
-    (λ same bare. rw (same, bare) (sym (bare_others id (shelves_of es) (above_other id x.id (shelves_of es) rising.0 same))))
-    (λ n other told bare. rw other (ap (λ l. shelf_of x ∷ l) (remove_bare id es n d rising.1 told bare)))
-    bare
+    (λ same bare. rw (same, bare) (sym (bare_others _ _ (above_other _ _ _ rising.0 same))))
+    (λ n other told bare. rw other (ap (λ l. shelf_of x ∷ l) (remove_bare id es n d rising.1 told bare))) bare
 
 -- and stays, if it is not
 pub keep_bare : (id : ℕ) (es : List Entry) (at : ℕ) (d : Entry) → AreRising (shelves_of es) → place_in id es ≡ Some at →
     is_bare (shelf_of (get_or es at d)) ≡ false → shelves_of es ≡ without_bare id (shelves_of es)
 keep_bare id [] at d rising told bare = absurd (cc)
 keep_bare id (x ∷ es) at d rising told bare =
-    place_cases id x es at (λ at. is_bare (shelf_of (get_or (x ∷ es) at d)) ≡ false →
-    shelves_of (x ∷ es) ≡ without_bare id (shelves_of (x ∷ es))) told
-    (λ same bare. rw (same, bare) (ap (λ l.
-    shelf_of x ∷ l) (sym (bare_others id (shelves_of es) (above_other id x.id (shelves_of es) rising.0 same)))))
-    (λ n other told bare. rw other (ap (λ l. shelf_of x ∷ l) (keep_bare id es n d rising.1 told bare)))
-    bare
+    place_cases _ x _ at (λ at. is_bare (shelf_of (get_or (x ∷ es) at d)) ≡ false →
+    shelves_of (x ∷ es) ≡ without_bare id (shelves_of (x ∷ es))) told (λ same bare. rw (same, bare) (ap (λ l.
+    shelf_of x ∷ l) (sym (bare_others _ _ (above_other _ _ _ rising.0 same)))))
+    (λ n other told bare. rw other (ap (λ l. shelf_of x ∷ l) (keep_bare id es n d rising.1 told bare))) bare
 
 -- nor does one that is put in its place, if that is not bare
 pub keep_set : (id : ℕ) (es : List Entry) (at : ℕ) (e : Entry) → AreRising (shelves_of es) → place_in id es ≡ Some at → e.id ≡ id →
     is_bare (shelf_of e) ≡ false → without_bare id (shelves_of (set es at e)) ≡ shelves_of (set es at e)
 keep_set id [] at e rising told own bare = absurd (cc)
 keep_set id (x ∷ es) at e rising told own bare =
-    place_cases id x es at (λ at. without_bare id (shelves_of (set (x ∷ es) at e)) ≡ shelves_of (set (x ∷ es) at e)) told
+    place_cases _ x _ at (λ at. without_bare id (shelves_of (set (x ∷ es) at e)) ≡ shelves_of (set (x ∷ es) at e)) told
     (λ same. rw (eq-eqb e.id id own, bare) (ap (λ l.
-    shelf_of e ∷ l) (bare_others id (shelves_of es) (above_other id x.id (shelves_of es) rising.0 same))))
+    shelf_of e ∷ l) (bare_others _ _ (above_other _ _ _ rising.0 same))))
     (λ n other told. rw other (ap (λ l. shelf_of x ∷ l) (keep_set id es n e rising.1 told own bare)))

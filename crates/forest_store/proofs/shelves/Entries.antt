@@ -1,12 +1,11 @@
 -- Where a collection stands among entries of rising ids.
-use Rattle.forest_store.proofs.Common.{◌≡◌, ◌≢◌, ℕ, zero, suc, ◌+◌, ◌<◌, ◌≤◌, Bool, true, false, nat_lt, ◌==◌, List, [], ◌∷◌, length, get_or, set, Option, Some, None, option_map, cond, refl, sym, ap, ◌∙◌, subst, arith, inl, inr, AllByRecursion, find, eqb-true, lt-ltb, eq-eqb, some-injective, Entry, Shelf, AreRising, place_in, shelf_of, shelves_of}
-use Rattle.std.specs.List.{prefix_len, slice_get, insert}
-use Rattle.std.specs.List.Sorted.{IsNonDecreasingBy, IsPartitionPoint}
+use Rattle.forest_store.proofs.Common.{◌≡◌, ◌≢◌, ℕ, zero, suc, ◌+◌, ◌<◌, ◌≤◌, Bool, true, false, nat_lt, ◌==◌, List, [], ◌∷◌, length, get_or, set, Option, Some, None, option_map, cond, refl, sym, ap, ◌∙◌, subst, arith, inl, inr, AllByRecursion, find, eqb-true, lt-ltb, eq-eqb, some-injective, Entry, Shelf, AreRising, place_in, shelf_of, shelves_of, slice_get, insert, IsNonDecreasingBy, le-ltb, ne_eqb, cases_lt, put_in, either_way}
+use Rattle.sm_names.proofs.SamenessLaws.{none_or_some}
+use Rattle.std.specs.List.{prefix_len}
+use Rattle.std.specs.List.Sorted.{IsPartitionPoint}
 use Rattle.std.proofs.lemmas.List.Elements.{All-from_recursion}
-use Rattle.std.proofs.lemmas.Bool.{le-ltb, ne_eqb, cases_lt}
 use Rattle.std.proofs.lemmas.Option.{slice_get-get_or}
 use Rattle.std.proofs.lemmas.List.Sums.{prefix_len_is, prefix_len-le-length}
-use Rattle.forest_store.specs.Calm.{put_in}
 
 -- ids that are greater, of shelves and of entries
 pub above_shelves : (id : ℕ) (es : List Entry) → AllByRecursion (λ (later : Shelf). id < later.id) (shelves_of es) →
@@ -19,8 +18,7 @@ pub rises : (es : List Entry) → AreRising (shelves_of es) → IsNonDecreasingB
 rises [] rising i j d le within = absurd (omega arith)
 rises (e ∷ es) rising zero zero d le within = omega arith
 rises (e ∷ es) rising zero (suc j) d le within =
-    let below : e.id < (get_or es j d).id =
-    All-from_recursion (λ (later : Entry). e.id < later.id) es (above_shelves e.id es rising.0) j d (omega arith) in
+    let below : e.id < (get_or es j d).id = All-from_recursion _ _ (above_shelves _ _ rising.0) j d (omega arith) in
     omega arith
 rises (e ∷ es) rising (suc i) zero d le within = absurd (omega arith)
 rises (e ∷ es) rising (suc i) (suc j) d le within = rises es rising.1 i j d (omega arith) (omega arith)
@@ -31,7 +29,7 @@ pub rises_above : (es : List Entry) → AreRising (shelves_of es) → (i j : ℕ
 rises_above [] rising i j d less within = absurd (omega arith)
 rises_above (e ∷ es) rising zero zero d less within = absurd (omega arith)
 rises_above (e ∷ es) rising zero (suc j) d less within =
-    All-from_recursion (λ (later : Entry). e.id < later.id) es (above_shelves e.id es rising.0) j d (omega arith)
+    All-from_recursion _ _ (above_shelves _ _ rising.0) j d (omega arith)
 rises_above (e ∷ es) rising (suc i) zero d less within = absurd (omega arith)
 rises_above (e ∷ es) rising (suc i) (suc j) d less within = rises_above es rising.1 i j d (omega arith) (omega arith)
 
@@ -60,13 +58,12 @@ pub before_equal : (id : ℕ) (es : List Entry) (at : ℕ) (d : Entry) → AreRi
     (get_or es at d).id ≡ id → at ≡ before id es
 before_equal id es at d rising within same =
     sym (prefix_len_is (λ (e : Entry). nat_lt e.id id) es at d (omega arith)
-    (λ k less. lt-ltb (get_or es k d).id id
-    (let rise : (get_or es k d).id < (get_or es at d).id = rises_above es rising k at d less within in omega arith))
+    (λ k less. lt-ltb (get_or es k d).id id (omega (arith, rises_above _ rising k at d less within)))
     (λ less. le-ltb (get_or es at d).id id (omega arith)))
 
 -- no more than there are
 pub before_within : (id : ℕ) (es : List Entry) → before id es ≤ length es
-before_within id es = prefix_len-le-length (λ (e : Entry). nat_lt e.id id) es
+before_within id es = prefix_len-le-length _ es
 
 -- no entry has the id, where all are greater
 pub none_above : (id : ℕ) (es : List Entry) → AllByRecursion (λ (e : Entry). id < e.id) es → place_in id es ≡ None
@@ -139,38 +136,34 @@ place_behind id e es at n other is place =
       id_is = λ d. place.id_is d;
     })
 
--- by whether the first entry has the id
-place_is-by : (id : ℕ) (e : Entry) (es : List Entry) (at : ℕ) (here : Bool) → (e.id == id) ≡ here → (behind : Option ℕ) →
-    ((n : ℕ) → behind ≡ Some n → IsPlace id es n) → cond here (Some 0) (option_map (λ n. n + 1) behind) ≡ Some at → IsPlace id (e ∷ es) at
-place_is-by id e es at true here behind on told =
-    let first : zero ≡ at = cc in
-    subst (IsPlace id (e ∷ es)) first (record {
-      within = omega arith;
-      found = λ d. rw here refl;
-      id_is = λ d. eqb-true e.id id here;
-    })
-place_is-by id e es at false other None on told = absurd (cc)
-place_is-by id e es at false other (Some n) on told =
-    let next : n + 1 ≡ at = cc in
-    place_behind id e es at n other next (on n refl)
-
 -- the place that is told is that of the first entry with the id
 pub place_is : (id : ℕ) (es : List Entry) (at : ℕ) → place_in id es ≡ Some at → IsPlace id es at
 place_is id [] at told = absurd (cc)
-place_is id (e ∷ es) at told = place_is-by id e es at (e.id == id) refl (place_in id es) (place_is id es) told
-
--- the same where none is told
-none_in-by : (id : ℕ) (e : Entry) (es : List Entry) (here : Bool) → (e.id == id) ≡ here → (behind : Option ℕ) →
-    (behind ≡ None → find (λ (x : Entry). x.id == id) es ≡ None) → cond here (Some 0) (option_map (λ n. n + 1) behind) ≡ None →
-    find (λ (x : Entry). x.id == id) (e ∷ es) ≡ None
-none_in-by id e es true here behind on told = absurd (cc)
-none_in-by id e es false other None on told = rw other (on refl)
-none_in-by id e es false other (Some n) on told = absurd (cc)
+place_is id (e ∷ es) at told = elim (either_way (e.id == id)) [
+  | inl here ↦
+      let given = rw here at told in
+      let first : zero ≡ at = cc in
+      subst (IsPlace id (e ∷ es)) first
+      (record { within = omega arith; found = λ d. rw here refl; id_is = λ d. eqb-true e.id id here })
+  | inr other ↦ elim (none_or_some (place_in id es)) [
+    | inl none ↦ let given = rw (other, none) at told in absurd (cc)
+    | inr x ↦
+        let given = rw (other, x.1) at told in
+        let next : x.0 + 1 ≡ at = cc in
+        place_behind _ e _ at _ other next (place_is id es x.0 x.1)
+  ]
+]
 
 -- where there is no place, no entry has the id
 pub none_in : (id : ℕ) (es : List Entry) → place_in id es ≡ None → find (λ (e : Entry). e.id == id) es ≡ None
 none_in id [] told = refl
-none_in id (e ∷ es) told = none_in-by id e es (e.id == id) refl (place_in id es) (none_in id es) told
+none_in id (e ∷ es) told = elim (either_way (e.id == id)) [
+  | inl here ↦ let given = rw here at told in absurd (cc)
+  | inr other ↦ elim (none_or_some (place_in id es)) [
+    | inl none ↦ rw other (none_in id es none)
+    | inr x ↦ let given = rw (other, x.1) at told in absurd (cc)
+  ]
+]
 
 -- the entry at the place that is told is found
 pub placed : (id : ℕ) (es : List Entry) (at : ℕ) → place_in id es ≡ Some at → slice_get es at ≡ find (λ (e : Entry). e.id == id) es
@@ -202,8 +195,8 @@ set_put-by new x es at rising true here behind told on is =
     rw (← first, here) refl
 set_put-by new x es at rising false other None told on is = absurd (cc)
 set_put-by new x es at rising false other (Some n) told on is =
-    let next : at ≡ suc n = omega (arith, some-injective (n + 1) at is) in
-    let below : x.id < new.id = found_above new.id es n (shelf_of x) (place_is new.id es n told) rising.0 in
+    let next : at ≡ suc n = omega (arith, some-injective _ at is) in
+    let below : x.id < new.id = found_above _ _ n (shelf_of x) (place_is _ _ n told) rising.0 in
     let more : nat_lt new.id x.id ≡ false = le-ltb _ _ (omega arith) in
     rw (next, other, more) (ap (λ xs. x ∷ xs) (on n refl))
 
@@ -212,7 +205,7 @@ pub set_put : (new : Entry) (es : List Entry) (at : ℕ) → AreRising (shelves_
     set es at new ≡ put_in new es
 set_put new [] at rising told = absurd (cc)
 set_put new (x ∷ es) at rising told =
-    set_put-by new x es at rising (x.id == new.id) refl (place_in new.id es) refl (λ n is. set_put new es n rising.1 is) told
+    set_put-by _ x _ at rising (x.id == new.id) refl (place_in new.id es) refl (λ n is. set_put new es n rising.1 is) told
 
 -- an entry where its place is, if none has its id
 pub insert_put : (new : Entry) (es : List Entry) → AreRising (shelves_of es) → place_in new.id es ≡ None →

@@ -1,9 +1,5 @@
 -- A shelf that is put in its place among others.
-use Rattle.forest_store.proofs.Common.{◌≡◌, ℕ, ◌<◌, ◌==◌, nat_lt, true, false, ◌&&◌, not, List, [], ◌∷◌, ◌++◌, map, refl, sym, ap, subst, ◌∙◌, inl, inr, arith, list_all, filter, AllByRecursion, lt-ltb, eq-eqb, eqb-true, eqb-false, NodeKey, HeldBuffer, Table, Node, Collection, Shelf, AreRising, put_shelf, collection_in, all_keys, are_filed, is_filed, put}
-use Rattle.std.specs.List.{flat_map}
-use Rattle.std.proofs.lemmas.Bool.{le-ltb, ne_eqb, cases_lt, cases_eq, ltb-true, ltb-false}
-use Rattle.std.proofs.lemmas.List.{map-append}
-use Rattle.forest_store.specs.Forest.{pages_in}
+use Rattle.forest_store.proofs.Common.{◌≡◌, ℕ, ◌<◌, ◌==◌, nat_lt, true, false, ◌&&◌, not, List, [], ◌∷◌, ◌++◌, map, refl, sym, ap, subst, ◌∙◌, inl, inr, arith, list_all, filter, AllByRecursion, lt-ltb, eq-eqb, eqb-true, eqb-false, NodeKey, HeldBuffer, Table, Node, Collection, Shelf, AreRising, put_shelf, collection_in, all_keys, are_filed, is_filed, put, flat_map, le-ltb, ne_eqb, cases_lt, cases_eq, ltb-true, ltb-false, map-append, pages_in}
 use Rattle.forest_store.proofs.lists.SameIntervals.{Alike, Alike-refl, Alike-trans, Alike-front, Alike-shift, less_of}
 
 -- three ways in which one number lies to another
@@ -28,22 +24,21 @@ above-put : (low : ℕ) (new : Shelf) (ss : List Shelf) → low < new.id → All
     AllByRecursion (λ (later : Shelf). low < later.id) (put_shelf new ss)
 above-put low new [] less all = (less, tt)
 above-put low new (s ∷ ss) less all = cases_place s.id new.id (AllByRecursion (λ (later : Shelf). low < later.id) (put_shelf new (s ∷ ss)))
-    (λ same. rw same (less, all.1))
-    (λ other above. rw (other, above) (less, all))
+    (λ same. rw same (less, all.1)) (λ other above. rw (other, above) (less, all))
     (λ other below. rw (other, below) (all.0, above-put low new ss less all.1))
 
 -- the ids still rise
 pub rising-put : (new : Shelf) (ss : List Shelf) → AreRising ss → AreRising (put_shelf new ss)
 rising-put new [] rising = (tt, tt)
-rising-put new (s ∷ ss) rising = cases_place s.id new.id (AreRising (put_shelf new (s ∷ ss)))
+rising-put new (s ∷ ss) rising = cases_place _ _ _
     (λ same. rw same (
-      subst (λ (id : ℕ). AllByRecursion (λ (later : Shelf). id < later.id) ss) (eqb-true s.id new.id same) rising.0,
+      rw (← (eqb-true s.id new.id same)) rising.0,
       rising.1,
     ))
     (λ other above. let less : new.id < s.id = ltb-true _ _ above in
-    rw (other, above) ((less, above-weaker new.id s.id ss less rising.0), rising))
-    (λ other below. let less : s.id < new.id = less_of new.id s.id (λ same. eqb-false s.id new.id other (sym same)) (ltb-false _ _ below) in
-    rw (other, below) (above-put s.id new ss less rising.0, rising-put new ss rising.1))
+    rw (other, above) ((less, above-weaker _ _ _ less rising.0), rising))
+    (λ other below. let less : s.id < new.id = less_of _ _ (λ same. eqb-false s.id new.id other (sym same)) (ltb-false _ _ below) in
+    rw (other, below) (above-put _ _ _ less rising.0, rising-put new ss rising.1))
 
 -- the collections are put so
 pub put-map : (t : Table Node) (new : Shelf) (ss : List Shelf) →
@@ -51,8 +46,7 @@ pub put-map : (t : Table Node) (new : Shelf) (ss : List Shelf) →
 put-map t new [] = refl
 put-map t new (s ∷ ss) =
     cases_place s.id new.id (map (collection_in t) (put_shelf new (s ∷ ss)) ≡ put (collection_in t new) (map (collection_in t) (s ∷ ss)))
-    (λ same. rw same refl)
-    (λ other above. rw (other, above) refl)
+    (λ same. rw same refl) (λ other above. rw (other, above) refl)
     (λ other below. rw (other, below) (ap (λ cs. collection_in t s ∷ cs) (put-map t new ss)))
 
 -- two shelves of one id with the same keys give the same keys
@@ -60,8 +54,7 @@ pub keys-put : (one other : Shelf) (ss : List Shelf) → one.id ≡ other.id →
     all_keys (put_shelf one ss) ≡ all_keys (put_shelf other ss)
 keys-put one other [] ids keys = rw keys refl
 keys-put one other (s ∷ ss) ids keys = cases_place s.id other.id (all_keys (put_shelf one (s ∷ ss)) ≡ all_keys (put_shelf other (s ∷ ss)))
-    (λ same. rw (ids, keys, same) refl)
-    (λ differ above. rw (ids, keys, differ, above) refl)
+    (λ same. rw (ids, keys, same) refl) (λ differ above. rw (ids, keys, differ, above) refl)
     (λ differ below. rw (ids, differ, below) (ap (λ ks. s.keys ++ ks) (keys-put one other ss ids keys)))
 
 -- what two tables that file the same say of keys
@@ -82,8 +75,7 @@ pub filed-put : (t : Table Node) (one other : Shelf) (ss : List Shelf) → one.i
 filed-put t one other [] ids keys = rw (ids, keys) refl
 filed-put t one other (s ∷ ss) ids keys =
     cases_place s.id other.id (are_filed t (put_shelf one (s ∷ ss)) ≡ are_filed t (put_shelf other (s ∷ ss)))
-    (λ same. rw (ids, keys, same) refl)
-    (λ differ above. rw (ids, keys, differ, above) refl)
+    (λ same. rw (ids, keys, same) refl) (λ differ above. rw (ids, keys, differ, above) refl)
     (λ differ below. rw (ids, differ, below) (ap (λ b. list_all (is_filed t s.id) s.keys && b) (filed-put t one other ss ids keys)))
 
 -- ---- pages
@@ -107,18 +99,14 @@ others-above t id (s ∷ ss) all =
 pub pages-put : (t : Table Node) (c : Collection) (ss : List Shelf) → AreRising ss →
     Alike (flat_map pages_in (put c (map (collection_in t) ss))) (pages_in c ++ flat_map pages_in (filter (λ (d : Collection).
     not (d.id == c.id)) (map (collection_in t) ss)))
-pages-put t c [] rising = Alike-refl (pages_in c ++ [])
-pages-put t c (s ∷ ss) rising =
-    cases_place s.id c.id (Alike (flat_map pages_in (put c (map (collection_in t) (s ∷ ss)))) (pages_in c ++ flat_map pages_in
-    (filter (λ (d : Collection). not (d.id == c.id)) (map (collection_in t) (s ∷ ss)))))
+pages-put t c [] rising = Alike-refl _
+pages-put t c (s ∷ ss) rising = cases_place _ _ _
     (λ same. rw (
       same,
-      others-above t c.id ss
+      others-above t _ _
           (subst (λ (id : ℕ). AllByRecursion (λ (later : Shelf). id < later.id) ss) (eqb-true s.id c.id same) rising.0),
     ) (Alike-refl _))
-    (λ other above. let less : c.id < s.id = ltb-true _ _ above in
-    rw (other, above, others-above t c.id ss (above-weaker c.id s.id ss less rising.0)) (Alike-refl _))
+    (λ other above. rw (other, above, others-above t _ _ (above-weaker _ _ _ (ltb-true _ _ above) rising.0)) (Alike-refl _))
     (λ other below. rw (other, below)
-    (Alike-trans _ _ _
-    (Alike-front (pages_in (collection_in t s)) _ _ (pages-put t c ss rising.1))
+    (Alike-trans _ _ _ (Alike-front _ _ _ (pages-put t c ss rising.1))
     (Alike-shift (pages_in (collection_in t s)) (pages_in c) _)))

@@ -1,20 +1,15 @@
 -- What the forest that a table and entries make is read as.
-use Rattle.forest_store.proofs.Common.{◌≡◌, ◌≤◌, ℕ, ◌==◌, ◌+◌, Bool, true, false, not, List, [], ◌∷◌, ◌++◌, length, map, Option, Some, None, option_map, cond, if◌then◌else◌, refl, sym, ap, subst, ◌∙◌, arith, filter, find, list_any, list_all, cons_option, option_map_or, Interval, NodeKey, Buffers, same_key, and_left, and_right, Table, node_at, Entry, Node, Collection, node_of, Shelf, shelf_of, shelves_of, nodes_with, collection_in, forest_of, all_keys, is_filed, are_filed, IsStored}
-use Rattle.std.proofs.Common.{IfSome, length-append}
-use Rattle.std.specs.List.{flat_map}
-use Rattle.std.proofs.lemmas.Bool.{leb-true}
-use Rattle.std.proofs.lemmas.List.Elements.{filter_map-append}
-use Rattle.sm_names.specs.declared.rules.TheConstants.{MAX_BUFFERS}
-use Rattle.forest_store.specs.Forest.{all_nodes, beside, collection_at, node_at as forest_node, pages_in, summary_of}
-use Rattle.forest_store.specs.Scenes.{given_few, pages_held}
+use Rattle.forest_store.proofs.Common.{◌≡◌, ◌≤◌, ℕ, ◌==◌, ◌+◌, true, false, not, List, [], ◌∷◌, ◌++◌, length, map, Option, Some, None, option_map, cond, if◌then◌else◌, refl, sym, ap, ◌∙◌, arith, filter, find, list_any, list_all, cons_option, option_map_or, Interval, NodeKey, Buffers, same_key, and_left, and_right, Table, node_at, Entry, Node, Collection, node_of, Shelf, shelf_of, shelves_of, nodes_with, collection_in, forest_of, all_keys, is_filed, are_filed, IsStored, IfSome, flat_map, leb-true, filter_map-append, MAX_BUFFERS, collection_at, pages_in, pages_held, length-append, In-find}
+use Rattle.forest_store.proofs.quiescence.Steps.{all-In}
+use Rattle.forest_store.specs.Forest.{all_nodes, beside, node_at as forest_node, summary_of}
+use Rattle.forest_store.specs.Scenes.{given_few}
 use Rattle.forest_store.proofs.lists.Lookups.{nothing, node_of-looked}
 
 -- the nodes of all collections are those of all keys
 pub nodes_of_all : (t : Table Node) (es : List Shelf) → all_nodes (forest_of t es) ≡ nodes_with t (all_keys es)
 nodes_of_all t [] = refl
-nodes_of_all t (e ∷ es) =
-    ap (λ ns. nodes_with t e.keys ++ ns) (nodes_of_all t es)
-    ∙ sym (filter_map-append (node_at t) e.keys (all_keys es))
+nodes_of_all t (e ∷ es) = ap (λ ns. nodes_with t e.keys ++ ns) (nodes_of_all t es)
+    ∙ sym (filter_map-append _ e.keys _)
 
 -- the collections have the ids of the entries
 pub ids_of_all : (t : Table Node) (es : List Entry) →
@@ -38,15 +33,14 @@ pages_of_others t id (e ∷ es) = elim (e.id == id) as (λ b.
 -- by what the table has there
 node_is-by : (t : Table Node) (es : List Shelf) → IsStored t es → (key : NodeKey) (o : Option Node) → node_at t key ≡ o →
     (if list_any (same_key key) (all_keys es) then o else None) ≡ o
-node_is-by t es ok key None is = nothing (list_any (same_key key) (all_keys es))
+node_is-by t es ok key None is = nothing _
 node_is-by t es ok key (Some n) is = rw (ok.there key n is) refl
 
 -- a node of the forest is the table's
 pub node_is : (t : Table Node) (es : List Shelf) → IsStored t es → (key : NodeKey) → forest_node (forest_of t es) key ≡ node_at t key
-node_is t es ok key =
-    ap (λ ns. node_of ns key) (nodes_of_all t es)
-    ∙ node_of-looked (node_at t) ok.named (all_keys es) key
-    ∙ node_is-by t es ok key (node_at t key) refl
+node_is t es ok key = ap (λ ns. node_of ns key) (nodes_of_all t es)
+    ∙ node_of-looked _ ok.named _ key
+    ∙ node_is-by t _ ok _ _ refl
 
 -- a key that is filed has a node
 filed-first : (id : ℕ) (o : Option Node) (ns : List Node) → option_map_or (λ (n : Node). n.collection == id) o false ≡ true →
@@ -67,7 +61,7 @@ pub all_filed-length : (t : Table Node) (es : List Shelf) → are_filed t es ≡
     length (all_nodes (forest_of t es)) ≡ length (all_keys es)
 all_filed-length t [] h = refl
 all_filed-length t (e ∷ es) h =
-    let here : length (nodes_with t e.keys) ≡ length e.keys = filed-length t e.id e.keys (and_left _ _ h) in
+    let here : length (nodes_with t e.keys) ≡ length e.keys = filed-length t _ _ (and_left _ _ h) in
     let on : length (all_nodes (forest_of t es)) ≡ length (all_keys es) = all_filed-length t es (and_right _ _ h) in
     length-append (nodes_with t e.keys) (all_nodes (forest_of t es))
     ∙ (omega (arith, length-append e.keys (all_keys es)))
@@ -82,20 +76,11 @@ collection_is t id (e ∷ es) = elim (e.id == id) as (λ b. cond b (Some (collec
       | false ↦ collection_is t id es
     ]
 
--- by whether the first entry is found
-filed_found-by : (t : Table Node) (id : ℕ) (x : Shelf) (xs : List Shelf) → are_filed t (x ∷ xs) ≡ true → (e : Shelf) (here : Bool) →
-    cond here (Some x) (find (λ (y : Shelf). y.id == id) xs) ≡ Some e → (find (λ (y : Shelf). y.id == id) xs ≡ Some e →
-    list_all (is_filed t e.id) e.keys ≡ true) → list_all (is_filed t e.id) e.keys ≡ true
-filed_found-by t id x xs h e true found on =
-    let same : x ≡ e = cc in
-    subst (λ (y : Shelf). list_all (is_filed t y.id) y.keys ≡ true) same (and_left _ _ h)
-filed_found-by t id x xs h e false found on = on found
-
 -- the keys of an entry that is found are filed
 pub filed_found : (t : Table Node) (id : ℕ) (es : List Shelf) → are_filed t es ≡ true → (e : Shelf) →
     find (λ (x : Shelf). x.id == id) es ≡ Some e → list_all (is_filed t e.id) e.keys ≡ true
-filed_found t id [] h e found = absurd (cc)
-filed_found t id (x ∷ xs) h e found = filed_found-by t id x xs h e (x.id == id) found (filed_found t id xs (and_right _ _ h) e)
+filed_found t id es h e found =
+    all-In (λ (x : Shelf). list_all (is_filed t x.id) x.keys) es e (In-find (λ (x : Shelf). x.id == id) es e found).0 h
 
 -- the shelf of an entry is found as it is
 pub shelf_found : (id : ℕ) (es : List Entry) → find (λ (s : Shelf). s.id == id) (shelves_of es) ≡ option_map shelf_of (find (λ (e : Entry).
@@ -115,9 +100,9 @@ pub collection_some : (t : Table Node) (es : List Entry) → IsStored t (shelves
     (record { nodes = length e.keys.items; buffers = e.buffers; held = length e.held.items })
 collection_some t es ok id e found =
     let shelf = shelf_found id es ∙ ap (option_map shelf_of) found in
-    ap (option_map summary_of) (collection_is t id (shelves_of es) ∙ ap (option_map (collection_in t)) shelf)
+    ap (option_map summary_of) (collection_is t id _ ∙ ap (option_map (collection_in t)) shelf)
     ∙ (λ i. Some (record {
-      nodes = filed-length t e.id e.keys.items (filed_found t id (shelves_of es) ok.filed (shelf_of e) shelf) i;
+      nodes = filed-length t _ _ (filed_found t id (shelves_of es) ok.filed _ shelf) i;
       buffers = e.buffers;
       held = length e.held.items;
     }))
@@ -126,7 +111,7 @@ collection_some t es ok id e found =
 pub collection_none : (t : Table Node) (es : List Entry) (id : ℕ) → find (λ (x : Entry). x.id == id) es ≡ None →
     collection_at (forest_of t (shelves_of es)) id ≡ None
 collection_none t es id none =
-    collection_is t id (shelves_of es) ∙ ap (option_map (collection_in t)) (shelf_found id es ∙ ap (option_map shelf_of) none)
+    collection_is t id _ ∙ ap (option_map (collection_in t)) (shelf_found id es ∙ ap (option_map shelf_of) none)
 
 -- so few buffers were given
 pub few_given : (o : Option Buffers) → given_few o ≡ true → IfSome o (λ b. b.count ≤ MAX_BUFFERS)

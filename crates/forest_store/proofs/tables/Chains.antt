@@ -1,20 +1,18 @@
 -- What a failure reaches, of the nodes whose lines up to a root are known.
-use Rattle.forest_store.proofs.Common.{◌≡◌, refl, ap, sym, ◌∙◌, subst, Bool, true, false, ◌⊎◌, inl, inr, List, [], ◌∷◌, Option, Some, None, list_any, NodeKey, same_key, both_ways, either_way, or_right, same_key-true}
+use Rattle.forest_store.proofs.Common.{◌≡◌, refl, ap, sym, ◌∙◌, Bool, true, false, ◌⊎◌, inl, inr, List, [], ◌∷◌, Option, Some, None, list_any, NodeKey, same_key, both_ways, either_way, or_right, same_key-true, IsChain}
 use Rattle.std.proofs.Common.{◌↔◌}
 use Rattle.sm_names.specs.Losses.{Reach, Origin, Up, Down, top}
-use Rattle.sm_names.proofs.ReachLaws.{IsChain, climbs, descends, top_on}
+use Rattle.sm_names.proofs.ReachLaws.{climbs, descends, top_on}
 
 module _ (parent : NodeKey → Option NodeKey) where
   -- a node has one line up to its root
   pub one_line : (node : NodeKey) (a b : List NodeKey) → IsChain parent node a → IsChain parent node b → a ≡ b
   one_line node [] [] one other = refl
-  one_line node [] (q ∷ b) one other = let no : None ≡ Some q = sym one ∙ other.0 in cc
-  one_line node (p ∷ a) [] one other = let no : None ≡ Some p = sym other ∙ one.0 in cc
+  one_line node [] (q ∷ b) one other = cc
+  one_line node (p ∷ a) [] one other = cc
   one_line node (p ∷ a) (q ∷ b) one other =
-      let up : Some p ≡ Some q = sym one.0 ∙ other.0 in
       let same : p ≡ q = cc in
-      let rest : a ≡ b = one_line q a b (subst (λ (k : NodeKey). IsChain parent k a) same one.1) other.1 in
-      λ i. same i ∷ rest i
+      λ i. same i ∷ (one_line q a b (rw (← same) one.1) other.1) i
 
   module _ (blocks : NodeKey → Bool) (origin : NodeKey) where
     -- the failure of the top goes no further
@@ -37,10 +35,10 @@ module _ (parent : NodeKey → Option NodeKey) where
       not_passed child on free goes =
           elim (either_way (same_key highest child)) [
             | inl e ↦
-                let is : highest ≡ child = same_key-true highest child e in
-                elim (stops origin above up) [
-                  | inl blocked ↦ both_ways (blocks child) (ap blocks (sym is) ∙ blocked) free
-                  | inr ends ↦ let no : Some on ≡ None = sym goes ∙ (ap parent (sym is) ∙ ends) in cc
+                let is : highest ≡ child = same_key-true _ _ e in
+                elim (stops _ _ up) [
+                  | inl blocked ↦ both_ways _ (ap blocks (sym is) ∙ blocked) free
+                  | inr ends ↦ cc
                 ]
             | inr e ↦ e
           ]
@@ -48,20 +46,15 @@ module _ (parent : NodeKey → Option NodeKey) where
       -- what is reached has the highest one on its line
       has_highest : (node : NodeKey) → Reach parent blocks origin node → (line : List NodeKey) → IsChain parent node line →
           list_any (same_key highest) (node ∷ line) ≡ true
-      has_highest _ Origin line chain =
-          subst (λ (l : List NodeKey). list_any (same_key highest) (origin ∷ l) ≡ true)
-          (one_line origin above line up chain) (top_on blocks origin above)
+      has_highest _ Origin line chain = rw (← (one_line origin above line up chain)) (top_on blocks origin above)
       has_highest _ (Up child on r free goes) line chain =
           let below : list_any (same_key highest) (child ∷ on ∷ line) ≡ true = has_highest child r (on ∷ line) (goes, chain) in
           rw (not_passed child on free goes) at below
-      has_highest _ (Down on child r goes) [] chain = let no : Some on ≡ None = sym goes ∙ chain in cc
+      has_highest _ (Down on child r goes) [] chain = cc
       has_highest _ (Down on child r goes) (p ∷ line) chain =
-          let same : Some p ≡ Some on = sym chain.0 ∙ goes in
           let is : p ≡ on = cc in
-          let further : list_any (same_key highest) (on ∷ line) ≡ true =
-          has_highest on r line (subst (λ (k : NodeKey). IsChain parent k line) is chain.1) in
-          or_right (same_key highest child) (list_any (same_key highest) (p ∷ line))
-          (subst (λ (k : NodeKey). list_any (same_key highest) (k ∷ line) ≡ true) (sym is) further)
+          let further = has_highest on r line (rw (← is) chain.1) in
+          or_right (same_key highest child) (list_any (same_key highest) (p ∷ line)) (rw is further)
 
       -- a node is reached exactly if the highest one is on its line
       pub reached_by_line : (node : NodeKey) (line : List NodeKey) → IsChain parent node line →

@@ -6,11 +6,15 @@ use Rattle.forest_store.specs.Ties.{IsTied}
 
 -- ---- what holds of all
 
--- what holds of all holds of each
+-- what holds of all holds of each: the element is the first, or one of the others
+pub all_at : {A : Type 0} (P : A → Type 0) (xs : List A) → AllByRecursion P xs → (x : A) → In x xs → P x
+all_at P [] all x on = absurd on
+all_at P (y ∷ ys) all x (inl is) = subst P (sym is) all.0
+all_at P (y ∷ ys) all x (inr on) = all_at P ys all.1 x on
+
+-- so of nodes
 pub in_all : (P : Node → Type 0) (nodes : List Node) → AllByRecursion P nodes → (n : Node) → In n nodes → P n
-in_all P [] all n on = absurd on
-in_all P (m ∷ ms) all n (inl is) = subst P (sym is) all.0
-in_all P (m ∷ ms) all n (inr on) = in_all P ms all.1 n on
+in_all P nodes = all_at P _
 
 -- and what holds of each holds of all
 pub all_in : {A : Type 0} (P : A → Type 0) (xs : List A) → ((x : A) → In x xs → P x) → AllByRecursion P xs
@@ -25,7 +29,7 @@ module _ (t : Table Node) where
     looked_each : (P : Node → Type 0) → ((key : NodeKey) (n : Node) → node_at t key ≡ Some n → P n) → (keys : List NodeKey) →
         AllByRecursion P (nodes_with t keys)
     looked_each P each [] = tt
-    looked_each P each (k ∷ ks) = by (node_at t k) refl (looked_each P each ks)
+    looked_each P each (k ∷ ks) = by _ refl (looked_each P each ks)
       where
         by : (o : Option Node) → node_at t k ≡ o → AllByRecursion P (nodes_with t ks) → AllByRecursion P (cons_option o (nodes_with t ks))
         by None is rest = rest
@@ -33,12 +37,11 @@ module _ (t : Table Node) where
 
     -- each of them is found by its key
     pub looked_there : (keys : List NodeKey) → AllByRecursion (λ (n : Node). node_at t n.key ≡ Some n) (nodes_with t keys)
-    looked_there = looked_each (λ (n : Node). node_at t n.key ≡ Some n) (λ key n is. ap (node_at t) (named key n is) ∙ is)
+    looked_there = looked_each _ (λ key n is. ap (node_at t) (named key n is) ∙ is)
 
     -- and hangs in the table, where all do
     pub looked_hung : ((key : NodeKey) (n : Node) → node_at t key ≡ Some n → n.gone ≡ false → parent_at t key ≡ n.parent) →
-        (keys : List NodeKey) →
-        are_rooted (reverse (nodes_with t keys)) ≡ true → IsHung t (nodes_with t keys)
+        (keys : List NodeKey) → are_rooted (reverse (nodes_with t keys)) ≡ true → IsHung t (nodes_with t keys)
     looked_hung linked keys rooted = record {
       linked = looked_each (λ (n : Node). n.gone ≡ false → parent_at t n.key ≡ n.parent) (λ key n is here. ap (parent_at t) (named key n is)
           ∙ linked key n is here) keys;
@@ -53,5 +56,5 @@ module _ (t : Table Node) where
     pub looked_gone : (key : NodeKey) → ((m : Node) → node_at t key ≡ Some m → m.gone ≡ true) → (keys : List NodeKey) (n : Node) →
         In n (nodes_with t keys) → not (is_of key n) ≡ false → n.gone ≡ true
     looked_gone key goes keys n on out =
-        let same : n.key ≡ key = same_key-true n.key key (not-false _ out) in
-        goes n (ap (node_at t) (sym same) ∙ in_all (λ (m : Node). node_at t m.key ≡ Some m) (nodes_with t keys) (looked_there keys) n on)
+        let same : n.key ≡ key = same_key-true _ _ (not-false _ out) in
+        goes n (ap (node_at t) (sym same) ∙ in_all _ _ (looked_there keys) n on)

@@ -1,17 +1,11 @@
 -- The nodes of a collection stay on their parents, whatever is changed or forced.
-use Rattle.forest_store.proofs.Common.{◌≡◌, ℕ, refl, ap, sym, ◌∙◌, subst, Bool, true, false, cond, ◌||◌, inl, inr, List, [], ◌∷◌, ◌++◌, map, reverse, Option, Some, None, is_some, filter, list_any, option_map_or, Interval, NodeKey, same_key, In, In-find, In-map, In-map-back, and_both, and_left, and_right, both_ways, either_way, or_right, same_key-refl, same_key-true, In-any, Change, Effect, Node, is_left_of, Collection, affected, is_of, members_of, node_of, Handles, Settles, are_rooted}
-use Rattle.std.proofs.lemmas.List.{reverse-append}
+use Rattle.forest_store.proofs.Common.{◌≡◌, ℕ, refl, ap, sym, ◌∙◌, Bool, true, false, cond, ◌||◌, inl, inr, List, [], ◌∷◌, ◌++◌, map, reverse, Option, Some, None, is_some, filter, list_any, option_map_or, Interval, NodeKey, same_key, In, In-find, In-map, In-map-back, and_both, and_left, and_right, both_ways, either_way, or_right, same_key-refl, same_key-true, In-any, Change, Effect, Node, is_left_of, Collection, affected, is_of, members_of, node_of, Handles, Settles, are_rooted, reverse-append, Mark, Called, Loss, Allocated, Ended, is_under, In-append, In-filter, In-filter-back, In-reverse, In-reverse-back, IsChain, or_parts, above_among, after_allocation, after_effect, is_taken, member_of, new_child, Rests, Forces, changed, is_root_of, made, hangs_on}
 use Rattle.sm_names.specs.declared.outcomes.Fault.{Fault}
 use Rattle.sm_names.specs.Changes.{highest}
-use Rattle.sm_names.specs.Marks.{Mark, Called, Loss, Allocated, Ended}
-use Rattle.sm_names.specs.Members.{is_under}
-use Rattle.sm_names.proofs.ListLaws.{In-append, In-filter, In-filter-back, In-reverse, In-reverse-back, is_some-find}
-use Rattle.sm_names.proofs.ReachLaws.{IsChain}
-use Rattle.sm_names.proofs.SamenessLaws.{or_parts}
-use Rattle.forest_store.specs.Nodes.{above_among, after_allocation, after_effect, after_end, after_loss, ended, given_buffers, is_taken, lost, member_of, new_child, new_root}
-use Rattle.forest_store.specs.Settling.{Rests, Forces, changed, is_root_of, made}
+use Rattle.sm_names.proofs.ListLaws.{is_some-find}
+use Rattle.forest_store.specs.Nodes.{after_end, after_loss}
 use Rattle.forest_store.proofs.tables.Chains.{one_line}
-use Rattle.forest_store.specs.Ties.{FitsChange, hangs_on}
+use Rattle.forest_store.specs.Ties.{FitsChange}
 use Rattle.forest_store.proofs.tables.Rooted.{AreOne, HasLine, IsRooted, left_in, left_node, left_within, line_of}
 use mathlib.Core.List.{reverse_aux}
 
@@ -24,8 +18,7 @@ map-reverse_aux f (x ∷ xs) ys = map-reverse_aux f xs (x ∷ ys)
 pub filter-reverse_aux : {A : Type 0} (p : A → Bool) (xs ys : List A) →
     filter p (reverse_aux xs ys) ≡ reverse_aux (filter p xs) (filter p ys)
 filter-reverse_aux p [] ys = refl
-filter-reverse_aux p (x ∷ xs) ys =
-    filter-reverse_aux p xs (x ∷ ys)
+filter-reverse_aux p (x ∷ xs) ys = filter-reverse_aux p xs (x ∷ ys)
     ∙ (elim (p x) as (λ (b : Bool). reverse_aux (filter p xs) (cond b (x ∷ filter p ys) (filter p ys))
     ≡ reverse_aux (cond b (x ∷ filter p xs) (filter p xs)) (filter p ys)) [
       | true ↦ refl
@@ -61,8 +54,8 @@ module _ (nodes : List Node) (old : IsRooted nodes) where
     -- nodes with one key are one
     one_mapped : AreOne (map f nodes)
     one_mapped a b on too same =
-        let x = In-map f nodes a on in
-        let y = In-map f nodes b too in
+        let x = In-map f _ a on in
+        let y = In-map f _ b too in
         let keys : x.0.key ≡ y.0.key =
         sym (takes.key x.0) ∙ (ap (λ (n : Node). n.key) (sym x.2) ∙ (same ∙ (ap (λ (n : Node). n.key) y.2 ∙ takes.key y.0))) in
         x.2 ∙ (ap f (old.one x.0 y.0 x.1 y.1 keys) ∙ sym y.2)
@@ -71,36 +64,29 @@ module _ (nodes : List Node) (old : IsRooted nodes) where
     rooted_mapped : (ns : List Node) → ((n : Node) → In n ns → In n nodes) → are_rooted ns ≡ true → are_rooted (map f ns) ≡ true
     rooted_mapped [] within rooted = refl
     rooted_mapped (n ∷ older) within rooted =
-        let first : hangs_on older n ≡ true =
-        and_left (hangs_on older n) (are_rooted older) rooted in
-        let rest : are_rooted older ≡ true = and_right (hangs_on older n) (are_rooted older) rooted in
-        and_both (hangs_on (map f older) (f n)) (are_rooted (map f older))
-        (here first)
-        (rooted_mapped older (λ m on. within m (inr on)) rest)
+        let rest : are_rooted older ≡ true = and_right _ _ rooted in
+        and_both _ _ (here (and_left _ _ rooted)) (rooted_mapped older (λ m on. within m (inr on)) rest)
       where
         stays : n.gone ≡ false → taken n ≡ false → (o : Option NodeKey) → n.parent ≡ o → option_map_or (is_left_of older) o true ≡ true →
             option_map_or (is_left_of (map f older)) o true ≡ true
         stays left spared None up h = refl
         stays left spared (Some p) up h =
-            let x = left_node older p h in
+            let x = left_node _ p h in
             let free : taken x.node ≡ false = elim (either_way (taken x.node)) [
-              | inl e ↦ both_ways (taken n) (down n x.node (within n (inl refl)) (within x.node (inr x.on)) left (up
+              | inl e ↦ both_ways _ (down n x.node (within n (inl refl)) (within x.node (inr x.on)) left (up
                   ∙ ap Some (sym x.is)) e) spared
               | inr e ↦ e
             ] in
             let still : (f x.node).gone ≡ false = takes.gone x.node ∙ rw (free, x.here) refl in
-            subst (λ (k : NodeKey). is_left_of (map f older) k ≡ true) (takes.key x.node ∙ x.is)
-            (left_in (map f older) (f x.node) (In-map-back f older x.node x.on) still)
+            rw (← (takes.key x.node ∙ x.is)) (left_in _ _ (In-map-back f _ _ x.on) still)
 
         here : hangs_on older n ≡ true → hangs_on (map f older) (f n) ≡ true
-        here h =
-            rw (takes.gone n, takes.parent n)
+        here h = rw (takes.gone n, takes.parent n)
             (elim (either_way (taken n || n.gone)) [
               | inl e ↦ rw e refl
               | inr e ↦
                   let spared = or_parts (taken n) n.gone e in
-                  or_right (taken n || n.gone) (option_map_or (is_left_of (map f older)) n.parent true)
-                  (stays spared.1 spared.0 n.parent refl (rw spared.1 at h))
+                  or_right _ _ (stays spared.1 spared.0 n.parent refl (rw spared.1 at h))
             ])
 
     -- so the nodes stay on their parents
@@ -112,7 +98,7 @@ module _ (nodes : List Node) (old : IsRooted nodes) where
 
   -- a map that takes none
   pub rooted_same : (f : Node → Node) → Takes f (λ n. false) → IsRooted (map f nodes)
-  rooted_same f takes = rooted_map f (λ n. false) takes (λ n m on there here up h. cc)
+  rooted_same f takes = rooted_map f _ takes (λ n m on there here up h. cc)
 
   -- ---- losses and ends
 
@@ -122,17 +108,16 @@ module _ (nodes : List Node) (old : IsRooted nodes) where
 
   -- each node has the parent that is found
   linked : (n : Node) → In n nodes → n.gone ≡ false → parent_among n.key ≡ n.parent
-  linked n on here = from (node_of nodes n.key) refl
+  linked n on here = from _ refl
     where
       from : (o : Option Node) → node_of nodes n.key ≡ o → option_map_or (λ (x : Node). x.parent) o None ≡ n.parent
       from None is =
-          let some : is_some (node_of nodes n.key) ≡ true =
-          is_some-find (is_of n.key) nodes ∙ In-any (is_of n.key) nodes n on (same_key-refl n.key) in
+          let some = is_some-find _ nodes ∙ In-any _ _ n on (same_key-refl n.key) in
           let no : is_some {T = Node} None ≡ true = sym (ap is_some is) ∙ some in
           cc
       from (Some x) is =
-          let found = In-find (is_of n.key) nodes x is in
-          ap (λ (m : Node). m.parent) (old.one x n found.0 on (same_key-true x.key n.key found.1))
+          let found = In-find _ _ x is in
+          ap (λ (m : Node). m.parent) (old.one x n found.0 on (same_key-true _ _ found.1))
 
   -- what lies above a key
   abbrev line : NodeKey → List NodeKey
@@ -140,7 +125,7 @@ module _ (nodes : List Node) (old : IsRooted nodes) where
 
   -- above a node that is not gone lie its parent and all above that
   line_on : (n : Node) (p : NodeKey) → In n nodes → n.gone ≡ false → n.parent ≡ Some p → line n.key ≡ p ∷ line p
-  line_on n p on here up = from (line n.key) (line_of nodes parent_among old.one linked old.rooted n.key (left_in nodes n on here))
+  line_on n p on here up = from _ (line_of _ _ old.one linked old.rooted _ (left_in _ n on here))
     where
       goes : parent_among n.key ≡ Some p
       goes = linked n on here ∙ up
@@ -151,45 +136,41 @@ module _ (nodes : List Node) (old : IsRooted nodes) where
           let up' : Some q ≡ Some p = sym has.chain.0 ∙ goes in
           let same : q ≡ p = cc in
           let left : is_left_of nodes p ≡ true = has.left p (inl (sym same)) in
-          let below : IsChain parent_among p rest = subst (λ (k : NodeKey). IsChain parent_among k rest) same has.chain.1 in
-          let on : rest ≡ line p = one_line parent_among p rest (line p) below
-          (line_of nodes parent_among old.one linked old.rooted p left).chain in
+          let below : IsChain parent_among p rest = rw (← same) has.chain.1 in
+          let on : rest ≡ line p = one_line _ p _ _ below (line_of _ _ old.one linked old.rooted p left).chain in
           λ i. same i ∷ on i
 
   -- a child of a node that is the top one or below it lies below the top one
   under_down : (top : NodeKey) → GoesDown nodes (λ n. is_under top (member_of nodes n))
-  under_down top n m on there here up h =
-      rw (line_on n m.key on here up) (or_right (same_key top n.key) (list_any (same_key top) (m.key ∷ line m.key)) h)
+  under_down top n m on there here up h = rw (line_on n _ on here up) (or_right _ _ h)
 
   -- so a loss goes down
   taken_down : (origin : NodeKey) → GoesDown nodes (is_taken nodes origin)
-  taken_down origin n m on there here up h = from (node_of nodes origin) h
+  taken_down origin n m on there here up h = from _ h
     where
       from : (o : Option Node) → option_map_or (λ x. is_under (highest (members_of nodes) (member_of nodes x)) (member_of nodes m)) o
           false ≡ true →
           option_map_or (λ x. is_under (highest (members_of nodes) (member_of nodes x)) (member_of nodes n)) o false ≡ true
       from None h = cc
-      from (Some x) h = under_down (highest (members_of nodes) (member_of nodes x)) n m on there here up h
+      from (Some x) h = under_down _ n m on there here up h
 
   -- a loss leaves the nodes on their parents
   pub rooted_loss : (fault : Fault) → IsRooted (after_loss fault nodes)
-  rooted_loss fault =
-      rooted_map (lost (is_taken nodes fault.origin) fault) (is_taken nodes fault.origin)
-      (record { key = λ n. refl; parent = λ n. refl; gone = λ n. refl }) (taken_down fault.origin)
+  rooted_loss fault = rooted_map _ _
+      (record { key = λ n. refl; parent = λ n. refl; gone = λ n. refl }) (taken_down _)
 
   -- so does an end
   pub rooted_end : (top : NodeKey) → IsRooted (after_end top nodes)
-  rooted_end top =
-      rooted_map (ended nodes top) (λ n. is_under top (member_of nodes n))
+  rooted_end top = rooted_map _ _
       (record { key = λ n. refl; parent = λ n. refl; gone = λ n. refl }) (under_down top)
 
   -- an allocation
   pub rooted_allocation : (head : NodeKey) → IsRooted (after_allocation head nodes)
-  rooted_allocation head = rooted_same (given_buffers head) (record { key = λ n. refl; parent = λ n. refl; gone = λ n. refl })
+  rooted_allocation head = rooted_same _ (record { key = λ n. refl; parent = λ n. refl; gone = λ n. refl })
 
   -- and an effect
   pub rooted_effect : (key : NodeKey) (effect : Effect) → IsRooted (after_effect key effect nodes)
-  rooted_effect key effect = rooted_same (affected key effect) (effect_takes key effect)
+  rooted_effect key effect = rooted_same _ (effect_takes key effect)
 
   -- ---- births, and nodes that are forgotten
 
@@ -205,9 +186,8 @@ module _ (nodes : List Node) (old : IsRooted nodes) where
     where
       -- an older node has another key
       other : (n : Node) → In n nodes → n.key ≡ b.key → ⊥
-      other n on same =
-          both_ways (list_any (is_of b.key) nodes)
-          (In-any (is_of b.key) nodes n on (ap (λ (k : NodeKey). same_key k b.key) same ∙ same_key-refl b.key)) fresh
+      other n on same = both_ways _
+          (In-any _ _ n on (ap (λ (k : NodeKey). same_key k b.key) same ∙ same_key-refl b.key)) fresh
 
       last : (n : Node) → In n (b ∷ []) → n ≡ b
       last n (inl is) = is
@@ -218,12 +198,12 @@ module _ (nodes : List Node) (old : IsRooted nodes) where
 
       one : AreOne (nodes ++ b ∷ [])
       one x y on too same =
-          elim (In-append nodes (b ∷ []) x on) [
-            | inl first ↦ elim (In-append nodes (b ∷ []) y too) [
+          elim (In-append _ _ x on) [
+            | inl first ↦ elim (In-append _ _ y too) [
               | inl second ↦ old.one x y first second same
               | inr newest ↦ absurd (other x first (same ∙ key_of y b (last y newest)))
             ]
-            | inr newest ↦ elim (In-append nodes (b ∷ []) y too) [
+            | inr newest ↦ elim (In-append _ _ y too) [
               | inl second ↦ absurd (other y second (sym same ∙ key_of x b (last x newest)))
               | inr newest_too ↦ last x newest ∙ sym (last y newest_too)
             ]
@@ -232,7 +212,7 @@ module _ (nodes : List Node) (old : IsRooted nodes) where
       from : (o : Option NodeKey) → option_map_or (is_left_of nodes) o true ≡ true →
           option_map_or (is_left_of (reverse nodes)) o true ≡ true
       from None h = refl
-      from (Some p) h = left_within nodes (reverse nodes) (λ n on. In-reverse-back nodes n on) p h
+      from (Some p) h = left_within _ _ (λ n on. In-reverse-back _ n on) p h
 
   -- where only nodes that are gone are forgotten, the others stay on their parents
   pub rooted_filter : (kept : Node → Bool) → ((n : Node) → In n nodes → kept n ≡ false → n.gone ≡ true) → IsRooted (filter kept nodes)
@@ -245,12 +225,10 @@ module _ (nodes : List Node) (old : IsRooted nodes) where
       rooted_left : (ns : List Node) → ((n : Node) → In n ns → In n nodes) → are_rooted ns ≡ true → are_rooted (filter kept ns) ≡ true
       rooted_left [] within rooted = refl
       rooted_left (n ∷ older) within rooted =
-          let first : hangs_on older n ≡ true =
-          and_left (hangs_on older n) (are_rooted older) rooted in
-          let rest : are_rooted older ≡ true = and_right (hangs_on older n) (are_rooted older) rooted in
+          let rest : are_rooted older ≡ true = and_right _ _ rooted in
           let on : are_rooted (filter kept older) ≡ true = rooted_left older (λ m on. within m (inr on)) rest in
           elim (either_way (kept n)) [
-            | inl e ↦ rw e (and_both (hangs_on (filter kept older) n) (are_rooted (filter kept older)) (here first) on)
+            | inl e ↦ rw e (and_both _ _ (here (and_left _ _ rooted)) on)
             | inr e ↦ rw e on
           ]
         where
@@ -258,18 +236,17 @@ module _ (nodes : List Node) (old : IsRooted nodes) where
               option_map_or (is_left_of (filter kept older)) o true ≡ true
           stays None h = refl
           stays (Some p) h =
-              let x = left_node older p h in
+              let x = left_node _ p h in
               let still : kept x.node ≡ true = elim (either_way (kept x.node)) [
                 | inl e ↦ e
-                | inr e ↦ both_ways x.node.gone (over x.node (within x.node (inr x.on)) e) x.here
+                | inr e ↦ both_ways _ (over x.node (within x.node (inr x.on)) e) x.here
               ] in
-              subst (λ (k : NodeKey). is_left_of (filter kept older) k ≡ true) x.is
-              (left_in (filter kept older) x.node (In-filter-back kept older x.node x.on still) x.here)
+              rw (← x.is) (left_in _ _ (In-filter-back _ _ _ x.on still) x.here)
 
           here : hangs_on older n ≡ true → hangs_on (filter kept older) n ≡ true
           here h = elim (either_way n.gone) [
             | inl e ↦ rw e refl
-            | inr e ↦ or_right n.gone (option_map_or (is_left_of (filter kept older)) n.parent true) (stays n.parent (rw e at h))
+            | inr e ↦ or_right _ _ (stays n.parent (rw e at h))
           ]
 
 -- ---- changes and forced steps
@@ -296,16 +273,15 @@ rooted_settled pool handles others _ _ old (Forces c after mark forces settles) 
 -- so does a change
 pub rooted_changed : (change : Change) (key : NodeKey) (c : Collection) → FitsChange change key c.nodes → IsRooted c.nodes →
     IsRooted (changed change key c).nodes
-rooted_changed (Change.Birth None attached client event) key c fit old =
-    rooted_birth c.nodes old (new_root key c.id event client) fit.0 refl
-rooted_changed (Change.Birth (Some above) attached client event) key c fit old = from (node_of c.nodes above) refl
+rooted_changed (Change.Birth None attached client event) key c fit old = rooted_birth _ old _ fit.0 refl
+rooted_changed (Change.Birth (Some above) attached client event) key c fit old = from _ refl
   where
     from : (o : Option Node) → node_of c.nodes above ≡ o →
         IsRooted (option_map_or (λ n. record c { nodes = c.nodes ++ new_child attached key event client n ∷ [] }) o c).nodes
     from None is = old
     from (Some n) is =
-        let same : n.key ≡ above = same_key-true n.key above (In-find (is_of above) c.nodes n is).1 in
-        rooted_birth c.nodes old (new_child attached key event client n) fit.0 (ap (is_left_of c.nodes) same ∙ fit.1)
+        let same : n.key ≡ above = same_key-true _ _ (In-find (is_of above) _ n is).1 in
+        rooted_birth _ old _ fit.0 (ap (is_left_of c.nodes) same ∙ fit.1)
 rooted_changed (Change.Effect on effect) key c fit old = rooted_effect c.nodes old on effect
-rooted_changed (Change.Loss origin cause) key c fit old = rooted_loss c.nodes old (record { cause = cause; origin = origin })
+rooted_changed (Change.Loss origin cause) key c fit old = rooted_loss c.nodes old _
 rooted_changed Change.Nothing key c fit old = old

@@ -1,6 +1,5 @@
 -- Nodes stay of the collections of their parents.
-use Rattle.forest_store.proofs.Common.{◌≡◌, Some, sym, ◌∙◌, NodeKey, Table, node_at, parent_at, Node}
-use Rattle.forest_store.specs.Shelves.{AreKin}
+use Rattle.forest_store.proofs.Common.{◌≡◌, Some, sym, ◌∙◌, NodeKey, Table, node_at, parent_at, Node, AreKin}
 
 -- where each node that is there was there, of the same collection, and no key has another parent
 pub kin_kept : (t now : Table Node) → ((key : NodeKey) (n : Node) → node_at now key ≡ Some n →

@@ -1,11 +1,8 @@
 -- The parent of a node that is not gone is in the table, and not gone.
-use Rattle.forest_store.proofs.Common.{◌≡◌, ℕ, ap, sym, ◌∙◌, subst, true, false, ◌==◌, ◌&&◌, not, List, [], Option, Some, None, refl, eqb-true, false≢true, not-true, find, option_map_or, NodeKey, In, In-find, and_left, and_right, both_ways, Table, node_at, parent_at, Change, Node, is_left_of, Collection, Shelf, IsStored, forest_of, nodes_with, is_of, collection_or_new}
+use Rattle.forest_store.proofs.Common.{◌≡◌, ℕ, ap, sym, ◌∙◌, subst, true, false, ◌==◌, ◌&&◌, not, List, [], Option, Some, None, refl, eqb-true, false≢true, not-true, find, option_map_or, NodeKey, In, In-find, and_left, and_right, both_ways, Table, node_at, parent_at, Change, Node, is_left_of, Collection, Shelf, IsStored, forest_of, nodes_with, collection_or_new, MayChange, is_there}
 use Rattle.forest_store.specs.Shelves.{loses_left}
-use Rattle.forest_store.specs.Settling.{MayChange, is_there}
-use Rattle.forest_store.proofs.tables.Hanging.{in_all, looked_there}
 use Rattle.forest_store.proofs.newborns.Newborn.{before_is, found_above}
-use Rattle.forest_store.proofs.tables.Rooted.{left_in, left_node, left_parent}
-use Rattle.forest_store.proofs.shelves.Showing.{node_is}
+use Rattle.forest_store.proofs.Basics.{in_all, looked_there, left_in, left_node, left_parent, node_is}
 
 module _ (t : Table Node) (ss : List Shelf) (ok : IsStored t ss) where
   -- the collection with this id
@@ -15,51 +12,45 @@ module _ (t : Table Node) (ss : List Shelf) (ok : IsStored t ss) where
   -- a node of the table is in its collection
   in_collection : (key : NodeKey) (n : Node) → node_at t key ≡ Some n → In n (at n.collection).nodes
   in_collection key n is =
-      (In-find (is_of key) (at n.collection).nodes n (found_above t ss ok (at n.collection) key n is
-      (before_is t ss ok n.collection).nodes)).0
+      (In-find _ _ n (found_above t _ ok (at n.collection) _ n is (before_is t _ ok _).nodes)).0
 
   -- where the node of a key is gone, it is the parent of none that is not
   pub childless : (key : NodeKey) → ((m : Node) → node_at t key ≡ Some m → m.gone ≡ true) →
       (k : NodeKey) (n : Node) → node_at t k ≡ Some n → n.gone ≡ false → parent_at t k ≡ Some key → ⊥
   childless key goes k n is here up =
-      let before = before_is t ss ok n.collection in
+      let before = before_is t _ ok _ in
       let own : n.parent ≡ Some key = sym (ok.linked k n is here) ∙ up in
-      let x = left_node (at n.collection).nodes key (left_parent (at n.collection).nodes before.whole.rooted n key (in_collection k n is)
-      here own) in
+      let x = left_node _ _ (left_parent _ before.whole.rooted n _ (in_collection k n is) here own) in
       let on : In x.node (nodes_with t _) = subst (λ (ns : List Node). In x.node ns) before.nodes x.on in
-      let there : node_at t key ≡ Some x.node =
-      ap (node_at t) (sym x.is) ∙ in_all (λ (m : Node). node_at t m.key ≡ Some m) (nodes_with t _) (looked_there t ok.named _) x.node on in
-      both_ways x.node.gone (goes x.node there) x.here
+      let there = ap (node_at t) (sym x.is) ∙ in_all _ _ (looked_there t ok.named _) _ on in
+      both_ways _ (goes x.node there) x.here
 
   -- a node of the collection is one of its shelf's
   pub in_shelf : (id : ℕ) (s : Shelf) → find (λ (x : Shelf). x.id == id) ss ≡ Some s → (key : NodeKey) (n : Node) → node_at t key ≡ Some n →
       n.collection ≡ id → In n (nodes_with t s.keys)
   in_shelf id s found key n is own =
-      let nodes : (at n.collection).nodes ≡ nodes_with t s.keys =
-      (before_is t ss ok n.collection).nodes
+      let nodes : (at n.collection).nodes ≡ nodes_with t s.keys = (before_is t _ ok _).nodes
       ∙ (λ i. nodes_with t (option_map_or (λ (x : Shelf). x.keys) (find (λ (x : Shelf). x.id == own i) ss) []))
       ∙ ap (λ (o : Option Shelf). nodes_with t (option_map_or (λ (x : Shelf). x.keys) o [])) found in
-      subst (λ (ns : List Node). In n ns) nodes (in_collection key n is)
+      rw (← nodes) (in_collection _ n is)
 
   -- a node that is there and not gone is left
   pub there_left : (id : ℕ) (s : Shelf) → find (λ (x : Shelf). x.id == id) ss ≡ Some s → (key : NodeKey) →
       is_there (forest_of t ss) id key ≡ true → is_left_of (nodes_with t s.keys) key ≡ true
   there_left id s found key there =
-      by (node_at t key) refl (ap (λ o. option_map_or (λ (n : Node). n.collection == id && not n.gone) o false)
-      (sym (node_is t ss ok key)) ∙ there)
+      by _ refl (ap (λ o. option_map_or (λ (n : Node). n.collection == id && not n.gone) o false)
+      (sym (node_is t _ ok key)) ∙ there)
     where
       by : (o : Option Node) → node_at t key ≡ o → option_map_or (λ (n : Node). n.collection == id && not n.gone) o false ≡ true →
           is_left_of (nodes_with t s.keys) key ≡ true
       by None is fit = absurd (false≢true fit)
       by (Some n) is fit =
-          let own : n.collection ≡ id = eqb-true _ _ (and_left (n.collection == id) (not n.gone) fit) in
-          let here : n.gone ≡ false = not-true n.gone (and_right (n.collection == id) (not n.gone) fit) in
-          let on : In n (nodes_with t s.keys) = in_shelf id s found key n is own in
-          ap (is_left_of (nodes_with t s.keys)) (sym (ok.named key n is)) ∙ left_in (nodes_with t s.keys) n on here
+          let here : n.gone ≡ false = not-true n.gone (and_right _ _ fit) in
+          let on : In n (nodes_with t s.keys) = in_shelf _ s found _ n is (eqb-true _ _ (and_left _ _ fit)) in
+          ap (is_left_of (nodes_with t s.keys)) (sym (ok.named key n is)) ∙ left_in _ n on here
 
   -- so is the node that a change loses
   pub loss_left : (id : ℕ) (change : Change) → MayChange (forest_of t ss) id change → (s : Shelf) →
-      find (λ (x : Shelf). x.id == id) ss ≡ Some s →
-      loses_left change (nodes_with t s.keys) ≡ true
-  loss_left id (Change.Loss origin cause) may s found = there_left id s found origin may.named
+      find (λ (x : Shelf). x.id == id) ss ≡ Some s → loses_left change (nodes_with t s.keys) ≡ true
+  loss_left id (Change.Loss origin cause) may s found = there_left _ s found _ may.named
   loss_left id _ may s found = refl

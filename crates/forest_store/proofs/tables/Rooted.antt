@@ -1,10 +1,6 @@
 -- The nodes of a collection hang on their parents: that of each node that is not gone stands before it, and is not gone.
-use Rattle.forest_store.proofs.Common.{◌≡◌, refl, ap, sym, ◌∙◌, subst, true, false, ◌&&◌, not, inl, inr, List, [], ◌∷◌, reverse, Option, Some, None, not-true, list_any, option_map_or, NodeKey, same_key, In, In-list_any, and_both, and_left, and_right, both_ways, either_way, or_right, same_key-refl, same_key-true, In-any, Node, is_left_of, Collection, IsWhole, is_of, are_distinct, are_rooted}
+use Rattle.forest_store.proofs.Common.{◌≡◌, refl, ap, sym, ◌∙◌, subst, true, false, inl, inr, List, [], ◌∷◌, reverse, Option, Some, None, not-true, list_any, option_map_or, NodeKey, same_key, In, In-list_any, and_both, and_left, and_right, both_ways, either_way, or_right, same_key-refl, same_key-true, In-any, Node, is_left_of, Collection, IsWhole, is_of, are_distinct, are_rooted, In-reverse, In-reverse-back, IsChain, above_among, hangs_on}
 use Rattle.std.proofs.lemmas.Bool.{not_from_false}
-use Rattle.sm_names.proofs.ListLaws.{In-reverse, In-reverse-back}
-use Rattle.sm_names.proofs.ReachLaws.{IsChain}
-use Rattle.forest_store.specs.Nodes.{above_among}
-use Rattle.forest_store.specs.Ties.{hangs_on}
 
 -- nodes with one key are one node
 abbrev pub AreOne : List Node → Type 0
@@ -19,14 +15,14 @@ pub record IsRooted (nodes : List Node) : Type 0 where
 pub distinct_one : (nodes : List Node) → are_distinct nodes ≡ true → AreOne nodes
 distinct_one [] distinct a b on too same = absurd on
 distinct_one (n ∷ ns) distinct a b on too same =
-    from on too (λ here there. distinct_one ns (and_right (not (list_any (is_of n.key) ns)) (are_distinct ns) distinct) a b here there same)
+    from on too (λ here there. distinct_one ns (and_right _ _ distinct) a b here there same)
   where
     alone : list_any (is_of n.key) ns ≡ false
-    alone = not-true (list_any (is_of n.key) ns) (and_left (not (list_any (is_of n.key) ns)) (are_distinct ns) distinct)
+    alone = not-true (list_any (is_of n.key) ns) (and_left _ _ distinct)
 
     again : (m : Node) → In m ns → m.key ≡ n.key → ⊥
     again m there is =
-        both_ways (list_any (is_of n.key) ns) (In-any (is_of n.key) ns m there (ap (λ (k : NodeKey). same_key k n.key) is
+        both_ways _ (In-any _ _ m there (ap (λ (k : NodeKey). same_key k n.key) is
         ∙ same_key-refl n.key)) alone
 
     key_of : (x y : Node) → x ≡ y → x.key ≡ y.key
@@ -40,7 +36,7 @@ distinct_one (n ∷ ns) distinct a b on too same =
 
 -- the nodes of a whole collection hang so
 pub whole_rooted : (c : Collection) → IsWhole c → IsRooted c.nodes
-whole_rooted c ok = record { one = distinct_one c.nodes ok.sound.distinct; rooted = ok.rooted }
+whole_rooted c ok = record { one = distinct_one _ ok.sound.distinct; rooted = ok.rooted }
 
 -- ---- keys that are left
 
@@ -54,26 +50,24 @@ pub record IsLeft (nodes : List Node) (key : NodeKey) : Type 0 where
 -- a key that is left is that of a node
 pub left_node : (nodes : List Node) (key : NodeKey) → is_left_of nodes key ≡ true → IsLeft nodes key
 left_node nodes key left =
-    let x = In-list_any (λ (n : Node). is_of key n && not n.gone) nodes left in
+    let x = In-list_any _ _ left in
     record {
       node = x.0;
       on = x.1;
-      is = same_key-true x.0.key key (and_left (is_of key x.0) (not x.0.gone) x.2);
-      here = not-true x.0.gone (and_right (is_of key x.0) (not x.0.gone) x.2);
+      is = same_key-true _ _ (and_left _ _ x.2);
+      here = not-true x.0.gone (and_right _ _ x.2);
     }
 
 -- and the key of a node that is not gone is left
 pub left_in : (nodes : List Node) (n : Node) → In n nodes → n.gone ≡ false → is_left_of nodes n.key ≡ true
-left_in nodes n on here =
-    In-any (λ (m : Node). is_of n.key m && not m.gone) nodes n on
-    (and_both (same_key n.key n.key) (not n.gone) (same_key-refl n.key) (not_from_false n.gone here))
+left_in nodes n on here = In-any _ _ n on (and_both _ _ (same_key-refl n.key) (not_from_false _ here))
 
 -- so what is left in a part is left in the whole
 pub left_within : (assert_disjoint whole : List Node) → ((n : Node) → In n assert_disjoint → In n whole) →
     (key : NodeKey) → is_left_of assert_disjoint key ≡ true → is_left_of whole key ≡ true
 left_within assert_disjoint whole within key left =
-    let x = left_node assert_disjoint key left in
-    subst (λ (k : NodeKey). is_left_of whole k ≡ true) x.is (left_in whole x.node (within x.node x.on) x.here)
+    let x = left_node _ _ left in
+    subst (λ (k : NodeKey). is_left_of whole k ≡ true) x.is (left_in _ _ (within x.node x.on) x.here)
 
 -- ---- lines
 
@@ -88,7 +82,7 @@ module _ (nodes : List Node) (parent : NodeKey → Option NodeKey) (one : AreOne
   here_too : (ns : List Node) → ((n : Node) → In n ns → In n nodes) →
       (n : Node) → In n nodes → is_left_of ns n.key ≡ true → n.gone ≡ false
   here_too ns within n on left =
-      let x = left_node ns n.key left in
+      let x = left_node _ _ left in
       ap (λ (m : Node). m.gone) (one n x.node on (within x.node x.on) (sym x.is)) ∙ x.here
 
   -- so each node that is left has its line, of those before it
@@ -96,12 +90,11 @@ module _ (nodes : List Node) (parent : NodeKey → Option NodeKey) (one : AreOne
       (key : NodeKey) → is_left_of ns key ≡ true → HasLine nodes parent key (above_among ns key)
   line_among [] within rooted key left = cc
   line_among (n ∷ older) within rooted key left =
-      let first : hangs_on older n ≡ true =
-      and_left (hangs_on older n) (are_rooted older) rooted in
-      let rest : are_rooted older ≡ true = and_right (hangs_on older n) (are_rooted older) rooted in
+      let first : hangs_on older n ≡ true = and_left _ _ rooted in
+      let rest : are_rooted older ≡ true = and_right _ _ rooted in
       elim (either_way (same_key n.key key)) [
         | inl e ↦
-            let is : n.key ≡ key = same_key-true n.key key e in
+            let is : n.key ≡ key = same_key-true _ _ e in
             let on : In n nodes = within n (inl refl) in
             let here : n.gone ≡ false =
             here_too (n ∷ older) within n on (subst (λ (k : NodeKey). is_left_of (n ∷ older) k ≡ true) (sym is) left) in
@@ -118,15 +111,13 @@ module _ (nodes : List Node) (parent : NodeKey → Option NodeKey) (one : AreOne
       from (Some p) up stays line = record { chain = (up, (line p stays).chain); left = each }
         where
           each : (k : NodeKey) → In k (p ∷ above_among older p) → is_left_of nodes k ≡ true
-          each k (inl is) = subst (λ (j : NodeKey). is_left_of nodes j ≡ true) (sym is) (left_within older nodes (λ m on.
-              within m (inr on)) p stays)
+          each k (inl is) = rw is (left_within _ _ (λ m on. within m (inr on)) p stays)
           each k (inr on) = (line p stays).left k on
 
   -- the line of a key that is left
   pub line_of : are_rooted (reverse nodes) ≡ true → (key : NodeKey) → is_left_of nodes key ≡ true →
       HasLine nodes parent key (above_among (reverse nodes) key)
-  line_of rooted key left =
-      line_among (reverse nodes) (λ n on. In-reverse nodes n on) rooted key
+  line_of rooted key left = line_among _ (λ n on. In-reverse _ n on) rooted _
       (left_within nodes (reverse nodes) (λ n on. In-reverse-back nodes n on) key left)
 
 -- ---- parents
@@ -136,18 +127,15 @@ parent_among : (ns : List Node) → are_rooted ns ≡ true → (n : Node) (p : N
     is_left_of ns p ≡ true
 parent_among [] rooted n p on here up = absurd on
 parent_among (m ∷ older) rooted n p (inl is) here up =
-    let first : hangs_on older m ≡ true =
-    and_left (hangs_on older m) (are_rooted older) rooted in
+    let first : hangs_on older m ≡ true = and_left _ _ rooted in
     let here' : m.gone ≡ false = ap (λ (x : Node). x.gone) (sym is) ∙ here in
     let up' : m.parent ≡ Some p = ap (λ (x : Node). x.parent) (sym is) ∙ up in
-    or_right (is_of p m && not m.gone) (is_left_of older p) (rw (here', up') at first)
-parent_among (m ∷ older) rooted n p (inr on) here up =
-    or_right (is_of p m && not m.gone) (is_left_of older p)
-    (parent_among older (and_right (hangs_on older m) (are_rooted older) rooted) n p on here up)
+    or_right _ _ (rw (here', up') at first)
+parent_among (m ∷ older) rooted n p (inr on) here up = or_right _ _
+    (parent_among older (and_right _ _ rooted) n p on here up)
 
 -- so it is left among all
 pub left_parent : (nodes : List Node) → are_rooted (reverse nodes) ≡ true → (n : Node) (p : NodeKey) → In n nodes → n.gone ≡ false →
     n.parent ≡ Some p → is_left_of nodes p ≡ true
-left_parent nodes rooted n p on here up =
-    left_within (reverse nodes) nodes (λ m there. In-reverse nodes m there) p
-    (parent_among (reverse nodes) rooted n p (In-reverse-back nodes n on) here up)
+left_parent nodes rooted n p on here up = left_within _ _ (λ m there. In-reverse _ m there) p
+    (parent_among _ rooted n p (In-reverse-back _ n on) here up)

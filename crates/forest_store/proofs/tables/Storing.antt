@@ -1,21 +1,16 @@
 -- Nodes that are written one after another, each in the place of the one with its key.
-use Rattle.forest_store.proofs.Common.{◌≡◌, Bool, true, false, List, [], ◌∷◌, ◌++◌, ◌⊎◌, inl, inr, Option, Some, None, option_map, is_some, cond, if◌then◌else◌, refl, ap, ◌∙◌, false≢true, NodeKey, same_key, In, either_way, same_key-true, Table, node_at, Node}
-use Rattle.std.proofs.Common.{IsSome}
-use Rattle.node_table.specs.Table.{Row, row_at}
-use Rattle.node_table.specs.Changes.{Writes}
-use Rattle.node_table.specs.Lending.{table_with_node}
-use Rattle.forest_store.specs.Shelves.{written, stored, Stores}
+use Rattle.forest_store.proofs.Common.{◌≡◌, Bool, true, false, List, [], ◌∷◌, ◌++◌, ◌⊎◌, inl, inr, Option, Some, None, option_map, is_some, cond, if◌then◌else◌, refl, ap, ◌∙◌, false≢true, NodeKey, same_key, In, either_way, same_key-true, Table, node_at, Node, IsSome, Row, row_at, Writes, table_with_node, written, stored, Stores}
 use Rattle.forest_store.proofs.lists.Lookups.{nothing}
 use Rattle.forest_store.proofs.tables.Writing.{look-written, parents-written}
 
 -- by whether they have one key
 written-key-by : (m n : Node) (same : Bool) → same_key m.key n.key ≡ same → (cond same m n).key ≡ n.key
-written-key-by m n true same = same_key-true m.key n.key same
+written-key-by m n true same = same_key-true _ _ same
 written-key-by m n false same = refl
 
 -- a node that is written has the key of the other
 written-key : (m n : Node) → (written m n).key ≡ n.key
-written-key m n = written-key-by m n (same_key m.key n.key) refl
+written-key m n = written-key-by m n _ refl
 
 -- so after all
 pub stored-key : (ms : List Node) (n : Node) → (stored ms n).key ≡ n.key
@@ -34,7 +29,7 @@ row_there-by (Some row) h = refl
 
 -- a row with a node is there
 pub row_there : (t : Table Node) (key : NodeKey) → is_some (node_at t key) ≡ true → IsSome (row_at t key)
-row_there t key h = row_there-by (row_at t key) h
+row_there t key h = row_there-by _ h
 
 -- a node as it is stored is one of those, or as it was
 pub stored_one : (ns : List Node) (n : Node) → (stored ns n ≡ n) ⊎ In (stored ns n) ns
@@ -69,10 +64,10 @@ Stores-none t = record {
 more-by : (ns : List Node) (n : Node) (key : NodeKey) (o : Option Node) → ((m : Node) → o ≡ Some m → m.key ≡ key) →
     (if same_key n.key key then option_map (λ _. n) (option_map (stored ns) o) else option_map (stored ns) o) ≡ option_map
     (stored (ns ++ n ∷ [])) o
-more-by ns n key None named = nothing (same_key n.key key)
+more-by ns n key None named = nothing _
 more-by ns n key (Some m) named =
     let own : (stored ns m).key ≡ key = stored-key ns m ∙ named m refl in
-    rw (stored-push ns n m, own) (some_there (same_key n.key key) n (stored ns m))
+    rw (stored-push ns n m, own) (some_there _ n _)
 
 -- one more is written
 pub Stores-more : (t u now : Table Node) (ns : List Node) (n : Node) → ((key : NodeKey) (m : Node) → node_at t key ≡ Some m → m.key ≡ key) →

@@ -1,16 +1,14 @@
 -- A node that is taken out of the table, with its children cut.
-use Rattle.forest_store.proofs.Common.{◌≡◌, ◌≢◌, suc, ◌+◌, ◌<◌, nat_lt, Bool, true, false, not, List, [], ◌∷◌, length, Option, Some, None, option_map, cond, if◌then◌else◌, refl, sym, ap, subst, ◌∙◌, inl, inr, arith, NodeKey, same_key, some-injective, Table, node_at, parent_at, Node, Shelf, forest_of}
-use Rattle.std.proofs.Common.{slice_index_or, IsSome, Contains}
+use Rattle.forest_store.proofs.Common.{◌≡◌, ◌≢◌, suc, ◌+◌, ◌<◌, nat_lt, Bool, true, false, not, List, [], ◌∷◌, length, Option, Some, None, option_map, cond, if◌then◌else◌, refl, sym, ap, subst, ◌∙◌, inl, inr, arith, NodeKey, same_key, some-injective, Table, node_at, parent_at, Node, Shelf, forest_of, slice_index_or, IsSome, get_or_past, Row, row_at, parent_in, children_at, table_len, SameKeys, at_parent, key_cases, same_key-equal, same_key-apart, TakesOut}
+use Rattle.std.proofs.Common.{Contains}
 use Rattle.std.specs.Option.{MatchOption}
-use Rattle.std.proofs.lemmas.List.{get_or_past}
-use Rattle.node_table.specs.Table.{Row, row_at, parent_in, children_at, children_in, table_len}
-use Rattle.node_table.specs.Changes.{Cuts, Removes, SameKeys, at_parent, without_child, without_parent}
+use Rattle.node_table.specs.Table.{children_in}
+use Rattle.node_table.specs.Changes.{Cuts, Removes, without_child, without_parent}
 use Rattle.node_table.specs.Forest.{IsForest, first_key}
-use Rattle.node_table.proofs.Keys.{key_cases, same_key-equal, same_key-apart}
 use Rattle.node_table.proofs.Lists.{without, without_lacks, Contains-head}
 use Rattle.node_table.proofs.Runs.{without-short}
 use Rattle.forest_store.specs.Forest.{SameKeys as SameForest}
-use Rattle.forest_store.specs.Garbage.{IsChild, Unlinks, TakesOut}
+use Rattle.forest_store.specs.Garbage.{IsChild, Unlinks}
 use Rattle.forest_store.specs.Shelves.{TakesOut as Leaves}
 
 -- the node of a row
@@ -92,7 +90,7 @@ is_child t parent child forest listed =
 -- the first of the children is one of them, if there are any
 pub first_child_is : (t : Table Node) (key : NodeKey) → IsForest t → (o : Option NodeKey) → o ≡ first_key (children_at t key) →
     MatchOption o (children_at t key ≡ []) (IsChild t key)
-first_child_is t key forest o told = by_list (children_at t key) refl o told
+first_child_is t key forest o told = by_list _ refl o told
   where
     by_list : (xs : List NodeKey) → children_at t key ≡ xs → (o : Option NodeKey) → o ≡ first_key xs →
         MatchOption o (children_at t key ≡ []) (IsChild t key)
@@ -100,15 +98,14 @@ first_child_is t key forest o told = by_list (children_at t key) refl o told
     by_list [] list (Some k) told = absurd (cc)
     by_list (x ∷ xs) list None told = absurd (cc)
     by_list (x ∷ xs) list (Some k) told =
-        let same : x ≡ k = some-injective x k (sym told) in
-        let there : Contains (x ∷ xs) k = subst (λ (j : NodeKey). Contains (x ∷ xs) j) same (Contains-head x xs) in
-        is_child t key k forest (subst (λ (l : List NodeKey). Contains l k) (sym list) there)
+        let there : Contains (x ∷ xs) k = rw (← (some-injective x k (sym told))) (Contains-head x xs) in
+        is_child t _ k forest (rw list there)
 
 -- the children of the row without one
 fewer : (key child : NodeKey) (o : Option (Row Node)) →
     children_in (option_map (at_parent (Some key) (without_child child) key) o) ≡ without child (children_in o)
 fewer key child None = refl
-fewer key child (Some row) = rw (same_key-equal key key refl) refl
+fewer key child (Some row) = rw (same_key-equal _ _ refl) refl
 
 -- by whether the first is the key
 without-fewer-by : (key k : NodeKey) (ks : List NodeKey) (same : Bool) → same_key key k ≡ same →
@@ -122,19 +119,18 @@ without-fewer-by key k ks false is other on =
 -- a list that is another without a key is shorter
 without-fewer : (key : NodeKey) (keys : List NodeKey) → (without key keys ≡ keys → ⊥) → length (without key keys) < length keys
 without-fewer key [] other = absurd (other refl)
-without-fewer key (k ∷ ks) other = without-fewer-by key k ks (same_key key k) refl other (without-fewer key ks)
+without-fewer key (k ∷ ks) other = without-fewer-by _ k _ _ refl other (without-fewer key ks)
 
 -- a cut leaves fewer children
 pub cut_fewer : (t now : Table Node) (key child : NodeKey) → IsChild t key child → Cuts t now child →
     length (children_at now key) < length (children_at t key)
 cut_fewer t now key child is cuts =
-    let parent : parent_at t child ≡ Some key = is.parent_is in
     let left : children_at now key ≡ without child (children_at t key) =
     ap children_in (cuts.others key (λ same. is.other (sym same)))
-    ∙ ap (λ p. children_in (option_map (at_parent p (without_child child) key) (row_at t key))) parent
+    ∙ ap (λ p. children_in (option_map (at_parent p (without_child child) key) (row_at t key))) is.parent_is
     ∙ fewer key child (row_at t key) in
     let less = without-fewer child (children_at t key) (λ same. without_lacks child (children_at t key)
-    (subst (λ (l : List NodeKey). Contains l child) (sym same) is.listed)) in
+    (rw same is.listed)) in
     omega (arith, ap length left, less)
 
 -- which children of the key were cut so far

@@ -1,13 +1,7 @@
 -- The walk over the keys of a collection that takes out the nodes that are over.
-use Rattle.forest_store.proofs.Common.{◌≡◌, ◌≢◌, Bool, true, false, List, [], ◌∷◌, ◌++◌, map, Option, Some, None, cond, refl, sym, ap, subst, ◌∙◌, inl, inr, list_any, option_map_or, NodeKey, same_key, and_left, or_right, Table, node_at, Node, Shelf, IsStored, is_over}
-use Rattle.std.proofs.lemmas.List.Folds.{list_any-append}
-use Rattle.sm_names.proofs.SamenessLaws.{or_false}
-use Rattle.node_table.specs.Changes.{SameKeys}
-use Rattle.node_table.proofs.Keys.{key_cases, same_key-equal, same_key-apart}
-use Rattle.forest_store.specs.Garbage.{TakesOut, left_at, thinned, unless_over}
-use Rattle.forest_store.specs.Nodes.{is_spent}
-use Rattle.forest_store.proofs.tables.TakingOut.{SameKeys-refl, SameKeys-trans}
+use Rattle.forest_store.proofs.Common.{◌≡◌, ◌≢◌, Bool, true, false, List, [], ◌∷◌, ◌++◌, map, Option, Some, None, cond, refl, sym, ap, subst, ◌∙◌, inl, inr, list_any, option_map_or, NodeKey, same_key, and_left, or_right, Table, node_at, Node, Shelf, IsStored, is_over, list_any-append, or_false, SameKeys, key_cases, same_key-equal, same_key-apart, TakesOut, left_at, thinned, unless_over}
 use Rattle.forest_store.proofs.leaving.Thinning.{all_thinned-same, found_before, taken-kept, thinned-twice}
+use Rattle.forest_store.proofs.tables.TakingOut.{SameKeys-refl, SameKeys-trans}
 
 -- what was taken out so far: the walk over the rest ends where the whole does
 pub record Walks (old now : Table Node) (keys rest : List NodeKey) : Type 0 where
@@ -31,16 +25,16 @@ either_same false o = refl
 -- a key that is not the last one
 left_before : (t : Table Node) (older : List NodeKey) (key k : NodeKey) → key ≢ k → left_at t older k ≡ left_at t (older ++ key ∷ []) k
 left_before t older key k differ =
-    let other : same_key k key ≡ false = same_key-apart k key (λ same. differ (sym same)) in
+    let other : same_key k key ≡ false = same_key-apart k _ (λ same. differ (sym same)) in
     let any : list_any (same_key k) (older ++ key ∷ []) ≡ list_any (same_key k) older =
-    list_any-append (same_key k) older (key ∷ []) ∙ (rw other (or_false (list_any (same_key k) older))) in
+    list_any-append _ older _ ∙ (rw other (or_false (list_any (same_key k) older))) in
     rw any refl
 
 -- the last one
 left_last : (t : Table Node) (older : List NodeKey) (key k : NodeKey) → key ≡ k →
     left_at t (older ++ key ∷ []) k ≡ unless_over (node_at t k)
 left_last t older key k same =
-    let one : same_key k key ≡ true = same_key-equal k key (sym same) in
+    let one : same_key k key ≡ true = same_key-equal k _ (sym same) in
     let any : list_any (same_key k) (older ++ key ∷ []) ≡ true =
     list_any-append (same_key k) older (key ∷ []) ∙ or_right (list_any (same_key k) older) _ (rw one refl) in
     rw any refl
@@ -89,7 +83,7 @@ Walks-stays old t keys older key walks not_over = record {
 
 -- what is over is gone
 over_gone : (o : Option Node) → option_map_or is_over o false ≡ true → (m : Node) → o ≡ Some m → m.gone ≡ true
-over_gone o over m is = and_left m.gone (is_spent m.end) (rw is at over)
+over_gone o over m is = and_left _ _ (rw is at over)
 
 -- or goes
 pub Walks-goes : (old t now : Table Node) (keys older : List NodeKey) (key : NodeKey) → Walks old t keys (older ++ key ∷ []) →

@@ -1,11 +1,5 @@
 -- What stays true of a forest where nodes are written in their places.
-use Rattle.forest_store.proofs.Common.{◌≡◌, ◌≢◌, ℕ, ◌==◌, nat_lt, false, ◌&&◌, List, [], ◌∷◌, map, drop, Option, Some, None, option_map, is_some, if◌then◌else◌, refl, sym, ap, subst, ◌∙◌, inl, inr, list_any, list_all, AllByRecursion, option_map_or, NodeKey, same_key, Table, node_at, parent_at, Node, Collection, with_nodes, Shelf, collection_in, is_filed, are_filed, IsStored, IsWhole, nodes_with, is_of, are_distinct, heads_itself}
-use Rattle.std.proofs.Common.{nat_le, slice_index_or}
-use Rattle.node_table.specs.Table.{Row, row_at, parent_in, table_len, was_given}
-use Rattle.node_table.specs.Changes.{Writes, with_node}
-use Rattle.node_table.proofs.Keys.{key_cases, same_key-equal, same_key-apart}
-use Rattle.forest_store.specs.Scenes.{IsSound}
-use Rattle.forest_store.specs.Units.{GoTogether}
+use Rattle.forest_store.proofs.Common.{◌≡◌, ◌≢◌, ℕ, ◌==◌, nat_lt, false, ◌&&◌, List, [], ◌∷◌, map, drop, Option, Some, None, option_map, is_some, if◌then◌else◌, refl, sym, ap, subst, ◌∙◌, inl, inr, list_any, list_all, AllByRecursion, option_map_or, NodeKey, same_key, Table, node_at, parent_at, Node, Collection, with_nodes, Shelf, collection_in, is_filed, are_filed, IsStored, IsWhole, nodes_with, is_of, are_distinct, heads_itself, nat_le, slice_index_or, Row, row_at, parent_in, table_len, was_given, Writes, with_node, key_cases, same_key-equal, same_key-apart, IsSound, GoTogether}
 use Rattle.forest_store.proofs.tables.KeptRoots.{rooted_same}
 use Rattle.forest_store.proofs.tables.Kin.{kin_kept}
 use Rattle.forest_store.proofs.lists.Lookups.{looked-map}
@@ -79,8 +73,7 @@ module _ (f : Node → Node) (same : (n : Node) → IsSameNode (f n) n) where
 
   -- a key is filed where it was
   pub filed-map : (t now : Table Node) → ((key : NodeKey) → node_at now key ≡ option_map f (node_at t key)) → (id : ℕ)
-      (keys : List NodeKey) →
-      list_all (is_filed now id) keys ≡ list_all (is_filed t id) keys
+      (keys : List NodeKey) → list_all (is_filed now id) keys ≡ list_all (is_filed t id) keys
   filed-map t now each id [] = refl
   filed-map t now each id (k ∷ ks) = rw (each k, filed-map t now each id ks)
       (elim (node_at t k) as (λ o. (option_map_or (λ (n : Node). n.collection == id) (option_map f o) false && list_all (is_filed t id)
@@ -99,7 +92,7 @@ module _ (f : Node → Node) (same : (n : Node) → IsSameNode (f n) n) where
   pub collections-map : (t now : Table Node) → ((key : NodeKey) → node_at now key ≡ option_map f (node_at t key)) → (es : List Shelf) →
       map (collection_in now) es ≡ map (with_nodes (map f)) (map (collection_in t) es)
   collections-map t now each [] = refl
-  collections-map t now each (e ∷ es) = rw (looked-map f (node_at t) (node_at now) each e.keys, collections-map t now each es) refl
+  collections-map t now each (e ∷ es) = rw (looked-map f _ _ each e.keys, collections-map t now each es) refl
 
   -- by what was found
   found-map-by : (o : Option Node) (n : Node) → option_map f o ≡ Some n → (m : Node) × (o ≡ Some m) × (f m ≡ n)
@@ -109,7 +102,7 @@ module _ (f : Node → Node) (same : (n : Node) → IsSameNode (f n) n) where
   -- a node that is found was found before
   found-map : (t now : Table Node) → ((key : NodeKey) → node_at now key ≡ option_map f (node_at t key)) → (key : NodeKey) (n : Node) →
       node_at now key ≡ Some n → (m : Node) × (node_at t key ≡ Some m) × (f m ≡ n)
-  found-map t now each key n is = found-map-by (node_at t key) n (sym (each key) ∙ is)
+  found-map t now each key n is = found-map-by _ n (sym (each key) ∙ is)
 
   -- the collections stay whole
   whole-map : ((n : Node) → (f n).gone ≡ n.gone) → ((ns : List Node) → GoTogether ns → GoTogether (map f ns)) → (t now : Table Node) →
@@ -155,7 +148,7 @@ module _ (f : Node → Node) (same : (n : Node) → IsSameNode (f n) n) where
       ((key : NodeKey) → node_at now key ≡ option_map f (node_at t key)) → ((key : NodeKey) → parent_at now key ≡ parent_at t key) →
       (es : List Shelf) → IsStored t es → IsStored now es
   kept-map gone together t now first nexts len each parents es ok =
-      kept-with (λ n h. sym (gone n) ∙ h) t now first nexts len each parents es (whole-map gone together t now each es ok.whole) ok
+      kept-with (λ n h. sym (gone n) ∙ h) t _ first nexts len each parents _ (whole-map gone together t now each _ ok.whole) ok
 
 -- the row that is written has the node
 written_row : (node : Node) (o : Option (Row Node)) → option_map (λ (row : Row Node). row.node) (option_map (with_node node) o) ≡ option_map

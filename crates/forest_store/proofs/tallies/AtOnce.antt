@@ -1,7 +1,5 @@
 -- Nodes are counted no longer one after another, each for its unit and for the one right above that at once.
-use Rattle.forest_store.proofs.Common.{◌≡◌, ℕ, zero, suc, refl, ap, ◌∙◌, Bool, true, false, List, [], ◌∷◌, set, Option, Some, None, if◌then◌else◌, cons_option, NodeKey, Table, node_at, Node, Unit, unit_at, nodes_with, is_live_node}
-use Rattle.forest_store.specs.Counts.{head_above, is_unready}
-use Rattle.forest_store.specs.LossMarks.{lowered, unhung, unreckoned, untallied, without_below, without_node}
+use Rattle.forest_store.proofs.Common.{◌≡◌, ℕ, zero, suc, refl, ap, ◌∙◌, Bool, true, false, List, [], ◌∷◌, set, Option, Some, None, if◌then◌else◌, cons_option, NodeKey, Table, Node, Unit, unit_at, nodes_with, is_live_node, is_unready, lowered, unhung, unreckoned, untallied, without_below, without_node}
 
 -- two changes of counts that commute do so at any two slots
 changed_both : (A B : Unit → Unit) → ((u : Unit) → A (B u) ≡ B (A u)) → (us : List Unit) (i j : ℕ) →
@@ -20,18 +18,14 @@ one_less n us = if n.gone then us else without_node n us
 -- the two counts are of different fields, or of different slots
 less_both : (n : Node) (o : Option NodeKey) (us : List Unit) → one_less n (without_below o us) ≡ without_below o (one_less n us)
 less_both n None us = refl
-less_both n (Some h) us = from n.gone
-  where
-    node_both : without_node n (without_below (Some h) us) ≡ without_below (Some h) (without_node n us)
-    node_both = changed_both
-        (λ (u : Unit). record { live = lowered (is_live_node n) u.live; unready = lowered (is_unready n) u.unready; below = u.below })
-        (λ (u : Unit). record { live = u.live; unready = u.unready; below = lowered true u.below })
-        (λ u. refl) us n.head.slot h.slot
-
-    from : (b : Bool) → (if b then without_below (Some h) us else without_node n (without_below (Some h) us))
-        ≡ without_below (Some h) (if b then us else without_node n us)
-    from true = refl
-    from false = node_both
+less_both n (Some h) us = elim n.gone as (λ (b : Bool). (if b then without_below (Some h) us
+    else without_node n (without_below (Some h) us)) ≡ without_below (Some h) (if b then us else without_node n us)) [
+      | true ↦ refl
+      | false ↦ changed_both
+          (λ (u : Unit). record { live = lowered (is_live_node n) u.live; unready = lowered (is_unready n) u.unready; below = u.below })
+          (λ (u : Unit). record { live = u.live; unready = u.unready; below = lowered true u.below })
+          (λ u. refl) us _ h.slot
+    ]
 
 -- by induction: one node after another
 all_both : (ns : List Node) (o : Option NodeKey) (us : List Unit) → untallied ns (without_below o us) ≡ without_below o (untallied ns us)
@@ -41,9 +35,9 @@ all_both (n ∷ ns) o us = ap (untallied ns) (less_both n o us) ∙ all_both ns 
 -- the first one at once, and then the others
 pub unreckoned_on : (t : Table Node) (key : NodeKey) (keys : List NodeKey) (us : List Unit) →
     unreckoned t (nodes_with t keys) (unreckoned t (nodes_with t (key ∷ [])) us) ≡ unreckoned t (nodes_with t (key ∷ keys)) us
-unreckoned_on t key keys us = from (node_at t key)
+unreckoned_on t key keys us = from _
   where
     from : (o : Option Node) → unreckoned t (nodes_with t keys) (unreckoned t (cons_option o []) us)
         ≡ unreckoned t (cons_option o (nodes_with t keys)) us
     from None = refl
-    from (Some n) = ap (unhung t (nodes_with t keys)) (all_both (nodes_with t keys) (head_above t n) (one_less n us))
+    from (Some n) = ap (unhung t (nodes_with t keys)) (all_both (nodes_with t keys) _ _)

@@ -1,13 +1,8 @@
 -- Where something holds each unit, no node is deserted; and something does, where none is.
-use Rattle.forest_store.proofs.Common.{◌≡◌, ℕ, zero, suc, ◌+◌, ◌<◌, ◌≤◌, refl, ap, sym, ◌∙◌, subst, Bool, true, false, not, ◌&&◌, ◌||◌, ◌⊎◌, is_none, inl, inr, List, [], ◌∷◌, length, reverse, Option, Some, None, arith, not-true, list_any, list_all, option_map_or, NodeKey, same_key, In, In-list_any, and_both, and_left, and_right, both_ways, either_way, false_if, or_cases, or_left, or_right, same_key-refl, same_key-true, In-any, all_on, Node, is_left_of, is_of, node_of, is_deserted_node, is_live_node, are_distinct, heads_itself, are_rooted, is_head}
+use Rattle.forest_store.proofs.Common.{◌≡◌, ℕ, zero, suc, ◌+◌, ◌<◌, ◌≤◌, refl, ap, sym, ◌∙◌, subst, Bool, true, false, not, ◌&&◌, ◌||◌, ◌⊎◌, is_none, inl, inr, List, [], ◌∷◌, length, reverse, Option, Some, None, arith, not-true, list_any, list_all, option_map_or, NodeKey, same_key, In, In-list_any, and_both, and_left, and_right, both_ways, either_way, false_if, or_cases, or_left, or_right, same_key-refl, same_key-true, In-any, all_on, Node, is_left_of, is_of, node_of, is_deserted_node, is_live_node, are_distinct, heads_itself, are_rooted, is_head, In-reverse, In-reverse-back, IsChain, above_among, is_below, lives_below, hangs_on, are_united, shares_unit}
 use Rattle.std.proofs.lemmas.List.{length-reverse}
-use Rattle.sm_names.proofs.ListLaws.{In-reverse, In-reverse-back}
-use Rattle.sm_names.proofs.ReachLaws.{IsChain}
 pub use Rattle.forest_store.specs.Counts.{hangs_in}
-use Rattle.forest_store.specs.Nodes.{above_among}
-use Rattle.forest_store.specs.Questions.{is_below, lives_below}
-use Rattle.forest_store.specs.Ties.{hangs_on}
-use Rattle.forest_store.specs.Units.{are_united, is_parent, shares_unit}
+use Rattle.forest_store.specs.Units.{is_parent}
 use Rattle.forest_store.proofs.tables.Chains.{one_line}
 use Rattle.forest_store.proofs.tables.Rooted.{AreOne, distinct_one, left_in, left_node, left_parent, line_of}
 use Rattle.forest_store.proofs.quiescence.Steps.{all-In, found_by_key}
@@ -27,37 +22,32 @@ are_held nodes = list_all (is_held nodes) nodes
 
 -- a node that heads no unit is of its parent's
 shared_among : (ns : List Node) → are_united ns ≡ true → are_rooted ns ≡ true → (n : Node) → In n ns → n.gone ≡ false → is_head n ≡ false →
-    (p : NodeKey) → n.parent ≡ Some p →
-    (q : Node) × In q ns × (q.key ≡ p) × (q.head ≡ n.head)
+    (p : NodeKey) → n.parent ≡ Some p → (q : Node) × In q ns × (q.key ≡ p) × (q.head ≡ n.head)
 shared_among [] united rooted n on here h p up = absurd on
 shared_among (m ∷ older) united rooted n (inl is) here h p up =
-    let first : hangs_on older m ≡ true = and_left (hangs_on older m) (are_rooted older) rooted in
+    let first : hangs_on older m ≡ true = and_left _ _ rooted in
     let here' : m.gone ≡ false = ap (λ (x : Node). x.gone) (sym is) ∙ here in
     let up' : m.parent ≡ Some p = ap (λ (x : Node). x.parent) (sym is) ∙ up in
     let h' : is_head m ≡ false = ap is_head (sym is) ∙ h in
     let left : is_left_of older p ≡ true = rw (here', up') at first in
-    let x = left_node older p left in
-    let all : shares_unit m x.node ≡ true =
-    all-In (shares_unit m) older x.node x.on (and_left (list_all (shares_unit m) older) (are_united older) united) in
+    let x = left_node _ p left in
+    let all : shares_unit m x.node ≡ true = all-In _ _ _ x.on (and_left _ _ united) in
     let above : is_parent m x.node ≡ true = ap (λ (o : Option NodeKey). option_map_or (λ k. same_key x.node.key k) o false) up'
     ∙ ap (λ (k : NodeKey). same_key k p) x.is ∙ same_key-refl p in
-    let same : same_key x.node.head m.head ≡ true = from (is_head m) (is_parent m x.node) (same_key x.node.head m.head) h' above all in
-    (x.node, inr x.on, x.is, same_key-true x.node.head m.head same ∙ ap (λ (y : Node). y.head) (sym is))
+    let same : same_key x.node.head m.head ≡ true = from _ (is_parent m x.node) (same_key x.node.head m.head) h' above all in
+    (x.node, inr x.on, x.is, same_key-true _ _ same ∙ ap (λ (y : Node). y.head) (sym is))
   where
     from : (a b c : Bool) → a ≡ false → b ≡ true → (a || (not b || c)) ≡ true → c ≡ true
-    from true b c ea eb h = cc
-    from false false c ea eb h = cc
-    from false true c ea eb h = h
+    from a b c ea eb h = grind arith
 shared_among (m ∷ older) united rooted n (inr on) here h p up =
-    let x = shared_among older (and_right (list_all (shares_unit m) older) (are_united older) united) (and_right (hangs_on older m)
-    (are_rooted older) rooted) n on here h p up in
+    let x = shared_among older (and_right _ _ united) (and_right _ _ rooted) n on here h p up in
     (x.0, inr x.1, x.2, x.3)
 
 -- a line is no longer than the list
 up_short : (older : List Node) (n : Node) → ((key : NodeKey) → length (above_among older key) ≤ length older) →
     (o : Option NodeKey) → length (option_map_or (λ p. p ∷ above_among older p) o []) ≤ length (n ∷ older)
 up_short older n short None = omega arith
-up_short older n short (Some p) = let r = short p in omega arith
+up_short older n short (Some p) = omega arith
 
 -- by induction: each step up the line takes an older node
 pub above_short : (ns : List Node) (key : NodeKey) → length (above_among ns key) ≤ length ns
@@ -65,7 +55,7 @@ above_short [] key = omega arith
 above_short (n ∷ older) key =
     elim (either_way (same_key n.key key)) [
       | inl e ↦ rw e (up_short older n (above_short older) n.parent)
-      | inr e ↦ rw e (let r = above_short older key in omega arith)
+      | inr e ↦ rw e (omega (arith, above_short older key))
     ]
 
 -- ---- lines of keys
@@ -75,9 +65,8 @@ module _ (up : NodeKey → Option NodeKey) where
   at_same : (a b c : NodeKey) (low high : List NodeKey) → IsChain up c low → IsChain up b high → b ≡ c →
       list_any (same_key a) (b ∷ high) ≡ true → list_any (same_key a) (c ∷ low) ≡ true
   at_same a b c low high below above is k =
-      let lines : high ≡ low = one_line up b high low above (subst (λ (x : NodeKey). IsChain up x low) (sym is) below) in
-      subst (λ (x : NodeKey). list_any (same_key a) (x ∷ low) ≡ true) is
-      (subst (λ (l : List NodeKey). list_any (same_key a) (b ∷ l) ≡ true) lines k)
+      let lines : high ≡ low = one_line up b high low above (rw is below) in
+      rw (← is) (subst (λ (l : List NodeKey). list_any (same_key a) (b ∷ l) ≡ true) lines k)
 
   -- what lies above a key on a line lies on it
   pub through : (a b c : NodeKey) (low high : List NodeKey) → IsChain up c low → IsChain up b high →
@@ -94,8 +83,7 @@ module _ (up : NodeKey → Option NodeKey) where
   -- and its line is no longer
   same_long : (b c : NodeKey) (low high : List NodeKey) → IsChain up c low → IsChain up b high → b ≡ c → length high ≤ length low
   same_long b c low high below above is =
-      let lines : high ≡ low = one_line up b high low above (subst (λ (x : NodeKey). IsChain up x low) (sym is) below) in
-      let long : length high ≡ length low = ap length lines in
+      let long : length high ≡ length low = ap length (one_line up b high low above (rw is below)) in
       omega arith
 
   -- by induction: from a key in the line the line goes on as above that key
@@ -118,60 +106,57 @@ module _ (nodes : List Node) (distinct : are_distinct nodes ≡ true) (heads : l
 
   -- no two nodes of the list have one key
   one : AreOne nodes
-  one = distinct_one nodes distinct
+  one = distinct_one _ distinct
 
   -- a node that is not gone is found by its key, so its parent is found
   linked : (n : Node) → In n nodes → n.gone ≡ false → up n.key ≡ n.parent
-  linked n on here = ap (λ (o : Option Node). option_map_or (λ (m : Node). m.parent) o None) (found_by_key nodes n distinct on)
+  linked n on here = ap (λ (o : Option Node). option_map_or (λ (m : Node). m.parent) o None) (found_by_key _ n distinct on)
 
   abbrev pub line : NodeKey → List NodeKey
   line key = above_among (reverse nodes) key
 
   -- the line above a key that is left leads from parent to parent
   pub chain : (key : NodeKey) → is_left_of nodes key ≡ true → IsChain up key (line key)
-  chain key left = (line_of nodes up one linked rooted key left).chain
+  chain key left = (line_of _ _ one linked rooted _ left).chain
 
   -- a node's line goes on as its parent's
   pub step : (n : Node) → In n nodes → n.gone ≡ false → (p : NodeKey) → n.parent ≡ Some p → line n.key ≡ p ∷ line p
-  step n on here p is =
-      one_line up n.key (line n.key) (p ∷ line p) (chain n.key (left_in nodes n on here))
-      (linked n on here ∙ is, chain p (left_parent nodes rooted n p on here is))
+  step n on here p is = one_line _ _ _ _ (chain _ (left_in _ n on here))
+      (linked n on here ∙ is, chain p (left_parent _ rooted n p on here is))
 
   -- ---- what lies below
 
   -- each node lies below itself
   pub below_self : (key : NodeKey) → is_below nodes key key ≡ true
-  below_self key = or_left (same_key key key) (list_any (same_key key) (line key)) (same_key-refl key)
+  below_self key = or_left _ _ (same_key-refl key)
 
   -- what is above the parent is above the node
   pub below_parent : (top : NodeKey) (n : Node) → In n nodes → n.gone ≡ false → (p : NodeKey) → n.parent ≡ Some p →
       is_below nodes top p ≡ true → is_below nodes top n.key ≡ true
-  below_parent top n on here p is h =
-      or_right (same_key top n.key) (list_any (same_key top) (line n.key)) (ap (list_any (same_key top)) (step n on here p is) ∙ h)
+  below_parent top n on here p is h = or_right _ _ (ap (list_any (same_key top)) (step n on here p is) ∙ h)
 
   -- the line of the lowest goes through the middle one, and on as that one's line
   pub below_through : (a b c : NodeKey) → is_left_of nodes c ≡ true → is_left_of nodes b ≡ true → is_below nodes b c ≡ true →
       is_below nodes a b ≡ true → is_below nodes a c ≡ true
-  below_through a b c left mid h k = through up a b c (line c) (line b) (chain c left) (chain b mid) h k
+  below_through a b c left mid h k = through _ a b c _ _ (chain c left) (chain b mid) h k
 
   -- ---- units
 
   -- a node with the key of one that is left is not gone
   pub still_here : (q : Node) → In q nodes → is_left_of nodes q.key ≡ true → q.gone ≡ false
   still_here q on left =
-      let x = left_node nodes q.key left in
+      let x = left_node _ _ left in
       ap (λ (m : Node). m.gone) (one q x.node on x.on (sym x.is)) ∙ x.here
 
   -- a head that is not gone heads its own unit
   pub own_head : (n : Node) → In n nodes → is_head n ≡ true → n.head ≡ n.key
   own_head n on h =
-      let own : heads_itself n ≡ true = all-In heads_itself nodes n on heads in
-      let same : same_key n.head n.key ≡ true = rw h at own in
-      same_key-true n.head n.key same
+      let same : same_key n.head n.key ≡ true = rw h at (all-In _ _ n on heads) in
+      same_key-true _ _ same
 
   -- a node that is no head has a parent
   pub has_parent : (n : Node) → is_head n ≡ false → (p : NodeKey) × (n.parent ≡ Some p)
-  has_parent n h = from n.parent refl h
+  has_parent n h = from _ refl h
     where
       from : (o : Option NodeKey) → n.parent ≡ o → (is_none o || n.attached) ≡ false → (p : NodeKey) × (n.parent ≡ Some p)
       from None is h = cc
@@ -181,51 +166,44 @@ module _ (nodes : List Node) (distinct : are_distinct nodes ≡ true) (heads : l
   pub shared : (n : Node) → In n nodes → n.gone ≡ false → is_head n ≡ false → (p : NodeKey) → n.parent ≡ Some p →
       (q : Node) × In q nodes × (q.key ≡ p) × (q.head ≡ n.head)
   shared n on here h p is =
-      let x = shared_among (reverse nodes) united rooted n (In-reverse-back nodes n on) here h p is in
-      (x.0, In-reverse nodes x.0 x.1, x.2, x.3)
+      let x = shared_among _ united rooted n (In-reverse-back _ n on) here h p is in
+      (x.0, In-reverse _ _ x.1, x.2, x.3)
 
-  -- each node of a unit lies at or below its head
-  pub unit_below : (fuel : ℕ) (n : Node) → In n nodes → n.gone ≡ false → length (line n.key) < fuel → is_below nodes n.head n.key ≡ true
-  unit_below zero n on here few = absurd (omega arith)
-  unit_below (suc fuel) n on here few = elim (either_way (is_head n)) [
-    | inl e ↦ subst (λ (k : NodeKey). is_below nodes k n.key ≡ true) (sym (own_head n on e)) (below_self n.key)
+  -- by induction on the line: what holds of each head, and of a node where it holds of its parent in the unit, holds of all
+  climbed : (P : Node → Type 0) → ((n : Node) → In n nodes → n.gone ≡ false → is_head n ≡ true → P n) →
+      ((n q : Node) → In n nodes → n.gone ≡ false → is_head n ≡ false → In q nodes → n.parent ≡ Some q.key →
+      q.head ≡ n.head → P q → P n) → (fuel : ℕ) (n : Node) → In n nodes → n.gone ≡ false → length (line n.key) < fuel → P n
+  climbed P top up_to zero n on here few = absurd (omega arith)
+  climbed P top up_to (suc fuel) n on here few = elim (either_way (is_head n)) [
+    | inl e ↦ top n on here e
     | inr e ↦
         let up' = has_parent n e in
         let x = shared n on here e up'.0 up'.1 in
-        let left : is_left_of nodes x.0.key ≡ true =
-        subst (λ (k : NodeKey). is_left_of nodes k ≡ true) (sym x.2) (left_parent nodes rooted n up'.0 on here up'.1) in
-        let long : length (line n.key) ≡ length (up'.0 ∷ line up'.0) = ap length (step n on here up'.0 up'.1) in
-        let same : length (line x.0.key) ≡ length (line up'.0) = ap (λ (k : NodeKey). length (line k)) x.2 in
-        let above : is_below nodes x.0.head x.0.key ≡ true = unit_below fuel x.0 x.1 (still_here x.0 x.1 left) (omega arith) in
-        below_parent n.head n on here up'.0 up'.1
-        (subst (λ (k : NodeKey). is_below nodes n.head k ≡ true) x.2 (subst (λ (k : NodeKey). is_below nodes k x.0.key ≡ true) x.3 above))
+        let parent : n.parent ≡ Some x.0.key = up'.1 ∙ ap Some (sym x.2) in
+        let long : length (line n.key) ≡ length (x.0.key ∷ line x.0.key) = ap length (step n on here x.0.key parent) in
+        let stays = still_here x.0 x.1 (left_parent nodes rooted n x.0.key on here parent) in
+        up_to n x.0 on here e x.1 parent x.3 (climbed P top up_to fuel x.0 x.1 stays (omega arith))
   ]
 
-  -- by induction on the line: each step up stays in the unit until its head
+  -- the line is as long as it is
+  pub in_unit : (P : Node → Type 0) → ((n : Node) → In n nodes → n.gone ≡ false → is_head n ≡ true → P n) →
+      ((n q : Node) → In n nodes → n.gone ≡ false → is_head n ≡ false → In q nodes → n.parent ≡ Some q.key →
+      q.head ≡ n.head → P q → P n) → (n : Node) → In n nodes → n.gone ≡ false → P n
+  in_unit P top up_to n on here = climbed P top up_to (suc (length (line n.key))) n on here (omega arith)
+
+  -- each step up stays in the unit until its head
   pub in_unit_below : (n : Node) → In n nodes → n.gone ≡ false → is_below nodes n.head n.key ≡ true
-  in_unit_below n on here = unit_below (suc (length (line n.key))) n on here (omega arith)
+  in_unit_below = in_unit (λ n. is_below nodes n.head n.key ≡ true)
+      (λ n on here e. subst (λ (k : NodeKey). is_below nodes k n.key ≡ true) (sym (own_head n on e)) (below_self n.key))
+      (λ n q on here e there up same below. below_parent n.head n on here q.key up
+      (subst (λ (k : NodeKey). is_below nodes k q.key ≡ true) same below))
 
-  -- the head of its unit is there
-  pub head_found : (fuel : ℕ) (n : Node) → In n nodes → n.gone ≡ false → length (line n.key) < fuel →
-      (h : Node) × In h nodes × (h.key ≡ n.head) × (h.gone ≡ false) × (is_head h ≡ true)
-  head_found zero n on here few = absurd (omega arith)
-  head_found (suc fuel) n on here few = elim (either_way (is_head n)) [
-    | inl e ↦ (n, on, sym (own_head n on e), here, e)
-    | inr e ↦
-        let up' = has_parent n e in
-        let x = shared n on here e up'.0 up'.1 in
-        let left : is_left_of nodes x.0.key ≡ true =
-        subst (λ (k : NodeKey). is_left_of nodes k ≡ true) (sym x.2) (left_parent nodes rooted n up'.0 on here up'.1) in
-        let long : length (line n.key) ≡ length (up'.0 ∷ line up'.0) = ap length (step n on here up'.0 up'.1) in
-        let same : length (line x.0.key) ≡ length (line up'.0) = ap (λ (k : NodeKey). length (line k)) x.2 in
-        let r = head_found fuel x.0 x.1 (still_here x.0 x.1 left) (omega arith) in
-        (r.0, r.1, r.2 ∙ x.3, r.3, r.4)
-  ]
-
-  -- by induction on the line: each step up stays in the unit until its head, which is left
+  -- and that head is left
   pub head_there : (n : Node) → In n nodes → n.gone ≡ false → (h : Node) × In h nodes × (h.key ≡ n.head) × (h.gone ≡ false) ×
       (is_head h ≡ true)
-  head_there n on here = head_found (suc (length (line n.key))) n on here (omega arith)
+  head_there = in_unit (λ n. (h : Node) × In h nodes × (h.key ≡ n.head) × (h.gone ≡ false) × (is_head h ≡ true))
+      (λ n on here e. (n, on, sym (own_head n on e), here, e))
+      (λ n q on here e there up same r. (r.0, r.1, r.2 ∙ same, r.3, r.4))
 
   -- ---- heads
 
@@ -233,9 +211,7 @@ module _ (nodes : List Node) (distinct : are_distinct nodes ≡ true) (heads : l
   module _ (held : are_held nodes ≡ true) where
     -- each head is held, and this one is not gone
     holder : (h : Node) → In h nodes → h.gone ≡ false → is_head h ≡ true → list_any (holds_unit nodes h.key) nodes ≡ true
-    holder h on here head =
-        let all : is_held nodes h ≡ true = all-In (is_held nodes) nodes h on held in
-        rw (here, head) at all
+    holder h on here head = rw (here, head) at (all-In _ _ h on held)
 
     -- by induction on how much of the line is left: what holds the unit lives, or heads a unit that is held
     lives : (fuel : ℕ) (h : Node) → In h nodes → h.gone ≡ false → is_head h ≡ true → length nodes < fuel + length (line h.key) →
@@ -271,10 +247,9 @@ module _ (nodes : List Node) (distinct : are_distinct nodes ≡ true) (heads : l
             let key : y.0.key ≡ p = same_key-true y.0.key p (and_left (is_of p y.0) _ y.2) in
             let unit : y.0.head ≡ h.key = same_key-true y.0.head h.key (and_right (is_of p y.0) _ y.2) in
             let left : is_left_of nodes p ≡ true = left_parent nodes rooted m p there stays is in
-            let mid : is_left_of nodes y.0.key ≡ true = subst (λ (k : NodeKey). is_left_of nodes k ≡ true) (sym key) left in
+            let mid : is_left_of nodes y.0.key ≡ true = rw key left in
             let at : is_below nodes h.key p ≡ true =
-            subst (λ (k : NodeKey). is_below nodes h.key k ≡ true) key
-            (subst (λ (k : NodeKey). is_below nodes k y.0.key ≡ true) unit (in_unit_below y.0 y.1 (still_here y.0 y.1 mid))) in
+            rw (← key) (subst (λ (k : NodeKey). is_below nodes k y.0.key ≡ true) unit (in_unit_below y.0 y.1 (still_here y.0 y.1 mid))) in
             let under : is_below nodes h.key m.key ≡ true = below_parent h.key m there stays p is at in
             let longer : length (line m.key) ≡ length (p ∷ line p) = ap length (step m there stays p is) in
             let more : length (line h.key) ≤ length (line p) =
@@ -290,19 +265,17 @@ module _ (nodes : List Node) (distinct : are_distinct nodes ≡ true) (heads : l
 
     -- so no node is deserted
     not_deserted : (h : Node) → In h nodes → is_deserted_node nodes h ≡ false
-    not_deserted h on = false_if (is_deserted_node nodes h) (λ e.
-        let head : is_head h ≡ true = and_left (is_head h) _ e in
-        let rest = and_right (is_head h) _ e in
-        let here : h.gone ≡ false = not-true h.gone (and_left (not h.gone) _ rest) in
-        let none : list_any (lives_below nodes h.key) nodes ≡ false = not-true _ (and_right (not h.gone) _ rest) in
-        both_ways (list_any (lives_below nodes h.key) nodes)
-        (lives (suc (length nodes)) h on here head (omega arith)) none)
+    not_deserted h on = false_if _ (λ e.
+        let rest = and_right _ _ e in
+        let here : h.gone ≡ false = not-true h.gone (and_left _ _ rest) in
+        let none : list_any (lives_below nodes h.key) nodes ≡ false = not-true _ (and_right _ _ rest) in
+        both_ways _ (lives (suc (length nodes)) h on here (and_left _ _ e) (omega arith)) none)
 
     -- each head that is left has a live node below it
     pub none_deserted : list_any (is_deserted_node nodes) nodes ≡ false
-    none_deserted = false_if (list_any (is_deserted_node nodes) nodes) (λ e.
-        let x = In-list_any (is_deserted_node nodes) nodes e in
-        both_ways (is_deserted_node nodes x.0) x.2 (not_deserted x.0 x.1))
+    none_deserted = false_if _ (λ e.
+        let x = In-list_any _ _ e in
+        both_ways _ x.2 (not_deserted _ x.1))
 
   -- where no node of these units is live, and the units right below are of these too, their heads are deserted
   module _ (dead : NodeKey → Bool)
@@ -311,17 +284,15 @@ module _ (nodes : List Node) (distinct : are_distinct nodes ≡ true) (heads : l
       (q : Node) → In q nodes → q.key ≡ p → dead q.head ≡ true → dead x.key ≡ true) where
     -- a root has no line
     no_line : (n : Node) → In n nodes → n.gone ≡ false → n.parent ≡ None → line n.key ≡ []
-    no_line n on here is = one_line up n.key (line n.key) [] (chain n.key (left_in nodes n on here)) (linked n on here ∙ is)
+    no_line n on here is = one_line _ _ _ _ (chain _ (left_in _ n on here)) (linked n on here ∙ is)
 
     -- all below such a head is of such units
     dead_below : (fuel : ℕ) (y : Node) → In y nodes → y.gone ≡ false → (h : Node) → In h nodes → is_head h ≡ true → dead h.key ≡ true →
         is_below nodes h.key y.key ≡ true → length (line y.key) < fuel → dead y.head ≡ true
     dead_below zero y on here h there head is_dead b few = absurd (omega arith)
     dead_below (suc fuel) y on here h there head is_dead b few =
-        elim (or_cases (same_key h.key y.key) (list_any (same_key h.key) (line y.key)) b) [
-          | inl e ↦
-              let is : y ≡ h = one y h on there (sym (same_key-true h.key y.key e)) in
-              subst (λ (n : Node). dead n.head ≡ true) (sym is) (ap dead (own_head h there head) ∙ is_dead)
+        elim (or_cases _ _ b) [
+          | inl e ↦ rw (one y h on there (sym (same_key-true _ _ e))) (ap dead (own_head h there head) ∙ is_dead)
           | inr e ↦ from (λ q on' here' b' few'. dead_below fuel q on' here' h there head is_dead b' few') y.parent refl e
         ]
       where
@@ -331,7 +302,7 @@ module _ (nodes : List Node) (distinct : are_distinct nodes ≡ true) (heads : l
         from lower None is e =
             let no : false ≡ true = sym (ap (list_any (same_key h.key)) (no_line y on here is)) ∙ e in cc
         from lower (Some p) is e =
-            let x = left_node nodes p (left_parent nodes rooted y p on here is) in
+            let x = left_node _ p (left_parent _ rooted y p on here is) in
             let next : line y.key ≡ p ∷ line p = step y on here p is in
             let at : is_below nodes h.key p ≡ true = sym (ap (list_any (same_key h.key)) next) ∙ e in
             let long : length (line y.key) ≡ length (p ∷ line p) = ap length next in
@@ -351,22 +322,21 @@ module _ (nodes : List Node) (distinct : are_distinct nodes ≡ true) (heads : l
     -- nothing that holds it lives, so no node below it does
     pub dead_deserted : (h : Node) → In h nodes → h.gone ≡ false → is_head h ≡ true → dead h.key ≡ true → is_deserted_node nodes h ≡ true
     dead_deserted h on here head is_dead =
-        and_both (is_head h) _ head (and_both (not h.gone) _ (ap not here)
+        and_both _ _ head (and_both _ _ (ap not here)
         (ap not (false_if (list_any (lives_below nodes h.key) nodes) (λ e.
-        let x = In-list_any (lives_below nodes h.key) nodes e in
-        let live = and_left (is_live_node x.0) (is_below nodes h.key x.0.key) x.2 in
-        let stays : x.0.gone ≡ false = not-true x.0.gone (and_left (not x.0.gone) (not x.0.released) live) in
+        let x = In-list_any _ _ e in
+        let live = and_left _ _ x.2 in
+        let stays : x.0.gone ≡ false = not-true x.0.gone (and_left _ _ live) in
         let gone : dead x.0.head ≡ true =
-        dead_below (suc (length (line x.0.key))) x.0 x.1 stays h on head is_dead (and_right (is_live_node x.0)
-        (is_below nodes h.key x.0.key) x.2) (omega arith) in
-        both_ways x.0.released (still x.0 x.1 stays gone) (not-true x.0.released (and_right (not x.0.gone) (not x.0.released) live))))))
+        dead_below (suc (length (line x.0.key))) x.0 x.1 stays h on head is_dead (and_right _
+        _ x.2) (omega arith) in
+        both_ways _ (still x.0 x.1 stays gone) (not-true x.0.released (and_right _ _ live))))))
 
   -- ---- what holds the units
 
   -- where no node is deserted, something holds each unit
   pub held_where : list_any (is_deserted_node nodes) nodes ≡ false → are_held nodes ≡ true
-  held_where none =
-      all_on (is_held nodes) nodes (λ h on.
+  held_where none = all_on _ _ (λ h on.
       one_held h on (either_way h.gone) (either_way (is_head h)) (either_way (list_any (holds_unit nodes h.key) nodes)))
     where
       one_held : (h : Node) → In h nodes → (h.gone ≡ true) ⊎ (h.gone ≡ false) → (is_head h ≡ true) ⊎ (is_head h ≡ false) →
@@ -374,23 +344,15 @@ module _ (nodes : List Node) (distinct : are_distinct nodes ≡ true) (heads : l
       one_held h on (inl e) b c = rw e refl
       one_held h on (inr e) (inl a) (inl b) = rw (e, a, b) refl
       one_held h on (inr e) (inr a) c = rw (e, a) refl
-      one_held h on (inr e) (inl a) (inr b) =
-          both_ways (list_any (is_deserted_node nodes) nodes)
-          (In-any (is_deserted_node nodes) nodes h on
-          (dead_deserted (λ k. same_key k h.key)
+      one_held h on (inr e) (inl a) (inr b) = both_ways _
+          (In-any _ _ h on
+          (dead_deserted _
           (λ x there here dead. elim (either_way x.released) [
             | inl r ↦ r
-            | inr r ↦ both_ways (list_any (holds_unit nodes h.key) nodes) (In-any (holds_unit nodes h.key) nodes x there
-                (rw (here, dead, r) refl)) b
-          ])
-          (λ x there here attached p up q in_nodes is dead.
+            | inr r ↦ both_ways _ (In-any _ _ x there (rw (here, dead, r) refl)) b
+          ]) (λ x there here attached p up q in_nodes is dead.
           let hangs : hangs_in nodes h.key x ≡ true =
           ap (λ (o : Option NodeKey). option_map_or (λ k. list_any (λ (y : Node). is_of k y && same_key y.head h.key) nodes) o false) up
-          ∙ In-any (λ (y : Node). is_of p y && same_key y.head h.key) nodes q in_nodes
-          (and_both (is_of p q) (same_key q.head h.key) (ap (λ (k : NodeKey). same_key k p) is ∙ same_key-refl p) dead) in
-          let holds : holds_unit nodes h.key x ≡ true =
-          and_both (not x.gone) _ (ap not here) (or_right (same_key x.head h.key && not x.released) (x.attached && hangs_in nodes h.key
-          x) (and_both x.attached (hangs_in nodes h.key x) attached hangs)) in
-          both_ways (list_any (holds_unit nodes h.key) nodes) (In-any (holds_unit nodes h.key) nodes x there holds) b)
-          h on e a (same_key-refl h.key)))
-          none
+          ∙ In-any _ _ q in_nodes (and_both _ _ (ap (λ (k : NodeKey). same_key k p) is ∙ same_key-refl p) dead) in
+          let holds = and_both _ _ (ap not here) (or_right _ _ (and_both _ _ attached hangs)) in
+          both_ways _ (In-any _ _ x there holds) b) h on e a (same_key-refl h.key))) none

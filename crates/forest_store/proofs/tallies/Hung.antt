@@ -1,14 +1,11 @@
 -- How many units hang right below one, as it is counted in the table and as it is said of a collection.
-use Rattle.forest_store.proofs.Common.{◌≡◌, ◌≢◌, ℕ, ◌+◌, ◌<◌, ◌≤◌, ◌==◌, nat_lt, refl, ap, sym, ◌∙◌, subst, Bool, true, false, not, ◌&&◌, ◌||◌, ◌⊎◌, inl, inr, if◌then◌else◌, List, [], ◌∷◌, map, reverse, length, set, Option, Some, None, option_map, arith, eqb-false, eqb-true, lt-ltb, list_any, option_map_or, NodeKey, same_key, times, In, In-list_any, and_both, and_left, and_right, both_ways, either_way, false_if, same_key-refl, same_key-true, some-injective, In-any, Table, node_at, Node, Unit, unit_at, is_of, are_distinct, are_rooted}
-use Rattle.std.proofs.lemmas.List.{get_or-set_other, get_or-set_same, length-set}
+use Rattle.forest_store.proofs.Common.{◌≡◌, ◌≢◌, ℕ, ◌+◌, ◌<◌, ◌≤◌, ◌==◌, nat_lt, refl, ap, sym, ◌∙◌, subst, Bool, true, false, not, ◌&&◌, ◌||◌, ◌⊎◌, inl, inr, if◌then◌else◌, List, [], ◌∷◌, map, reverse, length, set, Option, Some, None, option_map, arith, eqb-false, eqb-true, lt-ltb, list_any, option_map_or, NodeKey, same_key, times, In, In-list_any, and_both, and_left, and_right, both_ways, either_way, false_if, same_key-refl, same_key-true, some-injective, In-any, Table, node_at, Node, Unit, unit_at, is_of, are_distinct, are_rooted, get_or-set_other, get_or-set_same, length-set, hangs_in, head_above, heads_below, no_unit, lowered, unhung, without_below, bit}
 use Rattle.sm_names.proofs.ListLaws.{list_any-map}
-use Rattle.forest_store.specs.Counts.{hangs_in, head_above, head_of, heads_below, hung, no_unit, with_below}
-use Rattle.forest_store.specs.LossMarks.{lowered, unhung, without_below}
-use Rattle.forest_store.specs.Unforced.{bit}
+use Rattle.forest_store.specs.Counts.{head_of, hung, with_below}
 use Rattle.forest_store.proofs.quiescence.Calming.{times_map}
 use Rattle.forest_store.proofs.tables.Rooted.{distinct_one, left_node, left_parent}
 use Rattle.forest_store.proofs.tables.Writing.{IsSameNode}
-use Rattle.forest_store.proofs.tallies.Reckoning.{other_slot, times_more}
+use Rattle.forest_store.proofs.tallies.Reckoning.{bit_few, other_slot, times_more}
 
 -- ---- one node
 
@@ -131,23 +128,18 @@ without_other : (o : Option NodeKey) (us : List Unit) (slot : ℕ) → ((h : Nod
 without_other None us slot differ = refl
 without_other (Some h) us slot differ = get_or-set_other us h.slot slot _ no_unit (λ e. differ h refl (sym e))
 
--- by cases
-bit_few : (b : Bool) → bit b ≤ 1
-bit_few true = omega arith
-bit_few false = omega arith
-
 -- ---- all nodes
 
 module _ (t : Table Node) where
   -- by induction over the nodes
   pub hung_long : (ns : List Node) (us : List Unit) → length (hung t ns us) ≡ length us
   hung_long [] us = refl
-  hung_long (n ∷ ns) us = hung_long ns (with_below (head_above t n) us) ∙ with_long (head_above t n) us
+  hung_long (n ∷ ns) us = hung_long ns (with_below (head_above t n) us) ∙ with_long _ us
 
   -- by induction over the nodes
   pub unhung_long : (ns : List Node) (us : List Unit) → length (unhung t ns us) ≡ length us
   unhung_long [] us = refl
-  unhung_long (n ∷ ns) us = unhung_long ns (without_below (head_above t n) us) ∙ without_long (head_above t n) us
+  unhung_long (n ∷ ns) us = unhung_long ns (without_below (head_above t n) us) ∙ without_long _ us
 
   -- by induction: none of them hangs below that unit
   pub hung_other : (ns : List Node) (us : List Unit) (slot : ℕ) →
@@ -155,7 +147,7 @@ module _ (t : Table Node) where
   hung_other [] us slot differ = refl
   hung_other (n ∷ ns) us slot differ =
       hung_other ns (with_below (head_above t n) us) slot (λ m on. differ m (inr on))
-      ∙ with_other (head_above t n) us slot (differ n (inl refl))
+      ∙ with_other _ us _ (differ n (inl refl))
 
   -- by induction: none of them hangs below that unit
   pub unhung_other : (ns : List Node) (us : List Unit) (slot : ℕ) →
@@ -163,7 +155,7 @@ module _ (t : Table Node) where
   unhung_other [] us slot differ = refl
   unhung_other (n ∷ ns) us slot differ =
       unhung_other ns (without_below (head_above t n) us) slot (λ m on. differ m (inr on))
-      ∙ without_other (head_above t n) us slot (differ n (inl refl))
+      ∙ without_other _ us _ (differ n (inl refl))
 
   -- by induction: each head right below adds one
   pub hung_hangs : (ns : List Node) (us : List Unit) (k : NodeKey) → k.slot < length us →
@@ -191,9 +183,7 @@ module _ (t : Table Node) where
       let long = without_long (head_above t n) us in
       let more = times_more (is_hung t k) n ns in
       let first = without_drops (head_above t n) us k within (one n (inl refl)) (omega arith) in
-      let a = first.below in
       let rest = unhung_drops ns (without_below (head_above t n) us) k (omega arith) (λ m on. one m (inr on)) (omega arith) in
-      let b = rest.below in
       record { live = rest.live ∙ first.live; unready = rest.unready ∙ first.unready; below = omega arith }
 
 -- ---- as it is said of the nodes
@@ -204,12 +194,10 @@ module _ (t : Table Node) (nodes : List Node) (distinct : are_distinct nodes ≡
   hangs_by : (k p : NodeKey) (x : Node) → In x nodes → x.key ≡ p →
       list_any (λ (q : Node). is_of p q && same_key q.head k) nodes ≡ same_key x.head k
   hangs_by k p x on key = elim (either_way (same_key x.head k)) [
-    | inl e ↦
-        In-any (λ (q : Node). is_of p q && same_key q.head k) nodes x on
+    | inl e ↦ In-any (λ (q : Node). is_of p q && same_key q.head k) nodes x on
         (and_both (is_of p x) (same_key x.head k) (ap (λ (j : NodeKey). same_key j p) key ∙ same_key-refl p) e)
         ∙ sym e
-    | inr e ↦
-        false_if (list_any (λ (q : Node). is_of p q && same_key q.head k) nodes) (λ h.
+    | inr e ↦ false_if (list_any (λ (q : Node). is_of p q && same_key q.head k) nodes) (λ h.
         let y = In-list_any (λ (q : Node). is_of p q && same_key q.head k) nodes h in
         let one : y.0 ≡ x =
         distinct_one nodes distinct y.0 x y.1 on (same_key-true y.0.key p (and_left (is_of p y.0) _ y.2) ∙ sym key) in
@@ -221,7 +209,7 @@ module _ (t : Table Node) (nodes : List Node) (distinct : are_distinct nodes ≡
   pub above_found : (n : Node) → In n nodes → n.gone ≡ false → n.attached ≡ true → (p : NodeKey) → n.parent ≡ Some p →
       (x : Node) × In x nodes × (x.key ≡ p) × (x.gone ≡ false) × (head_above t n ≡ Some x.head)
   above_found n on here attached p up =
-      let x = left_node nodes p (left_parent nodes rooted n p on here up) in
+      let x = left_node _ p (left_parent _ rooted n p on here up) in
       let at : node_at t p ≡ Some x.node = ap (node_at t) (sym x.is) ∙ at_key x.node x.on in (
         x.node,
         x.on,
@@ -234,24 +222,21 @@ module _ (t : Table Node) (nodes : List Node) (distinct : are_distinct nodes ≡
   -- the head of a unit right above is that of a node that is there
   pub above_node : (n : Node) → In n nodes → (h : NodeKey) → head_above t n ≡ Some h →
       (x : Node) × In x nodes × (x.gone ≡ false) × (x.head ≡ h)
-  above_node n on h is = by (either_way n.gone) (either_way n.attached) n.parent refl
+  above_node n on h is = by (either_way n.gone) (either_way n.attached) _ refl
     where
       by : (n.gone ≡ true) ⊎ (n.gone ≡ false) → (n.attached ≡ true) ⊎ (n.attached ≡ false) → (o : Option NodeKey) → n.parent ≡ o →
           (x : Node) × In x nodes × (x.gone ≡ false) × (x.head ≡ h)
-      by (inl g) a o up =
-          let no : Some h ≡ None = sym is ∙ (λ i. if g i || not n.attached then None else option_map_or (head_of t) n.parent None) in cc
-      by (inr g) (inr a) o up =
-          let no : Some h ≡ None = sym is ∙ (λ i. if g i || not (a i) then None else option_map_or (head_of t) n.parent None) in cc
-      by (inr g) (inl a) None up =
-          let no : Some h ≡ None = sym is ∙ (λ i. if g i || not (a i) then None else option_map_or (head_of t) (up i) None) in cc
+      by (inl g) a o up = cc
+      by (inr g) (inr a) o up = cc
+      by (inr g) (inl a) None up = cc
       by (inr g) (inl a) (Some p) up =
           let x = above_found n on g a p up in
           let both : Some x.0.head ≡ Some h = sym x.4 ∙ is in
-          (x.0, x.1, x.3, some-injective x.0.head h both)
+          (x.0, x.1, x.3, some-injective _ h both)
 
   -- by cases on the node's flags and parent: the table has the parent that the list has
   pub hung_is : (k : NodeKey) (n : Node) → In n nodes → is_hung t k n ≡ heads_below nodes k n
-  hung_is k n on = by (either_way n.gone) (either_way n.attached) n.parent refl
+  hung_is k n on = by (either_way n.gone) (either_way n.attached) _ refl
     where
       by : (n.gone ≡ true) ⊎ (n.gone ≡ false) → (n.attached ≡ true) ⊎ (n.attached ≡ false) → (o : Option NodeKey) → n.parent ≡ o →
           is_hung t k n ≡ heads_below nodes k n
@@ -268,7 +253,7 @@ module _ (t : Table Node) (nodes : List Node) (distinct : are_distinct nodes ≡
           let x = above_found n on g a p up in
           ap (is_above k) x.4
           ∙ sym ((λ i. not (g i) && (a i && option_map_or (λ p. list_any (λ q. is_of p q && same_key q.head k) nodes) (up i) false))
-          ∙ hangs_by k p x.0 x.1 x.2)
+          ∙ hangs_by k p _ x.1 x.2)
 
 -- ---- nodes that keep what is counted so
 
@@ -276,7 +261,7 @@ module _ (f : Node → Node) (same : (n : Node) → IsSameNode (f n) n) (nodes :
   -- keys and heads are kept
   unit_mapped : (p k : NodeKey) → list_any (λ (q : Node). is_of p q && same_key q.head k) (map f nodes)
       ≡ list_any (λ (q : Node). is_of p q && same_key q.head k) nodes
-  unit_mapped p k = list_any-map (λ (q : Node). is_of p q && same_key q.head k) (λ (q : Node). is_of p q && same_key q.head k) f nodes
+  unit_mapped p k = list_any-map _ _ f _
       (λ q there. λ i. same_key ((same q).key i) p && same_key ((same q).head i) k)
 
   -- so a node hangs in a unit as before
@@ -286,5 +271,5 @@ module _ (f : Node → Node) (same : (n : Node) → IsSameNode (f n) n) (nodes :
   -- so each unit has as many heads right below it
   pub below_mapped : ((n : Node) → (f n).gone ≡ n.gone) → (k : NodeKey) →
       times (heads_below (map f nodes) k) (map f nodes) ≡ times (heads_below nodes k) nodes
-  below_mapped gone k = times_map (heads_below (map f nodes) k) (heads_below nodes k) f nodes
+  below_mapped gone k = times_map _ _ f nodes
       (λ n. λ i. not (gone n i) && ((same n).attached i && hangs_mapped k n i))

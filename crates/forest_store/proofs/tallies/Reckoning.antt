@@ -1,8 +1,7 @@
 -- What the counts of a unit are, once nodes were counted for their units.
-use Rattle.forest_store.proofs.Common.{◌≡◌, ◌≢◌, ℕ, ◌+◌, ◌<◌, ◌≤◌, ◌==◌, nat_lt, refl, ap, sym, ◌∙◌, subst, Bool, true, false, not, ◌&&◌, ◌||◌, ◌⊎◌, inl, inr, if◌then◌else◌, List, [], ◌∷◌, length, set, is_some, arith, eqb-false, eqb-true, lt-ltb, NodeKey, same_key, times, In, either_way, same_key-refl, same_key-true, Node, Unit, is_live_node, lives_in, unit_at, waits_in}
-use Rattle.std.proofs.lemmas.List.{get_or-set_other, get_or-set_same, length-set}
-use Rattle.forest_store.specs.Unforced.{bit}
-use Rattle.forest_store.specs.Counts.{cleared, is_unready, no_unit, raised, tallied, with_node}
+use Rattle.forest_store.proofs.Common.{◌≡◌, ◌≢◌, ℕ, ◌+◌, ◌<◌, ◌≤◌, ◌==◌, nat_lt, refl, ap, sym, ◌∙◌, subst, Bool, true, false, not, ◌&&◌, ◌||◌, ◌⊎◌, inl, inr, if◌then◌else◌, List, [], ◌∷◌, length, set, is_some, arith, eqb-false, eqb-true, lt-ltb, NodeKey, same_key, times, In, either_way, same_key-refl, same_key-true, Node, Unit, is_live_node, lives_in, unit_at, waits_in, get_or-set_other, get_or-set_same, length-set, bit, cleared, is_unready, no_unit, tallied}
+use Rattle.std.proofs.Math.Bool.{and-false, and-true, or-true}
+use Rattle.forest_store.specs.Counts.{raised, with_node}
 
 -- a key of another slot is another key
 pub other_slot : (a b : NodeKey) → a.slot ≢ b.slot → same_key a b ≡ false
@@ -25,38 +24,19 @@ pub waits_own : (head : NodeKey) (n : Node) → same_key n.head head ≡ true �
 waits_own head n own = from n.gone (same_key n.head head) n.released (is_some n.constraints) own
   where
     from : (g s r c : Bool) → s ≡ true → not (g || (not s || (r || c))) ≡ (not g && (not r && not c))
-    from true s r c is = refl
-    from false true true c is = refl
-    from false true false true is = refl
-    from false true false false is = refl
-    from false false r c is = cc
+    from g s r c is = grind arith
 
 -- and for none of another
 pub waits_other : (head : NodeKey) (n : Node) → same_key n.head head ≡ false → waits_in head n ≡ false
-waits_other head n other = from n.gone (same_key n.head head) (n.released || is_some n.constraints) other
-  where
-    from : (g s b : Bool) → s ≡ false → not (g || (not s || b)) ≡ false
-    from true s b is = refl
-    from false false b is = refl
-    from false true b is = cc
+waits_other head n other = rw other (ap not (or-true n.gone))
 
 -- its head is that of the unit
 pub lives_own : (head : NodeKey) (n : Node) → same_key n.head head ≡ true → lives_in head n ≡ is_live_node n
-lives_own head n own = from (is_live_node n) (same_key n.head head) own
-  where
-    from : (l s : Bool) → s ≡ true → (l && s) ≡ l
-    from true true is = refl
-    from false s is = refl
-    from true false is = cc
+lives_own head n own = rw own (and-true (is_live_node n))
 
 -- its head is that of another unit
 pub lives_other : (head : NodeKey) (n : Node) → same_key n.head head ≡ false → lives_in head n ≡ false
-lives_other head n other = from (is_live_node n) (same_key n.head head) other
-  where
-    from : (l s : Bool) → s ≡ false → (l && s) ≡ false
-    from true false is = refl
-    from false s is = refl
-    from true true is = cc
+lives_other head n other = rw other (and-false (is_live_node n))
 
 -- a node that is gone counts for no unit
 pub waits_gone : (head : NodeKey) (n : Node) → n.gone ≡ true → waits_in head n ≡ false
@@ -144,11 +124,10 @@ one_adds n us k within one live unready = elim (either_way n.gone) [
 
 -- either nothing is set, or one element is
 one_long : (n : Node) (us : List Unit) → length (one_more n us) ≡ length us
-one_long n us = from n.gone
-  where
-    from : (b : Bool) → length (if b then us else with_node n us) ≡ length us
-    from true = refl
-    from false = with_node_long n us
+one_long n us = elim n.gone as (λ (b : Bool). length (if b then us else with_node n us) ≡ length us) [
+  | true ↦ refl
+  | false ↦ with_node_long n us
+]
 
 -- by induction over the nodes
 pub tallied_long : (ns : List Node) (us : List Unit) → length (tallied ns us) ≡ length us
@@ -156,7 +135,7 @@ tallied_long [] us = refl
 tallied_long (n ∷ ns) us = tallied_long ns (one_more n us) ∙ one_long n us
 
 -- by cases
-bit_few : (b : Bool) → bit b ≤ 1
+pub bit_few : (b : Bool) → bit b ≤ 1
 bit_few true = omega arith
 bit_few false = omega arith
 
@@ -195,7 +174,7 @@ tallied_other (n ∷ ns) us slot differ =
   where
     from : (n.gone ≡ true) ⊎ (n.gone ≡ false) → unit_at (one_more n us) slot ≡ unit_at us slot
     from (inl e) = ap (λ (b : Bool). unit_at (if b then us else with_node n us) slot) e
-    from (inr e) = ap (λ (b : Bool). unit_at (if b then us else with_node n us) slot) e ∙ with_node_other n us slot (differ n (inl refl) e)
+    from (inr e) = ap (λ (b : Bool). unit_at (if b then us else with_node n us) slot) e ∙ with_node_other n us _ (differ n (inl refl) e)
 
 -- ---- slots that are cleared
 
@@ -208,8 +187,7 @@ cleared_long (k ∷ ks) us = cleared_long ks (set us k.slot no_unit) ∙ length-
 pub cleared_other : (keys : List NodeKey) (us : List Unit) (slot : ℕ) → ((k : NodeKey) → In k keys → k.slot ≢ slot) →
     unit_at (cleared keys us) slot ≡ unit_at us slot
 cleared_other [] us slot differ = refl
-cleared_other (k ∷ ks) us slot differ =
-    cleared_other ks (set us k.slot no_unit) slot (λ j on. differ j (inr on))
+cleared_other (k ∷ ks) us slot differ = cleared_other ks (set us k.slot no_unit) slot (λ j on. differ j (inr on))
     ∙ get_or-set_other us k.slot slot no_unit no_unit (λ h. differ k (inl refl) (sym h))
 
 -- by induction: a slot that is cleared stays so
@@ -221,8 +199,7 @@ cleared_stays (k ∷ ks) us slot within none =
     cleared_stays ks (set us k.slot no_unit) slot (omega arith) (from (either_way (k.slot == slot)))
   where
     from : ((k.slot == slot) ≡ true) ⊎ ((k.slot == slot) ≡ false) → unit_at (set us k.slot no_unit) slot ≡ no_unit
-    from (inl e) = subst (λ (s : ℕ). unit_at (set us s no_unit) slot ≡ no_unit) (sym (eqb-true k.slot slot e))
-        (get_or-set_same us slot no_unit no_unit within)
+    from (inl e) = rw (eqb-true k.slot slot e) (get_or-set_same us slot no_unit no_unit within)
     from (inr e) = get_or-set_other us k.slot slot no_unit no_unit (λ h. eqb-false k.slot slot e (sym h)) ∙ none
 
 -- by induction: the key's slot is cleared once
@@ -231,8 +208,7 @@ pub cleared_own : (keys : List NodeKey) (us : List Unit) (key : NodeKey) → In 
 cleared_own [] us key on within = absurd on
 cleared_own (k ∷ ks) us key (inl is) within =
     let long = length-set us k.slot no_unit in
-    cleared_stays ks (set us k.slot no_unit) key.slot (omega arith)
-    (subst (λ (j : NodeKey). unit_at (set us j.slot no_unit) key.slot ≡ no_unit) is (get_or-set_same us key.slot no_unit no_unit within))
+    cleared_stays ks _ _ (omega arith) (rw (← is) (get_or-set_same us key.slot no_unit no_unit within))
 cleared_own (k ∷ ks) us key (inr on) within =
     let long = length-set us k.slot no_unit in
     cleared_own ks (set us k.slot no_unit) key on (omega arith)

@@ -1,38 +1,18 @@
 -- The counts in the slots of keys: which stay where others change.
-use Rattle.forest_store.proofs.Common.{◌≡◌, ◌≢◌, ℕ, ◌+◌, ◌<◌, ◌≤◌, ◌==◌, nat_lt, refl, ap, sym, ◌∙◌, subst, Bool, true, false, ◌&&◌, ◌⊎◌, inl, inr, if◌then◌else◌, List, [], ◌∷◌, map, length, reverse, Option, Some, None, option_map, not, arith, eqb-false, eqb-true, AllByRecursion, find, list_all, list_any, option_map_or, Interval, NodeKey, same_key, times, In, In-find, In-list_any, In-map, In-map-back, and_left, and_right, both_ways, either_way, false_if, same_key-true, In-any, Table, node_at, Change, Node, Unit, AreUnits, lives_in, unit_at, waits_in, Collection, with_nodes, AreRising, IsStored, IsWhole, Shelf, are_filed, collection_in, is_filed, nodes_with, is_of, is_over, are_distinct, Handles, Settles, collection_or_new, put, are_rooted}
-use Rattle.std.proofs.Common.{slice_index_or, filter}
-use Rattle.std.specs.Option.{unwrap_or}
-use Rattle.sm_names.specs.Marks.{Mark, Called, Loss, Allocated, Ended}
-use Rattle.sm_names.proofs.ListLaws.{In-filter, In-filter-back}
-use Rattle.node_table.specs.Table.{Row, next_at}
-use Rattle.forest_store.specs.Counts.{AreUnitsExcept, HasUnit, HasSlots, HasUnits, HaveSlots, cleared, hangs_in, head_above, heads_below, no_unit, reckoned, tallied, unit_of}
-use Rattle.forest_store.specs.Forest.{Forest, collection_at, is_left, tidied, without_over_in}
-use Rattle.forest_store.specs.Nodes.{is_spent}
-use Rattle.forest_store.specs.Settling.{Forces, Rests, changed, is_birth, is_root_of, made}
-use Rattle.forest_store.proofs.changes.Altering.{found_filed, found_id, found_whole, looked-of}
-use Rattle.forest_store.proofs.quiescence.Calming.{times_map}
-use Rattle.forest_store.proofs.changes.Finishing.{looked-keys}
-use Rattle.forest_store.proofs.tables.Hanging.{all_in, in_all, looked_gone, looked_there}
-use Rattle.forest_store.proofs.tallies.Holding.{head_there}
-use Rattle.forest_store.proofs.tallies.Hung.{above_node, below_mapped, hung_hangs, hung_is, hung_long, hung_other, is_hung}
-use Rattle.forest_store.proofs.tallies.Reckoning.{cleared_long, cleared_other, cleared_own, tallied_adds, tallied_long, tallied_other}
-use Rattle.forest_store.proofs.shelves.Showing.{filed-length}
-use Rattle.forest_store.proofs.quiescence.Steps.{all-In}
-use Rattle.forest_store.proofs.tables.Rooted.{distinct_one, left_node, left_parent}
-use Rattle.forest_store.proofs.tables.Writing.{IsSameNode}
-use Rattle.forest_store.proofs.tallies.Untold.{times_same}
+use Rattle.forest_store.proofs.Common.{◌≡◌, ◌≢◌, ℕ, ◌+◌, ◌<◌, ◌≤◌, ◌==◌, nat_lt, refl, ap, sym, ◌∙◌, subst, Bool, true, false, ◌&&◌, ◌⊎◌, inl, inr, if◌then◌else◌, List, [], ◌∷◌, map, length, reverse, Option, Some, None, not, arith, eqb-false, eqb-true, AllByRecursion, find, list_all, list_any, option_map_or, Interval, NodeKey, same_key, times, In, In-find, In-list_any, In-map, In-map-back, and_left, and_right, both_ways, either_way, false_if, same_key-true, In-any, Table, node_at, Change, Node, Unit, AreUnits, lives_in, unit_at, waits_in, Collection, with_nodes, AreRising, IsStored, IsWhole, Shelf, are_filed, collection_in, is_filed, nodes_with, is_of, are_distinct, Handles, Settles, collection_or_new, put, are_rooted, unwrap_or, Mark, Called, Loss, Allocated, Ended, In-filter, In-filter-back, next_at, AreUnitsExcept, HasUnits, cleared, hangs_in, head_above, heads_below, no_unit, reckoned, tallied, unit_of, collection_at, tidied, without_over_in, Forces, Rests, changed, is_birth, is_root_of, made, filter}
+pub use Rattle.forest_store.proofs.tables.Hanging.{all_at}
+use Rattle.forest_store.specs.Counts.{HaveSlots}
+use Rattle.forest_store.specs.Forest.{Forest}
+use Rattle.forest_store.proofs.Basics.{found_filed, found_id, found_whole, looked-of, times_map, looked-keys, all_in, in_all, looked_gone, looked_there, head_there, above_node, below_mapped, hung_hangs, hung_is, hung_long, hung_other, is_hung, cleared_long, cleared_other, cleared_own, tallied_adds, tallied_long, tallied_other, filed-length, all-In, distinct_one, left_node, left_parent, IsSameNode, times_same}
 
 -- ---- keys that have nodes
 
 -- the node of a key is of its slot's last generation
 last_given : (t : Table Node) (key : NodeKey) (n : Node) → node_at t key ≡ Some n → next_at t key.slot ≡ key.generation + 1
-last_given t key n is = from (next_at t key.slot == key.generation + 1) refl is
-  where
-    from : (b : Bool) → (next_at t key.slot == key.generation + 1) ≡ b →
-        option_map (λ (row : Row Node). row.node) (if b then slice_index_or t.rows key.slot None else None) ≡ Some n →
-        next_at t key.slot ≡ key.generation + 1
-    from true e is = eqb-true _ _ e
-    from false e is = cc
+last_given t key n is = elim (either_way (next_at t key.slot == key.generation + 1)) [
+  | inl e ↦ eqb-true _ _ e
+  | inr e ↦ let none = rw e at is in absurd (cc)
+]
 
 -- such keys are told apart by their slots
 pub one_slot : (t : Table Node) (a b : NodeKey) (n m : Node) → node_at t a ≡ Some n → node_at t b ≡ Some m → a.slot ≡ b.slot → a ≡ b
@@ -45,22 +25,16 @@ one_slot t a b n m one two slots =
 
 -- ---- lists
 
--- by induction: the element is the first, or one of the others
-pub all_at : {A : Type 0} (P : A → Type 0) (xs : List A) → AllByRecursion P xs → (x : A) → In x xs → P x
-all_at P [] all x on = absurd on
-all_at P (y ∷ ys) all x (inl is) = subst P (sym is) all.0
-all_at P (y ∷ ys) all x (inr on) = all_at P ys all.1 x on
-
 -- shelves with one id are one
 pub one_shelf : (ss : List Shelf) → AreRising ss → (x y : Shelf) → In x ss → In y ss → x.id ≡ y.id → x ≡ y
 one_shelf [] rising x y on too same = absurd on
 one_shelf (s ∷ ss) rising x y (inl here) (inl there) same = here ∙ sym there
 one_shelf (s ∷ ss) rising x y (inl here) (inr there) same =
-    let less : s.id < y.id = all_at (λ (later : Shelf). s.id < later.id) ss rising.0 y there in
+    let less : s.id < y.id = all_at _ _ rising.0 y there in
     let one : x.id ≡ s.id = ap (λ (z : Shelf). z.id) here in
     absurd (omega arith)
 one_shelf (s ∷ ss) rising x y (inr here) (inl there) same =
-    let less : s.id < x.id = all_at (λ (later : Shelf). s.id < later.id) ss rising.0 x here in
+    let less : s.id < x.id = all_at _ _ rising.0 x here in
     let one : y.id ≡ s.id = ap (λ (z : Shelf). z.id) there in
     absurd (omega arith)
 one_shelf (s ∷ ss) rising x y (inr here) (inr there) same = one_shelf ss rising.1 x y here there same
@@ -77,13 +51,10 @@ module _ (t : Table Node) (named : (key : NodeKey) (n : Node) → node_at t key 
   -- the slots of the keys of other collections stay
   units_stay : (x : ℕ) → x ≢ id → (keys : List NodeKey) → list_all (is_filed t x) keys ≡ true → HasUnits us (nodes_with t keys) →
       HasUnits new (nodes_with t keys)
-  units_stay x differ keys filed has = all_in (HasUnit new (nodes_with t keys)) (nodes_with t keys) (λ n on.
-      let at : node_at t n.key ≡ Some n =
-      in_all (λ (m : Node). node_at t m.key ≡ Some m) (nodes_with t keys) (looked_there t named keys) n on in
-      let own : n.collection ≡ x =
-      eqb-true n.collection x (all-In (λ (m : Node). m.collection == x) (nodes_with t keys) n on (looked-of t x keys filed)) in
-      let was = in_all (HasUnit us (nodes_with t keys)) (nodes_with t keys) has n on in
-      let s = stays n.key n at (λ h. differ (sym own ∙ h)) was.0 in
+  units_stay x differ keys filed has = all_in _ _ (λ n on.
+      let own : n.collection ≡ x = eqb-true n.collection x (all-In _ _ n on (looked-of t x _ filed)) in
+      let was = in_all _ _ has n on in
+      let s = stays n.key n (in_all _ _ (looked_there t named keys) n on) (λ h. differ (sym own ∙ h)) was.0 in
       (s.0, s.1 ∙ was.1))
 
   -- by induction over the shelves
@@ -118,9 +89,9 @@ pub units_own : (t : Table Node) (ss : List Shelf) → IsStored t ss → (id : �
     (s : Shelf) → In s ss → s.id ≡ id → HasUnits new (nodes_with t s.keys) → AreUnits new (map (collection_in t) ss)
 units_own t ss kept id us new stays but s on own has =
     but_join new id (map (collection_in t) ss) (but_stays t kept.named us new id stays ss kept.filed but) (λ c there same.
-    let x = In-map (collection_in t) ss c there in
+    let x = In-map _ _ c there in
     let one : x.0 ≡ s = one_shelf ss kept.rising x.0 s x.1 on (sym (ap (λ (d : Collection). d.id) x.2) ∙ same ∙ sym own) in
-    subst (λ (d : Collection). HasUnits new d.nodes) (sym (x.2 ∙ ap (collection_in t) one)) has)
+    rw (x.2 ∙ ap (collection_in t) one) has)
 
 -- where the others are the same
 pub but_moved : (t now : Table Node) (us : List Unit) (id : ℕ) (ss : List Shelf) → ((s : Shelf) → In s ss → s.id ≢ id →
@@ -135,12 +106,12 @@ but_moved t now us id (s ∷ ss) same but = (
 -- where the one is put among them
 pub but_put : (us : List Unit) (c : Collection) (cs : List Collection) → AreUnits us cs → AreUnitsExcept us c.id (put c cs)
 but_put us c [] all = (λ differ. absurd (differ refl), tt)
-but_put us c (d ∷ ds) all = from (d.id == c.id) (nat_lt c.id d.id) (but_put us c ds all.1)
+but_put us c (d ∷ ds) all = from _ (nat_lt c.id d.id) (but_put us c ds all.1)
   where
     from : (here above : Bool) → AreUnitsExcept us c.id (put c ds) →
         AreUnitsExcept us c.id (if here then c ∷ ds else (if above then c ∷ d ∷ ds else d ∷ put c ds))
-    from true above on = (λ differ. absurd (differ refl), but_all us c.id ds all.1)
-    from false true on = (λ differ. absurd (differ refl), (λ differ. all.0, but_all us c.id ds all.1))
+    from true above on = (λ differ. absurd (differ refl), but_all _ c.id _ all.1)
+    from false true on = (λ differ. absurd (differ refl), (λ differ. all.0, but_all _ c.id _ all.1))
     from false false on = (λ differ. all.0, on)
 
 -- ---- collections that were settled
@@ -171,26 +142,23 @@ changed_id Change.Nothing key c h = refl
 
 -- the collection with an id has it, or is new with it
 pub or_new_id : (f : Forest) (id : ℕ) → (collection_or_new f id).id ≡ id
-or_new_id f id = from (collection_at f id) refl
+or_new_id f id = from _ refl
   where
     from : (o : Option Collection) → collection_at f id ≡ o →
         (unwrap_or o (record { id = id; nodes = []; buffers = None; held = [] })).id ≡ id
     from None is = refl
-    from (Some c) is = eqb-true c.id id (In-find (λ (d : Collection). d.id == id) f.collections c is).1
+    from (Some c) is = eqb-true c.id id (In-find (λ (d : Collection). d.id == id) _ c is).1
 
 -- ---- nodes that count as before
 
 -- the map keeps the keys, and the counts are equal
 pub units_mapped : (us : List Unit) (f : Node → Node) (nodes : List Node) → ((n : Node) → (f n).key ≡ n.key) →
-    ((k : NodeKey) → unit_of (map f nodes) k ≡ unit_of nodes k) →
-    HasUnits us nodes → HasUnits us (map f nodes)
-units_mapped us f nodes keys same has =
-    all_in (HasUnit us (map f nodes)) (map f nodes) (λ n on.
-    let x = In-map f nodes n on in
+    ((k : NodeKey) → unit_of (map f nodes) k ≡ unit_of nodes k) → HasUnits us nodes → HasUnits us (map f nodes)
+units_mapped us f nodes keys same has = all_in _ _ (λ n on.
+    let x = In-map f _ n on in
     let key : x.0.key ≡ n.key = sym (ap (λ (m : Node). m.key) x.2 ∙ keys x.0) in
-    let had = in_all (HasUnit us nodes) nodes has x.0 x.1 in
-    subst (λ (k : NodeKey). (k.slot < length us) × (unit_at us k.slot ≡ unit_of (map f nodes) k)) key
-    (had.0, had.1 ∙ sym (same x.0.key)))
+    let had = in_all _ _ has _ x.1 in
+    rw (← key) (had.0, had.1 ∙ sym (same x.0.key)))
 
 -- by induction: a node that fails the test was not counted
 times_filter : (p test : Node → Bool) (ns : List Node) → ((n : Node) → In n ns → p n ≡ false → test n ≡ false) →
@@ -221,21 +189,21 @@ hangs_filter p nodes distinct rooted over k n on here = by n.parent refl
         -- the parent is there, and stays
         stays : (q : Node) → In q nodes → test q ≡ true → In q (filter p nodes)
         stays q there is =
-            let x = left_node nodes a (left_parent nodes rooted n a on here up) in
+            let x = left_node _ a (left_parent _ rooted n a on here up) in
             let one : q ≡ x.node =
-            distinct_one nodes distinct q x.node there x.on (same_key-true q.key a (and_left (is_of a q) _ is) ∙ sym x.is) in
+            distinct_one _ distinct q x.node there x.on (same_key-true _ a (and_left _ _ is) ∙ sym x.is) in
             elim (either_way (p q)) [
-              | inl e ↦ In-filter-back p nodes q there e
-              | inr e ↦ both_ways q.gone (over q there e) (ap (λ (m : Node). m.gone) one ∙ x.here)
+              | inl e ↦ In-filter-back p _ q there e
+              | inr e ↦ both_ways _ (over q there e) (ap (λ (m : Node). m.gone) one ∙ x.here)
             ]
 
         from : (list_any test nodes ≡ true) ⊎ (list_any test nodes ≡ false) → list_any test (filter p nodes) ≡ list_any test nodes
         from (inl e) =
-            let q = In-list_any test nodes e in
-            In-any test (filter p nodes) q.0 (stays q.0 q.1 q.2) q.2 ∙ sym e
+            let q = In-list_any _ _ e in
+            In-any _ _ _ (stays q.0 q.1 q.2) q.2 ∙ sym e
         from (inr e) = false_if (list_any test (filter p nodes)) (λ h.
-            let q = In-list_any test (filter p nodes) h in
-            both_ways (list_any test nodes) (In-any test nodes q.0 (In-filter p nodes q.0 q.1).0 q.2) e) ∙ sym e
+            let q = In-list_any _ _ h in
+            both_ways _ (In-any _ nodes _ (In-filter p _ _ q.1).0 q.2) e) ∙ sym e
 
 -- only gone nodes are left out, which are counted nowhere
 below_filter : (p : Node → Bool) (nodes : List Node) → are_distinct nodes ≡ true → are_rooted (reverse nodes) ≡ true →
@@ -243,34 +211,28 @@ below_filter : (p : Node → Bool) (nodes : List Node) → are_distinct nodes �
     times (heads_below (filter p nodes) k) (filter p nodes) ≡ times (heads_below nodes k) nodes
 below_filter p nodes distinct rooted over k =
     times_same (heads_below (filter p nodes) k) (heads_below nodes k) (filter p nodes) (λ n on.
-    one n (In-filter p nodes n on).0 (either_way n.gone))
+    one n (In-filter p _ n on).0 (either_way n.gone))
     ∙ times_filter p (heads_below nodes k) nodes (λ n on out.
     ap (λ (b : Bool). not b && (n.attached && hangs_in nodes k n)) (over n on out))
   where
     one : (n : Node) → In n nodes → (n.gone ≡ true) ⊎ (n.gone ≡ false) → heads_below (filter p nodes) k n ≡ heads_below nodes k n
     one n on (inl e) = (λ i. not (e i) && (n.attached && hangs_in (filter p nodes) k n))
         ∙ sym (λ i. not (e i) && (n.attached && hangs_in nodes k n))
-    one n on (inr e) =
-        λ i. not n.gone && (n.attached && hangs_filter p nodes distinct rooted over k n on e i)
+    one n on (inr e) = λ i. not n.gone && (n.attached && hangs_filter p nodes distinct rooted over k n on e i)
 
 -- the units that are left have the counts that they had
 pub units_filter : (us : List Unit) (p : Node → Bool) (nodes : List Node) → are_distinct nodes ≡ true →
     are_rooted (reverse nodes) ≡ true → ((n : Node) → In n nodes → p n ≡ false → n.gone ≡ true) →
     HasUnits us nodes → HasUnits us (filter p nodes)
-units_filter us p nodes distinct rooted over has =
-    all_in (HasUnit us (filter p nodes)) (filter p nodes) (λ n on.
-    let had = in_all (HasUnit us nodes) nodes has n (In-filter p nodes n on).0 in
+units_filter us p nodes distinct rooted over has = all_in _ _ (λ n on.
+    let had = in_all _ _ has n (In-filter p _ n on).0 in
     (had.0, had.1 ∙ sym (same n.key)))
   where
     same : (k : NodeKey) → unit_of (filter p nodes) k ≡ unit_of nodes k
     same k =
-        let l : times (lives_in k) (filter p nodes) ≡ times (lives_in k) nodes =
-        times_filter p (lives_in k) nodes (λ n on out. rw (over n on out) refl) in
-        let w : times (waits_in k) (filter p nodes) ≡ times (waits_in k) nodes =
-        times_filter p (waits_in k) nodes (λ n on out. rw (over n on out) refl) in
-        let b : times (heads_below (filter p nodes) k) (filter p nodes) ≡ times (heads_below nodes k) nodes =
-        below_filter p nodes distinct rooted over k in
-        λ i. record { live = l i; unready = w i; below = b i }
+        let l = times_filter p (lives_in k) nodes (λ n on out. rw (over n on out) refl) in
+        let w = times_filter p (waits_in k) nodes (λ n on out. rw (over n on out) refl) in
+        λ i. record { live = l i; unready = w i; below = (below_filter p nodes distinct rooted over k) i }
 
 -- ---- counting anew
 
@@ -288,7 +250,7 @@ module _ (t : Table Node) (ss : List Shelf) (kept : IsStored t ss) (id : ℕ) (s
 
   -- each collection is whole
   whole : IsWhole (collection_in t s)
-  whole = found_whole t id ss s kept.whole found
+  whole = found_whole t _ _ s kept.whole found
 
   -- its keys are filed under it
   filed : list_all (is_filed t s.id) s.keys ≡ true
@@ -296,41 +258,39 @@ module _ (t : Table Node) (ss : List Shelf) (kept : IsStored t ss) (id : ℕ) (s
 
   -- each node stands in the table under its key
   at : (n : Node) → In n nodes → node_at t n.key ≡ Some n
-  at n on = in_all (λ (m : Node). node_at t m.key ≡ Some m) nodes (looked_there t kept.named s.keys) n on
+  at n on = in_all _ _ (looked_there t kept.named s.keys) n on
 
   -- each node at its keys is of the collection
   of : (n : Node) → In n nodes → n.collection ≡ id
-  of n on = eqb-true n.collection s.id (all-In (λ (m : Node). m.collection == s.id) nodes n on (looked-of t s.id s.keys filed))
-      ∙ found_id id ss s found
+  of n on = eqb-true n.collection s.id (all-In _ _ n on (looked-of t _ _ filed))
+      ∙ found_id _ _ s found
 
   -- counting and clearing keep the length
   long : length new ≡ length us
-  long = hung_long t nodes (tallied nodes (cleared s.keys us)) ∙ tallied_long nodes (cleared s.keys us) ∙ cleared_long s.keys us
+  long = hung_long t nodes _ ∙ tallied_long nodes _ ∙ cleared_long s.keys us
 
   -- the head of the unit of a node that is not gone
   head_of : (m : Node) → In m nodes → m.gone ≡ false → (h : Node) × In h nodes × (h.key ≡ m.head)
   head_of m there here =
-      let h = head_there nodes whole.sound.distinct whole.sound.heads whole.rooted whole.united m there here in (h.0, h.1, h.2)
+      let h = head_there _ whole.sound.distinct whole.sound.heads whole.rooted whole.united m there here in (h.0, h.1, h.2)
 
   -- and of the unit right above the one that it heads
   above_of : (m : Node) → In m nodes → (h : NodeKey) → head_above t m ≡ Some h → (a : Node) × In a nodes × (a.key ≡ h)
   above_of m there h is =
-      let x = above_node t nodes whole.sound.distinct whole.rooted at m there h is in
-      let a = head_of x.0 x.1 x.2 in
+      let x = above_node t _ whole.sound.distinct whole.rooted at m there h is in
+      let a = head_of _ x.1 x.2 in
       (a.0, a.1, a.2 ∙ x.3)
 
   -- the slot of each node's key is in the list
   slot_in : (n : Node) → In n nodes → n.key.slot < length us
-  slot_in n on =
-      in_all (λ (m : Node). m.key.slot < length us) nodes (all_at (λ (c : Collection). HasSlots us c.nodes) (map (collection_in t) ss) slots
-      (collection_in t s) (In-map-back (collection_in t) ss s (In-find (λ (x : Shelf). x.id == id) ss s found).0)) n on
+  slot_in n on = in_all _ _ (all_at _ _ slots _ (In-map-back _ _ s (In-find _ _ s found).0)) n on
 
   -- each node's key has its unit's counts
   has : HasUnits new nodes
-  has = all_in (HasUnit new nodes) nodes (λ n on.
+  has = all_in _ _ (λ n on.
       let inside = slot_in n on in
       let key : In n.key s.keys =
-      subst (In n.key) (looked-keys t s.id kept.named s.keys filed) (In-map-back (λ (m : Node). m.key) nodes n on) in
+      subst (In n.key) (looked-keys t s.id kept.named s.keys filed) (In-map-back _ _ n on) in
       let short = cleared_long s.keys us in
       let same_long = long in
       let own_long = tallied_long nodes (cleared s.keys us) in
@@ -348,8 +308,7 @@ module _ (t : Table Node) (ss : List Shelf) (kept : IsStored t ss) (id : ℕ) (s
       let d = adds.below in
       let hangs = hung_hangs t nodes own n.key (omega arith)
       (λ m there h is slots. let x = above_of m there h is in
-      one_slot t h n.key x.0 n (ap (node_at t) (sym x.2) ∙ at x.0 x.1) (at n on) slots)
-      (omega arith) in
+      one_slot t h n.key x.0 n (ap (node_at t) (sym x.2) ∙ at x.0 x.1) (at n on) slots) (omega arith) in
       let e = hangs.live in
       let f = hangs.unready in
       let g = hangs.below in
@@ -358,23 +317,22 @@ module _ (t : Table Node) (ss : List Shelf) (kept : IsStored t ss) (id : ℕ) (s
       let l : (unit_at new n.key.slot).live ≡ times (lives_in n.key) nodes = omega arith in
       let w : (unit_at new n.key.slot).unready ≡ times (waits_in n.key) nodes = omega arith in
       let h : (unit_at new n.key.slot).below ≡ times (heads_below nodes n.key) nodes = omega arith in
-      (subst (λ (m : ℕ). n.key.slot < m) (sym long) inside, λ i. record { live = l i; unready = w i; below = h i }))
+      (rw long inside, λ i. record { live = l i; unready = w i; below = h i }))
 
   -- a filed key has a node of the collection
   filed_at : (k : NodeKey) → In k s.keys → (m : Node) × (node_at t k ≡ Some m) × (m.collection ≡ id)
-  filed_at k on = from (node_at t k) refl (all-In (is_filed t s.id) s.keys k on filed)
+  filed_at k on = from (node_at t k) refl (all-In _ _ k on filed)
     where
       from : (o : Option Node) → node_at t k ≡ o → option_map_or (λ (n : Node). n.collection == s.id) o false ≡ true →
           (m : Node) × (node_at t k ≡ Some m) × (m.collection ≡ id)
       from None is h = cc
-      from (Some m) is h = (m, is, eqb-true m.collection s.id h ∙ found_id id ss s found)
+      from (Some m) is h = (m, is, eqb-true m.collection s.id h ∙ found_id _ _ s found)
 
   -- a key of another collection has another slot
   apart : (k j : NodeKey) (n m : Node) → node_at t k ≡ Some n → n.collection ≢ id → node_at t j ≡ Some m → m.collection ≡ id →
       j.slot ≢ k.slot
   apart k j n m is differ there own slots =
       let same : j ≡ k = one_slot t j k m n there is slots in
-      let one : Some m ≡ Some n = sym there ∙ (ap (node_at t) same ∙ is) in
       let node : m ≡ n = cc in
       differ (ap (λ (x : Node). x.collection) (sym node) ∙ own)
 
@@ -383,13 +341,13 @@ module _ (t : Table Node) (ss : List Shelf) (kept : IsStored t ss) (id : ℕ) (s
   stays k n is differ within =
       let same_long = long in (
         omega arith,
-        hung_other t nodes own k.slot (λ m there j above.
+        hung_other t _ own _ (λ m there j above.
             let h = above_of m there j above in
-            apart k j n h.0 is differ (ap (node_at t) (sym h.2) ∙ at h.0 h.1) (of h.0 h.1))
-            ∙ tallied_other nodes (cleared s.keys us) k.slot (λ m there here.
+            apart k j n _ is differ (ap (node_at t) (sym h.2) ∙ at _ h.1) (of _ h.1))
+            ∙ tallied_other _ _ _ (λ m there here.
             let h = head_of m there here in
-            apart k m.head n h.0 is differ (ap (node_at t) (sym h.2) ∙ at h.0 h.1) (of h.0 h.1))
-            ∙ cleared_other s.keys us k.slot (λ j on. let x = filed_at j on in apart k j n x.0 is differ x.1 x.2),
+            apart k _ n _ is differ (ap (node_at t) (sym h.2) ∙ at _ h.1) (of _ h.1))
+            ∙ cleared_other _ us _ (λ j on. let x = filed_at j on in apart k j n _ is differ x.1 x.2),
       )
 
 -- ---- forests whose nodes are changed or forgotten
@@ -425,11 +383,10 @@ units_without t us key named goes (s ∷ ss) formed all = (
 pub units_over : (us : List Unit) (id : ℕ) (cs : List Collection) → AllByRecursion IsWhole cs → AreUnits us cs →
     AreUnits us (without_over_in id cs)
 units_over us id [] formed all = tt
-units_over us id (c ∷ cs) formed all = from (c.id == id) (is_left (tidied c)) (units_over us id cs formed.1 all.1)
+units_over us id (c ∷ cs) formed all = from _ _ (units_over us id cs formed.1 all.1)
   where
     garbage_known : HasUnits us (tidied c).nodes
-    garbage_known = units_filter us (λ n. not (is_over n)) c.nodes formed.0.sound.distinct formed.0.rooted
-        (λ n on out. over n.gone (is_spent n.end) out) all.0
+    garbage_known = units_filter _ _ _ formed.0.sound.distinct formed.0.rooted (λ n on out. over _ _ out) all.0
       where
         over : (g e : Bool) → not (g && e) ≡ false → g ≡ true
         over true e h = refl

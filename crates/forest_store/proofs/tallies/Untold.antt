@@ -1,12 +1,7 @@
 -- What the counts of units are, once nodes that fell are counted no longer.
-use Rattle.forest_store.proofs.Common.{◌≡◌, ◌≢◌, ℕ, zero, suc, ◌+◌, ◌<◌, ◌≤◌, ◌==◌, nat_lt, refl, ap, sym, ◌∙◌, subst, Bool, true, false, not, ◌&&◌, ◌||◌, ◌⊎◌, inl, inr, if◌then◌else◌, List, [], ◌∷◌, length, set, Option, Some, None, arith, eqb-false, eqb-true, lt-ltb, not-true, cons_option, list_any, NodeKey, same_key, times, In, and_left, and_right, both_ways, either_way, same_key-refl, same_key-true, In-any, Table, node_at, Node, Unit, lives_in, unit_at, waits_in, nodes_with, is_of, is_live_node, are_distinct}
-use Rattle.std.proofs.lemmas.List.{get_or-set_other, get_or-set_same, length-set}
+use Rattle.forest_store.proofs.Common.{◌≡◌, ◌≢◌, ℕ, zero, suc, ◌+◌, ◌<◌, ◌≤◌, ◌==◌, nat_lt, refl, ap, sym, ◌∙◌, subst, Bool, true, false, not, ◌&&◌, ◌||◌, ◌⊎◌, inl, inr, if◌then◌else◌, List, [], ◌∷◌, length, set, Option, Some, None, arith, eqb-false, eqb-true, lt-ltb, not-true, cons_option, list_any, NodeKey, same_key, times, In, and_left, and_right, both_ways, either_way, same_key-refl, same_key-true, In-any, Table, node_at, Node, Unit, lives_in, unit_at, waits_in, nodes_with, is_of, is_live_node, are_distinct, get_or-set_other, get_or-set_same, length-set, AllPairs, and-false, is_unready, no_unit, lowered, untallied, without_node, bit}
+use Rattle.std.proofs.Math.Bool.{and-true}
 use Rattle.std.proofs.lemmas.Map.Views.{Contains-from_any}
-use Rattle.std.specs.List.{AllPairs}
-use Rattle.std.proofs.Math.Bool.{and-false}
-use Rattle.forest_store.specs.Counts.{is_unready, no_unit}
-use Rattle.forest_store.specs.LossMarks.{lowered, untallied, without_node}
-use Rattle.forest_store.specs.Unforced.{bit}
 use Rattle.forest_store.proofs.lists.Lookups.{same_key-swap}
 use Rattle.forest_store.proofs.tallies.Reckoning.{lives_gone, lives_other, lives_own, other_slot, times_more, waits_gone, waits_other, waits_own}
 
@@ -84,11 +79,10 @@ one_takes n us k within one live unready = elim (either_way n.gone) [
 
 -- either nothing is set, or one element is
 one_long : (n : Node) (us : List Unit) → length (one_less n us) ≡ length us
-one_long n us = from n.gone
-  where
-    from : (b : Bool) → length (if b then us else without_node n us) ≡ length us
-    from true = refl
-    from false = length-set us n.head.slot _
+one_long n us = elim n.gone as (λ (b : Bool). length (if b then us else without_node n us) ≡ length us) [
+  | true ↦ refl
+  | false ↦ length-set us n.head.slot _
+]
 
 -- by induction over the nodes
 pub untallied_long : (ns : List Node) (us : List Unit) → length (untallied ns us) ≡ length us
@@ -112,12 +106,8 @@ untallied_takes (n ∷ ns) us k within one live unready =
     let e = times_more (lives_in k) n ns in
     let f = times_more (waits_in k) n ns in
     let first = one_takes n us k within (λ here slots. one n (inl refl) here slots) (omega arith) (omega arith) in
-    let a = first.live in
-    let b = first.unready in
     let rest = untallied_takes ns (one_less n us) k (omega arith) (λ m on here slots. one m (inr on) here slots) (omega arith)
     (omega arith) in
-    let c = rest.live in
-    let d = rest.unready in
     record { live = omega arith; unready = omega arith; below = rest.below ∙ first.below }
 
 -- by induction: none of them is of that unit
@@ -138,42 +128,34 @@ untallied_other (n ∷ ns) us slot differ =
 pub times_same : (p q : Node → Bool) (ns : List Node) → ((n : Node) → In n ns → p n ≡ q n) → times p ns ≡ times q ns
 times_same p q [] same = refl
 times_same p q (n ∷ ns) same =
-    let a = times_more p n ns in
-    let b = times_more q n ns in
     let c : bit (p n) ≡ bit (q n) = ap bit (same n (inl refl)) in
-    let d = times_same p q ns (λ m on. same m (inr on)) in
-    omega arith
+    omega (arith, times_more p n ns, times_more q n ns, times_same p q ns (λ m on. same m (inr on)))
 
 -- and by a test that differs on one node alone, but for that one
 times_differ : (p q : Node → Bool) (ns : List Node) (m : Node) → are_distinct ns ≡ true → In m ns →
     ((n : Node) → In n ns → same_key m.key n.key ≡ false → p n ≡ q n) → times p ns + bit (q m) ≡ times q ns + bit (p m)
 times_differ p q [] m distinct on same = absurd on
 times_differ p q (x ∷ xs) m distinct (inl is) same =
-    let none : list_any (is_of x.key) xs ≡ false = not-true (list_any (is_of x.key) xs) (and_left _ (are_distinct xs) distinct) in
-    let rest : times p xs ≡ times q xs = times_same p q xs (λ n on. same n (inr on) (elim (either_way (same_key m.key n.key)) [
-      | inl e ↦ both_ways (list_any (is_of x.key) xs)
-          (In-any (is_of x.key) xs n on
-          (subst (λ (k : NodeKey). same_key n.key k ≡ true) (sym (same_key-true m.key n.key e)
-          ∙ ap (λ (y : Node). y.key) is) (same_key-refl n.key)))
-          none
+    let none : list_any (is_of x.key) xs ≡ false = not-true (list_any (is_of x.key) xs) (and_left _ _ distinct) in
+    let rest : times p xs ≡ times q xs = times_same p q _ (λ n on. same n (inr on) (elim (either_way (same_key m.key n.key)) [
+      | inl e ↦ both_ways _
+          (In-any _ _ n on
+          (subst (λ (k : NodeKey). same_key n.key k ≡ true) (sym (same_key-true _ _ e)
+          ∙ ap (λ (y : Node). y.key) is) (same_key-refl n.key))) none
       | inr e ↦ e
     ])) in
-    let a = times_more p x xs in
-    let b = times_more q x xs in
     let one : bit (p m) ≡ bit (p x) = ap (λ (y : Node). bit (p y)) is in
     let two : bit (q m) ≡ bit (q x) = ap (λ (y : Node). bit (q y)) is in
-    omega arith
+    omega (arith, times_more p x xs, times_more q x xs)
 times_differ p q (x ∷ xs) m distinct (inr on) same =
-    let none : list_any (is_of x.key) xs ≡ false = not-true (list_any (is_of x.key) xs) (and_left _ (are_distinct xs) distinct) in
+    let none : list_any (is_of x.key) xs ≡ false = not-true (list_any (is_of x.key) xs) (and_left _ _ distinct) in
     let other : same_key m.key x.key ≡ false = elim (either_way (same_key m.key x.key)) [
-      | inl e ↦ both_ways (list_any (is_of x.key) xs) (In-any (is_of x.key) xs m on e) none
+      | inl e ↦ both_ways _ (In-any _ _ m on e) none
       | inr e ↦ e
     ] in
     let here : bit (p x) ≡ bit (q x) = ap bit (same x (inl refl) other) in
-    let rest = times_differ p q xs m (and_right _ (are_distinct xs) distinct) on (λ n there. same n (inr there)) in
-    let a = times_more p x xs in
-    let b = times_more q x xs in
-    omega arith
+    let rest = times_differ p q xs m (and_right _ _ distinct) on (λ n there. same n (inr there)) in
+    omega (arith, times_more p x xs, times_more q x xs)
 
 -- no key of these stands twice
 pub first_once : (k : NodeKey) (ks : List NodeKey) → AllPairs (λ (a b : NodeKey). a ≢ b) (k ∷ ks) → list_any (same_key k) ks ≡ false
@@ -198,12 +180,8 @@ module _ (t : Table Node) (nodes : List Node) (distinct : are_distinct nodes ≡
   pub taken_count : (ks : List NodeKey) → AllPairs (λ (a b : NodeKey). a ≢ b) ks → ((n : Node) → In n (nodes_with t ks) → In n nodes) →
       times (but test ks) nodes + times test (nodes_with t ks) ≡ times test nodes
   taken_count [] once within =
-      let a : times (but test []) nodes ≡ times test nodes = times_same (but test []) test nodes (λ n on. always (test n)) in
+      let a : times (but test []) nodes ≡ times test nodes = times_same (but test []) test nodes (λ n on. and-true (test n)) in
       omega arith
-    where
-      always : (b : Bool) → (b && true) ≡ b
-      always true = refl
-      always false = refl
   taken_count (k ∷ ks) once within = by (λ fewer. taken_count ks (rest_once k ks once) fewer) (node_at t k) refl within
     where
       skip : (n : Node) → same_key n.key k ≡ false → but test (k ∷ ks) n ≡ but test ks n
@@ -216,11 +194,10 @@ module _ (t : Table Node) (nodes : List Node) (distinct : are_distinct nodes ≡
       by on None is fewer =
           let a : times (but test (k ∷ ks)) nodes ≡ times (but test ks) nodes =
           times_same (but test (k ∷ ks)) (but test ks) nodes (λ n there. skip n (elim (either_way (same_key n.key k)) [
-            | inl e ↦ let both : Some n ≡ None = sym (at_key n there) ∙ (ap (node_at t) (same_key-true n.key k e) ∙ is) in cc
+            | inl e ↦ let both : Some n ≡ None = sym (at_key n there) ∙ (ap (node_at t) (same_key-true _ k e) ∙ is) in cc
             | inr e ↦ e
           ])) in
-          let b = on fewer in
-          omega arith
+          omega (arith, on fewer)
       by on (Some m) is fewer =
           let key : m.key ≡ k = named k m is in
           let own : same_key m.key k ≡ true = ap (λ (j : NodeKey). same_key j k) key ∙ same_key-refl k in
@@ -229,11 +206,5 @@ module _ (t : Table Node) (nodes : List Node) (distinct : are_distinct nodes ≡
           (same_key-swap n.key k ∙ (ap (λ (j : NodeKey). same_key j n.key) (sym key) ∙ differ))) in
           let b : bit (but test (k ∷ ks) m) ≡ 0 =
           ap bit (ap (λ (c : Bool). test m && not (c || list_any (same_key m.key) ks)) own ∙ and-false (test m)) in
-          let c : bit (but test ks m) ≡ bit (test m) = ap bit (ap (λ (c : Bool). test m && not c) other ∙ always (test m)) in
-          let d = times_more test m (nodes_with t ks) in
-          let e = on (λ n there. fewer n (inr there)) in
-          omega arith
-        where
-          always : (b : Bool) → (b && true) ≡ b
-          always true = refl
-          always false = refl
+          let c : bit (but test ks m) ≡ bit (test m) = ap bit (ap (λ (c : Bool). test m && not c) other ∙ and-true (test m)) in
+          omega (arith, times_more test m (nodes_with t ks), on (λ n there. fewer n (inr there)))

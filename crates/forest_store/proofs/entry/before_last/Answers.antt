@@ -4,11 +4,7 @@ use Rattle.forest_store.proofs.shelves.Entries.{before_equal, before_greater}
 use Rattle.forest_store.proofs.entry.before_last.Goals as goal
 
 pub returns-then-entries-last : goal.returns-then-entries-last
-returns-then-entries-last c =
-    before_greater c.args.id c.args.entries.now c.in_ok-last.last c.index-entries-last.result c.requires (omega arith)
-    c.if-entries-last.true
+returns-then-entries-last c = before_greater _ _ _ _ c.requires (omega arith) c.if-entries-last.true
 
 pub returns-then-entries-last-2 : goal.returns-then-entries-last-2
-returns-then-entries-last-2 c =
-    before_equal c.args.id c.args.entries.now c.in_ok-last.last c.index-entries-last-else-entries-last.result c.requires (omega arith)
-    c.if-entries-last-2.true
+returns-then-entries-last-2 c = before_equal _ _ _ _ c.requires (omega arith) c.if-entries-last-2.true

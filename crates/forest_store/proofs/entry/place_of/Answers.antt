@@ -1,21 +1,18 @@
 -- The entry with the id can only stand behind all smaller ones.
-use Rattle.forest_store.proofs.Common.{sym, arith}
-use Rattle.std.proofs.lemmas.List.{get_or_default}
-use Rattle.forest_store.proofs.shelves.Entries.{place_found, place_none}
+use Rattle.forest_store.proofs.Common.{sym, arith, get_or_default}
 use Rattle.forest_store.proofs.entry.place_of.Goals.{else-at-entries-via-then-at-entries+else-entries-at, else-at-entries-via-else-at-entries}
+use Rattle.forest_store.proofs.shelves.Entries.{place_found, place_none}
 use Rattle.forest_store.proofs.entry.place_of.Goals as goal
 
 pub returns-then-entries-at : goal.returns-then-entries-at
 returns-then-entries-at c =
     let at = c.entries_before-at.ensures in
-    rw at (sym (place_found c.args.id c.args.entries.now c.index-entries-at.result c.requires
-    (rw at at c.if-at-entries.true) (rw at at c.if-entries-at.true)))
+    rw at (sym (place_found _ _ _ c.requires (rw at at c.if-at-entries.true) (rw at at c.if-entries-at.true)))
 
 pub returns-else-at-entries : goal.returns-else-at-entries
 returns-else-at-entries c =
-    let at = c.entries_before-at.ensures in
-    sym (place_none c.args.id c.args.entries.now c.requires (elim c.else-at-entries.branch [
+    sym (place_none _ _ c.requires (elim c.else-at-entries.branch [
       | else-at-entries-via-then-at-entries+else-entries-at w ↦ λ d within same.
-          w.if-entries-at.false (rw (at, get_or_default _ _ _ d within) same)
+          w.if-entries-at.false (rw (c.entries_before-at.ensures, get_or_default _ _ _ d within) same)
       | else-at-entries-via-else-at-entries w ↦ λ d within same. absurd (omega arith)
     ]))

@@ -1,17 +1,16 @@
 -- One node more is looked at, and goes or stays.
-use Rattle.forest_store.proofs.Common.{◌≡◌, ◌++◌, ◌∷◌, [], sym, subst, ◌∙◌}
-use Rattle.std.proofs.Common.{rules}
+use Rattle.forest_store.proofs.Common.{◌≡◌, ◌++◌, ◌∷◌, [], sym, subst, ◌∙◌, rules}
 use Rattle.forest_store.proofs.tables.Walking.{Walks, Walks-none, Walks-goes, Walks-stays}
 use Rattle.forest_store.proofs.garbage.collect_garbage.Goals as goal
 
 pub back-init : goal.back-init
-back-init c = record { walks = Walks-none c.args.table.now c.args.keys.now }
+back-init c = record { walks = Walks-none _ _ }
 
 pub back-preserved-then-is_over_at : goal.back-preserved-then-is_over_at
 back-preserved-then-is_over_at c =
     let rest : c.back.rest.now ≡ c.in-Some.older.now ++ c.in-Some.key.now ∷ [] = search rules in
     record {
-      walks = Walks-goes c.args.table.now c.back.table c.take_out.new.table c.args.keys.now c.in-Some.older.now c.in-Some.key.now
+      walks = Walks-goes _ _ _ _ _ _
           (subst (Walks c.args.table.now c.back.table c.args.keys.now) rest c.back.invariant.walks)
           c.take_out.ensures.out (sym c.is_over_at.ensures ∙ c.if-is_over_at.true);
     }
@@ -20,7 +19,7 @@ pub back-preserved : goal.back-preserved
 back-preserved c =
     let rest : c.back.rest.now ≡ c.in-Some.older.now ++ c.in-Some.key.now ∷ [] = search rules in
     record {
-      walks = Walks-stays c.args.table.now c.back.table c.args.keys.now c.in-Some.older.now c.in-Some.key.now
+      walks = Walks-stays _ _ _ _ _
           (subst (Walks c.args.table.now c.back.table c.args.keys.now) rest c.back.invariant.walks)
           (sym c.is_over_at.ensures ∙ c.if-is_over_at.false);
     }

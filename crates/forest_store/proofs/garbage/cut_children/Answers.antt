@@ -3,7 +3,7 @@ use Rattle.forest_store.proofs.tables.TakingOut.{CutsOff-more, cut_fewer}
 use Rattle.forest_store.proofs.garbage.cut_children.Goals as goal
 
 pub cutting-smaller : goal.cutting-smaller
-cutting-smaller c = cut_fewer c.cutting.table c.cut.new.self c.args.key c.in-Some.child c.in-Some.ensures c.cut.ensures
+cutting-smaller c = cut_fewer _ _ _ _ c.in-Some.ensures c.cut.ensures
 
 pub cutting-preserved : goal.cutting-preserved
 cutting-preserved c = record {

@@ -1,5 +1,4 @@
-use Rattle.forest_store.proofs.Common.{length}
-use Rattle.node_table.specs.Table.{children_at}
+use Rattle.forest_store.proofs.Common.{length, children_at}
 use Rattle.forest_store.proofs.tables.TakingOut.{CutsOff}
 use Rattle.forest_store.proofs.garbage.cut_children.Given as goal
 

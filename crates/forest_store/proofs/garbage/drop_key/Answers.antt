@@ -1,5 +1,5 @@
 -- What stands at the place is the key, which stands once.
-use Rattle.forest_store.proofs.Common.{sym, ◌∙◌, subst, List, NodeKey}
+use Rattle.forest_store.proofs.Common.{sym, ◌∙◌}
 use Rattle.forest_store.specs.Garbage.{IsPlace}
 use Rattle.forest_store.proofs.leaving.Places.{without_at}
 use Rattle.forest_store.proofs.garbage.drop_key.Goals as goal
@@ -7,5 +7,5 @@ use Rattle.forest_store.proofs.garbage.drop_key.Goals as goal
 pub returns-in-Some : goal.returns-in-Some
 returns-in-Some c =
     let place : IsPlace c.args.keys.now.items c.args.key c.in-Some.at =
-    subst (λ (ks : List NodeKey). IsPlace ks c.args.key c.in-Some.at) c.as_slice.ensures.items c.in-Some.ensures in
-    c.remove.ensures ∙ sym (without_at c.args.key c.args.keys.now.items c.in-Some.at c.requires place.within place.is)
+    rw (← c.as_slice.ensures.items) c.in-Some.ensures in
+    c.remove.ensures ∙ sym (without_at _ _ _ c.requires place.within place.is)

@@ -1,10 +1,6 @@
 -- One key more is looked at, and dropped or not.
-use Rattle.forest_store.proofs.Common.{◌≡◌, ◌∷◌, [], List, not, sym, ◌∙◌, ap, filter, NodeKey, same_key}
-use Rattle.std.proofs.Common.{rules}
+use Rattle.forest_store.proofs.Common.{◌≡◌, ◌∷◌, [], List, not, sym, ◌∙◌, ap, filter, NodeKey, same_key, rules, filter-In, is_left_by, are_apart}
 use Rattle.std.proofs.lemmas.List.{nil_from_length}
-use Rattle.sm_names.proofs.ListLaws.{filter-In}
-use Rattle.forest_store.specs.Garbage.{is_left_by}
-use Rattle.forest_store.specs.Shelves.{are_apart}
 use Rattle.forest_store.proofs.leaving.OnlyNoted.{left_dropped, left_none, left_on}
 use Rattle.forest_store.proofs.leaving.Thinning.{apart-filter}
 use Rattle.forest_store.proofs.garbage.drop_keys.Goals as goal
@@ -18,7 +14,7 @@ dropping-preserved-then-is_over_at c =
       apart = ap are_apart c.drop_key.ensures
           ∙ apart-filter (λ other. not (same_key key other)) c.dropping.keys.items c.dropping.invariant.apart;
       left = ap (filter (is_left_by t c.in-Some.later.now)) c.drop_key.ensures
-          ∙ left_dropped t key c.in-Some.later.now (sym c.is_over_at.ensures ∙ c.if-is_over_at.true) c.dropping.keys.items
+          ∙ left_dropped t _ _ (sym c.is_over_at.ensures ∙ c.if-is_over_at.true) _
           ∙ (ap (λ (ks : List NodeKey). filter (is_left_by t ks) c.dropping.keys.items) (sym rest) ∙ c.dropping.invariant.left);
     }
 
@@ -30,12 +26,12 @@ dropping-preserved c =
     record {
       apart = c.dropping.invariant.apart;
       left = filter-In (is_left_by t c.in-Some.later.now) (is_left_by t (key ∷ c.in-Some.later.now)) c.dropping.keys.items
-          (λ k on. sym (left_on t key c.in-Some.later.now (sym c.is_over_at.ensures ∙ c.if-is_over_at.false) k))
+          (λ k on. sym (left_on t _ c.in-Some.later.now (sym c.is_over_at.ensures ∙ c.if-is_over_at.false) k))
           ∙ (ap (λ (ks : List NodeKey). filter (is_left_by t ks) c.dropping.keys.items) (sym rest) ∙ c.dropping.invariant.left);
     }
 
 pub returns : goal.returns
 returns c =
-    let rest : c.dropping.rest.now ≡ [] = nil_from_length c.dropping.rest.now c.in_default.ensures.cases in
-    sym (left_none c.args.table.now c.dropping.keys.items)
+    let rest : c.dropping.rest.now ≡ [] = nil_from_length _ c.in_default.ensures.cases in
+    sym (left_none c.args.table.now _)
     ∙ (ap (λ (ks : List NodeKey). filter (is_left_by c.args.table.now ks) c.dropping.keys.items) (sym rest) ∙ c.dropping.invariant.left)

@@ -1,6 +1,4 @@
-use Rattle.forest_store.proofs.Common.{◌≡◌, length, true, filter}
-use Rattle.forest_store.specs.Garbage.{is_left_by}
-use Rattle.forest_store.specs.Shelves.{are_apart}
+use Rattle.forest_store.proofs.Common.{◌≡◌, length, true, filter, is_left_by, are_apart}
 use Rattle.forest_store.proofs.garbage.drop_keys.Given as goal
 
 -- the rest leaves of the keys what all leave of those that there were

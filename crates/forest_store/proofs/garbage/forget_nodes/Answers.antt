@@ -1,27 +1,19 @@
 -- The nodes that are over are taken out, with their keys; where none is, nothing changes.
-use Rattle.forest_store.proofs.Common.{◌≡◌, ℕ, ◌<◌, ◌==◌, true, false, List, length, get_or, Some, None, option_map, refl, sym, ◌∙◌, ap, subst, arith, find, list_any, NodeKey, same_key, Table, Entry, Node, over_except, IsStored, Shelf, nodes_with, place_in, shelf_of, shelves_of, is_over}
-use Rattle.std.proofs.lemmas.List.{get_or_default}
-use Rattle.forest_store.specs.Calm.{AreCounted}
-use Rattle.forest_store.specs.Garbage.{IsForgettable, IsThinned, is_bare, left_at, thinned}
-use Rattle.forest_store.proofs.quiescence.Watched.{found_counted}
-use Rattle.forest_store.proofs.changes.Altering.{found_filed}
+use Rattle.forest_store.proofs.Common.{◌≡◌, ℕ, ◌<◌, ◌==◌, true, false, List, length, get_or, Some, None, option_map, refl, sym, ◌∙◌, ap, subst, arith, find, list_any, NodeKey, same_key, Table, Entry, Node, over_except, IsStored, Shelf, nodes_with, place_in, shelf_of, shelves_of, is_over, get_or_default, AreCounted, IsForgettable, is_bare, left_at, thinned}
 use Rattle.forest_store.proofs.leaving.Forgotten.{thin_filed, tidy_left}
-use Rattle.forest_store.proofs.leaving.Noted.{none_noted}
 use Rattle.forest_store.proofs.leaving.Places.{found_apart}
 use Rattle.forest_store.proofs.leaving.Thinning.{all_thinned-same}
 use Rattle.forest_store.proofs.allocation.Before.{key_listed}
 use Rattle.forest_store.proofs.shelves.Counted.{counted_thinned, dropped_all, drops_over}
 use Rattle.forest_store.proofs.shelves.Dropping.{bare_none, keep_bare, keep_set, no_shelf, set_thin}
-use Rattle.forest_store.proofs.shelves.Entries.{IsPlace, place_is}
-use Rattle.forest_store.proofs.shelves.Showing.{shelf_found}
 use Rattle.forest_store.proofs.tables.LeftParents.{in_shelf}
+use Rattle.forest_store.proofs.Basics.{found_counted, found_filed, none_noted, IsPlace, place_is, shelf_found}
 use Rattle.forest_store.proofs.garbage.forget_nodes.Goals as goal
 
 -- ---- where there is no such collection
 
 pub returns-in_default-clause-shelves : goal.returns-in_default-clause-shelves
-returns-in_default-clause-shelves c =
-    sym (thin_filed c.args.table.now c.args.id (shelves_of c.args.entries.now.items) c.requires.kept.filed)
+returns-in_default-clause-shelves c = sym (thin_filed c.args.table.now _ _ c.requires.kept.filed)
 
 pub returns-in_default-clause-left : goal.returns-in_default-clause-left
 returns-in_default-clause-left c = record {
@@ -35,11 +27,11 @@ returns-in_default-clause-left c = record {
 
 pub returns-in_default-clause-full : goal.returns-in_default-clause-full
 returns-in_default-clause-full c is =
-    sym (bare_none c.args.id c.args.entries.now.items (sym (rw c.deref.ensures.value at c.place_of.ensures) ∙ c.in_default.is))
+    sym (bare_none _ _ (sym (rw c.deref.ensures.value at c.place_of.ensures) ∙ c.in_default.is))
 
 pub returns-in_default-clause-kept : goal.returns-in_default-clause-kept
 returns-in_default-clause-kept c =
-    subst (IsStored c.args.table.now) (sym (all_thinned-same c.args.table.now (shelves_of c.args.entries.now.items) c.requires.kept.filed))
+    subst (IsStored c.args.table.now) (sym (all_thinned-same c.args.table.now _ c.requires.kept.filed))
     c.requires.kept
 
 -- ---- the entry at its place
@@ -48,11 +40,11 @@ module _ (t : Table Node) (es : List Entry) (kept : IsStored t (shelves_of es)) 
     (told : place_in id es ≡ Some at) (old : Entry) (is : (d : Entry) → at < length es → old ≡ get_or es at d) where
   -- the entry is found at its place
   place : IsPlace id es at
-  place = place_is id es at told
+  place = place_is _ _ at told
 
   -- the place is that of the first entry with the id
   found : find (λ (e : Entry). e.id == id) es ≡ Some old
-  found = place.found old ∙ ap Some (sym (is old place.within))
+  found = place.found old ∙ ap Some (sym (is _ place.within))
 
   -- the shelf is found where the entry is
   shelf : find (λ (x : Shelf). x.id == id) (shelves_of es) ≡ Some (shelf_of old)
@@ -60,11 +52,11 @@ module _ (t : Table Node) (es : List Entry) (kept : IsStored t (shelves_of es)) 
 
   -- the entry at the place has the id that was looked for
   own : old.id ≡ id
-  own = ap (λ (e : Entry). e.id) (is old place.within) ∙ place.id_is old
+  own = ap (λ (e : Entry). e.id) (is _ place.within) ∙ place.id_is old
 
   -- the entry is counted, which says so
   garbage_known : old.garbage_known ≡ true → list_any (over_except old.garbage.items) (nodes_with t old.keys.items) ≡ false
-  garbage_known = (found_counted t id es old counted found).garbage_known
+  garbage_known = (found_counted t _ _ _ counted found).garbage_known
 
   -- what the store says of each collection says it of this one
   forgettable : IsForgettable t old
@@ -80,21 +72,18 @@ module _ (t : Table Node) (es : List Entry) (kept : IsStored t (shelves_of es)) 
 
 pub index-requires : goal.index-requires
 index-requires c =
-    let told : place_in c.args.id c.args.entries.now.items ≡ Some c.in-Some.at =
-    sym (rw c.deref.ensures.value at c.place_of.ensures) ∙ c.in-Some.is in
+    let told = sym (rw c.deref.ensures.value at c.place_of.ensures) ∙ c.in-Some.is in
     omega (arith, (place_is c.args.id c.args.entries.now.items c.in-Some.at told).within)
 
 pub index_mut-entry-requires : goal.index_mut-entry-requires
 index_mut-entry-requires c =
-    let told : place_in c.args.id c.args.entries.now.items ≡ Some c.in-Some.at =
-    sym (rw c.deref.ensures.value at c.place_of.ensures) ∙ c.in-Some.is in
+    let told = sym (rw c.deref.ensures.value at c.place_of.ensures) ∙ c.in-Some.is in
     omega (arith, (place_is c.args.id c.args.entries.now.items c.in-Some.at told).within)
 
 -- ---- where it is known that none is over
 
 pub returns-then-is_garbage_known-clause-shelves : goal.returns-then-is_garbage_known-clause-shelves
-returns-then-is_garbage_known-clause-shelves c =
-    sym (thin_filed c.args.table.now c.args.id (shelves_of c.args.entries.now.items) c.requires.kept.filed)
+returns-then-is_garbage_known-clause-shelves c = sym (thin_filed c.args.table.now _ _ c.requires.kept.filed)
 
 pub returns-then-is_garbage_known-clause-left : goal.returns-then-is_garbage_known-clause-left
 returns-then-is_garbage_known-clause-left c = record {
@@ -109,8 +98,7 @@ returns-then-is_garbage_known-clause-left c = record {
       sym (shelf t es c.requires.kept c.requires.counted c.args.id c.in-Some.at told old is) ∙ known in
       let one : shelf_of old ≡ s = cc in
       let tidied = c.is_garbage_known.ensures c.if-is_garbage_known.true in
-      let none : list_any is_over (nodes_with t old.keys.items) ≡ false =
-      none_noted (nodes_with t old.keys.items)
+      let none : list_any is_over (nodes_with t old.keys.items) ≡ false = none_noted (nodes_with t old.keys.items)
       (ap (λ (ks : List NodeKey). list_any (over_except ks) (nodes_with t old.keys.items)) (sym tidied.1)
       ∙ garbage_known t es c.requires.kept c.requires.counted c.args.id c.in-Some.at told old is tidied.0) in
       tidy_left t s.keys (ap (λ (x : Shelf). list_any is_over (nodes_with t x.keys)) (sym one) ∙ none) k;
@@ -119,20 +107,19 @@ returns-then-is_garbage_known-clause-left c = record {
 
 pub index-requires-then-is_garbage_known : goal.index-requires-then-is_garbage_known
 index-requires-then-is_garbage_known c =
-    let told : place_in c.args.id c.args.entries.now.items ≡ Some c.in-Some.at =
-    sym (rw c.deref.ensures.value at c.place_of.ensures) ∙ c.in-Some.is in
+    let told = sym (rw c.deref.ensures.value at c.place_of.ensures) ∙ c.in-Some.is in
     omega (arith, (place_is c.args.id c.args.entries.now.items c.in-Some.at told).within)
 
 pub returns-then-is_garbage_known-clause-full : goal.returns-then-is_garbage_known-clause-full
 returns-then-is_garbage_known-clause-full c left =
     let es = c.args.entries.now.items in
     let told : place_in c.args.id es ≡ Some c.in-Some.at = sym (rw c.deref.ensures.value at c.place_of.ensures) ∙ c.in-Some.is in
-    sym (keep_bare c.args.id es c.in-Some.at c.index-then-is_garbage_known.result.now c.requires.kept.rising told
+    sym (keep_bare _ _ _ c.index-then-is_garbage_known.result.now c.requires.kept.rising told
     (ap (λ (x : Entry). is_bare (shelf_of x)) (sym c.index-then-is_garbage_known.ensures) ∙ sym c.is_bare.ensures ∙ left))
 
 pub returns-then-is_garbage_known-clause-kept : goal.returns-then-is_garbage_known-clause-kept
 returns-then-is_garbage_known-clause-kept c =
-    subst (IsStored c.args.table.now) (sym (all_thinned-same c.args.table.now (shelves_of c.args.entries.now.items) c.requires.kept.filed))
+    subst (IsStored c.args.table.now) (sym (all_thinned-same c.args.table.now _ c.requires.kept.filed))
     c.requires.kept
 
 -- ---- where some may be
@@ -141,8 +128,8 @@ pub forget_of-requires : goal.forget_of-requires
 forget_of-requires c =
     let es = c.args.entries.now.items in
     let told : place_in c.args.id es ≡ Some c.in-Some.at = sym (rw c.deref.ensures.value at c.place_of.ensures) ∙ c.in-Some.is in
-    forgettable c.args.table.now es c.requires.kept c.requires.counted c.args.id c.in-Some.at told c.index_mut-entry.result.now
-    (λ d within. c.index_mut-entry.ensures.value ∙ get_or_default es c.in-Some.at c.index_mut-entry.result.now d within)
+    forgettable _ _ c.requires.kept c.requires.counted _ _ told _
+    (λ d within. c.index_mut-entry.ensures.value ∙ get_or_default _ _ _ d within)
 
 module _ (c : goal.After-entries-1) where
   abbrev t : Table Node
@@ -166,7 +153,7 @@ module _ (c : goal.After-entries-1) where
 
   -- the entry that is lent stands at the place
   is : (d : Entry) → c.in-Some.at < length es → old ≡ get_or es c.in-Some.at d
-  is d within = c.index_mut-entry.ensures.value ∙ get_or_default es c.in-Some.at old d within
+  is d within = c.index_mut-entry.ensures.value ∙ get_or_default _ _ old d within
 
   -- the keys of the nodes that were taken out are dropped, and the rest stays
   thin_shelf : shelf_of new ≡ thinned now (shelf_of old)
@@ -179,8 +166,8 @@ module _ (c : goal.After-entries-1) where
 
 pub returns-clause-shelves : goal.returns-clause-shelves
 returns-clause-shelves c =
-    let within = (place_is c.args.id (es c) c.in-Some.at (told c)).within in
-    set_thin (now c) c.args.id (es c) c.in-Some.at (new c) c.requires.kept.rising (told c)
+    let within = (place_is _ _ _ (told c)).within in
+    set_thin (now c) _ _ _ _ c.requires.kept.rising (told c)
     (thin_shelf c ∙ ap (λ (e : Entry). thinned (now c) (shelf_of e)) (is c (new c) within))
 
 pub returns-clause-left : goal.returns-clause-left
@@ -197,16 +184,13 @@ returns-clause-left c = record {
 }
 
 pub returns-clause-counted : goal.returns-clause-counted
-returns-clause-counted c =
-    counted_thinned (t c) (now c) (es c) c.in-Some.at (new c)
-    (λ within. subst (λ (e : Entry). IsThinned (now c) e (new c)) (is c (new c) within) c.forget_of.ensures.entry)
+returns-clause-counted c = counted_thinned (t c) _ _ _ _
+    (λ within. rw (← (is c (new c) within)) c.forget_of.ensures.entry)
     (λ within k. c.forget_of.ensures.look k ∙ ap (λ (e : Entry). left_at (t c) e.keys.items k) (is c (new c) within))
-    (dropped_all (t c) (now c) c.requires.kept.named (drops_over (t c) (now c) (old c).keys.items c.forget_of.ensures.look) (es c)
+    (dropped_all _ (now c) c.requires.kept.named (drops_over (t c) (now c) _ c.forget_of.ensures.look) _
     c.requires.kept.whole c.requires.counted)
 
 pub returns-clause-full : goal.returns-clause-full
-returns-clause-full c left =
-    let within = (place_is c.args.id (es c) c.in-Some.at (told c)).within in
-    keep_set c.args.id (es c) c.in-Some.at (new c) c.requires.kept.rising (told c)
-    (c.forget_of.ensures.entry.id ∙ own (t c) (es c) c.requires.kept c.requires.counted c.args.id c.in-Some.at (told c) (old c) (is c))
+returns-clause-full c left = keep_set _ _ _ _ c.requires.kept.rising (told c)
+    (c.forget_of.ensures.entry.id ∙ own (t c) _ c.requires.kept c.requires.counted _ _ (told c) _ (is c))
     (sym c.is_bare-2.ensures ∙ left)

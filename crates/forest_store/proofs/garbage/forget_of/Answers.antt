@@ -1,6 +1,5 @@
 -- The nodes that are over are taken out, and their keys.
-use Rattle.forest_store.proofs.Common.{◌≡◌, ◌∙◌, sym, true, false≢true, list_all}
-use Rattle.forest_store.specs.Garbage.{is_own_if_over}
+use Rattle.forest_store.proofs.Common.{◌≡◌, ◌∙◌, sym, true, false≢true, list_all, is_own_if_over}
 use Rattle.forest_store.proofs.leaving.OnlyNoted.{noted_found, noted_left}
 use Rattle.forest_store.proofs.garbage.forget_of.Goals.{then-entry, else-entry}
 use Rattle.forest_store.proofs.garbage.forget_of.Goals as goal

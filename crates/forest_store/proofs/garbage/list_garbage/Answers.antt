@@ -1,43 +1,34 @@
 -- Only the entry of the collection is noted.
-use Rattle.forest_store.proofs.Common.{◌≡◌, Some, None, sym, ◌∙◌, ap, subst, arith, Entry, place_in, shelf_of}
-use Rattle.std.proofs.lemmas.List.{get_or_default}
-use Rattle.forest_store.specs.Garbage.{IsNotedIn, IsNoting}
+use Rattle.forest_store.proofs.Common.{sym, ◌∙◌, ap, arith, Entry, shelf_of, get_or_default}
 use Rattle.forest_store.proofs.shelves.Counted.{garbage, noted_none, noted_set, set_shelves}
 use Rattle.forest_store.proofs.shelves.Entries.{place_is}
 use Rattle.forest_store.proofs.garbage.list_garbage.Goals as goal
 
 pub index_mut-requires : goal.index_mut-requires
 index_mut-requires c =
-    let told : place_in c.args.id c.args.entries.now.items ≡ Some c.in-Some.at =
-    sym (rw c.deref.ensures.value at c.place_of.ensures) ∙ c.in-Some.is in
+    let told = sym (rw c.deref.ensures.value at c.place_of.ensures) ∙ c.in-Some.is in
     omega (arith, (place_is c.args.id c.args.entries.now.items c.in-Some.at told).within)
 
 pub returns-in-Some-clause-shelves : goal.returns-in-Some-clause-shelves
 returns-in-Some-clause-shelves c =
-    let es = c.args.entries.now.items in
     let old : Entry = c.index_mut.result.now in
     let new : Entry = c.note_key.new.entry in
-    set_shelves es c.in-Some.at new
-    (λ within. c.note_key.ensures.entry.shelf ∙ ap shelf_of (c.index_mut.ensures.value ∙ get_or_default es c.in-Some.at old new within))
+    set_shelves _ _ _
+    (λ within. c.note_key.ensures.entry.shelf ∙ ap shelf_of (c.index_mut.ensures.value ∙ get_or_default _ _ old new within))
 
 pub returns-in-Some-clause-counted : goal.returns-in-Some-clause-counted
 returns-in-Some-clause-counted c t all =
-    let es = c.args.entries.now.items in
     let old : Entry = c.index_mut.result.now in
     let new : Entry = c.note_key.new.entry in
-    garbage t es c.in-Some.at new
-    (λ within. subst (λ (x : Entry). IsNoting x new)
-    (c.index_mut.ensures.value ∙ get_or_default es c.in-Some.at old new within) c.note_key.ensures.entry) all
+    garbage t _ _ _
+    (λ within. rw (← (c.index_mut.ensures.value ∙ get_or_default _ _ old new within)) c.note_key.ensures.entry) all
 
 pub returns-in-Some-clause-garbage : goal.returns-in-Some-clause-garbage
 returns-in-Some-clause-garbage c over =
-    let told : place_in c.args.id c.args.entries.now.items ≡ Some c.in-Some.at =
-    sym (rw c.deref.ensures.value at c.place_of.ensures) ∙ c.in-Some.is in
-    noted_set (λ (x : Entry). IsNotedIn x c.args.key) c.args.id c.args.entries.now.items c.in-Some.at c.note_key.new.entry c.requires told
-    c.note_key.ensures.garbage
+    let told = sym (rw c.deref.ensures.value at c.place_of.ensures) ∙ c.in-Some.is in
+    noted_set _ _ _ _ _ c.requires told c.note_key.ensures.garbage
 
 pub returns-in_default-clause-garbage : goal.returns-in_default-clause-garbage
 returns-in_default-clause-garbage c over =
-    let told : place_in c.args.id c.args.entries.now.items ≡ None =
-    sym (rw c.deref.ensures.value at c.place_of.ensures) ∙ c.in_default.is in
-    noted_none (λ (x : Entry). IsNotedIn x c.args.key) c.args.id c.args.entries.now.items told
+    let told = sym (rw c.deref.ensures.value at c.place_of.ensures) ∙ c.in_default.is in
+    noted_none _ _ _ told

@@ -1,5 +1,4 @@
-use Rattle.forest_store.proofs.Common.{◌≡◌, length, true, false, List, list_any, NodeKey, over_except, nodes_with}
-use Rattle.forest_store.specs.Garbage.{AreMore, IsNoting}
+use Rattle.forest_store.proofs.Common.{◌≡◌, length, true, false, List, list_any, NodeKey, over_except, nodes_with, AreMore, IsNoting}
 use Rattle.forest_store.proofs.garbage.note_all.Given as goal
 
 -- once those of the rest that are over are noted, those of all are

@@ -1,6 +1,5 @@
 -- What is left is the same, whether all are looked at or those that are noted.
-use Rattle.forest_store.proofs.Common.{◌∙◌, ap}
-use Rattle.forest_store.specs.Garbage.{left_at}
+use Rattle.forest_store.proofs.Common.{◌∙◌, ap, left_at}
 use Rattle.forest_store.proofs.garbage.take_all_over.Goals as goal
 
 pub returns-then-known-clause-look : goal.returns-then-known-clause-look

@@ -4,9 +4,7 @@ use Rattle.forest_store.proofs.tables.TakingOut.{takes_out}
 use Rattle.forest_store.proofs.garbage.take_out.Goals as goal
 
 pub returns-clause-out : goal.returns-clause-out
-returns-clause-out c =
-    takes_out c.args.table.now c.cut_children.new.table c.remove.new.self c.args.key c.remove.result c.requires c.cut_children.ensures
-    c.remove.ensures
+returns-clause-out c = takes_out _ _ _ _ _ c.requires c.cut_children.ensures c.remove.ensures
 
 pub returns-clause-was : goal.returns-clause-was
 returns-clause-was c = sym (c.cut_children.ensures.look c.args.key) ∙ c.remove.ensures.was

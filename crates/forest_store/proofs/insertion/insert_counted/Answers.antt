@@ -1,21 +1,18 @@
 -- The node is born, and counted for its unit.
 use Rattle.forest_store.proofs.Common.{ℕ, ◌<◌, length, ap, sym, subst, ◌∙◌, NodeKey, shelves_of}
-use Rattle.forest_store.proofs.newborns.Bearing.{born_key}
 use Rattle.forest_store.proofs.newborns.Units.{newborn_units}
 use Rattle.forest_store.proofs.newborns.Newborn.{above_is}
+use Rattle.forest_store.proofs.newborns.Bearing.{born_key}
 use Rattle.forest_store.proofs.insertion.insert_counted.Goals as goal
 
 pub returns-clause-units : goal.returns-clause-units
 returns-clause-units c =
-    let ss = shelves_of c.args.store.now.entries.items in
-    let at = above_is c.args.store.now.nodes.table ss c.requires.forest.kept c.args.id c.args.birth.parent c.args.birth.attached c.args.birth.client c.args.birth.event
-    c.requires.change in
-    let key_is = born_key _ c.args.birth.attached c.args.id c.args.birth.event c.args.birth.client c.in_ok-key.key in
+    let at = above_is _ _ c.requires.forest.kept _ _ _ _ _ c.requires.change in
+    let key_is = born_key _ _ _ _ _ _ in
     let slot_is = ap (λ (k : NodeKey). k.slot) (sym key_is) ∙ c.in_ok-key.ensures.ok.bears.gives.slot in
     let inside = subst (λ (slot : ℕ). slot < length c.args.store.now.nodes.units.items) (sym slot_is) c.requires.reached in
     rw (c.count_at.ensures, c.put_unit.ensures, c.no_unit.ensures, c.insert_uncounted.ensures.units)
-    (newborn_units c.args.store.now.nodes.table c.insert_uncounted.new.store.nodes.table ss c.requires.forest.kept c.args.id c.args.birth.parent c.args.birth.attached c.args.birth.client
-    c.args.birth.event _ at c.in_ok-key.key c.in_ok-key.ensures.ok.bears
+    (newborn_units _ _ _ c.requires.forest.kept _ _ _ _ _ _ at c.in_ok-key.key c.in_ok-key.ensures.ok.bears
     (shelves_of c.insert_uncounted.new.store.entries.items) c.in_ok-key.ensures.ok.entries c.args.store.now.nodes.units.items
     c.requires.forest.units inside c.bound.ensures)
 

@@ -1,8 +1,5 @@
 -- The entry of the new collection has the key alone.
-use Rattle.forest_store.proofs.Common.{◌≡◌, refl, true, None, [], ◌∷◌, ap, ◌∙◌, Entry, shelf_of}
-use Rattle.std.proofs.Common.{rules}
-use Rattle.forest_store.specs.Calm.{put_in}
-use Rattle.forest_store.specs.Still.{no_shelf, shelf_with}
+use Rattle.forest_store.proofs.Common.{◌≡◌, refl, true, None, [], ◌∷◌, ap, ◌∙◌, Entry, shelf_of, rules, put_in, no_shelf, shelf_with}
 use Rattle.forest_store.proofs.insertion.insert_root.Goals as goal
 
 pub returns-clause-entries : goal.returns-clause-entries

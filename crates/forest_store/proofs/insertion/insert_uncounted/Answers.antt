@@ -1,62 +1,44 @@
 -- The node is born among those of its collection, or is its first.
-use Rattle.forest_store.proofs.Common.{◌≡◌, ℕ, ◌==◌, Bool, List, Option, Some, None, option_map, sym, ◌∙◌, ap, subst, arith, find, option_and_then, NodeKey, Table, node_at, Change, Entry, Node, IsStored, Shelf, forest_of, place_in, shelf_of, shelves_of}
-use Rattle.std.proofs.Common.{IfSome, IsSome}
-use Rattle.node_table.specs.Table.{row_at}
-use Rattle.forest_store.specs.Shelves.{born}
-use Rattle.forest_store.specs.Settling.{MayChange, no_key}
-use Rattle.forest_store.proofs.newborns.Bearing.{born_parent, born_weak, named_bears}
+use Rattle.forest_store.proofs.Common.{◌≡◌, ℕ, Bool, List, Option, Some, None, option_map, sym, ◌∙◌, ap, arith, option_and_then, NodeKey, Table, node_at, Change, Entry, Node, IsStored, Shelf, forest_of, place_in, shelf_of, shelves_of, born, MayChange, no_key}
 use Rattle.forest_store.proofs.newborns.Entries.{among_counted, among_shelves, by_both, first_counted, first_shelves, refused_counted, refused_shelves, refused_two}
 use Rattle.forest_store.proofs.shelves.Counted.{count_few}
-use Rattle.forest_store.proofs.shelves.Entries.{IsPlace, none_in, place_is}
 use Rattle.forest_store.proofs.newborns.Newborn.{above_is, above_key, above_there}
-use Rattle.forest_store.proofs.shelves.Showing.{filed_found, shelf_found}
-use Rattle.forest_store.proofs.quiescence.Watched.{found_counted}
+use Rattle.forest_store.proofs.Basics.{born_parent, born_weak, named_bears, none_in, place_is, filed_found, shelf_found, found_counted}
 use Rattle.forest_store.proofs.insertion.insert_uncounted.Goals as goal
 
 -- the draft has the one above as its parent
 up : (t : Table Node) (ss : List Shelf) → IsStored t ss → (id : ℕ) (parent : Option NodeKey) (attached : Bool) (client event : ℕ) →
     MayChange (forest_of t ss) id (Change.Birth parent attached client event) →
     (born (option_and_then (node_at t) parent) attached id event client no_key).parent ≡ parent
-up t ss kept id parent attached client event may =
-    born_parent (option_and_then (node_at t) parent) attached id event client no_key
-    ∙ above_key t ss kept id parent _ (above_is t ss kept id parent attached client event may)
+up t ss kept id parent attached client event may = born_parent _ _ id event client no_key
+    ∙ above_key t _ kept _ _ _ (above_is t _ kept _ _ _ _ _ may)
 
 pub index_mut-requires : goal.index_mut-requires
 index_mut-requires c =
-    let told : place_in c.args.id c.args.store.now.entries.items ≡ Some c.in-Some.at =
-    sym (rw c.deref.ensures.value at c.place_of.ensures) ∙ c.in-Some.is in
+    let told = sym (rw c.deref.ensures.value at c.place_of.ensures) ∙ c.in-Some.is in
     omega (arith, (place_is c.args.id c.args.store.now.entries.items c.in-Some.at told).within)
 
 pub insert_child-requires-clause-parent : goal.insert_child-requires-clause-parent
 insert_child-requires-clause-parent c =
-    subst (λ (o : Option NodeKey). IfSome o (λ p. IsSome (row_at c.args.store.now.nodes.table p))) (sym (ap (λ (n : Node). n.parent)
-    c.drafted-draft.ensures ∙ up c.args.store.now.nodes.table (shelves_of c.args.store.now.entries.items) c.requires.forest.kept c.args.id c.args.birth.parent
-    c.args.birth.attached c.args.birth.client c.args.birth.event c.requires.change))
-    (above_there c.args.store.now.nodes.table (shelves_of c.args.store.now.entries.items) c.args.id c.args.birth.parent _
-    (above_is c.args.store.now.nodes.table (shelves_of c.args.store.now.entries.items) c.requires.forest.kept c.args.id c.args.birth.parent c.args.birth.attached
-    c.args.birth.client c.args.birth.event c.requires.change))
+    rw (ap (λ (n : Node). n.parent)
+    c.drafted-draft.ensures ∙ up _ _ c.requires.forest.kept _ _ _ _ _ c.requires.change)
+    (above_there _ _ _ _ _ (above_is _ _ c.requires.forest.kept _ _ _ _ _ c.requires.change))
 
 pub insert_child-requires-clause-few : goal.insert_child-requires-clause-few
 insert_child-requires-clause-few c =
-    let told : place_in c.args.id c.args.store.now.entries.items ≡ Some c.in-Some.at =
-    sym (rw c.deref.ensures.value at c.place_of.ensures) ∙ c.in-Some.is in
-    let place : IsPlace c.args.id c.args.store.now.entries.items c.in-Some.at = place_is c.args.id c.args.store.now.entries.items c.in-Some.at told in
+    let told = sym (rw c.deref.ensures.value at c.place_of.ensures) ∙ c.in-Some.is in
     let old : Entry = c.index_mut.result.now in
-    let found : find (λ (e : Entry). e.id == c.args.id) c.args.store.now.entries.items ≡ Some old =
-    place.found old ∙ ap Some (sym c.index_mut.ensures.value) in
-    count_few c.args.store.now.nodes.table old
-    (filed_found c.args.store.now.nodes.table c.args.id (shelves_of c.args.store.now.entries.items) c.requires.forest.kept.filed (shelf_of old)
+    let found = (place_is _ _ _ told).found old ∙ ap Some (sym c.index_mut.ensures.value) in
+    count_few _ _
+    (filed_found c.args.store.now.nodes.table c.args.id (shelves_of c.args.store.now.entries.items) c.requires.forest.kept.filed _
     (shelf_found c.args.id c.args.store.now.entries.items ∙ ap (option_map shelf_of) found))
-    (found_counted c.args.store.now.nodes.table c.args.id c.args.store.now.entries.items old c.requires.forest.counted found)
+    (found_counted _ _ _ _ c.requires.forest.counted found)
 
 pub insert_root-requires-clause-parent : goal.insert_root-requires-clause-parent
 insert_root-requires-clause-parent c =
-    subst (λ (o : Option NodeKey). IfSome o (λ p. IsSome (row_at c.args.store.now.nodes.table p))) (sym (ap (λ (n : Node). n.parent)
-    c.drafted-draft.ensures ∙ up c.args.store.now.nodes.table (shelves_of c.args.store.now.entries.items) c.requires.forest.kept c.args.id c.args.birth.parent
-    c.args.birth.attached c.args.birth.client c.args.birth.event c.requires.change))
-    (above_there c.args.store.now.nodes.table (shelves_of c.args.store.now.entries.items) c.args.id c.args.birth.parent _
-    (above_is c.args.store.now.nodes.table (shelves_of c.args.store.now.entries.items) c.requires.forest.kept c.args.id c.args.birth.parent c.args.birth.attached
-    c.args.birth.client c.args.birth.event c.requires.change))
+    rw (ap (λ (n : Node). n.parent)
+    c.drafted-draft.ensures ∙ up _ _ c.requires.forest.kept _ _ _ _ _ c.requires.change)
+    (above_there _ _ _ _ _ (above_is _ _ c.requires.forest.kept _ _ _ _ _ c.requires.change))
 
 -- the node is inserted among those of the collection
 pub returns-in-Some-clause-ok : goal.returns-in-Some-clause-ok
@@ -91,15 +73,14 @@ returns-in-Some-clause-err c =
     let t = c.args.store.now.nodes.table in
     let es : List Entry = c.args.store.now.entries.items in
     let told : place_in c.args.id es ≡ Some c.in-Some.at = sym (rw c.deref.ensures.value at c.place_of.ensures) ∙ c.in-Some.is in
-    let place = place_is c.args.id es c.in-Some.at told in
-    let old : Entry = c.index_mut.result.now in
+    let place = place_is _ _ _ told in
     let notes = c.insert_child.ensures.notes in
     refused_two c.insert_child.result c.insert_child.ensures.err_table c.insert_child.ensures.err_entry (λ table entry. record {
       table = table;
-      entries = refused_shelves t es c.requires.forest.kept c.requires.forest.counted c.args.id c.in-Some.at told place old
-          c.index_mut.ensures.value c.insert_child.new.entry entry.shelf entry.strong notes.reserved notes.garbage_known notes.garbage;
-      counted = refused_counted t es c.requires.forest.kept c.requires.forest.counted c.args.id c.in-Some.at told place old
-          c.index_mut.ensures.value c.insert_child.new.entry entry.shelf entry.strong notes.reserved notes.garbage_known notes.garbage;
+      entries = refused_shelves t _ c.requires.forest.kept c.requires.forest.counted _ _ told place _
+          c.index_mut.ensures.value _ entry.shelf entry.strong notes.reserved notes.garbage_known notes.garbage;
+      counted = refused_counted t _ c.requires.forest.kept c.requires.forest.counted _ _ told place _
+          c.index_mut.ensures.value _ entry.shelf entry.strong notes.reserved notes.garbage_known notes.garbage;
     })
 
 -- or it is the first of the collection

@@ -4,6 +4,5 @@ use Rattle.forest_store.proofs.leaving.KeyMoves.{moved_over}
 use Rattle.forest_store.proofs.key_list.move_up.Goals as goal
 
 pub returns-clause-items : goal.returns-clause-items
-returns-clause-items c =
-    ap (drop (c.args.from + 1)) c.copy_within.ensures.items
-    ∙ moved_over c.args.cells.now.items c.args.from c.args.to c.requires.order c.requires.within
+returns-clause-items c = ap (drop (c.args.from + 1)) c.copy_within.ensures.items
+    ∙ moved_over _ _ _ c.requires.order c.requires.within

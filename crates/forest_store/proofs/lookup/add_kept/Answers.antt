@@ -1,7 +1,5 @@
 -- The node of one key more comes last.
-use Rattle.forest_store.proofs.Common.{arith}
-use Rattle.std.proofs.lemmas.Grind.{common_steps}
-use Rattle.std.proofs.lemmas.List.Elements.{filter_map-append}
+use Rattle.forest_store.proofs.Common.{arith, common_steps, filter_map-append}
 use Rattle.forest_store.proofs.lookup.add_kept.Goals.{in-Some+in_ok-push, in_default}
 use Rattle.forest_store.proofs.lookup.add_kept.Goals as goal
 

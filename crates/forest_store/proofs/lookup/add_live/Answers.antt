@@ -1,7 +1,5 @@
 -- The node of one key more comes last, if it is live.
-use Rattle.forest_store.proofs.Common.{arith}
-use Rattle.std.proofs.lemmas.Grind.{common_steps}
-use Rattle.std.proofs.lemmas.List.Elements.{filter_map-append, filter-append}
+use Rattle.forest_store.proofs.Common.{arith, common_steps, filter_map-append, filter-append}
 use Rattle.forest_store.proofs.lookup.add_live.Goals.{in-Some+then-is_live+in_ok-push, in-Some+else-is_live, in_default}
 use Rattle.forest_store.proofs.lookup.add_live.Goals as goal
 

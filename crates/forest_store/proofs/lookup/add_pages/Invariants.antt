@@ -1,5 +1,4 @@
-use Rattle.forest_store.proofs.Common.{◌≡◌, ◌++◌, take}
-use Rattle.forest_store.specs.Scenes.{pages_held}
+use Rattle.forest_store.proofs.Common.{◌≡◌, ◌++◌, take, pages_held}
 use Rattle.forest_store.proofs.lookup.add_pages.Given as goal
 
 -- so far the pages of these buffers

@@ -1,11 +1,5 @@
 -- The buffers of one entry more come last.
-use Rattle.forest_store.proofs.Common.{List, arith, ap, ◌∙◌, Entry, HeldBuffer}
-use Rattle.std.proofs.Common.{rules}
-use Rattle.std.specs.List.{flat_map}
-use Rattle.std.proofs.lemmas.Grind.{common_steps, flat_map-append}
-use Rattle.std.proofs.lemmas.List.{take_all}
-use Rattle.std.proofs.lemmas.List.Sorted.{answers_always}
-use Rattle.sm_names.specs.Words.{sorted_by}
+use Rattle.forest_store.proofs.Common.{List, arith, ap, ◌∙◌, Entry, HeldBuffer, rules, flat_map, common_steps, flat_map-append, take_all, answers_always, sorted_by}
 use Rattle.forest_store.proofs.lists.StableSort.{stable_sorted}
 use Rattle.forest_store.proofs.lookup.held_by_page.Goals as goal
 

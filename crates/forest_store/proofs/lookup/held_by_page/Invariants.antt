@@ -1,5 +1,4 @@
-use Rattle.forest_store.proofs.Common.{◌≡◌, take}
-use Rattle.std.specs.List.{flat_map}
+use Rattle.forest_store.proofs.Common.{◌≡◌, take, flat_map}
 use Rattle.forest_store.specs.declared.entry.Entry.{Entry as NodeValue}
 use Rattle.forest_store.proofs.lookup.held_by_page.Given as goal
 

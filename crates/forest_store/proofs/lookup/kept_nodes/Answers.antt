@@ -1,8 +1,5 @@
 -- The nodes of one entry more come last.
-use Rattle.forest_store.proofs.Common.{arith}
-use Rattle.std.proofs.lemmas.Grind.{common_steps, flat_map-append}
-use Rattle.std.proofs.lemmas.List.{map-append}
-use Rattle.std.proofs.lemmas.List.Elements.{filter_map-append}
+use Rattle.forest_store.proofs.Common.{arith, common_steps, flat_map-append, map-append, filter_map-append}
 use Rattle.forest_store.proofs.lookup.kept_nodes.Goals as goal
 
 pub loop-entry-preserved : goal.loop-entry-preserved

@@ -1,11 +1,5 @@
 -- The nodes of one entry more come last.
-use Rattle.forest_store.proofs.Common.{List, arith, map, ap, ◌∙◌, filter, Entry, all_keys, nodes_with, shelves_of, Node, is_live_node}
-use Rattle.std.proofs.Common.{rules}
-use Rattle.std.proofs.lemmas.Grind.{common_steps, flat_map-append}
-use Rattle.std.proofs.lemmas.List.{map-append, take_all}
-use Rattle.std.proofs.lemmas.List.Elements.{filter_map-append, filter-append}
-use Rattle.std.proofs.lemmas.List.Sorted.{answers_always}
-use Rattle.sm_names.specs.Words.{sorted_by}
+use Rattle.forest_store.proofs.Common.{List, arith, map, ap, ◌∙◌, filter, Entry, all_keys, nodes_with, shelves_of, Node, is_live_node, rules, common_steps, flat_map-append, map-append, take_all, filter_map-append, filter-append, answers_always, sorted_by}
 use Rattle.forest_store.proofs.lists.StableSort.{stable_sorted}
 use Rattle.forest_store.proofs.lookup.live_by_birth.Goals as goal
 
@@ -17,8 +11,7 @@ pub returns : goal.returns
 returns c =
     let all = c.loop-entry.invariant
     ∙ ap (λ (es : List Entry). filter is_live_node (nodes_with c.args.table.now (all_keys (shelves_of es))))
-    (take_all c.loop-entry.entry-index
-    c.args.entries.now c.loop-entry-test.false) in
+    (take_all c.loop-entry.entry-index c.args.entries.now c.loop-entry-test.false) in
     let sorted = stable_sorted (λ (n : Node). n.event) _ _ (c.in_ok-sort_by_key.ensures.sorted (λ n.
     n.event) (answers_always _ _ _ (λ f a r g h. search rules)))
     (c.sort_by_key.ensures.stable (λ n. n.event) (answers_always _ _ _ (λ f a r g h. search rules))) in

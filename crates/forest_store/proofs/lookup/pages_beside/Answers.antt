@@ -1,7 +1,5 @@
 -- The pages of one entry more come last.
-use Rattle.forest_store.proofs.Common.{arith}
-use Rattle.std.proofs.lemmas.Grind.{common_steps, flat_map-append}
-use Rattle.std.proofs.lemmas.List.Elements.{filter-append}
+use Rattle.forest_store.proofs.Common.{arith, common_steps, flat_map-append, filter-append}
 use Rattle.forest_store.proofs.lookup.pages_beside.Goals as goal
 
 pub loop-entry-preserved : goal.loop-entry-preserved

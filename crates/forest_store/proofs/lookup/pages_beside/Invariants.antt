@@ -1,7 +1,5 @@
-use Rattle.forest_store.proofs.Common.{◌≡◌, ◌==◌, not, take, filter}
-use Rattle.std.specs.List.{flat_map}
+use Rattle.forest_store.proofs.Common.{◌≡◌, ◌==◌, not, take, filter, flat_map, pages_held}
 use Rattle.forest_store.specs.declared.entry.Entry.{Entry as NodeValue}
-use Rattle.forest_store.specs.Scenes.{pages_held}
 use Rattle.forest_store.proofs.lookup.pages_beside.Given as goal
 
 -- so far the pages of the others among these entries

@@ -1,5 +1,4 @@
-use Rattle.forest_store.proofs.Common.{◌≡◌, drop, nodes_with}
-use Rattle.forest_store.specs.LossMarks.{unreckoned}
+use Rattle.forest_store.proofs.Common.{◌≡◌, drop, nodes_with, unreckoned}
 use Rattle.forest_store.proofs.removed_nodes.decrement_all.Given as goal
 
 -- what is made with the rest is what is made with all

@@ -10,8 +10,8 @@ loop-key-preserved c =
     let t = c.args.table.now in
     let none : NodeKey = record { slot = 0; generation = 0 } in
     let i = c.loop-key.key-index in
-    let more = take_more c.args.keys.now i none c.loop-key-test.true in
-    let apart = once_before c.args.keys.now i none c.requires.once c.loop-key-test.true in
+    let more = take_more _ i none c.loop-key-test.true in
+    let apart = once_before _ i none c.requires.once c.loop-key-test.true in
     let u = c.loop-key.table in
     let g = c.args.going.now in
     let stores = c.loop-key.invariant.stores in
@@ -20,8 +20,8 @@ loop-key-preserved c =
       | else-over w ↦ w.over-is ∙ sym (ap (λ (b : Bool). b || c.mark_gone-one.result) w.if-over.false)
     ] in
     record {
-      stores = rw more (went_more t c.requires.named g _ _ apart u stores c.mark_gone-one.new.table c.mark_gone-one.ensures.none
+      stores = rw more (went_more t c.requires.named g _ _ apart u stores _ c.mark_gone-one.ensures.none
           c.mark_gone-one.ensures.becomes c.mark_gone-one.ensures.writes);
-      over = over ∙ rw more (over_more t c.requires.named g _ _ apart u stores c.loop-key.over c.mark_gone-one.result
+      over = over ∙ rw more (over_more t c.requires.named g _ _ apart u stores _ _
           c.loop-key.invariant.over c.mark_gone-one.ensures.over);
     }

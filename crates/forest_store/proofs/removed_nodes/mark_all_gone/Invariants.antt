@@ -1,6 +1,4 @@
-use Rattle.forest_store.proofs.Common.{◌≡◌, map, take, list_any, nodes_with, is_over}
-use Rattle.forest_store.specs.LossMarks.{gone_by}
-use Rattle.forest_store.specs.Shelves.{Stores}
+use Rattle.forest_store.proofs.Common.{◌≡◌, map, take, list_any, nodes_with, is_over, gone_by, Stores}
 use Rattle.forest_store.proofs.removed_nodes.mark_all_gone.Given as goal
 
 -- so far these nodes went

@@ -1,9 +1,7 @@
 -- What is reserved is a sum over the nodes.
-use Rattle.forest_store.proofs.Common.{◌≡◌, List, drop, sym, ◌∙◌, ap, arith, NodeKey, nodes_with}
+use Rattle.forest_store.proofs.Common.{◌≡◌, List, drop, sym, ◌∙◌, ap, arith, NodeKey, nodes_with, camped}
 use Rattle.std.proofs.lemmas.List.{drop_all}
-use Rattle.forest_store.specs.Reserved.{camped}
-use Rattle.forest_store.proofs.tallies.Amounts.{amount_of}
-use Rattle.forest_store.proofs.tallies.Reserved.{reserved_is}
+use Rattle.forest_store.proofs.Basics.{amount_of, reserved_is}
 use Rattle.forest_store.proofs.removed_nodes.recount.Goals as goal
 
 pub returns-clause-reserved : goal.returns-clause-reserved

@@ -1,6 +1,5 @@
-use Rattle.forest_store.proofs.Common.{◌≡◌, ◌≤◌, ◌+◌, drop, strong_count, nodes_with}
+use Rattle.forest_store.proofs.Common.{◌≡◌, ◌≤◌, ◌+◌, drop, strong_count, nodes_with, camped}
 use Rattle.std.proofs.Common.{◌*◌}
-use Rattle.forest_store.specs.Reserved.{camped}
 use Rattle.forest_store.proofs.tallies.Amounts.{amount_of}
 use Rattle.forest_store.proofs.removed_nodes.recount.Given as goal
 

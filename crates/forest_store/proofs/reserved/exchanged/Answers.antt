@@ -2,5 +2,5 @@
 use Rattle.forest_store.proofs.Common.{sym, ◌∙◌}
 use Rattle.forest_store.proofs.reserved.exchanged.Goals as goal
 
-pub returns : goal.returns
-returns c real e = c.without.ensures real (e ∙ sym c.in_ok-both.ensures.1)
+pub returns-clause-sum : goal.returns-clause-sum
+returns-clause-sum c real e = c.without.ensures real (e ∙ sym c.in_ok-both.ensures.1)

@@ -1,15 +1,12 @@
 -- The entry takes its place.
-use Rattle.forest_store.proofs.Common.{◌≡◌, Some, None, sym, ◌∙◌, ap, arith, place_in, shelves_of}
-use Rattle.std.proofs.Common.{rules}
-use Rattle.std.specs.List.{insert}
+use Rattle.forest_store.proofs.Common.{◌≡◌, sym, ◌∙◌, ap, arith, shelves_of, rules, insert}
 use Rattle.forest_store.proofs.shelves.Counted.{shelves_put}
 use Rattle.forest_store.proofs.shelves.Entries.{place_is, before, before_within, set_put, insert_put}
 use Rattle.forest_store.proofs.store.put_entry.Goals as goal
 
 pub index_mut-requires : goal.index_mut-requires
 index_mut-requires c =
-    let told : place_in c.args.entry.id c.args.entries.now.items ≡ Some c.in-Some.at =
-    sym (rw c.deref.ensures.value at c.place_of.ensures) ∙ c.in-Some.is in
+    let told = sym (rw c.deref.ensures.value at c.place_of.ensures) ∙ c.in-Some.is in
     omega (arith, (place_is c.args.entry.id c.args.entries.now.items c.in-Some.at told).within)
 
 pub insert-requires : goal.insert-requires
@@ -18,12 +15,12 @@ insert-requires c =
 
 pub returns-in-Some-clause-items : goal.returns-in-Some-clause-items
 returns-in-Some-clause-items c =
-    set_put c.args.entry c.args.entries.now.items c.in-Some.at c.requires.rising (sym (rw c.deref.ensures.value at c.place_of.ensures)
+    set_put _ _ _ c.requires.rising (sym (rw c.deref.ensures.value at c.place_of.ensures)
     ∙ c.in-Some.is)
 
 pub returns-in-Some-clause-shelves : goal.returns-in-Some-clause-shelves
 returns-in-Some-clause-shelves c =
-    ap shelves_of (set_put c.args.entry c.args.entries.now.items c.in-Some.at c.requires.rising
+    ap shelves_of (set_put _ _ _ c.requires.rising
     (sym (rw c.deref.ensures.value at c.place_of.ensures) ∙ c.in-Some.is))
     ∙ shelves_put c.args.entry c.args.entries.now.items
 
@@ -31,11 +28,10 @@ pub returns-in-None-clause-items : goal.returns-in-None-clause-items
 returns-in-None-clause-items c =
     let at : c.entries_before-at.result ≡ before c.args.entry.id c.args.entries.now.items =
     rw c.deref-in-None.ensures.value at c.entries_before-at.ensures in
-    let told : place_in c.args.entry.id c.args.entries.now.items ≡ None =
-    sym (rw c.deref.ensures.value at c.place_of.ensures) ∙ c.in-None.is in
+    let told = sym (rw c.deref.ensures.value at c.place_of.ensures) ∙ c.in-None.is in
     let items : c.insert.new.self.items ≡ insert c.args.entries.now.items c.entries_before-at.result c.args.entry = search rules in
     (items ∙ ap (λ n. insert c.args.entries.now.items n c.args.entry) at)
-    ∙ insert_put c.args.entry c.args.entries.now.items c.requires.rising told
+    ∙ insert_put _ _ c.requires.rising told
 
 pub returns-in-None-clause-shelves : goal.returns-in-None-clause-shelves
 returns-in-None-clause-shelves c = ap shelves_of (returns-in-None-clause-items c) ∙ shelves_put c.args.entry c.args.entries.now.items

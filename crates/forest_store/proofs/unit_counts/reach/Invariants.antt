@@ -1,5 +1,5 @@
-use Rattle.forest_store.proofs.Common.{◌+◌}
-use Rattle.std.proofs.Common.{◌-◌, vec_len}
+use Rattle.forest_store.proofs.Common.{◌+◌, ◌-◌}
+use Rattle.std.proofs.Common.{vec_len}
 use Rattle.forest_store.specs.Counts.{Extends}
 use Rattle.forest_store.proofs.unit_counts.reach.Given as goal
 
