@@ -2,3 +2,4 @@
 pub mod Links
 pub mod OfShelf
 pub mod Rows
+pub mod Upward

@@ -251,7 +251,8 @@ fn place_wanted(
 ) -> Result<AllocationOutcome, NoMemory>
     requires { IfOk wants AreSome }
     ensures err { OnErr result (pool.new ≡ pool.old) }
-    ensures verdict { IfOk result (IsAllocationOutcome pool.old pool.new id others.now.items wants) }
+    ensures verdict { IfOk result
+        (IsAllocationOutcome pool.old pool.new id others.now.items wants) }
     ensures few { IfOk result (λ verdict. gives_few verdict ≡ true) }
     ensures size { pool.new.size ≡ pool.old.size }
 {

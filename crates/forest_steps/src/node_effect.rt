@@ -277,7 +277,8 @@ pub(crate) fn make_effect(nodes: &mut NodeStore, entry: &mut Entry, made: &NodeE
         node_at nodes.old.table made.now.key ≡ Some n →
         n.gone ≡ false → n.collection ≡ entry.old.id →
         StoreAgrees nodes.old.table nodes.old.units.items ss entry.old →
-        EffectMadeIn nodes.old nodes.new ss entry.old entry.new made.now.key made.now.effect n.head }
+        EffectMadeIn nodes.old nodes.new ss entry.old entry.new
+        made.now.key made.now.effect n.head }
     ensures becomes { (n : NodeValue) → node_at nodes.old.table made.now.key ≡ Some n →
         nodes.new.table
         ≡ table_with_node nodes.old.table made.now.key (affected made.now.key made.now.effect n) }

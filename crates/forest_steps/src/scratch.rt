@@ -1,5 +1,5 @@
 //! Room for what goes, and for the units that have their turns.
-ghost use Rattle.std.specs.Prelude.{◌≡◌, ◌≤◌, OnOk, true, vec_capacity};
+ghost use Rattle.std.specs.Prelude.{◌≡◌, ◌≤◌, [], OnOk, true, vec_capacity};
 
 use crate::pending_units::PendingUnit;
 use sm_names::{NoMemory, NodeKey};
@@ -18,8 +18,12 @@ pub struct Scratch {
 }
 
 impl Scratch {
-    /// Room for nothing. It takes no memory.
-    pub fn new(alloc: Global) -> Scratch {
+    /// Empty lists with room for nothing. It takes no memory.
+    pub fn new(alloc: Global) -> Scratch
+        ensures removed { result.removed.items ≡ [] }
+        ensures unit { result.unit.items ≡ [] }
+        ensures pending { result.pending.items ≡ [] }
+    {
         Scratch {
             removed: Vec::new(alloc),
             unit: Vec::new(alloc),

@@ -1,19 +1,10 @@
 -- An effect and with it the allocation of units without buffers, in their places: the nodes in between, and then.
-use Rattle.forest_steps.proofs.Common.{◌≡◌, ℕ, ◌==◌, refl, ap, sym, ◌∙◌, subst, true, false, inl, inr, List, map, Some, list_any, sum_by, NodeKey, Cause, Demand, same_key, In, In-find, In-map-back, both_ways, either_way, same_key-true, Table, node_at, Change, Effect, Node, Unit, Collection, with_nodes, IsWhole, Shelf, collection_in, nodes_with, affected, reserved_count, heads_itself}
-use Rattle.forest_store.specs.Counts.{HasUnits}
-use Rattle.forest_store.specs.Unforced.{IsOpen}
-use Rattle.forest_store.specs.Scenes.{IsSound}
-use Rattle.forest_store.proofs.quiescence.Steps.{all-In}
-use Rattle.forest_store.proofs.changes.Altering.{same_affected}
-use Rattle.forest_store.proofs.changes.Effecting.{alone_affected, remains_affected}
-use Rattle.forest_store.proofs.allocation.Before.{whole_before}
+use Rattle.forest_steps.proofs.Common.{◌≡◌, ℕ, refl, ap, sym, ◌∙◌, true, false, List, map, Some, list_any, NodeKey, Cause, same_key, In, In-find, In-map-back, same_key-true, Table, node_at, Change, Effect, Node, Unit, Collection, with_nodes, IsWhole, Shelf, collection_in, nodes_with, affected, reserved_count, HasUnits, IsOpen, IsSound, all-In, same_affected, remains_affected, whole_before, in_all, looked_there, IsLeft, distinct_one, left_node, IsSameNode, all_at, sum_by, Demand, both_ways, either_way, inl, inr}
+use Rattle.forest_steps.proofs.tables.Upward.{head_there}
+use Rattle.forest_store.proofs.changes.Effecting.{alone_affected}
 use Rattle.forest_steps.proofs.allocation.Sums.{reserved_same}
-use Rattle.forest_store.proofs.tables.Hanging.{in_all, looked_there}
 use Rattle.forest_store.proofs.tables.LeftParents.{loss_left}
-use Rattle.forest_store.proofs.tables.Rooted.{IsLeft, distinct_one, left_node}
-use Rattle.forest_store.proofs.tables.Writing.{IsSameNode, IsSound-map}
-use Rattle.forest_store.proofs.tallies.Slots.{all_at}
-use Rattle.forest_store.proofs.tallies.Holding.{head_there}
+use Rattle.forest_store.proofs.tables.Writing.{IsSound-map}
 
 -- a node that the effect is made on, and the head of its unit, in their collection
 pub record StandsIn (t : Table Node) (us : List Unit) (s : Shelf) (key : NodeKey) (effect : Effect) (n : Node) : Type 0 where
@@ -31,8 +22,8 @@ pub record StandsIn (t : Table Node) (us : List Unit) (s : Shelf) (key : NodeKey
   pub head_here : head.gone ≡ false
   pub head_own : head.head ≡ n.head
 
-module _ (t : Table Node) (us : List Unit) (key : NodeKey) (effect : Effect) (n : Node) (was : node_at t key ≡ Some n)
-    (ss : List Shelf) (s : Shelf) (strong : ℕ) (opens : IsOpen t us ss s (Change.Effect key effect) strong) where
+module _ {t : Table Node} {us : List Unit} (key : NodeKey) (effect : Effect) {n : Node} (was : node_at t key ≡ Some n)
+    {ss : List Shelf} {s : Shelf} {strong : ℕ} (opens : IsOpen t us ss s (Change.Effect key effect) strong) where
   abbrev k : NodeKey
   k = n.head
 
@@ -59,11 +50,11 @@ module _ (t : Table Node) (us : List Unit) (key : NodeKey) (effect : Effect) (n 
 
   -- each node stands in the table under its key
   at_key : (m : Node) → In m nodes → node_at t m.key ≡ Some m
-  at_key m there = in_all (λ (x : Node). node_at t x.key ≡ Some x) nodes (looked_there t opens.kept.named s.keys) m there
+  at_key m there = in_all _ _ (looked_there t opens.kept.named _) m there
 
   -- the node is of the collection and not gone, so it is one of those left
   left : IsLeft nodes key
-  left = left_node nodes key (loss_left t ss opens.kept s.id (Change.Loss key Cause.Lost)
+  left = left_node _ key (loss_left t ss opens.kept _ (Change.Loss key Cause.Lost)
       (record { named = opens.may.named; room = λ e. cc; heads = refl; trackers = λ k m e. cc }) s opens.found)
 
   -- both stand under the key
@@ -74,7 +65,7 @@ module _ (t : Table Node) (us : List Unit) (key : NodeKey) (effect : Effect) (n 
 
   -- so it is among the nodes
   on : In n nodes
-  on = subst (λ (m : Node). In m nodes) (sym is_left) left.on
+  on = rw is_left left.on
 
   -- and it is not gone
   here : n.gone ≡ false
@@ -82,18 +73,17 @@ module _ (t : Table Node) (us : List Unit) (key : NodeKey) (effect : Effect) (n 
 
   -- the effect concerns its own key alone
   alone : (m : Node) → same_key n.key m.key ≡ false → f m ≡ m
-  alone m other = alone_affected key effect m (subst (λ (j : NodeKey). same_key j m.key ≡ false) own other)
+  alone m other = alone_affected key _ m (rw own at other)
 
   -- no two nodes have one key
   one : (m : Node) → In m nodes → same_key n.key m.key ≡ true → m ≡ n
-  one m there e = distinct_one nodes whole.sound.distinct m n there on (sym (same_key-true n.key m.key e))
+  one m there e = distinct_one nodes whole.sound.distinct m n there on (sym (same_key-true _ _ e))
 
   -- the facts above, and the head of the node's unit
   pub stands_in : StandsIn t us s key effect n
   stands_in =
-      let h = head_there nodes whole.sound.distinct whole.sound.heads whole.rooted whole.united n on here in
-      let mine : heads_itself h.0 ≡ true = all-In heads_itself nodes h.0 h.1 whole.sound.heads in
-      let is : same_key h.0.head h.0.key ≡ true = rw h.4 at mine in
+      let h = head_there whole n on here in
+      let is : same_key h.0.head h.0.key ≡ true = rw h.4 at (all-In _ _ h.0 h.1 whole.sound.heads) in
       record {
         whole = whole;
         at_key = at_key;
@@ -101,14 +91,14 @@ module _ (t : Table Node) (us : List Unit) (key : NodeKey) (effect : Effect) (n 
         here = here;
         alone = alone;
         one = one;
-        counted = all_at (λ (c : Collection). HasUnits us c.nodes) (map (collection_in t) ss) opens.units c0
-            (In-map-back (collection_in t) ss s (In-find (λ (x : Shelf). x.id == s.id) ss s opens.found).0);
+        counted = all_at _ _ opens.units c0
+            (In-map-back _ ss s (In-find _ ss s opens.found).0);
         sound = IsSound-map f same c0 whole.sound;
         head = h.0;
         head_on = h.1;
         head_key = h.2;
         head_here = h.3;
-        head_own = same_key-true h.0.head h.0.key is ∙ h.2;
+        head_own = same_key-true _ _ is ∙ h.2;
       }
 
   module _ (hs : List NodeKey) (first : list_any (same_key n.head) hs ≡ true)

@@ -1,11 +1,6 @@
 -- Where the buffers are enough for all units that are allocated together, they are for each in its turn.
-use Rattle.forest_steps.proofs.Common.{◌≡◌, ℕ, ◌+◌, refl, Bool, true, false, not, ◌&&◌, ◌||◌, if◌then◌else◌, List, Option, None, arith, list_any, sum_by, option_map_or, NodeKey, Demand, same_key, In, Node, reserved_count}
-use Rattle.forest_store.specs.Falls.{given_all}
-use Rattle.forest_store.specs.Questions.{demands_of}
-use Rattle.forest_store.specs.Reserved.{camped}
-use Rattle.forest_store.specs.UnitAllocation.{is_in_some}
-use Rattle.forest_store.proofs.allocation.Allocated.{after_all}
-use Rattle.forest_store.proofs.tallies.Reserved.{amount_both, amount_map, camped_if, camped_sum, reserved_is}
+use Rattle.forest_steps.proofs.Common.{◌≡◌, ℕ, ◌+◌, refl, Bool, true, false, not, ◌&&◌, ◌||◌, if◌then◌else◌, List, Option, None, arith, list_any, sum_by, option_map_or, NodeKey, Demand, same_key, In, Node, reserved_count, given_all, demands_of, camped, is_in_some, after_all, camped_if, camped_sum}
+use Rattle.forest_store.proofs.tallies.Reserved.{amount_both, amount_map, reserved_is}
 
 -- how much is camped on, if at all
 abbrev camps : Bool → Option Demand → ℕ
@@ -27,7 +22,7 @@ module _ (nodes : List Node) (hs : List NodeKey) (unitwide : (m : Node) → In m
       let a = reserved_is (after_all hs nodes) in
       let b = amount_map camped (given_all hs) nodes in
       let c = amount_both camped (camped_if (is_in_some hs)) (λ m. camped (given_all hs m)) nodes
-      (λ m on. weigh_all m.gone m.allocated (list_any (same_key m.head) hs) m.constraints (unitwide m on)) in
+      (λ m on. weigh_all m.gone _ _ m.constraints (unitwide m on)) in
       let d = reserved_is nodes in
       let e = camped_sum (is_in_some hs) nodes in
       omega (arith, a, b, c, d, e)

@@ -1,11 +1,7 @@
 -- Nodes of units that are given their buffers, one after another.
-use Rattle.forest_steps.proofs.Common.{◌≡◌, refl, ap, sym, ◌∙◌, subst, Bool, true, false, ◌||◌, if◌then◌else◌, List, [], ◌∷◌, ◌++◌, Option, Some, None, option_map, list_any, NodeKey, same_key, false_if, same_key-refl, same_key-true, Table, node_at, Node}
-use Rattle.std.proofs.lemmas.List.Folds.{list_any-append}
-use Rattle.node_table.specs.Changes.{Writes}
-use Rattle.node_table.specs.Lending.{table_with_node}
-use Rattle.forest_store.specs.Falls.{given_all}
-use Rattle.forest_store.specs.UnitAllocation.{IsGivenAt, given_at}
-use Rattle.forest_store.proofs.tables.Writing.{IsSameNode, look-changed, parents-written}
+use Rattle.forest_steps.proofs.Common.{◌≡◌, refl, ap, sym, ◌∙◌, Bool, true, false, ◌||◌, if◌then◌else◌, List, [], ◌∷◌, ◌++◌, Option, Some, None, option_map, list_any, NodeKey, same_key, false_if, same_key-refl, same_key-true, Table, node_at, Node, list_any-append, Writes, table_with_node, given_all, IsGivenAt, given_at, IsSameNode, arith}
+use Rattle.forest_store.proofs.tables.Writing.{look-changed, parents-written}
+use Rattle.forest_steps.proofs.tables.Rows.{same_on}
 
 -- each node is as it was otherwise
 pub same_given : (heads keys : List NodeKey) (n : Node) → IsSameNode (given_at heads keys n) n
@@ -19,11 +15,7 @@ same_given heads keys n = from (list_any (same_key n.key) keys)
 pub kept_given : {A : Type 0} (p : Node → A) (heads : List NodeKey) → ((m : Node) → p (given_all heads m) ≡ p m) →
     (keys : List NodeKey) (n : Node) →
     p (given_at heads keys n) ≡ p n
-kept_given p heads same keys n = from (list_any (same_key n.key) keys)
-  where
-    from : (b : Bool) → p (if b then given_all heads n else n) ≡ p n
-    from true = same n
-    from false = refl
+kept_given p heads same keys n = grind arith
 
 -- a node whose key is one of these has them, and another stays
 pub given_in : (heads keys : List NodeKey) (n : Node) → list_any (same_key n.key) keys ≡ true →
@@ -40,8 +32,7 @@ given_other heads n e = λ i. record n { allocated = sym e i || n.allocated }
 
 -- once more makes no difference
 or_twice : (a b : Bool) → (a || (a || b)) ≡ (a || b)
-or_twice true b = refl
-or_twice false b = refl
+or_twice a b = grind arith
 
 -- a mark that is set twice is set
 given_twice : (heads : List NodeKey) (k : NodeKey) (n : Node) (b : Bool) →
@@ -54,40 +45,35 @@ given_twice heads k n true = from (same_key n.key k || false)
 given_twice heads k n false = refl
 
 -- one more is
-pub given_more : (t u now : Table Node) (heads : List NodeKey) (k : NodeKey) (keys : List NodeKey) → IsGivenAt t u heads keys →
+pub given_more : {t u now : Table Node} {heads : List NodeKey} {k : NodeKey} {keys : List NodeKey} → IsGivenAt t u heads keys →
     IsGivenAt u now heads (k ∷ []) → IsGivenAt t now heads (keys ++ k ∷ [])
-given_more t u now heads k keys before one = record {
+given_more {t} {heads} {k} {keys} before one = record {
   look = λ key. one.look key ∙ (ap (option_map (given_at heads (k ∷ []))) (before.look key) ∙ by (node_at t key));
   parents = λ key. one.parents key ∙ before.parents key;
-  same = record {
-    first = one.same.first ∙ before.same.first;
-    nexts = one.same.nexts ∙ before.same.nexts;
-    limit = one.same.limit ∙ before.same.limit;
-    len = one.same.len ∙ before.same.len;
-  };
+  same = same_on before.same one.same;
 }
   where
     by : (o : Option Node) → option_map (given_at heads (k ∷ [])) (option_map (given_at heads keys) o)
         ≡ option_map (given_at heads (keys ++ k ∷ [])) o
     by None = refl
-    by (Some n) = ap Some (given_twice heads k n (list_any (same_key n.key) keys)
-        ∙ ap (λ (b : Bool). if b then given_all heads n else n) (sym (list_any-append (same_key n.key) keys (k ∷ []))))
+    by (Some n) = ap Some (given_twice _ k n _
+        ∙ ap (λ b. if b then given_all heads n else n) (sym (list_any-append (same_key n.key) keys (k ∷ []))))
 
 module _ (t : Table Node) (named : (key : NodeKey) (n : Node) → node_at t key ≡ Some n → n.key ≡ key) (heads : List NodeKey)
     (key : NodeKey) where
   -- a node is written so
-  pub given_written : (now : Table Node) (n : Node) → node_at t key ≡ Some n →
+  pub given_written : {now : Table Node} {n : Node} → node_at t key ≡ Some n →
       now ≡ table_with_node t (given_all heads n).key (given_all heads n) →
       Writes t now (given_all heads n).key (given_all heads n) → IsGivenAt t now heads (key ∷ [])
-  given_written now n is becomes writes =
+  given_written {now} {n} is becomes writes =
       let own : n.key ≡ key = named key n is in
       record {
-        look = look-changed t now (given_at heads (key ∷ [])) key n (given_all heads n)
+        look = look-changed t now _ key n _
             (subst_key own writes) is
-            (ap (λ (b : Bool). if b || false then given_all heads n else n) (ap (same_key n.key) (sym own) ∙ same_key-refl n.key)) named
-            (λ m differ. ap (λ (b : Bool). if b || false then given_all heads m else m)
-            (false_if (same_key m.key key) (λ e. differ (same_key-true m.key key e))));
-        parents = parents-written t now n.key (given_all heads n) writes;
+            (ap (λ b. if b || false then given_all heads n else n) (ap (same_key n.key) (sym own) ∙ same_key-refl n.key)) named
+            (λ m differ. ap (λ b. if b || false then given_all heads m else m)
+            (false_if _ (λ e. differ (same_key-true _ key e))));
+        parents = parents-written t now _ _ writes;
         same = record {
           first = ap (λ (x : Table Node). x.first) becomes;
           nexts = ap (λ (x : Table Node). x.nexts) becomes;
@@ -97,4 +83,4 @@ module _ (t : Table Node) (named : (key : NodeKey) (n : Node) → node_at t key 
       }
     where
       subst_key : {k : NodeKey} → k ≡ key → Writes t now k (given_all heads n) → Writes t now key (given_all heads n)
-      subst_key own = λ w. subst (λ (j : NodeKey). Writes t now j (given_all heads n)) own w
+      subst_key own = λ w. rw own at w

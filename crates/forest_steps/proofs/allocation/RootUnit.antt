@@ -1,11 +1,7 @@
 -- The unit of a root that is allocated, with those that follow: what is forced besides stays as it was, and no attached unit is next.
-use Rattle.forest_steps.proofs.Common.{◌≡◌, refl, ap, sym, ◌∙◌, true, not, ◌&&◌, ◌||◌, inl, inr, is_none, is_some, drop, List, [], ◌∷◌, Option, Some, None, list_all, list_any, find, option_and_then, NodeKey, same_key, when, In, and_left, Node, waiting, Collection, is_ready_node, is_root_left}
+use Rattle.forest_steps.proofs.Common.{◌≡◌, refl, ap, sym, ◌∙◌, true, not, ◌&&◌, ◌||◌, inl, inr, is_none, is_some, drop, List, [], ◌∷◌, Option, Some, None, list_all, list_any, find, option_and_then, NodeKey, same_key, when, In, and_left, Node, waiting, Collection, is_ready_node, is_root_left, given_all, IsSound, all-In, after_all}
 use Rattle.std.specs.Option.{option_map}
-use Rattle.forest_store.specs.Falls.{given_all}
-use Rattle.forest_store.specs.Scenes.{IsSound}
 use Rattle.forest_store.proofs.quiescence.Calming.{find_map}
-use Rattle.forest_store.proofs.quiescence.Steps.{all-In}
-use Rattle.forest_store.proofs.allocation.Allocated.{after_all}
 
 -- only the first node may be a root
 pub root_found : (ns : List Node) → list_all (λ (n : Node). is_some n.parent) (drop 1 ns) ≡ true → (r : Node) → In r ns →
@@ -14,14 +10,13 @@ root_found [] one r on root = absurd on
 root_found (n ∷ ns) one r (inl is) root =
     let here : is_root_left n ≡ true = ap is_root_left (sym is) ∙ root in
     rw here (ap Some (sym is))
-root_found (n ∷ ns) one r (inr on) root =
-    absurd (never r.parent (and_left (is_none r.parent) (not r.gone) root) (all-In (λ (m : Node). is_some m.parent) ns r on one))
+root_found (n ∷ ns) one r (inr on) root = absurd (never r.parent (and_left _ _ root) (all-In _ ns r on one))
   where
     never : (o : Option NodeKey) → is_none o ≡ true → is_some o ≡ true → ⊥
     never None a b = cc
     never (Some p) a b = cc
 
-module _ (c : Collection) (sound : IsSound c) (hs : List NodeKey) where
+module _ {c : Collection} (sound : IsSound c) (hs : List NodeKey) where
   abbrev f : Node → Node
   f = given_all hs
 
@@ -32,6 +27,6 @@ module _ (c : Collection) (sound : IsSound c) (hs : List NodeKey) where
   pub waits_none : (r : Node) → In r c.nodes → is_root_left r ≡ true → list_any (same_key r.head) hs ≡ true → waiting after ≡ None
   waits_none r on root own =
       let found : find is_root_left after ≡ Some (f r) =
-      find_map is_root_left is_root_left f c.nodes (λ n. refl) ∙ ap (option_map f) (root_found c.nodes sound.one_root r on root) in
+      find_map is_root_left _ f c.nodes (λ n. refl) ∙ ap (option_map f) (root_found _ sound.one_root r on root) in
       ap (option_and_then (λ (x : Node). when (not x.allocated && list_all (is_ready_node x.key) after) x)) found
       ∙ (λ i. when (not (own i || r.allocated) && list_all (is_ready_node r.key) after) (f r))

@@ -1,10 +1,5 @@
 -- What units ask for that are to be allocated, and what is reserved besides.
-use Rattle.forest_steps.proofs.Common.{◌≡◌, ℕ, refl, ap, sym, ◌∙◌, subst, Bool, true, false, not, ◌&&◌, if◌then◌else◌, ◌⊎◌, inl, inr, List, [], ◌∷◌, map, Option, Some, None, nat_lt, cons_option, list_any, option_and_then, NodeKey, Demand, In, In-list_any, both_ways, either_way, false_if, In-any, Table, node_at, Node, nodes_with}
-use Rattle.std.specs.List.{filter_map}
-use Rattle.sm_names.specs.Members.{greatest}
-use Rattle.forest_store.specs.Shelves.{written}
-use Rattle.forest_store.specs.Questions.{demands_of, has_buffers}
-use Rattle.forest_store.specs.UnitAllocation.{asked_with, is_in_some}
+use Rattle.forest_steps.proofs.Common.{◌≡◌, ℕ, refl, ap, sym, ◌∙◌, Bool, true, false, not, ◌&&◌, if◌then◌else◌, ◌⊎◌, inl, inr, List, [], ◌∷◌, map, Option, Some, None, nat_lt, cons_option, option_and_then, NodeKey, Demand, In, In-list_any, both_ways, either_way, false_if, In-any, Table, node_at, Node, nodes_with, filter_map, greatest, written, demands_of, has_buffers, asked_with, is_in_some, arith}
 use Rattle.forest_store.proofs.lists.Filters.{above_greatest}
 
 -- ---- what is found by keys, one after another
@@ -13,7 +8,7 @@ use Rattle.forest_store.proofs.lists.Filters.{above_greatest}
 pub joined : {A : Type 0} (look : NodeKey → Option Node) (f : Node → Option A) (keys : List NodeKey) →
     filter_map (λ key. option_and_then f (look key)) keys ≡ filter_map f (filter_map look keys)
 joined look f [] = refl
-joined {A = A} look f (k ∷ ks) = ap (cons_option (option_and_then f (look k))) (joined look f ks) ∙ by (look k)
+joined {A = A} look f (k ∷ ks) = ap (cons_option (option_and_then f (look k))) (joined _ f ks) ∙ by (look k)
   where
     by : (o : Option Node) → cons_option (option_and_then f o) (filter_map f (filter_map look ks))
         ≡ filter_map f (cons_option o (filter_map look ks))
@@ -35,46 +30,43 @@ alike {A = A} f g (n ∷ ns) same = λ i. cons_option (same n (inl refl) i) (ali
 pub asked_is : (t : Table Node) (keys heads : List NodeKey) (after : Node) →
     asked_with t keys heads after ≡ demands_of (is_in_some heads) (map (written after) (nodes_with t keys))
 asked_is t keys heads after =
-    joined (node_at t) (λ (n : Node). if is_in_some heads (written after n) then (written after n).constraints else None) keys
+    joined (node_at t) (λ n. if is_in_some heads (written after n) then (written after n).constraints else None) keys
     ∙ mapped (written after) (λ (n : Node). if is_in_some heads n then n.constraints else None) (nodes_with t keys)
 
 -- a demand is made by a node that passes
 pub asked_of : (test : Node → Bool) (ns : List Node) (d : Demand) → In d (demands_of test ns) →
     (n : Node) × In n ns × ((if test n then n.constraints else None) ≡ Some d)
 asked_of test [] d on = absurd on
-asked_of test (n ∷ ns) d on = by (λ there. asked_of test ns d there) (if test n then n.constraints else None) refl on
+asked_of test (n ∷ ns) d on = by (λ there. asked_of _ ns d there) (if test n then n.constraints else None) refl on
   where
     by : (In d (demands_of test ns) → (m : Node) × In m ns × ((if test m then m.constraints else None) ≡ Some d)) →
         (o : Option Demand) → (if test n then n.constraints else None) ≡ o → In d (cons_option o (demands_of test ns)) →
         (m : Node) × In m (n ∷ ns) × ((if test m then m.constraints else None) ≡ Some d)
-    by rest None is there = let r = rest there in (r.0, inr r.1, r.2)
-    by rest (Some e) is (inl same) = (n, inl refl, is ∙ ap Some (sym same))
-    by rest (Some e) is (inr there) = let r = rest there in (r.0, inr r.1, r.2)
+    by h o k m = grind arith
 
 -- by induction: the demand is in the list of the node that asks it
-pub asked_back : (test : Node → Bool) (ns : List Node) (n : Node) (d : Demand) → In n ns →
+pub asked_back : (test : Node → Bool) (ns : List Node) (n : Node) {d : Demand} → In n ns →
     (if test n then n.constraints else None) ≡ Some d → In d (demands_of test ns)
-asked_back test [] n d on is = absurd on
-asked_back test (m ∷ ns) n d (inl same) is =
-    subst (λ (o : Option Demand). In d (cons_option o (demands_of test ns)))
-    (sym ((λ i. if test (sym same i) then (sym same i).constraints else None) ∙ is)) (inl refl)
-asked_back test (m ∷ ns) n d (inr on) is = by (if test m then m.constraints else None) (asked_back test ns n d on is)
+asked_back test [] n on is = absurd on
+asked_back test (m ∷ ns) n (inl same) is =
+    rw ((λ i. if test (sym same i) then (sym same i).constraints else None) ∙ is) (inl refl)
+asked_back test (m ∷ ns) n {d} (inr on) is = by (if test m then m.constraints else None) (asked_back _ ns n on is)
   where
     by : (o : Option Demand) → In d (demands_of test ns) → In d (cons_option o (demands_of test ns))
     by None there = there
     by (Some e) there = inr there
 
 -- a node that asks passes
-pub asks_passes : (b : Bool) (o : Option Demand) (d : Demand) → (if b then o else None) ≡ Some d → b ≡ true
-asks_passes true o d h = refl
-asks_passes false o d h = cc
+pub asks_passes : (b : Bool) (o : Option Demand) {d : Demand} → (if b then o else None) ≡ Some d → b ≡ true
+asks_passes true o h = refl
+asks_passes false o h = cc
 
 -- where each that is asked for by the first is by the others, no greater number is asked for
 pub greatest_fewer : (f : Demand → ℕ) (b : ℕ) (xs ys : List Demand) → ((d : Demand) → In d xs → In d ys) →
     nat_lt b (greatest f ys) ≡ false → nat_lt b (greatest f xs) ≡ false
-greatest_fewer f b xs ys fewer h = false_if (nat_lt b (greatest f xs)) (λ e.
-    let x = In-list_any (λ d. nat_lt b (f d)) xs (above_greatest f b xs ∙ e) in
-    both_ways (list_any (λ d. nat_lt b (f d)) ys) (In-any (λ d. nat_lt b (f d)) ys x.0 (fewer x.0 x.1) x.2) (above_greatest f b ys ∙ h))
+greatest_fewer f b xs ys fewer h = false_if _ (λ e.
+    let x = In-list_any _ xs (above_greatest f b xs ∙ e) in
+    both_ways _ (In-any _ ys x.0 (fewer x.0 x.1) x.2) (above_greatest f b ys ∙ h))
 
 -- ---- what is reserved
 
@@ -84,9 +76,7 @@ pub reserved_same : (f : Node → Node) (nodes : List Node) → ((n : Node) → 
     ((n : Node) → In n nodes → n.allocated ≡ true → (f n).constraints ≡ n.constraints) →
     demands_of has_buffers (map f nodes) ≡ demands_of has_buffers nodes
 reserved_same f nodes gone given asks =
-    sym (mapped f (λ (n : Node). if has_buffers n then n.constraints else None) nodes)
-    ∙ alike (λ (n : Node). if has_buffers (f n) then (f n).constraints else None) (λ (n : Node). if has_buffers n then n.constraints else None)
-    nodes (λ n on.
+    sym (mapped f (λ (n : Node). if has_buffers n then n.constraints else None) nodes) ∙ alike _ _ _ (λ n on.
     (λ i. if not (gone n on i) && given n on i then (f n).constraints else None)
     ∙ by n (either_way n.allocated) (asks n on))
   where
@@ -96,7 +86,4 @@ reserved_same f nodes gone given asks =
 
     by : (n : Node) → (n.allocated ≡ true) ⊎ (n.allocated ≡ false) → (n.allocated ≡ true → (f n).constraints ≡ n.constraints) →
         (if not n.gone && n.allocated then (f n).constraints else None) ≡ (if not n.gone && n.allocated then n.constraints else None)
-    by n (inl e) same = λ i. if not n.gone && n.allocated then same e i else None
-    by n (inr e) same =
-        (λ i. if not n.gone && e i then (f n).constraints else None)
-        ∙ (none (not n.gone) (f n).constraints n.constraints ∙ (λ i. if not n.gone && sym e i then n.constraints else None))
+    by n h k = grind arith

@@ -1,67 +1,27 @@
 -- A collection of which a handle was dropped: nothing is forced in it, and only one buffer goes home.
-use Rattle.forest_steps.proofs.Common.{◌≡◌, ℕ, ◌<◌, ◌==◌, zero, suc, Bool, true, false, ◌||◌, ◌&&◌, not, nat_lt, List, [], ◌∷◌, ◌++◌, map, length, get_or, set, Option, Some, None, option_map, refl, sym, ap, subst, ◌∙◌, ◌⊎◌, inl, inr, arith, find, filter, list_all, AllByRecursion, option_map_or, Interval, NodeKey, HeldBuffer, and_both, and_left, and_right, either_way, Table, node_at, Entry, Node, Unit, has_strong, Collection, IsStored, IsWhole, Shelf, collection_in, forest_of, nodes_with, place_in, put_shelf, shelf_of, shelves_of, members_of, is_root_left, Handles, collection_or_new, put}
-use Rattle.std.proofs.lemmas.List.{get_or_default}
-use Rattle.std.specs.Option.{unwrap_or}
-use Rattle.sm_names.specs.declared.keys.BufferName.{BufferName}
-use Rattle.sm_names.specs.declared.keys.Strength.{Strength}
-use Rattle.sm_names.specs.Handles.{is_home}
+use Rattle.forest_steps.proofs.Common.{◌≡◌, ℕ, ◌<◌, ◌==◌, zero, suc, Bool, true, false, ◌&&◌, not, nat_lt, List, [], ◌∷◌, ◌++◌, map, length, get_or, set, Option, Some, None, option_map, refl, sym, ap, subst, ◌∙◌, ◌⊎◌, inl, inr, arith, find, filter, AllByRecursion, option_map_or, Interval, HeldBuffer, either_way, Table, node_at, Entry, Node, Unit, has_strong, Collection, IsStored, IsWhole, Shelf, collection_in, forest_of, nodes_with, place_in, put_shelf, shelf_of, shelves_of, members_of, is_root_left, Handles, collection_or_new, put, get_or_default, unwrap_or, BufferName, Strength, is_home, sorted_by, AreCounted, IsCounted, HaveUnits, decided, mark_of, are_rest_out, has_given_root, all_held, beside, collection_at, pages_in, Finishes, Stores, stored, starts_differ, by_page, given_few, is_held_strongly, is_out, pages_held, given_back, none_calm, forced_made, root_first, still_decided, strong_lives, found_filed, found_put, found_whole, start_of, shelves_put, IsPlace, place_is, set_put, put-map, collection_is, shelf_found}
+use Rattle.std.proofs.Math.Bool.{and-false}
 use Rattle.sm_names.specs.Members.{some_strong_live}
-use Rattle.sm_names.specs.Sameness.{same_buffer}
-use Rattle.sm_names.specs.Words.{sorted_by}
 use Rattle.sm_names.proofs.HandleLaws.{same_buffer-true}
 use Rattle.sm_names.proofs.ListLaws.{filter-list_all}
-use Rattle.forest_store.specs.Calm.{AreCounted, IsCounted}
-use Rattle.forest_store.specs.Counts.{HasUnits, HaveUnits}
-use Rattle.forest_store.specs.Decisions.{decided, mark_of}
-use Rattle.forest_store.specs.Dropped.{are_others_out, are_rest_out, has_given_root}
-use Rattle.forest_store.specs.Forest.{all_held, beside, collection_at, pages_in}
-use Rattle.forest_store.specs.Shelves.{Finishes, Stores, stored}
-use Rattle.forest_store.specs.Starts.{starts_differ}
-use Rattle.forest_store.specs.Scenes.{by_page, given_few, is_held_strongly, is_out, pages_held}
-use Rattle.forest_store.specs.Settling.{Rests, given_back}
-use Rattle.forest_store.proofs.quiescence.Calming.{none_calm}
-use Rattle.forest_store.proofs.quiescence.Forcing.{forced_made}
-use Rattle.forest_store.proofs.quiescence.Resting.{root_first, still_decided}
-use Rattle.forest_store.proofs.quiescence.Watched.{found_counted, strong_lives, strong_told}
-use Rattle.forest_store.proofs.changes.Altering.{found_filed, found_put, found_whole}
+use Rattle.forest_store.specs.Dropped.{are_others_out}
+use Rattle.forest_store.specs.Settling.{Rests}
+use Rattle.forest_store.proofs.quiescence.Watched.{found_counted, strong_told}
 use Rattle.forest_store.proofs.changes.Finishing.{kept-put, whole-map, whole-put, whole-unmap}
 use Rattle.forest_steps.proofs.intervals.Pools.{pool_back, pool_beside}
-use Rattle.forest_store.proofs.lists.SameIntervals.{start_of}
-use Rattle.forest_store.proofs.shelves.Counted.{shelves_put}
-use Rattle.forest_store.proofs.shelves.Entries.{IsPlace, place_is, set_put}
-use Rattle.forest_store.proofs.shelves.Putting.{put-map}
-use Rattle.forest_store.proofs.shelves.Showing.{collection_is, shelf_found}
 use Rattle.forest_steps.proofs.tallies.Strong.{strong_members}
 
 -- ---- the buffers
 
 -- no buffer is home while a strong node lives
 pub strong_keeps : (strong weak : ℕ) (live : Bool) → live ≡ true → is_home strong weak live ≡ false
-strong_keeps strong weak live is = rw is (from (strong == 0) (weak == 0))
-  where
-    from : (a b : Bool) → ((a && false) && b) ≡ false
-    from true b = refl
-    from false b = refl
+strong_keeps strong weak live is = grind arith
 
 -- where the one buffer is not home, none goes
 pub none_goes : (handles : Handles) (buffer : BufferName) (live : Bool) (held : List HeldBuffer) →
     is_home (handles buffer Strength.Strong) (handles buffer Strength.Weak) live ≡ false → are_rest_out handles buffer live held ≡ true →
     filter (is_out handles live) held ≡ held
-none_goes handles buffer live held stays rest = filter-list_all (is_out handles live) held (each held rest)
-  where
-    each : (hs : List HeldBuffer) → are_rest_out handles buffer live hs ≡ true → list_all (is_out handles live) hs ≡ true
-    each [] all = refl
-    each (h ∷ hs) all =
-        and_both (is_out handles live h) (list_all (is_out handles live) hs)
-        (one (same_buffer h.buffer buffer) refl (and_left (same_buffer h.buffer buffer || is_out handles live h) _ all))
-        (each hs (and_right (same_buffer h.buffer buffer || is_out handles live h) _ all))
-      where
-        one : (same : Bool) → same_buffer h.buffer buffer ≡ same → (same || is_out handles live h) ≡ true → is_out handles live h ≡ true
-        one true is out =
-            ap (λ (b : BufferName). not (is_home (handles b Strength.Strong) (handles b Strength.Weak) live))
-            (same_buffer-true h.buffer buffer is)
-            ∙ ap not stays
-        one false is out = out
+none_goes handles buffer live held stays rest = grind (arith, filter-list_all, live, same_buffer-true)
 
 -- ---- the entry at its place
 
@@ -76,8 +36,7 @@ pub record IsReturned (handles : Handles) (old new : Entry) : Type 0 where
 pub units_set : (us : List Unit) (t : Table Node) (es : List Entry) (at : ℕ) (new : Entry) →
     (at < length es → new.keys ≡ (get_or es at new).keys) → HaveUnits us t es → HaveUnits us t (set es at new)
 units_set us t [] at new same all = tt
-units_set us t (e ∷ es) zero new same all =
-    (subst (λ (ks : List NodeKey). HasUnits us (nodes_with t ks)) (ap (λ ks. ks.items) (sym (same (omega arith)))) all.0, all.1)
+units_set us t (e ∷ es) zero new same all = (rw (ap (λ ks. ks.items) (sym (same (omega arith)))) at all.0, all.1)
 units_set us t (e ∷ es) (suc n) new same all = (all.0, units_set us t es n new (λ within. same (omega arith)) all.1)
 
 -- a table in which nothing was written
@@ -93,11 +52,10 @@ nothing_stored t = record {
     same (Some n) = refl
 
 -- what is read twice at a place
-pub one_entry : (es : List Entry) (id at : ℕ) (x y : Entry) → place_in id es ≡ Some at → x ≡ get_or es at x → y ≡ get_or es at y → x ≡ y
-one_entry es id at x y told is also =
-    is ∙ get_or_default es at x y (place_is id es at told).within ∙ sym also
+pub one_entry : (es : List Entry) (id : ℕ) {at : ℕ} (x y : Entry) → place_in id es ≡ Some at → x ≡ get_or es at x → y ≡ get_or es at y → x ≡ y
+one_entry es id {at} x y told is also = is ∙ get_or_default es at x y (place_is id es at told).within ∙ sym also
 
-module _ (handles : Handles) (t : Table Node) (es : List Entry) (id at : ℕ) (old : Entry) (told : place_in id es ≡ Some at)
+module _ (handles : Handles) {t : Table Node} (es : List Entry) (id : ℕ) {at : ℕ} (old : Entry) (told : place_in id es ≡ Some at)
     (is : old ≡ get_or es at old) (kept : IsStored t (shelves_of es)) (all : AreCounted t es) where
   abbrev ss : List Shelf
   ss = shelves_of es
@@ -127,7 +85,7 @@ module _ (handles : Handles) (t : Table Node) (es : List Entry) (id at : ℕ) (o
 
   -- each collection is whole
   whole : IsWhole (collection_in t (shelf_of old))
-  whole = found_whole t id ss (shelf_of old) kept.whole shelf_is
+  whole = found_whole t id ss _ kept.whole shelf_is
 
   -- it was given few buffers
   pub few_at : given_few old.buffers ≡ true
@@ -139,28 +97,22 @@ module _ (handles : Handles) (t : Table Node) (es : List Entry) (id at : ℕ) (o
 
   -- it is there, so no new one is made
   before_is : collection_or_new (forest_of t (shelves_of es)) id ≡ collection_in t (shelf_of old)
-  before_is = ap (λ (o : Option Collection). unwrap_or o (record { id = id; nodes = []; buffers = None; held = [] })) there
+  before_is = ap (λ o. unwrap_or o (record { id = id; nodes = []; buffers = None; held = [] })) there
 
   -- a strong node lives exactly if the count is not 0
   live : some_strong_live (members_of (nodes_with t old.keys.items)) ≡ nat_lt 0 old.strong
-  live = strong_members (nodes_with t old.keys.items) ∙ sym (strong_told (nodes_with t old.keys.items) old.strong counted.strong)
+  live = strong_members (nodes_with t old.keys.items) ∙ sym (strong_told (nodes_with t old.keys.items) _ counted.strong)
 
   -- its other buffers are out
   pub rest_at : (buffer : BufferName) → option_map_or (are_others_out handles buffer) (collection_at (forest_of t (shelves_of es)) id)
       false ≡ true → are_rest_out handles buffer (nat_lt 0 old.strong) old.held.items ≡ true
-  rest_at buffer out =
-      let here : are_others_out handles buffer c ≡ true =
-      ap (λ (o : Option Collection). option_map_or (are_others_out handles buffer) o false) (sym there) ∙ out in
-      let test : Bool → HeldBuffer → Bool = λ b h. same_buffer h.buffer buffer
-      || not (is_home (handles h.buffer Strength.Strong) (handles h.buffer Strength.Weak) b) in
-      ap (λ (b : Bool). list_all (test b) old.held.items) (sym live) ∙ here
+  rest_at buffer out = grind (arith, live, there)
 
   -- no step is decided in it
   pub decides_none : (nat_lt 0 old.strong ≡ true)
       ⊎ ((has_given_root t old.keys.items && not (is_held_strongly handles old.id old.buffers)) ≡ false) →
       decided (nodes_with t old.keys.items) old.buffers (is_held_strongly handles old.id old.buffers) ≡ None
-  decides_none why =
-      still_decided c.nodes c.buffers (is_held_strongly handles old.id old.buffers) (none_calm c counted.calm) (from why)
+  decides_none why = still_decided _ _ _ (none_calm c counted.calm) (from why)
     where
       from : (nat_lt 0 old.strong ≡ true)
           ⊎ ((has_given_root t old.keys.items && not (is_held_strongly handles old.id old.buffers)) ≡ false) → (has_strong c.nodes ≡ true)
@@ -170,63 +122,52 @@ module _ (handles : Handles) (t : Table Node) (es : List Entry) (id at : ℕ) (o
       from (inr none) = inr (elim (either_way (has_given_root t old.keys.items)) [
         | inl e ↦
             let opened : not (is_held_strongly handles old.id old.buffers) ≡ false = rw e at none in
-            rw opened (and_none (option_map_or (λ (root : Node). root.allocated) (find is_root_left c.nodes) false))
+            rw opened (and-false _)
         | inr e ↦
             let no : option_map_or (λ (root : Node). root.allocated) (find is_root_left c.nodes) false ≡ false =
-            root_first t old.id old.keys.items (found_filed t id ss (shelf_of old) kept.filed shelf_is) whole.sound.one_root e in
+            root_first t _ _ (found_filed t id ss _ kept.filed shelf_is) whole.sound.one_root e in
             rw no refl
       ])
-        where
-          and_none : (b : Bool) → (b && false) ≡ false
-          and_none true = refl
-          and_none false = refl
 
   -- the same with the entry's own id
   own_found : find (λ (x : Shelf). x.id == old.id) (shelves_of es) ≡ Some (shelf_of old)
-  own_found = subst (λ (i : ℕ). find (λ (x : Shelf). x.id == i) (shelves_of es) ≡ Some (shelf_of old)) (sym own_id) shelf_is
+  own_found = subst (λ i. find (λ (x : Shelf). x.id == i) (shelves_of es) ≡ Some (shelf_of old)) (sym own_id) shelf_is
 
   -- a shelf that is put in its own place changes nothing
   put_same : put_shelf (shelf_of old) (shelves_of es) ≡ shelves_of es
-  put_same = found_put (shelf_of old) ss kept.rising own_found
+  put_same = found_put _ ss kept.rising own_found
 
   -- the pages beside it
   pub pool_at : (held : List Interval) → starts_differ held ≡ true →
       held ≡ sorted_by start_of (map (λ (h : HeldBuffer). h.pages) (all_held (forest_of t (shelves_of es)))) →
       held ≡ by_page (pages_held old.held.items ++ beside (forest_of t (shelves_of es)) old.id)
   pool_at held parted of =
-      pool_beside held t (shelf_of old) ss kept.rising parted (of
-      ∙ ap (λ (xs : List Shelf). sorted_by start_of (map (λ (h : HeldBuffer). h.pages) (all_held (forest_of t xs)))) (sym put_same))
+      pool_beside _ t _ ss kept.rising parted (of
+      ∙ ap (λ xs. sorted_by start_of (map (λ (h : HeldBuffer). h.pages) (all_held (forest_of t xs)))) (sym put_same))
 
-  module _ (new : Entry) (r : IsReturned handles old new) where
+  module _ {new : Entry} (r : IsReturned handles old new) where
     -- id, nodes and buffers stay, and the buffers that are out are those that stay held
     shown : collection_in t (shelf_of new) ≡ given_back handles (collection_in t (shelf_of old))
-    shown = λ i. record {
-      id = r.id i;
-      nodes = nodes_with t (r.keys i).items;
-      buffers = r.buffers i;
-      held = (r.held ∙ ap (λ (b : Bool). filter (is_out handles b) old.held.items) (sym live)) i;
-    }
+    shown = grind (arith, live)
 
     -- the entry is set at the place of its id
     set_is : shelves_of (set es at new) ≡ put_shelf (shelf_of new) (shelves_of es)
-    set_is =
-        ap shelves_of (set_put new es at kept.rising (subst (λ (i : ℕ). place_in i es ≡ Some at) (sym (r.id ∙ own_id)) told))
-        ∙ shelves_put new es
+    set_is = ap shelves_of (set_put new es at kept.rising (rw (r.id ∙ own_id) told)) ∙ shelves_put new es
 
     -- putting the shelf puts its collection
     collections_are : map (collection_in t) (put_shelf (shelf_of new) (shelves_of es)) ≡ put (given_back handles (collection_in t
         (shelf_of old))) (map (collection_in t) (shelves_of es))
-    collections_are = put-map t (shelf_of new) ss ∙ ap (λ (x : Collection). put x (map (collection_in t) ss)) shown
+    collections_are = put-map t _ ss ∙ ap (λ x. put x (map (collection_in t) ss)) shown
 
     -- nothing is decided, so the collection with its buffers given back is the last state
     pub finishes_so : decided (nodes_with t old.keys.items) old.buffers (is_held_strongly handles old.id old.buffers) ≡ None →
         (pool : ℕ) → Finishes pool handles t (shelves_of es) t (shelves_of (set es at new))
         (collection_or_new (forest_of t (shelves_of es)) id)
     finishes_so none pool =
-        subst (λ (x : Collection). Finishes pool handles t ss t (shelves_of (set es at new)) x) (sym before_is)
+        rw before_is
         (record {
           after = c;
-          settles = Rests c (forced_made handles pool (beside (forest_of t ss) old.id) c
+          settles = Rests c (forced_made handles _ (beside (forest_of t ss) old.id) c
               ∙ ap (option_map (mark_of pool (pages_in c ++ beside (forest_of t ss) old.id))) none);
           collections = ap (map (collection_in t)) set_is ∙ collections_are;
           rests = let others : List Interval = beside (forest_of t (shelves_of (set es at new))) old.id in
@@ -249,13 +190,10 @@ module _ (handles : Handles) (t : Table Node) (es : List Entry) (id at : ℕ) (o
           together = whole.together;
         } in
         let before : AllByRecursion IsWhole (put c (map (collection_in t) ss)) =
-        subst (AllByRecursion IsWhole) (put-map t (shelf_of old) ss)
-        (whole-map t (put_shelf (shelf_of old) ss) (rw put_same kept.whole)) in
+        subst (AllByRecursion IsWhole) (put-map t _ ss) (whole-map t _ (rw put_same kept.whole)) in
         rw set_is (kept-put t t old.id [] (nothing_stored t) kept.named refl refl (shelf_of new) (shelf_of old) ss (sym r.id)
         (ap (λ ks. ks.items) (sym r.keys)) kept.rising (rw put_same kept) tt tt
-        (whole-unmap t (put_shelf (shelf_of new) ss)
-        (subst (AllByRecursion IsWhole) (sym collections_are) (whole-put (given_back handles c) c
-        (map (collection_in t) ss) refl back before))))
+        (whole-unmap t _ (subst (AllByRecursion IsWhole) (sym collections_are) (whole-put _ c _ refl back before))))
 
     -- the keys stay, so the units' counts are of the same nodes
     pub units_so : (us : List Unit) → HaveUnits us t es → HaveUnits us t (set es at new)
@@ -267,6 +205,6 @@ module _ (handles : Handles) (t : Table Node) (es : List Entry) (id at : ℕ) (o
         held ≡ by_page (pages_held new.held.items ++ beside (forest_of t (shelves_of es)) old.id) →
         held ≡ sorted_by start_of (map (λ (h : HeldBuffer). h.pages) (all_held (forest_of t (shelves_of (set es at new)))))
     pool_so held parted of =
-        pool_back held t t (given_back handles c) (shelf_of new) ss kept.rising collections_are parted
-        (of ∙ ap (λ (x : Collection). sorted_by start_of (pages_in x ++ beside (forest_of t ss) old.id)) shown)
-        ∙ ap (λ (xs : List Shelf). sorted_by start_of (map (λ (h : HeldBuffer). h.pages) (all_held (forest_of t xs)))) (sym set_is)
+        pool_back _ t t _ _ ss kept.rising collections_are parted
+        (of ∙ ap (λ x. sorted_by start_of (pages_in x ++ beside (forest_of t ss) old.id)) shown)
+        ∙ ap (λ xs. sorted_by start_of (map (λ (h : HeldBuffer). h.pages) (all_held (forest_of t xs)))) (sym set_is)

@@ -1,13 +1,6 @@
 -- What takes the root takes all that is left of a collection, and nothing is forced in one that is gone.
-use Rattle.forest_steps.proofs.Common.{◌≡◌, refl, ap, sym, ◌∙◌, subst, Bool, true, false, ◌||◌, inl, inr, List, [], ◌∷◌, drop, Option, Some, None, is_none, is_some, find, list_all, list_any, option_map_or, NodeKey, Buffers, In, and_left, and_right, both_ways, Node, strong_count, is_left_of, is_deserted_node, is_next_node, is_root_left, are_rooted}
-use Rattle.std.proofs.Math.Bool.{and-false}
-use Rattle.forest_store.specs.Decisions.{decided}
-use Rattle.forest_store.specs.Ties.{hangs_on}
-use Rattle.forest_store.proofs.quiescence.Calming.{later}
-use Rattle.forest_store.proofs.quiescence.Steps.{all-In}
-use Rattle.forest_store.proofs.quiescence.Resting.{still_decided}
+use Rattle.forest_steps.proofs.Common.{◌≡◌, refl, ap, sym, ◌∙◌, Bool, true, false, inl, inr, List, [], ◌∷◌, drop, Option, Some, None, is_some, find, list_all, list_any, option_map_or, NodeKey, Buffers, In, and_left, and_right, both_ways, Node, strong_count, is_left_of, are_rooted, decided, hangs_on, all-In, still_decided, left_node, arith}
 use Rattle.forest_store.proofs.failures.GoneNodes.{strong_gone}
-use Rattle.forest_store.proofs.tables.Rooted.{left_node}
 
 -- ---- nodes that are all gone
 
@@ -19,14 +12,14 @@ AreGone ns = (n : Node) → In n ns → n.gone ≡ true
 pub none_found : (test : Node → Bool) → ((n : Node) → n.gone ≡ true → test n ≡ false) → (ns : List Node) → AreGone ns → find test ns ≡ None
 none_found test fails [] gone = refl
 none_found test fails (n ∷ ns) gone =
-    rw (fails n (gone n (inl refl))) (none_found test fails ns (λ m on. gone m (inr on)))
+    rw (fails n (gone n (inl refl))) (none_found _ fails ns (λ m on. gone m (inr on)))
 
 -- by induction: each node is gone, and fails
 pub none_passes : (test : Node → Bool) → ((n : Node) → n.gone ≡ true → test n ≡ false) → (ns : List Node) → AreGone ns →
     list_any test ns ≡ false
 none_passes test fails [] gone = refl
 none_passes test fails (n ∷ ns) gone =
-    rw (fails n (gone n (inl refl))) (none_passes test fails ns (λ m on. gone m (inr on)))
+    rw (fails n (gone n (inl refl))) (none_passes _ fails ns (λ m on. gone m (inr on)))
 
 -- by induction: a gone node is not strong
 pub none_strong : (ns : List Node) → AreGone ns → strong_count ns ≡ 0
@@ -35,24 +28,7 @@ none_strong (n ∷ ns) gone = rw (strong_gone n (gone n (inl refl))) (none_stron
 
 -- no step is decided
 pub none_decides : (ns : List Node) (buffers : Option Buffers) (strong_open : Bool) → AreGone ns → decided ns buffers strong_open ≡ None
-none_decides ns buffers strong_open gone =
-    still_decided ns buffers strong_open
-    (record {
-      no_end = none_found (is_deserted_node ns) (λ n e. rw e (and-false (is_none n.parent || n.attached))) ns gone;
-      no_root = rw no_root refl;
-      no_head = no_later buffers;
-    })
-    (inr (rw no_root refl))
-  where
-    no_root : find is_root_left ns ≡ None
-    no_root = none_found is_root_left (λ n e. rw e (and-false (is_none n.parent))) ns gone
-
-    no_next : find (is_next_node ns) ns ≡ None
-    no_next = none_found (is_next_node ns) (λ n e. rw e (and-false n.attached)) ns gone
-
-    no_later : (o : Option Buffers) → later ns o ≡ None
-    no_later None = refl
-    no_later (Some b) = rw no_next refl
+none_decides ns buffers strong_open gone = grind (arith, none_found, still_decided)
 
 -- ---- what a failure of the root takes
 
@@ -61,10 +37,8 @@ pub one_root : (ns : List Node) → list_all (λ (n : Node). is_some n.parent) (
     a.parent ≡ None → b.parent ≡ None → a ≡ b
 one_root [] all a b on too first second = absurd on
 one_root (n ∷ ns) all a b (inl is) (inl too) first second = is ∙ sym too
-one_root (n ∷ ns) all a b (inl is) (inr too) first second =
-    both_ways (is_some b.parent) (all-In (λ (m : Node). is_some m.parent) ns b too all) (ap is_some second)
-one_root (n ∷ ns) all a b (inr on) too first second =
-    both_ways (is_some a.parent) (all-In (λ (m : Node). is_some m.parent) ns a on all) (ap is_some first)
+one_root (n ∷ ns) all a b (inl is) (inr too) first second = both_ways _ (all-In _ ns b too all) (ap is_some second)
+one_root (n ∷ ns) all a b (inr on) too first second = both_ways _ (all-In _ ns a on all) (ap is_some first)
 
 -- what holds of the roots, and of each node that hangs on one of which it holds, holds of all that are left
 pub all_hang : (P : Node → Type 0) (nodes : List Node) → ((n : Node) → In n nodes → n.gone ≡ false → n.parent ≡ None → P n) →
@@ -72,7 +46,7 @@ pub all_hang : (P : Node → Type 0) (nodes : List Node) → ((n : Node) → In 
     (ns : List Node) → ((n : Node) → In n ns → In n nodes) → are_rooted ns ≡ true → (n : Node) → In n ns → n.gone ≡ false → P n
 all_hang P nodes root below [] assert_disjoint rooted n on here = absurd on
 all_hang P nodes root below (m ∷ older) assert_disjoint rooted n on here =
-    by (all_hang P nodes root below older (λ x there. assert_disjoint x (inr there)) (and_right (hangs_on older m) (are_rooted older) rooted)) on
+    by (all_hang P nodes root below older (λ x there. assert_disjoint x (inr there)) (and_right _ _ rooted)) on
   where
     from : ((x : Node) → In x older → x.gone ≡ false → P x) → (o : Option NodeKey) → n.parent ≡ o →
         option_map_or (is_left_of older) o true ≡ true → P n
@@ -83,7 +57,6 @@ all_hang P nodes root below (m ∷ older) assert_disjoint rooted n on here =
 
     by : ((x : Node) → In x older → x.gone ≡ false → P x) → In n (m ∷ older) → P n
     by rest (inl is) =
-        let first : hangs_on older n ≡ true =
-        subst (λ (x : Node). hangs_on older x ≡ true) (sym is) (and_left (hangs_on older m) (are_rooted older) rooted) in
+        let first : hangs_on older n ≡ true = rw is (and_left _ _ rooted) in
         from rest n.parent refl (rw here at first)
     by rest (inr there) = rest n there here

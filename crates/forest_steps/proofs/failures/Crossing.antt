@@ -1,17 +1,10 @@
 -- A calm collection stays calm where nodes fall, as far as the counts of the unit above them tell.
-use Rattle.forest_steps.proofs.Common.{◌≡◌, ℕ, zero, suc, ◌<◌, refl, ap, sym, ◌∙◌, subst, Bool, true, false, not, ◌&&◌, ◌||◌, is_none, ◌⊎◌, inl, inr, List, [], ◌∷◌, map, length, Option, Some, None, arith, not-true, list_any, list_all, find, option_map_or, NodeKey, same_key, times, In, In-list_any, In-map, In-map-back, and_both, and_left, and_right, both_ways, either_way, false_if, same_key-true, some-injective, In-any, all_on, Node, waits_in, is_left_of, waiting, Collection, IsWhole, is_of, is_next_node, is_ready_node, is_root_left, are_distinct, heads_itself, is_head}
+use Rattle.forest_steps.proofs.Common.{◌≡◌, ℕ, zero, suc, ◌<◌, refl, ap, sym, ◌∙◌, subst, Bool, true, false, not, ◌&&◌, ◌||◌, ◌⊎◌, inl, inr, List, [], ◌∷◌, map, length, Option, Some, None, arith, not-true, list_any, list_all, find, option_map_or, NodeKey, same_key, times, In, In-list_any, In-map, In-map-back, and_both, and_left, and_right, both_ways, either_way, false_if, same_key-true, some-injective, In-any, all_on, Node, waits_in, is_left_of, waiting, Collection, IsWhole, is_of, is_next_node, is_ready_node, is_root_left, are_distinct, heads_itself, is_head, or-true, list_any-map, or_none_right, or_none_left, is_allocated_node, count_none, left_parent, all-In, IsSameNode}
+use Rattle.forest_steps.proofs.tables.Upward.{line, own_head, shared, step, still_here}
 use Rattle.std.proofs.lemmas.Bool.{not-false}
 use Rattle.std.specs.Option.{option_map}
-use Rattle.std.proofs.Math.Bool.{or-true}
-use Rattle.sm_names.proofs.ListLaws.{list_any-map}
-use Rattle.sm_names.proofs.SamenessLaws.{or_none_right, or_none_left}
-use Rattle.forest_store.specs.Questions.{is_allocated_node}
-use Rattle.forest_store.proofs.quiescence.Calming.{count_none}
-use Rattle.forest_store.proofs.tallies.Holding.{hangs_in, line, own_head, shared, step, still_here}
+use Rattle.forest_store.proofs.tallies.Holding.{hangs_in}
 use Rattle.forest_store.proofs.quiescence.Keeping.{some_pass}
-use Rattle.forest_store.proofs.tables.Rooted.{left_parent}
-use Rattle.forest_store.proofs.quiescence.Steps.{all-In}
-use Rattle.forest_store.proofs.tables.Writing.{IsSameNode}
 
 -- what is found, where tests agree
 pub find-In : {A : Type 0} (p q : A → Bool) (f : A → A) (xs : List A) → ((x : A) → In x xs → p (f x) ≡ q x) →
@@ -23,50 +16,55 @@ find-In {A = A} p q f (x ∷ xs) same = elim (either_way (q x)) [
 ]
 
 -- nodes fall, of which all but the highest have their parents among them
-module _ (c : Collection) (whole : IsWhole c) (falls : NodeKey → Bool) (top above : Node)
-    (up : (x : Node) → In x c.nodes → x.gone ≡ false → falls x.key ≡ true → (x ≡ top) ⊎ ((p : NodeKey) × (x.parent ≡ Some p) ×
-    (falls p ≡ true)))
-    (top_up : In top c.nodes → top.gone ≡ false → top.parent ≡ Some above.key)
-    (above_one : (q : Node) → In q c.nodes → q.key ≡ above.key → q ≡ above) where
+pub record AreFalling (c : Collection) (falls : NodeKey → Bool) (top above : Node) : Type 0 where
+  pub whole : IsWhole c
+  pub up : (x : Node) → In x c.nodes → x.gone ≡ false → falls x.key ≡ true →
+      (x ≡ top) ⊎ ((p : NodeKey) × (x.parent ≡ Some p) × (falls p ≡ true))
+  pub top_up : In top c.nodes → top.gone ≡ false → top.parent ≡ Some above.key
+  pub above_one : (q : Node) → In q c.nodes → q.key ≡ above.key → q ≡ above
+
+-- what falls is marked, and nothing else
+pub record IsMarked (falls : NodeKey → Bool) (f : Node → Node) : Type 0 where
+  pub same : (n : Node) → IsSameNode (f n) n
+  pub alloc : (n : Node) → (f n).allocated ≡ n.allocated
+  pub goes : (n : Node) → (f n).gone ≡ (falls n.key || n.gone)
+  pub alone : (n : Node) → falls n.key ≡ false → f n ≡ n
+
+module _ {c : Collection} {falls : NodeKey → Bool} {top above : Node} (way : AreFalling c falls top above) where
   abbrev nodes : List Node
   nodes = c.nodes
 
   abbrev distinct : are_distinct nodes ≡ true
-  distinct = whole.sound.distinct
+  distinct = way.whole.sound.distinct
 
   abbrev heads : list_all heads_itself nodes ≡ true
-  heads = whole.sound.heads
+  heads = way.whole.sound.heads
 
   -- the parent of the highest
   up_of : (x : Node) → In x nodes → x.gone ≡ false → x ≡ top → x.parent ≡ Some above.key
   up_of x on here is =
-      ap (λ (n : Node). n.parent) is
-      ∙ top_up (subst (λ (n : Node). In n nodes) is on) (ap (λ (n : Node). n.gone) (sym is) ∙ here)
+      ap (λ (n : Node). n.parent) is ∙ way.top_up (rw is at on) (ap (λ (n : Node). n.gone) (sym is) ∙ here)
 
   -- one that falls while the head of its unit stays is of the unit above, and so is the highest
   crossing : (fuel : ℕ) (x : Node) → In x nodes → x.gone ≡ false → falls x.key ≡ true → falls x.head ≡ false →
-      length (line nodes distinct heads whole.rooted whole.united x.key) < fuel → (x.head ≡ above.head) × (top.attached ≡ false)
+      length (line way.whole x.key) < fuel → (x.head ≡ above.head) × (top.attached ≡ false)
   crossing zero x on here f out few = absurd (omega arith)
   crossing (suc fuel) x on here f out few = elim (either_way (is_head x)) [
-    | inl e ↦ both_ways (falls x.key) f (ap falls (sym (own_head nodes distinct heads whole.rooted whole.united x on e)) ∙ out)
-    | inr e ↦ elim (up x on here f) [
+    | inl e ↦ both_ways _ f (ap falls (sym (own_head way.whole x on e)) ∙ out)
+    | inr e ↦ elim (way.up x on here f) [
       | inl is ↦
-          let q = shared nodes distinct heads whole.rooted whole.united x on here e above.key (up_of x on here is) in (
-            sym q.3 ∙ ap (λ (n : Node). n.head) (above_one q.0 q.1 q.2),
-            ap (λ (n : Node). n.attached) (sym is)
-                ∙ or_none_right (is_none x.parent) x.attached e,
+          let q = shared way.whole x on here e (up_of x on here is) in (
+            sym q.3 ∙ ap (λ (n : Node). n.head) (way.above_one q.0 q.1 q.2),
+            ap (λ (n : Node). n.attached) (sym is) ∙ or_none_right _ _ e,
           )
       | inr more ↦
-          let q = shared nodes distinct heads whole.rooted whole.united x on here e more.0 more.1 in
-          let left : is_left_of nodes q.0.key ≡ true =
-          subst (λ (k : NodeKey). is_left_of nodes k ≡ true) (sym q.2) (left_parent nodes whole.rooted x more.0 on here more.1) in
-          let long : length (line nodes distinct heads whole.rooted whole.united x.key) ≡ length (more.0 ∷ line nodes distinct heads
-          whole.rooted whole.united more.0) =
-          ap length (step nodes distinct heads whole.rooted whole.united x on here more.0 more.1) in
-          let same : length (line nodes distinct heads whole.rooted whole.united q.0.key) ≡ length (line nodes distinct heads whole.rooted
-          whole.united more.0) =
-          ap (λ (k : NodeKey). length (line nodes distinct heads whole.rooted whole.united k)) q.2 in
-          let r = crossing fuel q.0 q.1 (still_here nodes distinct heads whole.rooted whole.united q.0 q.1 left) (ap falls q.2
+          let q = shared way.whole x on here e more.1 in
+          let left : is_left_of nodes q.0.key ≡ true = rw q.2 (left_parent _ way.whole.rooted x _ on here more.1) in
+          let long : length (line way.whole x.key) ≡ length (more.0 ∷ line way.whole more.0) =
+          ap length (step way.whole x on here more.1) in
+          let same : length (line way.whole q.0.key) ≡ length (line way.whole more.0) =
+          ap (λ k. length (line way.whole k)) q.2 in
+          let r = crossing fuel q.0 q.1 (still_here way.whole q.0 q.1 left) (ap falls q.2
           ∙ more.2) (ap falls q.3 ∙ out) (omega arith) in
           (sym q.3 ∙ r.0, r.1)
     ]
@@ -76,7 +74,7 @@ module _ (c : Collection) (whole : IsWhole c) (falls : NodeKey → Bool) (top ab
   pub crossed : (x : Node) → In x nodes → x.gone ≡ false → falls x.key ≡ true → (h : NodeKey) → x.head ≡ h → falls h ≡ false →
       (h ≡ above.head) × (top.attached ≡ false)
   crossed x on here f h is out =
-      let r = crossing (suc (length (line nodes distinct heads whole.rooted whole.united x.key))) x on here f (ap falls is
+      let r = crossing (suc (length (line way.whole x.key))) x on here f (ap falls is
       ∙ out) (omega arith) in
       (sym is ∙ r.0, r.1)
 
@@ -90,32 +88,30 @@ module _ (c : Collection) (whole : IsWhole c) (falls : NodeKey → Bool) (top ab
       let key : y.0.key ≡ p = same_key-true y.0.key p (and_left (is_of p y.0) _ y.2) in
       let unit : y.0.head ≡ h = same_key-true y.0.head h (and_right (is_of p y.0) _ y.2) in
       let left : is_left_of nodes y.0.key ≡ true =
-      subst (λ (k : NodeKey). is_left_of nodes k ≡ true) (sym key) (left_parent nodes whole.rooted x p on here is) in
-      elim (up x on here f) [
+      subst (λ k. is_left_of nodes k ≡ true) (sym key) (left_parent nodes way.whole.rooted x p on here is) in
+      elim (way.up x on here f) [
         | inl top_is ↦
             let same : p ≡ above.key = some-injective p above.key (sym is ∙ up_of x on here top_is) in
-            sym unit ∙ ap (λ (n : Node). n.head) (above_one y.0 y.1 (key ∙ same))
+            sym unit ∙ ap (λ (n : Node). n.head) (way.above_one y.0 y.1 (key ∙ same))
         | inr more ↦
             let same : more.0 ≡ p = some-injective more.0 p (sym more.1 ∙ is) in
-            (crossed y.0 y.1 (still_here nodes distinct heads whole.rooted whole.united y.0 y.1 left) (ap falls (key ∙ sym same)
+            (crossed y.0 y.1 (still_here way.whole y.0 y.1 left) (ap falls (key ∙ sym same)
             ∙ more.2) h unit out).0
       ]
 
-  module _ (f : Node → Node) (same : (n : Node) → IsSameNode (f n) n) (alloc : (n : Node) → (f n).allocated ≡ n.allocated)
-      (goes : (n : Node) → (f n).gone ≡ (falls n.key || n.gone)) (alone : (n : Node) → falls n.key ≡ false → f n ≡ n) where
+  module _ {f : Node → Node} (made : IsMarked falls f) where
     abbrev pub now : List Node
     now = map f nodes
 
     -- a node that is left after it was left before, and did not fall
     pub stays : (n : Node) → (f n).gone ≡ false → (falls n.key ≡ false) × (n.gone ≡ false)
-    stays n h = (or_none_left (falls n.key) n.gone (sym (goes n) ∙ h), or_none_right (falls n.key) n.gone (sym (goes n) ∙ h))
+    stays n h = (or_none_left _ _ (sym (made.goes n) ∙ h), or_none_right _ _ (sym (made.goes n) ∙ h))
 
     -- keys and heads are kept
     unit_same : (p head : NodeKey) → list_any (λ (q : Node). is_of p q && same_key q.head head) now ≡ list_any (λ (q : Node).
         is_of p q && same_key q.head head) nodes
-    unit_same p head = list_any-map (λ (q : Node). is_of p q && same_key q.head head)
-        (λ (q : Node). is_of p q && same_key q.head head) f nodes
-        (λ q there. λ i. same_key ((same q).key i) p && same_key ((same q).head i) head)
+    unit_same p head = list_any-map _ _ f _
+        (λ q there. λ i. same_key ((made.same q).key i) p && same_key ((made.same q).head i) head)
 
     -- so a node hangs in a unit as before
     pub hangs_same : (head : NodeKey) (n : Node) → hangs_in now head n ≡ hangs_in nodes head n
@@ -129,75 +125,46 @@ module _ (c : Collection) (whole : IsWhole c) (falls : NodeKey → Bool) (top ab
       pub ready_before : (h : Node) → In h nodes → (f h).gone ≡ false → h.allocated ≡ false →
           list_all (is_ready_node h.key) now ≡ true → list_all (is_ready_node h.key) nodes ≡ true
       ready_before h on here waiting all =
-          all_on (is_ready_node h.key) nodes (λ m there.
+          all_on _ _ (λ m there.
           one m there (either_way (falls m.key)) (either_way m.gone) (either_way (same_key m.head h.key)))
         where
           own : (m : Node) → In m nodes → h.key ≡ above.head → top.attached ≡ false →
               (top.attached ≡ true) ⊎ ((times (waits_in above.head) nodes ≡ 0) ⊎ ((0 < times (waits_in above.head) now)
               ⊎ ((h : Node) → In h nodes → h.key ≡ above.head → h.allocated ≡ true))) → is_ready_node h.key m ≡ true
-          own m there is link (inl attached) = both_ways top.attached attached link
+          own m there is link (inl attached) = both_ways _ attached link
           own m there is link (inr (inl none)) =
-              let no : list_any (waits_in above.head) nodes ≡ false = count_none (waits_in above.head) nodes none in
-              subst (λ (k : NodeKey). is_ready_node k m ≡ true) (sym is)
-              (not-false (is_ready_node above.head m) (false_if (waits_in above.head m) (λ w.
-              both_ways (list_any (waits_in above.head) nodes) (In-any (waits_in above.head) nodes m there w) no)))
+              rw is (not-false (is_ready_node above.head m) (false_if _ (λ w.
+              both_ways _ (In-any _ _ m there w) (count_none (waits_in above.head) nodes none))))
           own m there is link (inr (inr (inl some))) =
-              let x = In-list_any (waits_in above.head) now (some_pass (waits_in above.head) now some) in
-              let ready : is_ready_node h.key x.0 ≡ true = all-In (is_ready_node h.key) now x.0 x.1 all in
-              both_ways (is_ready_node above.head x.0) (subst (λ (k : NodeKey). is_ready_node k x.0 ≡ true) is ready)
-              (not-true (is_ready_node above.head x.0) x.2)
-          own m there is link (inr (inr (inr given))) = both_ways h.allocated (given h on is) waiting
+              let x = In-list_any _ now (some_pass _ now some) in
+              both_ways _ (rw is at (all-In _ now x.0 x.1 all)) (not-true _ x.2)
+          own m there is link (inr (inr (inr given))) = both_ways _ (given h on is) waiting
 
           one : (m : Node) → In m nodes → (falls m.key ≡ true) ⊎ (falls m.key ≡ false) → (m.gone ≡ true) ⊎ (m.gone ≡ false) →
               (same_key m.head h.key ≡ true) ⊎ (same_key m.head h.key ≡ false) → is_ready_node h.key m ≡ true
           one m there (inr e) g s =
-              ap (is_ready_node h.key) (sym (alone m e)) ∙ all-In (is_ready_node h.key) now (f m) (In-map-back f nodes m there) all
+              ap (is_ready_node h.key) (sym (made.alone m e)) ∙ all-In _ now _ (In-map-back f _ m there) all
           one m there (inl e) (inl g) s = rw g refl
           one m there (inl e) (inr g) (inr s) = rw s (or-true m.gone)
           one m there (inl e) (inr g) (inl s) =
-              let r = crossed m there g e h.key (same_key-true m.head h.key s) (stays h here).0 in
+              let r = crossed m there g e _ (same_key-true _ _ s) (stays h here).0 in
               own m there r.0 r.1 guard
 
       -- a root that falls takes all; else it stays as it was
       pub root_one : (x : Node) → In x nodes → is_root_left (f x) ≡ is_root_left x
-      root_one x on = from (either_way (falls x.key)) (either_way x.gone)
-        where
-          no_root : (b g : Bool) → b ≡ false → (b && g) ≡ false
-          no_root true g h = cc
-          no_root false g h = refl
-
-          not_here : (b g : Bool) → g ≡ true → (b && not g) ≡ false
-          not_here true true h = refl
-          not_here false g h = refl
-          not_here true false h = cc
-
-          has_parent : x.gone ≡ false → falls x.key ≡ true → is_none x.parent ≡ false
-          has_parent g e = elim (up x on g e) [
-            | inl is ↦ ap is_none (up_of x on g is)
-            | inr more ↦ ap is_none more.1
-          ]
-
-          from : (falls x.key ≡ true) ⊎ (falls x.key ≡ false) → (x.gone ≡ true) ⊎ (x.gone ≡ false) → is_root_left (f x) ≡ is_root_left x
-          from (inr e) g = ap is_root_left (alone x e)
-          from (inl e) (inl g) =
-              not_here (is_none (f x).parent) (f x).gone (goes x ∙ ap (λ (b : Bool). b || x.gone) e)
-              ∙ sym (not_here (is_none x.parent) x.gone g)
-          from (inl e) (inr g) =
-              no_root (is_none (f x).parent) (not (f x).gone) (ap is_none (same x).parent ∙ has_parent g e)
-              ∙ sym (no_root (is_none x.parent) (not x.gone) (has_parent g e))
+      root_one x on = grind (arith, up_of)
 
       -- who is in an allocated unit now was so before
       allocated_before : (p : NodeKey) → list_any (is_allocated_node p) now ≡ true → list_any (is_allocated_node p) nodes ≡ true
       allocated_before p h =
-          let x = In-list_any (is_allocated_node p) now h in
-          let y = In-map f nodes x.0 x.1 in
+          let x = In-list_any _ now h in
+          let y = In-map f _ x.0 x.1 in
           let is : is_allocated_node p (f y.0) ≡ true = ap (is_allocated_node p) (sym y.2) ∙ x.2 in
-          let here : (f y.0).gone ≡ false = not-true (f y.0).gone (and_left (not (f y.0).gone) _ is) in
-          let rest = and_right (not (f y.0).gone) _ is in
-          In-any (is_allocated_node p) nodes y.0 y.1
-          (and_both (not y.0.gone) _ (ap not (stays y.0 here).1)
-          (and_both y.0.allocated (same_key y.0.key p) (sym (alloc y.0) ∙ and_left (f y.0).allocated _ rest)
-          (ap (λ (k : NodeKey). same_key k p) (sym (same y.0).key) ∙ and_right (f y.0).allocated _ rest)))
+          let rest = and_right _ _ is in
+          In-any _ _ y.0 y.1
+          (and_both _ _ (ap not (stays y.0 (not-true _ (and_left _ _ is))).1)
+          (and_both _ _ (sym (made.alloc y.0) ∙ and_left _ _ rest)
+          (ap (λ k. same_key k p) (sym (made.same y.0).key) ∙ and_right _ _ rest)))
 
       -- the parent is allocated still, so it was
       above_before : (o : Option NodeKey) → option_map_or (λ parent. list_any (is_allocated_node parent) now) o false ≡ true →
@@ -208,19 +175,16 @@ module _ (c : Collection) (whole : IsWhole c) (falls : NodeKey → Bool) (top ab
       -- a head that is next after the fall was next before, since falls allocate nothing
       pub next_before : (n : Node) → In n nodes → is_next_node now (f n) ≡ true → is_next_node nodes n ≡ true
       next_before n on h =
-          let attached = and_left (f n).attached _ h in
-          let one = and_right (f n).attached _ h in
-          let here : (f n).gone ≡ false = not-true (f n).gone (and_left (not (f n).gone) _ one) in
-          let two = and_right (not (f n).gone) _ one in
-          let waits = and_left (not (f n).allocated) _ two in
-          let three = and_right (not (f n).allocated) _ two in
-          let up_now = and_left (option_map_or (λ parent. list_any (is_allocated_node parent) now) (f n).parent false) _ three in
-          let all = and_right (option_map_or (λ parent. list_any (is_allocated_node parent) now) (f n).parent false) _ three in
-          and_both n.attached _ (sym (same n).attached ∙ attached)
-          (and_both (not n.gone) _ (ap not (stays n here).1)
-          (and_both (not n.allocated) _ (ap not (sym (alloc n)) ∙ waits)
-          (and_both (option_map_or (λ parent. list_any (is_allocated_node parent) nodes) n.parent false) _
-          (above_before n.parent (ap (λ (o : Option NodeKey). option_map_or (λ parent. list_any (is_allocated_node parent) now) o false)
-          (sym (same n).parent) ∙ up_now))
-          (ready_before n on here (not-true n.allocated (ap not (sym (alloc n)) ∙ waits)) (ap (λ (k : NodeKey).
-          list_all (is_ready_node k) now) (sym (same n).key) ∙ all)))))
+          let one = and_right _ _ h in
+          let here : (f n).gone ≡ false = not-true _ (and_left _ _ one) in
+          let two = and_right _ _ one in
+          let waits = and_left _ _ two in
+          let three = and_right _ _ two in
+          and_both _ _ (sym (made.same n).attached ∙ and_left _ _ h)
+          (and_both _ _ (ap not (stays n here).1)
+          (and_both _ _ (ap not (sym (made.alloc n)) ∙ waits)
+          (and_both _ _
+          (above_before _ (ap (λ o. option_map_or (λ parent. list_any (is_allocated_node parent) now) o false)
+          (sym (made.same n).parent) ∙ and_left _ _ three))
+          (ready_before n on here (not-true _ (ap not (sym (made.alloc n)) ∙ waits)) (ap (λ k.
+          list_all (is_ready_node k) now) (sym (made.same n).key) ∙ and_right _ _ three)))))

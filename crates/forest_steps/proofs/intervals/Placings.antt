@@ -1,22 +1,11 @@
 -- What the allocation of a root unit makes of a collection and of the pool.
-use Rattle.forest_steps.proofs.Common.{ℕ, ◌+◌, ◌≡◌, refl, ap, sym, ◌∙◌, subst, Bool, if◌then◌else◌, is_none, List, [], ◌∷◌, ◌++◌, map, length, Option, Some, option_map_or, Interval, NodeKey, Buffers, HeldBuffer, when, Collection, with_nodes}
+use Rattle.forest_steps.proofs.Common.{ℕ, ◌+◌, ◌≡◌, refl, ap, sym, ◌∙◌, subst, Bool, if◌then◌else◌, List, [], ◌∷◌, ◌++◌, map, length, Option, Some, option_map_or, Interval, NodeKey, Buffers, HeldBuffer, Collection, with_nodes, range_with_len, names, Mark, places, pages_of, with_buffers, Places, mark_of, pages_in, after_allocation, by_page, laid, name_of, made, arith}
 use Rattle.std.proofs.Common.{append_assoc}
 use Rattle.std.proofs.lemmas.List.{map-append}
-use Rattle.std.specs.List.{range_with_len}
-use Rattle.sm_names.specs.declared.outcomes.Failure.{Failure}
 use Rattle.sm_names.specs.Apart.{at_pages}
-use Rattle.sm_names.specs.Forced.{outcome}
-use Rattle.sm_names.specs.Handles.{names}
-use Rattle.sm_names.specs.Marks.{Mark}
-use Rattle.sm_names.specs.Pages.{places, pages_of}
 use Rattle.sm_names.specs.Timelines.{laid_out}
 use Rattle.sm_names.proofs.PlaceLaws.{places_same}
-use Rattle.buffer_pool.specs.Holdings.{with_buffers}
-use Rattle.forest_store.specs.Decisions.{IsPlacing, Places, mark_of}
-use Rattle.forest_store.specs.Forest.{pages_in}
-use Rattle.forest_store.specs.Nodes.{after_allocation}
-use Rattle.forest_store.specs.Scenes.{by_page, laid, name_of}
-use Rattle.forest_store.specs.Settling.{is_root_of, made}
+use Rattle.forest_store.specs.Decisions.{IsPlacing}
 use Rattle.forest_store.proofs.lists.ByPage.{any_sorted, with_buffers_sorted}
 
 -- ---- buffers at their starts
@@ -26,23 +15,21 @@ laid_are : (id pages index : ℕ) (starts : List ℕ) →
     laid id pages index starts ≡ laid_out pages (map (name_of id) (range_with_len index (length starts))) starts
 laid_are id pages index [] = refl
 laid_are id pages index (s ∷ ss) =
-    ap (λ (hs : List HeldBuffer). record { buffer = name_of id index; pages = at_pages pages s } ∷ hs)
+    ap (λ hs. record { buffer = name_of id index; pages = at_pages pages s } ∷ hs)
     (laid_are id pages (index + 1) ss)
 
 -- in front of others
 pub scene_laid : (id pages count : ℕ) (starts : List ℕ) (held : List HeldBuffer) → length starts ≡ count →
     laid id pages 0 starts ++ held ≡ laid_out pages (names id count) starts ++ held
 scene_laid id pages count starts held many =
-    ap (λ (hs : List HeldBuffer). hs ++ held) (laid_are id pages 0 starts)
-    ∙ ap (λ (k : ℕ). laid_out pages (names id k) starts ++ held) many
+    ap (λ hs. hs ++ held) (laid_are id _ 0 _) ∙ ap (λ k. laid_out pages (names id k) starts ++ held) many
 
 -- they take these pages
 laid_pages : (id pages index : ℕ) (starts : List ℕ) →
     map (λ (h : HeldBuffer). h.pages) (laid_out pages (map (name_of id) (range_with_len index (length starts))) starts)
     ≡ map (at_pages pages) starts
 laid_pages id pages index [] = refl
-laid_pages id pages index (s ∷ ss) =
-    ap (λ (is : List Interval). at_pages pages s ∷ is) (laid_pages id pages (index + 1) ss)
+laid_pages id pages index (s ∷ ss) = ap (λ is. at_pages pages s ∷ is) (laid_pages id pages (index + 1) ss)
 
 -- the pool holds them in order beside what it held
 pub pool_laid : (id pages count : ℕ) (starts : List ℕ) (held : List HeldBuffer) (others : List Interval) →
@@ -50,23 +37,22 @@ pub pool_laid : (id pages count : ℕ) (starts : List ℕ) (held : List HeldBuff
     with_buffers pages starts (by_page (map (λ (h : HeldBuffer). h.pages) held ++ others))
     ≡ by_page (map (λ (h : HeldBuffer). h.pages) (laid_out pages (names id count) starts ++ held) ++ others)
 pool_laid id pages count starts held others many =
-    let own : List Interval = map (λ (h : HeldBuffer). h.pages) held in
     let all : map (λ (h : HeldBuffer). h.pages) (laid_out pages (names id count) starts ++ held)
-    ≡ map (at_pages pages) starts ++ own =
+    ≡ map (at_pages pages) starts ++ (map (λ (h : HeldBuffer). h.pages) held) =
     map-append (λ (h : HeldBuffer). h.pages) (laid_out pages (names id count) starts) held
-    ∙ ap (λ (is : List Interval). is ++ map (λ (h : HeldBuffer). h.pages) held)
-    (subst (λ (k : ℕ). map (λ (h : HeldBuffer). h.pages) (laid_out pages (names id k) starts)
-    ≡ map (at_pages pages) starts) many (laid_pages id pages 0 starts)) in
+    ∙ ap (λ is. is ++ map (λ (h : HeldBuffer). h.pages) held)
+    (subst (λ k. map (λ (h : HeldBuffer). h.pages) (laid_out pages (names id k) starts)
+    ≡ map (at_pages pages) starts) many (laid_pages id _ 0 _)) in
     with_buffers_sorted pages starts (map (λ (h : HeldBuffer). h.pages) held ++ others)
     ∙ ap by_page (sym (append_assoc (map (at_pages pages) starts) (map (λ (h : HeldBuffer). h.pages) held) others)
-    ∙ ap (λ (is : List Interval). is ++ others) (sym all))
+    ∙ ap (λ is. is ++ others) (sym all))
 
 -- ---- the mark
 
 -- the order of the held pages does not matter
 pub places_sorted : (pool pages count : ℕ) (is : List Interval) →
     places pool pages count (by_page is) ≡ places pool pages count is
-places_sorted pool pages count is = places_same pool pages count (by_page is) is (λ test. any_sorted test is)
+places_sorted pool pages count is = places_same pool pages count _ is (λ test. any_sorted _ is)
 
 module _ (pool : ℕ) (others : List Interval) (c : Collection) (head : NodeKey) (wants : Buffers) where
   -- what the decision comes to
@@ -89,7 +75,7 @@ module _ (pool : ℕ) (others : List Interval) (c : Collection) (head : NodeKey)
       else with_nodes (after_allocation head) c
 
   -- with places the unit is allocated
-  pub placed_made : (starts : List ℕ) → IsPlacing c head wants →
+  pub placed_made : {starts : List ℕ} → IsPlacing c head wants →
       places pool (pages_of wants.size) wants.count (pages_in c ++ others) ≡ Some starts →
       made pool others step c
       ≡ record {
@@ -99,8 +85,4 @@ module _ (pool : ℕ) (others : List Interval) (c : Collection) (head : NodeKey)
         held =
             laid_out (pages_of wants.size) (names c.id wants.count) starts ++ c.held;
       }
-  placed_made starts h found =
-      ap (λ (o : Option (List ℕ)). made pool others (outcome head (when (is_none o) Failure.PoolFull)) c) found
-      ∙ (ap (λ (w : Buffers). first w (is_root_of c head)) h.asked_for
-      ∙ (ap (first wants) h.root
-      ∙ ap (given wants) found))
+  placed_made h found = grind arith

@@ -1,11 +1,7 @@
 -- The pages of the pool, of one collection and of those beside it.
-use Rattle.forest_steps.proofs.Common.{◌≡◌, true, List, [], ◌∷◌, ◌++◌, map, refl, sym, ap, ◌∙◌, Interval, HeldBuffer, Table, Node, Collection, Shelf, AreRising, put_shelf, collection_in, forest_of, put}
-use Rattle.std.specs.List.{flat_map}
-use Rattle.sm_names.specs.Words.{sorted_by}
-use Rattle.forest_store.specs.Forest.{all_held, pages_in, beside}
-use Rattle.forest_store.specs.Starts.{starts_differ}
-use Rattle.forest_store.proofs.lists.SameIntervals.{start_of, parted-sorted}
-use Rattle.forest_store.proofs.shelves.Putting.{put-map, pages_held, pages-put}
+use Rattle.forest_steps.proofs.Common.{◌≡◌, true, List, [], ◌∷◌, ◌++◌, map, refl, sym, ap, ◌∙◌, Interval, HeldBuffer, Table, Node, Collection, Shelf, AreRising, put_shelf, collection_in, forest_of, put, flat_map, sorted_by, all_held, pages_in, beside, starts_differ, start_of, put-map}
+use Rattle.forest_store.proofs.lists.SameIntervals.{parted-sorted}
+use Rattle.forest_store.proofs.shelves.Putting.{pages_held, pages-put}
 
 -- the pool of a forest holds the pages of a collection and those beside it
 pub pool_beside : (held : List Interval) (t : Table Node) (s : Shelf) (ss : List Shelf) → AreRising ss → starts_differ held ≡ true →
@@ -17,7 +13,7 @@ pool_beside held t s ss rising parted is =
     is ∙ ap (sorted_by start_of) all in
     let apart = sym (parted-sorted (flat_map pages_in (put (collection_in t s) (map (collection_in t) ss)))) ∙ ap starts_differ (sym told)
     ∙ parted in
-    told ∙ (pages-put t (collection_in t s) ss rising).sorted apart
+    told ∙ (pages-put t _ ss rising).sorted apart
 
 -- and back, where the collections are those with one put among them
 pub pool_back : (held : List Interval) (t now : Table Node) (c : Collection) (new : Shelf) (ss : List Shelf) → AreRising ss →
@@ -35,9 +31,9 @@ pub pool_stays : (held : List Interval) (t now : Table Node) (before behind : Li
     held ≡ sorted_by start_of (map (λ (h : HeldBuffer). h.pages) (all_held (forest_of t before))) →
     held ≡ sorted_by start_of (map (λ (h : HeldBuffer). h.pages) (all_held (forest_of now behind)))
 pool_stays held t now before behind same is =
-    is ∙ ap (λ (hs : List HeldBuffer). sorted_by start_of (map (λ (h : HeldBuffer). h.pages) hs))
-    (from before ∙ ap (λ (ss : List Shelf). all_held (forest_of now ss)) (sym same))
+    is ∙ ap (λ hs. sorted_by start_of (map (λ (h : HeldBuffer). h.pages) hs))
+    (from before ∙ ap (λ ss. all_held (forest_of now ss)) (sym same))
   where
     from : (ss : List Shelf) → all_held (forest_of t ss) ≡ all_held (forest_of now ss)
     from [] = refl
-    from (s ∷ ss) = ap (λ (hs : List HeldBuffer). s.held ++ hs) (from ss)
+    from (s ∷ ss) = ap (λ hs. s.held ++ hs) (from ss)

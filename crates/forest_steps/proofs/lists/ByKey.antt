@@ -2,7 +2,7 @@
 use Rattle.forest_steps.proofs.Common.{◌≡◌, ℕ, suc, ◌<◌, inl, inr, refl, ap, sym, ◌∙◌, subst, List, [], ◌∷◌, length, get_or, arith, list_any, NodeKey, same_key, In, In-list_any, false_if, same_key-refl, same_key-true, In-any}
 use Rattle.std.proofs.Common.{Result, Ok, Err, is_ok}
 use Rattle.std.specs.List.Sorted.{IsBinarySearchResult, IsSearchInRange, IsSorted}
-use Rattle.std.specs.Ordering.{MatchOrdering, nat_cmp, ordering_then}
+use Rattle.std.specs.Ordering.{nat_cmp, ordering_then}
 use Rattle.std.specs.declared.cmp.Ordering.{Ordering}
 use Rattle.std.specs.declared.cmp.Ordering.TheVariants.{Less, Equal, Greater}
 use Rattle.std.specs.Cmp.{tied_itself}
@@ -21,15 +21,11 @@ both_tie Greater b h = cc
 
 -- the order of numbers ties only equal ones
 number_tied : (m n : ℕ) → nat_cmp m n ≡ Equal → m ≡ n
-number_tied m n h = subst (λ (o : Ordering). MatchOrdering o (m < n) (m ≡ n) (n < m)) h (ranks m n)
+number_tied m n h = rw h at (ranks m n)
 
 -- keys that tie are one
 tied : (a b : NodeKey) → key_order a b ≡ Equal → a ≡ b
-tied a b h =
-    let both = both_tie (nat_cmp a.slot b.slot) (nat_cmp a.generation b.generation) h in
-    let s : a.slot ≡ b.slot = number_tied a.slot b.slot both.0 in
-    let g : a.generation ≡ b.generation = number_tied a.generation b.generation both.1 in
-    λ i. record { slot = s i; generation = g i }
+tied a b h = grind (arith, both_tie, number_tied)
 
 -- the order is total
 tied_self : (a : NodeKey) → key_order a a ≡ Equal
@@ -53,15 +49,15 @@ not_greater h = cc
 pub found : (keys : List NodeKey) (key : NodeKey) (r : Result ℕ ℕ) → IsSorted key_order keys → IsSearchInRange r (length keys) →
     IsBinarySearchResult (λ y. key_order y key) keys r → list_any (same_key key) keys ≡ is_ok r
 found keys key (Ok i) up within at =
-    let is : get_or keys i key ≡ key = tied (get_or keys i key) key (at key) in
-    In-any (same_key key) keys (get_or keys i key) (In-get_or keys i key within) (ap (same_key key) is ∙ same_key-refl key)
+    let is : get_or keys i key ≡ key = tied _ key (at key) in
+    In-any _ _ _ (In-get_or _ i key within) (ap (same_key key) is ∙ same_key-refl key)
 found keys key (Err i) up within at =
-    let parted = at (searchable_from_sorted total-law (λ (k : NodeKey). k) keys key up) in
-    false_if (list_any (same_key key) keys) (λ e.
-    let x = In-list_any (same_key key) keys e in
-    let there : In key keys = subst (λ (k : NodeKey). In k keys) (sym (same_key-true key x.0 x.2)) x.1 in
-    let p = place_of key keys there in
-    let ties : key_order (get_or keys p.0 key) key ≡ Equal = ap (λ (k : NodeKey). key_order k key) p.2 ∙ tied_self key in
+    let parted = at (searchable_from_sorted total-law (λ k. k) keys key up) in
+    false_if _ (λ e.
+    let x = In-list_any _ _ e in
+    let there : In key keys = subst (λ k. In k keys) (sym (same_key-true key x.0 x.2)) x.1 in
+    let p = place_of key _ there in
+    let ties : key_order (get_or keys p.0 key) key ≡ Equal = ap (λ k. key_order k key) p.2 ∙ tied_self key in
     elim (cases_order p.0 i) [
       | inl same ↦ not_greater (sym (parted.1 p.0 key (omega arith) p.1) ∙ ties)
       | inr (inl low) ↦ not_less (sym (parted.0 p.0 key (omega arith) low) ∙ ties)

@@ -41,10 +41,8 @@ module _ {X : Type 0} (p : X → Bool) where
   pub all_removed : (xs : List X) (at : ℕ) → list_all p xs ≡ true → list_all p (remove xs at) ≡ true
   all_removed [] zero all = refl
   all_removed [] (suc at) all = refl
-  all_removed (x ∷ xs) zero all = and_right (p x) (list_all p xs) all
-  all_removed (x ∷ xs) (suc at) all =
-      and_both (p x) (list_all p (remove xs at)) (and_left (p x) (list_all p xs) all)
-      (all_removed xs at (and_right (p x) (list_all p xs) all))
+  all_removed (x ∷ xs) zero all = and_right _ _ all
+  all_removed (x ∷ xs) (suc at) all = and_both _ _ (and_left _ _ all) (all_removed xs at (and_right _ _ all))
 
 -- those before it stay where they are
 pub take_removed : {X : Type 0} (xs : List X) (at : ℕ) → at < length xs → take at (remove xs at) ≡ take at xs

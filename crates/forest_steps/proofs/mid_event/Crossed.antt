@@ -1,19 +1,11 @@
 -- Where nodes go, each unit is held as it was but the one right above them, and none comes to its turn by it.
-use Rattle.forest_steps.proofs.Common.{◌≡◌, ◌<◌, refl, ap, sym, ◌∙◌, subst, Bool, true, false, not, ◌&&◌, ◌||◌, is_none, ◌⊎◌, inl, inr, List, ◌∷◌, map, Option, Some, None, not-true, find, list_all, list_any, option_and_then, option_map_or, NodeKey, same_key, times, when, In, In-find, In-list_any, In-map, In-map-back, and_both, and_left, and_right, both_ways, either_way, false_if, or_cases, or_left, or_right, same_key-refl, same_key-true, In-any, all_on, Node, waits_in, Collection, IsWhole, is_next_node, is_ready_node, is_root_left, is_head}
+use Rattle.forest_steps.proofs.Common.{◌≡◌, ◌<◌, refl, ap, sym, ◌∙◌, Bool, true, false, not, ◌&&◌, ◌||◌, is_none, ◌⊎◌, inl, inr, List, ◌∷◌, map, Option, Some, None, not-true, find, list_all, list_any, option_and_then, option_map_or, NodeKey, same_key, times, when, In, In-find, In-list_any, In-map, In-map-back, and_both, and_left, and_right, both_ways, either_way, false_if, or_cases, or_left, or_right, same_key-refl, same_key-true, In-any, all_on, Node, waits_in, Collection, is_next_node, is_ready_node, is_root_left, is_head, hangs_in, all-In, arith}
 use Rattle.std.specs.Option.{option_map}
-use Rattle.forest_store.specs.Counts.{hangs_in}
 use Rattle.forest_steps.specs.MidEvent.{are_held_except, holds_unit, is_held, is_next_except, waits_among}
-use Rattle.forest_store.proofs.quiescence.Steps.{all-In}
-use Rattle.forest_steps.proofs.failures.Crossing.{crossed, find-In, hangs_same, hung_above, next_before, ready_before, root_one, stays}
-use Rattle.forest_store.proofs.tables.Writing.{IsSameNode}
+use Rattle.forest_steps.proofs.failures.Crossing.{AreFalling, IsMarked, crossed, find-In, hangs_same, hung_above, next_before, ready_before, root_one, stays}
 
-module _ (c : Collection) (whole : IsWhole c) (falls : NodeKey → Bool) (top above : Node)
-    (up : (x : Node) → In x c.nodes → x.gone ≡ false → falls x.key ≡ true → (x ≡ top) ⊎ ((p : NodeKey) × (x.parent ≡ Some p) ×
-    (falls p ≡ true)))
-    (top_up : In top c.nodes → top.gone ≡ false → top.parent ≡ Some above.key)
-    (above_one : (q : Node) → In q c.nodes → q.key ≡ above.key → q ≡ above)
-    (f : Node → Node) (same : (n : Node) → IsSameNode (f n) n) (alloc : (n : Node) → (f n).allocated ≡ n.allocated)
-    (goes : (n : Node) → (f n).gone ≡ (falls n.key || n.gone)) (alone : (n : Node) → falls n.key ≡ false → f n ≡ n) where
+module _ {c : Collection} {falls : NodeKey → Bool} {top above : Node} (way : AreFalling c falls top above) {f : Node → Node}
+    (made : IsMarked falls f) where
   abbrev nodes : List Node
   nodes = c.nodes
 
@@ -22,7 +14,7 @@ module _ (c : Collection) (whole : IsWhole c) (falls : NodeKey → Bool) (top ab
 
   -- a node that is left after it was left before, and did not fall
   left : (n : Node) → (f n).gone ≡ false → (falls n.key ≡ false) × (n.gone ≡ false)
-  left = stays c whole falls top above up top_up above_one f same alloc goes alone
+  left = stays way made
 
   -- ---- what holds the units
 
@@ -30,17 +22,17 @@ module _ (c : Collection) (whole : IsWhole c) (falls : NodeKey → Bool) (top ab
   by_holder : (m x : Node) → In x nodes → falls m.key ≡ false → holds_unit nodes m.key x ≡ true →
       (falls x.key ≡ true) ⊎ (falls x.key ≡ false) → (m.key ≡ above.head) ⊎ (list_any (holds_unit now m.key) now ≡ true)
   by_holder m x on out holds (inr e) =
-      inr (In-any (holds_unit now m.key) now (f x) (In-map-back f nodes x on)
-      (subst (λ (n : Node). holds_unit now m.key n ≡ true) (sym (alone x e))
+      inr (In-any _ now _ (In-map-back f _ x on)
+      (rw (made.alone x e)
       ((λ i. not x.gone && ((same_key x.head m.key && not x.released)
-      || (x.attached && hangs_same c whole falls top above up top_up above_one f same alloc goes alone m.key x i))) ∙ holds)))
+      || (x.attached && hangs_same way made m.key x i))) ∙ holds)))
   by_holder m x on out holds (inl e) =
-      let here : x.gone ≡ false = not-true x.gone (and_left (not x.gone) _ holds) in
+      let here : x.gone ≡ false = not-true _ (and_left _ _ holds) in
       inl (elim (or_cases (same_key x.head m.key && not x.released) (x.attached && hangs_in nodes m.key x) (and_right (not x.gone) _ holds)) [
         | inl own ↦
-            (crossed c whole falls top above up top_up above_one x on here e m.key
-            (same_key-true x.head m.key (and_left (same_key x.head m.key) _ own)) out).0
-        | inr under ↦ hung_above c whole falls top above up top_up above_one x on here e m.key out x.parent refl (and_right x.attached _ under)
+            (crossed way x on here e _
+            (same_key-true _ _ (and_left (same_key x.head m.key) _ own)) out).0
+        | inr under ↦ hung_above way x on here e _ out _ refl (and_right x.attached _ under)
       ])
 
   -- what held the unit is left, unless it hung on the unit above
@@ -73,12 +65,7 @@ module _ (c : Collection) (whole : IsWhole c) (falls : NodeKey → Bool) (top ab
     where
       from : (x : Node) → In x nodes → ((f x).gone ≡ true) ⊎ ((f x).gone ≡ false) →
           (list_any (same_key (f x).key) (above.head ∷ unheld) || is_held now (f x)) ≡ true
-      from x on (inl e) = or_right (list_any (same_key (f x).key) (above.head ∷ unheld)) (is_held now (f x)) (rw e refl)
-      from x on (inr e) =
-          let s = left x e in
-          subst (λ (n : Node). (list_any (same_key n.key) (above.head ∷ unheld) || is_held now n) ≡ true) (sym (alone x s.0))
-          (held_one unheld x on s.0 s.1 (either_way (is_head x))
-          (all-In (λ (n : Node). list_any (same_key n.key) unheld || is_held nodes n) nodes x on held))
+      from x h k = grind (arith, all-In, held_one, left)
 
   -- ---- whose turn it is
 
@@ -87,31 +74,27 @@ module _ (c : Collection) (whole : IsWhole c) (falls : NodeKey → Bool) (top ab
     -- one of three ways in which the unit above does not become ready by the fall
     blocking : (top.attached ≡ true) ⊎ ((times (waits_in above.head) nodes ≡ 0) ⊎ ((0 < times (waits_in above.head) now)
         ⊎ ((h : Node) → In h nodes → h.key ≡ above.head → h.allocated ≡ true)))
-    blocking = elim guard [
-      | inl e ↦ inl e
-      | inr e ↦ inr (inr (inr e))
-    ]
+    blocking = grind arith
 
     -- a head that is next after was next before, since falls allocate nothing and make none ready
     pub next_but : (pending : List NodeKey) → list_any (is_next_except pending nodes) nodes ≡ false → list_any (is_next_except pending now) now ≡ false
-    next_but pending none = false_if (list_any (is_next_except pending now) now) (λ e.
-        let x = In-list_any (is_next_except pending now) now e in
-        let y = In-map f nodes x.0 x.1 in
+    next_but pending none = false_if _ (λ e.
+        let x = In-list_any _ now e in
+        let y = In-map f _ x.0 x.1 in
         let is : is_next_except pending now (f y.0) ≡ true = ap (is_next_except pending now) (sym y.2) ∙ x.2 in
         let next : is_next_node nodes y.0 ≡ true =
-        next_before c whole falls top above up top_up above_one f same alloc goes alone blocking y.0 y.1
-        (and_left (is_next_node now (f y.0)) _ is) in
+        next_before way made blocking y.0 y.1
+        (and_left _ _ is) in
         let out : not (list_any (same_key y.0.key) pending) ≡ true =
-        ap (λ (k : NodeKey). not (list_any (same_key k) pending)) (sym (same y.0).key) ∙ and_right (is_next_node now (f y.0)) _ is in
-        both_ways (list_any (is_next_except pending nodes) nodes)
-        (In-any (is_next_except pending nodes) nodes y.0 y.1 (and_both (is_next_node nodes y.0) _ next out)) none)
+        ap (λ k. not (list_any (same_key k) pending)) (sym (made.same y.0).key) ∙ and_right _ _ is in
+        both_ways _ (In-any _ _ y.0 y.1 (and_both _ _ next out)) none)
 
     -- a root that waits after waited before
     pub root_but : (pending : List NodeKey) → waits_among pending nodes ≡ true → waits_among pending now ≡ true
     root_but pending among =
-        ap (λ (o : Option Node). option_map_or (λ (n : Node). list_any (same_key n.key) pending) (option_and_then (λ (root : Node).
+        ap (λ o. option_map_or (λ (n : Node). list_any (same_key n.key) pending) (option_and_then (λ (root : Node).
         when (not root.allocated && list_all (is_ready_node root.key) now) root) o) true)
-        (find-In is_root_left is_root_left f nodes (root_one c whole falls top above up top_up above_one f same alloc goes alone blocking))
+        (find-In _ _ f _ (root_one way made blocking))
         ∙ from (find is_root_left nodes) refl among
       where
         from : (o : Option Node) → find is_root_left nodes ≡ o →
@@ -124,27 +107,27 @@ module _ (c : Collection) (whole : IsWhole c) (falls : NodeKey → Bool) (top ab
             by (either_way (not (f root).allocated && list_all (is_ready_node (f root).key) now))
           where
             there : In root nodes
-            there = (In-find is_root_left nodes root is).0
+            there = (In-find _ _ _ is).0
 
             here : (f root).gone ≡ false
-            here = not-true (f root).gone (and_right (is_none (f root).parent) _
-                (root_one c whole falls top above up top_up above_one f same alloc goes alone blocking root there
+            here = not-true _ (and_right (is_none (f root).parent) _
+                (root_one way made blocking _ there
                 ∙ (In-find is_root_left nodes root is).1))
 
             by : ((not (f root).allocated && list_all (is_ready_node (f root).key) now) ≡ true)
                 ⊎ ((not (f root).allocated && list_all (is_ready_node (f root).key) now) ≡ false) →
                 option_map_or (λ (n : Node). list_any (same_key n.key) pending)
                 (when (not (f root).allocated && list_all (is_ready_node (f root).key) now) (f root)) true ≡ true
-            by (inr e) = ap (λ (b : Bool). option_map_or (λ (n : Node). list_any (same_key n.key) pending) (when b (f root)) true) e
+            by (inr e) = ap (λ b. option_map_or (λ (n : Node). list_any (same_key n.key) pending) (when b (f root)) true) e
             by (inl e) =
-                let waits : not root.allocated ≡ true = ap not (sym (alloc root)) ∙ and_left (not (f root).allocated) _ e in
+                let waits : not root.allocated ≡ true = ap not (sym (made.alloc root)) ∙ and_left _ _ e in
                 let all : list_all (is_ready_node root.key) nodes ≡ true =
-                ready_before c whole falls top above up top_up above_one f same alloc goes alone blocking root there here
-                (not-true root.allocated waits)
-                (ap (λ (k : NodeKey). list_all (is_ready_node k) now) (sym (same root).key) ∙ and_right (not (f root).allocated) _ e) in
+                ready_before way made blocking _ there here
+                (not-true _ waits)
+                (ap (λ k. list_all (is_ready_node k) now) (sym (made.same root).key) ∙ and_right _ _ e) in
                 let both : (not root.allocated && list_all (is_ready_node root.key) nodes) ≡ true =
-                and_both (not root.allocated) _ waits all in
+                and_both _ _ waits all in
                 let some : list_any (same_key root.key) pending ≡ true =
-                sym (ap (λ (b : Bool). option_map_or (λ (n : Node). list_any (same_key n.key) pending) (when b root) true) both) ∙ h in
-                ap (λ (b : Bool). option_map_or (λ (n : Node). list_any (same_key n.key) pending) (when b (f root)) true) e
-                ∙ (ap (λ (k : NodeKey). list_any (same_key k) pending) (same root).key ∙ some)
+                sym (ap (λ b. option_map_or (λ (n : Node). list_any (same_key n.key) pending) (when b root) true) both) ∙ h in
+                ap (λ b. option_map_or (λ (n : Node). list_any (same_key n.key) pending) (when b (f root)) true) e
+                ∙ (ap (λ k. list_any (same_key k) pending) (made.same root).key ∙ some)

@@ -1,27 +1,12 @@
 -- Where nothing holds a unit, the counts tell how far up nothing but the unit below holds one, and the highest of those ends.
-use Rattle.forest_steps.proofs.Common.{◌≡◌, ℕ, zero, suc, ◌≤◌, nat_lt, refl, ap, sym, ◌∙◌, subst, Bool, true, false, not, ◌&&◌, ◌||◌, ◌==◌, is_some, inl, inr, List, [], ◌∷◌, ◌++◌, map, length, reverse, Option, Some, None, option_map, arith, eq-eqb, eqb-true, not-true, cons_option, find, list_any, option_and_then, Interval, NodeKey, forced, same_key, times, when, In, In-find, In-list_any, In-map-back, and_both, and_left, and_right, either_way, or_right, same_key-true, all_on, Table, node_at, parent_at, Entry, Node, Unit, lives_in, unit_at, is_left_of, Collection, IsWhole, Shelf, all_keys, collection_in, nodes_with, shelf_of, is_of, is_deserted_node, Handles, Settles, standing, is_head}
-use Rattle.std.proofs.lemmas.Bool.{ltb-false}
+use Rattle.forest_steps.proofs.Common.{◌≡◌, ℕ, zero, suc, ◌≤◌, refl, ap, sym, ◌∙◌, subst, Bool, true, false, ◌||◌, ◌==◌, is_some, inl, inr, List, [], ◌∷◌, ◌++◌, length, reverse, Option, Some, None, option_map, arith, eq-eqb, eqb-true, not-true, cons_option, find, list_any, option_and_then, Interval, NodeKey, forced, same_key, times, when, In, In-find, In-list_any, In-map-back, and_both, and_left, and_right, either_way, or_right, same_key-true, all_on, Table, node_at, parent_at, Entry, Node, Unit, lives_in, unit_at, Collection, IsWhole, Shelf, all_keys, collection_in, nodes_with, shelf_of, is_deserted_node, Handles, Settles, standing, is_head, ltb-false, or_none_left, or_none_right, table_len, HasUnits, heads_below, is_held_by, unit_of, Ends, decided, mark_of, pages_in, after_end, is_below, Forces, forced_made, all-In, found_whole, in_all, looked_there, distinct_one, left_in, left_node, left_parent, all_at}
+use Rattle.forest_steps.proofs.tables.Upward.{line, step, shorter, in_unit_below, head_there}
 use Rattle.std.proofs.lemmas.List.{length-append, length-reverse}
 use Rattle.sm_names.specs.Marks.{Ended}
-use Rattle.sm_names.proofs.ReachLaws.{IsChain}
-use Rattle.sm_names.proofs.SamenessLaws.{or_none_left, or_none_right}
-use Rattle.node_table.specs.Table.{table_len}
 use Rattle.forest_steps.specs.Climbing.{climbed, is_held_once, unit_over}
-use Rattle.forest_store.specs.Counts.{HasUnit, HasUnits, heads_below, is_held_by, unit_of}
-use Rattle.forest_store.specs.Decisions.{Ends, decided, mark_of}
-use Rattle.forest_store.specs.Forest.{pages_in}
-use Rattle.forest_store.specs.Nodes.{after_end}
-use Rattle.forest_store.specs.Questions.{is_below}
-use Rattle.forest_store.specs.Settling.{Forces}
-use Rattle.forest_steps.specs.MidEvent.{AfterSteps, MidEvent, AfterRemoval, MayGo, and_loose, are_held_except, holds_unit, is_head_left, is_held}
-use Rattle.forest_store.proofs.quiescence.Forcing.{forced_made}
+use Rattle.forest_steps.specs.MidEvent.{AfterSteps, MidEvent, AfterRemoval, MayGo, are_held_except, holds_unit, is_head_left, is_held}
 use Rattle.forest_store.proofs.quiescence.Keeping.{below_held, either_holds, lives_held}
-use Rattle.forest_store.proofs.quiescence.Steps.{all-In}
-use Rattle.forest_store.proofs.changes.Altering.{found_whole}
-use Rattle.forest_store.proofs.tables.Hanging.{in_all, looked_there}
-use Rattle.forest_store.proofs.tables.Rooted.{distinct_one, left_in, left_node, left_parent}
-use Rattle.forest_store.proofs.tallies.Holding.{above_short, chain, head_there, in_unit_below, line, no_longer, step, up}
-use Rattle.forest_store.proofs.tallies.Slots.{all_at}
+use Rattle.forest_store.proofs.tallies.Holding.{above_short}
 use Rattle.forest_steps.proofs.mid_event.Climbs.{goes_on, stays}
 use Rattle.forest_steps.proofs.mid_event.Ending.{AreLoose, begins, climbs, first_deserted, held_now, is_one}
 
@@ -49,14 +34,14 @@ few_nodes t (k ∷ ks) = from (node_at t k) (few_nodes t ks)
 -- ---- options
 
 -- by cases
-when_some : {A : Type 0} (b : Bool) (x y : A) → when b x ≡ Some y → (b ≡ true) × (x ≡ y)
-when_some true x y h = (refl, cc)
-when_some false x y h = cc
+when_some : {A : Type 0} (b : Bool) (x : A) {y : A} → when b x ≡ Some y → (b ≡ true) × (x ≡ y)
+when_some true x h = (refl, cc)
+when_some false x h = cc
 
 -- the state does not change where other units are held
-pub with_held : (t : Table Node) (us : List Unit) (ss : List Shelf) (e : Entry) (unheld other pending : List NodeKey) →
+pub with_held : {t : Table Node} {us : List Unit} {ss : List Shelf} {e : Entry} {unheld : List NodeKey} (other : List NodeKey) {pending : List NodeKey} →
     MidEvent t us ss e unheld pending → are_held_except other (nodes_with t e.keys.items) ≡ true → MidEvent t us ss e other pending
-with_held t us ss e unheld other pending ok held = record {
+with_held other ok held = record {
   store = ok.store;
   bare = ok.bare;
   held = held;
@@ -75,14 +60,14 @@ pub record IsHeadLeft (nodes : List Node) (key : NodeKey) : Type 0 where
 -- a node with the key passes the test, and has each of its parts
 head_left : (nodes : List Node) (key : NodeKey) → is_head_left nodes key ≡ true → IsHeadLeft nodes key
 head_left nodes key h =
-    let x = In-list_any (λ (n : Node). is_of key n && (not n.gone && is_head n)) nodes h in
-    let rest = and_right (is_of key x.0) _ x.2 in
+    let x = In-list_any _ _ h in
+    let rest = and_right _ _ x.2 in
     record {
       node = x.0;
       on = x.1;
-      is = same_key-true x.0.key key (and_left (is_of key x.0) _ x.2);
-      here = not-true x.0.gone (and_left (not x.0.gone) _ rest);
-      head = and_right (not x.0.gone) _ rest;
+      is = same_key-true _ key (and_left _ _ x.2);
+      here = not-true _ (and_left _ _ rest);
+      head = and_right _ _ rest;
     }
 
 -- the unit above one that the counts tell nothing else holds
@@ -109,7 +94,7 @@ pub record IsTop (nodes : List Node) (t : Table Node) (us : List Unit) (first : 
   pub is : climbed n t us from ≡ top.key
   pub last : unit_over t us top.key ≡ None
 
-module _ (t : Table Node) (us : List Unit) (ss : List Shelf) (e : Entry) (first : NodeKey) (pending : List NodeKey)
+module _ {t : Table Node} {us : List Unit} {ss : List Shelf} {e : Entry} {first : NodeKey} {pending : List NodeKey}
     (ok : MidEvent t us ss e (first ∷ []) pending) where
   abbrev nodes : List Node
   nodes = nodes_with t e.keys.items
@@ -119,29 +104,26 @@ module _ (t : Table Node) (us : List Unit) (ss : List Shelf) (e : Entry) (first 
 
   -- each collection is whole
   whole : IsWhole c
-  whole = found_whole t e.id ss (shelf_of e) ok.store.kept.whole ok.store.found
+  whole = found_whole t _ ss _ ok.store.kept.whole ok.store.found
 
   -- the shelf is found among them
   on_shelf : In (shelf_of e) ss
-  on_shelf = (In-find (λ (x : Shelf). x.id == e.id) ss (shelf_of e) ok.store.found).0
+  on_shelf = (In-find _ ss _ ok.store.found).0
 
   abbrev above : NodeKey → List NodeKey
-  above = line nodes whole.sound.distinct whole.sound.heads whole.rooted whole.united
+  above = line whole
 
   -- each node stands in the table under its key
   at : (m : Node) → In m nodes → node_at t m.key ≡ Some m
-  at m on = in_all (λ (x : Node). node_at t x.key ≡ Some x) nodes (looked_there t ok.store.kept.named e.keys.items) m on
+  at m on = in_all _ _ (looked_there t ok.store.kept.named _) m on
 
   -- the counts of each collection's units are right
   counted : HasUnits us nodes
-  counted =
-      all_at (λ (d : Collection). HasUnits us d.nodes) (map (collection_in t) ss) ok.store.units c
-      (In-map-back (collection_in t) ss (shelf_of e) on_shelf)
+  counted = all_at _ _ ok.store.units c (In-map-back _ ss _ on_shelf)
 
   -- the counts tell of each head's unit
   told : (m : Node) → In m nodes → unit_at us m.key.slot ≡ unit_of nodes m.key
-  told m on =
-      (in_all (HasUnit us nodes) nodes counted m on).1
+  told m on = (in_all _ _ counted m on).1
 
   -- the table links each node that is not gone to its parent
   linked : (h : Node) → In h nodes → h.gone ≡ false → parent_at t h.key ≡ h.parent
@@ -165,20 +147,19 @@ module _ (t : Table Node) (us : List Unit) (ss : List Shelf) (e : Entry) (first 
   -- the parent in the table is the one of the node
   over_by : (h : Node) → In h nodes → h.gone ≡ false →
       unit_over t us h.key ≡ option_and_then (λ p. over_at (node_at t p)) h.parent
-  over_by h on here = ap (λ (o : Option NodeKey). option_and_then (λ p. over_at (node_at t p)) o) (linked h on here)
+  over_by h on here = ap (λ o. option_and_then (λ p. over_at (node_at t p)) o) (linked h on here)
 
   -- the climb leads to a unit that is there
-  opened : (h : Node) → In h nodes → h.gone ≡ false → (over : NodeKey) → unit_over t us h.key ≡ Some over → IsAbove nodes h over
-  opened h on here over is = from h.parent refl (sym (over_by h on here) ∙ is)
+  opened : (h : Node) → In h nodes → h.gone ≡ false → {over : NodeKey} → unit_over t us h.key ≡ Some over → IsAbove nodes h over
+  opened h on here {over} is = from h.parent refl (sym (over_by h on here) ∙ is)
     where
       from : (o : Option NodeKey) → h.parent ≡ o → option_and_then (λ p. over_at (node_at t p)) o ≡ Some over → IsAbove nodes h over
       from None none h = cc
       from (Some p) hung h =
-          let x = left_node nodes p (left_parent nodes whole.rooted _ p on here hung) in
-          let found : node_at t p ≡ Some x.node = ap (node_at t) (sym x.is) ∙ at x.node x.on in
-          let w = when_some (is_held_once t us x.node) x.node.head over (sym (ap over_at found) ∙ h) in
-          let once = and_right (is_some (node_at t x.node.head)) _ w.0 in
-          let r = head_there nodes whole.sound.distinct whole.sound.heads whole.rooted whole.united x.node x.on x.here in
+          let x = left_node _ p (left_parent _ whole.rooted _ p on here hung) in
+          let w = when_some _ _ (sym (ap over_at (ap (node_at t) (sym x.is) ∙ at _ x.on)) ∙ h) in
+          let once = and_right _ _ w.0 in
+          let r = head_there whole _ x.on x.here in
           let known = told r.0 r.1 in
           record {
             above = x.node;
@@ -192,9 +173,9 @@ module _ (t : Table Node) (us : List Unit) (ss : List Shelf) (e : Entry) (first 
             of = r.2;
             is = r.2 ∙ w.1;
             live = sym (ap (λ (u : Unit). u.live) known) ∙ (ap (λ (k : NodeKey). (unit_at us k.slot).live) r.2
-                ∙ eqb-true (unit_at us x.node.head.slot).live 0 (and_left ((unit_at us x.node.head.slot).live == 0) _ once));
+                ∙ eqb-true _ 0 (and_left _ _ once));
             below = sym (ap (λ (u : Unit). u.below) known) ∙ (ap (λ (k : NodeKey). (unit_at us k.slot).below) r.2
-                ∙ eqb-true (unit_at us x.node.head.slot).below 1 (and_right ((unit_at us x.node.head.slot).live == 0) _ once));
+                ∙ eqb-true _ 1 (and_right _ _ once));
           }
 
   -- and goes no further only where something else holds the unit above
@@ -204,29 +185,22 @@ module _ (t : Table Node) (us : List Unit) (ss : List Shelf) (e : Entry) (first 
       let there : is_some (node_at t q.head) ≡ true = ap is_some (ap (node_at t) unit ∙ at y y_on) in
       let counts : unit_at us q.head.slot ≡ unit_of nodes y.key = ap (λ (k : NodeKey). unit_at us k.slot) unit ∙ told y y_on in
       let none_live : ((unit_at us q.head.slot).live == 0) ≡ true =
-      eq-eqb (unit_at us q.head.slot).live 0 (ap (λ (u : Unit). u.live) counts ∙ live) in
+      eq-eqb _ 0 (ap (λ (u : Unit). u.live) counts ∙ live) in
       let one_below : ((unit_at us q.head.slot).below == 1) ≡ true =
-      eq-eqb (unit_at us q.head.slot).below 1 (ap (λ (u : Unit). u.below) counts ∙ below) in
-      let once : is_held_once t us q ≡ true =
-      and_both (is_some (node_at t q.head)) _ there
-      (and_both ((unit_at us q.head.slot).live == 0) ((unit_at us q.head.slot).below == 1) none_live one_below) in
+      eq-eqb _ 1 (ap (λ (u : Unit). u.below) counts ∙ below) in
+      let once : is_held_once t us q ≡ true = and_both _ _ there (and_both _ _ none_live one_below) in
       let some : unit_over t us top.key ≡ Some q.head =
       over_by top on here ∙ ap (option_and_then (λ p. over_at (node_at t p))) hung ∙ ap over_at (at q q_on)
-      ∙ ap (λ (b : Bool). when b q.head) once in
+      ∙ ap (λ b. when b q.head) once in
       never (sym some ∙ last)
     where
       never : Some q.head ≡ None → ⊥
       never is = cc
 
-  -- the line above a key that is left leads from parent to parent
-  chain_at : (m : Node) → In m nodes → m.gone ≡ false →
-      IsChain (up nodes whole.sound.distinct whole.sound.heads whole.rooted whole.united) m.key (above m.key)
-  chain_at m on here = chain nodes whole.sound.distinct whole.sound.heads whole.rooted whole.united m.key (left_in nodes m on here)
-
   -- so with enough steps it comes to the highest
-  reach : (n : ℕ) (h : Node) (keys : List NodeKey) → AreLoose nodes h keys → is_one keys first ≡ true → length (above h.key) ≤ n →
+  reach : (n : ℕ) {h : Node} {keys : List NodeKey} → AreLoose nodes h keys → is_one keys first ≡ true → length (above h.key) ≤ n →
       IsTop nodes t us first n h.key
-  reach zero h keys unheld own few = record {
+  reach zero {h} {keys} unheld own few = record {
     top = h;
     keys = keys;
     unheld = unheld;
@@ -239,9 +213,9 @@ module _ (t : Table Node) (us : List Unit) (ss : List Shelf) (e : Entry) (first 
       from None is = refl
       from (Some p) is =
           let long : length (above h.key) ≡ length (p ∷ above p) =
-          ap length (step nodes whole.sound.distinct whole.sound.heads whole.rooted whole.united h unheld.on unheld.here p is) in
+          ap length (step whole h unheld.on unheld.here is) in
           absurd (omega (arith, few, long))
-  reach (suc n) h keys unheld own few = from (unit_over t us h.key) refl (λ o ks l w f. reach n o ks l w f)
+  reach (suc n) {h} {keys} unheld own few = from (unit_over t us h.key) refl (λ o ks l w f. reach n l w f)
     where
       from : (o : Option NodeKey) → unit_over t us h.key ≡ o →
           ((m : Node) (ks : List NodeKey) → AreLoose nodes m ks → is_one ks first ≡ true → length (above m.key) ≤ n →
@@ -252,22 +226,20 @@ module _ (t : Table Node) (us : List Unit) (ss : List Shelf) (e : Entry) (first 
         keys = keys;
         unheld = unheld;
         own = own;
-        is = stays t us (suc n) h.key is;
+        is = stays t us (suc n) _ is;
         last = is;
       }
       from (Some over) is on =
-          let x = opened h unheld.on unheld.here over is in
+          let x = opened h unheld.on unheld.here is in
           let high : is_below nodes x.node.key x.above.key ≡ true =
-          subst (λ (k : NodeKey). is_below nodes k x.above.key ≡ true) (sym x.of)
-          (in_unit_below nodes whole.sound.distinct whole.sound.heads whole.rooted whole.united x.above x.above_on x.above_here) in
+          subst (λ k. is_below nodes k x.above.key ≡ true) (sym x.of)
+          (in_unit_below whole x.above x.above_on x.above_here) in
           let shorter : length (above x.node.key) ≤ length (above x.above.key) =
-          no_longer (up nodes whole.sound.distinct whole.sound.heads whole.rooted whole.united) x.node.key x.above.key (above x.above.key)
-          (above x.node.key) (chain_at x.above x.above_on x.above_here) (chain_at x.node x.on x.here) high in
+          shorter whole _ _ (left_in _ x.node x.on x.here) (left_in _ x.above x.above_on x.above_here) high in
           let long : length (above h.key) ≡ length (x.above.key ∷ above x.above.key) =
-          ap length (step nodes whole.sound.distinct whole.sound.heads whole.rooted whole.united h unheld.on unheld.here x.above.key x.up) in
-          let next =
-          on x.node (x.node.key ∷ keys)
-          (climbs nodes whole.sound.distinct whole.sound.heads whole.rooted whole.united h keys unheld x.above x.above_on x.up x.node x.on
+          ap length (step whole h unheld.on unheld.here x.up) in
+          let next = on x.node (x.node.key ∷ keys)
+          (climbs whole unheld x.above x.above_on x.up x.node x.on
           x.here x.head x.of x.live x.below)
           (or_right (same_key first x.node.key) (is_one keys first) own) (omega (arith, few, long, shorter)) in
           record {
@@ -275,7 +247,7 @@ module _ (t : Table Node) (us : List Unit) (ss : List Shelf) (e : Entry) (first 
             keys = next.keys;
             unheld = next.unheld;
             own = next.own;
-            is = goes_on t us n h.key over is ∙ (ap (climbed n t us) (sym x.is) ∙ next.is);
+            is = goes_on t us n h.key is ∙ (ap (climbed n t us) (sym x.is) ∙ next.is);
             last = next.last;
           }
 
@@ -284,43 +256,34 @@ module _ (t : Table Node) (us : List Unit) (ss : List Shelf) (e : Entry) (first 
   module _ (left : is_head_left nodes first ≡ true) where
     -- the head is left
     head : IsHeadLeft nodes first
-    head = head_left nodes first left
+    head = head_left _ _ left
 
     -- the slot of the head has the counts of its unit
     first_told : unit_at us first.slot ≡ unit_of nodes first
-    first_told = subst (λ (k : NodeKey). unit_at us k.slot ≡ unit_of nodes k) head.is (told head.node head.on)
+    first_told = rw head.is at (told _ head.on)
 
     module _ (some : is_held_by (unit_at us first.slot) ≡ true) where
       -- a live node holds it, or a head right below
       holds : list_any (holds_unit nodes first) nodes ≡ true
-      holds = elim (either_holds (unit_of nodes first).live (unit_of nodes first).below (sym (ap is_held_by first_told) ∙ some)) [
-        | inl lives ↦ lives_held nodes first lives
-        | inr below ↦ below_held nodes first below
-      ]
+      holds = grind (arith, below_held, either_holds, first_told, lives_held)
 
       -- the one unit that was loose is held
       all_held : are_held_except [] nodes ≡ true
-      all_held = all_on (λ (n : Node). list_any (same_key n.key) [] || is_held nodes n) nodes (λ m there.
-          elim (either_way (is_one (first ∷ []) m.key)) [
-            | inl is ↦ own m (same_key m.key first) refl is
-            | inr other ↦ from (is_one (first ∷ []) m.key) (is_held nodes m)
-                (all-In (λ (n : Node). is_one (first ∷ []) n.key || is_held nodes n) nodes m there ok.held) other
-          ])
+      all_held = all_on _ nodes (λ m there. elim (either_way (is_one (first ∷ []) m.key)) [
+        | inl is ↦ own m (same_key m.key first) refl is
+        | inr other ↦ rw other at (all-In (λ (n : Node). is_one (first ∷ []) n.key || is_held nodes n) nodes m there ok.held)
+      ])
         where
-          from : (a b : Bool) → (a || b) ≡ true → a ≡ false → b ≡ true
-          from true b all other = cc
-          from false b all other = all
-
           own : (m : Node) (b : Bool) → same_key m.key first ≡ b → (b || false) ≡ true → is_held nodes m ≡ true
           own m false is h = cc
           own m true is h =
-              or_right m.gone _ (or_right (not (is_head m)) (list_any (holds_unit nodes m.key) nodes)
-              (subst (λ (k : NodeKey). list_any (holds_unit nodes k) nodes ≡ true) (sym (same_key-true m.key first is)) holds))
+              or_right _ _ (or_right _ _
+              (subst (λ k. list_any (holds_unit nodes k) nodes ≡ true) (sym (same_key-true _ _ is)) holds))
 
       -- nothing changes
       pub held_led : (handles : Handles) → AfterSteps handles t t us ss e e [] pending
       held_led handles = record {
-        under = with_held t us ss e (first ∷ []) [] pending ok all_held;
+        under = with_held [] ok all_held;
         shelf = refl;
         leads = λ pool others after settles. settles;
         beside = record {
@@ -336,21 +299,19 @@ module _ (t : Table Node) (us : List Unit) (ss : List Shelf) (e : Entry) (first 
       begun : AreLoose nodes head.node (head.node.key ∷ [])
       begun =
           let is : is_held_by (unit_of nodes head.node.key) ≡ false =
-          ap is_held_by (sym (told head.node head.on)) ∙ (ap (λ (k : NodeKey). is_held_by (unit_at us k.slot)) head.is ∙ none) in
+          ap is_held_by (sym (told _ head.on)) ∙ (ap (λ (k : NodeKey). is_held_by (unit_at us k.slot)) head.is ∙ none) in
           let live : times (lives_in head.node.key) nodes ≤ 0 =
           ltb-false 0 (times (lives_in head.node.key) nodes)
-          (or_none_left (nat_lt 0 (times (lives_in head.node.key) nodes)) (nat_lt 0 (times (heads_below nodes head.node.key) nodes)) is) in
+          (or_none_left _ _ is) in
           let below : times (heads_below nodes head.node.key) nodes ≤ 0 =
           ltb-false 0 (times (heads_below nodes head.node.key) nodes)
-          (or_none_right (nat_lt 0 (times (lives_in head.node.key) nodes)) (nat_lt 0 (times (heads_below nodes head.node.key) nodes)) is) in
-          begins nodes whole.sound.distinct whole.sound.heads whole.rooted whole.united head.node head.on head.here head.head
+          (or_none_right _ _ is) in
+          begins whole _ head.on head.here head.head
           (omega arith) (omega arith)
 
       -- the climb goes up while the counts allow, so it ends at the top of what is loose
       made_top : IsTop nodes t us first (table_len t) head.node.key
-      made_top =
-          reach (table_len t) head.node (head.node.key ∷ []) begun
-          (ap (λ (k : NodeKey). is_one (head.node.key ∷ []) k) (sym head.is) ∙ begun.own) (short head.node.key)
+      made_top = reach _ begun (ap (λ k. is_one (head.node.key ∷ []) k) (sym head.is) ∙ begun.own) (short _)
 
       abbrev top : Node
       top = made_top.top
@@ -361,22 +322,18 @@ module _ (t : Table Node) (us : List Unit) (ss : List Shelf) (e : Entry) (first 
 
       -- the top is left, and heads its unit
       pub may_end : (key : NodeKey) → key ≡ climbed (table_len t) t us first → MayGo nodes key None
-      may_end key is =
-          let same = top_is key is in (
-            subst (λ (k : NodeKey). is_left_of nodes k ≡ true) same (left_in nodes top made_top.unheld.on made_top.unheld.here),
-            λ n on own. ap is_head (distinct_one nodes whole.sound.distinct n top on made_top.unheld.on (own ∙ sym same)) ∙ made_top.unheld.head,
-          )
+      may_end key is = grind (arith, at, distinct_one, head, left_in, made_top, top_is, whole)
 
       -- the top is the first head below which nothing lives
       first_is : find (is_deserted_node nodes) nodes ≡ Some top
       first_is =
-          first_deserted nodes whole.sound.distinct whole.sound.heads whole.rooted whole.united top made_top.keys made_top.unheld first
+          first_deserted whole made_top.unheld _
           made_top.own ok.held (closed top made_top.unheld.on made_top.unheld.here made_top.last)
 
       -- what held each other unit is not below the top
       held_then : are_held_except [] (after_end top.key nodes) ≡ true
       held_then =
-          held_now nodes whole.sound.distinct whole.sound.heads whole.rooted whole.united top made_top.keys made_top.unheld first
+          held_now whole made_top.unheld _
           made_top.own ok.held (closed top made_top.unheld.on made_top.unheld.here made_top.last)
 
       -- a deserted unit is decided first
@@ -386,21 +343,19 @@ module _ (t : Table Node) (us : List Unit) (ss : List Shelf) (e : Entry) (first 
       -- what is decided is what is forced
       forced_is : (pool : ℕ) (handles : Handles) (others : List Interval) → forced pool (standing handles others c) ≡ Some (Ended top.key)
       forced_is pool handles others =
-          forced_made handles pool others c
-          ∙ ap (option_map (mark_of pool (pages_in c ++ others))) (decided_is (standing handles others c).strong_open)
+          forced_made handles _ others c ∙ ap (option_map (mark_of pool (pages_in c ++ others))) (decided_is _)
 
       -- the highest ends, as it is forced to, and something holds each unit then
-      pub ended_led : (handles : Handles) (key : NodeKey) → key ≡ climbed (table_len t) t us first → (now : Table Node) (after : List Unit)
-          (new : Entry) (over : Option NodeKey) → AfterRemoval t now after ss e new key None over (first ∷ []) pending →
+      pub ended_led : (handles : Handles) {key : NodeKey} → key ≡ climbed (table_len t) t us first → {now : Table Node} {after : List Unit}
+          {new : Entry} {over : Option NodeKey} → AfterRemoval t now after ss e new key None over (first ∷ []) pending →
           AfterSteps handles t now after ss e new [] pending
-      ended_led handles key is now after new over went = record {
-        under = with_held now after ss new (and_loose over (first ∷ [])) [] pending went.under
-            (subst (λ (ns : List Node). are_held_except [] ns ≡ true)
+      ended_led handles {key} is {now} went = record {
+        under = with_held [] went.under
+            (subst (λ ns. are_held_except [] ns ≡ true)
             (sym (ap (λ (s : Shelf). nodes_with now s.keys) went.shelf ∙ went_is)) held_then);
         shelf = went.shelf;
-        leads = λ pool others last settles.
-            Forces c last (Ended top.key) (forced_is pool handles others)
-            (subst (λ (d : Collection). Settles pool handles others d last) (λ i. record c { nodes = went_is i }) settles);
+        leads = λ pool others last settles. Forces c last (Ended top.key) (forced_is pool handles others)
+            (subst (λ d. Settles pool handles others d last) (λ i. record c { nodes = went_is i }) settles);
         beside = went.beside;
       }
         where

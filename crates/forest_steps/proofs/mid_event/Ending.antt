@@ -1,18 +1,13 @@
 -- Units one above another that nothing holds but the one below: their heads alone are deserted, and the highest is the first. Once it
 -- ended with all below it, something holds each unit.
-use Rattle.forest_steps.proofs.Common.{◌≡◌, ℕ, zero, suc, ◌+◌, ◌<◌, ◌≤◌, refl, ap, sym, ◌∙◌, subst, Bool, true, false, not, ◌&&◌, ◌||◌, ◌⊎◌, is_none, inl, inr, List, [], ◌∷◌, length, reverse, Option, Some, None, arith, not-true, find, list_any, list_all, option_map_or, NodeKey, same_key, times, In, In-list_any, In-map, In-map-back, and_both, and_left, and_right, both_ways, either_way, false_if, or_cases, or_left, or_right, same_key-refl, same_key-true, all_on, In-any, Node, lives_in, is_left_of, is_of, is_deserted_node, is_live_node, are_distinct, heads_itself, are_rooted, is_head}
+use Rattle.forest_steps.proofs.Common.{◌≡◌, ℕ, zero, suc, ◌+◌, ◌<◌, ◌≤◌, refl, ap, sym, ◌∙◌, subst, Bool, true, false, not, ◌&&◌, ◌||◌, ◌⊎◌, inl, inr, List, [], ◌∷◌, length, reverse, Option, Some, arith, not-true, find, list_any, option_map_or, NodeKey, same_key, times, In, In-list_any, In-map, In-map-back, and_both, and_left, and_right, both_ways, either_way, false_if, or_cases, or_left, or_right, same_key-refl, same_key-true, some-injective, all_on, In-any, Node, lives_in, is_left_of, is_of, is_deserted_node, is_live_node, are_distinct, is_head, same_key-equal, list_any-map, hangs_in, heads_below, after_end, ended, is_below, count_none, all-In, AreOne, distinct_one, left_in, left_parent, Collection, IsWhole}
+use Rattle.forest_steps.proofs.tables.Upward.{line, step, shorter, in_unit_below, below_through, below_self, below_parent, still_here}
 use Rattle.std.proofs.lemmas.List.{length-reverse}
-use Rattle.sm_names.proofs.ListLaws.{list_any-map, times-zero}
-use Rattle.forest_store.specs.Counts.{hangs_in, heads_below}
-use Rattle.forest_store.specs.Nodes.{after_end, ended}
-use Rattle.forest_store.specs.Questions.{is_below, lives_below}
+use Rattle.sm_names.proofs.ListLaws.{times-zero}
+use Rattle.forest_store.specs.Questions.{lives_below}
 use Rattle.forest_steps.specs.MidEvent.{are_held_except, holds_unit, is_held}
-use Rattle.forest_store.specs.Units.{are_united}
-use Rattle.forest_store.proofs.quiescence.Calming.{count_none}
-use Rattle.forest_store.proofs.quiescence.Steps.{all-In}
 use Rattle.forest_steps.proofs.quiescence.Topmost.{find_top}
-use Rattle.forest_store.proofs.tables.Rooted.{AreOne, distinct_one, left_in, left_parent}
-use Rattle.forest_store.proofs.tallies.Holding.{above_short, below_parent, below_self, below_through, chain, dead_deserted, in_unit_below, line, no_longer, step, still_here, up}
+use Rattle.forest_store.proofs.tallies.Holding.{above_short, dead_deserted}
 
 -- ---- counts
 
@@ -31,10 +26,10 @@ one_counts p (n ∷ ns) a b one on too ha hb = elim (either_way (p n)) [
   where
     first : list_any p ns ≡ false → (m : Node) → In m (n ∷ ns) → p m ≡ true → m ≡ n
     first none m (inl is) h = is
-    first none m (inr there) h = both_ways (list_any p ns) (In-any p ns m there h) none
+    first none m (inr there) h = both_ways _ (In-any p ns m there h) none
 
     later : p n ≡ false → (m : Node) → In m (n ∷ ns) → p m ≡ true → In m ns
-    later e m (inl is) h = both_ways (p n) (sym (ap p is) ∙ h) e
+    later e m (inl is) h = both_ways _ (sym (ap p is) ∙ h) e
     later e m (inr there) h = there
 
 -- where one alone passes, the count is 1
@@ -42,24 +37,21 @@ alone_counts : (p : Node → Bool) (ns : List Node) → are_distinct ns ≡ true
     ((b : Node) → In b ns → p b ≡ true → b.key ≡ a.key) → times p ns ≡ 1
 alone_counts p [] distinct a on h alone = absurd on
 alone_counts p (n ∷ ns) distinct a on h alone =
-    from on (λ there. alone_counts p ns (and_right (not (list_any (is_of n.key) ns)) (are_distinct ns) distinct) a there h (λ b t.
-    alone b (inr t)))
+    from on (λ there. alone_counts p ns (and_right _ _ distinct) a there h (λ b t. alone b (inr t)))
   where
     apart : (m : Node) → In m ns → m.key ≡ n.key → ⊥
     apart m there is =
-        both_ways (list_any (is_of n.key) ns) (In-any (is_of n.key) ns m there (ap (λ (k : NodeKey). same_key k n.key) is
-        ∙ same_key-refl n.key)) (not-true (list_any (is_of n.key) ns) (and_left (not (list_any (is_of n.key) ns)) (are_distinct ns) distinct))
+        both_ways _ (In-any _ ns m there (same_key-equal _ _ is)) (not-true _ (and_left _ _ distinct))
 
     from : In a (n ∷ ns) → (In a ns → times p ns ≡ 1) → times p (n ∷ ns) ≡ 1
     from (inl is) later =
         let here : p n ≡ true = sym (ap p is) ∙ h in
-        let none : times p ns ≡ 0 = times-zero p ns (λ b there. false_if (p b) (λ passes.
+        let none : times p ns ≡ 0 = times-zero p ns (λ b there. false_if _ (λ passes.
         absurd (apart b there (alone b (inr there) passes ∙ ap (λ (m : Node). m.key) is)))) in
         rw (here, none) refl
     from (inr there) later =
-        let here : p n ≡ false = false_if (p n) (λ passes. absurd (apart a there (sym (alone n (inl refl) passes)))) in
-        let rest : times p ns ≡ 1 = later there in
-        rw (here, rest) refl
+        let here : p n ≡ false = false_if _ (λ passes. absurd (apart a there (sym (alone n (inl refl) passes)))) in
+        rw (here, later there) refl
 
 -- so there is another where it is not
 other_counts : (p : Node → Bool) (ns : List Node) → are_distinct ns ≡ true → (a : Node) → In a ns → p a ≡ true →
@@ -67,13 +59,12 @@ other_counts : (p : Node → Bool) (ns : List Node) → are_distinct ns ≡ true
 other_counts p ns distinct a on h more =
     elim (either_way (list_any (λ (b : Node). p b && not (same_key b.key a.key)) ns)) [
       | inl e ↦
-          let x = In-list_any (λ (b : Node). p b && not (same_key b.key a.key)) ns e in
-          (x.0, x.1, and_left (p x.0) _ x.2, not-true (same_key x.0.key a.key) (and_right (p x.0) _ x.2))
+          let x = In-list_any _ ns e in
+          (x.0, x.1, and_left _ _ x.2, not-true _ (and_right _ _ x.2))
       | inr e ↦ absurd (more (alone_counts p ns distinct a on h (λ b there passes. elim (either_way (same_key b.key a.key)) [
-        | inl same ↦ same_key-true b.key a.key same
+        | inl same ↦ same_key-true _ _ same
         | inr other ↦
-            both_ways (list_any (λ (b : Node). p b && not (same_key b.key a.key)) ns)
-            (In-any (λ (b : Node). p b && not (same_key b.key a.key)) ns b there (and_both (p b) _ passes (ap not other))) e
+            both_ways _ (In-any _ ns b there (and_both _ _ passes (ap not other))) e
       ])))
     ]
 
@@ -106,40 +97,31 @@ pub record IsHolder (nodes : List Node) (keys : List NodeKey) (head : NodeKey) :
 
 -- the one key of a list
 alone_is : (a b : NodeKey) → is_one (b ∷ []) a ≡ true → a ≡ b
-alone_is a b h = elim (or_cases (same_key a b) false h) [
-  | inl e ↦ same_key-true a b e
-  | inr e ↦ cc
-]
-
--- the constructor is injective
-some_key : (a b : NodeKey) → Some a ≡ Some b → a ≡ b
-some_key a b is = cc
+alone_is a b h = grind (arith, same_key-true)
 
 -- none passes, so none is counted
 none_counts : (p : Node → Bool) (ns : List Node) → list_any p ns ≡ false → times p ns ≡ 0
-none_counts p ns none = times-zero p ns (λ x there. false_if (p x) (λ e. both_ways (list_any p ns) (In-any p ns x there e) none))
+none_counts p ns none = times-zero p ns (λ x there. false_if _ (λ e. both_ways _ (In-any p ns x there e) none))
 
-module _ (nodes : List Node) (distinct : are_distinct nodes ≡ true) (heads : list_all heads_itself nodes ≡ true)
-    (rooted : are_rooted (reverse nodes) ≡ true) (united : are_united (reverse nodes) ≡ true) where
+module _ {c : Collection} (whole : IsWhole c) where
+  abbrev nodes : List Node
+  nodes = c.nodes
+
   -- no two nodes of the list have one key
   one : AreOne nodes
-  one = distinct_one nodes distinct
+  one = distinct_one _ whole.sound.distinct
 
   -- ---- what hangs in a unit
 
   -- the parent is found, and is of the unit
-  hangs : (k : NodeKey) (x q : Node) (p : NodeKey) → x.parent ≡ Some p → In q nodes → q.key ≡ p → q.head ≡ k → hangs_in nodes k x ≡ true
-  hangs k x q p above on is unit =
-      ap (λ (o : Option NodeKey). option_map_or (λ j. list_any (λ (y : Node). is_of j y && same_key y.head k) nodes) o false) above
-      ∙ In-any (λ (y : Node). is_of p y && same_key y.head k) nodes q on
-      (and_both (is_of p q) (same_key q.head k) (ap (λ (j : NodeKey). same_key j p) is ∙ same_key-refl p)
-      (ap (λ (j : NodeKey). same_key j k) unit ∙ same_key-refl k))
+  hangs : (k : NodeKey) (x q : Node) {p : NodeKey} → x.parent ≡ Some p → In q nodes → q.key ≡ p → q.head ≡ k → hangs_in nodes k x ≡ true
+  hangs k x q above on is unit = grind (arith, In-any, same_key-equal)
 
   -- it is attached, not gone, and its parent is of the unit
-  counts : (k : NodeKey) (x q : Node) (p : NodeKey) → x.gone ≡ false → x.attached ≡ true → x.parent ≡ Some p → In q nodes → q.key ≡ p →
+  counts : (k : NodeKey) (x q : Node) {p : NodeKey} → x.gone ≡ false → x.attached ≡ true → x.parent ≡ Some p → In q nodes → q.key ≡ p →
       q.head ≡ k → heads_below nodes k x ≡ true
-  counts k x q p here attached above on is unit =
-      and_both (not x.gone) _ (ap not here) (and_both x.attached _ attached (hangs k x q p above on is unit))
+  counts k x q here attached above on is unit =
+      and_both _ _ (ap not here) (and_both _ _ attached (hangs k x q above on is unit))
 
   -- by cases on the parent: one is found
   hung : (k : NodeKey) (x : Node) → hangs_in nodes k x ≡ true →
@@ -149,26 +131,16 @@ module _ (nodes : List Node) (distinct : are_distinct nodes ≡ true) (heads : l
       from : (o : Option NodeKey) → x.parent ≡ o →
           option_map_or (λ p. list_any (λ (q : Node). is_of p q && same_key q.head k) nodes) o false ≡ true →
           (p : NodeKey) × (x.parent ≡ Some p) × (q : Node) × In q nodes × (q.key ≡ p) × (q.head ≡ k)
-      from None is h = cc
-      from (Some p) is h =
-          let y = In-list_any (λ (q : Node). is_of p q && same_key q.head k) nodes h in (
-            p,
-            is,
-            y.0,
-            y.1,
-            same_key-true y.0.key p (and_left (is_of p y.0) _ y.2),
-            same_key-true y.0.head k (and_right (is_of p y.0) _ y.2),
-          )
+      from o h k = grind (arith, In-list_any, same_key-true)
 
   -- no node of a unit without a live one is live
   released : (k : NodeKey) → times (lives_in k) nodes ≡ 0 → (x : Node) → In x nodes → x.gone ≡ false → x.head ≡ k → x.released ≡ true
   released k none x there here is = elim (either_way x.released) [
     | inl r ↦ r
     | inr r ↦
-        both_ways (list_any (lives_in k) nodes)
-        (In-any (lives_in k) nodes x there
-        (and_both (is_live_node x) (same_key x.head k) (and_both (not x.gone) (not x.released) (ap not here) (ap not r))
-        (ap (λ (j : NodeKey). same_key j k) is ∙ same_key-refl k)))
+        both_ways _
+        (In-any (lives_in k) _ x there
+        (and_both _ _ (and_both _ _ (ap not here) (ap not r)) (same_key-equal _ _ is)))
         (count_none (lives_in k) nodes none)
   ]
 
@@ -181,66 +153,60 @@ module _ (nodes : List Node) (distinct : are_distinct nodes ≡ true) (heads : l
     on = on;
     here = here;
     head = head;
-    own = or_left (same_key h.key h.key) false (same_key-refl h.key);
+    own = or_left _ false (same_key-refl h.key);
     low = λ k there.
-        let is : k ≡ h.key = alone_is k h.key there in (
-          subst (λ (j : NodeKey). is_left_of nodes j ≡ true) (sym is) (left_in nodes h on here),
-          subst (λ (j : NodeKey). is_below nodes h.key j ≡ true) (sym is) (below_self nodes distinct heads rooted united h.key),
+        let is : k ≡ h.key = alone_is k _ there in (
+          rw is (left_in _ h on here),
+          rw is (below_self whole h.key),
         );
-    still = λ x there left dead. released h.key live x there left (alone_is x.head h.key dead);
-    under = λ x there left attached p above q q_on q_is dead.
-        both_ways (list_any (heads_below nodes h.key) nodes)
-        (In-any (heads_below nodes h.key) nodes x there
-        (counts h.key x q p left attached above q_on q_is (alone_is q.head h.key dead)))
+    still = λ x there left dead. released _ live x there left (alone_is _ _ dead);
+    under = λ x there left attached p above q q_on q_is dead. both_ways _
+        (In-any (heads_below nodes h.key) _ x there
+        (counts _ x q left attached above q_on q_is (alone_is _ _ dead)))
         (count_none (heads_below nodes h.key) nodes below);
-    over = λ x there dead other p above q q_on q_is.
-        both_ways (same_key x.key h.key) (ap (λ (k : NodeKey). same_key k h.key) (alone_is x.key h.key dead) ∙ same_key-refl h.key) other;
+    over = λ x there dead other p above q q_on q_is. both_ways _ (same_key-equal x.key h.key (alone_is _ _ dead)) other;
   }
 
   -- and goes on to the unit above, where no node of that is live, and one unit alone hangs right below it
-  pub climbs : (h : Node) (keys : List NodeKey) → AreLoose nodes h keys → (q : Node) → In q nodes → h.parent ≡ Some q.key →
+  pub climbs : {h : Node} {keys : List NodeKey} → AreLoose nodes h keys → (q : Node) → In q nodes → h.parent ≡ Some q.key →
       (o : Node) → In o nodes → o.gone ≡ false → is_head o ≡ true → o.key ≡ q.head → times (lives_in o.key) nodes ≡ 0 →
       times (heads_below nodes o.key) nodes ≡ 1 → AreLoose nodes o (o.key ∷ keys)
-  climbs h keys unheld q q_on h_up o on here head is live below = record {
+  climbs {h} {keys} unheld q q_on h_up o on here head is live below = record {
     on = on;
     here = here;
     head = head;
-    own = or_left (same_key o.key o.key) (is_one keys o.key) (same_key-refl o.key);
-    low = λ k there. elim (or_cases (same_key k o.key) (is_one keys k) there) [
+    own = or_left _ _ (same_key-refl o.key);
+    low = λ k there. elim (or_cases _ _ there) [
       | inl e ↦
-          let same : k ≡ o.key = same_key-true k o.key e in (
-            subst (λ (j : NodeKey). is_left_of nodes j ≡ true) (sym same) (left_in nodes o on here),
-            subst (λ (j : NodeKey). is_below nodes o.key j ≡ true) (sym same) (below_self nodes distinct heads rooted united o.key),
-          )
+          let same : k ≡ o.key = same_key-true k o.key e in
+          (rw same (left_in nodes o on here), rw same (below_self whole o.key))
       | inr e ↦ (
         (unheld.low k e).0,
-        below_through nodes distinct heads rooted united o.key h.key k (unheld.low k e).0 (left_in nodes h unheld.on unheld.here)
+        below_through whole o.key h.key k (unheld.low k e).0 (left_in nodes h unheld.on unheld.here)
             (unheld.low k e).1 high,
       )
     ];
-    still = λ x there left dead. elim (or_cases (same_key x.head o.key) (is_one keys x.head) dead) [
-      | inl e ↦ released o.key live x there left (same_key-true x.head o.key e)
+    still = λ x there left dead. elim (or_cases _ _ dead) [
+      | inl e ↦ released o.key live x there left (same_key-true _ _ e)
       | inr e ↦ unheld.still x there left e
     ];
-    under = λ x there left attached p above r r_on r_is dead. elim (or_cases (same_key r.head o.key) (is_one keys r.head) dead) [
+    under = λ x there left attached p above r r_on r_is dead. elim (or_cases _ _ dead) [
       | inl e ↦
-          let same : x ≡ h =
-          one_counts (heads_below nodes o.key) nodes x h below there unheld.on
-          (counts o.key x r p left attached above r_on r_is (same_key-true r.head o.key e))
-          (counts o.key h q q.key unheld.here h_attached h_up q_on refl (sym is)) in
-          or_right (same_key x.key o.key) (is_one keys x.key) (subst (λ (m : Node). is_one keys m.key ≡ true) (sym same) unheld.own)
-      | inr e ↦ or_right (same_key x.key o.key) (is_one keys x.key) (unheld.under x there left attached p above r r_on r_is e)
+          let same : x ≡ h = one_counts (heads_below nodes o.key) nodes x h below there unheld.on
+          (counts _ x r left attached above r_on r_is (same_key-true _ _ e))
+          (counts _ h q unheld.here h_attached h_up q_on refl (sym is)) in
+          or_right _ _ (subst (λ (m : Node). is_one keys m.key ≡ true) (sym same) unheld.own)
+      | inr e ↦ or_right _ _ (unheld.under x there left attached p above r r_on r_is e)
     ];
-    over = λ x there dead other p above r r_on r_is. elim (or_cases (same_key x.key o.key) (is_one keys x.key) dead) [
-      | inl e ↦ both_ways (same_key x.key o.key) e other
+    over = λ x there dead other p above r r_on r_is. elim (or_cases _ _ dead) [
+      | inl e ↦ both_ways _ e other
       | inr e ↦ elim (either_way (same_key x.key h.key)) [
         | inl same ↦
-            let is_h : x ≡ h = one x h there unheld.on (same_key-true x.key h.key same) in
-            let key : p ≡ q.key = some_key p q.key (sym above ∙ (ap (λ (m : Node). m.parent) is_h ∙ h_up)) in
+            let is_h : x ≡ h = one x h there unheld.on (same_key-true _ _ same) in
+            let key : p ≡ q.key = some-injective p q.key (sym above ∙ (ap (λ (m : Node). m.parent) is_h ∙ h_up)) in
             let is_q : r ≡ q = one r q r_on q_on (r_is ∙ key) in
-            let unit : r.head ≡ o.key = ap (λ (m : Node). m.head) is_q ∙ sym is in
-            or_left (same_key r.head o.key) (is_one keys r.head) (ap (λ (k : NodeKey). same_key k o.key) unit ∙ same_key-refl o.key)
-        | inr not_h ↦ or_right (same_key r.head o.key) (is_one keys r.head) (unheld.over x there e not_h p above r r_on r_is)
+            or_left _ _ (same_key-equal _ _ (ap (λ (m : Node). m.head) is_q ∙ sym is))
+        | inr not_h ↦ or_right _ _ (unheld.over x there e not_h p above r r_on r_is)
       ]
     ];
   }
@@ -249,26 +215,23 @@ module _ (nodes : List Node) (distinct : are_distinct nodes ≡ true) (heads : l
       h_attached = rw h_up at unheld.head
 
       q_here : q.gone ≡ false
-      q_here = still_here nodes distinct heads rooted united q q_on (left_parent nodes rooted h q.key unheld.on unheld.here h_up)
+      q_here = still_here whole q q_on (left_parent _ whole.rooted h _ unheld.on unheld.here h_up)
 
       high : is_below nodes o.key h.key ≡ true
       high =
-          below_parent nodes distinct heads rooted united o.key h unheld.on unheld.here q.key h_up
-          (subst (λ (k : NodeKey). is_below nodes k q.key ≡ true) (sym is) (in_unit_below nodes distinct heads rooted united q q_on q_here))
+          below_parent whole o.key h unheld.on unheld.here h_up
+          (subst (λ k. is_below nodes k q.key ≡ true) (sym is) (in_unit_below whole q q_on q_here))
 
   -- ---- its end
 
-  module _ (top : Node) (keys : List NodeKey) (unheld : AreLoose nodes top keys) (first : NodeKey) (first_in : is_one keys first ≡ true)
+  module _ {top : Node} {keys : List NodeKey} (unheld : AreLoose nodes top keys) (first : NodeKey) (first_in : is_one keys first ≡ true)
       (held : are_held_except (first ∷ []) nodes ≡ true)
       (out : (y q : Node) → In y nodes → In q nodes → top.parent ≡ Some q.key → q.head ≡ y.key → times (lives_in y.key) nodes ≡ 0 →
       times (heads_below nodes y.key) nodes ≡ 1 → ⊥) where
     -- below the highest, what hangs in a unit hangs in one of these
     inner : (k : NodeKey) → is_one keys k ≡ false → (x : Node) → In x nodes → is_one keys x.key ≡ true → same_key x.key top.key ≡ false →
         hangs_in nodes k x ≡ true → ⊥
-    inner k alive x there dead lower h =
-        let u = hung k x h in
-        both_ways (is_one keys k)
-        (subst (λ (j : NodeKey). is_one keys j ≡ true) u.5 (unheld.over x there dead lower u.0 u.1 u.2 u.3 u.4)) alive
+    inner k alive x there dead lower h = grind (arith, hung)
 
     -- so something else holds each unit but these
     at_top : (y : Node) → In y nodes → is_one keys y.key ≡ false → top.attached ≡ true → hangs_in nodes y.key top ≡ true →
@@ -280,26 +243,25 @@ module _ (nodes : List Node) (distinct : are_distinct nodes ≡ true) (heads : l
           record {
             node = x.0;
             on = x.1;
-            here = not-true x.0.gone (and_left (not x.0.gone) _ live);
+            here = not-true _ (and_left _ _ live);
             holds = inl (
-              same_key-true x.0.head y.key (and_right (is_live_node x.0) _ x.2),
-              not-true x.0.released (and_right (not x.0.gone) _ live),
+              same_key-true _ _ (and_right (is_live_node x.0) _ x.2),
+              not-true _ (and_right (not x.0.gone) _ live),
             );
           }
       | inr e ↦
-          let u = hung y.key top h in
-          let x =
-          other_counts (heads_below nodes y.key) nodes distinct top unheld.on
-          (counts y.key top u.2 u.0 unheld.here attached u.1 u.3 u.4 u.5)
+          let u = hung _ top h in
+          let x = other_counts (heads_below nodes y.key) nodes whole.sound.distinct top unheld.on
+          (counts _ top u.2 unheld.here attached u.1 u.3 u.4 u.5)
           (λ is. out y u.2 on u.3 (u.1 ∙ ap Some (sym u.4)) u.5 (none_counts (lives_in y.key) nodes e) is) in
           let rest : (x.0.attached && hangs_in nodes y.key x.0) ≡ true = and_right (not x.0.gone) _ x.2 in
           elim (either_way (is_one keys x.0.key)) [
-            | inl dead ↦ absurd (inner y.key alive x.0 x.1 dead x.3 (and_right x.0.attached _ rest))
+            | inl dead ↦ absurd (inner _ alive x.0 x.1 dead x.3 (and_right x.0.attached _ rest))
             | inr free ↦ record {
               node = x.0;
               on = x.1;
-              here = not-true x.0.gone (and_left (not x.0.gone) _ x.2);
-              holds = inr (and_left x.0.attached _ rest, free, and_right x.0.attached _ rest);
+              here = not-true _ (and_left (not x.0.gone) _ x.2);
+              holds = inr (and_left _ _ rest, free, and_right x.0.attached _ rest);
             }
           ]
     ]
@@ -307,8 +269,8 @@ module _ (nodes : List Node) (distinct : are_distinct nodes ≡ true) (heads : l
     -- something holds the unit, and none of the loose units does
     holder : (y : Node) → In y nodes → y.gone ≡ false → is_head y ≡ true → is_one keys y.key ≡ false → IsHolder nodes keys y.key
     holder y on here head alive =
-        let x = In-list_any (holds_unit nodes y.key) nodes some in
-        let left : x.0.gone ≡ false = not-true x.0.gone (and_left (not x.0.gone) _ x.2) in
+        let x = In-list_any _ _ some in
+        let left : x.0.gone ≡ false = not-true _ (and_left _ _ x.2) in
         elim (or_cases (same_key x.0.head y.key && not x.0.released) (x.0.attached && hangs_in nodes y.key x.0)
         (and_right (not x.0.gone) _ x.2)) [
           | inl l ↦ record {
@@ -316,8 +278,8 @@ module _ (nodes : List Node) (distinct : are_distinct nodes ≡ true) (heads : l
             on = x.1;
             here = left;
             holds = inl (
-              same_key-true x.0.head y.key (and_left (same_key x.0.head y.key) _ l),
-              not-true x.0.released (and_right (same_key x.0.head y.key) _ l),
+              same_key-true _ _ (and_left (same_key x.0.head y.key) _ l),
+              not-true _ (and_right (same_key x.0.head y.key) _ l),
             );
           }
           | inr b ↦ elim (either_way (is_one keys x.0.key)) [
@@ -328,9 +290,9 @@ module _ (nodes : List Node) (distinct : are_distinct nodes ≡ true) (heads : l
               holds = inr (and_left x.0.attached _ b, free, and_right x.0.attached _ b);
             }
             | inl dead ↦ elim (either_way (same_key x.0.key top.key)) [
-              | inr lower ↦ absurd (inner y.key alive x.0 x.1 dead lower (and_right x.0.attached _ b))
+              | inr lower ↦ absurd (inner _ alive x.0 x.1 dead lower (and_right x.0.attached _ b))
               | inl same ↦
-                  let is : x.0 ≡ top = one x.0 top x.1 unheld.on (same_key-true x.0.key top.key same) in
+                  let is : x.0 ≡ top = one x.0 top x.1 unheld.on (same_key-true _ _ same) in
                   at_top y on alive (sym (ap (λ (m : Node). m.attached) is) ∙ and_left x.0.attached _ b)
                   (sym (ap (hangs_in nodes y.key) is) ∙ and_right x.0.attached _ b)
             ]
@@ -338,21 +300,18 @@ module _ (nodes : List Node) (distinct : are_distinct nodes ≡ true) (heads : l
         ]
       where
         from : (o g h s : Bool) → (o || (g || (not h || s))) ≡ true → o ≡ false → g ≡ false → h ≡ true → s ≡ true
-        from true g h s all free e head_is = cc
-        from false true h s all free e head_is = cc
-        from false false false s all free e head_is = cc
-        from false false true s all free e head_is = all
+        from o g h s all free e head_is = grind arith
 
         some : list_any (holds_unit nodes y.key) nodes ≡ true
         some =
             from (is_one (first ∷ []) y.key) y.gone (is_head y) (list_any (holds_unit nodes y.key) nodes)
-            (all-In (λ (n : Node). is_one (first ∷ []) n.key || is_held nodes n) nodes y on held)
-            (false_if (is_one (first ∷ []) y.key) (λ e. both_ways (is_one keys y.key)
-            (subst (λ (k : NodeKey). is_one keys k ≡ true) (sym (alone_is y.key first e)) first_in) alive)) here head
+            (all-In _ _ y on held)
+            (false_if _ (λ e. both_ways _
+            (subst (λ k. is_one keys k ≡ true) (sym (alone_is _ _ e)) first_in) alive)) here head
 
     -- and a live node lies at or below each head but these
     lives : (fuel : ℕ) (y : Node) → In y nodes → y.gone ≡ false → is_head y ≡ true → is_one keys y.key ≡ false →
-        length nodes < fuel + length (line nodes distinct heads rooted united y.key) → list_any (lives_below nodes y.key) nodes ≡ true
+        length nodes < fuel + length (line whole y.key) → list_any (lives_below nodes y.key) nodes ≡ true
     lives zero y on here head alive long =
         let short = above_short (reverse nodes) y.key in
         let same : length (reverse nodes) ≡ length nodes = length-reverse nodes in
@@ -361,37 +320,26 @@ module _ (nodes : List Node) (distinct : are_distinct nodes ≡ true) (heads : l
         let x = holder y on here head alive in
         elim x.holds [
           | inl l ↦
-              In-any (lives_below nodes y.key) nodes x.node x.on
-              (and_both (is_live_node x.node) (is_below nodes y.key x.node.key)
-              (and_both (not x.node.gone) (not x.node.released) (ap not x.here) (ap not l.1))
-              (subst (λ (k : NodeKey). is_below nodes k x.node.key ≡ true) l.0 (in_unit_below nodes distinct heads rooted united x.node
-              x.on x.here)))
+              In-any (lives_below nodes y.key) _ x.node x.on (and_both _ _ (and_both _ _ (ap not x.here) (ap not l.1))
+              (subst (λ k. is_below nodes k x.node.key ≡ true) l.0 (in_unit_below whole x.node x.on x.here)))
           | inr b ↦
               let u = hung y.key x.node b.2 in
               let p : NodeKey = u.0 in
               let q : Node = u.2 in
-              let left : is_left_of nodes p ≡ true = left_parent nodes rooted x.node p x.on x.here u.1 in
-              let q_here : q.gone ≡ false =
-              still_here nodes distinct heads rooted united q u.3 (subst (λ (k : NodeKey). is_left_of nodes k ≡ true) (sym u.4) left) in
+              let left : is_left_of nodes p ≡ true = left_parent _ whole.rooted x.node p x.on x.here u.1 in
               let at : is_below nodes y.key p ≡ true =
-              subst (λ (k : NodeKey). is_below nodes y.key k ≡ true) u.4
-              (subst (λ (k : NodeKey). is_below nodes k q.key ≡ true) u.5 (in_unit_below nodes distinct heads rooted united q u.3 q_here)) in
+              rw u.4 at (subst (λ k. is_below nodes k q.key ≡ true) u.5
+              (in_unit_below whole q u.3 (still_here whole q u.3 (rw u.4 left)))) in
               let under : is_below nodes y.key x.node.key ≡ true =
-              below_parent nodes distinct heads rooted united y.key x.node x.on x.here p u.1 at in
-              let longer : length (line nodes distinct heads rooted united x.node.key) ≡ length (p ∷ line nodes distinct heads rooted united p)
-              = ap length (step nodes distinct heads rooted united x.node x.on x.here p u.1) in
-              let more : length (line nodes distinct heads rooted united y.key) ≤ length (line nodes distinct heads rooted united p) =
-              no_longer (up nodes distinct heads rooted united) y.key p (line nodes distinct heads rooted united p)
-              (line nodes distinct heads rooted united y.key) (chain nodes distinct heads rooted united p left)
-              (chain nodes distinct heads rooted united y.key (left_in nodes y on here)) at in
-              let z = In-list_any (lives_below nodes x.node.key) nodes
-              (lives fuel x.node x.on x.here (or_right (is_none x.node.parent) x.node.attached b.0) b.1 (omega arith)) in
-              let live : is_live_node z.0 ≡ true = and_left (is_live_node z.0) _ z.2 in
-              let z_here : z.0.gone ≡ false = not-true z.0.gone (and_left (not z.0.gone) _ live) in
-              In-any (lives_below nodes y.key) nodes z.0 z.1
-              (and_both (is_live_node z.0) (is_below nodes y.key z.0.key) live
-              (below_through nodes distinct heads rooted united y.key x.node.key z.0.key (left_in nodes z.0 z.1 z_here)
-              (left_in nodes x.node x.on x.here) (and_right (is_live_node z.0) _ z.2) under))
+              below_parent whole y.key x.node x.on x.here u.1 at in
+              let longer : length (line whole x.node.key) ≡ length (p ∷ line whole p)
+              = ap length (step whole x.node x.on x.here u.1) in
+              let more : length (line whole y.key) ≤ length (line whole p) =
+              shorter whole y.key p (left_in nodes y on here) left at in
+              let z = In-list_any (lives_below nodes x.node.key) nodes (lives fuel x.node x.on x.here (or_right _ _ b.0) b.1 (omega arith)) in
+              let live : is_live_node z.0 ≡ true = and_left _ _ z.2 in
+              In-any _ _ z.0 z.1 (and_both _ _ live (below_through whole _ _ _
+              (left_in _ z.0 z.1 (not-true _ (and_left _ _ live))) (left_in _ _ x.on x.here) (and_right _ _ z.2) under))
         ]
 
     -- by induction: what holds the unit lives, or heads a unit that is held
@@ -402,27 +350,27 @@ module _ (nodes : List Node) (distinct : are_distinct nodes ≡ true) (heads : l
     -- the highest is the first that is deserted
     deserted : is_deserted_node nodes top ≡ true
     deserted =
-        dead_deserted nodes distinct heads rooted united (is_one keys) unheld.still unheld.under top unheld.on unheld.here unheld.head unheld.own
+        dead_deserted _ whole.sound.distinct whole.sound.heads whole.rooted whole.united _ unheld.still unheld.under top
+        unheld.on unheld.here unheld.head unheld.own
 
     -- the top is deserted
     none_live : list_any (lives_below nodes top.key) nodes ≡ false
-    none_live = not-true _ (and_right (not top.gone) _ (and_right (is_head top) _ deserted))
+    none_live = not-true _ (and_right _ _ (and_right _ _ deserted))
 
     -- a deserted head is loose, since each other unit has a live node below
     low : (y : Node) → In y nodes → is_deserted_node nodes y ≡ true → (y.gone ≡ false) × (is_below nodes top.key y.key ≡ true)
     low y on d =
-        let rest = and_right (is_head y) _ d in
-        let here : y.gone ≡ false = not-true y.gone (and_left (not y.gone) _ rest) in
+        let rest = and_right _ _ d in
+        let here : y.gone ≡ false = not-true _ (and_left _ _ rest) in
         elim (either_way (is_one keys y.key)) [
           | inl dead ↦ (here, (unheld.low y.key dead).1)
           | inr alive ↦
-              both_ways (list_any (lives_below nodes y.key) nodes)
-              (lives_at y on here (and_left (is_head y) _ d) alive) (not-true _ (and_right (not y.gone) _ rest))
+              both_ways _ (lives_at y on here (and_left _ _ d) alive) (not-true _ (and_right _ _ rest))
         ]
 
     -- all other deserted heads lie below the top
     pub first_deserted : find (is_deserted_node nodes) nodes ≡ Some top
-    first_deserted = find_top nodes distinct rooted (is_deserted_node nodes) top unheld.on deserted low
+    first_deserted = find_top _ whole.sound.distinct whole.rooted _ top unheld.on deserted low
 
     -- ---- once it ended
 
@@ -431,49 +379,30 @@ module _ (nodes : List Node) (distinct : are_distinct nodes ≡ true) (heads : l
 
     -- keys and heads are kept
     hangs_still : (k : NodeKey) (x : Node) → hangs_in now k (ended nodes top.key x) ≡ hangs_in nodes k x
-    hangs_still k x = from x.parent
-      where
-        from : (o : Option NodeKey) → option_map_or (λ p. list_any (λ (q : Node). is_of p q && same_key q.head k) now) o false
-            ≡ option_map_or (λ p. list_any (λ (q : Node). is_of p q && same_key q.head k) nodes) o false
-        from None = refl
-        from (Some p) =
-            list_any-map (λ (q : Node). is_of p q && same_key q.head k) (λ (q : Node). is_of p q && same_key q.head k) (ended nodes top.key)
-            nodes (λ q there. refl)
+    hangs_still k x = grind (arith, list_any-map)
 
     -- what holds a unit that stays does not lie below
     outside : (y : Node) (x : IsHolder nodes keys y.key) → is_below nodes top.key x.node.key ≡ false
-    outside y x = false_if (is_below nodes top.key x.node.key) (λ e. elim x.holds [
+    outside y x = false_if _ (λ e. elim x.holds [
       | inl l ↦
-          both_ways (list_any (lives_below nodes top.key) nodes)
-          (In-any (lives_below nodes top.key) nodes x.node x.on
-          (and_both (is_live_node x.node) (is_below nodes top.key x.node.key)
-          (and_both (not x.node.gone) (not x.node.released) (ap not x.here) (ap not l.1)) e)) none_live
+          both_ways _ (In-any _ _ _ x.on (and_both _ _ (and_both _ _ (ap not x.here) (ap not l.1)) e)) none_live
       | inr b ↦
           let z = In-list_any (lives_below nodes x.node.key) nodes
-          (lives_at x.node x.on x.here (or_right (is_none x.node.parent) x.node.attached b.0) b.1) in
+          (lives_at _ x.on x.here (or_right _ _ b.0) b.1) in
           let live : is_live_node z.0 ≡ true = and_left (is_live_node z.0) _ z.2 in
-          let z_here : z.0.gone ≡ false = not-true z.0.gone (and_left (not z.0.gone) _ live) in
-          both_ways (list_any (lives_below nodes top.key) nodes)
+          let z_here : z.0.gone ≡ false = not-true _ (and_left _ _ live) in
+          both_ways _
           (In-any (lives_below nodes top.key) nodes z.0 z.1
-          (and_both (is_live_node z.0) (is_below nodes top.key z.0.key) live
-          (below_through nodes distinct heads rooted united top.key x.node.key z.0.key (left_in nodes z.0 z.1 z_here)
-          (left_in nodes x.node x.on x.here) (and_right (is_live_node z.0) _ z.2) e))) none_live
+          (and_both _ _ live
+          (below_through whole top.key x.node.key z.0.key (left_in nodes z.0 z.1 z_here)
+          (left_in _ _ x.on x.here) (and_right (is_live_node z.0) _ z.2) e))) none_live
     ])
 
     -- what holds the unit is not below the top, so it stays
     holds_still : (k : NodeKey) (x : Node) → is_below nodes top.key x.key ≡ false → x.gone ≡ false →
         ((x.head ≡ k) × (x.released ≡ false)) ⊎ ((x.attached ≡ true) × (is_one keys x.key ≡ false) × (hangs_in nodes k x ≡ true)) →
         holds_unit now k (ended nodes top.key x) ≡ true
-    holds_still k x out_of here holds =
-        and_both (not (is_below nodes top.key x.key || x.gone)) _ (rw (out_of, here) refl)
-        (elim holds [
-          | inl l ↦
-              or_left (same_key x.head k && not x.released) _
-              (and_both (same_key x.head k) (not x.released) (ap (λ (j : NodeKey). same_key j k) l.0 ∙ same_key-refl k) (ap not l.1))
-          | inr b ↦
-              or_right (same_key x.head k && not x.released) (x.attached && hangs_in now k (ended nodes top.key x))
-              (and_both x.attached _ b.0 (hangs_still k x ∙ b.2))
-        ])
+    holds_still k x out_of here holds = grind (arith, hangs_still, same_key-equal)
 
     -- by cases: the unit ended, or what held it is left
     held_one : (y : Node) → In y nodes → is_held now (ended nodes top.key y) ≡ true
@@ -485,13 +414,10 @@ module _ (nodes : List Node) (distinct : are_distinct nodes ≡ true) (heads : l
         (holds_still y.key x.node (outside y x) x.here x.holds))
       where
         from : (b g h s : Bool) → (b ≡ false → g ≡ false → h ≡ true → s ≡ true) → ((b || g) || (not h || s)) ≡ true
-        from true g h s is = refl
-        from false true h s is = refl
-        from false false false s is = refl
-        from false false true s is = is refl refl refl
+        from b g h s k = grind arith
 
     -- so it is of each
     pub held_now : are_held_except [] now ≡ true
-    held_now = all_on (λ (n : Node). list_any (same_key n.key) [] || is_held now n) now (λ m there.
-        let x = In-map (ended nodes top.key) nodes m there in
-        subst (λ (n : Node). is_held now n ≡ true) (sym x.2) (held_one x.0 x.1))
+    held_now = all_on _ now (λ m there.
+        let x = In-map _ _ m there in
+        rw x.2 (held_one x.0 x.1))

@@ -1,46 +1,33 @@
 -- Nodes that went in their places while forced steps are made, and the counts of those that are left.
-use Rattle.forest_steps.proofs.Common.{◌≡◌, ◌≢◌, ℕ, ◌+◌, ◌<◌, ◌==◌, refl, ap, sym, ◌∙◌, subst, Bool, true, false, not, ◌&&◌, ◌||◌, inl, inr, List, map, reverse, length, Option, Some, None, option_map, arith, eqb-false, eqb-true, AllByRecursion, find, list_all, list_any, option_map_or, NodeKey, same_key, times, In, In-find, In-list_any, In-map, In-map-back, both_ways, either_way, false_if, same_key-true, In-any, Table, node_at, parent_at, Node, Unit, over_except, strong_count, AreUnits, lives_in, unit_at, waits_in, Collection, with_nodes, IsStored, IsWhole, Shelf, collection_in, is_filed, nodes_with, shelf_of, reserved_count, are_rooted, is_head, Entry}
-use Rattle.std.proofs.lemmas.Map.Views.{Contains-from_any, list_any-from_Contains}
-use Rattle.std.proofs.Math.Bool.{and-false, and-true}
-use Rattle.failure_domains.specs.Falls.{blocked_at}
-use Rattle.forest_store.specs.declared.loss_marks.Going.{Going}
-use Rattle.forest_store.specs.Counts.{AreUnitsExcept, HasUnit, HasUnits, hangs_in, head_above, heads_below, unit_of}
-use Rattle.forest_store.specs.LossMarks.{IsTaken, gone_by, unreckoned, untallied}
-use Rattle.forest_store.specs.Shelves.{Stores, all_of, is_strong, stored}
-use Rattle.forest_store.specs.Ties.{is_blocking}
-use Rattle.forest_store.specs.Units.{GoTogether}
-use Rattle.forest_store.proofs.changes.Altering.{found_filed, found_whole, looked-of}
-use Rattle.forest_store.proofs.quiescence.Calming.{times_map}
+use Rattle.forest_steps.proofs.Common.{◌≡◌, ◌≢◌, ◌+◌, ◌<◌, ◌==◌, refl, ap, sym, ◌∙◌, subst, Bool, true, false, not, ◌&&◌, ◌||◌, inl, inr, List, map, reverse, length, Option, Some, None, option_map, arith, eqb-false, eqb-true, AllByRecursion, find, list_all, list_any, option_map_or, NodeKey, same_key, times, In, In-find, In-list_any, In-map, In-map-back, both_ways, either_way, false_if, same_key-true, In-any, Table, node_at, parent_at, Node, Unit, over_except, strong_count, AreUnits, lives_in, unit_at, waits_in, Collection, with_nodes, IsStored, IsWhole, Shelf, collection_in, is_filed, nodes_with, shelf_of, reserved_count, are_rooted, is_head, Entry, Contains-from_any, list_any-from_Contains, and-false, blocked_at, Going, HasUnit, HasUnits, hangs_in, heads_below, unit_of, IsTaken, gone_by, Stores, all_of, stored, is_blocking, GoTogether, found_filed, found_whole, looked-of, times_map, in_looked, in_all, looked_there, in_shelf, all_at, all-In, IsSameNode, Up, StoreAgrees, or_none_right}
+use Rattle.forest_steps.proofs.tables.Upward.{head_there}
+use Rattle.forest_store.specs.Counts.{AreUnitsExcept, head_above}
+use Rattle.forest_store.specs.LossMarks.{unreckoned, untallied}
 use Rattle.forest_steps.proofs.failures.Ties.{key_equivalence}
 use Rattle.forest_store.proofs.changes.Finishing.{collection-beside, keys_in}
-use Rattle.forest_store.proofs.failures.GoneNodes.{camped_of, filed_fallen, given_of, goes_in, goes_not, goes_of, gone_of, in_looked, lives_but, same_of, stored_goes, strong_but, waits_but}
-use Rattle.forest_store.proofs.tables.Hanging.{all_in, in_all, looked_there}
-use Rattle.forest_store.proofs.tallies.Holding.{head_there}
+use Rattle.forest_store.proofs.failures.GoneNodes.{camped_of, filed_fallen, given_of, goes_in, goes_not, goes_of, gone_of, lives_but, same_of, stored_goes, strong_but, waits_but}
+use Rattle.forest_store.proofs.tables.Hanging.{all_in}
 use Rattle.forest_store.proofs.tallies.Hung.{above_node, hangs_mapped, hung_is, is_hung, unhung_drops, unhung_long, unhung_other}
-use Rattle.forest_store.proofs.tables.LeftParents.{in_shelf}
 use Rattle.forest_store.proofs.lists.Lookups.{looked-map}
 use Rattle.forest_store.proofs.tallies.Reserved.{reserved_left}
-use Rattle.forest_store.proofs.tallies.Slots.{Stays, all_at, but_all, but_join, but_moved, but_stays, one_shelf, one_slot}
+use Rattle.forest_store.proofs.tallies.Slots.{Stays, but_all, but_join, but_moved, but_stays, one_shelf, one_slot}
 use Rattle.forest_steps.proofs.quiescence.Lasting.{whole_formed}
-use Rattle.forest_store.proofs.quiescence.Steps.{all-In}
 use Rattle.forest_store.proofs.quiescence.Together.{StepsUp, goes_up, together_taken}
 use Rattle.forest_store.proofs.quiescence.United.{united_mapped}
 use Rattle.forest_store.proofs.tallies.Untold.{but, taken_count, times_same, untallied_long, untallied_other, untallied_takes}
-use Rattle.forest_store.proofs.tables.Writing.{IsSameNode, IsSound-map, kept-with}
-use Rattle.sm_names.specs.Losses.{Up}
+use Rattle.forest_store.proofs.tables.Writing.{IsSound-map, kept-with}
 use Rattle.forest_steps.specs.Removal.{IsGoneSo}
-use Rattle.forest_store.specs.Stores.{StoreAgrees}
 use Rattle.forest_store.proofs.failures.Written.{went_now}
 use Rattle.forest_store.proofs.leaving.Noted.{more_noted}
 
 -- the constructor is injective
-one_option : (n m : Node) → Some n ≡ Some m → n ≡ m
-one_option n m e = cc
+one_option : (n : Node) {m : Node} → Some n ≡ Some m → n ≡ m
+one_option n e = cc
 
 -- ---- the change
 
-module _ (t : Table Node) (us : List Unit) (ss : List Shelf) (old : Entry) (store : StoreAgrees t us ss old) (going : Going)
-    (origin : NodeKey) (keys : List NodeKey) (taken : IsTaken t origin keys) (own : all_of old.id (nodes_with t keys) ≡ true) where
+module _ {t : Table Node} {us : List Unit} {ss : List Shelf} {old : Entry} (store : StoreAgrees t us ss old) (going : Going)
+    {origin : NodeKey} {keys : List NodeKey} (taken : IsTaken t origin keys) (own : all_of old.id (nodes_with t keys) ≡ true) where
   abbrev pub s : Shelf
   s = shelf_of old
 
@@ -61,23 +48,23 @@ module _ (t : Table Node) (us : List Unit) (ss : List Shelf) (old : Entry) (stor
 
   -- what goes keeps its place
   same : (n : Node) → IsSameNode (f n) n
-  same n = same_of going keys n
+  same n = same_of _ _ n
 
   -- each collection is whole
   pub whole : IsWhole (collection_in t s)
-  whole = found_whole t s.id ss s store.kept.whole store.found
+  whole = found_whole t _ ss s store.kept.whole store.found
 
   -- the keys of each shelf are filed
   own_filed : list_all (is_filed t s.id) s.keys ≡ true
-  own_filed = found_filed t s.id ss s store.kept.filed store.found
+  own_filed = found_filed t _ ss s store.kept.filed store.found
 
   -- each node stands in the table under its key
   pub at_key : (m : Node) → In m nodes → node_at t m.key ≡ Some m
-  at_key m there = in_all (λ (x : Node). node_at t x.key ≡ Some x) nodes (looked_there t store.kept.named s.keys) m there
+  at_key m there = in_all _ _ (looked_there t store.kept.named _) m there
 
   -- each of its nodes is of the collection
   of_it : (m : Node) → In m nodes → m.collection ≡ s.id
-  of_it m there = eqb-true m.collection s.id (all-In (λ (x : Node). x.collection == s.id) nodes m there (looked-of t s.id s.keys own_filed))
+  of_it m there = eqb-true _ _ (all-In _ _ m there (looked-of t _ _ own_filed))
 
   -- the table links each node that is not gone to its parent
   pub linked : (x : Node) → In x nodes → x.gone ≡ false → parent_at t x.key ≡ x.parent
@@ -86,41 +73,39 @@ module _ (t : Table Node) (us : List Unit) (ss : List Shelf) (old : Entry) (stor
   -- what falls is of the collection
   pub within : (n : Node) → In n fallen → In n nodes
   within n on =
-      in_shelf t ss store.kept s.id s store.found n.key n
-      (in_all (λ (x : Node). node_at t x.key ≡ Some x) fallen (looked_there t store.kept.named keys) n on)
-      (eqb-true n.collection s.id (all-In (λ (x : Node). x.collection == s.id) fallen n on own))
+      in_shelf t ss store.kept _ s store.found _ n (in_all _ _ (looked_there t store.kept.named _) n on)
+      (eqb-true _ _ (all-In _ _ n on own))
 
   -- what fell is taken from the count
   count_is : (test : Node → Bool) → ((n : Node) → test (f n) ≡ but test keys n) →
       times test (map f nodes) + times test fallen ≡ times test nodes
   count_is test is =
-      ap (λ (m : ℕ). m + times test fallen) (times_map test (but test keys) f nodes is)
-      ∙ taken_count t nodes whole.sound.distinct at_key store.kept.named test keys taken.once within
+      ap (λ m. m + times test fallen) (times_map _ _ f _ is)
+      ∙ taken_count t _ whole.sound.distinct at_key store.kept.named _ _ taken.once within
 
   -- so from the count of strong nodes
   pub strong_is : strong_count (map f nodes) + strong_count fallen ≡ old.strong
-  strong_is = count_is is_strong (strong_but keys going) ∙ sym store.strong
+  strong_is = count_is _ (strong_but keys going) ∙ sym store.strong
 
   -- what falls camps on nothing any more
   pub reserved_is : reserved_count (map f nodes) + reserved_count fallen ≡ reserved_count nodes
-  reserved_is = reserved_left t nodes whole.sound.distinct at_key store.kept.named f keys (camped_of keys going) taken.once within
+  reserved_is = reserved_left t _ whole.sound.distinct at_key store.kept.named f _ (camped_of keys going) taken.once within
 
   -- ---- the units
 
   -- the counts of each collection's units are right, so of this one's
   unit_has : HasUnits us nodes
-  unit_has = all_at (λ (c : Collection). HasUnits us c.nodes) (map (collection_in t) ss) store.units (collection_in t s)
-      (In-map-back (collection_in t) ss s (In-find (λ (x : Shelf). x.id == s.id) ss s store.found).0)
+  unit_has = all_at _ _ store.units _ (In-map-back _ ss s (In-find _ ss s store.found).0)
 
   -- the head of the unit of a node that is left is left
   head_of : (n : Node) → In n fallen → n.gone ≡ false → (h : Node) × In h nodes × (h.key ≡ n.head) × (h.gone ≡ false) × (is_head h ≡ true)
-  head_of n on here = head_there nodes whole.sound.distinct whole.sound.heads whole.rooted whole.united n (within n on) here
+  head_of n on here = head_there whole n (within n on) here
 
   -- and the head of the unit right above the one that it heads
-  above_of : (n : Node) → In n fallen → (h : NodeKey) → head_above t n ≡ Some h → (a : Node) × In a nodes × (a.key ≡ h)
-  above_of n on h is =
-      let x = above_node t nodes whole.sound.distinct whole.rooted at_key n (within n on) h is in
-      let a = head_there nodes whole.sound.distinct whole.sound.heads whole.rooted whole.united x.0 x.1 x.2 in
+  above_of : (n : Node) → In n fallen → {h : NodeKey} → head_above t n ≡ Some h → (a : Node) × In a nodes × (a.key ≡ h)
+  above_of n on {h} is =
+      let x = above_node t _ whole.sound.distinct whole.rooted at_key n (within n on) h is in
+      let a = head_there whole x.0 x.1 x.2 in
       (a.0, a.1, a.2 ∙ x.3)
 
   -- those that hang right below a unit are left, or fell
@@ -130,21 +115,19 @@ module _ (t : Table Node) (us : List Unit) (ss : List Shelf) (old : Entry) (stor
       ∙ from (falls n.key) n.gone (n.attached && hangs_in nodes k n)
     where
       from : (x g b : Bool) → (not (x || g) && b) ≡ ((not g && b) && not x)
-      from true g b = sym (and-false (not g && b))
-      from false g b = sym (and-true (not g && b))
+      from x g b = grind arith
 
   -- the heads that fell are taken from those right below
   below_is : (k : NodeKey) →
       times (heads_below (map f nodes) k) (map f nodes) + times (is_hung t k) fallen ≡ times (heads_below nodes k) nodes
   below_is k =
       (λ i. times_map (heads_below (map f nodes) k) (but (heads_below nodes k) keys) f nodes (below_but k) i
-      + times_same (is_hung t k) (heads_below nodes k) fallen (λ n on. hung_is t nodes whole.sound.distinct whole.rooted at_key k n
-      (within n on)) i)
-      ∙ taken_count t nodes whole.sound.distinct at_key store.kept.named (heads_below nodes k) keys taken.once within
+      + times_same (is_hung t k) (heads_below nodes k) fallen (λ n on. hung_is t _ whole.sound.distinct whole.rooted at_key k n
+      (within n on)) i) ∙ taken_count t _ whole.sound.distinct at_key store.kept.named _ _ taken.once within
 
   -- the slot of each head has the counts of its unit
   unit_before : (n : Node) → In n nodes → n.key.slot < length us → unit_at us n.key.slot ≡ unit_of nodes n.key
-  unit_before n on inside = (in_all (HasUnit us nodes) nodes unit_has n on).1
+  unit_before n on inside = (in_all _ _ unit_has n on).1
 
   -- each unit has the counts of what is left
   pub unit_after : (n : Node) → In n nodes → n.key.slot < length us → unit_at new n.key.slot ≡ unit_of (map f nodes) n.key
@@ -154,7 +137,7 @@ module _ (t : Table Node) (us : List Unit) (ss : List Shelf) (old : Entry) (stor
       let b : (unit_at us n.key.slot).unready ≡ times (waits_in n.key) nodes = ap (λ (u : Unit). u.unready) was in
       let c = count_is (lives_in n.key) (lives_but n.key keys going) in
       let d = count_is (waits_in n.key) (waits_but n.key keys going) in
-      let takes = untallied_takes fallen us n.key inside
+      let takes = untallied_takes fallen us _ inside
       (λ m there here slots. let h = head_of m there here in
       one_slot t m.head n.key h.0 n (ap (node_at t) (sym h.2) ∙ at_key h.0 h.1) (at_key n on) slots)
       (omega arith) (omega arith) in
@@ -165,9 +148,8 @@ module _ (t : Table Node) (us : List Unit) (ss : List Shelf) (old : Entry) (stor
       let left = below_is n.key in
       let own_long = untallied_long fallen us in
       let drops = unhung_drops t fallen (untallied fallen us) n.key (omega arith)
-      (λ m there j is slots. let x = above_of m there j is in
-      one_slot t j n.key x.0 n (ap (node_at t) (sym x.2) ∙ at_key x.0 x.1) (at_key n on) slots)
-      (omega arith) in
+      (λ m there j is slots. let x = above_of m there is in
+      one_slot t j n.key x.0 n (ap (node_at t) (sym x.2) ∙ at_key x.0 x.1) (at_key n on) slots) (omega arith) in
       let dl = drops.live in
       let dw = drops.unready in
       let db = drops.below in
@@ -187,53 +169,53 @@ module _ (t : Table Node) (us : List Unit) (ss : List Shelf) (old : Entry) (stor
       let key : x.0.key ≡ m.key = sym (ap (λ (y : Node). y.key) x.2 ∙ (same x.0).key) in
       let inside : x.0.key.slot < length us = (in_all (HasUnit us nodes) nodes unit_has x.0 x.1).0 in
       subst (λ (k : NodeKey). (k.slot < length new) × (unit_at new k.slot ≡ unit_of (map f nodes) k)) key
-      (subst (λ (l : ℕ). x.0.key.slot < l) (sym long) inside, unit_after x.0 x.1 inside))
+      (subst (λ l. x.0.key.slot < l) (sym long) inside, unit_after x.0 x.1 inside))
 
   -- each slot that is written is that of a head of this collection
   stays : Stays t s.id us new
   stays k n is differ inside = (
-    subst (λ (l : ℕ). k.slot < l) (sym long) inside,
-    unhung_other t fallen (untallied fallen us) k.slot (λ m there j above slots.
-        let h = above_of m there j above in
+    rw long inside,
+    unhung_other t _ _ _ (λ m there j above slots.
+        let h = above_of m there above in
         let at : node_at t j ≡ Some h.0 = ap (node_at t) (sym h.2) ∙ at_key h.0 h.1 in
         let one : j ≡ k = one_slot t j k h.0 n at is slots in
-        let node : n ≡ h.0 = one_option n h.0 (sym is ∙ (ap (node_at t) (sym one) ∙ at)) in
+        let node : n ≡ h.0 = one_option n (sym is ∙ (ap (node_at t) (sym one) ∙ at)) in
         differ (ap (λ (x : Node). x.collection) node ∙ of_it h.0 h.1))
-        ∙ untallied_other fallen us k.slot (λ m there here slots.
+        ∙ untallied_other _ us _ (λ m there here slots.
         let h = head_of m there here in
         let at : node_at t m.head ≡ Some h.0 = ap (node_at t) (sym h.2) ∙ at_key h.0 h.1 in
-        let one : m.head ≡ k = one_slot t m.head k h.0 n at is slots in
-        let node : n ≡ h.0 = one_option n h.0 (sym is ∙ (ap (node_at t) (sym one) ∙ at)) in
+        let one : m.head ≡ k = one_slot t _ k h.0 n at is slots in
+        let node : n ≡ h.0 = one_option n (sym is ∙ (ap (node_at t) (sym one) ∙ at)) in
         differ (ap (λ (x : Node). x.collection) node ∙ of_it h.0 h.1)),
   )
 
   -- the other collections have their counts in any case
   pub units_but : AreUnitsExcept new s.id (map (collection_in t) ss)
-  units_but = but_stays t store.kept.named us new s.id stays ss store.kept.filed (but_all us s.id (map (collection_in t) ss) store.units)
+  units_but = but_stays t store.kept.named us new _ stays ss store.kept.filed (but_all us _ _ store.units)
 
   -- with a node of a unit without buffers its parent falls
   falls_up : StepsUp nodes (λ n. falls n.key)
   falls_up n q p on there is key here unheld bare e =
       let at_n : node_at t n.key ≡ Some n = at_key n on in
       let free : blocked_at is_blocking t n.key ≡ false =
-      ap (λ (o : Option Node). option_map_or is_blocking o false) at_n ∙ rw (unheld, bare) (and-false n.dispensable) in
+      ap (λ o. option_map_or is_blocking o false) at_n ∙ rw (unheld, bare) (and-false n.dispensable) in
       let up : parent_at t n.key ≡ Some q.key = linked n on here ∙ (is ∙ ap Some (sym key)) in
       list_any-from_Contains key_equivalence q.key keys
-      ((taken.fall q.key).1 (Up n.key q.key ((taken.fall n.key).0 (Contains-from_any same_key-true n.key keys e)) free up))
+      ((taken.fall q.key).1 (Up n.key q.key ((taken.fall n.key).0 (Contains-from_any same_key-true _ _ e)) free up))
 
   -- so the units go together
   pub together_now : GoTogether (map f nodes)
-  together_now = together_taken nodes f (λ n. falls n.key)
+  together_now = together_taken _ f _
       (record {
         key = λ n. (same n).key;
         head = λ n. (same n).head;
         allocated = given_of going keys;
         gone = gone_of going keys;
-      }) (goes_up nodes (whole_formed (collection_in t s) whole) (λ n. falls n.key) falls_up) whole.together
+      }) (goes_up _ (whole_formed whole) _ falls_up) whole.together
 
   -- ---- what is found, where they are written as they went
 
-  module _ (now : Table Node) (stores : Stores t now (map (gone_by going) fallen)) where
+  module _ {now : Table Node} (stores : Stores t now (map (gone_by going) fallen)) where
     -- each key is looked up in the new table, where what fell is written
     pub look_then : (k : NodeKey) → node_at now k ≡ option_map f (node_at t k)
     look_then k = stores.look k ∙ by (node_at t k) refl
@@ -242,56 +224,54 @@ module _ (t : Table Node) (us : List Unit) (ss : List Shelf) (old : Entry) (stor
         by None is = refl
         by (Some n) is =
             let at : node_at t n.key ≡ Some n = ap (node_at t) (store.kept.named k n is) ∙ is in
-            ap Some (stored_goes t store.kept.named going keys n at n (inl refl))
+            ap Some (stored_goes t store.kept.named _ _ n at n (inl refl))
 
     -- a node that is there was there
-    was : (key : NodeKey) (n : Node) → node_at now key ≡ Some n → (m : Node) × (node_at t key ≡ Some m) × (f m ≡ n)
-    was key n is = from (node_at t key) refl (sym (look_then key) ∙ is)
+    was : (key : NodeKey) {n : Node} → node_at now key ≡ Some n → (m : Node) × (node_at t key ≡ Some m) × (f m ≡ n)
+    was key {n} is = from (node_at t key) refl (sym (look_then key) ∙ is)
       where
         from : (o : Option Node) → node_at t key ≡ o → option_map f o ≡ Some n → (m : Node) × (node_at t key ≡ Some m) × (f m ≡ n)
         from None at e = cc
-        from (Some m) at e = (m, at, one_option (f m) n e)
+        from (Some m) at e = (m, at, one_option _ e)
 
     -- the keys are looked up one by one
     pub nodes_then : nodes_with now s.keys ≡ map f nodes
-    nodes_then = looked-map f (node_at t) (node_at now) look_then s.keys
+    nodes_then = looked-map f _ _ look_then _
 
     -- what went is of the collection
     filed : list_all (is_filed t s.id) (keys_in (map (gone_by going) fallen)) ≡ true
-    filed = filed_fallen t store.kept.named going s.id keys own
+    filed = filed_fallen t store.kept.named _ _ _ own
 
     -- the other collections stay as they are
     pub beside_same : (x : Shelf) → x.id ≢ s.id → list_all (is_filed t x.id) x.keys ≡ true → collection_in now x ≡ collection_in t x
-    beside_same x differ x_filed =
-        collection-beside t now s.id (map (gone_by going) fallen) stores store.kept.named filed x differ x_filed
+    beside_same x differ x_filed = collection-beside t now _ _ stores store.kept.named filed x differ x_filed
 
     -- a test that none of those that went passes, and none did before, none passes
     pub over_now : (p : Node → Bool) → list_any p (map (gone_by going) fallen) ≡ false → list_any p nodes ≡ false →
         list_any p (nodes_with now s.keys) ≡ false
-    over_now p some was = ap (list_any p) nodes_then ∙ false_if (list_any p (map f nodes)) (λ e.
-        let x = In-list_any p (map f nodes) e in
-        let y = In-map f nodes x.0 x.1 in
+    over_now p some was = ap (list_any p) nodes_then ∙ false_if _ (λ e.
+        let x = In-list_any p _ e in
+        let y = In-map f _ x.0 x.1 in
         let is : p (f y.0) ≡ true = ap p (sym y.2) ∙ x.2 in
         elim (either_way (falls y.0.key)) [
           | inl h ↦
-              both_ways (list_any p (map (gone_by going) fallen))
-              (In-any p (map (gone_by going) fallen) (gone_by going y.0)
-              (In-map-back (gone_by going) fallen y.0 (in_looked t store.kept.named going keys y.0 (at_key y.0 y.1) h))
-              (ap p (sym (goes_in going keys y.0 h)) ∙ is)) some
-          | inr h ↦ both_ways (list_any p nodes) (In-any p nodes y.0 y.1 (ap p (sym (goes_not going keys y.0 h)) ∙ is)) was
+              both_ways _
+              (In-any p _ _ (In-map-back _ _ y.0 (in_looked t store.kept.named going _ y.0 (at_key y.0 y.1) h))
+              (ap p (sym (goes_in _ _ y.0 h)) ∙ is)) some
+          | inr h ↦ both_ways _ (In-any p _ y.0 y.1 (ap p (sym (goes_not _ _ y.0 h)) ∙ is)) was
         ])
 
   -- ---- the table
 
-  module _ (now : Table Node) (stores : Stores t now (map (gone_by going) fallen))
+  module _ {now : Table Node} (stores : Stores t now (map (gone_by going) fallen))
       (rooted_now : are_rooted (reverse (map f nodes)) ≡ true) where
     -- the look-up above
     look : (k : NodeKey) → node_at now k ≡ option_map f (node_at t k)
-    look = look_then now stores
+    look = look_then stores
 
     -- the nodes above
     nodes_now : nodes_with now s.keys ≡ map f nodes
-    nodes_now = nodes_then now stores
+    nodes_now = nodes_then stores
 
     -- only the nodes change
     pub now_is : collection_in now s ≡ with_nodes (map f) (collection_in t s)
@@ -300,7 +280,7 @@ module _ (t : Table Node) (us : List Unit) (ss : List Shelf) (old : Entry) (stor
     -- what fell kept its place, and takes with it what hung on it
     whole_after : IsWhole (with_nodes (map f) (collection_in t s))
     whole_after = record {
-      sound = IsSound-map f same (collection_in t s) whole.sound;
+      sound = IsSound-map f same _ whole.sound;
       rooted = rooted_now;
       united = united_mapped f (record {
         key = λ n. (same n).key;
@@ -312,45 +292,37 @@ module _ (t : Table Node) (us : List Unit) (ss : List Shelf) (old : Entry) (stor
     }
 
     in_shelves : In s ss
-    in_shelves = (In-find (λ (x : Shelf). x.id == s.id) ss s store.found).0
+    in_shelves = (In-find _ ss s store.found).0
 
     -- this collection is whole, and the others stay
     whole_now : AllByRecursion (λ (x : Shelf). IsWhole (collection_in now x)) ss
-    whole_now = all_in (λ (x : Shelf). IsWhole (collection_in now x)) ss (λ x on. elim (either_way (x.id == s.id)) [
+    whole_now = all_in _ ss (λ x on. elim (either_way (x.id == s.id)) [
       | inl e ↦
-          subst (λ (y : Shelf). IsWhole (collection_in now y))
-          (sym (one_shelf ss store.kept.rising x s on in_shelves (eqb-true x.id s.id e)))
+          rw (one_shelf ss store.kept.rising x s on in_shelves (eqb-true _ _ e))
           (subst IsWhole (sym now_is) whole_after)
       | inr e ↦
-          subst IsWhole (sym (beside_same now stores x (eqb-false x.id s.id e) (all-In (λ (y : Shelf). list_all (is_filed t y.id) y.keys) ss x on
-          store.kept.filed)))
-          (all_at (λ (y : Shelf). IsWhole (collection_in t y)) ss store.kept.whole x on)
+          subst IsWhole (sym (beside_same stores x (eqb-false x.id s.id e) (all-In _ ss x on store.kept.filed)))
+          (all_at _ ss store.kept.whole x on)
     ])
 
     -- what falls keeps its place, so the store keeps its facts
     pub kept_now : IsStored now ss
-    kept_now = kept-with f same (λ n h. or_second (falls n.key) n.gone (sym (gone_of going keys n) ∙ h)) t now stores.same.first
+    kept_now = kept-with f same (λ n h. or_none_right (falls n.key) n.gone (sym (gone_of _ _ n) ∙ h)) t now stores.same.first
         stores.same.nexts stores.same.len look stores.parents ss whole_now store.kept
-      where
-        or_second : (a b : Bool) → (a || b) ≡ false → b ≡ false
-        or_second true b h = cc
-        or_second false b h = h
 
     -- the units of other collections stay, and those of this one are counted anew
     pub units_now : AreUnits new (map (collection_in now) ss)
     units_now =
-        but_join new s.id (map (collection_in now) ss)
-        (but_moved t now new s.id ss (λ x there differ.
-        beside_same now stores x differ (all-In (λ (y : Shelf). list_all (is_filed t y.id) y.keys) ss x there store.kept.filed)) units_but)
-        (λ c on is.
-        let x = In-map (collection_in now) ss c on in
+        but_join new _ _ (but_moved t now new _ ss (λ x there differ.
+        beside_same stores x differ (all-In _ ss x there store.kept.filed)) units_but) (λ c on is.
+        let x = In-map _ ss c on in
         let one : x.0 ≡ s = one_shelf ss store.kept.rising x.0 s x.1 in_shelves (sym (ap (λ (d : Collection). d.id) x.2) ∙ is) in
-        subst (λ (d : Collection). HasUnits new d.nodes) (sym (x.2 ∙ (ap (collection_in now) one ∙ now_is))) has_now)
+        rw (x.2 ∙ (ap (collection_in now) one ∙ now_is)) has_now)
 
   -- ---- the whole
 
   -- the store agrees again
-  module _ (now : Table Node) (after : List Unit) (entry : Entry) (gone : IsGoneSo t now us after old entry going origin keys)
+  module _ {now : Table Node} {after : List Unit} {entry : Entry} (gone : IsGoneSo t now us after old entry going origin keys)
       (rooted_now : are_rooted (reverse (map f nodes)) ≡ true) where
     -- the shelf is the same
     same_keys : entry.keys.items ≡ old.keys.items
@@ -358,15 +330,11 @@ module _ (t : Table Node) (us : List Unit) (ss : List Shelf) (old : Entry) (stor
 
     -- the same keys
     nodes_are : nodes_with now entry.keys.items ≡ map f nodes
-    nodes_are = ap (nodes_with now) same_keys ∙ nodes_then now gone.stores
+    nodes_are = ap (nodes_with now) same_keys ∙ nodes_then gone.stores
 
     -- what went is noted, or the entry is no longer tidy
     stays_over : entry.garbage_known ≡ true → list_any (over_except entry.garbage.items) (nodes_with now entry.keys.items) ≡ false
-    stays_over h =
-        ap (λ (ks : List NodeKey). list_any (over_except entry.garbage.items) (nodes_with now ks)) same_keys
-        ∙ over_now now gone.stores (over_except entry.garbage.items)
-        (ap (list_any (over_except entry.garbage.items)) (sym (went_now t store.kept.named going keys now gone.stores)) ∙ gone.over h)
-        (more_noted old.garbage.items entry.garbage.items gone.more nodes (store.garbage_known (gone.garbage_known h)))
+    stays_over h = grind (arith, more_noted, over_now, same_keys, went_now)
 
     -- what went is counted nowhere any more, so the counts are those of what is left
     pub store_now : StoreAgrees now after ss entry
@@ -375,13 +343,13 @@ module _ (t : Table Node) (us : List Unit) (ss : List Shelf) (old : Entry) (stor
         let sum = strong_is in
         let count : entry.strong ≡ strong_count (map f nodes) = omega arith in
         record {
-          kept = kept_now now gone.stores rooted_now;
+          kept = kept_now gone.stores rooted_now;
           found = subst (λ (x : Shelf). find (λ (y : Shelf). y.id == x.id) ss ≡ Some x) (sym gone.shelf) store.found;
-          units = subst (λ (x : List Unit). AreUnits x (map (collection_in now) ss)) (sym gone.units)
-              (units_now now gone.stores rooted_now);
+          units = subst (λ x. AreUnits x (map (collection_in now) ss)) (sym gone.units)
+              (units_now gone.stores rooted_now);
           inside = λ key n is.
-              let m = was now gone.stores key n is in
-              subst (λ (l : ℕ). key.slot < l) (sym (ap length gone.units ∙ long)) (store.inside key m.0 m.1);
+              let m = was gone.stores key is in
+              subst (λ l. key.slot < l) (sym (ap length gone.units ∙ long)) (store.inside key m.0 m.1);
           strong = count ∙ ap strong_count (sym nodes_are);
           reserved = gone.reserved (reserved_count (nodes_with now entry.keys.items))
               ((λ i. reserved_count (nodes_are i) + reserved_count fallen) ∙ (reserved_is ∙ sym store.reserved));

@@ -1,39 +1,27 @@
 -- What a fault takes goes in its place, and what nothing holds then ends.
-use Rattle.forest_steps.proofs.Common.{◌≡◌, ap, sym, ◌∙◌, subst, true, false, not, ◌&&◌, inl, is_some, List, [], Option, Some, None, NodeKey, In-list_any, and_left, same_key-true, Table, node_at, Entry, Node, Unit, Collection, with_nodes, Shelf, collection_in, nodes_with, shelf_of, is_of, Handles, Settles, is_head}
+use Rattle.forest_steps.proofs.Common.{◌≡◌, ap, sym, ◌∙◌, subst, true, false, not, ◌&&◌, inl, is_some, List, [], Option, Some, None, NodeKey, In-list_any, and_left, same_key-true, Table, node_at, Entry, Node, Unit, with_nodes, Shelf, collection_in, nodes_with, shelf_of, is_of, Handles, Settles, is_head, Fault, after_loss, in_all, looked_there}
 use Rattle.std.proofs.Common.{option_copied, Bor}
-use Rattle.sm_names.specs.declared.outcomes.Fault.{Fault}
-use Rattle.forest_store.specs.Shelves.{SameTable}
-use Rattle.forest_store.specs.Nodes.{after_loss}
+use Rattle.forest_steps.proofs.tables.Rows.{same_on}
 use Rattle.forest_steps.specs.MidEvent.{AreOrEnd, AfterLoss, AfterSteps, AfterRemoval, Reaches, is_head_left}
-use Rattle.forest_store.proofs.tables.Hanging.{in_all, looked_there}
-
--- the one after the other
-pub same_on : (t mid now : Table Node) → SameTable t mid → SameTable mid now → SameTable t now
-same_on t mid now a b = record {
-  first = b.first ∙ a.first;
-  nexts = b.nexts ∙ a.nexts;
-  limit = b.limit ∙ a.limit;
-  len = b.len ∙ a.len;
-}
 
 -- a head that is left is there
 pub head_row : (t : Table Node) → ((key : NodeKey) (n : Node) → node_at t key ≡ Some n → n.key ≡ key) → (keys : List NodeKey)
     (head : NodeKey) → is_head_left (nodes_with t keys) head ≡ true → (n : Node) × (node_at t head ≡ Some n)
 head_row t named keys head left =
     let x = In-list_any (λ (n : Node). is_of head n && (not n.gone && is_head n)) (nodes_with t keys) left in
-    let key : x.0.key ≡ head = same_key-true x.0.key head (and_left (is_of head x.0) _ x.2) in (
+    let key : x.0.key ≡ head = same_key-true _ _ (and_left (is_of head x.0) _ x.2) in (
       x.0,
       ap (node_at t) (sym key)
           ∙ in_all (λ (m : Node). node_at t m.key ≡ Some m) (nodes_with t keys) (looked_there t named keys) x.0 x.1,
     )
 
 -- what is lent is there
-pub lent_there : (o : Option (Bor Node)) (n : Node) → option_copied o ≡ Some n → is_some o ≡ false → ⊥
-lent_there None n h out = cc
-lent_there (Some b) n h out = cc
+pub lent_there : (o : Option (Bor Node)) {n : Node} → option_copied o ≡ Some n → is_some o ≡ false → ⊥
+lent_there None h out = cc
+lent_there (Some b) h out = cc
 
-module _ (handles : Handles) (t mid : Table Node) (us : List Unit) (ss : List Shelf) (e e1 : Entry) (fault : Fault) (pending : List NodeKey)
-    (above : Option NodeKey) (went : AfterRemoval t mid us ss e e1 fault.origin (Some fault) above [] pending) where
+module _ (handles : Handles) {t mid : Table Node} {us : List Unit} {ss : List Shelf} {e e1 : Entry} {fault : Fault} {pending : List NodeKey}
+    {above : Option NodeKey} (went : AfterRemoval t mid us ss e e1 fault.origin (Some fault) above [] pending) where
   abbrev s : Shelf
   s = shelf_of e
 
@@ -42,31 +30,31 @@ module _ (handles : Handles) (t mid : Table Node) (us : List Unit) (ss : List Sh
   lost_is = λ i. record (collection_in t s) { nodes = went.nodes i }
 
   -- nothing is above what fell, or else that ends too
-  pub felled_on : (now : Table Node) (new : List Unit) (e2 : Entry) → AfterSteps handles mid now new ss e1 e2 [] pending →
+  pub felled_on : {now : Table Node} {new : List Unit} {e2 : Entry} → AfterSteps handles mid now new ss e1 e2 [] pending →
       AreOrEnd (nodes_with mid e1.keys.items) (nodes_with now e1.keys.items) → AfterLoss handles t now new ss e e2 fault pending
-  felled_on now new e2 led ends = record {
+  felled_on {now} led ends = record {
     under = led.under;
     shelf = led.shelf ∙ went.shelf;
-    leads = λ pool others after on. subst (λ (c : Collection). Settles pool handles others c after) lost_is
-        (subst (λ (x : Shelf). Reaches pool handles others (collection_in mid x) (collection_in now x)) went.shelf (led.leads pool others)
+    leads = λ pool others after on. rw lost_is at
+        (subst (λ x. Reaches pool handles others (collection_in mid x) (collection_in now x)) went.shelf (led.leads pool others)
         after on);
     beside = record {
-      same = same_on t mid now went.beside.same led.beside.same;
+      same = same_on went.beside.same led.beside.same;
       others = λ x there differ.
           led.beside.others x there (λ is. differ (is ∙ ap (λ (y : Shelf). y.id) went.shelf)) ∙ went.beside.others x there differ;
     };
-    nodes = subst (λ (ns : List Node). AreOrEnd ns (nodes_with now e.keys.items)) went.nodes
+    nodes = rw went.nodes at
         (subst (λ (x : Shelf). AreOrEnd (nodes_with mid x.keys) (nodes_with now x.keys)) went.shelf ends);
   }
 
 -- nothing hung on what fell, so no unit lost what held it
-pub felled_alone : (handles : Handles) (t now : Table Node) (us : List Unit) (ss : List Shelf) (e new : Entry) (fault : Fault)
-    (pending : List NodeKey) → AfterRemoval t now us ss e new fault.origin (Some fault) None [] pending →
+pub felled_alone : (handles : Handles) {t now : Table Node} {us : List Unit} {ss : List Shelf} {e new : Entry} {fault : Fault}
+    {pending : List NodeKey} → AfterRemoval t now us ss e new fault.origin (Some fault) None [] pending →
     AfterLoss handles t now us ss e new fault pending
-felled_alone handles t now us ss e new fault pending went = record {
+felled_alone handles {t} {e} went = record {
   under = went.under;
   shelf = went.shelf;
-  leads = λ pool others after on. subst (λ (c : Collection). Settles pool handles others c after)
+  leads = λ pool others after on. subst (λ c. Settles pool handles others c after)
       (λ i. record (collection_in t (shelf_of e)) { nodes = went.nodes i }) on;
   beside = went.beside;
   nodes = inl went.nodes;

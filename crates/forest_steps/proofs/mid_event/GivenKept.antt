@@ -1,49 +1,33 @@
 -- A node has buffers only where its collection was given some: so it is after each step and each change.
-use Rattle.forest_steps.proofs.Common.{◌≡◌, ◌==◌, if◌then◌else◌, ℕ, refl, ap, sym, ◌∙◌, subst, Bool, true, false, not, ◌&&◌, ◌||◌, inl, inr, List, [], ◌∷◌, ◌++◌, map, Option, Some, None, option_map, is_none, filter, find, list_all, list_any, option_and_then, option_map_or, Interval, NodeKey, Buffers, Cause, forced, when, In, In-find, In-list_any, In-map, and_left, both_ways, either_way, false_if, In-any, Table, Change, Effect, Entry, Node, Unit, has_strong, Collection, with_nodes, IsStored, Shelf, collection_in, forest_of, shelves_of, affected, is_over, are_distinct, is_deserted_node, is_next_node, is_ready_node, is_root_left, Handles, Settles, collection_or_new, put, standing}
+use Rattle.forest_steps.proofs.Common.{◌≡◌, ◌==◌, if◌then◌else◌, ℕ, refl, ap, sym, ◌∙◌, subst, Bool, true, false, not, ◌&&◌, ◌||◌, inl, inr, List, [], ◌∷◌, ◌++◌, map, Option, Some, None, option_map, is_none, filter, find, list_all, list_any, option_and_then, option_map_or, Interval, NodeKey, Buffers, Cause, forced, when, In, In-find, In-list_any, In-map, both_ways, either_way, false_if, In-any, Table, Change, Effect, Entry, Node, Unit, has_strong, Collection, with_nodes, IsStored, Shelf, collection_in, forest_of, affected, are_distinct, is_deserted_node, is_next_node, is_ready_node, is_root_left, Handles, Settles, collection_or_new, put, standing, list_any-append, unwrap_or, Failure, Fault, outcome, Mark, Loss, places, pages_of, Holdings, HaveUnits, Decision, Ends, Loses, Places, decided, first_step, later_step, mark_of, wanted_by, collection_at, pages_in, Finishes, IsOutcomeIn, ended, given_buffers, is_taken, lost, has_buffers, Forces, changed, is_birth, is_root_of, made, no_key, forced_made, found_by_key, all_at, arith}
 use Rattle.std.proofs.Common.{IfSome}
-use Rattle.std.proofs.lemmas.List.Folds.{list_any-append}
-use Rattle.std.specs.Option.{unwrap_or}
-use Rattle.sm_names.specs.declared.outcomes.Failure.{Failure}
-use Rattle.sm_names.specs.declared.outcomes.Fault.{Fault}
-use Rattle.sm_names.specs.Forced.{outcome}
-use Rattle.sm_names.specs.Marks.{Mark, Called, Loss, Allocated, Ended}
-use Rattle.sm_names.specs.Pages.{places, pages_of}
+use Rattle.sm_names.specs.Marks.{Called, Allocated, Ended}
 use Rattle.sm_names.proofs.SamenessLaws.{or_both}
-use Rattle.buffer_pool.specs.Holdings.{Holdings}
 use Rattle.forest_store.specs.Calm.{IsForest}
-use Rattle.forest_store.specs.Counts.{HaveUnits}
-use Rattle.forest_store.specs.Decisions.{Decision, Ends, Loses, Places, decided, early_failure, first_step, later_step, mark_of, wanted_by}
-use Rattle.forest_store.specs.Forest.{beside, collection_at, is_left, pages_in, tidied, without_over_in}
+use Rattle.forest_store.specs.Forest.{is_left, tidied, without_over_in}
 use Rattle.forest_store.specs.Given.{AreServedByGiven, IsServedByGiven}
-use Rattle.forest_store.specs.Shelves.{Finishes, born}
-use Rattle.forest_store.specs.Outcomes.{IsOutcomeIn}
-use Rattle.forest_store.specs.Nodes.{ended, given_buffers, is_taken, lost}
-use Rattle.forest_store.specs.Questions.{has_buffers}
-use Rattle.forest_store.specs.Settling.{Rests, Forces, changed, given_back, is_birth, is_root_of, made, no_key}
-use Rattle.forest_store.proofs.quiescence.Forcing.{forced_made}
-use Rattle.forest_store.proofs.quiescence.Steps.{first_has, found_by_key}
+use Rattle.forest_store.specs.Shelves.{born}
+use Rattle.forest_store.specs.Settling.{Rests}
+use Rattle.forest_store.proofs.quiescence.Steps.{first_has}
 use Rattle.forest_store.proofs.changes.Altering.{change_makes}
 use Rattle.forest_store.proofs.leaving.Thinning.{none-filter}
 use Rattle.forest_store.proofs.newborns.Newborn.{before_is}
 use Rattle.forest_store.proofs.shelves.Putting.{cases_place}
 use Rattle.forest_store.proofs.tables.Writing.{distinct-map}
-use Rattle.forest_store.proofs.tallies.Slots.{all_at}
 
 -- ---- nodes that change
 
 -- where no node has buffers, none has that comes of one with fewer
 pub none_served : (f : Node → Node) → ((n : Node) → has_buffers (f n) ≡ true → has_buffers n ≡ true) → (nodes : List Node) →
     list_any has_buffers nodes ≡ false → list_any has_buffers (map f nodes) ≡ false
-none_served f fewer nodes none = false_if (list_any has_buffers (map f nodes)) (λ e.
+none_served f fewer nodes none = false_if _ (λ e.
     let x = In-list_any has_buffers (map f nodes) e in
     let y = In-map f nodes x.0 x.1 in
-    both_ways (list_any has_buffers nodes)
-    (In-any has_buffers nodes y.0 y.1 (fewer y.0 (sym (ap has_buffers y.2) ∙ x.2))) none)
+    both_ways _ (In-any has_buffers nodes y.0 y.1 (fewer y.0 (sym (ap has_buffers y.2) ∙ x.2))) none)
 
 -- what is not gone then was not gone
 was_there : (goes gone has : Bool) → (not (goes || gone) && has) ≡ true → (not gone && has) ≡ true
-was_there true gone has h = let no : false ≡ true = h in cc
-was_there false gone has h = h
+was_there goes gone has h = grind arith
 
 -- a loss allocates nothing
 pub served_lost : (taken : Node → Bool) (fault : Fault) (n : Node) → has_buffers (lost taken fault n) ≡ true → has_buffers n ≡ true
@@ -68,12 +52,8 @@ module _ (pool : ℕ) (others : List Interval) (c : Collection) (distinct : are_
   IsRootIf held d = mark_of pool held d ≡ Allocated head → is_root_of c head ≡ true
 
   -- the root that is left is the one of the collection
-  root_is : (root : Node) → find is_root_left c.nodes ≡ Some root → root.key ≡ head → is_root_of c head ≡ true
-  root_is root found same =
-      let f = In-find is_root_left c.nodes root found in
-      subst (λ (k : NodeKey). is_root_of c k ≡ true) same
-      (ap (λ (o : Option Node). option_map_or (λ (n : Node). is_none n.parent) o false) (found_by_key c.nodes root distinct f.0)
-      ∙ and_left (is_none root.parent) (not root.gone) f.1)
+  root_is : {root : Node} → find is_root_left c.nodes ≡ Some root → root.key ≡ head → is_root_of c head ≡ true
+  root_is {root} found same = grind (arith, In-find, found_by_key)
 
   module _ (held : List Interval) where
     -- an end allocates nothing
@@ -88,24 +68,24 @@ module _ (pool : ℕ) (others : List Interval) (c : Collection) (distinct : are_
     loses_if strong_open None = tt
     loses_if strong_open (Some n) =
         elim (n.allocated && (not (has_strong c.nodes) && not strong_open)) as
-        (λ (b : Bool). IfSome (when b (Loses n.key Cause.NoStrong)) (IsRootIf held)) [
+        (λ b. IfSome (when b (Loses n.key Cause.NoStrong)) (IsRootIf held)) [
           | true ↦ λ is. cc
           | false ↦ tt
         ]
 
     -- only the root's own unit is allocated first
-    placed_if : (root : Node) → find is_root_left c.nodes ≡ Some root → (o : Option Failure) → outcome root.key o ≡ Allocated head →
+    placed_if : {root : Node} → find is_root_left c.nodes ≡ Some root → (o : Option Failure) → outcome root.key o ≡ Allocated head →
         is_root_of c head ≡ true
-    placed_if root found None is = let same : root.key ≡ head = cc in root_is root found same
-    placed_if root found (Some why) is = cc
+    placed_if {root} found None is = let same : root.key ≡ head = cc in root_is found same
+    placed_if found (Some why) is = cc
 
     -- the first step allocates the root's unit, or loses the root
-    step_if : (root : Node) → find is_root_left c.nodes ≡ Some root → (o : Option Failure) →
+    step_if : {root : Node} → find is_root_left c.nodes ≡ Some root → (o : Option Failure) →
         IsRootIf held (option_map_or (λ why. Loses root.key (Cause.Failed why)) o (Places root.key (wanted_by root.key c.nodes)))
-    step_if root found None =
-        placed_if root found (when (is_none (places pool (pages_of (wanted_by root.key c.nodes).size) (wanted_by root.key c.nodes).count
+    step_if {root} found None =
+        placed_if found (when (is_none (places pool (pages_of (wanted_by root.key c.nodes).size) (wanted_by root.key c.nodes).count
         held)) Failure.PoolFull)
-    step_if root found (Some why) = λ is. cc
+    step_if found (Some why) = λ is. cc
 
     -- the same, where some root waits
     places_if : (o : Option Node) → find is_root_left c.nodes ≡ o →
@@ -116,7 +96,7 @@ module _ (pool : ℕ) (others : List Interval) (c : Collection) (distinct : are_
       where
         from : (b : Bool) → IfSome (option_map (λ (n : Node). first_step c.nodes n.key) (when b n)) (IsRootIf held)
         from false = tt
-        from true = step_if n e (early_failure n.key c.nodes)
+        from true = step_if e _
 
     -- without buffers no attached unit is allocated
     allocates_if : (o : Option Buffers) → o ≡ None →
@@ -128,19 +108,15 @@ module _ (pool : ℕ) (others : List Interval) (c : Collection) (distinct : are_
     -- one of the four steps
     decided_if : c.buffers ≡ None → (strong_open : Bool) → IfSome (decided c.nodes c.buffers strong_open) (IsRootIf held)
     decided_if none strong_open =
-        first_has (IsRootIf held) _ _ _ _
-        (ends_if (find (is_deserted_node c.nodes) c.nodes))
-        (loses_if strong_open (find is_root_left c.nodes))
-        (places_if (find is_root_left c.nodes) refl)
-        (allocates_if c.buffers none)
+        first_has (IsRootIf held) _ _ _ _ (ends_if (find (is_deserted_node c.nodes) c.nodes))
+        (loses_if strong_open (find is_root_left c.nodes)) (places_if _ refl) (allocates_if _ none)
 
   -- the forced step is the decided one
   pub root_allocated : (handles : Handles) → c.buffers ≡ None → forced pool (standing handles others c) ≡ Some (Allocated head) →
       is_root_of c head ≡ true
   root_allocated handles none forces =
-      by (decided c.nodes c.buffers (standing handles others c).strong_open)
-      (decided_if (pages_in c ++ others) none (standing handles others c).strong_open)
-      (sym (forced_made handles pool others c) ∙ forces)
+      by (decided c.nodes c.buffers (standing handles others c).strong_open) (decided_if _ none _)
+      (sym (forced_made handles _ others c) ∙ forces)
     where
       by : (o : Option Decision) → IfSome o (IsRootIf (pages_in c ++ others)) →
           option_map (mark_of pool (pages_in c ++ others)) o ≡ Some (Allocated head) → is_root_of c head ≡ true
@@ -158,7 +134,7 @@ given_made pool handles others c distinct (Ended top) forces own = λ none.
     none_served (ended c.nodes top) (λ n h. was_there _ n.gone n.allocated h) c.nodes (own none)
 given_made pool handles others c distinct (Allocated head) forces own = elim (either_way (is_root_of c head)) [
   | inl e ↦ rw e (λ none. cc)
-  | inr e ↦ rw e (λ none. both_ways (is_root_of c head) (root_allocated pool others c distinct head handles none forces) e)
+  | inr e ↦ rw e (λ none. both_ways _ (root_allocated pool others c distinct _ handles none forces) e)
 ]
 
 -- each step keeps the keys apart
@@ -181,11 +157,11 @@ distinct_made pool others (Allocated head) c apart =
     ]
 
 -- so do all that follow
-pub given_settled : (pool : ℕ) (handles : Handles) (others : List Interval) (c after : Collection) → are_distinct c.nodes ≡ true →
+pub given_settled : {pool : ℕ} {handles : Handles} {others : List Interval} {c after : Collection} → are_distinct c.nodes ≡ true →
     IsServedByGiven c → Settles pool handles others c after → IsServedByGiven after
-given_settled pool handles others _ _ apart own (Rests c rest) = own
-given_settled pool handles others _ _ apart own (Forces c after mark forces settles) =
-    given_settled pool handles others (made pool others mark c) after (distinct_made pool others mark c apart)
+given_settled apart own (Rests c rest) = own
+given_settled {pool} {handles} {others} apart own (Forces c after mark forces settles) =
+    given_settled (distinct_made pool others mark c apart)
     (given_made pool handles others c apart mark forces own) settles
 
 -- ---- a change
@@ -194,12 +170,11 @@ given_settled pool handles others _ _ apart own (Forces c after mark forces sett
 one_more : (nodes : List Node) (b : Node) → has_buffers b ≡ false → list_any has_buffers nodes ≡ false →
     list_any has_buffers (nodes ++ b ∷ []) ≡ false
 one_more nodes b none all =
-    list_any-append has_buffers nodes (b ∷ []) ∙ or_both (list_any has_buffers nodes) _ all (ap (λ (x : Bool). x || false) none)
+    list_any-append has_buffers nodes (b ∷ []) ∙ or_both (list_any has_buffers nodes) _ all (ap (λ x. x || false) none)
 
 -- by cases
 child_none : (attached gone has : Bool) → gone ≡ false → (not gone && has) ≡ false → (not attached && has) ≡ false
-child_none true gone has here none = refl
-child_none false gone has here none = ap (λ (b : Bool). not b && has) (sym here) ∙ none
+child_none attached gone has h k = grind arith
 
 -- a birth below a node that is not gone keeps it
 pub given_born : (above : Option Node) (attached : Bool) (id event client : ℕ) (key : NodeKey) (c : Collection) →
@@ -209,8 +184,8 @@ given_born None attached id event client key c left own = λ none.
     one_more c.nodes (born None attached id event client key) refl (own none)
 given_born (Some n) attached id event client key c left own = λ none.
     one_more c.nodes (born (Some n) attached id event client key)
-    (child_none attached n.gone n.allocated (left n refl).0 (false_if (has_buffers n) (λ e.
-    both_ways (list_any has_buffers c.nodes) (In-any has_buffers c.nodes n (left n refl).1 e) (own none)))) (own none)
+    (child_none attached _ _ (left n refl).0 (false_if _ (λ e.
+    both_ways _ (In-any _ _ n (left n refl).1 e) (own none)))) (own none)
 
 -- and so does another change
 pub given_changed : (change : Change) (key : NodeKey) (c : Collection) → is_birth change ≡ false → IsServedByGiven c →
@@ -229,19 +204,16 @@ given_changed Change.Nothing key c birth own = own
 pub given_put : (new : Collection) (cs : List Collection) → IsServedByGiven new → AreServedByGiven cs → AreServedByGiven (put new cs)
 given_put new [] own all = (own, tt)
 given_put new (c ∷ cs) own all =
-    cases_place c.id new.id (AreServedByGiven (put new (c ∷ cs)))
-    (λ same. rw same (own, all.1))
+    cases_place c.id new.id _ (λ same. rw same (own, all.1))
     (λ other above. rw (other, above) (own, (all.0, all.1)))
     (λ other below. rw (other, below) (all.0, given_put new cs own all.1))
 
 -- what is finished keeps it of all
-pub given_finished : (pool : ℕ) (handles : Handles) (old : Table Node) (before : List Shelf) (new : Table Node) (behind : List Shelf)
-    (c : Collection) → Finishes pool handles old before new behind c → are_distinct c.nodes ≡ true → IsServedByGiven c →
+pub given_finished : {pool : ℕ} {handles : Handles} {old : Table Node} {before : List Shelf} {new : Table Node} {behind : List Shelf}
+    {c : Collection} → Finishes pool handles old before new behind c → are_distinct c.nodes ≡ true → IsServedByGiven c →
     AreServedByGiven (map (collection_in old) before) → AreServedByGiven (map (collection_in new) behind)
-given_finished pool handles old before new behind c f apart own all =
-    subst AreServedByGiven (sym f.collections)
-    (given_put (given_back handles f.after) (map (collection_in old) before)
-    (given_settled pool handles (beside (forest_of old before) c.id) c f.after apart own f.settles) all)
+given_finished f apart own all =
+    subst AreServedByGiven (sym f.collections) (given_put _ _ (given_settled apart own f.settles) all)
 
 -- the collection with the id, or an empty one
 pub given_at : (t : Table Node) (ss : List Shelf) (id : ℕ) → AreServedByGiven (map (collection_in t) ss) →
@@ -251,33 +223,31 @@ given_at t ss id all = from (collection_at (forest_of t ss) id) refl
     from : (o : Option Collection) → collection_at (forest_of t ss) id ≡ o →
         IsServedByGiven (unwrap_or o (record { id = id; nodes = []; buffers = None; held = [] }))
     from None is = λ none. refl
-    from (Some c) is =
-        all_at IsServedByGiven (map (collection_in t) ss) all c (In-find (λ (d : Collection). d.id == id) (map (collection_in t) ss) c is).0
+    from (Some c) is = all_at _ _ all c (In-find _ _ c is).0
 
 -- a change with all that it forces keeps it of all
-pub given_change : (pool : ℕ) (handles : Handles) (t now : Table Node) (ss behind : List Shelf) (id : ℕ) (change : Change) →
+pub given_change : {pool : ℕ} {handles : Handles} {t now : Table Node} {ss behind : List Shelf} (id : ℕ) (change : Change) →
     IsStored t ss → is_birth change ≡ false →
     Finishes pool handles t ss now behind (changed change no_key (collection_or_new (forest_of t ss) id)) →
     AreServedByGiven (map (collection_in t) ss) → AreServedByGiven (map (collection_in now) behind)
-given_change pool handles t now ss behind id change kept birth f all =
+given_change {t} {ss} id change kept birth f all =
     let c : Collection = collection_or_new (forest_of t ss) id in
-    let makes = change_makes change no_key c birth in
-    given_finished pool handles t ss now behind (changed change no_key c) f
-    (ap (λ (d : Collection). are_distinct d.nodes) makes.is ∙ distinct-map makes.of makes.same c.nodes
-    ∙ (before_is t ss kept id).whole.sound.distinct)
-    (given_changed change no_key c birth (given_at t ss id all)) all
+    let makes = change_makes _ _ c birth in
+    given_finished f
+    (ap (λ (d : Collection). are_distinct d.nodes) makes.is ∙ distinct-map _ makes.same _
+    ∙ (before_is t ss kept id).whole.sound.distinct) (given_changed _ _ c birth (given_at t ss id all)) all
 
 -- nodes that are written otherwise, and those that are left out
 pub given_mapped : (f : Node → Node) → ((n : Node) → has_buffers (f n) ≡ true → has_buffers n ≡ true) → (cs : List Collection) →
     AreServedByGiven cs → AreServedByGiven (map (with_nodes (map f)) cs)
 given_mapped f fewer [] all = tt
-given_mapped f fewer (c ∷ cs) all = (λ none. none_served f fewer c.nodes (all.0 none), given_mapped f fewer cs all.1)
+given_mapped f fewer (c ∷ cs) all = (λ none. none_served f fewer _ (all.0 none), given_mapped f fewer cs all.1)
 
 -- by induction over the collections
 pub given_filtered : (p : Node → Bool) (cs : List Collection) → AreServedByGiven cs →
     AreServedByGiven (map (with_nodes (filter p)) cs)
 given_filtered p [] all = tt
-given_filtered p (c ∷ cs) all = (λ none. none-filter p has_buffers c.nodes (all.0 none), given_filtered p cs all.1)
+given_filtered p (c ∷ cs) all = (λ none. none-filter p _ _ (all.0 none), given_filtered p cs all.1)
 
 -- by induction: some collections are left out
 pub given_some : (p : Collection → Bool) (cs : List Collection) → AreServedByGiven cs → AreServedByGiven (filter p cs)
@@ -295,24 +265,22 @@ given_over id (c ∷ cs) all = from (c.id == id) (is_left (tidied c)) (given_ove
   where
     from : (here bare : Bool) → AreServedByGiven (without_over_in id cs) →
         AreServedByGiven (if here then (if bare then cs else tidied c ∷ cs) else c ∷ without_over_in id cs)
-    from true true on = all.1
-    from true false on = (λ none. none-filter (λ (n : Node). not (is_over n)) has_buffers c.nodes (all.0 none), all.1)
-    from false bare on = (all.0, on)
+    from here bare h = grind (arith, none-filter)
 
 -- so what holds of each forest holds after a change
-pub forest_after : (made : Bool) (handles : Handles) (pool left : Holdings) (t now : Table Node) (es behind : List Entry)
-    (us next : List Unit) (id : ℕ) (change : Change) → is_birth change ≡ false → IsForest t es us →
+pub forest_after : {made : Bool} {handles : Handles} {pool left : Holdings} {t now : Table Node} {es behind : List Entry}
+    {us : List Unit} (next : List Unit) {id : ℕ} {change : Change} → is_birth change ≡ false → IsForest t es us →
     IsOutcomeIn made handles pool left t now es behind id change → HaveUnits next now behind → IsForest now behind next
-forest_after true handles pool left t now es behind us next id change birth forest outcome units =
+forest_after {made = true} next {id} birth forest outcome units =
     let settled = outcome.settled refl in
     record {
       kept = settled.kept;
       counted = settled.counted;
       units = units;
-      given = given_change pool.size handles t now (shelves_of es) (shelves_of behind) id change forest.kept birth settled.finishes
+      given = given_change id _ forest.kept birth settled.finishes
           forest.given;
     }
-forest_after false handles pool left t now es behind us next id change birth forest outcome units =
+forest_after {made = false} next birth forest outcome units =
     let same = outcome.unchanged refl in
     record {
       kept = rw (same.table, same.entries) forest.kept;

@@ -1,20 +1,15 @@
 -- What a walk within units finds that come to their turn together: each of their nodes, and the heads right below them.
-use Rattle.forest_steps.proofs.Common.{◌≡◌, ℕ, zero, suc, ◌<◌, ◌==◌, refl, ap, sym, ◌∙◌, subst, Bool, true, false, not, ◌&&◌, ◌||◌, ◌⊎◌, inl, inr, length, List, [], ◌∷◌, Option, Some, arith, not-true, find, list_any, option_map_or, NodeKey, same_key, In, In-list_any, and_left, and_right, either_way, or_cases, or_left, same_key-refl, same_key-true, In-any, Table, node_at, parent_at, Node, Unit, unit_at, is_left_of, IsStored, IsWhole, Shelf, collection_in, nodes_with, is_head}
-use Rattle.std.proofs.Common.{filter}
-use Rattle.std.proofs.lemmas.Map.Views.{Contains-from_any, list_any-from_Contains}
+use Rattle.forest_steps.proofs.Common.{◌≡◌, ℕ, zero, suc, ◌<◌, ◌==◌, ap, sym, ◌∙◌, subst, Bool, true, false, not, ◌&&◌, ◌||◌, ◌⊎◌, inl, inr, length, List, [], ◌∷◌, Some, arith, not-true, find, list_any, option_map_or, NodeKey, same_key, In, In-list_any, and_left, and_right, either_way, or_left, same_key-refl, same_key-true, In-any, Table, node_at, parent_at, Node, Unit, is_left_of, IsStored, IsWhole, Shelf, collection_in, nodes_with, is_head, same_key-equal, Contains-from_any, list_any-from_Contains, Below, Top, Within, stopped_at, HasUnits, is_head_at, is_outside, at_key, node_there, whole_before, head_own, left_node, left_parent}
+use Rattle.forest_steps.proofs.tables.Upward.{line, own_head, shared, step, still_here}
 use Rattle.sm_names.proofs.ListLaws.{In-filter, In-filter-back}
-use Rattle.failure_domains.specs.Falls.{Below, Top, Within, stopped_at}
-use Rattle.forest_store.specs.Counts.{HasUnits}
-use Rattle.forest_store.specs.UnitAllocation.{AreHeads, IsGathered, hangs_below, is_head_at, is_of_some, is_outside, is_ready_head, is_waiting_head}
+use Rattle.forest_store.specs.UnitAllocation.{AreHeads, IsGathered, hangs_below, is_ready_head}
 use Rattle.forest_steps.proofs.failures.Ties.{key_equivalence}
-use Rattle.forest_store.proofs.allocation.Before.{at_key, node_there, some_there, whole_before}
-use Rattle.forest_store.proofs.allocation.Next.{head_own}
-use Rattle.forest_store.proofs.tables.Rooted.{left_node, left_parent}
-use Rattle.forest_store.proofs.tallies.Holding.{has_parent, line, own_head, shared, step, still_here}
+use Rattle.forest_store.proofs.allocation.Before.{some_there}
+use Rattle.forest_store.proofs.tallies.Holding.{has_parent}
 
-module _ (t : Table Node) (ss : List Shelf) (kept : IsStored t ss) (s : Shelf) (found : find (λ (x : Shelf). x.id == s.id) ss ≡ Some s)
-    (us : List Unit) (counts : HasUnits us (nodes_with t s.keys)) (k : NodeKey)
-    (hs : List NodeKey) (ks : List NodeKey) (gathered : IsGathered t us s.id k hs ks) where
+module _ {t : Table Node} {ss : List Shelf} (kept : IsStored t ss) {s : Shelf} (found : find (λ (x : Shelf). x.id == s.id) ss ≡ Some s)
+    {us : List Unit} (counts : HasUnits us (nodes_with t s.keys)) {k : NodeKey}
+    {hs : List NodeKey} {ks : List NodeKey} (gathered : IsGathered t us s.id k hs ks) where
   abbrev nodes : List Node
   nodes = nodes_with t s.keys
 
@@ -33,7 +28,7 @@ module _ (t : Table Node) (ss : List Shelf) (kept : IsStored t ss) (s : Shelf) (
   Inside key = Within (parent_at t) stopped k key
 
   abbrev above : NodeKey → List NodeKey
-  above = line nodes whole.sound.distinct whole.sound.heads whole.rooted whole.united
+  above = line whole
 
   -- ---- keys
 
@@ -53,19 +48,11 @@ module _ (t : Table Node) (ss : List Shelf) (kept : IsStored t ss) (s : Shelf) (
 
   -- a listed key of a head stands in the list of heads
   pub head_back : All → (j : NodeKey) → list_any (same_key j) ks ≡ true → is_head_at t us s.id k j ≡ true → list_any (same_key j) hs ≡ true
-  head_back all j there head =
-      let x = In-list_any (same_key j) ks there in
-      let is : j ≡ x.0 = same_key-true j x.0 x.2 in
-      all j
-      ∙ In-any (same_key j) (filter (is_head_at t us s.id k) ks) x.0
-      (In-filter-back (is_head_at t us s.id k) ks x.0 x.1 (ap (is_head_at t us s.id k) (sym is) ∙ head)) x.2
+  head_back all j there head = grind (arith, In-any, In-filter-back, In-list_any, same_key-true)
 
   -- the first alone is
   only_one : hs ≡ k ∷ [] → (j : NodeKey) → list_any (same_key j) hs ≡ true → j ≡ k
-  only_one alone j there = elim (or_cases (same_key j k) false (sym (ap (list_any (same_key j)) alone) ∙ there)) [
-    | inl e ↦ same_key-true j k e
-    | inr e ↦ cc
-  ]
+  only_one alone j there = grind (arith, same_key-true)
 
   -- the list of heads has keys of the walk alone
   pub head_from : (j : NodeKey) → list_any (same_key j) hs ≡ true →
@@ -74,57 +61,54 @@ module _ (t : Table Node) (ss : List Shelf) (kept : IsStored t ss) (s : Shelf) (
     | inl alone ↦
         let is : k ≡ j = sym (only_one alone j there) in (
           inside_key j (subst Inside is Top),
-          or_left (same_key j k) _ (ap (λ (i : NodeKey). same_key i k) (sym is) ∙ same_key-refl k),
+          or_left _ _ (same_key-equal _ _ (sym is)),
         )
     | inr all ↦
-        let x = In-list_any (same_key j) (filter (is_head_at t us s.id k) ks) (sym (all j) ∙ there) in
-        let y = In-filter (is_head_at t us s.id k) ks x.0 x.1 in
-        (In-any (same_key j) ks x.0 y.0 x.2, ap (is_head_at t us s.id k) (same_key-true j x.0 x.2) ∙ y.1)
+        let x = In-list_any _ _ (sym (all j) ∙ there) in
+        let y = In-filter _ ks x.0 x.1 in
+        (In-any _ ks x.0 y.0 x.2, ap (is_head_at t us s.id k) (same_key-true j x.0 x.2) ∙ y.1)
   ]
 
   -- the first head is listed
   pub first_in : list_any (same_key k) hs ≡ true
   first_in = elim gathered.are [
-    | inl alone ↦ ap (list_any (same_key k)) alone ∙ or_left (same_key k k) false (same_key-refl k)
-    | inr all ↦ head_back all k (inside_key k Top) (or_left (same_key k k) _ (same_key-refl k))
+    | inl alone ↦ ap (list_any (same_key k)) alone ∙ or_left _ _ (same_key-refl k)
+    | inr all ↦ head_back all k (inside_key k Top) (or_left _ _ (same_key-refl k))
   ]
 
   -- ---- the units' nodes
 
   -- the constructor is injective
-  one_node : (a b : Node) → Some a ≡ Some b → a ≡ b
-  one_node a b e = cc
+  one_node : (a : Node) {b : Node} → Some a ≡ Some b → a ≡ b
+  one_node a e = cc
 
   -- a node of one of the units doesn't stop the walk
   goes_on : (n : Node) → In n nodes → list_any (same_key n.head) hs ≡ true → stopped n.key ≡ false
   goes_on n on own =
-      ap (λ (o : Option Node). not (same_key n.key k) && option_map_or (is_outside us s.id) o false) (at n on)
+      ap (λ o. not (same_key n.key k) && option_map_or (is_outside us s.id) o false) (at n on)
       ∙ from (either_way n.attached)
     where
       out : (same attached ready : Bool) → (same || ready) ≡ true → (not same && (attached && not ready)) ≡ false
-      out true attached ready h = refl
-      out false true ready h = rw h refl
-      out false false ready h = refl
+      out same attached ready h = grind arith
 
       none : (same attached ready : Bool) → attached ≡ false → (not same && (attached && not ready)) ≡ false
-      none true attached ready h = refl
-      none false attached ready h = rw h refl
+      none same attached ready h = grind arith
 
       from : (n.attached ≡ true) ⊎ (n.attached ≡ false) →
           (not (same_key n.key k) && (n.attached && not (is_ready_head us s.id n))) ≡ false
       from (inl e) =
           let head : list_any (same_key n.key) hs ≡ true =
-          ap (λ (j : NodeKey). list_any (same_key j) hs) (sym (head_own (collection_in t s) whole.sound n on e)) ∙ own in
+          ap (λ j. list_any (same_key j) hs) (sym (head_own _ whole.sound n on e)) ∙ own in
           out (same_key n.key k) n.attached (is_ready_head us s.id n)
-          (ap (λ (o : Option Node). same_key n.key k || option_map_or (is_ready_head us s.id) o false) (sym (at n on))
-          ∙ (head_from n.key head).1)
+          (ap (λ o. same_key n.key k || option_map_or (is_ready_head us s.id) o false) (sym (at n on))
+          ∙ (head_from _ head).1)
       from (inr e) = none (same_key n.key k) n.attached (is_ready_head us s.id n) e
 
   -- a child of one of them is listed
   child_in : (n x : Node) → In n nodes → n.gone ≡ false → In x nodes → list_any (same_key x.head) hs ≡ true → n.parent ≡ Some x.key →
       list_any (same_key x.key) ks ≡ true → list_any (same_key n.key) ks ≡ true
   child_in n x on here there own is listed =
-      inside_key n.key (Below x.key n.key (key_inside x.key listed) (goes_on x there own) (kept.linked n.key n (at n on) here ∙ is))
+      inside_key _ (Below x.key n.key (key_inside _ listed) (goes_on x there own) (kept.linked n.key n (at n on) here ∙ is))
 
   -- so each of them is
   unit_from : (fuel : ℕ) (n : Node) → In n nodes → n.gone ≡ false → list_any (same_key n.head) hs ≡ true → length (above n.key) < fuel →
@@ -133,19 +117,19 @@ module _ (t : Table Node) (ss : List Shelf) (kept : IsStored t ss) (s : Shelf) (
   unit_from (suc fuel) n on here own few = elim (either_way (is_head n)) [
     | inl e ↦
         (head_from n.key (ap (λ (j : NodeKey). list_any (same_key j) hs)
-        (sym (own_head nodes whole.sound.distinct whole.sound.heads whole.rooted whole.united n on e)) ∙ own)).0
+        (sym (own_head whole n on e)) ∙ own)).0
     | inr e ↦
         let up' = has_parent nodes whole.sound.distinct whole.sound.heads whole.rooted whole.united n e in
-        let x = shared nodes whole.sound.distinct whole.sound.heads whole.rooted whole.united n on here e up'.0 up'.1 in
+        let x = shared whole n on here e up'.1 in
         let left : is_left_of nodes x.0.key ≡ true =
         subst (λ (j : NodeKey). is_left_of nodes j ≡ true) (sym x.2) (left_parent nodes whole.rooted n up'.0 on here up'.1) in
         let long : length (above n.key) ≡ length (up'.0 ∷ above up'.0) =
-        ap length (step nodes whole.sound.distinct whole.sound.heads whole.rooted whole.united n on here up'.0 up'.1) in
+        ap length (step whole n on here up'.1) in
         let same : length (above x.0.key) ≡ length (above up'.0) = ap (λ (j : NodeKey). length (above j)) x.2 in
         let too : list_any (same_key x.0.head) hs ≡ true = ap (λ (j : NodeKey). list_any (same_key j) hs) x.3 ∙ own in
         child_in n x.0 on here x.1 too (up'.1 ∙ ap Some (sym x.2))
         (unit_from fuel x.0 x.1
-        (still_here nodes whole.sound.distinct whole.sound.heads whole.rooted whole.united x.0 x.1 left) too (omega arith))
+        (still_here whole x.0 x.1 left) too (omega arith))
   ]
 
   -- by induction on the line above the node
@@ -155,12 +139,10 @@ module _ (t : Table Node) (ss : List Shelf) (kept : IsStored t ss) (s : Shelf) (
   -- and a head right below one of the units
   pub hangs_inside : (m : Node) → In m nodes → hangs_below t us hs m ≡ true → list_any (same_key m.key) ks ≡ true
   hangs_inside m on h =
-      let waits : is_waiting_head m ≡ true = and_left (is_waiting_head m) _ h in
-      let here : m.gone ≡ false = not-true m.gone (and_left (not m.gone) _ (and_right m.attached _ waits)) in
-      let p = some_there (is_of_some t hs) m.parent
-      (and_right ((unit_at us m.key.slot).unready == 0) _ (and_right (is_waiting_head m) _ h)) in
-      let q = node_there (λ (x : Node). list_any (same_key x.head) hs) (node_at t p.0) p.2 in
-      let x = left_node nodes p.0 (left_parent nodes whole.rooted m p.0 on here p.1) in
-      let same : q.0 ≡ x.node = one_node q.0 x.node (sym q.1 ∙ (ap (node_at t) (sym x.is) ∙ at x.node x.on)) in
+      let here : m.gone ≡ false = not-true _ (and_left _ _ (and_right _ _ (and_left _ _ h))) in
+      let p = some_there _ _ (and_right _ _ (and_right _ _ h)) in
+      let q = node_there _ _ p.2 in
+      let x = left_node _ p.0 (left_parent _ whole.rooted m p.0 on here p.1) in
+      let same : q.0 ≡ x.node = one_node q.0 (sym q.1 ∙ (ap (node_at t) (sym x.is) ∙ at _ x.on)) in
       let own : list_any (same_key x.node.head) hs ≡ true = ap (λ (y : Node). list_any (same_key y.head) hs) (sym same) ∙ q.2 in
-      child_in m x.node on here x.on own (p.1 ∙ ap Some (sym x.is)) (of_unit x.node x.on x.here own)
+      child_in m _ on here x.on own (p.1 ∙ ap Some (sym x.is)) (of_unit _ x.on x.here own)

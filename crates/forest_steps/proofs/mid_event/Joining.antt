@@ -1,77 +1,63 @@
 -- Steps that were made one after another, joined: what the later ones finish, the earlier ones did.
-use Rattle.forest_steps.proofs.Common.{◌≡◌, ◌≢◌, ℕ, zero, suc, ◌+◌, ◌==◌, ◌⊎◌, arith, inl, inr, nat_lt, refl, ap, sym, ◌∙◌, subst, true, false, not, List, [], ◌∷◌, map, get_or, set, Option, Some, None, option_map, eq-eqb, filter, find, Interval, NodeKey, forced, In, either_way, some-injective, Table, Change, Entry, Node, Unit, Collection, IsStored, Shelf, collection_in, forest_of, place_in, put_shelf, shelf_of, shelves_of, Handles, Settles, collection_or_new, put, standing}
-use Rattle.std.proofs.lemmas.List.{get_or-set_same, get_or_default}
-use Rattle.std.specs.List.{flat_map}
-use Rattle.std.specs.Option.{unwrap_or}
-use Rattle.buffer_pool.specs.Holdings.{Holdings}
-use Rattle.forest_store.specs.Calm.{AreCountedExcept}
+use Rattle.forest_steps.proofs.Common.{◌≡◌, ◌≢◌, ℕ, zero, suc, ◌+◌, ◌==◌, ◌⊎◌, arith, inl, inr, nat_lt, refl, ap, sym, ◌∙◌, subst, true, false, not, List, [], ◌∷◌, map, get_or, set, Option, Some, None, option_map, eq-eqb, filter, find, NodeKey, In, either_way, some-injective, Table, Change, Entry, Node, Unit, Collection, IsStored, Shelf, collection_in, forest_of, place_in, put_shelf, shelf_of, shelves_of, Handles, collection_or_new, put, get_or-set_same, get_or_default, flat_map, Holdings, AreCountedExcept, beside, pages_in, Finishes, IsOutcomeIn, IsSettledIn, changed_in, given_back, is_birth, shelves_put, place_is, set_put, put-map, collection_is, shelf_found}
 use Rattle.forest_steps.specs.EventEnd.{Closes, MayClose}
-use Rattle.forest_store.specs.Forest.{beside, pages_in}
-use Rattle.forest_store.specs.Shelves.{Finishes, SameTable}
-use Rattle.forest_store.specs.Outcomes.{IsOutcomeIn, IsSettledIn, changed_in}
-use Rattle.forest_store.specs.Settling.{given_back, is_birth, no_key}
 use Rattle.forest_steps.specs.MidEvent.{IsBeside, MidEvent, Reaches, is_abandoned_in}
 use Rattle.forest_steps.proofs.allocation.Among.{put_among}
-use Rattle.forest_store.proofs.shelves.Counted.{moved, set_shelves, shelves_put}
-use Rattle.forest_store.proofs.shelves.Entries.{place_is, set_put}
-use Rattle.forest_store.proofs.shelves.Putting.{cases_place, put-map}
-use Rattle.forest_store.proofs.shelves.Showing.{collection_is, shelf_found}
+use Rattle.forest_store.proofs.shelves.Counted.{moved, set_shelves}
+use Rattle.forest_store.proofs.shelves.Putting.{cases_place}
 use Rattle.forest_store.proofs.tallies.Slots.{changed_id, or_new_id, settles_id}
+use Rattle.forest_steps.proofs.tables.Rows.{same_on}
 
 -- ---- collections by id
 
 -- one takes the place of another with its id
 pub put_twice : (new old : Collection) (cs : List Collection) → old.id ≡ new.id → put new (put old cs) ≡ put new cs
-put_twice new old [] same = let own : (old.id == new.id) ≡ true = eq-eqb old.id new.id same in rw own refl
+put_twice new old [] same = let own : (old.id == new.id) ≡ true = eq-eqb _ _ same in rw own refl
 put_twice new old (c ∷ cs) same =
-    let own : (old.id == new.id) ≡ true = eq-eqb old.id new.id same in
-    cases_place c.id new.id (put new (put old (c ∷ cs)) ≡ put new (c ∷ cs))
-    (λ here. let there : (c.id == old.id) ≡ true = ap (λ (i : ℕ). c.id == i) same ∙ here in rw (there, own, here) refl)
+    let own : (old.id == new.id) ≡ true = eq-eqb _ _ same in
+    cases_place c.id new.id _
+    (λ here. let there : (c.id == old.id) ≡ true = ap (λ i. c.id == i) same ∙ here in rw (there, own, here) refl)
     (λ other above.
-    let there : (c.id == old.id) ≡ false = ap (λ (i : ℕ). c.id == i) same ∙ other in
-    let over : nat_lt old.id c.id ≡ true = ap (λ (i : ℕ). nat_lt i c.id) same ∙ above in
-    rw (there, over, own, other, above) refl)
-    (λ other below.
-    let there : (c.id == old.id) ≡ false = ap (λ (i : ℕ). c.id == i) same ∙ other in
-    let under : nat_lt old.id c.id ≡ false = ap (λ (i : ℕ). nat_lt i c.id) same ∙ below in
-    rw (there, under, other, below) (ap (λ (xs : List Collection). c ∷ xs) (put_twice new old cs same)))
+    let there : (c.id == old.id) ≡ false = ap (λ i. c.id == i) same ∙ other in
+    let over : nat_lt old.id c.id ≡ true = ap (λ i. nat_lt i c.id) same ∙ above in
+    rw (there, over, own, other, above) refl) (λ other below.
+    let there : (c.id == old.id) ≡ false = ap (λ i. c.id == i) same ∙ other in
+    let under : nat_lt old.id c.id ≡ false = ap (λ i. nat_lt i c.id) same ∙ below in
+    rw (there, under, other, below) (ap (λ xs. c ∷ xs) (put_twice new old cs same)))
 
 -- beside it nothing changes
 others_put : (new : Collection) (id : ℕ) (cs : List Collection) → new.id ≡ id →
     filter (λ (c : Collection). not (c.id == id)) (put new cs) ≡ filter (λ (c : Collection). not (c.id == id)) cs
-others_put new id [] same = let own : (new.id == id) ≡ true = eq-eqb new.id id same in rw own refl
+others_put new id [] same = let own : (new.id == id) ≡ true = eq-eqb _ id same in rw own refl
 others_put new id (c ∷ cs) same =
-    let own : (new.id == id) ≡ true = eq-eqb new.id id same in
-    cases_place c.id new.id (filter (λ (d : Collection). not (d.id == id)) (put new (c ∷ cs))
-    ≡ filter (λ (d : Collection). not (d.id == id)) (c ∷ cs))
-    (λ here. let there : (c.id == id) ≡ true = ap (λ (i : ℕ). c.id == i) (sym same) ∙ here in rw (here, own, there) refl)
-    (λ other above. rw (other, above, own) refl)
-    (λ other below.
-    let there : (c.id == id) ≡ false = ap (λ (i : ℕ). c.id == i) (sym same) ∙ other in
-    rw (other, below, there) (ap (λ (xs : List Collection). c ∷ xs) (others_put new id cs same)))
+    let own : (new.id == id) ≡ true = eq-eqb _ id same in
+    cases_place c.id new.id _
+    (λ here. let there : (c.id == id) ≡ true = ap (λ i. c.id == i) (sym same) ∙ here in rw (here, own, there) refl)
+    (λ other above. rw (other, above, own) refl) (λ other below.
+    let there : (c.id == id) ≡ false = ap (λ i. c.id == i) (sym same) ∙ other in
+    rw (other, below, there) (ap (λ xs. c ∷ xs) (others_put new id cs same)))
 
 -- the collection was put in its place, and the others stay
 pub beside_put : (t now : Table Node) (ss behind : List Shelf) (c : Collection) (id : ℕ) → c.id ≡ id →
     map (collection_in now) behind ≡ put c (map (collection_in t) ss) → beside (forest_of now behind) id ≡ beside (forest_of t ss) id
 beside_put t now ss behind c id same is =
-    ap (λ (cs : List Collection). flat_map pages_in (filter (λ (d : Collection). not (d.id == id)) cs)) is
-    ∙ ap (flat_map pages_in) (others_put c id (map (collection_in t) ss) same)
+    ap (λ cs. flat_map pages_in (filter (λ (d : Collection). not (d.id == id)) cs)) is
+    ∙ ap (flat_map pages_in) (others_put c id _ same)
 
 -- ---- steps
 
 -- what is finished from the collection that steps led to was finished from the one that they led from
-pub joined : (pool : ℕ) (handles : Handles) (t mid now : Table Node) (ss between behind : List Shelf) (c d : Collection) → d.id ≡ c.id →
+pub joined : {pool : ℕ} {handles : Handles} (t : Table Node) {mid now : Table Node} (ss : List Shelf) {between behind : List Shelf}
+    (c : Collection) {d : Collection} → d.id ≡ c.id →
     map (collection_in mid) between ≡ put d (map (collection_in t) ss) → Reaches pool handles (beside (forest_of t ss) c.id) c d →
     Finishes pool handles mid between now behind d → Finishes pool handles t ss now behind c
-joined pool handles t mid now ss between behind c d same is leads f = record {
+joined {handles} t {mid} ss {between} c {d} same is leads f = record {
   after = f.after;
-  settles = leads f.after (subst (λ (others : List Interval). Settles pool handles others d f.after)
-      (ap (beside (forest_of mid between)) same ∙ beside_put t mid ss between d c.id same is) f.settles);
-  collections = f.collections ∙ ap (put (given_back handles f.after)) is
-      ∙ put_twice (given_back handles f.after) d (map (collection_in t) ss)
-      (sym (settles_id pool handles (beside (forest_of mid between) d.id) d f.after f.settles));
-  rests = subst (λ (i : ℕ). forced pool (standing handles (beside (forest_of now behind) i) (given_back handles f.after)) ≡ None) same
-      f.rests;
+  settles = leads f.after (rw
+      (ap (beside (forest_of mid between)) same ∙ beside_put t mid ss _ d _ same is) at f.settles);
+  collections = f.collections ∙ ap (put (given_back handles f.after)) is ∙ put_twice _ d _
+      (sym (settles_id _ _ _ d _ f.settles));
+  rests = rw same at f.rests;
 }
 
 -- ---- entries
@@ -79,7 +65,7 @@ joined pool handles t mid now ss between behind c d same is leads f = record {
 -- an entry with the id stands at its place still
 pub place_set : (id at : ℕ) (es : List Entry) (new : Entry) → new.id ≡ id → place_in id es ≡ Some at → place_in id (set es at new) ≡ Some at
 place_set id at [] new own told = absurd (cc)
-place_set id zero (e ∷ es) new own told = rw (eq-eqb new.id id own) refl
+place_set id zero (e ∷ es) new own told = rw (eq-eqb _ id own) refl
 place_set id (suc n) (e ∷ es) new own told = elim (either_way (e.id == id)) [
   | inl here ↦ let no : Some 0 ≡ Some (suc n) = rw here at told in absurd (zero_suc n no)
   | inr other ↦
@@ -88,16 +74,16 @@ place_set id (suc n) (e ∷ es) new own told = elim (either_way (e.id == id)) [
 ]
   where
     zero_suc : (k : ℕ) → Some 0 ≡ Some (suc k) → ⊥
-    zero_suc k e = let same : 0 ≡ suc k = some-injective 0 (suc k) e in omega arith
+    zero_suc k e = let same : 0 ≡ suc k = some-injective 0 _ e in omega arith
 
     behind_is : (o : Option ℕ) (k : ℕ) → option_map (λ m. m + 1) o ≡ Some (suc k) → o ≡ Some k
     behind_is None k e = cc
-    behind_is (Some m) k e = let same : m + 1 ≡ suc k = some-injective (m + 1) (suc k) e in ap Some (omega arith)
+    behind_is (Some m) k e = let same : m + 1 ≡ suc k = some-injective _ _ e in ap Some (omega arith)
 
 -- the others are counted in a table that differs beside them
-pub but_beside : (t now : Table Node) (id : ℕ) (es : List Entry) → IsBeside t now (shelves_of es) id → AreCountedExcept t id es →
+pub but_beside : {t now : Table Node} {id : ℕ} (es : List Entry) → IsBeside t now (shelves_of es) id → AreCountedExcept t id es →
     AreCountedExcept now id es
-but_beside t now id es by all = from es (λ x on differ. by.others x on differ) all
+but_beside {t} {now} {id} es by all = from es (λ x on differ. by.others x on differ) all
   where
     from : (xs : List Entry) → ((x : Shelf) → In x (shelves_of xs) → x.id ≢ id → collection_in now x ≡ collection_in t x) →
         AreCountedExcept t id xs → AreCountedExcept now id xs
@@ -115,35 +101,31 @@ but_set t id zero (e ∷ es) new own all = (λ differ. absurd (differ own), all.
 but_set t id (suc n) (e ∷ es) new own all = (all.0, but_set t id n es new own all.1)
 
 -- the shelf of the entry at the place of its id
-pub shelf_here : (es : List Entry) (id at : ℕ) (e : Entry) → place_in id es ≡ Some at → e ≡ get_or es at e →
+pub shelf_here : (es : List Entry) (id : ℕ) {at : ℕ} (e : Entry) → place_in id es ≡ Some at → e ≡ get_or es at e →
     find (λ (x : Shelf). x.id == id) (shelves_of es) ≡ Some (shelf_of e)
-shelf_here es id at e told is =
+shelf_here es id {at} e told is =
     shelf_found id es ∙ ap (option_map shelf_of) ((place_is id es at told).found e ∙ ap Some (sym is))
 
 -- the collection of the entry at the place of its id
-pub here_is : (t : Table Node) (es : List Entry) (id at : ℕ) (e : Entry) → place_in id es ≡ Some at → e ≡ get_or es at e →
+pub here_is : (t : Table Node) (es : List Entry) (id : ℕ) {at : ℕ} (e : Entry) → place_in id es ≡ Some at → e ≡ get_or es at e →
     collection_or_new (forest_of t (shelves_of es)) id ≡ collection_in t (shelf_of e)
-here_is t es id at e told is =
-    ap (λ (o : Option Collection). unwrap_or o (record { id = id; nodes = []; buffers = None; held = [] }))
-    (collection_is t id (shelves_of es) ∙ ap (option_map (collection_in t)) (shelf_here es id at e told is))
+here_is t es id e told is = grind (arith, collection_is, shelf_here)
 
 -- a change keeps the id of the collection
 pub changed_own : (t : Table Node) (es : List Entry) (id : ℕ) (change : Change) → is_birth change ≡ false → (changed_in t es id change).id ≡ id
-changed_own t es id change birth =
-    changed_id change no_key (collection_or_new (forest_of t (shelves_of es)) id) birth ∙ or_new_id (forest_of t (shelves_of es)) id
+changed_own t es id change birth = changed_id _ _ _ birth ∙ or_new_id (forest_of t (shelves_of es)) id
 
 -- ---- what was finished from a state that steps led to
 
 -- the steps led from this table and these entries to that table, and to that entry at the place of the collection
-module _ (handles : Handles) (t mid : Table Node) (es : List Entry) (id at : ℕ) (told : place_in id es ≡ Some at)
+module _ (handles : Handles) {t mid : Table Node} (es : List Entry) {id at : ℕ} (told : place_in id es ≡ Some at)
     (kept : IsStored t (shelves_of es)) (by : IsBeside t mid (shelves_of es) id) (new : Entry) (own : new.id ≡ id) where
   abbrev ss : List Shelf
   ss = shelves_of es
 
   -- the entry is set at the place of its id
   put_in_place : shelves_of (set es at new) ≡ put_shelf (shelf_of new) (shelves_of es)
-  put_in_place =
-      ap shelves_of (set_put new es at kept.rising (subst (λ (i : ℕ). place_in i es ≡ Some at) (sym own) told)) ∙ shelves_put new es
+  put_in_place = ap shelves_of (set_put new es at kept.rising (rw own told)) ∙ shelves_put new es
 
   -- the collection is put among those that were there
   mid_put : map (collection_in mid) (shelves_of (set es at new)) ≡ put (collection_in mid (shelf_of new))
@@ -153,18 +135,17 @@ module _ (handles : Handles) (t mid : Table Node) (es : List Entry) (id at : ℕ
       let old : Entry = get_or es at new in
       let old_id : old.id ≡ id = place.id_is new in
       let there : find (λ (x : Shelf). x.id == old.id) (shelves_of es) ≡ Some (shelf_of old) =
-      subst (λ (i : ℕ). find (λ (x : Shelf). x.id == i) (shelves_of es) ≡ Some (shelf_of old)) (sym old_id)
+      subst (λ i. find (λ (x : Shelf). x.id == i) (shelves_of es) ≡ Some (shelf_of old)) (sym old_id)
       (shelf_found id es ∙ ap (option_map shelf_of) (place.found new)) in
-      ap (map (collection_in mid)) put_in_place
-      ∙ put-map mid (shelf_of new) ss
+      ap (map (collection_in mid)) put_in_place ∙ put-map mid (shelf_of new) ss
       ∙ ap (put (collection_in mid (shelf_of new)))
-      (put_among t mid (shelf_of old) ss kept.rising there (λ x on differ. by.others x on (λ same. differ (same ∙ sym old_id))))
-      ∙ put_twice (collection_in mid (shelf_of new)) (collection_in mid (shelf_of old)) (map (collection_in t) ss) (old_id ∙ sym own)
+      (put_among t mid ss kept.rising there (λ x on differ. by.others x on (λ same. differ (same ∙ sym old_id))))
+      ∙ put_twice _ _ (map (collection_in t) ss) (old_id ∙ sym own)
 
   -- it is found at its place
   mid_is : collection_or_new (forest_of mid (shelves_of (set es at new))) id ≡ collection_in mid (shelf_of new)
   mid_is =
-      here_is mid (set es at new) id at new (place_set id at es new own told)
+      here_is mid _ id new (place_set id at es new own told)
       (sym (get_or-set_same es at new new (place_is id es at told).within))
 
   module _ (pool between left : Holdings) (size : between.size ≡ pool.size) (now : Table Node) (behind : List Entry) (change : Change)
@@ -176,55 +157,42 @@ module _ (handles : Handles) (t mid : Table Node) (es : List Entry) (id at : ℕ
         IsSettledIn handles pool left t now es behind id change
     settled_on s = record {
       finishes =
-          let same : (changed_in t es id change).id ≡ id = changed_own t es id change birth in
-          joined pool.size handles t mid now ss (shelves_of (set es at new)) (shelves_of behind) (changed_in t es id change)
-          (collection_in mid (shelf_of new)) (own ∙ sym same) mid_put
-          (subst (λ (i : ℕ). Reaches pool.size handles (beside (forest_of t ss) i) (changed_in t es id change)
-          (collection_in mid (shelf_of new))) (sym same) leads)
-          (subst (λ (c : Collection). Finishes pool.size handles mid (shelves_of (set es at new)) now (shelves_of behind) c) mid_is
-          (subst (λ (n : ℕ). Finishes n handles mid (shelves_of (set es at new)) now (shelves_of behind)
-          (collection_or_new (forest_of mid (shelves_of (set es at new))) id)) size s.finishes));
+          let same : (changed_in t es id change).id ≡ id = changed_own t es id _ birth in
+          joined t ss (changed_in t es id change)
+          (own ∙ sym same) mid_put (rw same leads)
+          (rw mid_is at (rw size at s.finishes));
       kept = s.kept;
       counted = s.counted;
       holds = s.holds;
     }
 
-    -- one after the other
-    same_on : SameTable mid now → SameTable t now
-    same_on same = record {
-      first = same.first ∙ by.same.first;
-      nexts = same.nexts ∙ by.same.nexts;
-      limit = same.limit ∙ by.same.limit;
-      len = same.len ∙ by.same.len;
-    }
-
     -- so the change was made with all that it forces
-    pub outcome_on : (us : List Unit) → Closes handles between left mid now (set es at new) behind us id → left.size ≡ between.size →
+    pub outcome_on : {us : List Unit} → Closes handles between left mid now (set es at new) behind us id → left.size ≡ between.size →
         IsOutcomeIn true handles pool left t now es behind id change
-    outcome_on us closes stays = record {
+    outcome_on closes stays = record {
       settled = λ h. settled_on closes.settled;
       unchanged = λ h. cc;
       same_pool = λ h. cc;
-      same = same_on closes.same;
+      same = same_on by.same closes.same;
       size = stays ∙ size;
     }
 
 -- ---- what may be closed then
 
 -- the collection at its place may be closed once no step is left in it but that its buffers may be abandoned
-pub may_close : (handles : Handles) (t mid : Table Node) (us : List Unit) (es : List Entry) (id at : ℕ) → place_in id es ≡ Some at →
-    IsBeside t mid (shelves_of es) id → AreCountedExcept t id es → (new : Entry) → new.id ≡ id → (pending : List NodeKey) →
+pub may_close : (handles : Handles) {t mid : Table Node} {us : List Unit} (es : List Entry) {id at : ℕ} → place_in id es ≡ Some at →
+    IsBeside t mid (shelves_of es) id → AreCountedExcept t id es → {new : Entry} → new.id ≡ id → {pending : List NodeKey} →
     MidEvent mid us (shelves_of (set es at new)) new [] pending → (pending ≡ []) ⊎ (is_abandoned_in handles mid new ≡ true) →
     MayClose handles mid us (set es at new) at
-may_close handles t mid us es id at told by others new own pending under out = record {
+may_close handles {mid} es {id} {at} told by others {new} own {pending} under out = record {
   entry = new;
   pending = pending;
   is = get_or-set_same es at new new (place_is id es at told).within;
-  place = subst (λ (i : ℕ). place_in i (set es at new) ≡ Some at) (sym own) (place_set id at es new own told);
+  place = subst (λ i. place_in i (set es at new) ≡ Some at) (sym own) (place_set id at es new own told);
   under = under;
   out = out;
-  others = subst (λ (i : ℕ). AreCountedExcept mid i (set es at new)) (sym own)
-      (but_set mid id at es new own (but_beside t mid id es by others));
+  others = subst (λ i. AreCountedExcept mid i (set es at new)) (sym own)
+      (but_set mid id at es new own (but_beside es by others));
 }
 
 -- where the shelf stays, the shelves do

@@ -1,31 +1,22 @@
 -- Forced steps one after another, and the units that had their turn so far.
-use Rattle.forest_steps.proofs.Common.{◌≡◌, ℕ, sym, ◌∙◌, ap, subst, refl, true, false, List, [], ◌∷◌, Some, NodeKey, Buffers, Table, Entry, Node, Unit, Shelf, collection_in, nodes_with, Handles}
+use Rattle.forest_steps.proofs.Common.{◌≡◌, ℕ, ◌∙◌, ap, subst, refl, true, false, List, [], ◌∷◌, Some, NodeKey, Buffers, Table, Entry, Node, Unit, Shelf, collection_in, nodes_with, Handles}
 use Rattle.forest_steps.specs.declared.pending_units.PendingUnit.{PendingUnit}
-use Rattle.forest_store.specs.Shelves.{SameTable}
+use Rattle.forest_steps.proofs.tables.Rows.{same_on}
 use Rattle.forest_steps.specs.MidEvent.{AreTurns, IsBeside, AfterSteps, MidEvent, Reaches, is_abandoned_in, turn_heads, waits_among}
 
 -- ---- steps one after another
 
--- tables that are the same in all but their nodes
-same_on : (t u now : Table Node) → SameTable t u → SameTable u now → SameTable t now
-same_on t u now one two = record {
-  first = two.first ∙ one.first;
-  nexts = two.nexts ∙ one.nexts;
-  limit = two.limit ∙ one.limit;
-  len = two.len ∙ one.len;
-}
-
 -- one after the other
-pub beside_on : (t u now : Table Node) (ss : List Shelf) (id : ℕ) → IsBeside t u ss id → IsBeside u now ss id → IsBeside t now ss id
-beside_on t u now ss id one two = record {
-  same = same_on t u now one.same two.same;
+pub beside_on : {t u now : Table Node} {ss : List Shelf} {id : ℕ} → IsBeside t u ss id → IsBeside u now ss id → IsBeside t now ss id
+beside_on one two = record {
+  same = same_on one.same two.same;
   others = λ x on apart. two.others x on apart ∙ one.others x on apart;
 }
 
 -- where nothing was done
-pub led_none : (handles : Handles) (t : Table Node) (us : List Unit) (ss : List Shelf) (e : Entry) (unheld pending : List NodeKey) →
+pub led_none : (handles : Handles) {t : Table Node} {us : List Unit} {ss : List Shelf} {e : Entry} {unheld pending : List NodeKey} →
     MidEvent t us ss e unheld pending → AfterSteps handles t t us ss e e unheld pending
-led_none handles t us ss e unheld pending under = record {
+led_none handles under = record {
   under = under;
   shelf = refl;
   leads = λ pool others after settles. settles;
@@ -33,17 +24,16 @@ led_none handles t us ss e unheld pending under = record {
 }
 
 -- steps, and then more of them
-pub led_on : (handles : Handles) (t u now : Table Node) (us vs : List Unit) (ss : List Shelf) (old e new : Entry)
-    (unheld pending loose' due' : List NodeKey) →
+pub led_on : {handles : Handles} {t u now : Table Node} {us vs : List Unit} {ss : List Shelf} {old e new : Entry}
+    {unheld pending loose' due' : List NodeKey} →
     AfterSteps handles t u us ss old e unheld pending → AfterSteps handles u now vs ss e new loose' due' → AfterSteps handles t now vs ss old new loose' due'
-led_on handles t u now us vs ss old e new unheld pending loose' due' one two = record {
+led_on {handles} {u} {now} one two = record {
   under = two.under;
   shelf = two.shelf ∙ one.shelf;
   leads = λ pool others after settles. one.leads pool others after
-      (subst (λ (s : Shelf). Reaches pool handles others (collection_in u s) (collection_in now s)) one.shelf (two.leads pool others)
+      (subst (λ s. Reaches pool handles others (collection_in u s) (collection_in now s)) one.shelf (two.leads pool others)
       after settles);
-  beside = beside_on t u now ss old.id one.beside
-      (subst (λ (id : ℕ). IsBeside u now ss id) (ap (λ (s : Shelf). s.id) one.shelf) two.beside);
+  beside = beside_on one.beside (rw (ap (λ (s : Shelf). s.id) one.shelf) at two.beside);
 }
 
 -- ---- turns
@@ -59,8 +49,7 @@ HaveTurns handles t now us vs old new buffers all left =
 -- no turn was taken, so nothing changed
 pub turns_none : (handles : Handles) (t : Table Node) (us : List Unit) (e : Entry) (buffers : Buffers) (all : List PendingUnit) →
     HaveTurns handles t t us us e e buffers all all
-turns_none handles t us e buffers all ss under turns waits given =
-    (led_none handles t us ss e [] (turn_heads all) under, (turns, waits))
+turns_none handles t us e buffers all ss under turns waits given = (led_none _ under, (turns, waits))
 
 -- what comes of one turn, if it is the next
 abbrev pub Takes : Handles → Table Node → Table Node → List Unit → List Unit → Entry → Entry → Buffers → NodeKey → Type 0
@@ -81,11 +70,11 @@ module _ (handles : Handles) (t u now : Table Node) (us vs ws : List Unit) (old 
       let keys : e.keys.items ≡ old.keys.items = ap (λ (s : Shelf). s.keys) so_far.0.shelf in
       let still : e.buffers ≡ Some buffers = ap (λ (s : Shelf). s.buffers) so_far.0.shelf ∙ given in
       let next = takes ss w.place left so_far.0.under
-      (subst (λ (ks : List NodeKey). AreTurns u ks (w ∷ left)) (sym keys) so_far.1.0)
-      (subst (λ (ks : List NodeKey). waits_among [] (nodes_with u ks) ≡ true) (sym keys) so_far.1.1) still (kept still) in (
-        led_on handles t u now vs ws ss old e new [] (turn_heads (w ∷ left)) [] (turn_heads left) so_far.0 next.0,
+      (rw keys so_far.1.0)
+      (rw keys so_far.1.1) still (kept still) in (
+        led_on so_far.0 next.0,
         (
-          subst (λ (ks : List NodeKey). AreTurns now ks left) keys next.1.0,
-          subst (λ (ks : List NodeKey). waits_among [] (nodes_with now ks) ≡ true) keys next.1.1,
+          rw keys at next.1.0,
+          rw keys at next.1.1,
         ),
       )

@@ -1,25 +1,18 @@
 -- The units that may come to their turn by one, in a list: from what a walk finds to the order of their places.
-use Rattle.forest_steps.proofs.Common.{◌≡◌, ℕ, suc, ◌<◌, ◌≤◌, ◌==◌, nat_lt, refl, ap, sym, ◌∙◌, subst, Bool, true, false, not, ◌&&◌, ◌⊎◌, inl, inr, get_or, length, List, [], ◌∷◌, ◌++◌, map, Option, Some, None, arith, eqb-true, lt-ltb, not-true, find, list_any, option_map_or, NodeKey, same_key, In-list_any, In-map, In-map-back, and_both, and_left, and_right, both_ways, either_way, false_if, or_cases, or_right, same_key-refl, same_key-true, some-injective, In-any, Table, node_at, parent_at, Entry, Node, Unit, AreUnits, unit_at, IsStored, Shelf, collection_in, is_filed, nodes_with, shelf_of, is_of, is_head}
+use Rattle.forest_steps.proofs.Common.{◌≡◌, ℕ, suc, ◌<◌, ◌≤◌, ◌==◌, nat_lt, refl, ap, sym, ◌∙◌, subst, Bool, true, false, not, ◌⊎◌, inl, inr, get_or, length, List, [], ◌∷◌, ◌++◌, map, Some, None, arith, eqb-true, lt-ltb, not-true, find, list_any, option_map_or, NodeKey, same_key, In-list_any, In-map, In-map-back, and_both, and_left, and_right, both_ways, either_way, false_if, or_cases, or_right, same_key-refl, same_key-true, some-injective, In-any, Table, node_at, parent_at, Entry, Node, Unit, AreUnits, unit_at, IsStored, Shelf, collection_in, nodes_with, shelf_of, Below, Top, Within, Going, HasUnits, Hangs, Roots, is_head_at, is_waiting_head, all-In, found_filed, in_looked, at_key, key_listed, node_there, in_shelf}
 use Rattle.std.proofs.Common.{filter, slice_get}
 use Rattle.std.proofs.lemmas.List.Sorted.{All-permutation, IsPermutation-map, list_any-IsPermutation}
 use Rattle.std.proofs.lemmas.Option.{slice_get_read}
 use Rattle.std.specs.List.Sorted.{IsNonDecreasingBy, IsPermutation}
 use Rattle.sm_names.specs.Elements.{In}
 use Rattle.sm_names.proofs.ListLaws.{In-append, In-get_or}
-use Rattle.failure_domains.specs.Falls.{Below, Top, Within, stopped_at}
-use Rattle.forest_store.specs.declared.loss_marks.Going.{Going}
 use Rattle.forest_steps.specs.declared.pending_units.PendingUnit.{PendingUnit}
-use Rattle.forest_store.specs.Counts.{HasUnits}
-use Rattle.forest_store.specs.Falls.{Hangs, Roots}
 use Rattle.forest_store.specs.Garbage.{IsPlace}
-use Rattle.forest_store.specs.UnitAllocation.{AreHeads, IsGathered, IsWalked, hangs_below, is_head_at, is_left_out, is_outside, is_ready_head, is_waiting_head, left_out_at}
+use Rattle.forest_store.specs.UnitAllocation.{AreHeads, IsGathered, IsWalked, hangs_below, is_ready_head, left_out_at}
 use Rattle.forest_steps.specs.MidEvent.{AreClosed, AreInTurn, ArePlacedIfThere, AreTurns, MidEvent, is_head_left, turn_heads}
-use Rattle.forest_store.proofs.quiescence.Steps.{all-In}
-use Rattle.forest_store.proofs.changes.Altering.{Some-shelf, found_filed}
-use Rattle.forest_store.proofs.failures.GoneNodes.{in_looked}
+use Rattle.forest_store.proofs.changes.Altering.{Some-shelf}
 use Rattle.forest_steps.proofs.lists.ByKey.{place_of}
-use Rattle.forest_store.proofs.allocation.Before.{at_key, closed_below, key_listed, node_there}
-use Rattle.forest_store.proofs.tables.LeftParents.{in_shelf}
+use Rattle.forest_store.proofs.allocation.Before.{closed_below}
 use Rattle.forest_steps.proofs.mid_event.Inside as inside
 use Rattle.forest_steps.proofs.turns.Places.{grown, key_node, node_key, one_place}
 
@@ -29,8 +22,7 @@ use Rattle.forest_steps.proofs.turns.Places.{grown, key_node, node_key, one_plac
 pub moved_in : (vs ws : List PendingUnit) → IsPermutation vs ws → (w : PendingUnit) → In w ws → In w vs
 moved_in vs ws moved w on =
     let p = place_of w ws on in
-    subst (λ (v : PendingUnit). In v vs) p.2
-    (All-permutation (λ (v : PendingUnit). In v vs) vs ws moved (λ k d within. In-get_or vs k d within) p.0 w p.1)
+    rw p.2 at (All-permutation (λ v. In v vs) vs ws moved (λ k d within. In-get_or vs k d within) p.0 w p.1)
 
 -- in the order of their places none stands before one that it is behind
 pub in_turn_from : (ws : List PendingUnit) → IsNonDecreasingBy (λ (w : PendingUnit). w.place) ws → AreInTurn ws
@@ -39,7 +31,7 @@ in_turn_from (w ∷ ws) rising = (
   λ v on.
       let p = place_of v ws on in
       let less : w.place ≤ (get_or ws p.0 v).place = rising 0 (suc p.0) v (omega arith) (omega (arith, p.1)) in
-      subst (λ (x : PendingUnit). w.place ≤ x.place) p.2 less,
+      rw p.2 at less,
   in_turn_from ws (λ i j d few within. rising (suc i) (suc j) d (omega (arith, few)) (omega (arith, within))),
 )
 
@@ -47,11 +39,10 @@ in_turn_from (w ∷ ws) rising = (
 pub placed_more : (keys : List NodeKey) (ws : List PendingUnit) (w : PendingUnit) (vs : List PendingUnit) → vs ≡ ws ++ w ∷ [] → ArePlacedIfThere keys ws →
     (list_any (same_key w.head) keys ≡ true → IsPlace keys w.head w.place) → ArePlacedIfThere keys vs
 placed_more keys ws w vs is before more v on there =
-    elim (In-append ws (w ∷ []) v (subst (λ (l : List PendingUnit). In v l) is on)) [
+    elim (In-append ws _ v (rw is at on)) [
       | inl was ↦ before v was there
       | inr new ↦ elim new [
-        | inl same ↦ subst (λ (x : PendingUnit). IsPlace keys x.head x.place) (sym same)
-            (more (subst (λ (x : PendingUnit). list_any (same_key x.head) keys ≡ true) same there))
+        | inl same ↦ rw same (more (rw same at there))
         | inr none ↦ absurd none
       ]
     ]
@@ -59,15 +50,15 @@ placed_more keys ws w vs is before more v on there =
 -- ---- counts
 
 -- the counts of a collection are among those of all
-pub units_found : (t : Table Node) (us : List Unit) (id : ℕ) (ss : List Shelf) (s : Shelf) → AreUnits us (map (collection_in t) ss) →
+pub units_found : (t : Table Node) (us : List Unit) (id : ℕ) (ss : List Shelf) {s : Shelf} → AreUnits us (map (collection_in t) ss) →
     find (λ (x : Shelf). x.id == id) ss ≡ Some s → HasUnits us (nodes_with t s.keys)
-units_found t us id [] s all found = cc
-units_found t us id (x ∷ xs) s all found = elim (either_way (x.id == id)) [
-  | inl e ↦ subst (λ (y : Shelf). HasUnits us (nodes_with t y.keys)) (Some-shelf x s (rw e at found)) all.0
-  | inr e ↦ units_found t us id xs s all.1 (rw e at found)
+units_found t us id [] all found = cc
+units_found t us id (x ∷ xs) {s} all found = elim (either_way (x.id == id)) [
+  | inl e ↦ rw (Some-shelf x s (rw e at found)) at all.0
+  | inr e ↦ units_found t us id xs all.1 (rw e at found)
 ]
 
-module _ (t : Table Node) (ss : List Shelf) (kept : IsStored t ss) (s : Shelf) (found : find (λ (x : Shelf). x.id == s.id) ss ≡ Some s)
+module _ {t : Table Node} {ss : List Shelf} (kept : IsStored t ss) {s : Shelf} (found : find (λ (x : Shelf). x.id == s.id) ss ≡ Some s)
     (k : NodeKey) where
   abbrev nodes : List Node
   nodes = nodes_with t s.keys
@@ -76,33 +67,33 @@ module _ (t : Table Node) (ss : List Shelf) (kept : IsStored t ss) (s : Shelf) (
 
   module _ (stopped : NodeKey → Bool) where
     -- by induction on the walk: each child stands behind its parent
-    pub behind : (key : NodeKey) → Within (parent_at t) stopped k key → (n : Node) → node_at t key ≡ Some n → n.gone ≡ false →
+    pub behind : {key : NodeKey} → Within (parent_at t) stopped k key → {n : Node} → node_at t key ≡ Some n → n.gone ≡ false →
         (l i : ℕ) → slice_get s.keys l ≡ Some k → slice_get s.keys i ≡ Some key → (key ≡ k) ⊎ (l < i)
-    behind _ Top n is here l i first on = inl refl
-    behind _ (Below over key reach open_above up) n is here l i first on =
-        let q = key_node t ss kept s found i key on in
+    behind Top is here l i first on = inl refl
+    behind (Below over key reach open_above up) {n} is here l i first on =
+        let q = key_node kept found i on in
         let same : q.0 ≡ n = some-injective q.0 n (sym q.2 ∙ is) in
         let at : slice_get nodes i ≡ Some n = q.1 ∙ ap Some same in
         let parent : n.parent ≡ Some over = sym (kept.linked key n is here) ∙ up in
-        elim (grown t ss kept s found i n at here) [
+        elim (grown kept found i n at here) [
           | Roots none ↦ let both : None ≡ Some over = sym none ∙ parent in cc
           | Hangs g ↦
-              let above : g.above.key ≡ over = some-injective g.above.key over (sym g.parent ∙ parent) in
-              let place : slice_get s.keys g.place ≡ Some over = node_key t ss kept s found g.place g.above g.found ∙ ap Some above in
-              let y = key_node t ss kept s found g.place over place in
-              let one : y.0 ≡ g.above = some-injective y.0 g.above (sym y.1 ∙ g.found) in
+              let above : g.above.key ≡ over = some-injective _ _ (sym g.parent ∙ parent) in
+              let place : slice_get s.keys g.place ≡ Some over = node_key kept found _ g.found ∙ ap Some above in
+              let y = key_node kept found _ place in
+              let one : y.0 ≡ g.above = some-injective y.0 _ (sym y.1 ∙ g.found) in
               let lower = g.first in
-              elim (behind over reach g.above (y.2 ∙ ap Some one) g.here l g.place first place) [
+              elim (behind reach (y.2 ∙ ap Some one) g.here l _ first place) [
                 | inl e ↦
-                    let stands : l ≡ g.place = one_place t ss kept s found l g.place over (first ∙ ap Some (sym e)) place in
+                    let stands : l ≡ g.place = one_place kept found l _ (first ∙ ap Some (sym e)) place in
                     inr (omega (arith, stands, lower))
                 | inr less ↦ inr (omega (arith, less, lower))
               ]
         ]
 
-  module _ (us : List Unit) (counts : HasUnits us nodes)
+  module _ {us : List Unit} (counts : HasUnits us nodes)
       (within : (key : NodeKey) (n : Node) → node_at t key ≡ Some n → key.slot < length us) (left : is_head_left nodes k ≡ true)
-      (ks : List NodeKey) (walked : IsWalked t us s.id k ks) (ws vs : List PendingUnit)
+      {ks : List NodeKey} (walked : IsWalked t us s.id k ks) (ws vs : List PendingUnit)
       (heads : turn_heads ws ≡ filter (is_head_at t us s.id k) ks) (placed : ArePlacedIfThere s.keys ws)
       (moved : IsPermutation ws vs) (rising : IsNonDecreasingBy (λ (w : PendingUnit). w.place) vs) where
     abbrev hs : List NodeKey
@@ -123,52 +114,44 @@ module _ (t : Table Node) (ss : List Shelf) (kept : IsStored t ss) (s : Shelf) (
     at m on = at_key t ss kept s found k m on
 
     -- a node of the table that heads a unit as it is asked for is one of the collection
-    in_nodes : (j : NodeKey) (m : Node) → node_at t j ≡ Some m → is_ready_head us s.id m ≡ true → In m nodes
-    in_nodes j m is ready = in_shelf t ss kept s.id s found j m is (eqb-true m.collection s.id (and_left (m.collection == s.id) _ ready))
+    in_nodes : (j : NodeKey) {m : Node} → node_at t j ≡ Some m → is_ready_head us s.id m ≡ true → In m nodes
+    in_nodes j {m} is ready = in_shelf t ss kept _ s found j m is (eqb-true _ _ (and_left _ _ ready))
 
     -- each node's key is one of the shelf's
-    listed : (j : NodeKey) (m : Node) → node_at t j ≡ Some m → In m nodes → list_any (same_key j) s.keys ≡ true
-    listed j m is on =
-        subst (λ (i : NodeKey). list_any (same_key i) s.keys ≡ true) (kept.named j m is) (key_listed t kept.named s.keys m on)
+    listed : (j : NodeKey) {m : Node} → node_at t j ≡ Some m → In m nodes → list_any (same_key j) s.keys ≡ true
+    listed j {m} is on = rw (kept.named j m is) at (key_listed t kept.named _ m on)
 
     -- ---- none is left out
 
     -- each filed key has a node of the collection
-    own : (j : NodeKey) → In j s.keys → (m : Node) → node_at t j ≡ Some m → m.collection == s.id ≡ true
-    own j on m is =
-        ap (λ (o : Option Node). option_map_or (λ (n : Node). n.collection == s.id) o false) (sym is)
-        ∙ all-In (is_filed t s.id) s.keys j on (found_filed t s.id ss s kept.filed found)
+    own : (j : NodeKey) → In j s.keys → {m : Node} → node_at t j ≡ Some m → m.collection == s.id ≡ true
+    own j on is =
+        ap (λ o. option_map_or (λ (n : Node). n.collection == s.id) o false) (sym is)
+        ∙ all-In _ _ j on (found_filed t _ ss s kept.filed found)
 
     -- what may come to its turn was walked, so it was listed
     none_out : list_any (left_out_at t us hs) s.keys ≡ false
-    none_out = false_if (list_any (left_out_at t us hs) s.keys) (λ e.
-        let x = In-list_any (left_out_at t us hs) s.keys e in
-        let m = node_there (is_left_out t us hs) (node_at t x.0) x.2 in
+    none_out = false_if _ (λ e.
+        let x = In-list_any _ _ e in
+        let m = node_there _ _ x.2 in
         let key : m.0.key ≡ x.0 = kept.named x.0 m.0 m.1 in
         let is : node_at t m.0.key ≡ Some m.0 = ap (node_at t) key ∙ m.1 in
-        let on : In m.0 nodes = in_looked t kept.named Going.Leaves s.keys m.0 is
-        (In-any (same_key m.0.key) s.keys x.0 x.1 (subst (λ (j : NodeKey). same_key m.0.key j ≡ true) key (same_key-refl m.0.key))) in
-        let hangs : hangs_below t us hs m.0 ≡ true = and_left (hangs_below t us hs m.0) _ m.2 in
-        let ready : is_ready_head us s.id m.0 ≡ true =
-        and_both (m.0.collection == s.id) _ (own x.0 x.1 m.0 m.1)
-        (and_both (nat_lt m.0.key.slot (length us)) _ (lt-ltb m.0.key.slot (length us) (within m.0.key m.0 is))
+        let on : In m.0 nodes = in_looked t kept.named Going.Leaves _ m.0 is
+        (In-any _ _ x.0 x.1 (subst (λ j. same_key m.0.key j ≡ true) key (same_key-refl m.0.key))) in
+        let hangs : hangs_below t us hs m.0 ≡ true = and_left _ _ m.2 in
+        let ready : is_ready_head us s.id m.0 ≡ true = and_both _ _ (own x.0 x.1 m.1)
+        (and_both _ _ (lt-ltb m.0.key.slot (length us) (within m.0.key m.0 is))
         (and_both (is_waiting_head m.0) _ (and_left (is_waiting_head m.0) _ hangs)
         (and_left ((unit_at us m.0.key.slot).unready == 0) _ (and_right (is_waiting_head m.0) _ hangs)))) in
         let head : is_head_at t us s.id k m.0.key ≡ true =
-        or_right (same_key m.0.key k) _ (ap (λ (o : Option Node). option_map_or (is_ready_head us s.id) o false) is ∙ ready) in
-        both_ways (list_any (same_key m.0.key) hs)
-        (inside.head_back t ss kept s found us counts k hs ks gathered all m.0.key
-        (inside.hangs_inside t ss kept s found us counts k hs ks gathered m.0 on hangs) head)
-        (not-true _ (and_right (hangs_below t us hs m.0) _ m.2)))
+        or_right _ _ (ap (λ o. option_map_or (is_ready_head us s.id) o false) is ∙ ready) in
+        both_ways _
+        (inside.head_back kept found counts gathered all m.0.key
+        (inside.hangs_inside kept found counts gathered m.0 on hangs) head) (not-true _ (and_right _ _ m.2)))
 
     -- none was left out
     closed : AreClosed nodes hs
-    closed n on coming hangs =
-        let one = and_right n.attached _ coming in
-        let two = and_right (not n.gone) _ one in
-        closed_below t ss kept s found k us counts hs none_out n on (and_left n.attached _ coming)
-        (not-true n.gone (and_left (not n.gone) _ one)) (not-true n.allocated (and_left (not n.allocated) _ two))
-        (and_right (not n.allocated) _ two) hangs
+    closed n on coming hangs = grind (arith, closed_below, none_out)
 
     -- ---- places
 
@@ -176,36 +159,34 @@ module _ (t : Table Node) (ss : List Shelf) (kept : IsStored t ss) (s : Shelf) (
     kind : (w : PendingUnit) → In w vs → (list_any (same_key w.head) ks ≡ true) ×
         ((w.head ≡ k) ⊎ ((m : Node) × (node_at t w.head ≡ Some m) × (is_ready_head us s.id m ≡ true)))
     kind w on =
-        let h = inside.head_from t ss kept s found us counts k hs ks gathered w.head
-        (In-any (same_key w.head) hs w.head (In-map-back (λ (v : PendingUnit). v.head) vs w on) (same_key-refl w.head)) in (
+        let h = inside.head_from kept found counts gathered w.head
+        (In-any _ hs _ (In-map-back _ vs w on) (same_key-refl w.head)) in (
           h.0,
-          elim (or_cases (same_key w.head k) _ h.1) [
-            | inl e ↦ inl (same_key-true w.head k e)
-            | inr e ↦ inr (node_there (is_ready_head us s.id) (node_at t w.head) e)
+          elim (or_cases _ _ h.1) [
+            | inl e ↦ inl (same_key-true _ k e)
+            | inr e ↦ inr (node_there _ _ e)
           ],
         )
 
     -- the head that is left has the key
     first_there : (m : Node) × In m nodes × (m.key ≡ k) × (m.gone ≡ false)
     first_there =
-        let x = In-list_any (λ (n : Node). is_of k n && (not n.gone && is_head n)) nodes left in (
+        let x = In-list_any _ _ left in (
           x.0,
           x.1,
-          same_key-true x.0.key k (and_left (is_of k x.0) _ x.2),
-          not-true x.0.gone (and_left (not x.0.gone) _ (and_right (is_of k x.0) _ x.2)),
+          same_key-true _ k (and_left _ _ x.2),
+          not-true _ (and_left _ _ (and_right _ _ x.2)),
         )
 
     -- its key is one of the shelf's
     first_listed : list_any (same_key k) s.keys ≡ true
-    first_listed =
-        subst (λ (j : NodeKey). list_any (same_key j) s.keys ≡ true) first_there.2
-        (key_listed t kept.named s.keys first_there.0 first_there.1)
+    first_listed = rw first_there.2 at (key_listed t kept.named _ _ first_there.1)
 
     -- the place was looked up for a listed key
     stands : (w : PendingUnit) → In w vs → IsPlace s.keys w.head w.place
     stands w on = placed w (moved_in ws vs moved w on) (elim (kind w on).1 [
-      | inl e ↦ subst (λ (j : NodeKey). list_any (same_key j) s.keys ≡ true) (sym e) first_listed
-      | inr r ↦ listed w.head r.0 r.1 (in_nodes w.head r.0 r.1 r.2)
+      | inl e ↦ rw e first_listed
+      | inr r ↦ listed _ r.1 (in_nodes _ r.1 r.2)
     ])
 
     -- the key stands at its place
@@ -223,8 +204,8 @@ module _ (t : Table Node) (ss : List Shelf) (kept : IsStored t ss) (s : Shelf) (
     -- the first head is listed
     its_turn : (w : PendingUnit) × In w vs × (w.head ≡ k)
     its_turn =
-        let x = In-list_any (same_key k) hs (inside.first_in t ss kept s found us counts k hs ks gathered) in
-        let y = In-map (λ (w : PendingUnit). w.head) vs x.0 x.1 in
+        let x = In-list_any _ hs (inside.first_in kept found counts gathered) in
+        let y = In-map _ vs x.0 x.1 in
         (y.0, y.1, sym (same_key-true k x.0 x.2 ∙ y.2))
 
     -- each other one stands behind it
@@ -234,10 +215,9 @@ module _ (t : Table Node) (ss : List Shelf) (kept : IsStored t ss) (s : Shelf) (
       | inr r ↦
           let one = and_right (r.0.collection == s.id) _ r.2 in
           let waits = and_left (is_waiting_head r.0) _ (and_right (nat_lt r.0.key.slot (length us)) _ one) in
-          let here : r.0.gone ≡ false = not-true r.0.gone (and_left (not r.0.gone) _ (and_right r.0.attached _ waits)) in
-          behind (stopped_at (is_outside us s.id) t k) w.head
-          (inside.key_inside t ss kept s found us counts k hs ks gathered w.head (kind w on).0) r.0 r.1 here its_turn.0.place w.place
-          (at_place its_turn.0 its_turn.1 ∙ ap Some its_turn.2) (at_place w on)
+          let here : r.0.gone ≡ false = not-true _ (and_left (not r.0.gone) _ (and_right r.0.attached _ waits)) in
+          behind _ (inside.key_inside kept found counts gathered w.head (kind w on).0) r.1 here _ _
+          (at_place _ its_turn.1 ∙ ap Some its_turn.2) (at_place w on)
     ]
 
     -- no other one has a smaller place than the first head
@@ -246,11 +226,11 @@ module _ (t : Table Node) (ss : List Shelf) (kept : IsStored t ss) (s : Shelf) (
       where
         from : (us' : List PendingUnit) → vs ≡ us' → (place : ℕ) × (rest : List PendingUnit) × (vs ≡ record { place = place; head = k } ∷ rest)
         from [] e = absurd (subst (λ (l : List PendingUnit). In its_turn.0 l) e its_turn.1)
-        from (w ∷ rest) e = elim (later w (subst (λ (l : List PendingUnit). In w l) (sym e) (inl refl))) [
+        from (w ∷ rest) e = elim (later w (subst (λ l. In w l) (sym e) (inl refl))) [
           | inl is ↦ (w.place, rest, e ∙ λ i. record { place = w.place; head = is i } ∷ rest)
           | inr less ↦
-              let turns = in_turn_from (w ∷ rest) (subst (λ (l : List PendingUnit). IsNonDecreasingBy (λ (v : PendingUnit). v.place) l) e rising) in
-              elim (subst (λ (l : List PendingUnit). In its_turn.0 l) e its_turn.1) [
+              let turns = in_turn_from (w ∷ rest) (subst (λ l. IsNonDecreasingBy (λ (v : PendingUnit). v.place) l) e rising) in
+              elim (subst (λ l. In its_turn.0 l) e its_turn.1) [
                 | inl same ↦ let eq : its_turn.0.place ≡ w.place = ap (λ (v : PendingUnit). v.place) same in absurd (omega (arith, less, eq))
                 | inr on ↦ let most = turns.0 its_turn.0 on in absurd (omega (arith, less, most))
               ]
@@ -259,15 +239,15 @@ module _ (t : Table Node) (ss : List Shelf) (kept : IsStored t ss) (s : Shelf) (
 -- ---- in a collection under way
 
 -- the lemmas above, at the collection of the entry
-pub turns_listed : (t : Table Node) (us : List Unit) (ss : List Shelf) (e : Entry) (unheld pending : List NodeKey) →
-    MidEvent t us ss e unheld pending → (k : NodeKey) → is_head_left (nodes_with t e.keys.items) k ≡ true →
-    (ks : List NodeKey) → IsWalked t us e.id k ks → (ws vs : List PendingUnit) →
+pub turns_listed : {t : Table Node} {us : List Unit} {ss : List Shelf} {e : Entry} {unheld pending : List NodeKey} →
+    MidEvent t us ss e unheld pending → {k : NodeKey} → is_head_left (nodes_with t e.keys.items) k ≡ true →
+    {ks : List NodeKey} → IsWalked t us e.id k ks → (ws vs : List PendingUnit) →
     turn_heads ws ≡ filter (is_head_at t us e.id k) ks → ArePlacedIfThere e.keys.items ws → IsPermutation ws vs →
     IsNonDecreasingBy (λ (w : PendingUnit). w.place) vs →
     AreTurns t e.keys.items vs × ((place : ℕ) × (rest : List PendingUnit) × (vs ≡ record { place = place; head = k } ∷ rest))
-turns_listed t us ss e unheld pending under k left ks walked ws vs heads placed moved rising =
+turns_listed {t} {us} {ss} {e} under {k} left walked ws vs heads placed moved rising =
     let s : Shelf = shelf_of e in
-    let counts : HasUnits us (nodes_with t s.keys) = units_found t us e.id ss s under.store.units under.store.found in (
-      are_turns t ss under.store.kept s under.store.found k us counts under.store.inside left ks walked ws vs heads placed moved rising,
-      first_is t ss under.store.kept s under.store.found k us counts under.store.inside left ks walked ws vs heads placed moved rising,
+    let counts : HasUnits us (nodes_with t s.keys) = units_found t us _ ss under.store.units under.store.found in (
+      are_turns under.store.kept under.store.found k counts under.store.inside left walked ws vs heads placed moved rising,
+      first_is under.store.kept under.store.found k counts under.store.inside left walked ws vs heads placed moved rising,
     )

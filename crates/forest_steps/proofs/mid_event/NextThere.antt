@@ -1,17 +1,11 @@
 -- Whether an attached unit is next, which its head, the node above it and the counts tell, while forced steps are being made.
-use Rattle.forest_steps.proofs.Common.{◌≡◌, ℕ, ◌==◌, refl, ap, sym, ◌∙◌, subst, Bool, true, false, not, ◌&&◌, ◌||◌, inl, inr, is_none, List, [], ◌∷◌, Option, Some, None, option_map, eq-eqb, not-true, list_all, list_any, option_map_or, NodeKey, same_key, times, In, In-find, In-list_any, In-map-back, and_both, and_left, and_right, both_ways, either_way, false_if, or_right, same_key-refl, same_key-true, all_on, In-any, Table, node_at, parent_at, Entry, Node, Unit, unit_at, waits_in, waiting, Shelf, collection_in, nodes_with, shelf_of, is_of, is_next_node, is_ready_node, is_head}
+use Rattle.forest_steps.proofs.Common.{◌≡◌, ℕ, refl, ap, sym, ◌∙◌, subst, Bool, true, false, not, ◌||◌, inl, inr, List, [], ◌∷◌, Option, Some, None, eq-eqb, not-true, list_all, list_any, option_map_or, NodeKey, same_key, times, In, In-find, In-list_any, In-map-back, and_both, and_left, and_right, both_ways, either_way, false_if, same_key-true, all_on, In-any, Table, node_at, parent_at, Entry, Node, Unit, unit_at, waits_in, waiting, Shelf, nodes_with, shelf_of, is_next_node, is_ready_node, same_key-equal, row_at, HasUnits, unit_of, is_allocated_node, is_waiting_head, count_none, at_key, in_all, all_at, arith}
+use Rattle.sm_names.proofs.SamenessLaws.{or_first}
 use Rattle.std.proofs.Common.{IsSome}
-use Rattle.node_table.specs.Table.{Row, row_at}
 use Rattle.forest_steps.specs.declared.pending_units.PendingUnit.{PendingUnit}
-use Rattle.forest_store.specs.Counts.{HasUnit, HasUnits, unit_of}
-use Rattle.forest_store.specs.Questions.{is_allocated_node, has_buffers}
-use Rattle.forest_store.specs.UnitAllocation.{has_turn_at, has_buffers_there, is_waiting_head}
+use Rattle.forest_store.specs.UnitAllocation.{has_turn_at, has_buffers_there}
 use Rattle.forest_steps.specs.LogicalAllocation.{is_next_there}
 use Rattle.forest_steps.specs.MidEvent.{MidEvent, is_head_left, is_next_except, turn_heads, waits_among}
-use Rattle.forest_store.proofs.quiescence.Calming.{count_none}
-use Rattle.forest_store.proofs.allocation.Before.{at_key}
-use Rattle.forest_store.proofs.tables.Hanging.{in_all}
-use Rattle.forest_store.proofs.tallies.Slots.{all_at}
 use Rattle.forest_steps.proofs.turns.Gifts.{not_this}
 use Rattle.forest_steps.proofs.mid_event.Ready.{none_next}
 
@@ -19,22 +13,18 @@ use Rattle.forest_steps.proofs.mid_event.Ready.{none_next}
 
 -- the root waits for none but these
 pub wait_among : (nodes : List Node) (pending : List NodeKey) → waiting nodes ≡ None → waits_among pending nodes ≡ true
-wait_among nodes pending none = ap (λ (o : Option Node). option_map_or (λ (n : Node). list_any (same_key n.key) pending) o true) none
+wait_among nodes pending none = ap (λ o. option_map_or (λ (n : Node). list_any (same_key n.key) pending) o true) none
 
 -- none waits, since none is due
 pub none_waits : (nodes : List Node) → waits_among [] nodes ≡ true → waiting nodes ≡ None
-none_waits nodes h = from (waiting nodes) h
-  where
-    from : (o : Option Node) → option_map_or (λ (n : Node). list_any (same_key n.key) []) o true ≡ true → o ≡ None
-    from None h = refl
-    from (Some n) h = cc
+none_waits nodes h = grind arith
 
 -- the state does not change where other units are due
-pub with_due : (t : Table Node) (us : List Unit) (ss : List Shelf) (e : Entry) (unheld pending other : List NodeKey) →
+pub with_due : {t : Table Node} {us : List Unit} {ss : List Shelf} {e : Entry} {unheld pending : List NodeKey} (other : List NodeKey) →
     MidEvent t us ss e unheld pending →
     list_any (is_next_except other (nodes_with t e.keys.items)) (nodes_with t e.keys.items) ≡ false →
     waits_among other (nodes_with t e.keys.items) ≡ true → MidEvent t us ss e unheld other
-with_due t us ss e unheld pending other under next root = record {
+with_due other under next root = record {
   store = under.store;
   bare = under.bare;
   held = under.held;
@@ -46,17 +36,16 @@ with_due t us ss e unheld pending other under next root = record {
 pub next_fewer : (nodes : List Node) (pending few : List NodeKey) → list_any (is_next_except pending nodes) nodes ≡ false →
     ((n : Node) → In n nodes → is_next_node nodes n ≡ true → list_any (same_key n.key) pending ≡ true → list_any (same_key n.key) few ≡ true) →
     list_any (is_next_except few nodes) nodes ≡ false
-next_fewer nodes pending few next each = false_if (list_any (is_next_except few nodes) nodes) (λ h.
-    let x = In-list_any (is_next_except few nodes) nodes h in
-    let is : is_next_node nodes x.0 ≡ true = and_left (is_next_node nodes x.0) _ x.2 in
-    let out : list_any (same_key x.0.key) few ≡ false = not-true _ (and_right (is_next_node nodes x.0) _ x.2) in
+next_fewer nodes pending few next each = false_if _ (λ h.
+    let x = In-list_any _ _ h in
+    let is : is_next_node nodes x.0 ≡ true = and_left _ _ x.2 in
     let other : list_any (same_key x.0.key) pending ≡ false =
-    false_if (list_any (same_key x.0.key) pending) (λ e. both_ways (list_any (same_key x.0.key) few) (each x.0 x.1 is e) out) in
-    not_this (is_next_except pending nodes) nodes x.0 next x.1 (and_both (is_next_node nodes x.0) _ is (ap not other)))
+    false_if _ (λ e. both_ways _ (each x.0 x.1 is e) (not-true _ (and_right _ _ x.2))) in
+    not_this _ _ x.0 next x.1 (and_both _ _ is (ap not other)))
 
 -- ---- what the counts tell
 
-module _ (t : Table Node) (us : List Unit) (ss : List Shelf) (e : Entry) (unheld pending : List NodeKey)
+module _ {t : Table Node} {us : List Unit} {ss : List Shelf} {e : Entry} {unheld pending : List NodeKey}
     (u : MidEvent t us ss e unheld pending) (k : NodeKey) (head : Node) (head_on : In head (nodes_with t e.keys.items))
     (head_key : head.key ≡ k) where
   abbrev s : Shelf
@@ -71,23 +60,21 @@ module _ (t : Table Node) (us : List Unit) (ss : List Shelf) (e : Entry) (unheld
 
   -- the head stands in the table under its key
   pub head_is : node_at t k ≡ Some head
-  head_is = ap (node_at t) (sym head_key) ∙ at head head_on
+  head_is = ap (node_at t) (sym head_key) ∙ at _ head_on
 
   -- the counts of each collection's units are right
   counted : HasUnits us nodes
-  counted = all_at (λ c. HasUnits us c.nodes) _ u.store.units (collection_in t s)
-      (In-map-back (collection_in t) ss s (In-find (λ (x : Shelf). x.id == s.id) ss s u.store.found).0)
+  counted = all_at _ _ u.store.units _ (In-map-back _ ss s (In-find _ ss s u.store.found).0)
 
   -- the slot of the head has the counts of its unit
   unit_is : unit_at us k.slot ≡ unit_of nodes k
-  unit_is = subst (λ (j : NodeKey). unit_at us j.slot ≡ unit_of nodes j) head_key
-      (in_all (HasUnit us nodes) nodes counted head head_on).1
+  unit_is = rw head_key at (in_all _ _ counted _ head_on).1
 
   -- the counts tell whether it is ready
   pub ready_by : (unit_at us k.slot).unready ≡ 0 → list_all (is_ready_node k) nodes ≡ true
-  ready_by none = all_on (is_ready_node k) nodes (λ m there. elim (either_way (is_ready_node k m)) [
+  ready_by none = all_on _ nodes (λ m there. elim (either_way (is_ready_node k m)) [
     | inl r ↦ r
-    | inr r ↦ both_ways (list_any (waits_in k) nodes) (In-any (waits_in k) nodes m there (ap not r))
+    | inr r ↦ both_ways _ (In-any (waits_in k) nodes m there (ap not r))
         (count_none (waits_in k) nodes (sym (ap (λ (x : Unit). x.unready) unit_is) ∙ none))
   ])
 
@@ -98,94 +85,62 @@ module _ (t : Table Node) (us : List Unit) (ss : List Shelf) (e : Entry) (unheld
       let a = and_right head.attached _ h in
       let b = and_right (not head.gone) _ a in
       let c = and_right (not head.allocated) _ b in
-      let here : head.gone ≡ false = not-true head.gone (and_left (not head.gone) _ a) in
+      let here : head.gone ≡ false = not-true _ (and_left (not head.gone) _ a) in
       let ready : list_all (is_ready_node k) nodes ≡ true =
-      subst (λ (j : NodeKey). list_all (is_ready_node j) nodes ≡ true) head_key
-      (and_right (option_map_or (λ p. list_any (is_allocated_node p) nodes) head.parent false) _ c) in
-      let waits : is_waiting_head head ≡ true = and_both head.attached _ attached
+      subst (λ j. list_all (is_ready_node j) nodes ≡ true) head_key (and_right _ _ c) in
+      let waits : is_waiting_head head ≡ true = and_both _ _ attached
       (and_both (not head.gone) _ (and_left (not head.gone) _ a) (and_left (not head.allocated) _ b)) in
       let up : parent_at t k ≡ head.parent = u.store.kept.linked k head head_is here in
-      let turn : has_turn_at t k ≡ true =
-      and_both (option_map_or is_waiting_head (node_at t k) false) _
-      (ap (λ (o : Option Node). option_map_or is_waiting_head o false) head_is ∙ waits)
-      (ap (λ (o : Option NodeKey). option_map_or (has_buffers_there t) o false) up
-      ∙ served head.parent (and_left (option_map_or (λ p. list_any (is_allocated_node p) nodes) head.parent false) _ c)) in
-      and_both (has_turn_at t k) _ turn
-      (eq-eqb (unit_at us k.slot).unready 0 (ap (λ (x : Unit). x.unready) unit_is ∙ none nodes ready))
+      let turn : has_turn_at t k ≡ true = and_both _ _
+      (ap (λ o. option_map_or is_waiting_head o false) head_is ∙ waits)
+      (ap (λ o. option_map_or (has_buffers_there t) o false) up ∙ served head.parent (and_left _ _ c)) in
+      and_both _ _ turn (eq-eqb _ 0 (ap (λ (x : Unit). x.unready) unit_is ∙ none nodes ready))
     where
       served : (o : Option NodeKey) → option_map_or (λ p. list_any (is_allocated_node p) nodes) o false ≡ true →
           option_map_or (has_buffers_there t) o false ≡ true
-      served None h = cc
-      served (Some p) h =
-          let q = In-list_any (is_allocated_node p) nodes h in
-          let two = and_right (not q.0.gone) _ q.2 in
-          let key : q.0.key ≡ p = same_key-true q.0.key p (and_right q.0.allocated _ two) in
-          ap (λ (o : Option Node). option_map_or has_buffers o false) (ap (node_at t) (sym key) ∙ at q.0 q.1)
-          ∙ and_both (not q.0.gone) _ (and_left (not q.0.gone) _ q.2) (and_left q.0.allocated _ two)
+      served o h = grind (arith, In-list_any, at, same_key-true)
 
       none : (ns : List Node) → list_all (is_ready_node k) ns ≡ true → times (waits_in k) ns ≡ 0
       none [] all = refl
       none (n ∷ ns) all =
-          let is : is_ready_node k n ≡ true = and_left (is_ready_node k n) _ all in
-          rw is (none ns (and_right (is_ready_node k n) _ all))
+          let is : is_ready_node k n ≡ true = and_left _ _ all in
+          rw is (none ns (and_right _ _ all))
 
   -- where it is found to be, its head is left
   pub told_left : is_next_there t us k ≡ true → is_head_left nodes k ≡ true
-  told_left told =
-      let waits : is_waiting_head head ≡ true =
-      ap (λ (o : Option Node). option_map_or is_waiting_head o false) (sym head_is)
-      ∙ and_left (option_map_or is_waiting_head (node_at t k) false) _ (and_left (has_turn_at t k) _ told) in
-      In-any (λ (n : Node). is_of k n && (not n.gone && is_head n)) nodes head head_on
-      (and_both (is_of k head) _ (ap (λ (j : NodeKey). same_key j k) head_key ∙ same_key-refl k)
-      (and_both (not head.gone) _ (and_left (not head.gone) _ (and_right head.attached _ waits))
-      (or_right (is_none head.parent) head.attached (and_left head.attached _ waits))))
+  told_left told = grind (arith, In-any, head_is, same_key-equal)
 
 -- ---- one unit
 
 -- a unit that is found to be next is there
 pub told_there : (t : Table Node) (us : List Unit) (k : NodeKey) → is_next_there t us k ≡ true → IsSome (row_at t k)
-told_there t us k told =
-    from (row_at t k) (and_left (option_map_or is_waiting_head (node_at t k) false) _ (and_left (has_turn_at t k) _ told))
-  where
-    from : (o : Option (Row Node)) → option_map_or is_waiting_head (option_map (λ (r : Row Node). r.node) o) false ≡ true → IsSome o
-    from None h = cc
-    from (Some r) h = refl
+told_there t us k told = grind arith
 
-module _ (t : Table Node) (us : List Unit) (ss : List Shelf) (e : Entry) (k : NodeKey) (u : MidEvent t us ss e [] (k ∷ []))
+module _ {t : Table Node} {us : List Unit} {ss : List Shelf} {e : Entry} {k : NodeKey} (u : MidEvent t us ss e [] (k ∷ []))
     (no_wait : waits_among [] (nodes_with t e.keys.items) ≡ true) where
   abbrev nodes_one : List Node
   nodes_one = nodes_with t e.keys.items
 
   -- where it is not found to be next, none is due
   pub none_due : is_next_there t us k ≡ false → MidEvent t us ss e [] []
-  none_due out = with_due t us ss e [] (k ∷ []) [] u
-      (next_fewer nodes_one (k ∷ []) [] u.next (λ n on next pending.
-      let same : same_key n.key k ≡ true = or_false (same_key n.key k) pending in
-      both_ways (is_next_there t us k)
-      (next_told t us ss e [] (k ∷ []) u k n on (same_key-true n.key k same) next) out)) no_wait
-    where
-      or_false : (b : Bool) → (b || false) ≡ true → b ≡ true
-      or_false true h = refl
-      or_false false h = cc
+  none_due out = with_due [] u (next_fewer _ (k ∷ []) [] u.next (λ n on next pending.
+      both_ways _ (next_told u k n on (same_key-true _ k (or_first _ _ pending refl)) next) out)) no_wait
 
   -- nor where no buffers were given
   pub none_bare : e.buffers ≡ None → MidEvent t us ss e [] []
-  none_bare none = with_due t us ss e [] (k ∷ []) [] u
-      (next_fewer nodes_one (k ∷ []) [] u.next (λ n on next pending.
+  none_bare none = with_due [] u (next_fewer nodes_one (k ∷ []) [] u.next (λ n on next pending.
       absurd (not_this (is_next_node nodes_one) nodes_one n (none_next nodes_one (u.bare none)) on next))) no_wait
 
   -- more may be due
   pub more_due : (pending : List NodeKey) → MidEvent t us ss e [] (k ∷ pending)
-  more_due pending = with_due t us ss e [] (k ∷ []) (k ∷ pending) u
+  more_due pending = with_due _ u
       (next_fewer nodes_one (k ∷ []) (k ∷ pending) u.next (λ n on next one. more (same_key n.key k) (list_any (same_key n.key) pending) one))
       (wait_among nodes_one (k ∷ pending) (none_waits nodes_one no_wait))
     where
       more : (a b : Bool) → (a || false) ≡ true → (a || b) ≡ true
-      more true b h = refl
-      more false b h = cc
+      more a b h = grind arith
 
   -- so where a list begins with it, those that are listed
   pub listed_due : (ws : List PendingUnit) (place : ℕ) (rest : List PendingUnit) → ws ≡ record { place = place; head = k } ∷ rest →
       MidEvent t us ss e [] (turn_heads ws)
-  listed_due ws place rest is =
-      subst (λ (l : List PendingUnit). MidEvent t us ss e [] (turn_heads l)) (sym is) (more_due (turn_heads rest))
+  listed_due ws place rest is = rw is (more_due _)

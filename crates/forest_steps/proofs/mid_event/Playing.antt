@@ -1,15 +1,8 @@
 -- A loss or an effect that is made in its place, with all that it forces.
-use Rattle.forest_steps.proofs.Common.{◌≡◌, ℕ, refl, ap, sym, ◌∙◌, subst, Bool, true, false, not, ◌&&◌, ◌||◌, ◌⊎◌, inl, inr, is_none, List, [], ◌∷◌, Option, Some, None, not-true, find, list_all, list_any, option_and_then, option_map_or, NodeKey, same_key, when, In, In-find, In-list_any, In-map, In-map-back, and_both, and_left, and_right, either_way, same_key-true, all_on, In-any, Table, Effect, Entry, Node, Unit, waiting, Collection, IsWhole, Shelf, collection_in, nodes_with, shelf_of, is_of, is_ready_node, is_root_left, Handles, Settles, is_head}
-use Rattle.sm_names.specs.declared.outcomes.Fault.{Fault}
-use Rattle.sm_names.specs.Members.{is_under}
-use Rattle.sm_names.proofs.SamenessLaws.{or_none_right}
-use Rattle.forest_store.specs.Nodes.{after_effect, after_end, after_loss, ended, member_of}
+use Rattle.forest_steps.proofs.Common.{◌≡◌, refl, ap, sym, ◌∙◌, subst, Bool, true, false, not, ◌&&◌, ◌||◌, ◌⊎◌, inl, inr, List, [], ◌∷◌, Option, Some, None, not-true, find, list_all, list_any, option_and_then, option_map_or, NodeKey, same_key, when, In, In-find, In-list_any, In-map, In-map-back, and_both, and_left, and_right, either_way, same_key-true, all_on, In-any, Table, Effect, Entry, Node, Unit, waiting, Collection, IsWhole, Shelf, collection_in, nodes_with, shelf_of, is_of, is_ready_node, is_root_left, Handles, Settles, is_head, arith, Fault, or_none_right, after_end, after_loss, ended, all-In, found_whole, distinct_one, IsSameNode}
+use Rattle.sm_names.proofs.SamenessLaws.{or_first}
+use Rattle.forest_store.specs.Nodes.{after_effect}
 use Rattle.forest_steps.specs.MidEvent.{AreOrEnd, AfterEffect, IsBeside, AfterLoss, AfterSteps, PropagatedFrom, AfterPropagation, MidEvent, Reaches, are_held_except, holds_unit, is_head_left, is_held, waits_among}
-use Rattle.forest_store.specs.Units.{GoTogether}
-use Rattle.forest_store.proofs.quiescence.Steps.{all-In}
-use Rattle.forest_store.proofs.changes.Altering.{found_whole}
-use Rattle.forest_store.proofs.tables.Rooted.{distinct_one}
-use Rattle.forest_store.proofs.tables.Writing.{IsSameNode}
 use Rattle.forest_store.proofs.tallies.Hung.{hangs_mapped}
 use Rattle.forest_steps.proofs.mid_event.Fewer.{only_ended, waits_on}
 use Rattle.forest_steps.proofs.mid_event.Leading.{beside_on, led_none, led_on}
@@ -18,10 +11,10 @@ use Rattle.forest_steps.proofs.mid_event.NextThere.{wait_among}
 -- ---- a loss
 
 -- nothing is due after a loss
-pub played_lost : (handles : Handles) (t now : Table Node) (us : List Unit) (ss : List Shelf) (old new : Entry) (fault : Fault) →
+pub played_lost : {handles : Handles} {t now : Table Node} {us : List Unit} {ss : List Shelf} {old new : Entry} {fault : Fault} →
     AfterLoss handles t now us ss old new fault [] →
     PropagatedFrom handles (after_loss fault (nodes_with t old.keys.items)) t now us ss old new
-played_lost handles t now us ss old new fault felled = record {
+played_lost felled = record {
   pending = [];
   under = felled.under;
   shelf = felled.shelf;
@@ -38,36 +31,30 @@ same_ended ns top n = record { key = refl; parent = refl; attached = refl; colle
 
 -- a node with a key is there still
 pub key_stays : (old now : List Node) → AreOrEnd old now → (key : NodeKey) → list_any (is_of key) old ≡ true → list_any (is_of key) now ≡ true
-key_stays old now (inl same) key there = subst (λ (ns : List Node). list_any (is_of key) ns ≡ true) (sym same) there
+key_stays old now (inl same) key there = rw same there
 key_stays old now (inr ends) key there =
-    let x = In-list_any (is_of key) old there in
-    subst (λ (ns : List Node). list_any (is_of key) ns ≡ true) (sym ends.1)
-    (In-any (is_of key) (after_end ends.0 old) (ended old ends.0 x.0) (In-map-back (ended old ends.0) old x.0 x.1) x.2)
+    let x = In-list_any _ old there in
+    rw ends.1 (In-any _ _ _ (In-map-back _ old x.0 x.1) x.2)
 
 -- a head that is left is there
 pub left_there : (ns : List Node) (key : NodeKey) → is_head_left ns key ≡ true → list_any (is_of key) ns ≡ true
-left_there ns key left =
-    let x = In-list_any (λ (n : Node). is_of key n && (not n.gone && is_head n)) ns left in
-    In-any (is_of key) ns x.0 x.1 (and_left (is_of key x.0) _ x.2)
+left_there ns key left = grind (arith, In-any, In-list_any)
 
 -- what holds a unit once one ended held it before
 holds_was : (ns : List Node) (top key : NodeKey) (n : Node) → holds_unit (after_end top ns) key (ended ns top n) ≡ true →
     holds_unit ns key n ≡ true
 holds_was ns top key n h =
-    let here : (is_under top (member_of ns n) || n.gone) ≡ false =
-    not-true (ended ns top n).gone (and_left (not (ended ns top n).gone) _ h) in
-    and_both (not n.gone) _ (ap not (or_none_right (is_under top (member_of ns n)) n.gone here))
+    and_both _ _ (ap not (or_none_right _ _ (not-true _ (and_left _ _ h))))
     (sym (λ i. (same_key n.head key && not n.released) || (n.attached && hangs_mapped (ended ns top) (same_ended ns top) ns key n i))
-    ∙ and_right (not (ended ns top n).gone) _ h)
+    ∙ and_right _ _ h)
 
 -- what holds a unit after held it before
 held_was : (ns : List Node) (top key : NodeKey) → list_any (holds_unit (after_end top ns) key) (after_end top ns) ≡ true →
     list_any (holds_unit ns key) ns ≡ true
 held_was ns top key h =
-    let x = In-list_any (holds_unit (after_end top ns) key) (after_end top ns) h in
-    let y = In-map (ended ns top) ns x.0 x.1 in
-    In-any (holds_unit ns key) ns y.0 y.1
-    (holds_was ns top key y.0 (ap (holds_unit (after_end top ns) key) (sym y.2) ∙ x.2))
+    let x = In-list_any _ _ h in
+    let y = In-map _ ns x.0 x.1 in
+    In-any _ ns y.0 y.1 (holds_was ns top key y.0 (ap (holds_unit (after_end top ns) key) (sym y.2) ∙ x.2))
 
 -- ---- the root waits for its first buffers no more than it did
 
@@ -82,93 +69,72 @@ record IsWaiting (ns : List Node) (key : NodeKey) : Type 0 where
 waiting_is : (ns : List Node) (key : NodeKey) → waits_among (key ∷ []) ns ≡ true → (waiting ns ≡ None) ⊎ IsWaiting ns key
 waiting_is ns key root = from (find is_root_left ns) refl root
   where
-    or_false : (b : Bool) → (b || false) ≡ true → b ≡ true
-    or_false true h = refl
-    or_false false h = cc
-
     from : (o : Option Node) → find is_root_left ns ≡ o →
         option_map_or (λ (n : Node). list_any (same_key n.key) (key ∷ []))
         (option_and_then (λ (r : Node). when (not r.allocated && list_all (is_ready_node r.key) ns) r) o) true ≡ true →
         (option_and_then (λ (r : Node). when (not r.allocated && list_all (is_ready_node r.key) ns) r) o ≡ None) ⊎ IsWaiting ns key
     from None is h = inl refl
     from (Some r) is h = elim (either_way (not r.allocated && list_all (is_ready_node r.key) ns)) [
-      | inr out ↦ inl (ap (λ (b : Bool). when b r) out)
+      | inr out ↦ inl (ap (λ b. when b r) out)
       | inl some ↦
-          let x = In-find is_root_left ns r is in
+          let x = In-find _ ns r is in
           inr (record {
             node = r;
             on = x.0;
-            is = same_key-true r.key key (or_false (same_key r.key key)
-                (sym (ap (λ (b : Bool). option_map_or (λ (n : Node). list_any (same_key n.key) (key ∷ [])) (when b r) true) some) ∙ h));
-            here = not-true r.gone (and_right (is_none r.parent) (not r.gone) x.1);
+            is = same_key-true _ key (or_first _ _
+                (sym (ap (λ b. option_map_or (λ (n : Node). list_any (same_key n.key) (key ∷ [])) (when b r) true) some) ∙ h) refl);
+            here = not-true _ (and_right _ _ x.1);
           })
     ]
 
-module _ (c d : Collection) (whole : IsWhole c) (whole_then : IsWhole d) (head : NodeKey)
+module _ {c d : Collection} (whole : IsWhole c) (whole_then : IsWhole d) (head : NodeKey)
     (held : are_held_except (head ∷ []) c.nodes ≡ true) (left : is_head_left c.nodes head ≡ true) (ends : AreOrEnd c.nodes d.nodes)
     (held_then : are_held_except [] d.nodes ≡ true) (root_then : waits_among (head ∷ []) d.nodes ≡ true)
     (waits : are_held_except [] c.nodes ≡ true → waiting c.nodes ≡ None) where
   -- one unit ended: if the root waited then, something would have held each unit before
   ended_none : (top : NodeKey) → d.nodes ≡ after_end top c.nodes → waiting d.nodes ≡ None
-  ended_none top is = elim (waiting_is d.nodes head root_then) [
+  ended_none top is = elim (waiting_is _ _ root_then) [
     | inl none ↦ none
     | inr root ↦
-        let x = In-list_any (λ (n : Node). is_of head n && (not n.gone && is_head n)) c.nodes left in
-        let key : x.0.key ≡ head = same_key-true x.0.key head (and_left (is_of head x.0) _ x.2) in
-        let heads : is_head x.0 ≡ true = and_right (not x.0.gone) _ (and_right (is_of head x.0) _ x.2) in
-        let y = In-map (ended c.nodes top) c.nodes root.node (subst (λ (ns : List Node). In root.node ns) is root.on) in
+        let x = In-list_any _ _ left in
+        let key : x.0.key ≡ head = same_key-true _ _ (and_left _ _ x.2) in
+        let heads : is_head x.0 ≡ true = and_right _ _ (and_right _ _ x.2) in
+        let y = In-map _ _ _ (subst (λ ns. In root.node ns) is root.on) in
         let same : y.0 ≡ x.0 = distinct_one c.nodes whole.sound.distinct y.0 x.0 y.1 x.1
         (sym (ap (λ (n : Node). n.key) y.2) ∙ (root.is ∙ sym key)) in
         let then : root.node ≡ ended c.nodes top x.0 = y.2 ∙ ap (ended c.nodes top) same in
-        let all : is_held d.nodes root.node ≡ true = all-In (is_held d.nodes) d.nodes root.node root.on held_then in
+        let all : is_held d.nodes root.node ≡ true = all-In _ _ _ root.on held_then in
         let some : list_any (holds_unit d.nodes root.node.key) d.nodes ≡ true =
-        held_by root.node.gone (is_head root.node) _ root.here (ap is_head then ∙ heads) all in
+        rw (root.here, ap is_head then ∙ heads) at all in
         let was : list_any (holds_unit c.nodes x.0.key) c.nodes ≡ true =
-        held_was c.nodes top x.0.key (subst (λ (ns : List Node). list_any (holds_unit ns x.0.key) ns ≡ true) is
-        (subst (λ (k : NodeKey). list_any (holds_unit d.nodes k) d.nodes ≡ true) (ap (λ (n : Node). n.key) then) some)) in
-        let each : are_held_except [] c.nodes ≡ true = all_on (is_held c.nodes) c.nodes (λ n on. elim (either_way (same_key n.key head)) [
+        held_was _ top _ (subst (λ ns. list_any (holds_unit ns x.0.key) ns ≡ true) is
+        (rw (ap (λ (n : Node). n.key) then) at some)) in
+        let each : are_held_except [] c.nodes ≡ true = all_on _ _ (λ n on. elim (either_way (same_key n.key head)) [
           | inl e ↦
-              let one : n ≡ x.0 = distinct_one c.nodes whole.sound.distinct n x.0 on x.1 (same_key-true n.key head e ∙ sym key) in
-              subst (λ (m : Node). is_held c.nodes m ≡ true) (sym one) (holds x.0.gone (is_head x.0) _ was)
-          | inr e ↦ held_other (same_key n.key head) (is_held c.nodes n) e
-              (all-In (λ (m : Node). list_any (same_key m.key) (head ∷ []) || is_held c.nodes m) c.nodes n on held)
+              let one : n ≡ x.0 = distinct_one c.nodes whole.sound.distinct n x.0 on x.1 (same_key-true _ _ e ∙ sym key) in
+              rw one (holds x.0.gone (is_head x.0) _ was)
+          | inr e ↦
+              rw e at (all-In _ _ n on held)
         ]) in
-        ap waiting is
-        ∙ waits_on c whole.sound (ended c.nodes top) (only_ended c.nodes top)
-        (subst (λ (ns : List Node). GoTogether ns) is whole_then.together) (waits each)
+        ap waiting is ∙ waits_on whole.sound (only_ended c.nodes top) (rw is at whole_then.together) (waits each)
   ]
     where
-      held_by : (gone head some : Bool) → gone ≡ false → head ≡ true → (gone || (not head || some)) ≡ true → some ≡ true
-      held_by true head some out is h = cc
-      held_by false false some out is h = cc
-      held_by false true some out is h = h
-
       holds : (gone head some : Bool) → some ≡ true → (gone || (not head || some)) ≡ true
-      holds true head some h = refl
-      holds false false some h = refl
-      holds false true some h = h
-
-      held_other : (same held : Bool) → same ≡ false → ((same || false) || held) ≡ true → held ≡ true
-      held_other true held out h = cc
-      held_other false held out h = h
+      holds gone head some h = grind arith
 
   -- the root does not wait after, by cases on whether a unit ended
   pub root_none : waits_among [] d.nodes ≡ true
-  root_none = wait_among d.nodes [] (by ends)
-    where
-      by : AreOrEnd c.nodes d.nodes → waiting d.nodes ≡ None
-      by (inl same) = ap waiting same ∙ waits (subst (λ (ns : List Node). are_held_except [] ns ≡ true) same held_then)
-      by (inr ended) = ended_none ended.0 ended.1
+  root_none = grind (arith, ended_none, wait_among)
 
 -- ---- an effect
 
-module _ (t mid : Table Node) (us : List Unit) (ss : List Shelf) (e e1 : Entry) (key : NodeKey) (effect : Effect) (head : NodeKey)
+module _ {t mid : Table Node} {us : List Unit} {ss : List Shelf} {e e1 : Entry} {key : NodeKey} {effect : Effect} {head : NodeKey}
     (affected : AfterEffect t mid us ss e e1 key effect head) where
   -- the head of its unit is left
   pub still_left : is_head_left (nodes_with mid e1.keys.items) head ≡ true
   still_left = subst (λ (s : Shelf). is_head_left (nodes_with mid s.keys) head ≡ true) (sym affected.shelf) affected.left
 
-  module _ (handles : Handles) (then : Table Node) (vs : List Unit) (e2 : Entry) (led : AfterSteps handles mid then vs ss e1 e2 [] (head ∷ []))
+  module _ {handles : Handles} {then : Table Node} {vs : List Unit} {e2 : Entry} (led : AfterSteps handles mid then vs ss e1 e2 [] (head ∷ []))
       (ends : AreOrEnd (nodes_with mid e1.keys.items) (nodes_with then e1.keys.items)) where
     abbrev nodes : List Node
     nodes = after_effect key effect (nodes_with t e.keys.items)
@@ -183,17 +149,14 @@ module _ (t mid : Table Node) (us : List Unit) (ss : List Shelf) (e e1 : Entry) 
 
     -- it is there then
     there_then : list_any (is_of head) (nodes_with then e2.keys.items) ≡ true
-    there_then = key_stays (nodes_with mid e1.keys.items) (nodes_with then e2.keys.items) ends_then head
-        (left_there (nodes_with mid e1.keys.items) head still_left)
+    there_then = key_stays _ _ ends_then _ (left_there (nodes_with mid e1.keys.items) head still_left)
 
     -- and the root does not wait, where it would not if something held each unit
     none_waits_then : (are_held_except [] nodes ≡ true → waiting nodes ≡ None) → waits_among [] (nodes_with then e2.keys.items) ≡ true
     none_waits_then waits =
-        root_none (collection_in mid (shelf_of e1)) (collection_in then (shelf_of e2))
-        (found_whole mid e1.id ss (shelf_of e1) affected.under.store.kept.whole affected.under.store.found)
-        (found_whole then e2.id ss (shelf_of e2) led.under.store.kept.whole led.under.store.found) head affected.under.held still_left ends_then
-        led.under.held led.under.root
-        (subst (λ (ns : List Node). are_held_except [] ns ≡ true → waiting ns ≡ None) (sym were) waits)
+        root_none (found_whole mid _ ss _ affected.under.store.kept.whole affected.under.store.found)
+        (found_whole then e2.id ss (shelf_of e2) led.under.store.kept.whole led.under.store.found) _ affected.under.held still_left ends_then
+        led.under.held led.under.root (rw were waits)
 
     -- what more is led to comes of the effect
     pub played_affected : (are_held_except [] nodes ≡ true → waiting nodes ≡ None) → (now : Table Node) (ws : List Unit) (e3 : Entry) →
@@ -202,21 +165,21 @@ module _ (t mid : Table Node) (us : List Unit) (ss : List Shelf) (e e1 : Entry) 
         PropagatedFrom handles nodes t now ws ss e e3
     played_affected waits now ws e3 more =
         let out = more led.under there_then (none_waits_then waits) (ap (λ (s : Shelf). s.buffers) (led.shelf ∙ affected.shelf)) in
-        let all = led_on handles mid then now vs ws ss e1 e2 e3 [] (head ∷ []) [] out.pending led out.led in
+        let all = led_on led out.led in
         record {
           pending = out.pending;
           under = all.under;
           shelf = all.shelf ∙ affected.shelf;
-          leads = λ pool others after on. subst (λ (c : Collection). Settles pool handles others c after)
+          leads = λ pool others after on. subst (λ c. Settles pool handles others c after)
               (λ i. record (collection_in t (shelf_of e)) { nodes = affected.nodes i })
-              (subst (λ (s : Shelf). Reaches pool handles others (collection_in mid s) (collection_in now s)) affected.shelf
+              (subst (λ s. Reaches pool handles others (collection_in mid s) (collection_in now s)) affected.shelf
               (all.leads pool others) after on);
-          beside = beside_on t mid now ss e.id affected.beside
-              (subst (λ (id : ℕ). IsBeside mid now ss id) (ap (λ (s : Shelf). s.id) affected.shelf) all.beside);
+          beside = beside_on affected.beside
+              (subst (λ id. IsBeside mid now ss id) (ap (λ (s : Shelf). s.id) affected.shelf) all.beside);
           out = out.out;
         }
 
 -- where nothing more is due it is played out
-pub played_none : (handles : Handles) (t : Table Node) (us : List Unit) (ss : List Shelf) (e : Entry) → MidEvent t us ss e [] [] →
+pub played_none : (handles : Handles) {t : Table Node} {us : List Unit} {ss : List Shelf} {e : Entry} → MidEvent t us ss e [] [] →
     AfterPropagation handles t t us ss e e
-played_none handles t us ss e under = record { pending = []; led = led_none handles t us ss e [] [] under; out = inl refl }
+played_none handles under = record { pending = []; led = led_none _ under; out = inl refl }

@@ -1,18 +1,12 @@
 -- A collection that is under way with no unit loose or due is calm, and a calm one is such.
-use Rattle.forest_steps.proofs.Common.{◌≡◌, ◌<◌, ℕ, ◌==◌, refl, ap, sym, ◌∙◌, subst, Bool, true, false, not, ◌&&◌, inl, List, [], map, length, get_or, Option, Some, None, find, list_any, option_map_or, NodeKey, Buffers, same_key, In-list_any, and_both, and_left, and_right, both_ways, false_if, In-any, Table, node_at, Entry, Node, Unit, AreUnits, waiting, IsStored, IsWhole, Shelf, collection_in, nodes_with, place_in, shelf_of, shelves_of, is_deserted_node, is_next_node, Handles}
+use Rattle.forest_steps.proofs.Common.{◌≡◌, ◌<◌, ℕ, ◌==◌, refl, ap, sym, ◌∙◌, subst, true, false, inl, List, [], map, length, get_or, Option, Some, None, find, list_any, option_map_or, NodeKey, Buffers, same_key, In-list_any, In-any, Table, node_at, Entry, Node, Unit, AreUnits, waiting, IsStored, IsWhole, Shelf, collection_in, nodes_with, place_in, shelf_of, shelves_of, is_deserted_node, is_next_node, Handles, AreCounted, IsCounted, HaveUnits, has_buffers, later, none_calm, found_whole, counted_but, place_is, arith}
+use Rattle.std.proofs.Math.Bool.{and-true}
 use Rattle.sm_names.proofs.ListLaws.{find-none, none-find}
 use Rattle.sm_names.proofs.PlaceLaws.{map-None}
-use Rattle.forest_store.specs.Calm.{AreCounted, IsCounted}
 use Rattle.forest_steps.specs.EventEnd.{MayClose}
-use Rattle.forest_store.specs.Counts.{HaveUnits}
-use Rattle.forest_store.specs.Decisions.{later_step}
-use Rattle.forest_store.specs.Questions.{is_allocated_node, has_buffers}
 use Rattle.forest_steps.specs.MidEvent.{MidEvent, is_next_except}
-use Rattle.forest_store.proofs.quiescence.Calming.{AreNone, calm_none, later, none_calm}
+use Rattle.forest_store.proofs.quiescence.Calming.{AreNone, calm_none}
 use Rattle.forest_store.proofs.quiescence.Watched.{found_counted}
-use Rattle.forest_store.proofs.changes.Altering.{found_whole}
-use Rattle.forest_store.proofs.shelves.Counted.{counted_but}
-use Rattle.forest_store.proofs.shelves.Entries.{place_is}
 use Rattle.forest_store.proofs.tallies.Holding.{held_where, none_deserted}
 use Rattle.forest_steps.proofs.mid_event.Joining.{shelf_here}
 
@@ -20,11 +14,7 @@ use Rattle.forest_steps.proofs.mid_event.Joining.{shelf_here}
 
 -- a test that none is left out of is the test
 next_none : (nodes : List Node) → list_any (is_next_except [] nodes) nodes ≡ list_any (is_next_node nodes) nodes
-next_none nodes = λ i. list_any (λ (n : Node). and_true (is_next_node nodes n) i) nodes
-  where
-    and_true : (b : Bool) → (b && true) ≡ b
-    and_true true = refl
-    and_true false = refl
+next_none nodes = λ i. list_any (λ n. and-true (is_next_node nodes n) i) nodes
 
 -- none is due, so none waits
 waits_none : (o : Option Node) → option_map_or (λ (n : Node). list_any (same_key n.key) []) o true ≡ true → o ≡ None
@@ -32,37 +22,35 @@ waits_none None h = refl
 waits_none (Some n) h = let no : false ≡ true = h in absurd (cc)
 
 -- the collection of the entry is whole
-pub whole_under : (t : Table Node) (us : List Unit) (ss : List Shelf) (e : Entry) (unheld pending : List NodeKey) →
+pub whole_under : {t : Table Node} {us : List Unit} {ss : List Shelf} {e : Entry} {unheld pending : List NodeKey} →
     MidEvent t us ss e unheld pending → IsWhole (collection_in t (shelf_of e))
-whole_under t us ss e unheld pending under = found_whole t e.id ss (shelf_of e) under.store.kept.whole under.store.found
+whole_under {t} {ss} under = found_whole t _ ss _ under.store.kept.whole under.store.found
 
 -- no node is deserted where no unit is loose
-pub no_end_under : (t : Table Node) (us : List Unit) (ss : List Shelf) (e : Entry) (pending : List NodeKey) → MidEvent t us ss e [] pending →
+pub no_end_under : {t : Table Node} {us : List Unit} {ss : List Shelf} {e : Entry} {pending : List NodeKey} → MidEvent t us ss e [] pending →
     find (is_deserted_node (nodes_with t e.keys.items)) (nodes_with t e.keys.items) ≡ None
-no_end_under t us ss e pending under =
-    let whole = whole_under t us ss e [] pending under in
+no_end_under {t} {e} under =
+    let whole = whole_under under in
     let nodes = nodes_with t e.keys.items in
     find-none (is_deserted_node nodes) nodes
     (none_deserted nodes whole.sound.distinct whole.sound.heads whole.rooted whole.united under.held)
 
 -- so no step is left but that its buffers may be abandoned
-pub none_under : (t : Table Node) (us : List Unit) (ss : List Shelf) (e : Entry) → MidEvent t us ss e [] [] →
+pub none_under : {t : Table Node} {us : List Unit} {ss : List Shelf} {e : Entry} → MidEvent t us ss e [] [] →
     AreNone (nodes_with t e.keys.items) e.buffers
-none_under t us ss e under = record {
-  no_end = no_end_under t us ss e [] under;
+none_under {t} {e} under = record {
+  no_end = no_end_under under;
   no_root = waits_none (waiting (nodes_with t e.keys.items)) under.root;
   no_head = from e.buffers;
 }
   where
     from : (o : Option Buffers) → later (nodes_with t e.keys.items) o ≡ None
-    from None = refl
-    from (Some b) = rw (find-none (is_next_node (nodes_with t e.keys.items)) (nodes_with t e.keys.items)
-        (sym (next_none (nodes_with t e.keys.items)) ∙ under.next)) refl
+    from o = grind (arith, find-none, next_none)
 
 -- and it is counted
-pub counted_under : (t : Table Node) (us : List Unit) (ss : List Shelf) (e : Entry) → MidEvent t us ss e [] [] → IsCounted t e
-counted_under t us ss e under = record {
-  calm = calm_none (collection_in t (shelf_of e)) (none_under t us ss e under);
+pub counted_under : {t : Table Node} {us : List Unit} {ss : List Shelf} {e : Entry} → MidEvent t us ss e [] [] → IsCounted t e
+counted_under {t} {e} under = record {
+  calm = calm_none (collection_in t (shelf_of e)) (none_under under);
   strong = under.store.strong;
   reserved = under.store.reserved;
   garbage_known = under.store.garbage_known;
@@ -72,27 +60,16 @@ counted_under t us ss e under = record {
 
 -- where no node has buffers, no unit is next
 pub none_next : (nodes : List Node) → list_any has_buffers nodes ≡ false → list_any (is_next_node nodes) nodes ≡ false
-none_next nodes none = false_if (list_any (is_next_node nodes) nodes) (λ e.
-    let x = In-list_any (is_next_node nodes) nodes e in
-    let turn = and_right (not x.0.allocated) _ (and_right (not x.0.gone) _ (and_right x.0.attached _ x.2)) in
-    over x.0.parent (and_left (option_map_or (λ parent. list_any (is_allocated_node parent) nodes) x.0.parent false) _ turn))
-  where
-    over : (o : Option NodeKey) → option_map_or (λ parent. list_any (is_allocated_node parent) nodes) o false ≡ true → ⊥
-    over None h = let no : false ≡ true = h in cc
-    over (Some p) h =
-        let y = In-list_any (is_allocated_node p) nodes h in
-        let given = and_right (not y.0.gone) _ y.2 in
-        both_ways (list_any has_buffers nodes) (In-any has_buffers nodes y.0 y.1
-        (and_both (not y.0.gone) y.0.allocated (and_left (not y.0.gone) _ y.2) (and_left y.0.allocated _ given))) none
+none_next nodes none = grind (arith, In-any, In-list_any, none)
 
-module _ (t : Table Node) (us : List Unit) (ss : List Shelf) (e : Entry) (kept : IsStored t ss)
+module _ {t : Table Node} (us : List Unit) {ss : List Shelf} {e : Entry} (kept : IsStored t ss)
     (found : find (λ (x : Shelf). x.id == e.id) ss ≡ Some (shelf_of e)) (counted : IsCounted t e) where
   abbrev nodes : List Node
   nodes = nodes_with t e.keys.items
 
   -- each collection is whole
   whole : IsWhole (collection_in t (shelf_of e))
-  whole = found_whole t e.id ss (shelf_of e) kept.whole found
+  whole = found_whole t _ ss _ kept.whole found
 
   -- a counted collection is calm
   none : AreNone (nodes_with t e.keys.items) e.buffers
@@ -102,8 +79,7 @@ module _ (t : Table Node) (us : List Unit) (ss : List Shelf) (e : Entry) (kept :
   no_next : (o : Option Buffers) → (o ≡ None → list_any has_buffers nodes ≡ false) → later nodes o ≡ None →
       list_any (is_next_node nodes) nodes ≡ false
   no_next None bare h = none_next nodes (bare refl)
-  no_next (Some b) bare h =
-      none-find (is_next_node nodes) nodes (map-None (λ (n : Node). later_step nodes b n.key) (find (is_next_node nodes) nodes) h)
+  no_next (Some b) bare h = none-find (is_next_node nodes) nodes (map-None _ _ h)
 
   -- a collection that is counted is so, where each slot is in the list, and no node has buffers where none were given
   pub under_counted : AreUnits us (map (collection_in t) ss) →
@@ -123,32 +99,32 @@ module _ (t : Table Node) (us : List Unit) (ss : List Shelf) (e : Entry) (kept :
     bare = bare;
     held = held_where nodes whole.sound.distinct whole.sound.heads whole.rooted whole.united
         (none-find (is_deserted_node nodes) nodes none.no_end);
-    next = next_none nodes ∙ no_next e.buffers bare none.no_head;
+    next = next_none nodes ∙ no_next _ bare none.no_head;
     root = rw none.no_root refl;
   }
 
 -- the collection to which a change may be made
-pub ready_under : (t : Table Node) (us : List Unit) (es : List Entry) (id at : ℕ) (e : Entry) → place_in id es ≡ Some at → e ≡ get_or es at e →
+pub ready_under : {t : Table Node} (us : List Unit) (es : List Entry) (id : ℕ) {at : ℕ} (e : Entry) → place_in id es ≡ Some at → e ≡ get_or es at e →
     IsStored t (shelves_of es) → AreCounted t es → HaveUnits us t es →
     ((key : NodeKey) (n : Node) → node_at t key ≡ Some n → key.slot < length us) →
     (e.buffers ≡ None → list_any has_buffers (nodes_with t e.keys.items) ≡ false) →
     MidEvent t us (shelves_of es) e [] []
-ready_under t us es id at e told is kept all units inside bare =
+ready_under {t} us es id {at} e told is kept all units inside bare =
     let place = place_is id es at told in
     let own : e.id ≡ id = ap (λ (x : Entry). x.id) is ∙ place.id_is e in
-    under_counted t us (shelves_of es) e kept
-    (subst (λ (i : ℕ). find (λ (x : Shelf). x.id == i) (shelves_of es) ≡ Some (shelf_of e)) (sym own) (shelf_here es id at e told is))
+    under_counted us kept
+    (subst (λ i. find (λ (x : Shelf). x.id == i) (shelves_of es) ≡ Some (shelf_of e)) (sym own) (shelf_here es id e told is))
     (found_counted t id es e all (place.found e ∙ ap Some (sym is))) units inside bare
 
 -- and it may be closed
-pub ready_close : (handles : Handles) (t : Table Node) (us : List Unit) (es : List Entry) (id at : ℕ) (e : Entry) → place_in id es ≡ Some at →
+pub ready_close : (handles : Handles) {t : Table Node} {us : List Unit} (es : List Entry) (id : ℕ) {at : ℕ} {e : Entry} → place_in id es ≡ Some at →
     e ≡ get_or es at e → AreCounted t es → MidEvent t us (shelves_of es) e [] [] → MayClose handles t us es at
-ready_close handles t us es id at e told is all under = record {
+ready_close handles {t} es id {at} {e} told is all under = record {
   entry = e;
   pending = [];
   is = sym is;
-  place = subst (λ (i : ℕ). place_in i es ≡ Some at) (sym (ap (λ (x : Entry). x.id) is ∙ (place_is id es at told).id_is e)) told;
+  place = rw (ap (λ (x : Entry). x.id) is ∙ (place_is id es at told).id_is e) told;
   under = under;
   out = inl refl;
-  others = counted_but t e.id es all;
+  others = counted_but t _ es all;
 }

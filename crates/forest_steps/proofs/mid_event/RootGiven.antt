@@ -1,36 +1,28 @@
 -- The root's unit is allocated with its buffers, and the attached units that follow have their turns.
-use Rattle.forest_steps.proofs.Common.{◌≡◌, ◌≢◌, ℕ, ◌==◌, nat_lt, refl, ap, sym, ◌∙◌, subst, Bool, true, false, not, ◌&&◌, ◌||◌, is_none, inl, inr, List, [], ◌∷◌, map, Option, Some, None, eqb-true, find, list_all, list_any, option_map_or, HeldBuffer, NodeKey, Buffers, same_key, In, and_both, both_ways, either_way, false_if, or_cases, or_left, same_key-refl, same_key-true, In-any, Table, node_at, Entry, Node, Unit, over_except, strong_count, AreUnits, waiting, Collection, IsStored, IsWhole, Shelf, collection_in, is_filed, nodes_with, put_shelf, shelf_of, is_of, is_next_node, reserved_count, heads_itself, Handles, Settles, is_head}
+use Rattle.forest_steps.proofs.Common.{◌≡◌, ◌≢◌, ℕ, ◌==◌, nat_lt, refl, ap, sym, ◌∙◌, subst, Bool, true, false, not, ◌&&◌, ◌||◌, is_none, inl, inr, List, [], ◌∷◌, map, Option, Some, None, eqb-true, find, list_any, option_map_or, HeldBuffer, NodeKey, Buffers, same_key, In, and_both, either_way, or_left, same_key-refl, same_key-true, In-any, Table, Entry, Node, Unit, over_except, strong_count, AreUnits, waiting, Collection, IsStored, IsWhole, Shelf, collection_in, nodes_with, put_shelf, shelf_of, is_of, reserved_count, heads_itself, Handles, Settles, is_head, same_key-equal, is_strong, after_allocation, given_few, IsGivenAt, given_at, any_map, times_map, all-In, found_put, IsBareHead, in_all, looked_there, arith}
+use Rattle.sm_names.proofs.SamenessLaws.{or_false}
 use Rattle.forest_steps.specs.declared.initial_allocation.AllocationOutcome.{AllocationOutcome}
 use Rattle.forest_steps.specs.declared.pending_units.PendingUnit.{PendingUnit}
-use Rattle.forest_store.specs.Shelves.{is_strong}
-use Rattle.forest_store.specs.Nodes.{after_allocation}
-use Rattle.forest_store.specs.Questions.{is_allocated_node}
 use Rattle.forest_steps.specs.InitialAllocation.{IsComing, IsRooted, first_made, shelf_then}
-use Rattle.forest_store.specs.Scenes.{given_few}
-use Rattle.forest_store.specs.UnitAllocation.{IsGivenAt, given_at}
 use Rattle.forest_steps.specs.LogicalAllocation.{IsUnitListed}
-use Rattle.forest_steps.specs.MidEvent.{AreClosed, AreTurns, AfterPropagation, MidEvent, are_held_except, is_head_left, is_next_except, turn_heads, waits_among}
-use Rattle.forest_store.proofs.quiescence.Calming.{any_map, times_map}
-use Rattle.forest_store.proofs.quiescence.Steps.{all-In}
-use Rattle.forest_store.proofs.changes.Altering.{found_put}
+use Rattle.forest_steps.specs.MidEvent.{AreTurns, AfterPropagation, MidEvent, are_held_except, is_head_left, is_next_except, turn_heads, waits_among}
 use Rattle.forest_steps.proofs.changes.Dropped.{nothing_stored}
 use Rattle.forest_store.proofs.changes.Finishing.{kept-put}
 use Rattle.forest_steps.proofs.changes.FirstAllocated.{all_there, found_there, units_there}
-use Rattle.forest_store.proofs.allocation.Before.{IsBareHead}
 use Rattle.forest_steps.proofs.allocation.RootUnit.{waits_none}
-use Rattle.forest_store.proofs.tables.Hanging.{in_all, looked_there}
 use Rattle.forest_steps.proofs.mid_event.Listing.{units_found}
 use Rattle.forest_steps.proofs.mid_event.NextThere.{next_fewer, wait_among, with_due}
 use Rattle.forest_steps.proofs.mid_event.Ready.{whole_under}
 use Rattle.forest_steps.proofs.mid_event.RootLost.{IsReadyRoot, ready_root}
 use Rattle.forest_steps.proofs.mid_event.Turns.{hangs_more, turns_behind}
-use Rattle.forest_steps.proofs.mid_event.UnitGiven.{IsUnitGiven, closed_on, f, given_is, held_then, next_parts, next_then, or_false, served, unit_given, was_there}
+use Rattle.forest_steps.proofs.mid_event.UnitGiven.{IsUnitGiven, closed_on, f, given_is, held_then, next_parts, next_then, served, unit_given, was_there}
+use Rattle.forest_steps.proofs.tables.Rows.{same_on}
 
 -- another shelf stays where one is put
 in_put : (new : Shelf) (ss : List Shelf) (x : Shelf) → In x ss → x.id ≢ new.id → In x (put_shelf new ss)
 in_put new [] x on differ = absurd on
 in_put new (s ∷ ss) x on differ = elim (either_way (s.id == new.id)) [
-  | inl e ↦ rw e (by on (eqb-true s.id new.id e))
+  | inl e ↦ rw e (by on (eqb-true _ _ e))
   | inr e ↦ rw e (elim (either_way (nat_lt new.id s.id)) [
     | inl less ↦ rw less (inr on)
     | inr more ↦ rw more (rest (λ there. in_put new ss x there differ) on)
@@ -46,12 +38,11 @@ in_put new (s ∷ ss) x on differ = elim (either_way (s.id == new.id)) [
     rest more (inr there) = inr (more there)
 
 -- more units may be due
-pub under_due : (t : Table Node) (us : List Unit) (ss : List Shelf) (e : Entry) (unheld few more : List NodeKey) →
+pub under_due : {t : Table Node} {us : List Unit} {ss : List Shelf} {e : Entry} {unheld few : List NodeKey} (more : List NodeKey) →
     ((k : NodeKey) → list_any (same_key k) few ≡ true → list_any (same_key k) more ≡ true) →
     MidEvent t us ss e unheld few → MidEvent t us ss e unheld more
-under_due t us ss e unheld few more all under =
-    with_due t us ss e unheld few more under
-    (next_fewer (nodes_with t e.keys.items) few more under.next (λ n on is h. all n.key h))
+under_due {t} {e} {few} more all under =
+    with_due _ under (next_fewer (nodes_with t e.keys.items) few _ under.next (λ n on is h. all n.key h))
     (from (waiting (nodes_with t e.keys.items)) under.root)
   where
     from : (o : Option Node) → option_map_or (λ (n : Node). list_any (same_key n.key) few) o true ≡ true →
@@ -60,17 +51,17 @@ under_due t us ss e unheld few more all under =
     from (Some n) h = all n.key h
 
 -- the root that waits heads its unit, and is not gone
-pub root_left : (nodes : List Node) (k : NodeKey) → IsComing nodes k → is_head_left nodes k ≡ true
-root_left nodes k coming =
+pub root_left : {nodes : List Node} {k : NodeKey} → IsComing nodes k → is_head_left nodes k ≡ true
+root_left {nodes} {k} coming =
     let r = coming.root in
-    let root = ready_root nodes r coming.waits in
+    let root = ready_root nodes coming.waits in
     In-any (λ (n : Node). is_of k n && (not n.gone && is_head n)) nodes r root.on
-    (and_both (is_of k r) _ (ap (same_key r.key) (sym coming.own) ∙ same_key-refl r.key)
-    (and_both (not r.gone) _ (ap not root.here) (or_left (is_none r.parent) r.attached (ap is_none root.top))))
+    (and_both _ _ (ap (same_key r.key) (sym coming.own) ∙ same_key-refl r.key)
+    (and_both _ _ (ap not root.here) (or_left _ r.attached (ap is_none root.top))))
 
-module _ (t now : Table Node) (us : List Unit) (ss : List Shelf) (e : Entry) (k : NodeKey)
+module _ {t now : Table Node} {us : List Unit} {ss : List Shelf} {e : Entry} {k : NodeKey}
     (u : MidEvent t us ss e [] (k ∷ [])) (coming : IsComing (nodes_with t e.keys.items) k)
-    (ks : List NodeKey) (listed : IsUnitListed t k ks) (given : IsGivenAt t now (k ∷ []) ks)
+    {ks : List NodeKey} (listed : IsUnitListed t k ks) (given : IsGivenAt t now (k ∷ []) ks)
     (buffers : Buffers) (few : given_few (Some buffers) ≡ true) (held : List HeldBuffer) where
   abbrev s : Shelf
   s = shelf_of e
@@ -82,14 +73,8 @@ module _ (t now : Table Node) (us : List Unit) (ss : List Shelf) (e : Entry) (k 
   abbrev ss' : List Shelf
   ss' = put_shelf s' ss
 
-  abbrev keys : List NodeKey
-  keys = e.keys.items
-
   abbrev nodes : List Node
   nodes = nodes_with t e.keys.items
-
-  abbrev c0 : Collection
-  c0 = collection_in t (shelf_of e)
 
   abbrev hs : List NodeKey
   hs = k ∷ []
@@ -99,17 +84,17 @@ module _ (t now : Table Node) (us : List Unit) (ss : List Shelf) (e : Entry) (k 
 
   -- each collection is whole
   formed : IsWhole (collection_in t (shelf_of e))
-  formed = whole_under t us ss e [] (k ∷ []) u
+  formed = whole_under u
 
   -- the root that waits is left, and has no buffers
   root : IsReadyRoot (nodes_with t e.keys.items) coming.root
-  root = ready_root nodes r coming.waits
+  root = ready_root _ coming.waits
 
   -- the root heads its own unit
   own_head : coming.root.head ≡ k
   own_head =
-      let mine : heads_itself r ≡ true = all-In heads_itself nodes r root.on formed.sound.heads in
-      same_key-true r.head r.key (by r.parent root.top (same_key r.head r.key) mine) ∙ coming.own
+      let mine : heads_itself r ≡ true = all-In _ _ r root.on formed.sound.heads in
+      same_key-true _ _ (by r.parent root.top (same_key r.head r.key) mine) ∙ coming.own
     where
       by : (o : Option NodeKey) → o ≡ None → (b : Bool) → (not (is_none o || r.attached) || b) ≡ true → b ≡ true
       by None e b h = h
@@ -123,7 +108,7 @@ module _ (t now : Table Node) (us : List Unit) (ss : List Shelf) (e : Entry) (k 
 
   -- the unit is allocated in the table
   unit : IsUnitGiven t now e k
-  unit = unit_given t now ss e k u.store.kept u.store.found formed top ks listed given
+  unit = unit_given e u.store.kept u.store.found formed top listed given
 
   -- the first allocation made them
   pub made_then : collection_in now s' ≡ record {
@@ -132,7 +117,7 @@ module _ (t now : Table Node) (us : List Unit) (ss : List Shelf) (e : Entry) (k 
     buffers = Some buffers;
     held = held;
   }
-  made_then = λ i. record { id = e.id; nodes = (unit.nodes ∙ given_is k nodes) i; buffers = Some buffers; held = held }
+  made_then = λ i. record { id = e.id; nodes = (unit.nodes ∙ given_is k _) i; buffers = Some buffers; held = held }
 
   -- ---- the shelves
 
@@ -155,7 +140,7 @@ module _ (t now : Table Node) (us : List Unit) (ss : List Shelf) (e : Entry) (k 
   kept' =
       let put_same : put_shelf (shelf_of e) ss ≡ ss = found_put s ss u.store.kept.rising u.store.found in
       kept-put t t e.id [] (nothing_stored t) u.store.kept.named refl refl s' s ss refl refl u.store.kept.rising (rw put_same u.store.kept) tt tt
-      (all_there s s' refl (λ (x : Shelf). IsWhole (collection_in t x)) ss u.store.kept.rising u.store.found whole' u.store.kept.whole)
+      (all_there s s' refl _ ss u.store.kept.rising u.store.found whole' u.store.kept.whole)
 
   -- the shelf is found where it was put
   found' : find (λ (x : Shelf). x.id == e.id) ss' ≡ Some s'
@@ -163,67 +148,48 @@ module _ (t now : Table Node) (us : List Unit) (ss : List Shelf) (e : Entry) (k 
 
   -- the shelf has the same keys
   units' : AreUnits us (map (collection_in t) ss')
-  units' = units_there s s' refl us t ss u.store.kept.rising u.store.found (units_found t us e.id ss s u.store.units u.store.found) u.store.units
+  units' = units_there s s' refl us t ss u.store.kept.rising u.store.found (units_found t us _ ss u.store.units u.store.found) u.store.units
 
   -- ---- the root
 
   -- the root is of its own unit
   own_unit : list_any (same_key r.head) hs ≡ true
-  own_unit = or_left (same_key r.head k) false (ap (λ (j : NodeKey). same_key j k) own_head ∙ same_key-refl k)
+  own_unit = or_left _ _ (same_key-equal _ _ own_head)
 
   -- the root has its buffers, so it waits no more
   waits_then : waiting (served k (nodes_with t e.keys.items)) ≡ None
-  waits_then = waits_none c0 formed.sound hs r root.on (and_both (is_none r.parent) (not r.gone) (ap is_none root.top) (ap not root.here))
-      own_unit
+  waits_then = waits_none formed.sound hs r root.on (and_both _ _ (ap is_none root.top) (ap not root.here)) own_unit
 
   -- the same, in the table
   pub waits_no_more : waits_among [] (nodes_with now e.keys.items) ≡ true
-  waits_no_more = wait_among (nodes_with now e.keys.items) [] (subst (λ (ns : List Node). waiting ns ≡ None) (sym unit.nodes) waits_then)
+  waits_no_more = wait_among (nodes_with now e.keys.items) [] (subst (λ ns. waiting ns ≡ None) (sym unit.nodes) waits_then)
 
   -- a node of whose parent something is so is not the root
   no_root : (n : Node) → In n nodes → (p : NodeKey → Bool) → option_map_or p n.parent false ≡ true → same_key n.key k ≡ false
-  no_root n on p up = false_if (same_key n.key k) (λ h.
-      let at : (m : Node) → In m nodes → node_at t m.key ≡ Some m =
-      in_all (λ (m : Node). node_at t m.key ≡ Some m) nodes (looked_there t u.store.kept.named keys) in
-      let both : Some n ≡ Some r =
-      sym (at n on) ∙ (ap (node_at t) (same_key-true n.key k h ∙ sym coming.own) ∙ at r root.on) in
-      let one : n ≡ r = cc in
-      both_ways (option_map_or p n.parent false) up
-      (ap (λ (o : Option NodeKey). option_map_or p o false) (ap (λ (m : Node). m.parent) one ∙ root.top)))
+  no_root n on p up = grind (arith, in_all, looked_there, root, same_key-true, top)
 
   -- ---- the turns
 
   module _ (ws : List PendingUnit) (place : ℕ) (turns : AreTurns t e.keys.items (record { place = place; head = k } ∷ ws)) where
     -- with the units that follow among those that are due
     u_due : MidEvent t us ss e [] (k ∷ turn_heads ws)
-    u_due = under_due t us ss e [] (k ∷ []) (k ∷ turn_heads ws)
-        (λ j h. or_left (same_key j k) (list_any (same_key j) (turn_heads ws)) (sym (or_false (same_key j k)) ∙ h)) u
+    u_due = under_due _
+        (λ j h. or_left _ _ (sym (or_false _) ∙ h)) u
 
     -- the units behind the first one
     pub turns_then : AreTurns now e.keys.items ws
     turns_then =
-        let behind = turns_behind t us ss e k place ws u_due turns in
+        let behind = turns_behind _ ws u_due turns in
         record {
           placed = behind.placed;
           in_turn = behind.in_turn;
-          closed = subst (λ (ns : List Node). AreClosed ns (turn_heads ws)) (sym unit.nodes)
-              (closed_on k nodes (turn_heads ws) behind.closed);
+          closed = rw unit.nodes
+              (closed_on k _ _ behind.closed);
         }
 
     -- what is next after hangs on the root's unit, and was listed, and nothing was next before
     next_behind : list_any (is_next_except (turn_heads ws) (served k nodes)) (served k nodes) ≡ false
-    next_behind = next_then k nodes (turn_heads ws)
-        (λ n on now coming hangs. elim (or_cases (same_key n.key k) (list_any (same_key n.key) (turn_heads ws)) (turns.closed n on coming
-        (hangs_more nodes hs (k ∷ turn_heads ws) (λ j i. or_left (same_key j k) (list_any (same_key j) (turn_heads ws))
-        (sym (or_false (same_key j k)) ∙ i)) n hangs))) [
-          | inl own ↦ both_ways (same_key n.key k) own
-              (no_root n on (λ p. list_any (λ (q : Node). is_of p q && list_any (same_key q.head) hs) nodes) hangs)
-          | inr h ↦ h
-        ])
-        (λ n on now next_was. both_ways (list_any (is_next_except (k ∷ []) nodes) nodes)
-        (In-any (is_next_except (k ∷ []) nodes) nodes n on (and_both (is_next_node nodes n) _ next_was
-        (ap not (ap (λ (b : Bool). b || false) (no_root n on (λ p. list_any (is_allocated_node p) nodes) (next_parts nodes n next_was).1)))))
-        u.next)
+    next_behind = grind (arith, In-any, hangs_more, next_parts, next_then, no_root)
 
     -- ---- under way
 
@@ -241,27 +207,26 @@ module _ (t now : Table Node) (us : List Unit) (ss : List Shelf) (e : Entry) (k 
           kept = unit.stored (Some buffers) held ss' kept' found';
           found = subst (λ (x : Shelf). find (λ (y : Shelf). y.id == x.id) ss' ≡ Some x) (sym shelf) found';
           units = unit.units us ss' units';
-          inside = λ key n at. let x = was_there (given_at (k ∷ []) ks) t now given.look key n at in u.store.inside key x.0 x.1;
+          inside = λ key n at. let x = was_there (given_at (k ∷ []) ks) t now given.look key at in u.store.inside key x.0 x.1;
           strong = strong ∙ (u.store.strong ∙ sym (ap strong_count keys_new ∙ times_map is_strong is_strong (f k) nodes (λ m. refl)));
           reserved = reserved ∙ ap reserved_count (sym (given_is k nodes) ∙ sym keys_new);
-          garbage_known = λ h.
-              ap (list_any (over_except new.garbage.items)) keys_new
+          garbage_known = λ h. ap (list_any (over_except new.garbage.items)) keys_new
               ∙ (any_map (over_except new.garbage.items) (over_except new.garbage.items) (f k) nodes (λ m. refl)
               ∙ (ap (λ (ks : List NodeKey). list_any (over_except ks) nodes) garbage ∙ u.store.garbage_known (sym garbage_known ∙ h)));
         };
         bare = λ none.
             let no : Some buffers ≡ None = sym (ap (λ (x : Shelf). x.buffers) shelf) ∙ none in
             absurd (cc);
-        held = subst (λ (ns : List Node). are_held_except [] ns ≡ true) (sym keys_new) (held_then k nodes u.held);
-        next = subst (λ (ns : List Node). list_any (is_next_except (turn_heads ws) ns) ns ≡ false) (sym keys_new) next_behind;
+        held = subst (λ ns. are_held_except [] ns ≡ true) (sym keys_new) (held_then k nodes u.held);
+        next = subst (λ ns. list_any (is_next_except (turn_heads ws) ns) ns ≡ false) (sym keys_new) next_behind;
         root = wait_among (nodes_with now new.keys.items) (turn_heads ws)
-            (subst (λ (ns : List Node). waiting ns ≡ None) (sym keys_new) waits_then);
+            (subst (λ ns. waiting ns ≡ None) (sym keys_new) waits_then);
       }
 
       -- ---- and what follows was made
 
       -- the allocation is the step, and what follows was played out
-      pub rooted_given : (handles : Handles) (end : Table Node) (after : List Unit) (last : Entry) →
+      pub rooted_given : {handles : Handles} {end : Table Node} {after : List Unit} {last : Entry} →
           AfterPropagation handles now end after (put_shelf s' ss) new last → (v : AllocationOutcome) →
           ((c : Collection) → first_made k v c ≡ record {
             id = c.id;
@@ -270,26 +235,19 @@ module _ (t now : Table Node) (us : List Unit) (ss : List Shelf) (e : Entry) (k 
             held = held;
           }) → shelf_then v (shelf_of e) ≡ s' →
           IsRooted handles t end after ss e last k v
-      rooted_given handles end after last played v first_is shelf_is = record {
+      rooted_given {handles} {end} {last} played v first_is shelf_is = record {
         pending = played.pending;
-        under = subst (λ (x : Shelf). MidEvent end after (put_shelf x ss) last [] played.pending) (sym shelf_last) played.led.under;
+        under = rw shelf_last played.led.under;
         shelf = shelf_last ∙ sym shelf_is;
-        leads = λ pool others final settles.
-            subst (λ (c : Collection). Settles pool handles others c final)
-            (ap (collection_in now) shelf ∙ (made_then ∙ sym (first_is (collection_in t (shelf_of e)))))
+        leads = λ pool others final settles. rw
+            (ap (collection_in now) shelf ∙ (made_then ∙ sym (first_is (collection_in t (shelf_of e))))) at
             (played.led.leads pool others final
-            (subst (λ (x : Shelf). Settles pool handles others (collection_in end x) final) played.led.shelf settles));
+            (subst (λ x. Settles pool handles others (collection_in end x) final) played.led.shelf settles));
         beside = record {
-          same = record {
-            first = played.led.beside.same.first ∙ given.same.first;
-            nexts = played.led.beside.same.nexts ∙ given.same.nexts;
-            limit = played.led.beside.same.limit ∙ given.same.limit;
-            len = played.led.beside.same.len ∙ given.same.len;
-          };
-          others = λ x on differ.
-              played.led.beside.others x (in_put s' ss x on differ)
+          same = same_on given.same played.led.beside.same;
+          others = λ x on differ. played.led.beside.others x (in_put s' ss x on differ)
               (λ same. differ (same ∙ ap (λ (y : Shelf). y.id) shelf)) ∙ unit.others x differ
-              (all-In (λ (y : Shelf). list_all (is_filed t y.id) y.keys) ss x on u.store.kept.filed);
+              (all-In _ ss x on u.store.kept.filed);
         };
         out = played.out;
       }

@@ -1,14 +1,9 @@
 -- A root whose unit comes to its allocation, and is lost instead.
-use Rattle.forest_steps.proofs.Common.{◌≡◌, refl, ap, sym, ◌∙◌, subst, Bool, true, false, not, ◌&&◌, ◌||◌, is_none, inl, List, [], ◌∷◌, Option, Some, None, not-true, find, list_all, list_any, option_and_then, option_map_or, NodeKey, Cause, same_key, when, In, In-find, and_left, and_right, all_on, Table, Entry, Node, Unit, is_left_of, waiting, Collection, with_nodes, Shelf, collection_in, nodes_with, put_shelf, shelf_of, is_ready_node, is_root_left, Handles, Settles}
-use Rattle.sm_names.specs.declared.outcomes.Failure.{Failure}
-use Rattle.sm_names.specs.declared.outcomes.Fault.{Fault}
+use Rattle.forest_steps.proofs.Common.{◌≡◌, refl, ap, sym, ◌∙◌, subst, Bool, true, false, not, ◌&&◌, is_none, inl, List, [], ◌∷◌, Option, Some, None, not-true, find, list_all, list_any, option_and_then, option_map_or, NodeKey, Cause, same_key, when, In, In-find, and_left, and_right, all_on, Table, Entry, Node, Unit, waiting, with_nodes, Shelf, collection_in, nodes_with, put_shelf, shelf_of, is_ready_node, is_root_left, Handles, Failure, Fault, after_loss, found_put, left_in, arith}
 use Rattle.forest_steps.specs.declared.initial_allocation.AllocationOutcome.{AllocationOutcome}
-use Rattle.forest_store.specs.Nodes.{after_loss}
 use Rattle.forest_steps.specs.InitialAllocation.{IsComing, IsRooted}
-use Rattle.forest_steps.specs.MidEvent.{MidEvent, AfterRemoval, MayGo, are_held_except, is_held, is_next_except, waits_among}
-use Rattle.forest_store.proofs.changes.Altering.{found_put}
+use Rattle.forest_steps.specs.MidEvent.{MidEvent, AfterRemoval, MayGo, are_held_except, is_next_except, waits_among}
 use Rattle.forest_steps.proofs.failures.AllGone.{AreGone, none_passes}
-use Rattle.forest_store.proofs.tables.Rooted.{left_in}
 use Rattle.forest_steps.proofs.mid_event.Ready.{whole_under}
 use Rattle.forest_steps.proofs.mid_event.Roots.{all_lost}
 
@@ -24,8 +19,8 @@ pub record IsReadyRoot (nodes : List Node) (root : Node) : Type 0 where
   pub ready : list_all (is_ready_node root.key) nodes ≡ true
 
 -- the root that waits is found, and passes each test
-pub ready_root : (nodes : List Node) (root : Node) → waiting nodes ≡ Some root → IsReadyRoot nodes root
-ready_root nodes root waits = from (find is_root_left nodes) refl waits
+pub ready_root : (nodes : List Node) {root : Node} → waiting nodes ≡ Some root → IsReadyRoot nodes root
+ready_root nodes {root} waits = from (find is_root_left nodes) refl waits
   where
     none_is : (o : Option NodeKey) → is_none o ≡ true → o ≡ None
     none_is None h = refl
@@ -42,16 +37,16 @@ ready_root nodes root waits = from (find is_root_left nodes) refl waits
     from (Some r) is h =
         let both = when_some (not r.allocated && list_all (is_ready_node r.key) nodes) r h in
         let found : find is_root_left nodes ≡ Some root = is ∙ ap Some both.1 in
-        let x = In-find is_root_left nodes root found in
+        let x = In-find _ _ _ found in
         record {
           found = found;
           on = x.0;
-          top = none_is root.parent (and_left (is_none root.parent) (not root.gone) x.1);
-          here = not-true root.gone (and_right (is_none root.parent) (not root.gone) x.1);
+          top = none_is root.parent (and_left _ _ x.1);
+          here = not-true _ (and_right _ _ x.1);
           bare = ap (λ (m : Node). m.allocated) (sym both.1)
-              ∙ not-true r.allocated (and_left (not r.allocated) (list_all (is_ready_node r.key) nodes) both.0);
+              ∙ not-true _ (and_left _ _ both.0);
           ready = ap (λ (m : Node). list_all (is_ready_node m.key) nodes) (sym both.1)
-              ∙ and_right (not r.allocated) (list_all (is_ready_node r.key) nodes) both.0;
+              ∙ and_right _ _ both.0;
         }
 
 -- ---- nodes that are all gone
@@ -60,15 +55,11 @@ ready_root nodes root waits = from (find is_root_left nodes) refl waits
 module _ (nodes : List Node) (gone : AreGone nodes) where
   -- a gone head counts as held
   pub gone_held : are_held_except [] nodes ≡ true
-  gone_held = all_on (λ (n : Node). list_any (same_key n.key) [] || is_held nodes n) nodes (λ n on. rw (gone n on) refl)
+  gone_held = all_on _ _ (λ n on. rw (gone n on) refl)
 
   -- a gone head is not next
   pub gone_next : (pending : List NodeKey) → list_any (is_next_except pending nodes) nodes ≡ false
-  gone_next pending = none_passes (is_next_except pending nodes) (λ n e. rw e (by n.attached (not (list_any (same_key n.key) pending)))) nodes gone
-    where
-      by : (a b : Bool) → ((a && false) && b) ≡ false
-      by true b = refl
-      by false b = refl
+  gone_next pending = grind (arith, gone, none_passes)
 
   -- a gone root does not wait
   pub gone_waits : (pending : List NodeKey) → waits_among pending nodes ≡ true
@@ -77,24 +68,24 @@ module _ (nodes : List Node) (gone : AreGone nodes) where
       from : (o : Option Node) → waiting nodes ≡ o → option_map_or (λ (n : Node). list_any (same_key n.key) pending) o true ≡ true
       from None is = refl
       from (Some r) is =
-          let root = ready_root nodes r is in
+          let root = ready_root _ is in
           let no : true ≡ false = sym (gone r root.on) ∙ root.here in
           absurd (cc)
 
 -- in a collection that is gone nothing is loose and nothing is due
-pub all_gone_under : (t : Table Node) (us : List Unit) (ss : List Shelf) (e : Entry) (unheld pending : List NodeKey) →
+pub all_gone_under : {t : Table Node} {us : List Unit} {ss : List Shelf} {e : Entry} {unheld pending : List NodeKey} →
     AreGone (nodes_with t e.keys.items) → MidEvent t us ss e unheld pending → MidEvent t us ss e [] []
-all_gone_under t us ss e unheld pending gone under = record {
+all_gone_under gone under = record {
   store = under.store;
   bare = under.bare;
-  held = gone_held (nodes_with t e.keys.items) gone;
-  next = gone_next (nodes_with t e.keys.items) gone [];
-  root = gone_waits (nodes_with t e.keys.items) gone [];
+  held = gone_held _ gone;
+  next = gone_next _ gone [];
+  root = gone_waits _ gone [];
 }
 
 -- ---- the loss
 
-module _ (t : Table Node) (us : List Unit) (ss : List Shelf) (e : Entry) (head : NodeKey) (why : Failure)
+module _ {t : Table Node} {us : List Unit} {ss : List Shelf} {e : Entry} {head : NodeKey} (why : Failure)
     (under : MidEvent t us ss e [] (head ∷ [])) (coming : IsComing (nodes_with t e.keys.items) head) where
   abbrev nodes : List Node
   nodes = nodes_with t e.keys.items
@@ -104,23 +95,19 @@ module _ (t : Table Node) (us : List Unit) (ss : List Shelf) (e : Entry) (head :
 
   -- the root that waits is left
   root : IsReadyRoot (nodes_with t e.keys.items) coming.root
-  root = ready_root nodes coming.root coming.waits
+  root = ready_root _ coming.waits
 
   -- it may go
   pub root_goes : MayGo (nodes_with t e.keys.items) head (Some (record { cause = Cause.Failed why; origin = head }))
-  root_goes = (
-    subst (λ (k : NodeKey). is_left_of nodes k ≡ true) coming.own (left_in nodes coming.root root.on root.here),
-    refl,
-  )
+  root_goes = grind (arith, left_in, root)
 
-  module _ (handles : Handles) (now : Table Node) (after : List Unit) (new : Entry) (above : Option NodeKey)
+  module _ (handles : Handles) {now : Table Node} {after : List Unit} {new : Entry} {above : Option NodeKey}
       (went : AfterRemoval t now after ss e new head (Some (record { cause = Cause.Failed why; origin = head })) above [] (head ∷ [])) where
     -- the root's loss takes all that is left
     gone : AreGone (nodes_with now e.keys.items)
     gone =
         subst AreGone (sym went.nodes)
-        (all_lost (collection_in t (shelf_of e)) (whole_under t us ss e [] (head ∷ []) under) coming.root root.on root.here root.top fault
-        (sym coming.own))
+        (all_lost (whole_under under) _ root.on root.here root.top _ (sym coming.own))
 
     -- the new entry has the same keys
     gone_new : AreGone (nodes_with now new.keys.items)
@@ -128,24 +115,20 @@ module _ (t : Table Node) (us : List Unit) (ss : List Shelf) (e : Entry) (head :
 
     -- the shelf stands in its place
     same_shelves : put_shelf (shelf_of new) ss ≡ ss
-    same_shelves = found_put (shelf_of new) ss went.under.store.kept.rising went.under.store.found
+    same_shelves = found_put _ ss went.under.store.kept.rising went.under.store.found
 
     -- only the nodes change
     lost_is : with_nodes (after_loss (record { cause = Cause.Failed why; origin = head })) (collection_in t (shelf_of e))
         ≡ collection_in now (shelf_of new)
-    lost_is =
-        (λ i. record (collection_in t (shelf_of e)) { nodes = sym went.nodes i })
-        ∙ ap (collection_in now) (sym went.shelf)
+    lost_is = grind arith
 
     -- all are gone, and no step is left
     pub rooted_lost : IsRooted handles t now after ss e new head (AllocationOutcome.Fails why)
     rooted_lost = record {
       pending = [];
-      under = subst (λ (xs : List Shelf). MidEvent now after xs new [] []) (sym same_shelves)
-          (all_gone_under now after ss new _ (head ∷ []) gone_new went.under);
+      under = rw same_shelves (all_gone_under gone_new went.under);
       shelf = went.shelf;
-      leads = λ pool others last settles.
-          subst (λ (c : Collection). Settles pool handles others c last) (sym lost_is) settles;
+      leads = λ pool others last settles. rw lost_is settles;
       beside = went.beside;
       out = inl refl;
     }

@@ -1,34 +1,17 @@
 -- The root's unit comes to its allocation by an effect, and all that follows is made: the forest then.
-use Rattle.forest_steps.proofs.Common.{◌≡◌, ℕ, refl, ap, sym, ◌∙◌, subst, true, false, inl, inr, List, [], ◌∷◌, ◌++◌, map, get_or, set, Some, None, option_map, find, list_any, sum_by, HeldBuffer, Interval, NodeKey, Demand, forced, In, Table, Change, Effect, Entry, Node, Unit, has_strong, waiting, Collection, with_nodes, Shelf, collection_in, forest_of, nodes_with, place_in, put_shelf, shelf_of, shelves_of, affected, is_deserted_node, reserved_count, Handles, Settles, collection_or_new, put, standing}
-use Rattle.std.proofs.lemmas.List.{get_or-set_same}
-use Rattle.sm_names.specs.Marks.{Mark}
-use Rattle.sm_names.specs.Words.{sorted_by}
-use Rattle.buffer_pool.specs.Holdings.{Holdings}
+use Rattle.forest_steps.proofs.Common.{◌≡◌, ℕ, refl, ap, sym, ◌∙◌, subst, true, false, inl, inr, List, [], ◌∷◌, ◌++◌, map, get_or, set, Some, None, option_map, find, list_any, sum_by, HeldBuffer, Interval, NodeKey, Demand, forced, In, Table, Change, Effect, Entry, Node, Unit, has_strong, waiting, Collection, with_nodes, Shelf, collection_in, forest_of, nodes_with, place_in, put_shelf, shelf_of, shelves_of, affected, is_deserted_node, reserved_count, Handles, collection_or_new, put, standing, get_or-set_same, Mark, sorted_by, Holdings, first_step, mark_of, wanted_by, IsPoolOf, all_held, beside, pages_in, IsOpen, Finishes, after_allocation, IsOutcomeIn, IsReady, IsSettledIn, changed_in, starts_differ, by_page, asked_with, Forces, changed, made, no_key, forced_made, start_of, counted_but, shelves_put, IsPlace, place_is, set_put, arith}
 use Rattle.forest_steps.specs.declared.initial_allocation.Plan.{Plan}
 use Rattle.forest_steps.specs.declared.initial_allocation.AllocationOutcome.{AllocationOutcome}
-use Rattle.forest_store.specs.Calm.{AreCountedExcept, put_in}
+use Rattle.forest_store.specs.Calm.{put_in}
 use Rattle.forest_steps.specs.EventEnd.{Closes, MayClose}
-use Rattle.forest_store.specs.Decisions.{first_step, mark_of, wanted_by}
-use Rattle.forest_store.specs.Forest.{IsPoolOf, all_held, beside, pages_in}
-use Rattle.forest_store.specs.Unforced.{IsOpen}
-use Rattle.forest_store.specs.Shelves.{Finishes}
-use Rattle.forest_store.specs.Nodes.{after_allocation}
-use Rattle.forest_store.specs.Outcomes.{IsOutcomeIn, IsReady, IsSettledIn, changed_in}
-use Rattle.forest_store.specs.Starts.{starts_differ}
 use Rattle.forest_steps.specs.InitialAllocation.{IsComing, IsPlanned, IsReservedThen, IsRooted, IsAllocationOutcome, comes_first, first_made, shelf_then, wants_of}
-use Rattle.forest_store.specs.Scenes.{by_page, pages_held}
-use Rattle.forest_store.specs.UnitAllocation.{asked_with}
-use Rattle.forest_store.specs.Settling.{Forces, changed, made, no_key}
 use Rattle.forest_steps.specs.MidEvent.{AfterEffect, IsBeside, MidEvent, Reaches, are_held_except, holds_unit}
-use Rattle.forest_store.proofs.quiescence.Forcing.{forced_made}
 use Rattle.forest_store.proofs.changes.Opening.{opens_at}
 use Rattle.forest_steps.proofs.changes.Dropped.{pool_at}
 use Rattle.forest_steps.proofs.changes.FirstAllocated.{put_there}
 use Rattle.forest_steps.proofs.intervals.Pools.{pool_back}
-use Rattle.forest_store.proofs.lists.SameIntervals.{start_of}
+use Rattle.forest_steps.proofs.tables.Rows.{same_on}
 use Rattle.forest_steps.proofs.allocation.Between.{StandsIn, stands_in}
-use Rattle.forest_store.proofs.shelves.Counted.{counted_but, shelves_put}
-use Rattle.forest_store.proofs.shelves.Entries.{IsPlace, place_is, set_put}
 use Rattle.forest_steps.proofs.mid_event.Joining.{but_beside, but_set, here_is, joined, place_set}
 use Rattle.forest_steps.proofs.mid_event.Ready.{no_end_under}
 use Rattle.forest_steps.proofs.mid_event.RootAsks.{reserved_alone, wanted_then}
@@ -48,21 +31,21 @@ then_held head (AllocationOutcome.Fails why) s c same = same
 then_held head (AllocationOutcome.Given buffers held) s c same = refl
 
 -- where it does not come to its allocation, it does not wait, if something holds each unit
-pub waits_not : (t : Table Node) (es : List Entry) (id at : ℕ) (old : Entry) → place_in id es ≡ Some at → old ≡ get_or es at old →
-    (us : List Unit) (key : NodeKey) (effect : Effect) → IsReady t es us id (Change.Effect key effect) →
+pub waits_not : {t : Table Node} {es : List Entry} {id at : ℕ} (old : Entry) → place_in id es ≡ Some at → old ≡ get_or es at old →
+    {us : List Unit} (key : NodeKey) (effect : Effect) → IsReady t es us id (Change.Effect key effect) →
     comes_first t us key effect ≡ false →
     are_held_except [] (map (affected key effect) (nodes_with t old.keys.items)) ≡ true →
     waiting (map (affected key effect) (nodes_with t old.keys.items)) ≡ None
-waits_not t es id at old told is us key effect ready none held =
-    let x = node_there t (shelves_of es) ready.kept id key ready.change.named in
-    none_waits_held t us key effect x.0 x.1 (shelves_of es) (shelf_of old) old.strong
-    (opens_at t es id at old (place_is id es at told) is ready.kept ready.counted us ready.units (Change.Effect key effect) ready.change)
+waits_not {t} {es} {id} {at} old told is {us} key effect ready none held =
+    let x = node_there ready.kept id key ready.change.named in
+    none_waits_held key _ x.1
+    (opens_at t es id at old (place_is id es at told) is ready.kept ready.counted us ready.units _ ready.change)
     none held
 
-module _ (handles : Handles) (t : Table Node) (es : List Entry) (id at : ℕ) (old : Entry) (told : place_in id es ≡ Some at)
-    (is : old ≡ get_or es at old) (us : List Unit) (key : NodeKey) (effect : Effect) (ready : IsReady t es us id (Change.Effect key effect))
-    (under : MidEvent t us (shelves_of es) old [] []) (plan : Plan) (planned : IsPlanned t us old key effect plan)
-    (comes : comes_first t us key effect ≡ true) (now : Table Node) (after : List Unit) (mid : Entry)
+module _ (handles : Handles) {t : Table Node} {es : List Entry} {id at : ℕ} {old : Entry} (told : place_in id es ≡ Some at)
+    (is : old ≡ get_or es at old) {us : List Unit} {key : NodeKey} {effect : Effect} (ready : IsReady t es us id (Change.Effect key effect))
+    (under : MidEvent t us (shelves_of es) old [] []) {plan : Plan} (planned : IsPlanned t us old key effect plan)
+    (comes : comes_first t us key effect ≡ true) {now : Table Node} {after : List Unit} {mid : Entry}
     (affects : AfterEffect t now after (shelves_of es) old mid key effect planned.node.head) where
   abbrev ss : List Shelf
   ss = shelves_of es
@@ -87,11 +70,11 @@ module _ (handles : Handles) (t : Table Node) (es : List Entry) (id at : ℕ) (o
 
   -- the change may be made, and the entry is counted
   opens : IsOpen t us (shelves_of es) (shelf_of old) (Change.Effect key effect) old.strong
-  opens = opens_at t es id at old place is ready.kept ready.counted us ready.units (Change.Effect key effect) ready.change
+  opens = opens_at t es id at old place is ready.kept ready.counted us ready.units _ ready.change
 
   -- the node and its head stand in the collection
   stands : StandsIn t us (shelf_of old) key effect planned.node
-  stands = stands_in t us key effect n planned.was ss (shelf_of old) old.strong opens
+  stands = stands_in key _ planned.was opens
 
   -- the same nodes, by the same keys
   nodes_mid : nodes_with now mid.keys.items ≡ map (affected key effect) (nodes_with t old.keys.items)
@@ -103,29 +86,28 @@ module _ (handles : Handles) (t : Table Node) (es : List Entry) (id at : ℕ) (o
 
   -- the plan comes only where something holds the unit
   held1 : list_any (holds_unit nodes1 n.head) nodes1 ≡ true
-  held1 = comes_held t us key effect n planned.was ss (shelf_of old) old.strong opens comes
+  held1 = comes_held key _ planned.was opens comes
 
   -- the plan comes only where the head has no buffers
   bare1 : (h : Node) → In h (nodes_with t old.keys.items) → h.key ≡ planned.node.head → h.allocated ≡ false
-  bare1 = comes_bare t us key effect n planned.was ss (shelf_of old) old.strong opens comes
+  bare1 = comes_bare key _ planned.was opens comes
 
   -- the plan comes only where the unit waits for no node
   coming1 : IsComing (map (affected key effect) (nodes_with t old.keys.items)) planned.node.head
-  coming1 = comes_coming t us key effect n planned.was ss (shelf_of old) old.strong opens comes
+  coming1 = comes_coming key _ planned.was opens comes
 
   -- something holds the root's unit, which waits
   under1 : MidEvent now after (shelves_of es) mid [] (planned.node.head ∷ [])
-  under1 = under_held now after ss mid n.head [] (n.head ∷ [])
-      (subst (λ (ns : List Node). list_any (holds_unit ns n.head) ns ≡ true) (sym nodes_mid) held1) affects.under
+  under1 = under_held []
+      (rw nodes_mid held1) affects.under
 
   -- the plan is of the node's unit
   pub under_mid : MidEvent now after (shelves_of es) mid [] (plan.head ∷ [])
-  under_mid = subst (λ (k : NodeKey). MidEvent now after (shelves_of es) mid [] (k ∷ [])) (sym planned.head_is) under1
+  under_mid = rw planned.head_is under1
 
   -- the plan is of the node's unit, in the new table
   pub coming_mid : IsComing (nodes_with now mid.keys.items) plan.head
-  coming_mid = subst (λ (k : NodeKey). IsComing (nodes_with now mid.keys.items) k) (sym planned.head_is)
-      (subst (λ (ns : List Node). IsComing ns n.head) (sym nodes_mid) coming1)
+  coming_mid = rw planned.head_is (rw nodes_mid coming1)
 
   -- none was reserved before, or all was counted
   reserved1 : plan.reserved ≡ reserved_count (after_allocation planned.node.head nodes1)
@@ -135,10 +117,9 @@ module _ (handles : Handles) (t : Table Node) (es : List Entry) (id at : ℕ) (o
           (sum_by (λ (d : Demand). d.camping) (asked_with t planned.keys (n.head ∷ []) (affected key effect n))) plan.reserved →
           plan.reserved ≡ reserved_count (after_allocation planned.node.head nodes1)
       from (inl alone) =
-          alone.1
-          ∙ reserved_alone t us key effect n planned.was ss (shelf_of old) old.strong opens under.store.kept.kin bare1 planned.keys planned.listed
+          alone.1 ∙ reserved_alone key effect planned.was opens under.store.kept.kin bare1 planned.listed
           (sym under.store.reserved ∙ alone.0)
-      from (inr all) = all ∙ reserved_then t us key effect n planned.was ss (shelf_of old) old.strong opens
+      from (inr all) = all ∙ reserved_then key effect planned.was opens
 
   -- the same, in the new table
   pub reserved_mid : plan.reserved ≡ reserved_count (after_allocation plan.head (nodes_with now mid.keys.items))
@@ -146,19 +127,19 @@ module _ (handles : Handles) (t : Table Node) (es : List Entry) (id at : ℕ) (o
 
   -- no unit is loose then
   no_end1 : find (is_deserted_node nodes1) nodes1 ≡ None
-  no_end1 = subst (λ (ns : List Node). find (is_deserted_node ns) ns ≡ None) nodes_mid (no_end_under now after ss mid (n.head ∷ []) under1)
+  no_end1 = rw nodes_mid at (no_end_under under1)
 
   -- the plan counts the strong nodes and the demands with the effect
   wants_are : plan.wants ≡ wants_of (has_strong nodes1) (wanted_by n.head nodes1)
   wants_are =
       planned.wants_is
-      ∙ ((λ i. wants_of (strong_then t us key effect n planned.was ss (shelf_of old) old.strong opens i)
-      (wanted_then t us key effect n planned.was ss (shelf_of old) old.strong opens under.store.kept.kin bare1 planned.keys planned.listed i)))
+      ∙ ((λ i. wants_of (strong_then key effect planned.was opens i)
+      (wanted_then key effect planned.was opens under.store.kept.kin bare1 planned.listed i)))
 
   module _ (before between : Holdings) (verdict : AllocationOutcome) (found : IsAllocationOutcome before between id old.held.items plan.wants verdict) where
     module _ (parted : starts_differ before.held ≡ true)
         (of : before.held ≡ sorted_by start_of (map (λ (h : HeldBuffer). h.pages) (all_held (forest_of t (shelves_of es)))))
-        (then : Table Node) (units : List Unit) (new : Entry)
+        {then : Table Node} {units : List Unit} {new : Entry}
         (rooted : IsRooted handles now then units (shelves_of es) mid new plan.head verdict) where
       abbrev others : List Interval
       others = beside (forest_of t (shelves_of es)) old.id
@@ -171,27 +152,25 @@ module _ (handles : Handles) (t : Table Node) (es : List Entry) (id at : ℕ) (o
 
       -- the pool holds the buffers of all collections
       beside_is : before.held ≡ by_page (pages_in c1 ++ others)
-      beside_is = pool_at handles t es id at old told is ready.kept ready.counted before.held parted of
+      beside_is = pool_at handles es id old told is ready.kept ready.counted _ parted of
 
       -- the verdict is what the step makes
       step : (made before.size others mark c1 ≡ first_made n.head verdict c1)
           × (between.held ≡ by_page (pages_in (first_made n.head verdict c1) ++ others))
-      step = step_made c1 stands.sound n.head coming1 no_end1 before between others beside_is plan.wants wants_are verdict
-          (subst (λ (i : ℕ). IsAllocationOutcome before between i old.held.items plan.wants verdict) (sym own_id) found)
+      step = step_made stands.sound coming1 no_end1 before between others beside_is plan.wants wants_are verdict
+          (subst (λ i. IsAllocationOutcome before between i old.held.items plan.wants verdict) (sym own_id) found)
 
       -- what is decided is what is forced
       forces : forced before.size (standing handles others c1) ≡ Some mark
       forces =
-          forced_made handles before.size others c1
-          ∙ ap (option_map (mark_of before.size (pages_in c1 ++ others)))
-          (coming_decided nodes1 old.buffers (standing handles others c1).strong_open n.head coming1 no_end1)
+          forced_made handles _ others c1 ∙ ap (option_map (mark_of before.size (pages_in c1 ++ others)))
+          (coming_decided _ _ coming1 no_end1)
 
       -- wherever what follows leads, the effect leads
       leads : Reaches before.size handles (beside (forest_of t (shelves_of es)) old.id) c1 (collection_in then (shelf_of new))
       leads last settles =
           Forces c1 last mark forces
-          (subst (λ (c : Collection). Settles before.size handles others c last)
-          ((λ i. first_made (planned.head_is i) verdict (is_mid i)) ∙ sym step.0)
+          (rw ((λ i. first_made (planned.head_is i) verdict (is_mid i)) ∙ sym step.0) at
           (rooted.leads before.size others last settles))
 
       -- ---- the shelves
@@ -202,11 +181,11 @@ module _ (handles : Handles) (t : Table Node) (es : List Entry) (id at : ℕ) (o
 
       -- no verdict changes the id
       id_new : new.id ≡ old.id
-      id_new = ap (λ (s : Shelf). s.id) shelf_new ∙ then_id verdict (shelf_of old)
+      id_new = ap (λ (s : Shelf). s.id) shelf_new ∙ then_id _ _
 
       -- the entry is set at the place of its id
       put_at : set es at new ≡ put_in new es
-      put_at = set_put new es at ready.kept.rising (subst (λ (i : ℕ). place_in i es ≡ Some at) (sym (id_new ∙ own_id)) told)
+      put_at = set_put new es at ready.kept.rising (rw (id_new ∙ own_id) told)
 
       -- so its shelf is put among the others
       shelves_are : shelves_of (set es at new) ≡ put_shelf (shelf_of new) (shelves_of es)
@@ -215,12 +194,7 @@ module _ (handles : Handles) (t : Table Node) (es : List Entry) (id at : ℕ) (o
       -- one after the other
       by : IsBeside t then (shelves_of es) old.id
       by = record {
-        same = record {
-          first = rooted.beside.same.first ∙ affects.beside.same.first;
-          nexts = rooted.beside.same.nexts ∙ affects.beside.same.nexts;
-          limit = rooted.beside.same.limit ∙ affects.beside.same.limit;
-          len = rooted.beside.same.len ∙ affects.beside.same.len;
-        };
+        same = same_on affects.beside.same rooted.beside.same;
         others = λ x on differ.
             rooted.beside.others x on (λ same. differ (same ∙ ap (λ (s : Shelf). s.id) affects.shelf)) ∙ affects.beside.others x on differ;
       }
@@ -245,11 +219,11 @@ module _ (handles : Handles) (t : Table Node) (es : List Entry) (id at : ℕ) (o
 
       -- the same with its own id
       told_own : place_in new.id (set es at new) ≡ Some at
-      told_own = subst (λ (i : ℕ). place_in i (set es at new) ≡ Some at) (sym (id_new ∙ own_id)) told_new
+      told_own = subst (λ i. place_in i (set es at new) ≡ Some at) (sym (id_new ∙ own_id)) told_new
 
       -- the list of shelves is the one with the new shelf
       under_then : MidEvent then units (shelves_of (set es at new)) new [] rooted.pending
-      under_then = subst (λ (xs : List Shelf). MidEvent then units xs new [] rooted.pending) (sym shelves_are) rooted.under
+      under_then = rw shelves_are rooted.under
 
       -- ---- what comes last may be made
 
@@ -262,55 +236,41 @@ module _ (handles : Handles) (t : Table Node) (es : List Entry) (id at : ℕ) (o
         place = told_own;
         under = under_then;
         out = rooted.out;
-        others = but_set then new.id at es new refl
-            (subst (λ (i : ℕ). AreCountedExcept then i es) (sym id_new)
-            (but_beside t then old.id es by (counted_but t old.id es ready.counted)));
+        others = but_set _ _ at es new refl (rw id_new (but_beside es by (counted_but t _ es ready.counted)));
       }
 
       -- the pool holds what the step left it
       held_new : between.held ≡ by_page (pages_in (collection_in then (shelf_of new)) ++ beside (forest_of t (shelves_of es)) new.id)
-      held_new =
-          step.1
-          ∙ (ap (λ (hs : List HeldBuffer). by_page (pages_held hs ++ others))
-          (then_held n.head verdict (shelf_of old) c1 refl ∙ ap (λ (s : Shelf). s.held) (sym shelf_new))
-          ∙ ap (λ (i : ℕ). by_page (pages_held new.held.items ++ beside (forest_of t (shelves_of es)) i)) (sym id_new))
+      held_new = grind (arith, id_new, shelf_new, step, then_held)
 
       -- so it holds the buffers of all collections
       pub pool_then : starts_differ between.held ≡ true → IsPoolOf between (forest_of then (shelves_of (set es at new)))
       pool_then parted' =
-          pool_back between.held t then (collection_in then (shelf_of new)) (shelf_of new) ss ready.kept.rising put_is parted' held_new
-          ∙ ap (λ (xs : List Shelf). sorted_by start_of (map (λ (h : HeldBuffer). h.pages) (all_held (forest_of then xs))))
+          pool_back _ t then _ _ ss ready.kept.rising put_is parted' held_new
+          ∙ ap (λ xs. sorted_by start_of (map (λ (h : HeldBuffer). h.pages) (all_held (forest_of then xs))))
           (sym shelves_are)
 
       -- ---- and all was made
 
-      module _ (last : Table Node) (behind : List Entry) (left : List Unit) (pool : Holdings)
+      module _ {last : Table Node} {behind : List Entry} {left : List Unit} {pool : Holdings}
           (closes : Closes handles between pool then last (set es at new) behind left id) (size1 : between.size ≡ before.size)
           (size2 : pool.size ≡ between.size) where
         -- the collection is there, so the change maps its nodes
         change_is : changed_in t es id (Change.Effect key effect) ≡ c1
-        change_is =
-            ap (changed (Change.Effect key effect) no_key)
-            (here_is t es id at old told is)
+        change_is = ap (changed (Change.Effect key effect) no_key) (here_is t es id old told is)
 
         -- the collection is found at its place
         then_is : collection_or_new (forest_of then (shelves_of (set es at new))) id ≡ collection_in then (shelf_of new)
-        then_is =
-            here_is then es2 id at new told_new (sym is_new)
+        then_is = here_is then es2 id new told_new (sym is_new)
 
         -- the closing finishes from there
         rest : Finishes before.size handles then (shelves_of (set es at new)) last (shelves_of behind) (collection_in then (shelf_of new))
-        rest =
-            subst (λ (c : Collection). Finishes before.size handles then (shelves_of es2) last (shelves_of behind) c) then_is
-            (subst (λ (size : ℕ). Finishes size handles then (shelves_of es2) last (shelves_of behind)
-            (changed_in then es2 id Change.Nothing)) size1 closes.settled.finishes)
+        rest = rw then_is at (rw size1 at closes.settled.finishes)
 
         -- the step and the closing are all that is forced
         settled : IsSettledIn handles before pool t last es behind id (Change.Effect key effect)
         settled = record {
-          finishes = subst (λ (c : Collection). Finishes before.size handles t ss last (shelves_of behind) c) (sym change_is)
-              (joined before.size handles t then last ss (shelves_of es2) (shelves_of behind) c1 (collection_in then (shelf_of new)) id_new
-              collections_are leads rest);
+          finishes = rw change_is (joined t ss c1 id_new collections_are leads rest);
           kept = closes.settled.kept;
           counted = closes.settled.counted;
           holds = closes.settled.holds;
@@ -322,11 +282,6 @@ module _ (handles : Handles) (t : Table Node) (es : List Entry) (id at : ℕ) (o
           settled = λ h. settled;
           unchanged = λ h. cc;
           same_pool = λ h. cc;
-          same = record {
-            first = closes.same.first ∙ by.same.first;
-            nexts = closes.same.nexts ∙ by.same.nexts;
-            limit = closes.same.limit ∙ by.same.limit;
-            len = closes.same.len ∙ by.same.len;
-          };
+          same = same_on by.same closes.same;
           size = size2 ∙ size1;
         }

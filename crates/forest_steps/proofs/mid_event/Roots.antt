@@ -1,61 +1,41 @@
 -- The root of a collection: what its loss takes, and that it is lost where the buffers are abandoned.
-use Rattle.forest_steps.proofs.Common.{◌≡◌, refl, ap, sym, ◌∙◌, subst, Bool, true, false, not, ◌&&◌, inl, inr, List, [], ◌∷◌, reverse, Option, Some, None, is_none, not-true, find, list_any, option_map_or, option_and_then, NodeKey, Buffers, Cause, same_key, when, In, In-map, and_left, and_right, either_way, or_left, or_right, Table, node_at, Node, has_strong, waiting, Collection, IsWhole, nodes_with, members_of, is_deserted_node, is_root_left}
-use Rattle.std.specs.Option.{option_map}
-use Rattle.sm_names.specs.declared.outcomes.Fault.{Fault}
-use Rattle.sm_names.specs.Changes.{blocks, highest}
-use Rattle.sm_names.specs.Losses.{top}
-use Rattle.sm_names.specs.Members.{Member, is_under}
-use Rattle.sm_names.specs.Words.{first_some}
-use Rattle.sm_names.proofs.ListLaws.{In-reverse, In-reverse-back}
-use Rattle.forest_store.specs.Decisions.{Decision, Ends, Loses, decided, first_step}
-use Rattle.forest_store.specs.Dropped.{has_given_root}
-use Rattle.forest_store.specs.Nodes.{above_among, after_loss, is_taken, lost, member_of}
-use Rattle.forest_store.specs.Questions.{is_below}
-use Rattle.forest_store.proofs.quiescence.Calming.{later}
-use Rattle.forest_store.proofs.quiescence.Steps.{found_by_key}
+use Rattle.forest_steps.proofs.Common.{◌≡◌, refl, ap, sym, ◌∙◌, subst, Bool, true, false, ◌&&◌, inl, inr, List, [], ◌∷◌, reverse, Option, Some, None, not-true, find, option_map_or, NodeKey, Buffers, Cause, In, In-map, and_left, and_right, either_way, or_left, or_right, Table, node_at, Node, has_strong, Collection, IsWhole, nodes_with, is_deserted_node, is_root_left, Fault, In-reverse, In-reverse-back, Loses, decided, has_given_root, above_among, after_loss, is_taken, is_below, found_by_key, left_in, arith}
+use Rattle.forest_steps.proofs.tables.Upward.{below_parent, below_self, chain, up}
 use Rattle.forest_steps.proofs.failures.AllGone.{AreGone, all_hang, one_root}
 use Rattle.forest_store.proofs.tables.Chains.{one_line}
-use Rattle.forest_store.proofs.tables.Rooted.{left_in}
-use Rattle.forest_store.proofs.tallies.Holding.{below_parent, below_self, chain, up}
 
 -- ---- what its loss takes
 
-module _ (c : Collection) (whole : IsWhole c) (r : Node) (on : In r c.nodes) (here : r.gone ≡ false) (root : r.parent ≡ None) where
+module _ {c : Collection} (whole : IsWhole c) (r : Node) (on : In r c.nodes) (here : r.gone ≡ false) (root : r.parent ≡ None) where
   -- nothing lies above it
   no_line : above_among (reverse c.nodes) r.key ≡ []
   no_line =
-      one_line (up c.nodes whole.sound.distinct whole.sound.heads whole.rooted whole.united) r.key (above_among (reverse c.nodes) r.key) []
-      (chain c.nodes whole.sound.distinct whole.sound.heads whole.rooted whole.united r.key (left_in c.nodes r on here))
-      (ap (λ (o : Option Node). option_map_or (λ (m : Node). m.parent) o None) (found_by_key c.nodes r whole.sound.distinct on) ∙ root)
+      one_line (up whole) r.key _ []
+      (chain whole r.key (left_in _ r on here))
+      (ap (λ o. option_map_or (λ (m : Node). m.parent) o None) (found_by_key _ r whole.sound.distinct on) ∙ root)
 
   -- the root is the highest of what its loss takes
   taken_below : (n : Node) → is_taken c.nodes r.key n ≡ is_below c.nodes r.key n.key
-  taken_below n =
-      ap (λ (o : Option Node). option_map_or (λ (x : Node).
-      is_under (highest (members_of c.nodes) (member_of c.nodes x)) (member_of c.nodes n)) o false)
-      (found_by_key c.nodes r whole.sound.distinct on)
-      ∙ ap (λ (ks : List NodeKey). is_below c.nodes (top (λ key. list_any (λ (m : Member). same_key m.key key && blocks m)
-      (members_of c.nodes)) r.key ks) n.key) no_line
+  taken_below n = grind (arith, found_by_key, no_line)
 
   -- all that is left lies below it
   below_root : (n : Node) → In n c.nodes → n.gone ≡ false → is_below c.nodes r.key n.key ≡ true
   below_root n there stays =
-      all_hang (λ (x : Node). is_below c.nodes r.key x.key ≡ true) c.nodes
+      all_hang _ c.nodes
       (λ x in_nodes left none. subst (λ (y : Node). is_below c.nodes r.key y.key ≡ true)
-      (one_root c.nodes whole.sound.one_root r x on in_nodes root none)
-      (below_self c.nodes whole.sound.distinct whole.sound.heads whole.rooted whole.united r.key))
+      (one_root _ whole.sound.one_root r x on in_nodes root none)
+      (below_self whole r.key))
       (λ p x in_nodes left above under.
-      below_parent c.nodes whole.sound.distinct whole.sound.heads whole.rooted whole.united r.key x in_nodes left p.key above under)
-      (reverse c.nodes) (λ x in_nodes. In-reverse c.nodes x in_nodes) whole.rooted n (In-reverse-back c.nodes n there) stays
+      below_parent whole _ x in_nodes left above under)
+      _ (λ x in_nodes. In-reverse _ x in_nodes) whole.rooted n (In-reverse-back _ n there) stays
 
   -- so all are gone once it is lost
   pub all_lost : (fault : Fault) → fault.origin ≡ r.key → AreGone (after_loss fault c.nodes)
   all_lost fault begins n there =
-      let x = In-map (lost (is_taken c.nodes fault.origin) fault) c.nodes n there in
+      let x = In-map _ _ n there in
       ap (λ (m : Node). m.gone) x.2 ∙ elim (either_way x.0.gone) [
-        | inl e ↦ or_right (is_taken c.nodes fault.origin x.0) x.0.gone e
-        | inr e ↦ or_left (is_taken c.nodes fault.origin x.0) x.0.gone
-            (ap (λ (k : NodeKey). is_taken c.nodes k x.0) begins ∙ taken_below x.0 ∙ below_root x.0 x.1 e)
+        | inl e ↦ or_right _ _ e
+        | inr e ↦ or_left _ _ (ap (λ k. is_taken c.nodes k x.0) begins ∙ taken_below x.0 ∙ below_root x.0 x.1 e)
       ]
 
 -- ---- where it is
@@ -81,13 +61,13 @@ given_root t named (k ∷ ks) given = from (node_at t k) refl given
     from (Some n) is h = record {
       node = n;
       rest = ks;
-      keys_are = ap (λ (x : NodeKey). x ∷ ks) (sym (named k n is));
+      keys_are = ap (λ x. x ∷ ks) (sym (named k n is));
       there = ap (node_at t) (named k n is) ∙ is;
-      left = and_left (is_root_left n) n.allocated h;
-      allocated = and_right (is_root_left n) n.allocated h;
+      left = and_left _ _ h;
+      allocated = and_right _ _ h;
     }
 
-module _ (t : Table Node) (keys : List NodeKey) (r : IsGivenRoot t keys) where
+module _ {t : Table Node} {keys : List NodeKey} (r : IsGivenRoot t keys) where
   -- the root's key is the first
   nodes_are : nodes_with t keys ≡ r.node ∷ nodes_with t r.rest
   nodes_are = ap (nodes_with t) r.keys_are ∙ rw r.there refl
@@ -98,15 +78,11 @@ module _ (t : Table Node) (keys : List NodeKey) (r : IsGivenRoot t keys) where
 
   -- the root is left
   pub root_here : r.node.gone ≡ false
-  root_here = not-true r.node.gone (and_right (is_none r.node.parent) (not r.node.gone) r.left)
+  root_here = not-true _ (and_right _ _ r.left)
 
   -- the root has no parent
   pub root_top : r.node.parent ≡ None
-  root_top = from r.node.parent (and_left (is_none r.node.parent) (not r.node.gone) r.left)
-    where
-      from : (o : Option NodeKey) → is_none o ≡ true → o ≡ None
-      from None h = refl
-      from (Some p) h = cc
+  root_top = grind arith
 
   -- the first node passes
   root_found : find is_root_left (nodes_with t keys) ≡ Some r.node
@@ -116,15 +92,4 @@ module _ (t : Table Node) (keys : List NodeKey) (r : IsGivenRoot t keys) where
   pub root_decided : (buffers : Option Buffers) (strong_open : Bool) → find (is_deserted_node (nodes_with t keys)) (nodes_with t keys)
       ≡ None → has_strong (nodes_with t keys) ≡ false → strong_open ≡ false →
       decided (nodes_with t keys) buffers strong_open ≡ Some (Loses r.node.key Cause.NoStrong)
-  root_decided buffers strong_open no_end weak shut =
-      second (option_map (λ (n : Node). Ends n.key) (find (is_deserted_node (nodes_with t keys)) (nodes_with t keys)))
-      (option_and_then (λ (root : Node). when (root.allocated && (not (has_strong (nodes_with t keys)) && not strong_open))
-      (Loses root.key Cause.NoStrong)) (find is_root_left (nodes_with t keys)))
-      (option_map (λ (n : Node). first_step (nodes_with t keys) n.key) (waiting (nodes_with t keys)))
-      (later (nodes_with t keys) buffers) (Loses r.node.key Cause.NoStrong)
-      (ap (option_map (λ (n : Node). Ends n.key)) no_end)
-      (ap (option_and_then (λ (root : Node). when (root.allocated && (not (has_strong (nodes_with t keys)) && not strong_open))
-      (Loses root.key Cause.NoStrong))) root_found ∙ rw (r.allocated, weak, shut) refl)
-    where
-      second : (a b c d : Option Decision) (step : Decision) → a ≡ None → b ≡ Some step → first_some (a ∷ b ∷ c ∷ d ∷ []) ≡ Some step
-      second a b c d step none is = rw (none, is) refl
+  root_decided buffers strong_open no_end weak shut = grind (arith, root_found)

@@ -1,21 +1,13 @@
 -- Steps that were made from a collection to which a change was made, joined to the whole event.
-use Rattle.forest_steps.proofs.Common.{◌≡◌, ℕ, zero, suc, ◌<◌, ◌==◌, length, arith, true, false, not, ◌&&◌, refl, ap, sym, subst, ◌∙◌, List, [], ◌∷◌, ◌++◌, map, set, get_or, is_some, Option, Some, None, option_map, eqb-true, false≢true, not-true, option_map_or, and_left, and_right, HeldBuffer, NodeKey, Interval, Table, node_at, Change, Entry, Node, Unit, Collection, IsStored, Shelf, collection_in, forest_of, place_in, shelf_of, shelves_of, Handles}
+use Rattle.forest_steps.proofs.Common.{◌≡◌, ℕ, zero, suc, ◌<◌, length, arith, true, false, refl, ap, subst, ◌∙◌, List, [], ◌∷◌, ◌++◌, map, set, get_or, Option, Some, None, HeldBuffer, NodeKey, Interval, Table, node_at, Change, Entry, Node, Unit, IsStored, Shelf, collection_in, forest_of, place_in, shelf_of, shelves_of, Handles, sorted_by, Holdings, row_at, AreCountedExcept, IsPoolOf, all_held, beside, IsOutcomeIn, IsReady, changed_in, given_few, changed, is_birth, no_key, found_whole, counted_but, place_is, shelf_found}
 use Rattle.std.proofs.Common.{IsSome}
-use Rattle.sm_names.specs.Words.{sorted_by}
-use Rattle.buffer_pool.specs.Holdings.{Holdings}
-use Rattle.node_table.specs.Table.{Row, row_at}
-use Rattle.forest_store.specs.Calm.{AreCountedExcept}
 use Rattle.forest_steps.specs.EventEnd.{Closes, MayClose}
-use Rattle.forest_store.specs.Forest.{IsPoolOf, all_held, beside, node_at as forest_node}
 use Rattle.forest_store.specs.Given.{IsServedByGiven}
-use Rattle.forest_store.specs.Outcomes.{IsOutcomeIn, IsReady, IsSettledIn, changed_in}
-use Rattle.forest_store.specs.Scenes.{given_few}
-use Rattle.forest_store.specs.Settling.{changed, is_birth, is_there as is_there_in, no_key}
-use Rattle.forest_steps.specs.MidEvent.{IsBeside, PropagatedFrom, MidEvent, Reaches}
-use Rattle.forest_store.proofs.changes.Altering.{change_kept, found_whole}
-use Rattle.forest_store.proofs.shelves.Counted.{counted_but}
-use Rattle.forest_store.proofs.shelves.Entries.{none_in, place_is}
-use Rattle.forest_store.proofs.shelves.Showing.{node_is, shelf_found}
+use Rattle.forest_store.specs.Settling.{is_there as is_there_in}
+use Rattle.forest_steps.specs.MidEvent.{PropagatedFrom, MidEvent, Reaches}
+use Rattle.forest_store.proofs.changes.Altering.{change_kept}
+use Rattle.forest_store.proofs.shelves.Entries.{none_in}
+use Rattle.forest_store.proofs.shelves.Showing.{node_is}
 use Rattle.forest_steps.proofs.mid_event.GivenKept.{given_at}
 use Rattle.forest_steps.proofs.mid_event.Joining.{here_is, may_close, outcome_on, place_set, shelves_stay}
 use Rattle.forest_steps.proofs.mid_event.Premises.{inside_of}
@@ -24,19 +16,17 @@ use Rattle.forest_steps.proofs.mid_event.Ready.{ready_close, ready_under}
 -- the pages of the same shelves are the same, whatever the nodes
 held_same : (t now : Table Node) (ss : List Shelf) → all_held (forest_of t ss) ≡ all_held (forest_of now ss)
 held_same t now [] = refl
-held_same t now (s ∷ ss) = ap (λ (hs : List HeldBuffer). s.held ++ hs) (held_same t now ss)
+held_same t now (s ∷ ss) = ap (λ hs. s.held ++ hs) (held_same t now ss)
 
 -- the pool speaks of held buffers alone, which stay
 pub pool_same : (pool : Holdings) (t now : Table Node) (ss : List Shelf) → IsPoolOf pool (forest_of t ss) → IsPoolOf pool (forest_of now ss)
 pool_same pool t now ss of =
-    of ∙ ap (λ (hs : List HeldBuffer). sorted_by (λ (i : Interval). i.start) (map (λ (h : HeldBuffer). h.pages) hs)) (held_same t now ss)
+    of ∙ ap (λ hs. sorted_by (λ (i : Interval). i.start) (map (λ (h : HeldBuffer). h.pages) hs)) (held_same t now ss)
 
 -- the collection of a change that is no birth is there
-pub is_there : (t : Table Node) (us : List Unit) (es : List Entry) (id : ℕ) (change : Change) → is_birth change ≡ false →
+pub is_there : {t : Table Node} {us : List Unit} {es : List Entry} {id : ℕ} {change : Change} → is_birth change ≡ false →
     IsReady t es us id change → (place_in id es ≡ None → ⊥)
-is_there t us es id change birth ready none =
-    let some = change_kept t (shelves_of es) ready.kept id change birth ready.change.named in
-    false≢true (ap is_some (sym (shelf_found id es ∙ ap (option_map shelf_of) (none_in id es none))) ∙ some)
+is_there {t} {es} {id} {change} birth ready none = grind (arith, change_kept, none_in, shelf_found)
 
 -- an entry stands at each place
 pub entry_there : (es : List Entry) (at : ℕ) → at < length es → (e : Entry) × (e ≡ get_or es at e)
@@ -45,41 +35,20 @@ entry_there (e ∷ es) zero within = (e, refl)
 entry_there (e ∷ es) (suc n) within = entry_there es n (omega arith)
 
 -- a node that the change names has a row
-pub row_there : (t : Table Node) (ss : List Shelf) → IsStored t ss → (id : ℕ) (key : NodeKey) → is_there_in (forest_of t ss) id key ≡ true →
+pub row_there : {t : Table Node} {ss : List Shelf} → IsStored t ss → (id : ℕ) (key : NodeKey) → is_there_in (forest_of t ss) id key ≡ true →
     IsSome (row_at t key)
-row_there t ss kept id key there = by (row_at t key) refl
-  where
-    by : (o : Option (Row Node)) → row_at t key ≡ o → IsSome o
-    by None is =
-        let none : forest_node (forest_of t ss) key ≡ None = node_is t ss kept key ∙ ap (option_map (λ (r : Row Node). r.node)) is in
-        let no : false ≡ true =
-        sym (ap (λ (o : Option Node). option_map_or (λ (n : Node). n.collection == id && not n.gone) o false) none) ∙ there in
-        cc
-    by (Some r) is = refl
+row_there {t} {ss} kept id key there = grind (arith, node_is)
 
 -- and it is that node, which is not gone, and of the collection
-pub node_there : (t : Table Node) (ss : List Shelf) → IsStored t ss → (id : ℕ) (key : NodeKey) → is_there_in (forest_of t ss) id key ≡ true →
+pub node_there : {t : Table Node} {ss : List Shelf} → IsStored t ss → (id : ℕ) (key : NodeKey) → is_there_in (forest_of t ss) id key ≡ true →
     (n : Node) × (node_at t key ≡ Some n) × (n.gone ≡ false) × (n.collection ≡ id)
-node_there t ss kept id key there = by (node_at t key) refl
+node_there {t} {ss} kept id key there = by (node_at t key) refl
   where
     by : (o : Option Node) → node_at t key ≡ o → (n : Node) × (node_at t key ≡ Some n) × (n.gone ≡ false) × (n.collection ≡ id)
-    by None is =
-        let no : false ≡ true =
-        sym (ap (λ (o : Option Node). option_map_or (λ (n : Node). n.collection == id && not n.gone) o false) (node_is t ss kept key ∙ is))
-        ∙ there in
-        cc
-    by (Some n) is =
-        let both : (n.collection == id && not n.gone) ≡ true =
-        sym (ap (λ (o : Option Node). option_map_or (λ (n : Node). n.collection == id && not n.gone) o false) (node_is t ss kept key ∙ is))
-        ∙ there in (
-          n,
-          is,
-          not-true n.gone (and_right (n.collection == id) (not n.gone) both),
-          eqb-true n.collection id (and_left (n.collection == id) (not n.gone) both),
-        )
+    by o h = grind (arith, node_is)
 
-module _ (handles : Handles) (t : Table Node) (us : List Unit) (es : List Entry) (id at : ℕ) (e : Entry) (told : place_in id es ≡ Some at)
-    (is : e ≡ get_or es at e) (change : Change) (ready : IsReady t es us id change) (birth : is_birth change ≡ false) where
+module _ (handles : Handles) {t : Table Node} {us : List Unit} {es : List Entry} {id at : ℕ} (e : Entry) (told : place_in id es ≡ Some at)
+    (is : e ≡ get_or es at e) {change : Change} (ready : IsReady t es us id change) (birth : is_birth change ≡ false) where
   -- the entry at the place has the id that was looked for
   pub own_id : e.id ≡ id
   own_id = ap (λ (x : Entry). x.id) is ∙ (place_is id es at told).id_is e
@@ -87,26 +56,26 @@ module _ (handles : Handles) (t : Table Node) (us : List Unit) (es : List Entry)
   -- the collection is under way, with nothing loose and nothing due
   pub begins : MidEvent t us (shelves_of es) e [] []
   begins =
-      ready_under t us es id at e told is ready.kept ready.counted ready.units
-      (inside_of t us es ready.kept ready.units)
-      (subst IsServedByGiven (here_is t es id at e told is) (given_at t (shelves_of es) id ready.given))
+      ready_under us es id e told is ready.kept ready.counted ready.units
+      (inside_of us es ready.kept ready.units)
+      (subst IsServedByGiven (here_is t es id e told is) (given_at t _ id ready.given))
 
   -- it has few buffers
   pub few_there : given_few e.buffers ≡ true
-  few_there = (found_whole t e.id (shelves_of es) (shelf_of e) begins.store.kept.whole begins.store.found).sound.few
+  few_there = (found_whole t _ _ _ begins.store.kept.whole begins.store.found).sound.few
 
   -- and may be closed
   pub closes_now : MayClose handles t us es at
-  closes_now = ready_close handles t us es id at e told is ready.counted begins
+  closes_now = ready_close _ es id told is ready.counted begins
 
   -- the collection is found at its place
   pub changed_is : changed_in t es id change ≡ changed change no_key (collection_in t (shelf_of e))
-  changed_is = ap (changed change no_key) (here_is t es id at e told is)
+  changed_is = ap (changed change no_key) (here_is t es id e told is)
 
   -- ---- steps that were made from these nodes
 
-  module _ (between : List Node) (made : changed change no_key (collection_in t (shelf_of e)) ≡ record (collection_in t (shelf_of e)) { nodes = between })
-      (mid : Table Node) (after : List Unit) (new : Entry) (played : PropagatedFrom handles between t mid after (shelves_of es) e new) where
+  module _ {between : List Node} (made : changed change no_key (collection_in t (shelf_of e)) ≡ record (collection_in t (shelf_of e)) { nodes = between })
+      {mid : Table Node} {after : List Unit} {new : Entry} (played : PropagatedFrom handles between t mid after (shelves_of es) e new) where
     -- the shelf is the same, so the list of shelves stays
     shelves : shelves_of (set es at new) ≡ shelves_of es
     shelves = shelves_stay es at e new is played.shelf
@@ -118,10 +87,9 @@ module _ (handles : Handles) (t : Table Node) (us : List Unit) (es : List Entry)
     -- what is due is what is abandoned, or nothing
     pub may_play : MayClose handles mid after (set es at new) at
     may_play =
-        may_close handles t mid after es id at told
-        (subst (λ (i : ℕ). IsBeside t mid (shelves_of es) i) own_id played.beside)
-        (subst (λ (i : ℕ). AreCountedExcept t i es) own_id (counted_but t e.id es ready.counted)) new new_id played.pending
-        (subst (λ (ss : List Shelf). MidEvent mid after ss new [] played.pending) (sym shelves) played.under) played.out
+        may_close _ es told (rw own_id at played.beside)
+        (subst (λ i. AreCountedExcept t i es) own_id (counted_but t _ es ready.counted)) new_id
+        (rw shelves played.under) played.out
 
     -- at its place
     pub placed_played : place_in id (set es at new) ≡ Some at
@@ -129,35 +97,29 @@ module _ (handles : Handles) (t : Table Node) (us : List Unit) (es : List Entry)
 
     -- the pool speaks of held buffers alone, which stay
     pub pool_played : (pool : Holdings) → IsPoolOf pool (forest_of t (shelves_of es)) → IsPoolOf pool (forest_of mid (shelves_of (set es at new)))
-    pool_played pool of =
-        subst (λ (ss : List Shelf). IsPoolOf pool (forest_of mid ss)) (sym shelves) (pool_same pool t mid (shelves_of es) of)
+    pool_played pool of = rw shelves (pool_same pool t mid (shelves_of es) of)
 
     -- the steps lead from the changed collection on
     leads_on : (pool : ℕ) → Reaches pool handles (beside (forest_of t (shelves_of es)) id) (changed_in t es id change)
         (collection_in mid (shelf_of new))
-    leads_on pool =
-        subst (λ (c : Collection). Reaches pool handles (beside (forest_of t (shelves_of es)) id) c (collection_in mid (shelf_of new)))
-        (sym (changed_is ∙ made))
-        (subst (λ (s : Shelf). Reaches pool handles (beside (forest_of t (shelves_of es)) id)
-        (record (collection_in t (shelf_of e)) { nodes = between }) (collection_in mid s)) (sym played.shelf)
-        (played.leads pool (beside (forest_of t (shelves_of es)) id)))
+    leads_on pool = grind (arith, changed_is)
 
     -- the steps that were played and the closing are all that is forced
-    pub outcome_played : (pool left : Holdings) (now : Table Node) (behind : List Entry) (last : List Unit) →
+    pub outcome_played : {pool left : Holdings} {now : Table Node} {behind : List Entry} {last : List Unit} →
         Closes handles pool left mid now (set es at new) behind last id → left.size ≡ pool.size →
         IsOutcomeIn true handles pool left t now es behind id change
-    outcome_played pool left now behind last closes size =
-        outcome_on handles t mid es id at told ready.kept (subst (λ (i : ℕ). IsBeside t mid (shelves_of es) i) own_id played.beside) new new_id
-        pool pool left refl now behind change birth (leads_on pool.size) last closes size
+    outcome_played {now} closes size =
+        outcome_on _ es told ready.kept (rw own_id at played.beside) new new_id
+        _ _ _ refl now _ _ birth (leads_on _) closes size
 
   -- ---- where nothing was changed
 
   -- without a change the closing is all that is forced
-  pub outcome_closed : (nothing : change ≡ Change.Nothing) (pool left : Holdings) (now : Table Node) (behind : List Entry)
-      (last : List Unit) → Closes handles pool left t now es behind last id → left.size ≡ pool.size →
+  pub outcome_closed : (nothing : change ≡ Change.Nothing) {pool left : Holdings} {now : Table Node} {behind : List Entry}
+      {last : List Unit} → Closes handles pool left t now es behind last id → left.size ≡ pool.size →
       IsOutcomeIn true handles pool left t now es behind id change
-  outcome_closed nothing pool left now behind last closes size = record {
-    settled = λ h. subst (λ (x : Change). IsSettledIn handles pool left t now es behind id x) (sym nothing) closes.settled;
+  outcome_closed nothing closes size = record {
+    settled = λ h. rw nothing closes.settled;
     unchanged = λ h. cc;
     same_pool = λ h. cc;
     same = closes.same;

@@ -1,29 +1,16 @@
 -- A unit is allocated: its nodes have their buffers then, and no other node changes.
-use Rattle.forest_steps.proofs.Common.{◌≡◌, ◌≢◌, ◌==◌, refl, ap, sym, ◌∙◌, subst, Bool, true, false, not, ◌&&◌, ◌||◌, ◌⊎◌, inl, inr, List, [], ◌∷◌, map, Option, Some, None, option_map, eqb-false, eqb-true, not-true, AllByRecursion, list_all, list_any, option_map_or, NodeKey, Buffers, same_key, In, In-find, In-list_any, In-map, and_both, and_left, and_right, both_ways, either_way, false_if, or_cases, same_key-true, In-any, Table, node_at, Entry, Node, Unit, AreUnits, lives_in, waits_in, with_nodes, IsStored, IsWhole, Shelf, collection_in, is_filed, nodes_with, shelf_of, is_of, is_next_node, is_head, find, HeldBuffer}
-use Rattle.sm_names.proofs.ListLaws.{map-In}
-use Rattle.sm_names.proofs.SamenessLaws.{or_none_right}
-use Rattle.forest_store.specs.Counts.{hangs_in}
-use Rattle.forest_store.specs.Falls.{given_all}
-use Rattle.forest_store.specs.Nodes.{after_allocation, given_buffers}
-use Rattle.forest_store.specs.Questions.{is_allocated_node}
-use Rattle.forest_store.specs.UnitAllocation.{IsGivenAt, given_at}
+use Rattle.forest_steps.proofs.Common.{◌≡◌, ◌≢◌, ◌==◌, refl, ap, sym, ◌∙◌, subst, Bool, true, false, not, ◌&&◌, ◌||◌, ◌⊎◌, inl, inr, List, [], ◌∷◌, map, Option, Some, None, option_map, eqb-false, eqb-true, not-true, AllByRecursion, list_all, list_any, option_map_or, NodeKey, Buffers, same_key, In, In-find, In-list_any, In-map, and_both, and_left, and_right, both_ways, either_way, false_if, or_cases, same_key-true, In-any, Table, node_at, Entry, Node, Unit, AreUnits, lives_in, waits_in, with_nodes, IsStored, IsWhole, Shelf, collection_in, is_filed, nodes_with, shelf_of, is_of, is_next_node, is_head, find, HeldBuffer, map-In, hangs_in, given_all, after_allocation, is_allocated_node, IsGivenAt, given_at, GoTogether, any_map, all-In, found_filed, looked-of, after_all, IsBareHead, in_all, looked_there, IsSameNode, all_at, arith}
+use Rattle.sm_names.proofs.SamenessLaws.{or_false}
 use Rattle.forest_steps.specs.LogicalAllocation.{IsUnitListed}
 use Rattle.forest_steps.specs.MidEvent.{AreClosed, are_held_except, hangs_in_some, holds_unit, is_coming, is_held, is_next_except}
-use Rattle.forest_store.specs.Units.{GoTogether}
-use Rattle.forest_store.proofs.quiescence.Calming.{any_map}
-use Rattle.forest_store.proofs.quiescence.Steps.{all-In}
 use Rattle.forest_store.proofs.quiescence.Together.{together_given}
-use Rattle.forest_store.proofs.changes.Altering.{found_filed, looked-of}
 use Rattle.forest_store.proofs.lists.Lookups.{looked-map, same_key-swap}
-use Rattle.forest_store.proofs.allocation.Allocated.{after_all}
-use Rattle.forest_store.proofs.allocation.Before.{IsBareHead}
 use Rattle.forest_steps.proofs.allocation.Giving.{given_in, given_other, given_out, kept_given, same_given}
-use Rattle.forest_store.proofs.tables.Hanging.{all_in, in_all, looked_there}
-use Rattle.forest_store.proofs.tables.Writing.{IsSameNode, IsWhole-map, collections-map, kept-with}
-use Rattle.forest_store.proofs.tallies.Slots.{all_at, one_shelf, units_with}
+use Rattle.forest_store.proofs.tables.Hanging.{all_in}
+use Rattle.forest_store.proofs.tables.Writing.{IsWhole-map, collections-map, kept-with}
+use Rattle.forest_store.proofs.tallies.Slots.{one_shelf, units_with}
 use Rattle.forest_steps.proofs.turns.Gifts.{ready_same}
 use Rattle.forest_steps.proofs.mid_event.Listed.{key_within, of_unit}
-use Rattle.forest_steps.proofs.mid_event.Turns.{bare, whole}
 
 -- ---- lists
 
@@ -37,20 +24,15 @@ pub all_mapped : (p q : Node → Bool) (f : Node → Node) (ns : List Node) → 
 all_mapped p q f [] same = refl
 all_mapped p q f (n ∷ ns) same = λ i. same n i && all_mapped p q f ns same i
 
--- by cases
-pub or_false : (b : Bool) → (b || false) ≡ b
-or_false true = refl
-or_false false = refl
-
 -- by cases on the option
-was_by : (g : Node → Node) (o : Option Node) (n : Node) → option_map g o ≡ Some n → (m : Node) × (o ≡ Some m) × (g m ≡ n)
-was_by g None n is = cc
-was_by g (Some m) n is = (m, refl, cc)
+was_by : (g : Node → Node) (o : Option Node) {n : Node} → option_map g o ≡ Some n → (m : Node) × (o ≡ Some m) × (g m ≡ n)
+was_by g None is = cc
+was_by g (Some m) is = (m, refl, cc)
 
 -- a node that is found was found before
 pub was_there : (g : Node → Node) (t now : Table Node) → ((key : NodeKey) → node_at now key ≡ option_map g (node_at t key)) →
-    (key : NodeKey) (n : Node) → node_at now key ≡ Some n → (m : Node) × (node_at t key ≡ Some m) × (g m ≡ n)
-was_there g t now look key n is = was_by g (node_at t key) n (sym (look key) ∙ is)
+    (key : NodeKey) {n : Node} → node_at now key ≡ Some n → (m : Node) × (node_at t key ≡ Some m) × (g m ≡ n)
+was_there g t now look key is = was_by g _ (sym (look key) ∙ is)
 
 -- ---- the nodes once a unit is allocated
 
@@ -62,13 +44,13 @@ served k nodes = after_all (k ∷ []) nodes
 
 -- the list has one head alone
 pub given_is : (k : NodeKey) (nodes : List Node) → served k nodes ≡ after_allocation k nodes
-given_is k nodes = map-In (f k) (given_buffers k) nodes (λ n on. λ i. record n {
-  allocated = ((λ j. or_false (same_key n.head k) j) ∙ same_key-swap n.head k) i || n.allocated;
+given_is k nodes = map-In _ _ _ (λ n on. λ i. record n {
+  allocated = ((λ j. or_false (same_key n.head k) j) ∙ same_key-swap _ k) i || n.allocated;
 })
 
 -- units go together through an allocation
-pub together_then : (k : NodeKey) (nodes : List Node) → GoTogether nodes → GoTogether (served k nodes)
-together_then k nodes old = subst GoTogether (sym (given_is k nodes)) (together_given k nodes old)
+pub together_then : (k : NodeKey) {nodes : List Node} → GoTogether nodes → GoTogether (served k nodes)
+together_then k old = subst GoTogether (sym (given_is k _)) (together_given k _ old)
 
 -- what holds the units is the same
 hangs_same : (k : NodeKey) (nodes : List Node) (head : NodeKey) (n : Node) → hangs_in (served k nodes) head (f k n) ≡ hangs_in nodes head n
@@ -83,34 +65,24 @@ hangs_some_same k nodes hs n = λ i. option_map_or (λ p. any_map (λ (q : Node)
 
 -- allocation changes nothing of what holds a unit
 pub held_then : (k : NodeKey) (nodes : List Node) → are_held_except [] nodes ≡ true → are_held_except [] (served k nodes) ≡ true
-held_then k nodes held = all_mapped (is_held (served k nodes)) (is_held nodes) (f k) nodes (λ n.
-    ap (λ (b : Bool). n.gone || (not (is_head n) || b))
-    (any_map (holds_unit (served k nodes) n.key) (holds_unit nodes n.key) (f k) nodes (λ m.
-    ap (λ (b : Bool). not m.gone && ((same_key m.head n.key && not m.released) || (m.attached && b))) (hangs_same k nodes n.key m))))
+held_then k nodes held = all_mapped (is_held (served k nodes)) _ (f k) nodes (λ n.
+    ap (λ b. n.gone || (not (is_head n) || b)) (any_map (holds_unit (served k nodes) n.key) _ (f k) nodes (λ m.
+    ap (λ b. not m.gone && ((same_key m.head n.key && not m.released) || (m.attached && b))) (hangs_same k nodes n.key m))))
     ∙ held
 
 -- ---- what may come to its turn then
 
 -- one that may come to its turn might before: it is as ready as it was
 pub coming_was : (k : NodeKey) (nodes : List Node) (n : Node) → is_coming (served k nodes) (f k n) ≡ true → is_coming nodes n ≡ true
-coming_was k nodes n h =
-    let attached = and_left n.attached _ h in
-    let a = and_right n.attached _ h in
-    let b = and_right (not n.gone) _ a in
-    let waits : (list_any (same_key n.head) (k ∷ []) || n.allocated) ≡ false =
-    not-true (list_any (same_key n.head) (k ∷ []) || n.allocated) (and_left (not (list_any (same_key n.head) (k ∷ []) || n.allocated)) _ b) in
-    let all = and_right (not (list_any (same_key n.head) (k ∷ []) || n.allocated)) _ b in
-    and_both n.attached _ attached (and_both (not n.gone) _ (and_left (not n.gone) _ a)
-    (and_both (not n.allocated) _ (ap not (or_none_right (list_any (same_key n.head) (k ∷ [])) n.allocated waits))
-    (sym (ready_same n.key (k ∷ []) nodes) ∙ all)))
+coming_was k nodes n h = grind (arith, ready_same)
 
 -- a unit that is coming after was coming before, and hangs as it did
 pub closed_on : (k : NodeKey) (nodes : List Node) (hs : List NodeKey) → AreClosed nodes hs → AreClosed (served k nodes) hs
 closed_on k nodes hs closed m there is hangs =
-    let x = In-map (f k) nodes m there in
+    let x = In-map _ _ m there in
     ap (λ (n : Node). list_any (same_key n.key) hs) x.2
     ∙ closed x.0 x.1 (coming_was k nodes x.0 (ap (is_coming (served k nodes)) (sym x.2) ∙ is))
-    (sym (hangs_some_same k nodes hs x.0) ∙ (ap (hangs_in_some (served k nodes) hs) (sym x.2) ∙ hangs))
+    (sym (hangs_some_same k _ hs x.0) ∙ (ap (hangs_in_some (served k nodes) hs) (sym x.2) ∙ hangs))
 
 -- one whose parent has its buffers now had it so, or hangs right below the unit
 turn_was : (k : NodeKey) (nodes : List Node) (n : Node) (o : Option NodeKey) → n.parent ≡ o →
@@ -122,42 +94,27 @@ turn_was k nodes n (Some p) is h =
     let y = In-map (f k) nodes x.0 x.1 in
     let m : Node = y.0 in
     let was : is_allocated_node p (f k m) ≡ true = ap (is_allocated_node p) (sym y.2) ∙ x.2 in
-    let here : not m.gone ≡ true = and_left (not m.gone) _ was in
-    let both : ((list_any (same_key m.head) (k ∷ []) || m.allocated) && same_key m.key p) ≡ true = and_right (not m.gone) _ was in
-    let key : same_key m.key p ≡ true = and_right (list_any (same_key m.head) (k ∷ []) || m.allocated) _ both in
+    let both : ((list_any (same_key m.head) (k ∷ []) || m.allocated) && same_key m.key p) ≡ true = and_right _ _ was in
+    let key : same_key m.key p ≡ true = and_right _ _ both in
     elim (or_cases (list_any (same_key m.head) (k ∷ [])) m.allocated (and_left (list_any (same_key m.head) (k ∷ []) || m.allocated) _ both)) [
       | inl h ↦ inl
-          (ap (λ (o : Option NodeKey). option_map_or (λ q. list_any (λ (r : Node). is_of q r && list_any (same_key r.head) (k ∷ [])) nodes)
-          o false) is
-          ∙ In-any (λ (r : Node). is_of p r && list_any (same_key r.head) (k ∷ [])) nodes m y.1
-          (and_both (is_of p m) (list_any (same_key m.head) (k ∷ [])) key h))
+          (ap (λ o. option_map_or (λ q. list_any (λ (r : Node). is_of q r && list_any (same_key r.head) (k ∷ [])) nodes)
+          o false) is ∙ In-any (λ (r : Node). is_of p r && list_any (same_key r.head) (k ∷ [])) nodes m y.1
+          (and_both _ _ key h))
       | inr h ↦ inr
-          (ap (λ (o : Option NodeKey). option_map_or (λ p. list_any (is_allocated_node p) nodes) o false) is
-          ∙ In-any (is_allocated_node p) nodes m y.1 (and_both (not m.gone) _ here (and_both m.allocated _ h key)))
+          (ap (λ o. option_map_or (λ p. list_any (is_allocated_node p) nodes) o false) is
+          ∙ In-any (is_allocated_node p) nodes m y.1 (and_both _ _ (and_left _ _ was) (and_both _ _ h key)))
     ]
 
 -- a node is next where it is coming, and the unit above has its buffers
 next_is : (nodes : List Node) (n : Node) → is_coming nodes n ≡ true →
     option_map_or (λ p. list_any (is_allocated_node p) nodes) n.parent false ≡ true → is_next_node nodes n ≡ true
-next_is nodes n coming above =
-    let one = and_right n.attached _ coming in
-    let two = and_right (not n.gone) _ one in
-    and_both n.attached _ (and_left n.attached _ coming) (and_both (not n.gone) _ (and_left (not n.gone) _ one)
-    (and_both (not n.allocated) _ (and_left (not n.allocated) _ two)
-    (and_both (option_map_or (λ p. list_any (is_allocated_node p) nodes) n.parent false) _ above (and_right (not n.allocated) _ two))))
+next_is nodes n coming above = grind arith
 
 -- and is both, where it is next
 pub next_parts : (nodes : List Node) (n : Node) → is_next_node nodes n ≡ true →
     (is_coming nodes n ≡ true) × (option_map_or (λ p. list_any (is_allocated_node p) nodes) n.parent false ≡ true)
-next_parts nodes n h =
-    let a = and_right n.attached _ h in
-    let b = and_right (not n.gone) _ a in
-    let d = and_right (not n.allocated) _ b in (
-      and_both n.attached _ (and_left n.attached _ h) (and_both (not n.gone) _ (and_left (not n.gone) _ a)
-          (and_both (not n.allocated) _ (and_left (not n.allocated) _ b)
-          (and_right (option_map_or (λ p. list_any (is_allocated_node p) nodes) n.parent false) _ d))),
-      and_left (option_map_or (λ p. list_any (is_allocated_node p) nodes) n.parent false) _ d,
-    )
+next_parts nodes n h = grind arith
 
 -- only these are next then, if those that hang right below the unit are among them, and those that were next
 pub next_then : (k : NodeKey) (nodes : List Node) (hs : List NodeKey) →
@@ -174,13 +131,7 @@ next_then k nodes hs hung was = false_if (list_any (is_next_except hs (served k 
     (not-true _ (and_right (is_next_node (served k nodes) (f k y.0)) _ is)))
   where
     among : (n : Node) → In n nodes → is_next_node (served k nodes) (f k n) ≡ true → list_any (same_key n.key) hs ≡ true
-    among n on h =
-        let now = next_parts (served k nodes) (f k n) h in
-        let coming = coming_was k nodes n now.0 in
-        elim (turn_was k nodes n n.parent refl now.1) [
-          | inl hangs ↦ hung n on now.0 coming hangs
-          | inr above ↦ was n on now.0 (next_is nodes n coming above)
-        ]
+    among n on h = grind (arith, coming_was, next_is, next_parts, turn_was)
 
 -- ---- the table
 
@@ -195,9 +146,9 @@ pub record IsUnitGiven (t now : Table Node) (e : Entry) (k : NodeKey) : Type 0 w
       IsStored now ss
   pub units : (us : List Unit) (ss : List Shelf) → AreUnits us (map (collection_in t) ss) → AreUnits us (map (collection_in now) ss)
 
-module _ (t now : Table Node) (ss : List Shelf) (e : Entry) (k : NodeKey) (kept : IsStored t ss)
+module _ {t now : Table Node} {ss : List Shelf} (e : Entry) {k : NodeKey} (kept : IsStored t ss)
     (found : find (λ (x : Shelf). x.id == e.id) ss ≡ Some (shelf_of e)) (formed : IsWhole (collection_in t (shelf_of e)))
-    (top : IsBareHead (nodes_with t e.keys.items) k) (ks : List NodeKey) (listed : IsUnitListed t k ks) (given : IsGivenAt t now (k ∷ []) ks)
+    (top : IsBareHead (nodes_with t e.keys.items) k) {ks : List NodeKey} (listed : IsUnitListed t k ks) (given : IsGivenAt t now (k ∷ []) ks)
   where
     abbrev s : Shelf
     s = shelf_of e
@@ -226,39 +177,35 @@ module _ (t now : Table Node) (ss : List Shelf) (e : Entry) (k : NodeKey) (kept 
     each_given : (m : Node) → In m nodes → g m ≡ f k m
     each_given m on = elim (either_way (list_any (same_key m.key) ks)) [
       | inl h ↦ given_in hs ks m h
-      | inr out ↦ given_out hs ks m out ∙ given_other hs m (false_if (list_any (same_key m.head) hs) (λ h.
-          let own : m.head ≡ k = same_key-true m.head k (sym (or_false (same_key m.head k)) ∙ h) in
-          both_ways (list_any (same_key m.key) ks) (of_unit t ss kept s found kept.kin k top ks listed m on (unit_bare m on own).1 own) out))
+      | inr out ↦ given_out hs ks m out ∙ given_other hs m (false_if _ (λ h.
+          let own : m.head ≡ k = same_key-true _ k (sym (or_false _) ∙ h) in
+          both_ways _ (of_unit kept found kept.kin top listed m on (unit_bare m on own).1 own) out))
     ]
 
     -- the keys are looked up one by one
     nodes_then : nodes_with now e.keys.items ≡ served k (nodes_with t e.keys.items)
-    nodes_then = looked-map g (node_at t) (node_at now) given.look e.keys.items ∙ map-In g (f k) nodes each_given
+    nodes_then = looked-map g _ _ given.look _ ∙ map-In g _ _ each_given
 
     -- the nodes of other collections are of other units
     others_stay : (x : Shelf) → x.id ≢ e.id → list_all (is_filed t x.id) x.keys ≡ true → collection_in now x ≡ collection_in t x
     others_stay x differ filed = λ i. record (collection_in t x) { nodes = stay i }
       where
         apart : (m : Node) → In m (nodes_with t x.keys) → g m ≡ m
-        apart m there = given_out hs ks m (false_if (list_any (same_key m.key) ks) (λ h.
-            let is : node_at t m.key ≡ Some m =
-            in_all (λ (y : Node). node_at t y.key ≡ Some y) (nodes_with t x.keys) (looked_there t kept.named x.keys) m there in
-            let own : In m nodes = key_within t ss kept s found kept.kin k top ks listed m is h in
-            let mine : (m.collection == e.id) ≡ true =
-            all-In (λ (y : Node). y.collection == e.id) nodes m own
-            (looked-of t e.id e.keys.items (found_filed t e.id ss s kept.filed found)) in
-            let its : (m.collection == x.id) ≡ true =
-            all-In (λ (y : Node). y.collection == x.id) (nodes_with t x.keys) m there (looked-of t x.id x.keys filed) in
-            differ (sym (eqb-true m.collection x.id its) ∙ eqb-true m.collection e.id mine)))
+        apart m there = given_out hs ks m (false_if _ (λ h.
+            let is : node_at t m.key ≡ Some m = in_all _ _ (looked_there t kept.named _) m there in
+            let own : In m nodes = key_within kept found kept.kin top listed is h in
+            let mine : (m.collection == e.id) ≡ true = all-In _ _ m own
+            (looked-of t _ _ (found_filed t _ ss s kept.filed found)) in
+            differ (sym (eqb-true _ _ (all-In _ _ m there (looked-of t _ _ filed))) ∙ eqb-true _ _ mine)))
 
         stay : nodes_with now x.keys ≡ nodes_with t x.keys
-        stay = looked-map g (node_at t) (node_at now) given.look x.keys ∙ still_map g (nodes_with t x.keys) apart
+        stay = looked-map g _ _ given.look _ ∙ still_map g _ apart
 
     -- this collection is whole, the others stay, and each node keeps its place
-    stored_on : (buffers : Option Buffers) (held : List HeldBuffer) (xs : List Shelf) → IsStored t xs →
+    stored_on : (buffers : Option Buffers) (held : List HeldBuffer) {xs : List Shelf} → IsStored t xs →
         find (λ (x : Shelf). x.id == e.id) xs ≡ Some (record { id = e.id; keys = e.keys.items; buffers = buffers; held = held }) →
         IsStored now xs
-    stored_on buffers held xs old there =
+    stored_on buffers held {xs} old there =
         kept-with g same_g (λ m h. sym (kept_given (λ (x : Node). x.gone) hs (λ x. refl) ks m) ∙ h) t now
         given.same.first given.same.nexts given.same.len given.look given.parents xs whole_then old
       where
@@ -266,23 +213,21 @@ module _ (t now : Table Node) (ss : List Shelf) (e : Entry) (k : NodeKey) (kept 
         own = record { id = e.id; keys = e.keys.items; buffers = buffers; held = held }
 
         on_list : In own xs
-        on_list = (In-find (λ (y : Shelf). y.id == e.id) xs own there).0
+        on_list = (In-find _ xs own there).0
 
         then : collection_in now own ≡ with_nodes (after_all hs) (collection_in t own)
         then = λ i. record (collection_in t own) { nodes = nodes_then i }
 
         whole_then : AllByRecursion (λ (x : Shelf). IsWhole (collection_in now x)) xs
-        whole_then = all_in (λ (x : Shelf). IsWhole (collection_in now x)) xs (λ x on. elim (either_way (x.id == e.id)) [
+        whole_then = all_in _ xs (λ x on. elim (either_way (x.id == e.id)) [
           | inl h ↦
-              subst (λ (y : Shelf). IsWhole (collection_in now y)) (sym (one_shelf xs old.rising x own on on_list (eqb-true x.id e.id h)))
+              rw (one_shelf xs old.rising x own on on_list (eqb-true _ _ h))
               (subst IsWhole (sym then)
-              (IsWhole-map (given_all hs) (λ m. record { key = refl; parent = refl; attached = refl; collection = refl; head = refl })
-              (λ m. refl) (collection_in t own) (together_then k nodes)
-              (all_at (λ (y : Shelf). IsWhole (collection_in t y)) xs old.whole own on_list)))
+              (IsWhole-map _ (λ m. record { key = refl; parent = refl; attached = refl; collection = refl; head = refl })
+              (λ m. refl) _ (together_then k) (all_at _ xs old.whole own on_list)))
           | inr h ↦
-              subst IsWhole (sym (others_stay x (eqb-false x.id e.id h)
-              (all-In (λ (y : Shelf). list_all (is_filed t y.id) y.keys) xs x on old.filed)))
-              (all_at (λ (y : Shelf). IsWhole (collection_in t y)) xs old.whole x on)
+              subst IsWhole (sym (others_stay x (eqb-false x.id e.id h) (all-In _ xs x on old.filed)))
+              (all_at _ xs old.whole x on)
         ])
 
     -- allocation changes none of the counts of units
@@ -290,7 +235,7 @@ module _ (t now : Table Node) (ss : List Shelf) (e : Entry) (k : NodeKey) (kept 
     units_on us xs all = subst (AreUnits us) (sym (collections-map g same_g t now given.look xs))
         (units_with us g same_g (λ m. kept_given (λ x. x.gone) hs (λ x. refl) ks m)
         (λ j m. kept_given (lives_in j) hs (λ x. refl) ks m)
-        (λ j m. kept_given (waits_in j) hs (λ x. refl) ks m) (map (collection_in t) xs) all)
+        (λ j m. kept_given (waits_in j) hs (λ x. refl) ks m) _ all)
 
     -- each of these
     pub unit_given : IsUnitGiven t now e k

@@ -1,25 +1,15 @@
 -- What is lost or ends with a node is gone, and the collection is still under way.
-use Rattle.forest_steps.proofs.Common.{◌≡◌, ◌==◌, refl, ap, sym, ◌∙◌, subst, Bool, true, false, not, ◌&&◌, ◌||◌, ◌⊎◌, inl, inr, is_none, List, map, reverse, Option, Some, None, option_map, not-true, list_all, list_any, option_map_or, NodeKey, same_key, In, In-list_any, In-map, In-map-back, and_both, and_left, and_right, both_ways, either_way, false_if, or_cases, or_left, or_right, same_key-refl, In-any, Table, node_at, parent_at, Entry, Node, Unit, is_left_of, IsWhole, Shelf, collection_in, is_filed, nodes_with, shelf_of, is_of, are_rooted, is_head}
-use Rattle.sm_names.specs.declared.outcomes.Fault.{Fault}
-use Rattle.sm_names.proofs.ListLaws.{map-In}
-use Rattle.sm_names.proofs.SamenessLaws.{none_or_some, or_none_right}
-use Rattle.forest_store.specs.declared.loss_marks.Going.{Going}
+use Rattle.forest_steps.proofs.Common.{◌≡◌, ◌==◌, refl, ap, sym, ◌∙◌, Bool, true, false, not, ◌&&◌, ◌||◌, ◌⊎◌, inl, inr, is_none, List, map, reverse, Option, Some, None, option_map, list_any, option_map_or, NodeKey, same_key, In, In-list_any, In-map, In-map-back, and_both, both_ways, either_way, false_if, or_cases, or_left, or_right, In-any, Table, node_at, parent_at, Entry, Node, Unit, is_left_of, IsWhole, Shelf, collection_in, nodes_with, shelf_of, is_of, are_rooted, is_head, arith, same_key-equal, Fault, map-In, Going, gone_by, all_of, after_end, after_loss, ended, lost, is_below, has_buffers, is_blocking, found_filed, looked-of, all-In, IsLeft, distinct_one, left_node}
+use Rattle.forest_steps.proofs.tables.Upward.{head_there, own_head, shared}
+use Rattle.sm_names.proofs.SamenessLaws.{none_or_some}
 use Rattle.forest_store.specs.Counts.{head_of}
-use Rattle.forest_store.specs.LossMarks.{gone_by}
 use Rattle.forest_steps.specs.Removal.{IsGoneSo, head_over}
-use Rattle.forest_store.specs.Shelves.{all_of}
-use Rattle.forest_store.specs.Nodes.{after_end, after_loss, ended, lost}
-use Rattle.forest_store.specs.Questions.{is_below, has_buffers}
-use Rattle.forest_store.specs.Ties.{IsFall, is_blocking}
 use Rattle.forest_steps.specs.MidEvent.{IsBeside, MidEvent, AfterRemoval, and_loose, are_held_except, gone_down, is_head_left, is_next_except, waits_among}
-use Rattle.forest_store.proofs.changes.Altering.{found_filed, looked-of}
-use Rattle.forest_store.proofs.quiescence.Steps.{all-In}
 use Rattle.forest_steps.proofs.failures.AllGone.{AreGone}
 use Rattle.forest_store.proofs.failures.GoneNodes.{given_of, goes_in, goes_not, goes_of, gone_of, same_of}
+use Rattle.forest_steps.proofs.failures.Crossing.{AreFalling, IsMarked}
 use Rattle.forest_steps.proofs.failures.Ties.{fall_below, fall_root, losses_by_fall}
 use Rattle.forest_store.proofs.tables.KeptRoots.{rooted_end, rooted_loss}
-use Rattle.forest_store.proofs.tables.Rooted.{IsLeft, distinct_one, left_node}
-use Rattle.forest_store.proofs.tallies.Holding.{head_there, own_head, shared}
 use Rattle.forest_steps.proofs.mid_event.Crossed.{held_but, next_but, root_but}
 use Rattle.forest_steps.proofs.mid_event.Emptied.{all_taken, held_gone, next_gone, root_gone}
 use Rattle.forest_steps.proofs.mid_event.Fallen.{beside_same, nodes_then, store_now}
@@ -27,9 +17,9 @@ use Rattle.forest_steps.proofs.mid_event.Owned.{own_taken}
 use Rattle.forest_steps.proofs.mid_event.Tops.{blocks, entire, head_out, on_ties, parent, stands_first, top, top_here, top_on, up_falls}
 use Rattle.forest_steps.proofs.tables.OfShelf.{at_key, linked}
 
-module _ (t : Table Node) (us : List Unit) (ss : List Shelf) (old : Entry) (unheld pending : List NodeKey)
-    (opens : MidEvent t us ss old unheld pending) (now : Table Node) (after : List Unit) (new : Entry) (going : Going)
-    (origin : NodeKey) (keys : List NodeKey) (gone : IsGoneSo t now us after old new going origin keys)
+module _ {t : Table Node} {us : List Unit} {ss : List Shelf} {old : Entry} {unheld pending : List NodeKey}
+    (opens : MidEvent t us ss old unheld pending) {now : Table Node} {after : List Unit} {new : Entry} {going : Going}
+    {origin : NodeKey} {keys : List NodeKey} (gone : IsGoneSo t now us after old new going origin keys)
     (left : is_left_of (nodes_with t old.keys.items) origin ≡ true) where
   abbrev pub nodes : List Node
   nodes = nodes_with t old.keys.items
@@ -45,24 +35,24 @@ module _ (t : Table Node) (us : List Unit) (ss : List Shelf) (old : Entry) (unhe
 
   -- each collection is whole
   whole : IsWhole (collection_in t s)
-  whole = entire t ss s opens.store.kept opens.store.found gone.forest origin left keys gone.taken
+  whole = entire opens.store.kept opens.store.found gone.forest left gone.taken
 
   -- each node stands in the table under its key
   at : (n : Node) → In n nodes → node_at t n.key ≡ Some n
-  at = at_key t ss s opens.store.kept opens.store.found
+  at = at_key opens.store.kept opens.store.found
 
   -- what goes is of the collection
   own : all_of old.id (nodes_with t keys) ≡ true
   own =
-      let x = left_node nodes origin left in
-      own_taken t gone.forest opens.store.kept.kin old.id origin
-      (ap (λ (o : Option Node). option_map_or (λ (n : Node). n.collection == old.id) o true) (ap (node_at t) (sym x.is) ∙ at x.node x.on)
-      ∙ all-In (λ (n : Node). n.collection == old.id) nodes x.node x.on
-      (looked-of t old.id old.keys.items (found_filed t old.id ss s opens.store.kept.filed opens.store.found))) keys gone.taken
+      let x = left_node _ _ left in
+      own_taken gone.forest opens.store.kept.kin _ _
+      (ap (λ o. option_map_or (λ (n : Node). n.collection == old.id) o true) (ap (node_at t) (sym x.is) ∙ at _ x.on)
+      ∙ all-In _ _ _ x.on
+      (looked-of t _ _ (found_filed t _ ss s opens.store.kept.filed opens.store.found))) gone.taken
 
   -- what goes is written, and nothing else
   nodes_now : nodes_with now old.keys.items ≡ map goes nodes
-  nodes_now = nodes_then t us ss old opens.store going origin keys gone.taken own now gone.stores
+  nodes_now = nodes_then opens.store _ gone.taken own gone.stores
 
   -- the entry has the same keys
   nodes_new : nodes_with now new.keys.items ≡ map goes nodes
@@ -70,46 +60,42 @@ module _ (t : Table Node) (us : List Unit) (ss : List Shelf) (old : Entry) (unhe
 
   -- what is left has buffers only where it had: what goes gets none
   bare_new : new.buffers ≡ None → list_any has_buffers (nodes_with now new.keys.items) ≡ false
-  bare_new none = ap (list_any has_buffers) nodes_new ∙ false_if (list_any has_buffers (map goes nodes)) (λ h.
+  bare_new none = ap (list_any has_buffers) nodes_new ∙ false_if _ (λ h.
       let x = In-list_any has_buffers (map goes nodes) h in
       let y = In-map goes nodes x.0 x.1 in
       let was : has_buffers y.0 ≡ true = served_was y.0 (ap has_buffers (sym y.2) ∙ x.2) in
-      both_ways (list_any has_buffers nodes) (In-any has_buffers nodes y.0 y.1 was)
+      both_ways _ (In-any has_buffers nodes y.0 y.1 was)
       (opens.bare (sym (ap (λ (x : Shelf). x.buffers) gone.shelf) ∙ none)))
     where
       served_was : (n : Node) → has_buffers (goes n) ≡ true → has_buffers n ≡ true
-      served_was n h =
-          let here : (falls n.key || n.gone) ≡ false =
-          sym (gone_of going keys n) ∙ not-true (goes n).gone (and_left (not (goes n).gone) _ h) in
-          and_both (not n.gone) n.allocated (ap not (or_none_right (falls n.key) n.gone here))
-          (sym (given_of going keys n) ∙ and_right (not (goes n).gone) _ h)
+      served_was n h = grind (arith, given_of, gone_of)
 
   -- only this collection changed
   beside : IsBeside t now ss old.id
   beside = record {
     same = gone.stores.same;
-    others = λ x on differ. beside_same t us ss old opens.store going origin keys gone.taken own now gone.stores x differ
-        (all-In (λ (y : Shelf). list_all (is_filed t y.id) y.keys) ss x on opens.store.kept.filed);
+    others = λ x on differ. beside_same opens.store _ gone.taken own gone.stores x differ
+        (all-In _ ss x on opens.store.kept.filed);
   }
 
   -- the highest of what goes
   abbrev highest : Node
-  highest = top t ss s opens.store.kept opens.store.found gone.forest origin left keys gone.taken
+  highest = top opens.store.kept opens.store.found gone.forest left gone.taken
 
   -- the top is one of the nodes
   highest_on : In highest nodes
-  highest_on = top_on t ss s opens.store.kept opens.store.found gone.forest origin left keys gone.taken
+  highest_on = top_on opens.store.kept opens.store.found gone.forest left gone.taken
 
   -- the top is left
   highest_here : highest.gone ≡ false
-  highest_here = top_here t ss s opens.store.kept opens.store.found gone.forest origin left keys gone.taken
+  highest_here = top_here opens.store.kept opens.store.found gone.forest left gone.taken
 
   -- the head of the unit above stands above it
   over_is : head_over t keys ≡ option_map_or (head_of t) highest.parent None
   over_is =
-      let first = stands_first t ss s opens.store.kept opens.store.found gone.forest origin left keys gone.taken in
+      let first = stands_first opens.store.kept opens.store.found gone.forest left gone.taken in
       ap (head_over t) first.1
-      ∙ ap (λ (o : Option NodeKey). option_map_or (head_of t) o None) (linked t ss s opens.store.kept opens.store.found highest highest_on highest_here)
+      ∙ ap (λ o. option_map_or (head_of t) o None) (linked opens.store.kept opens.store.found _ highest_on highest_here)
 
   module _ (fault : Option Fault) (becomes : map goes nodes ≡ gone_down fault origin nodes)
       (rooted : are_rooted (reverse (map goes nodes)) ≡ true) where
@@ -120,15 +106,15 @@ module _ (t : Table Node) (us : List Unit) (ss : List Shelf) (old : Entry) (unhe
         AfterRemoval t now after ss old new origin fault above unheld pending
     went_so above held next root heads = record {
       under = record {
-        store = store_now t us ss old opens.store going origin keys gone.taken own now after new gone rooted;
+        store = store_now opens.store _ gone.taken own gone rooted;
         bare = bare_new;
         held = ap (are_held_except (and_loose above unheld)) nodes_new ∙ held;
-        next = ap (λ (ns : List Node). list_any (is_next_except pending ns) ns) nodes_new ∙ next;
+        next = ap (λ ns. list_any (is_next_except pending ns) ns) nodes_new ∙ next;
         root = ap (waits_among pending) nodes_new ∙ root;
       };
       shelf = gone.shelf;
       nodes = nodes_now ∙ becomes;
-      left = ap (λ (ns : List Node). option_map_or (is_head_left ns) above true) nodes_now ∙ heads;
+      left = ap (λ ns. option_map_or (is_head_left ns) above true) nodes_now ∙ heads;
       beside = beside;
     }
 
@@ -136,30 +122,29 @@ module _ (t : Table Node) (us : List Unit) (ss : List Shelf) (old : Entry) (unhe
     by_root : highest.parent ≡ None → AfterRemoval t now after ss old new origin fault None unheld pending
     by_root none =
         let all : AreGone (map goes nodes) = λ n on.
-        let x = In-map goes nodes n on in
-        ap (λ (m : Node). m.gone) x.2 ∙ (gone_of going keys x.0 ∙ elim (either_way x.0.gone) [
-          | inl e ↦ or_right (falls x.0.key) x.0.gone e
-          | inr e ↦ or_left (falls x.0.key) x.0.gone
-              (all_taken t ss s opens.store.kept opens.store.found gone.forest origin left keys gone.taken none x.0 x.1 e)
+        let x = In-map _ _ n on in
+        ap (λ (m : Node). m.gone) x.2 ∙ (gone_of _ _ x.0 ∙ elim (either_way x.0.gone) [
+          | inl e ↦ or_right _ _ e
+          | inr e ↦ or_left _ _ (all_taken _ _ _ _ _ none x.0 x.1 e)
         ]) in
-        went_so None (held_gone unheld (map goes nodes) all) (next_gone pending (map goes nodes) all) (root_gone pending (map goes nodes) all) refl
+        went_so _ (held_gone _ _ all) (next_gone _ _ all) (root_gone _ _ all) refl
 
     -- what goes hung on a node, whose unit stays
-    module _ (p : NodeKey) (up : highest.parent ≡ Some p) where
+    module _ {p : NodeKey} (up : highest.parent ≡ Some p) where
       abbrev over : Node
-      over = (parent t ss s opens.store.kept opens.store.found gone.forest origin left keys gone.taken p up).node
+      over = (parent opens.store.kept opens.store.found gone.forest left gone.taken up).node
 
       -- the parent of the top is one of the nodes
       over_on : In over nodes
-      over_on = (parent t ss s opens.store.kept opens.store.found gone.forest origin left keys gone.taken p up).on
+      over_on = (parent opens.store.kept opens.store.found gone.forest left gone.taken up).on
 
       -- it has the key that the top names
       over_key : over.key ≡ p
-      over_key = (parent t ss s opens.store.kept opens.store.found gone.forest origin left keys gone.taken p up).is
+      over_key = (parent opens.store.kept opens.store.found gone.forest left gone.taken up).is
 
       -- it is left
       over_here : over.gone ≡ false
-      over_here = (parent t ss s opens.store.kept opens.store.found gone.forest origin left keys gone.taken p up).here
+      over_here = (parent opens.store.kept opens.store.found gone.forest left gone.taken up).here
 
       -- no two nodes have one key
       over_one : (q : Node) → In q nodes → q.key ≡ over.key → q ≡ over
@@ -172,10 +157,7 @@ module _ (t : Table Node) (us : List Unit) (ss : List Shelf) (old : Entry) (unhe
       -- what falls is the top, or hangs on something that falls
       ups : (x : Node) → In x nodes → x.gone ≡ false → falls x.key ≡ true → (x ≡ highest) ⊎ ((q : NodeKey) × (x.parent ≡ Some q) ×
           (falls q ≡ true))
-      ups x on here h = elim (up_falls t ss s opens.store.kept opens.store.found gone.forest origin left keys gone.taken x on here h) [
-        | inl e ↦ inl (distinct_one nodes whole.sound.distinct x highest on highest_on e)
-        | inr more ↦ inr more
-      ]
+      ups x on here h = grind (arith, distinct_one, highest_on, up_falls, whole)
 
       -- it is attached, or dispensable in a unit that has its buffers
       guard : (highest.attached ≡ true) ⊎ ((h : Node) → In h nodes → h.key ≡ over.head → h.allocated ≡ true)
@@ -183,70 +165,71 @@ module _ (t : Table Node) (us : List Unit) (ss : List Shelf) (old : Entry) (unhe
         | inl e ↦ inl e
         | inr e ↦ inr (λ h on is.
             let block : is_blocking highest ≡ true =
-            blocks t ss s opens.store.kept opens.store.found gone.forest origin left keys gone.taken p up in
+            blocks opens.store.kept opens.store.found gone.forest left gone.taken up in
             let given : highest.allocated ≡ true = allocated_by highest.attached highest.dispensable highest.allocated e block in
             let no_head : is_head highest ≡ false = (λ i. is_none (up i) || highest.attached) ∙ e in
-            let q = shared nodes whole.sound.distinct whole.sound.heads whole.rooted whole.united highest highest_on highest_here no_head
-            over.key up_over in
+            let q = shared whole _ highest_on highest_here no_head up_over in
             let unit : highest.head ≡ h.key =
             sym q.3 ∙ (ap (λ (n : Node). n.head) (over_one q.0 q.1 q.2) ∙ sym is) in
-            let x = head_there nodes whole.sound.distinct whole.sound.heads whole.rooted whole.united over over_on over_here in
+            let x = head_there whole _ over_on over_here in
             let same : x.0 ≡ h = distinct_one nodes whole.sound.distinct x.0 h x.1 on (x.2 ∙ sym is) in
             let head : is_head h ≡ true = ap is_head (sym same) ∙ x.4 in
             let here : h.gone ≡ false = ap (λ (n : Node). n.gone) (sym same) ∙ x.3 in
             sym (whole.together.alike highest h highest_on on unit
-            (own_head nodes whole.sound.distinct whole.sound.heads whole.rooted whole.united h on head) here) ∙ given)
+            (own_head whole h on head) here) ∙ given)
       ]
         where
           allocated_by : (a d b : Bool) → a ≡ false → (a || (d && b)) ≡ true → b ≡ true
-          allocated_by true d b e h = cc
-          allocated_by false true b e h = h
-          allocated_by false false b e h = cc
+          allocated_by a d b e h = grind arith
 
       -- the head of the unit above is left
       head_left : is_head_left (map goes nodes) over.head ≡ true
       head_left =
-          let x = head_there nodes whole.sound.distinct whole.sound.heads whole.rooted whole.united over over_on over_here in
+          let x = head_there whole _ over_on over_here in
           let out : falls x.0.key ≡ false =
-          head_out t ss s opens.store.kept opens.store.found gone.forest origin left keys gone.taken p up x.0 x.1 x.3 x.2 in
-          In-any (λ (n : Node). is_of over.head n && (not n.gone && is_head n)) (map goes nodes) (goes x.0) (In-map-back goes nodes x.0 x.1)
-          (ap (λ (n : Node). is_of over.head n && (not n.gone && is_head n)) (goes_not going keys x.0 out)
-          ∙ and_both (is_of over.head x.0) (not x.0.gone && is_head x.0)
-          (ap (λ (k : NodeKey). same_key k over.head) x.2 ∙ same_key-refl over.head)
-          (and_both (not x.0.gone) (is_head x.0) (ap not x.3) x.4))
+          head_out opens.store.kept opens.store.found gone.forest left gone.taken up x.0 x.1 x.3 x.2 in
+          In-any _ _ _ (In-map-back _ _ x.0 x.1)
+          (ap (λ (n : Node). is_of over.head n && (not n.gone && is_head n)) (goes_not _ _ x.0 out) ∙ and_both _ _
+          (same_key-equal _ _ x.2) (and_both _ _ (ap not x.3) x.4))
+
+      -- all but the top hang on what falls
+      way : AreFalling (collection_in t s) falls highest over
+      way = record { whole = whole; up = ups; top_up = λ on here. up_over; above_one = over_one }
+
+      -- what falls is marked as gone
+      made : IsMarked falls goes
+      made = record {
+        same = same_of going keys;
+        alloc = given_of going keys;
+        goes = gone_of going keys;
+        alone = goes_not going keys;
+      }
 
       -- the unit above may have lost what held it; no other one did
       by_parent : AfterRemoval t now after ss old new origin fault (Some over.head) unheld pending
       by_parent =
-          went_so (Some over.head)
-          (held_but (collection_in t s) whole falls highest over ups (λ on here. up_over) over_one goes (same_of going keys)
-          (given_of going keys) (gone_of going keys) (goes_not going keys) unheld opens.held)
-          (next_but (collection_in t s) whole falls highest over ups (λ on here. up_over) over_one goes (same_of going keys)
-          (given_of going keys) (gone_of going keys) (goes_not going keys) guard pending opens.next)
-          (root_but (collection_in t s) whole falls highest over ups (λ on here. up_over) over_one goes (same_of going keys)
-          (given_of going keys) (gone_of going keys) (goes_not going keys) guard pending opens.root)
-          head_left
+          went_so _
+          (held_but way made _ opens.held)
+          (next_but way made guard _ opens.next)
+          (root_but way made guard _ opens.root) head_left
 
       -- the parent stands in the table
       over_found : option_map_or (head_of t) highest.parent None ≡ Some over.head
       over_found =
-          ap (λ (o : Option NodeKey). option_map_or (head_of t) o None) up_over
-          ∙ ap (option_map (λ (n : Node). n.head)) (at over over_on)
+          ap (λ o. option_map_or (head_of t) o None) up_over ∙ ap (option_map (λ (n : Node). n.head)) (at _ over_on)
 
     -- by cases on whether the top has a parent
     pub went : AfterRemoval t now after ss old new origin fault (head_over t keys) unheld pending
     went = elim (none_or_some highest.parent) [
       | inl none ↦
-          subst (λ (o : Option NodeKey). AfterRemoval t now after ss old new origin fault o unheld pending)
-          (sym (over_is ∙ ap (λ (o : Option NodeKey). option_map_or (head_of t) o None) none)) (by_root none)
+          rw (over_is ∙ ap (λ o. option_map_or (head_of t) o None) none) (by_root none)
       | inr some ↦
-          subst (λ (o : Option NodeKey). AfterRemoval t now after ss old new origin fault o unheld pending)
-          (sym (over_is ∙ over_found some.0 some.1)) (by_parent some.0 some.1)
+          rw (over_is ∙ over_found some.1) (by_parent some.1)
     ]
 
 -- ---- by a fault
 
-module _ (t : Table Node) (us : List Unit) (ss : List Shelf) (old : Entry) (unheld pending : List NodeKey)
+module _ {t : Table Node} {us : List Unit} {ss : List Shelf} {old : Entry} {unheld pending : List NodeKey}
     (opens : MidEvent t us ss old unheld pending) (now : Table Node) (after : List Unit) (new : Entry) (origin : NodeKey)
     (keys : List NodeKey) where
   -- the failure of the node takes exactly these keys
@@ -254,7 +237,7 @@ module _ (t : Table Node) (us : List Unit) (ss : List Shelf) (old : Entry) (unhe
       is_left_of (nodes_with t old.keys.items) origin ≡ true → fault.origin ≡ origin →
       AfterRemoval t now after ss old new origin (Some fault) (head_over t keys) unheld pending
   went_lost fault gone left is =
-      went t us ss old unheld pending opens now after new (Going.Fails fault) origin keys gone left (Some fault) becomes
+      went opens gone left (Some fault) becomes
       (ap (λ (ns : List Node). are_rooted (reverse ns)) becomes
       ∙ (rooted_loss nodes_were (record { one = distinct_one nodes_were all.sound.distinct; rooted = all.rooted }) fault).rooted)
     where
@@ -262,30 +245,26 @@ module _ (t : Table Node) (us : List Unit) (ss : List Shelf) (old : Entry) (unhe
       nodes_were = nodes_with t old.keys.items
 
       all : IsWhole (collection_in t (shelf_of old))
-      all = entire t ss (shelf_of old) opens.store.kept opens.store.found gone.forest origin left keys gone.taken
+      all = entire opens.store.kept opens.store.found gone.forest left gone.taken
 
       one_fails : (n : Node) → goes_of (Going.Fails fault) keys n ≡ lost (λ m. list_any (same_key m.key) keys) fault n
-      one_fails n = elim (either_way (list_any (same_key n.key) keys)) [
-        | inl e ↦ goes_in (Going.Fails fault) keys n e ∙ (λ i. lost (λ _. sym e i) fault n)
-        | inr e ↦ goes_not (Going.Fails fault) keys n e ∙ (λ i. lost (λ _. sym e i) fault n)
-      ]
+      one_fails n = grind (arith, goes_in, goes_not)
 
       becomes : map (goes_of (Going.Fails fault) keys) nodes_were ≡ after_loss fault nodes_were
       becomes =
-          map-In (goes_of (Going.Fails fault) keys) (lost (λ m. list_any (same_key m.key) keys) fault) nodes_were (λ n on. one_fails n)
-          ∙ losses_by_fall t nodes_were (on_ties t ss (shelf_of old) opens.store.kept opens.store.found gone.forest origin left keys gone.taken) fault
-          (ap (is_left_of nodes_were) is ∙ left) keys
-          (subst (λ (k : NodeKey). IsFall t k keys) (sym is) gone.taken.fall)
+          map-In _ _ _ (λ n on. one_fails n)
+          ∙ losses_by_fall (on_ties opens.store.kept opens.store.found gone.forest left gone.taken) _
+          (ap (is_left_of nodes_were) is ∙ left) _ (rw is gone.taken.fall)
 
   -- ---- without one
 
   -- they leave
-  pub went_ended : (going : Going) → ((n : Node) → gone_by going n ≡ record n { gone = true }) → IsGoneSo t now us after old new going origin keys →
+  pub went_ended : {going : Going} → ((n : Node) → gone_by going n ≡ record n { gone = true }) → IsGoneSo t now us after old new going origin keys →
       is_left_of (nodes_with t old.keys.items) origin ≡ true →
       ((n : Node) → In n (nodes_with t old.keys.items) → n.key ≡ origin → is_head n ≡ true) →
       AfterRemoval t now after ss old new origin None (head_over t keys) unheld pending
-  went_ended going leaves gone left heads =
-      went t us ss old unheld pending opens now after new going origin keys gone left None becomes
+  went_ended {going} leaves gone left heads =
+      went opens gone left None becomes
       (ap (λ (ns : List Node). are_rooted (reverse ns)) becomes
       ∙ (rooted_end nodes_were (record { one = distinct_one nodes_were all.sound.distinct; rooted = all.rooted }) origin).rooted)
     where
@@ -293,32 +272,32 @@ module _ (t : Table Node) (us : List Unit) (ss : List Shelf) (old : Entry) (unhe
       nodes_were = nodes_with t old.keys.items
 
       all : IsWhole (collection_in t (shelf_of old))
-      all = entire t ss (shelf_of old) opens.store.kept opens.store.found gone.forest origin left keys gone.taken
+      all = entire opens.store.kept opens.store.found gone.forest left gone.taken
 
       one_leaves : (n : Node) → goes_of going keys n ≡ record n { gone = list_any (same_key n.key) keys || n.gone }
       one_leaves n = elim (either_way (list_any (same_key n.key) keys)) [
-        | inl e ↦ goes_in going keys n e ∙ (leaves n ∙ (λ i. record n { gone = sym e i || n.gone }))
-        | inr e ↦ goes_not going keys n e ∙ (λ i. record n { gone = sym e i || n.gone })
+        | inl e ↦ goes_in _ _ n e ∙ (leaves n ∙ (λ i. record n { gone = sym e i || n.gone }))
+        | inr e ↦ goes_not _ _ n e ∙ (λ i. record n { gone = sym e i || n.gone })
       ]
 
       -- the origin
       o : IsLeft nodes_were origin
-      o = left_node nodes_were origin left
+      o = left_node _ _ left
 
       takes_below : (n : Node) → In n nodes_were → n.gone ≡ false → list_any (same_key n.key) keys ≡ is_below nodes_were origin n.key
       takes_below =
-          let ties = on_ties t ss (shelf_of old) opens.store.kept opens.store.found gone.forest origin left keys gone.taken in
+          let ties = on_ties opens.store.kept opens.store.found gone.forest left gone.taken in
           let at_o : node_at t origin ≡ Some o.node =
-          ap (node_at t) (sym o.is) ∙ at_key t ss (shelf_of old) opens.store.kept opens.store.found o.node o.on in
-          elim (or_cases (is_none o.node.parent) o.node.attached (heads o.node o.on o.is)) [
+          ap (node_at t) (sym o.is) ∙ at_key opens.store.kept opens.store.found _ o.on in
+          elim (or_cases _ _ (heads o.node o.on o.is)) [
             | inl none ↦
-                fall_root t nodes_were ties origin left
+                fall_root ties _ left
                 (ap (parent_at t) (sym o.is)
-                ∙ (linked t ss (shelf_of old) opens.store.kept opens.store.found o.node o.on o.here ∙ no_parent o.node.parent none)) keys gone.taken.fall
+                ∙ (linked opens.store.kept opens.store.found _ o.on o.here ∙ no_parent o.node.parent none)) _ gone.taken.fall
             | inr attached ↦
-                fall_below t nodes_were ties origin left
-                (ap (λ (x : Option Node). option_map_or is_blocking x false) at_o
-                ∙ ap (λ (b : Bool). b || (o.node.dispensable && o.node.allocated)) attached) keys gone.taken.fall
+                fall_below ties _ left
+                (ap (λ x. option_map_or is_blocking x false) at_o
+                ∙ ap (λ b. b || (o.node.dispensable && o.node.allocated)) attached) _ gone.taken.fall
           ]
         where
           no_parent : (x : Option NodeKey) → is_none x ≡ true → x ≡ None
@@ -326,12 +305,12 @@ module _ (t : Table Node) (us : List Unit) (ss : List Shelf) (old : Entry) (unhe
           no_parent (Some p) h = cc
 
       becomes : map (goes_of going keys) nodes_were ≡ after_end origin nodes_were
-      becomes = map-In (goes_of going keys) (ended nodes_were origin) nodes_were (λ n on. one_leaves n ∙ by n on (either_way n.gone))
+      becomes = map-In _ _ _ (λ n on. one_leaves n ∙ by n on (either_way n.gone))
         where
           by : (n : Node) → In n nodes_were → (n.gone ≡ true) ⊎ (n.gone ≡ false) →
               record n { gone = list_any (same_key n.key) keys || n.gone } ≡ ended nodes_were origin n
           by n on (inl e) =
               let both : (list_any (same_key n.key) keys || n.gone) ≡ (is_below nodes_were origin n.key || n.gone) =
-              or_right (list_any (same_key n.key) keys) n.gone e ∙ sym (or_right (is_below nodes_were origin n.key) n.gone e) in
+              or_right _ _ e ∙ sym (or_right _ _ e) in
               λ i. record n { gone = both i }
           by n on (inr e) = λ i. record n { gone = takes_below n on e i || n.gone }

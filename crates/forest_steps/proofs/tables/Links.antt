@@ -1,18 +1,11 @@
 -- Nodes that are stored have their keys still, and whose the nodes at keys are.
-use Rattle.forest_steps.proofs.Common.{◌≡◌, ℕ, ◌==◌, refl, ap, sym, ◌∙◌, Bool, true, ◌||◌, List, [], ◌∷◌, Option, Some, None, option_map, cons_option, list_any, option_map_or, NodeKey, same_key, and_both, or_right, same_key-refl, Table, node_at, Node, nodes_with}
-use Rattle.forest_store.specs.Shelves.{Stores, all_of, stored}
+use Rattle.forest_steps.proofs.Common.{◌≡◌, ℕ, ◌==◌, refl, ap, Bool, true, ◌||◌, List, [], ◌∷◌, Option, Some, None, cons_option, list_any, option_map_or, NodeKey, same_key, and_both, or_right, same_key-refl, Table, node_at, Node, nodes_with, Stores, all_of, arith}
 use Rattle.forest_store.proofs.tables.Storing.{stored-key}
 
 -- each node has its key still
-pub still_named : (t now : Table Node) (ns : List Node) → ((key : NodeKey) (n : Node) → node_at t key ≡ Some n → n.key ≡ key) →
-    Stores t now ns → (key : NodeKey) (n : Node) → node_at now key ≡ Some n → n.key ≡ key
-still_named t now ns named stores key n is = from (node_at t key) refl (sym (stores.look key) ∙ is)
-  where
-    from : (o : Option Node) → node_at t key ≡ o → option_map (stored ns) o ≡ Some n → n.key ≡ key
-    from None at e = cc
-    from (Some m) at e =
-        let one : stored ns m ≡ n = cc in
-        ap (λ (x : Node). x.key) (sym one) ∙ (stored-key ns m ∙ named key m at)
+pub still_named : {t now : Table Node} {ns : List Node} → ((key : NodeKey) (n : Node) → node_at t key ≡ Some n → n.key ≡ key) →
+    Stores t now ns → (key : NodeKey) {n : Node} → node_at now key ≡ Some n → n.key ≡ key
+still_named {t} {ns} named stores key {n} is = grind (arith, stored-key)
 
 -- ---- what is asked of linked tables
 
@@ -25,10 +18,10 @@ pub own_all : (t : Table Node) (id : ℕ) (keys : List NodeKey) →
     ((key : NodeKey) → list_any (same_key key) keys ≡ true → own_at t id key ≡ true) → all_of id (nodes_with t keys) ≡ true
 own_all t id [] each = refl
 own_all t id (k ∷ ks) each =
-    by (own_all t id ks (λ key on. each key (or_right (same_key key k) (list_any (same_key key) ks) on))) (node_at t k)
-    (each k (ap (λ (b : Bool). b || list_any (same_key k) ks) (same_key-refl k)))
+    by (own_all t id ks (λ key on. each key (or_right _ _ on))) (node_at t k)
+    (each k (ap (λ b. b || list_any (same_key k) ks) (same_key-refl k)))
   where
     by : all_of id (nodes_with t ks) ≡ true → (o : Option Node) → option_map_or (λ (n : Node). n.collection == id) o true ≡ true →
         all_of id (cons_option o (nodes_with t ks)) ≡ true
     by rest None own = rest
-    by rest (Some n) own = and_both (n.collection == id) (all_of id (nodes_with t ks)) own rest
+    by rest (Some n) own = and_both _ _ own rest

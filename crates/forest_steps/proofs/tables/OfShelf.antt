@@ -1,25 +1,23 @@
 -- The nodes of a collection that is kept, in the table.
-use Rattle.forest_steps.proofs.Common.{◌≡◌, ◌==◌, false, List, Some, find, In, Table, node_at, parent_at, Node, IsStored, IsWhole, Shelf, collection_in, nodes_with}
-use Rattle.forest_store.specs.Ties.{IsTied}
-use Rattle.forest_store.proofs.changes.Altering.{found_whole}
-use Rattle.forest_store.proofs.tables.Hanging.{in_all, looked_hung, looked_there, looked_tied}
+use Rattle.forest_steps.proofs.Common.{◌≡◌, ◌==◌, false, List, Some, find, In, Table, node_at, parent_at, Node, IsStored, IsWhole, Shelf, collection_in, nodes_with, IsTied, found_whole, in_all, looked_there}
+use Rattle.forest_store.proofs.tables.Hanging.{looked_hung, looked_tied}
 
-module _ (t : Table Node) (ss : List Shelf) (s : Shelf) (kept : IsStored t ss)
+module _ {t : Table Node} {ss : List Shelf} {s : Shelf} (kept : IsStored t ss)
     (found : find (λ (x : Shelf). x.id == s.id) ss ≡ Some s) where
   abbrev pub nodes : List Node
   nodes = nodes_with t s.keys
 
   -- each collection is whole
   pub whole : IsWhole (collection_in t s)
-  whole = found_whole t s.id ss s kept.whole found
+  whole = found_whole t _ ss s kept.whole found
 
   -- the nodes are linked as the table links them
   pub tied : IsTied t nodes
-  tied = looked_tied t kept.named s.keys (looked_hung t kept.named kept.linked s.keys whole.rooted)
+  tied = looked_tied t kept.named _ (looked_hung t kept.named kept.linked _ whole.rooted)
 
   -- each node stands in the table under its key
   pub at_key : (n : Node) → In n nodes → node_at t n.key ≡ Some n
-  at_key n on = in_all (λ (x : Node). node_at t x.key ≡ Some x) nodes (looked_there t kept.named s.keys) n on
+  at_key n on = in_all _ _ (looked_there t kept.named _) n on
 
   -- the table links each node that is not gone to its parent
   pub linked : (n : Node) → In n nodes → n.gone ≡ false → parent_at t n.key ≡ n.parent

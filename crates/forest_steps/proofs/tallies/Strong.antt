@@ -1,10 +1,6 @@
 -- Whether a strong node of a collection is live, told by its nodes.
-use Rattle.forest_steps.proofs.Common.{◌≡◌, ℕ, ◌==◌, Bool, true, false, ◌||◌, ◌&&◌, not, List, [], ◌∷◌, map, Option, Some, option_map, refl, ap, ◌∙◌, list_any, filter, find, option_map_or, Table, Entry, Node, Collection, shelf_of, shelves_of, collection_in, nodes_with, forest_of, members_of}
-use Rattle.sm_names.specs.Members.{Member, is_live as lives, some_strong_live}
-use Rattle.forest_store.specs.Forest.{collection_at}
-use Rattle.forest_store.specs.Shelves.{is_strong}
-use Rattle.forest_store.specs.Nodes.{member_of}
-use Rattle.forest_store.proofs.shelves.Showing.{shelf_found, collection_is}
+use Rattle.forest_steps.proofs.Common.{◌≡◌, ℕ, ◌==◌, Bool, true, false, ◌||◌, ◌&&◌, not, List, [], ◌∷◌, map, Some, refl, ap, list_any, filter, find, option_map_or, Table, Entry, Node, Collection, shelves_of, nodes_with, forest_of, members_of, Member, collection_at, is_strong, member_of, shelf_found, collection_is, arith}
+use Rattle.sm_names.specs.Members.{is_live as lives, some_strong_live}
 
 -- by whether the first node is gone
 strong-by : (all : List Node) (n : Node) (ns : List Node) (gone : Bool) → n.gone ≡ gone →
@@ -18,17 +14,14 @@ strong-by all n ns false gone on = rw gone (ap (λ b. (not n.released && not n.w
 strong-any : (all ns : List Node) →
     list_any (λ (m : Member). lives m && not m.weak) (map (member_of all) (filter (λ (n : Node). not n.gone) ns)) ≡ list_any is_strong ns
 strong-any all [] = refl
-strong-any all (n ∷ ns) = strong-by all n ns n.gone refl (strong-any all ns)
+strong-any all (n ∷ ns) = strong-by all n ns _ refl (strong-any all ns)
 
 -- so it is by the nodes
 pub strong_members : (ns : List Node) → some_strong_live (members_of ns) ≡ list_any is_strong ns
 strong_members ns = strong-any ns ns
 
 -- the collection of an entry that is found
-pub strong_found : (t : Table Node) (es : List Entry) (id : ℕ) (e : Entry) → find (λ (x : Entry). x.id == id) es ≡ Some e →
+pub strong_found : (t : Table Node) (es : List Entry) (id : ℕ) {e : Entry} → find (λ (x : Entry). x.id == id) es ≡ Some e →
     option_map_or (λ (c : Collection). some_strong_live (members_of c.nodes)) (collection_at (forest_of t (shelves_of es)) id)
     false ≡ list_any is_strong (nodes_with t e.keys.items)
-strong_found t es id e found =
-    ap (λ (o : Option Collection). option_map_or (λ (c : Collection). some_strong_live (members_of c.nodes)) o false)
-    (collection_is t id (shelves_of es) ∙ ap (option_map (collection_in t)) (shelf_found id es ∙ ap (option_map shelf_of) found))
-    ∙ strong_members (nodes_with t e.keys.items)
+strong_found t es id {e} found = grind (arith, collection_is, shelf_found, strong_members)

@@ -1,15 +1,10 @@
 -- Each node of a collection that is not gone stands behind its parent, and is of its unit unless it is attached.
-use Rattle.forest_steps.proofs.Common.{ℕ, zero, suc, ◌<◌, ◌≡◌, refl, ap, sym, ◌∙◌, Bool, true, false, not, ◌||◌, is_none, List, [], ◌∷◌, ◌++◌, take, drop, reverse, Option, Some, None, inl, inr, arith, list_all, option_map_or, NodeKey, same_key, In, and_left, and_right, same_key-refl, Node, is_left_of, are_rooted}
+use Rattle.forest_steps.proofs.Common.{ℕ, zero, suc, ◌<◌, ◌≡◌, refl, ap, sym, ◌∙◌, Bool, true, false, not, ◌||◌, is_none, List, [], ◌∷◌, ◌++◌, take, drop, reverse, Option, Some, None, inl, inr, arith, list_all, option_map_or, NodeKey, same_key, In, and_left, and_right, Node, is_left_of, are_rooted, same_key-equal, In-reverse, same_key-comm, Hangs, Roots, hangs_on, all-In, left_node}
 use Rattle.std.proofs.lemmas.List.{append_assoc, reverse-append}
 use Rattle.std.specs.List.{slice_get}
-use Rattle.sm_names.proofs.ListLaws.{In-reverse}
-use Rattle.sm_names.proofs.SamenessLaws.{same_key-comm}
-use Rattle.forest_store.specs.Falls.{AreGrown, Hangs, IsPlaced, Roots}
-use Rattle.forest_store.specs.Ties.{hangs_on}
+use Rattle.forest_store.specs.Falls.{AreGrown, IsPlaced}
 use Rattle.forest_store.specs.Units.{are_united, is_parent, shares_unit}
 use Rattle.forest_steps.proofs.quiescence.Lines.{parted_at}
-use Rattle.forest_store.proofs.quiescence.Steps.{all-In}
-use Rattle.forest_store.proofs.tables.Rooted.{left_node}
 
 -- where one of the first stands
 front_place : (ns : List Node) (at : ℕ) (m : Node) → In m (take at ns) → (i : ℕ) × (slice_get ns i ≡ Some m) × (i < at)
@@ -21,12 +16,12 @@ front_place (n ∷ ns) (suc at) m (inr on) = let r = front_place ns at m on in l
 -- what holds of nodes behind others, the newest first
 rooted_back : (front back : List Node) → are_rooted (front ++ back) ≡ true → are_rooted back ≡ true
 rooted_back [] back h = h
-rooted_back (n ∷ ns) back h = rooted_back ns back (and_right (hangs_on (ns ++ back) n) (are_rooted (ns ++ back)) h)
+rooted_back (n ∷ ns) back h = rooted_back ns _ (and_right _ _ h)
 
 -- by induction over the nodes in front
 united_back : (front back : List Node) → are_united (front ++ back) ≡ true → are_united back ≡ true
 united_back [] back h = h
-united_back (n ∷ ns) back h = united_back ns back (and_right (list_all (shares_unit n) (ns ++ back)) (are_united (ns ++ back)) h)
+united_back (n ∷ ns) back h = united_back ns _ (and_right _ _ h)
 
 -- the parent stands before the node, and shares its unit unless the node is attached
 pub grown_by : (nodes : List Node) → are_rooted (reverse nodes) ≡ true → are_united (reverse nodes) ≡ true → AreGrown nodes
@@ -39,37 +34,31 @@ grown_by nodes rooted united at n there here = from n.parent refl
     newer = drop (suc at) nodes
 
     turned : reverse nodes ≡ reverse newer ++ n ∷ reverse older
-    turned = ap reverse (parted_at nodes at n there)
+    turned = ap reverse (parted_at _ at there)
         ∙ (reverse-append older (n ∷ newer)
         ∙ (ap (λ ns. ns ++ reverse older) (reverse-append (n ∷ []) newer) ∙ append_assoc (reverse newer) (n ∷ []) (reverse older)))
 
     hangs : hangs_on (reverse older) n ≡ true
-    hangs = and_left (hangs_on (reverse older) n) (are_rooted (reverse older))
-        (rooted_back (reverse newer) (n ∷ reverse older) (ap are_rooted (sym turned) ∙ rooted))
+    hangs = and_left _ _ (rooted_back (reverse newer) (n ∷ reverse older) (ap are_rooted (sym turned) ∙ rooted))
 
     shares : list_all (shares_unit n) (reverse older) ≡ true
-    shares = and_left (list_all (shares_unit n) (reverse older)) (are_united (reverse older))
-        (united_back (reverse newer) (n ∷ reverse older) (ap are_united (sym turned) ∙ united))
+    shares = and_left _ _ (united_back (reverse newer) (n ∷ reverse older) (ap are_united (sym turned) ∙ united))
 
     unit : (attached is : Bool) (head above : NodeKey) → is ≡ true → (attached || (not is || same_key above head)) ≡ true →
         (attached || same_key head above) ≡ true
-    unit true is head above e h = refl
-    unit false true head above e h = same_key-comm above head h
-    unit false false head above e h = cc
+    unit attached is head above h k = grind (arith, same_key-comm)
 
     from : (o : Option NodeKey) → n.parent ≡ o → IsPlaced nodes n at
     from None none = Roots none
     from (Some p) up =
         let left : is_left_of (reverse older) p ≡ true = rw (here, up) at hangs in
-        let x = left_node (reverse older) p left in
-        let place = front_place nodes at x.node (In-reverse older x.node x.on) in
-        let is : is_parent n x.node ≡ true =
-        ap (λ (o : Option NodeKey). option_map_or (λ k. same_key x.node.key k) o false) up
-        ∙ (ap (λ (k : NodeKey). same_key k p) x.is ∙ same_key-refl p) in
-        let shared : shares_unit n x.node ≡ true = all-In (shares_unit n) (reverse older) x.node x.on shares in
+        let x = left_node _ p left in
+        let place = front_place _ at _ (In-reverse _ _ x.on) in
+        let is : is_parent n x.node ≡ true = ap (λ o. option_map_or (λ k. same_key x.node.key k) o false) up
+        ∙ (same_key-equal _ _ x.is) in
         let plain : (n.attached || (not (is_parent n x.node) || same_key x.node.head n.head)) ≡ true =
-        ap (λ (o : Option NodeKey). (is_none o || n.attached) || (not (is_parent n x.node) || same_key x.node.head n.head)) (sym up)
-        ∙ shared in
+        ap (λ o. (is_none o || n.attached) || (not (is_parent n x.node) || same_key x.node.head n.head)) (sym up)
+        ∙ all-In _ _ _ x.on shares in
         Hangs (record {
           place = place.0;
           above = x.node;

@@ -1,88 +1,78 @@
 -- The nodes of a collection stand as its keys do, each behind its parent and the head of its parent's unit.
-use Rattle.forest_steps.proofs.Common.{◌≡◌, ℕ, zero, suc, ◌<◌, ◌==◌, refl, ap, sym, ◌∙◌, subst, Bool, true, false, ◌||◌, inl, inr, is_none, List, [], ◌∷◌, Option, Some, None, option_map, arith, not, cons_option, find, list_all, list_any, option_map_or, NodeKey, same_key, and_left, and_right, either_way, or_left, or_right, same_key-true, some-injective, both_ways, same_key-refl, Table, node_at, Node, IsStored, IsWhole, Shelf, collection_in, is_filed, nodes_with, are_distinct, heads_itself, not-true, In, In-any, is_of}
+use Rattle.forest_steps.proofs.Common.{◌≡◌, ℕ, zero, suc, ◌<◌, ◌==◌, refl, ap, sym, ◌∙◌, true, false, ◌||◌, inl, inr, is_none, List, [], ◌∷◌, Option, Some, None, option_map, arith, cons_option, find, list_all, option_map_or, NodeKey, same_key, and_left, and_right, either_way, or_left, or_right, same_key-true, some-injective, same_key-refl, Table, node_at, Node, IsStored, IsWhole, Shelf, collection_in, is_filed, nodes_with, are_distinct, heads_itself, In, In-any, Hangs, Roots, all-In, found_filed, found_whole, node_there}
 use Rattle.std.specs.List.{slice_get}
-use Rattle.forest_store.specs.Falls.{AreGrown, Hangs, IsHanging, Roots}
+use Rattle.forest_store.specs.Falls.{AreGrown, IsHanging}
 use Rattle.forest_steps.specs.InTurn.{IsKeyAt}
-use Rattle.forest_store.proofs.quiescence.Steps.{all-In}
-use Rattle.forest_store.proofs.changes.Altering.{found_filed, found_whole}
-use Rattle.forest_store.proofs.allocation.Before.{node_there}
 use Rattle.forest_steps.proofs.turns.Grown.{grown_by}
 
 -- ---- places in lists
 
 -- another node has another key
 others_apart : (n : Node) (ns : List Node) → are_distinct (n ∷ ns) ≡ true → (m : Node) → In m ns → m.key ≡ n.key → ⊥
-others_apart n ns h m on same =
-    let none : list_any (is_of n.key) ns ≡ false =
-    not-true (list_any (is_of n.key) ns) (and_left (not (list_any (is_of n.key) ns)) (are_distinct ns) h) in
-    let there : list_any (is_of n.key) ns ≡ true =
-    In-any (is_of n.key) ns m on (subst (λ (k : NodeKey). same_key m.key k ≡ true) same (same_key-refl m.key)) in
-    both_ways (list_any (is_of n.key) ns) there none
+others_apart n ns h m on same = grind (arith, In-any, same_key-refl)
 
 -- what is read there is among them
-pub got_In : (ns : List Node) (i : ℕ) (n : Node) → slice_get ns i ≡ Some n → In n ns
-got_In [] i n on = cc
-got_In (m ∷ ns) zero n on = inl (ap (λ (o : Option Node). option_map_or (λ (x : Node). x) o n) (sym on))
-got_In (m ∷ ns) (suc i) n on = inr (got_In ns i n on)
+pub got_In : (ns : List Node) (i : ℕ) {n : Node} → slice_get ns i ≡ Some n → In n ns
+got_In [] i on = cc
+got_In (m ∷ ns) zero {n} on = inl (ap (λ o. option_map_or (λ x. x) o n) (sym on))
+got_In (m ∷ ns) (suc i) on = inr (got_In ns i on)
 
 -- what stands where a key does
 key_there : (ns : List Node) (at : ℕ) (key : NodeKey) → IsKeyAt ns key at → (p : Node) × (slice_get ns at ≡ Some p) × (p.key ≡ key)
 key_there [] at key on = cc
-key_there (n ∷ ns) zero key on = (n, refl, some-injective n.key key on)
+key_there (n ∷ ns) zero key on = (n, refl, some-injective _ key on)
 key_there (n ∷ ns) (suc at) key on = key_there ns at key on
 
 -- a root or attached node heads itself
 heads_own : (n : Node) → heads_itself n ≡ true → (is_none n.parent || n.attached) ≡ true → n.head ≡ n.key
-heads_own n h e = let own : same_key n.head n.key ≡ true = rw e at h in same_key-true n.head n.key own
+heads_own n h e = let own : same_key n.head n.key ≡ true = rw e at h in same_key-true _ _ own
 
 -- nodes with one key stand at one place
-pub at_one_place : (ns : List Node) → are_distinct ns ≡ true → (i l : ℕ) (a b : Node) → slice_get ns i ≡ Some a → slice_get ns l ≡ Some b →
+pub at_one_place : (ns : List Node) → are_distinct ns ≡ true → (i l : ℕ) {a b : Node} → slice_get ns i ≡ Some a → slice_get ns l ≡ Some b →
     a.key ≡ b.key → i ≡ l
-at_one_place [] distinct i l a b on there same = cc
-at_one_place (n ∷ ns) distinct zero zero a b on there same = refl
-at_one_place (n ∷ ns) distinct zero (suc l) a b on there same =
-    absurd (others_apart n ns distinct b (got_In ns l b there) (sym same ∙ ap (λ (x : Node). x.key) (sym (some-injective n a on))))
-at_one_place (n ∷ ns) distinct (suc i) zero a b on there same =
-    absurd (others_apart n ns distinct a (got_In ns i a on) (same ∙ ap (λ (x : Node). x.key) (sym (some-injective n b there))))
-at_one_place (n ∷ ns) distinct (suc i) (suc l) a b on there same =
-    ap suc (at_one_place ns (and_right _ (are_distinct ns) distinct) i l a b on there same)
+at_one_place [] distinct i l on there same = cc
+at_one_place (n ∷ ns) distinct zero zero on there same = refl
+at_one_place (n ∷ ns) distinct zero (suc l) {a} {b} on there same =
+    absurd (others_apart n ns distinct b (got_In ns l there) (sym same ∙ ap (λ (x : Node). x.key) (sym (some-injective n a on))))
+at_one_place (n ∷ ns) distinct (suc i) zero {a} {b} on there same =
+    absurd (others_apart n ns distinct a (got_In ns i on) (same ∙ ap (λ (x : Node). x.key) (sym (some-injective n b there))))
+at_one_place (n ∷ ns) distinct (suc i) (suc l) on there same =
+    ap suc (at_one_place ns (and_right _ _ distinct) i l on there same)
 
 -- ---- the head of the unit above
 
 module _ (nodes : List Node) (distinct : are_distinct nodes ≡ true) (owned : list_all heads_itself nodes ≡ true)
     (grown : AreGrown nodes) where
   -- a key where a node stands
-  pub key_place : (ns : List Node) (at : ℕ) (n : Node) → slice_get ns at ≡ Some n → IsKeyAt ns n.key at
-  key_place ns at n on = ap (option_map (λ (m : Node). m.key)) on
+  pub key_place : (ns : List Node) (at : ℕ) {n : Node} → slice_get ns at ≡ Some n → IsKeyAt ns n.key at
+  key_place ns at on = ap (option_map (λ (m : Node). m.key)) on
 
   -- a head stands where its node does
-  head_place : (at : ℕ) (n : Node) → slice_get nodes at ≡ Some n → (is_none n.parent || n.attached) ≡ true → IsKeyAt nodes n.head at
-  head_place at n on head = subst (λ (k : NodeKey). IsKeyAt nodes k at)
-      (sym (heads_own n (all-In heads_itself nodes n (got_In nodes at n on) owned) head)) (key_place nodes at n on)
+  head_place : (at : ℕ) {n : Node} → slice_get nodes at ≡ Some n → (is_none n.parent || n.attached) ≡ true → IsKeyAt nodes n.head at
+  head_place at {n} on head = rw (heads_own n (all-In _ _ n (got_In _ at on) owned) head) (key_place _ at on)
 
   -- and no later than the nodes of its unit
-  head_from : (bound at : ℕ) → at < bound → (n : Node) → slice_get nodes at ≡ Some n → n.gone ≡ false →
+  head_from : (bound at : ℕ) → at < bound → {n : Node} → slice_get nodes at ≡ Some n → n.gone ≡ false →
       (i : ℕ) × (IsKeyAt nodes n.head i) × (i < suc at)
-  head_from zero at within n on here = absurd (omega (arith, within))
-  head_from (suc bound) at within n on here = elim (grown at n on here) [
-    | Roots none ↦ (at, head_place at n on (or_left (is_none n.parent) n.attached (ap is_none none)), omega arith)
+  head_from zero at within on here = absurd (omega (arith, within))
+  head_from (suc bound) at within {n} on here = elim (grown at n on here) [
+    | Roots none ↦ (at, head_place at on (or_left _ _ (ap is_none none)), omega arith)
     | Hangs h ↦ elim (either_way n.attached) [
-      | inl e ↦ (at, head_place at n on (or_right (is_none n.parent) n.attached e), omega arith)
+      | inl e ↦ (at, head_place at on (or_right _ _ e), omega arith)
       | inr e ↦
           let first = h.first in
-          let r = head_from bound h.place (omega (arith, within, first)) h.above h.found h.here in
+          let r = head_from bound _ (omega (arith, within, first)) h.found h.here in
           let less = r.2 in
-          let same : n.head ≡ h.above.head = same_key-true n.head h.above.head (subst (λ (b : Bool).
-          (b || same_key n.head h.above.head) ≡ true) e h.unit) in
-          (r.0, subst (λ (k : NodeKey). IsKeyAt nodes k r.0) (sym same) r.1, omega (arith, less, first))
+          let same : n.head ≡ h.above.head = same_key-true _ _ (rw e at h.unit) in
+          (r.0, rw same r.1, omega (arith, less, first))
     ]
   ]
 
   -- so the head of the unit right above a node stands before the node
-  pub above_place : (at : ℕ) (n : Node) → slice_get nodes at ≡ Some n → (h : IsHanging nodes n at) →
+  pub above_place : {at : ℕ} {n : Node} → slice_get nodes at ≡ Some n → (h : IsHanging nodes n at) →
       (i : ℕ) × (IsKeyAt nodes h.above.head i) × (i < at)
-  above_place at n on h =
-      let r = head_from (suc h.place) h.place (omega arith) h.above h.found h.here in
+  above_place on h =
+      let r = head_from (suc h.place) _ (omega arith) h.found h.here in
       let first = h.first in
       let less = r.2 in
       (r.0, r.1, omega (arith, first, less))
@@ -92,90 +82,85 @@ module _ (nodes : List Node) (distinct : are_distinct nodes ≡ true) (owned : l
 module _ (t : Table Node) (id : ℕ) (named : (key : NodeKey) (n : Node) → node_at t key ≡ Some n → n.key ≡ key) where
   -- the test fails where there is none
   one : (o : Option Node) → option_map_or (λ (n : Node). n.collection == id) o false ≡ true → (n : Node) × (o ≡ Some n)
-  one o h = let r = node_there (λ (n : Node). n.collection == id) o h in (r.0, r.1)
+  one o h = let r = node_there _ o h in (r.0, r.1)
 
   -- the key has a node, which stands first
-  behind : (keys : List NodeKey) (k : NodeKey) (n : Node) → node_at t k ≡ Some n → nodes_with t (k ∷ keys) ≡ n ∷ nodes_with t keys
-  behind keys k n is = ap (λ (o : Option Node). cons_option o (nodes_with t keys)) is
+  behind : (keys : List NodeKey) (k : NodeKey) {n : Node} → node_at t k ≡ Some n → nodes_with t (k ∷ keys) ≡ n ∷ nodes_with t keys
+  behind keys k is = ap (λ o. cons_option o (nodes_with t keys)) is
 
   -- by induction: each filed key has a node, so the two lists run side by side
-  node_from : (keys : List NodeKey) → list_all (is_filed t id) keys ≡ true → (i : ℕ) (j : NodeKey) → slice_get keys i ≡ Some j →
+  node_from : (keys : List NodeKey) → list_all (is_filed t id) keys ≡ true → (i : ℕ) {j : NodeKey} → slice_get keys i ≡ Some j →
       (m : Node) × (slice_get (nodes_with t keys) i ≡ Some m) × (node_at t j ≡ Some m)
-  node_from [] filed i j on = cc
-  node_from (k ∷ keys) filed zero j on =
-      let r = one (node_at t k) (and_left (is_filed t id k) _ filed) in
-      (r.0, ap (λ (ns : List Node). slice_get ns zero) (behind keys k r.0 r.1), ap (node_at t) (sym (some-injective k j on)) ∙ r.1)
-  node_from (k ∷ keys) filed (suc i) j on =
-      let r = one (node_at t k) (and_left (is_filed t id k) _ filed) in
-      let q = node_from keys (and_right (is_filed t id k) _ filed) i j on in
-      (q.0, ap (λ (ns : List Node). slice_get ns (suc i)) (behind keys k r.0 r.1) ∙ q.1, q.2)
+  node_from [] filed i on = cc
+  node_from (k ∷ keys) filed zero {j} on =
+      let r = one _ (and_left _ _ filed) in
+      (r.0, ap (λ ns. slice_get ns zero) (behind _ k r.1), ap (node_at t) (sym (some-injective k j on)) ∙ r.1)
+  node_from (k ∷ keys) filed (suc i) on =
+      let q = node_from keys (and_right _ _ filed) i on in
+      (q.0, ap (λ ns. slice_get ns (suc i)) (behind _ k (one _ (and_left _ _ filed)).1) ∙ q.1, q.2)
 
   -- by induction, the other way round
-  key_from : (keys : List NodeKey) → list_all (is_filed t id) keys ≡ true → (i : ℕ) (m : Node) →
+  key_from : (keys : List NodeKey) → list_all (is_filed t id) keys ≡ true → (i : ℕ) {m : Node} →
       slice_get (nodes_with t keys) i ≡ Some m → slice_get keys i ≡ Some m.key
-  key_from [] filed i m on = cc
-  key_from (k ∷ keys) filed zero m on =
-      let r = one (node_at t k) (and_left (is_filed t id k) _ filed) in
-      let is : r.0 ≡ m = some-injective r.0 m (sym (ap (λ (ns : List Node). slice_get ns zero) (behind keys k r.0 r.1)) ∙ on) in
+  key_from [] filed i on = cc
+  key_from (k ∷ keys) filed zero {m} on =
+      let r = one _ (and_left _ _ filed) in
+      let is : r.0 ≡ m = some-injective r.0 m (sym (ap (λ ns. slice_get ns zero) (behind _ k r.1)) ∙ on) in
       ap Some (sym (named k r.0 r.1) ∙ ap (λ (x : Node). x.key) is)
-  key_from (k ∷ keys) filed (suc i) m on =
-      let r = one (node_at t k) (and_left (is_filed t id k) _ filed) in
-      key_from keys (and_right (is_filed t id k) _ filed) i m
-      (sym (ap (λ (ns : List Node). slice_get ns (suc i)) (behind keys k r.0 r.1)) ∙ on)
+  key_from (k ∷ keys) filed (suc i) on =
+      let r = one _ (and_left _ _ filed) in
+      key_from keys (and_right _ _ filed) i (sym (ap (λ ns. slice_get ns (suc i)) (behind _ k r.1)) ∙ on)
 
-module _ (t : Table Node) (ss : List Shelf) (kept : IsStored t ss) (s : Shelf)
+module _ {t : Table Node} {ss : List Shelf} (kept : IsStored t ss) {s : Shelf}
     (found : find (λ (x : Shelf). x.id == s.id) ss ≡ Some s) where
   abbrev nodes : List Node
   nodes = nodes_with t s.keys
 
   -- the keys of each shelf are filed
   filed : list_all (is_filed t s.id) s.keys ≡ true
-  filed = found_filed t s.id ss s kept.filed found
+  filed = found_filed t _ ss s kept.filed found
 
   -- each collection is whole
   whole : IsWhole (collection_in t s)
-  whole = found_whole t s.id ss s kept.whole found
+  whole = found_whole t _ ss s kept.whole found
 
   -- the node of a key stands where the key does
-  pub key_node : (i : ℕ) (j : NodeKey) → slice_get s.keys i ≡ Some j →
+  pub key_node : (i : ℕ) {j : NodeKey} → slice_get s.keys i ≡ Some j →
       (m : Node) × (slice_get nodes i ≡ Some m) × (node_at t j ≡ Some m) × (m.key ≡ j)
-  key_node i j on =
-      let r = node_from t s.id kept.named s.keys filed i j on in
+  key_node i {j} on =
+      let r = node_from t _ kept.named _ filed i on in
       (r.0, r.1, r.2, kept.named j r.0 r.2)
 
   -- and the key where the node does
-  pub node_key : (i : ℕ) (m : Node) → slice_get nodes i ≡ Some m → slice_get s.keys i ≡ Some m.key
-  node_key i m on = key_from t s.id kept.named s.keys filed i m on
+  pub node_key : (i : ℕ) {m : Node} → slice_get nodes i ≡ Some m → slice_get s.keys i ≡ Some m.key
+  node_key i on = key_from t _ kept.named _ filed i on
 
   -- a key stands once
-  pub one_place : (i l : ℕ) (j : NodeKey) → slice_get s.keys i ≡ Some j → slice_get s.keys l ≡ Some j → i ≡ l
-  one_place i l j on there =
-      let a = key_node i j on in
-      let b = key_node l j there in
-      at_one_place nodes whole.sound.distinct i l a.0 b.0 a.1 b.1 (a.3 ∙ sym b.3)
+  pub one_place : (i l : ℕ) {j : NodeKey} → slice_get s.keys i ≡ Some j → slice_get s.keys l ≡ Some j → i ≡ l
+  one_place i l on there = grind (arith, at_one_place, key_node, whole)
 
   -- each stands behind its parent
   pub grown : AreGrown nodes
-  grown = grown_by nodes whole.rooted whole.united
+  grown = grown_by _ whole.rooted whole.united
 
   -- and behind the head of its parent's unit
-  pub above_first : (i h : ℕ) (j p : NodeKey) (x a : Node) → slice_get s.keys i ≡ Some j → node_at t j ≡ Some x → x.gone ≡ false →
+  pub above_first : (i h : ℕ) {j p : NodeKey} {x a : Node} → slice_get s.keys i ≡ Some j → node_at t j ≡ Some x → x.gone ≡ false →
       x.parent ≡ Some p → node_at t p ≡ Some a → slice_get s.keys h ≡ Some a.head → h < i
-  above_first i h j p x a on is here up above there =
-      let q = key_node i j on in
+  above_first i h {p} {x} {a} on is here up above there =
+      let q = key_node i on in
       let same : q.0 ≡ x = some-injective q.0 x (sym q.2 ∙ is) in
       let at : slice_get nodes i ≡ Some x = q.1 ∙ ap Some same in
       elim (grown i x at here) [
         | Roots none ↦ let both : None ≡ Some p = sym none ∙ up in cc
         | Hangs g ↦
-            let r = above_place nodes whole.sound.distinct whole.sound.heads grown i x at g in
-            let parent : g.above.key ≡ p = some-injective g.above.key p (sym g.parent ∙ up) in
-            let y = key_node g.place g.above.key (node_key g.place g.above g.found) in
-            let one : g.above ≡ y.0 = some-injective g.above y.0 (sym g.found ∙ y.1) in
+            let r = above_place _ whole.sound.distinct whole.sound.heads grown at g in
+            let parent : g.above.key ≡ p = some-injective _ p (sym g.parent ∙ up) in
+            let y = key_node _ (node_key _ g.found) in
+            let one : g.above ≡ y.0 = some-injective _ y.0 (sym g.found ∙ y.1) in
             let is_a : g.above ≡ a = one ∙ some-injective y.0 a (sym y.2 ∙ (ap (node_at t) parent ∙ above)) in
-            let key = key_there nodes r.0 g.above.head r.1 in
-            let same_place : h ≡ r.0 = one_place h r.0 a.head there
-            (node_key r.0 key.0 key.1 ∙ ap Some (key.2 ∙ ap (λ (m : Node). m.head) is_a)) in
+            let key = key_there _ r.0 _ r.1 in
+            let same_place : h ≡ r.0 = one_place h r.0 there
+            (node_key r.0 key.1 ∙ ap Some (key.2 ∙ ap (λ (m : Node). m.head) is_a)) in
             let first = r.2 in
             omega (arith, same_place, first)
       ]

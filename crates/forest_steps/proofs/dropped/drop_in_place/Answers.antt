@@ -1,14 +1,7 @@
 -- The buffer of the collection goes home, and nothing is forced in it.
-use Rattle.forest_steps.proofs.Common.{◌≡◌, ◌∙◌, ◌&&◌, ◌⊎◌, ◌++◌, ℕ, List, nat_lt, not, true, false, None, Some, inl, inr, refl, set, subst, sym, ap, arith, lt-ltb, filter, total, Entry, forest_of, nodes_with, place_in, shelves_of}
-use Rattle.std.proofs.lemmas.List.{get_or_default}
-use Rattle.forest_store.specs.Calm.{AreCounted, IsCounted}
-use Rattle.forest_store.specs.Decisions.{decided}
-use Rattle.forest_store.specs.Dropped.{are_rest_out, has_given_root}
-use Rattle.forest_store.specs.Forest.{beside}
-use Rattle.forest_store.specs.Scenes.{by_page, is_held_strongly, is_out, pages_held}
+use Rattle.forest_steps.proofs.Common.{◌≡◌, ◌∙◌, ◌&&◌, ◌⊎◌, ◌++◌, ℕ, List, nat_lt, not, true, false, None, Some, inl, inr, refl, set, subst, sym, ap, arith, lt-ltb, filter, total, Entry, forest_of, nodes_with, place_in, shelves_of, get_or_default, AreCounted, IsCounted, decided, are_rest_out, has_given_root, beside, by_page, is_held_strongly, is_out, pages_held, place_is}
 use Rattle.forest_steps.proofs.changes.Dropped.{IsReturned, decides_none, few_at, finishes_so, one_entry, pool_at, pool_so, rest_at, stored_so, units_so}
 use Rattle.forest_store.proofs.shelves.Counted.{counted_set}
-use Rattle.forest_store.proofs.shelves.Entries.{place_is}
 use Rattle.forest_steps.proofs.dropped.drop_in_place.Goals.{else-not-strong_live-via-then-not-strong_live+else-is_abandoned, else-not-strong_live-via-else-not-strong_live}
 use Rattle.forest_steps.proofs.dropped.drop_in_place.Goals as goal
 
@@ -34,16 +27,16 @@ pub is_abandoned-requires : goal.is_abandoned-requires
 is_abandoned-requires c =
     let told : place_in c.args.buffer.collection c.args.entries.now.items ≡ Some c.in-Some.at =
     sym (rw c.deref.ensures.value at c.place_of.ensures) ∙ c.in-Some.is in
-    few_at (total c.args.holds.now) c.args.table.now c.args.entries.now.items c.args.buffer.collection c.in-Some.at
-    c.index-then-not-strong_live.result.now told c.index-then-not-strong_live.ensures c.requires.kept c.requires.counted
+    few_at (total c.args.holds.now) _ _
+    _ told c.index-then-not-strong_live.ensures c.requires.kept c.requires.counted
 
 pub free_if_home-requires-clause-pool : goal.free_if_home-requires-clause-pool
 free_if_home-requires-clause-pool c =
     let told : place_in c.args.buffer.collection c.args.entries.now.items ≡ Some c.in-Some.at =
     sym (rw c.deref.ensures.value at c.place_of.ensures) ∙ c.in-Some.is in (
       beside (forest_of c.args.table.now (shelves_of c.args.entries.now.items)) c.index_mut.result.now.id,
-      pool_at (total c.args.holds.now) c.args.table.now c.args.entries.now.items c.args.buffer.collection c.in-Some.at
-          c.index_mut.result.now told c.index_mut.ensures.value c.requires.kept c.requires.counted c.args.pool.now.held c.assert_disjoint.ensures
+      pool_at (total c.args.holds.now) _ _
+          _ told c.index_mut.ensures.value c.requires.kept c.requires.counted _ c.assert_disjoint.ensures
           c.requires.pool,
     )
 
@@ -51,12 +44,11 @@ pub free_if_home-requires-clause-others : goal.free_if_home-requires-clause-othe
 free_if_home-requires-clause-others c =
     let told : place_in c.args.buffer.collection c.args.entries.now.items ≡ Some c.in-Some.at =
     sym (rw c.deref.ensures.value at c.place_of.ensures) ∙ c.in-Some.is in
-    let read : c.index.result.now ≡ c.index_mut.result.now =
-    one_entry c.args.entries.now.items c.args.buffer.collection c.in-Some.at c.index.result.now c.index_mut.result.now told c.index.ensures
+    let read : c.index.result.now ≡ c.index_mut.result.now = one_entry _ _ _ _ told c.index.ensures
     c.index_mut.ensures.value in
     ap (λ (e : Entry). are_rest_out (total c.args.holds.now) c.args.buffer (nat_lt 0 e.strong) c.index_mut.result.now.held.items) read
-    ∙ rest_at (total c.args.holds.now) c.args.table.now c.args.entries.now.items c.args.buffer.collection c.in-Some.at
-    c.index_mut.result.now told c.index_mut.ensures.value c.requires.kept c.requires.counted c.args.buffer c.requires.others
+    ∙ rest_at (total c.args.holds.now) _ _
+    _ told c.index_mut.ensures.value c.requires.kept c.requires.counted _ c.requires.others
 
 -- the entry that was read is the one that is changed
 module _ (c : goal.After-assert_disjoint-2) where
@@ -81,7 +73,7 @@ module _ (c : goal.After-assert_disjoint-2) where
 
   -- both look at the same place
   read : c.index.result.now ≡ c.index_mut.result.now
-  read = one_entry es id at c.index.result.now old told c.index.ensures c.index_mut.ensures.value
+  read = one_entry es id _ old told c.index.ensures c.index_mut.ensures.value
 
   -- only the held buffers change, by those that are home
   returned : IsReturned (total c.args.holds.now) old new
@@ -97,7 +89,7 @@ module _ (c : goal.After-assert_disjoint-2) where
   none : decided (nodes_with c.args.table.now c.index_mut.result.now.keys.items) c.index_mut.result.now.buffers
       (is_held_strongly (total c.args.holds.now) c.index_mut.result.now.id c.index_mut.result.now.buffers) ≡ None
   none =
-      decides_none (total c.args.holds.now) c.args.table.now es id at old told c.index_mut.ensures.value c.requires.kept c.requires.counted
+      decides_none (total c.args.holds.now) es id old told c.index_mut.ensures.value c.requires.kept c.requires.counted
       why
     where
       why : (nat_lt 0 c.index_mut.result.now.strong ≡ true)
@@ -106,8 +98,7 @@ module _ (c : goal.After-assert_disjoint-2) where
       why = elim c.else-not-strong_live.branch [
         | else-not-strong_live-via-then-not-strong_live+else-is_abandoned w ↦
             let same : w.index-then-not-strong_live.result.now ≡ c.index_mut.result.now =
-            one_entry es id at w.index-then-not-strong_live.result.now old told w.index-then-not-strong_live.ensures
-            c.index_mut.ensures.value in
+            one_entry es id _ old told w.index-then-not-strong_live.ensures c.index_mut.ensures.value in
             inr (ap (λ (e : Entry). has_given_root c.args.table.now e.keys.items
             && not (is_held_strongly (total c.args.holds.now) e.id e.buffers)) (sym same)
             ∙ (sym w.is_abandoned.ensures ∙ w.if-is_abandoned.false))
@@ -120,19 +111,18 @@ module _ (c : goal.After-assert_disjoint-2) where
   held_before : c.args.pool.now.held ≡ by_page (pages_held c.index_mut.result.now.held.items
       ++ beside (forest_of c.args.table.now (shelves_of c.args.entries.now.items)) c.index_mut.result.now.id)
   held_before =
-      pool_at (total c.args.holds.now) c.args.table.now es id at old told c.index_mut.ensures.value c.requires.kept c.requires.counted
-      c.args.pool.now.held c.assert_disjoint.ensures c.requires.pool
+      pool_at (total c.args.holds.now) es id old told c.index_mut.ensures.value c.requires.kept c.requires.counted
+      _ c.assert_disjoint.ensures c.requires.pool
 
   -- the held buffers are no part of what is counted
   counted_now : AreCounted c.args.table.now (set c.args.entries.now.items c.in-Some.at new)
   counted_now =
-      counted_set c.args.table.now es at new (λ within was.
+      counted_set _ es at new (λ within was.
       let then = subst (IsCounted c.args.table.now) (get_or_default es at new old within ∙ sym c.index_mut.ensures.value) was in
       record { calm = then.calm; strong = then.strong; reserved = then.reserved; garbage_known = then.garbage_known }) c.requires.counted
 
 pub returns-clause-outcome : goal.returns-clause-outcome
 returns-clause-outcome c =
-    let handles = total c.args.holds.now in
     let t = c.args.table.now in
     let id = c.args.buffer.collection in
     let now = c.index_mut.result.now in
@@ -141,10 +131,10 @@ returns-clause-outcome c =
     let counted = c.requires.counted in
     record {
       settled = λ made. record {
-        finishes = finishes_so handles t (es c) id (at c) now (told c) is kept counted (new c) (returned c) (none c) c.args.pool.now.size;
-        kept = stored_so handles t (es c) id (at c) now (told c) is kept counted (new c) (returned c);
+        finishes = finishes_so _ _ id now (told c) is kept counted (returned c) (none c) _;
+        kept = stored_so _ _ id now (told c) is kept counted (returned c);
         counted = counted_now c;
-        holds = pool_so handles t (es c) id (at c) now (told c) is kept counted (new c) (returned c) c.free_if_home.new.pool.held
+        holds = pool_so _ _ id now (told c) is kept counted (returned c) _
             c.assert_disjoint-2.ensures
             (c.free_if_home.ensures.pool (beside (forest_of t (shelves_of (es c))) now.id) (held_before c));
       };
@@ -156,5 +146,4 @@ returns-clause-outcome c =
 
 pub returns-clause-units : goal.returns-clause-units
 returns-clause-units c =
-    units_so (total c.args.holds.now) c.args.table.now c.args.entries.now.items c.args.buffer.collection c.in-Some.at
-    c.index_mut.result.now (told c) c.index_mut.ensures.value c.requires.kept c.requires.counted (new c) (returned c)
+    units_so _ _ _ _ (told c) c.index_mut.ensures.value c.requires.kept c.requires.counted (returned c)

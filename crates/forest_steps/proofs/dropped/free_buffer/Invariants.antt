@@ -1,8 +1,6 @@
-use Rattle.forest_steps.proofs.Common.{◌≡◌, ◌≤◌, ◌++◌, false, true, List, length, take, filter, Interval, total}
+use Rattle.forest_steps.proofs.Common.{◌≡◌, ◌≤◌, ◌++◌, false, true, List, length, take, filter, Interval, total, are_rest_out, by_page, is_out, pages_held}
 use Rattle.std.proofs.Common.{◌-◌}
 use Rattle.buffer_pool.specs.Holdings.{IsSound}
-use Rattle.forest_store.specs.Dropped.{are_rest_out}
-use Rattle.forest_store.specs.Scenes.{by_page, is_out, pages_held}
 use Rattle.forest_steps.proofs.dropped.free_buffer.Given as goal
 
 -- those before the place stay, those that are to stay are the same, and the others that went gave their pages back

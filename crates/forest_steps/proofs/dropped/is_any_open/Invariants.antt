@@ -1,10 +1,5 @@
-use Rattle.forest_steps.proofs.Common.{◌≡◌, map, nat_lt, list_any, total}
+use Rattle.forest_steps.proofs.Common.{◌≡◌, map, nat_lt, list_any, total, range_with_len, BufferName, Strength, names, name_of}
 use Rattle.std.proofs.Common.{◌-◌}
-use Rattle.std.specs.List.{range_with_len}
-use Rattle.sm_names.specs.declared.keys.BufferName.{BufferName}
-use Rattle.sm_names.specs.declared.keys.Strength.{Strength}
-use Rattle.sm_names.specs.Handles.{names}
-use Rattle.forest_store.specs.Scenes.{name_of}
 use Rattle.forest_steps.proofs.dropped.is_any_open.Given as goal
 
 -- one that is open is still to come

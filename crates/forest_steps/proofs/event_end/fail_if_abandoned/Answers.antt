@@ -1,17 +1,12 @@
 -- Where the buffers are abandoned the root is lost, and else nothing is forced.
-use Rattle.forest_steps.proofs.Common.{◌≡◌, ◌∙◌, ◌&&◌, ◌==◌, not, sym, subst, inl, inr, [], List, eq-eqb, NodeKey, and_both, and_right, both_ways, total}
-use Rattle.forest_store.specs.Dropped.{has_given_root}
-use Rattle.forest_store.specs.Scenes.{is_held_strongly}
-use Rattle.forest_steps.specs.MidEvent.{MidEvent}
+use Rattle.forest_steps.proofs.Common.{◌≡◌, ◌∙◌, ◌&&◌, not, sym, inl, inr, [], eq-eqb, and_both, and_right, both_ways, total, has_given_root, is_held_strongly}
 use Rattle.forest_steps.proofs.mid_event.Closing.{closed_still}
 use Rattle.forest_steps.proofs.event_end.fail_if_abandoned.Goals as goal
 
 pub returns-then-is_abandoned : goal.returns-then-is_abandoned
 returns-then-is_abandoned c = record {
-  closed = λ ss pending under out weak.
-      c.lose_root.ensures.closed (total c.args.holds.now) ss pending under
-      (and_both (c.args.entry.now.strong == 0) _ (eq-eqb c.args.entry.now.strong 0 weak)
-      (sym c.is_abandoned.ensures ∙ c.if-is_abandoned.true));
+  closed = λ ss pending under out weak. c.lose_root.ensures.closed (total c.args.holds.now) ss pending under
+      (and_both _ _ (eq-eqb _ 0 weak) (sym c.is_abandoned.ensures ∙ c.if-is_abandoned.true));
 }
 
 pub returns-else-is_abandoned : goal.returns-else-is_abandoned
@@ -24,8 +19,8 @@ returns-else-is_abandoned c =
       closed = λ ss pending under out weak.
           let none : pending ≡ [] = elim out [
             | inl is ↦ is
-            | inr is ↦ both_ways left (and_right (e.strong == 0) left is) kept
+            | inr is ↦ both_ways _ (and_right _ _ is) kept
           ] in
-          closed_still (total c.args.holds.now) t c.args.nodes.now.units.items ss e
-          (subst (λ (ks : List NodeKey). MidEvent t c.args.nodes.now.units.items ss e [] ks) none under) (inr kept);
+          closed_still _
+          (rw none at under) (inr kept);
     }

@@ -1,8 +1,6 @@
 -- What is left to be done is done at the place of the collection.
-use Rattle.forest_steps.proofs.Common.{◌≡◌, [], refl, arith, set, total, Entry, forest_of, shelves_of}
+use Rattle.forest_steps.proofs.Common.{◌≡◌, refl, arith, set, total, Entry, forest_of, shelves_of, beside, place_is}
 use Rattle.forest_steps.specs.EventEnd.{IsClosed}
-use Rattle.forest_store.specs.Forest.{beside}
-use Rattle.forest_store.proofs.shelves.Entries.{place_is}
 use Rattle.forest_steps.proofs.mid_event.Closing.{closes_strong, closes_weak, out_is, pages_mid, under_is}
 use Rattle.forest_steps.proofs.mid_event.Ready.{whole_under}
 use Rattle.forest_steps.proofs.event_end.finish_event.Goals as goal
@@ -13,24 +11,19 @@ index_mut-entry-requires c =
 
 pub returns-then-entry-gt0-clause-closes : goal.returns-then-entry-gt0-clause-closes
 returns-then-entry-gt0-clause-closes c id told =
-    closes_strong (total c.args.holds.now) c.args.store.now.nodes.table c.args.store.now.nodes.units.items c.args.store.now.entries.items c.args.at c.requires.may id told
-    c.index_mut-entry.result.now c.index_mut-entry.ensures.value c.if-entry-gt0.true c.args.pool.now c.assert_disjoint.ensures c.requires.pool
+    closes_strong c.requires.may id told
+    _ c.index_mut-entry.ensures.value c.if-entry-gt0.true _ c.assert_disjoint.ensures c.requires.pool
 
 pub fail_if_abandoned-requires-clause-few : goal.fail_if_abandoned-requires-clause-few
 fail_if_abandoned-requires-clause-few c =
-    let es = c.args.store.now.entries.items in
-    let under = under_is (total c.args.holds.now) c.args.store.now.nodes.table c.args.store.now.nodes.units.items es c.args.at c.requires.may
-    c.requires.may.entry.id c.requires.may.place c.index_mut-entry.result.now c.index_mut-entry.ensures.value in
-    let whole = whole_under c.args.store.now.nodes.table c.args.store.now.nodes.units.items (shelves_of es) c.index_mut-entry.result.now [] c.requires.may.pending under
-    in
-    whole.sound.few
+    let under = under_is c.requires.may _ c.requires.may.place _ c.index_mut-entry.ensures.value in
+    (whole_under under).sound.few
 
 pub free_home_buffers-requires : goal.free_home_buffers-requires
 free_home_buffers-requires c =
     let es = c.args.store.now.entries.items in
     let handles = total c.args.holds.now in
     let t = c.args.store.now.nodes.table in
-    let us = c.args.store.now.nodes.units.items in
     let old = c.index_mut-entry.result.now in
     let is = c.index_mut-entry.ensures.value in
     let id = c.requires.may.entry.id in
@@ -38,11 +31,10 @@ free_home_buffers-requires c =
     let closed : IsClosed handles t c.fail_if_abandoned.new.nodes.table c.fail_if_abandoned.new.nodes.units.items (shelves_of es) old
     c.fail_if_abandoned.new.entry =
     c.fail_if_abandoned.ensures.closed (shelves_of es) c.requires.may.pending
-    (under_is handles t us es c.args.at c.requires.may id place old is) (out_is handles t us es c.args.at c.requires.may id place old is)
+    (under_is c.requires.may id place old is) (out_is c.requires.may id place old is)
     (omega (arith, c.if-entry-gt0.false)) in (
       beside (forest_of c.fail_if_abandoned.new.nodes.table (shelves_of (set es c.args.at c.fail_if_abandoned.new.entry))) c.fail_if_abandoned.new.entry.id,
-      pages_mid handles t us es c.args.at c.requires.may id place old is c.fail_if_abandoned.new.nodes.table c.fail_if_abandoned.new.nodes.units.items
-          c.fail_if_abandoned.new.entry closed c.args.pool.now.held c.assert_disjoint-2.ensures c.requires.pool,
+      pages_mid c.requires.may id place old is closed _ c.assert_disjoint-2.ensures c.requires.pool,
     )
 
 pub returns-clause-closes : goal.returns-clause-closes
@@ -50,19 +42,16 @@ returns-clause-closes c id told =
     let es = c.args.store.now.entries.items in
     let handles = total c.args.holds.now in
     let t = c.args.store.now.nodes.table in
-    let us = c.args.store.now.nodes.units.items in
     let old = c.index_mut-entry.result.now in
     let is = c.index_mut-entry.ensures.value in
     let weak : old.strong ≡ 0 = omega (arith, c.if-entry-gt0.false) in
     let closed : IsClosed handles t c.fail_if_abandoned.new.nodes.table c.fail_if_abandoned.new.nodes.units.items (shelves_of es) old
     c.fail_if_abandoned.new.entry =
     c.fail_if_abandoned.ensures.closed (shelves_of es) c.requires.may.pending
-    (under_is handles t us es c.args.at c.requires.may id told old is) (out_is handles t us es c.args.at c.requires.may id told old is)
-    weak in
+    (under_is c.requires.may id told old is) (out_is c.requires.may id told old is) weak in
     let last : Entry = record (c.fail_if_abandoned.new.entry) { held = c.free_home_buffers.new.held } in
-    closes_weak handles t us es c.args.at c.requires.may id told old is c.fail_if_abandoned.new.nodes.table c.fail_if_abandoned.new.nodes.units.items
-    c.fail_if_abandoned.new.entry closed weak last refl c.free_home_buffers.ensures.held c.args.pool.now c.free_home_buffers.new.pool c.assert_disjoint-3.ensures
+    closes_weak c.requires.may id told old is
+    closed weak _ refl c.free_home_buffers.ensures.held _ _ c.assert_disjoint-3.ensures
     (c.free_home_buffers.ensures.pool (beside (forest_of c.fail_if_abandoned.new.nodes.table (shelves_of (set es c.args.at c.fail_if_abandoned.new.entry)))
-    c.fail_if_abandoned.new.entry.id)
-    (pages_mid handles t us es c.args.at c.requires.may id told old is c.fail_if_abandoned.new.nodes.table c.fail_if_abandoned.new.nodes.units.items
-    c.fail_if_abandoned.new.entry closed c.args.pool.now.held c.assert_disjoint-2.ensures c.requires.pool))
+    c.fail_if_abandoned.new.entry.id) (pages_mid c.requires.may id told old is
+    closed _ c.assert_disjoint-2.ensures c.requires.pool))

@@ -11,8 +11,6 @@ returns c =
     ∙ c.in-Some.is in
     record {
       closed = λ handles ss pending under abandoned.
-          closed_lost handles c.args.nodes.now.table c.args.nodes.now.units.items ss c.args.entry.now pending under abandoned c.in-Some.root first
-          c.remove_subtree.new.nodes.table c.remove_subtree.new.nodes.units.items c.remove_subtree.new.entry c.remove_subtree.result
-          (c.remove_subtree.ensures.went ss [] pending under (may_go handles c.args.nodes.now.table c.args.nodes.now.units.items ss c.args.entry.now pending under
-          abandoned c.in-Some.root first));
+          closed_lost handles under abandoned first
+          (c.remove_subtree.ensures.went ss [] pending under (may_go handles under abandoned first));
     }

@@ -1,5 +1,4 @@
-use Rattle.forest_steps.proofs.Common.{◌≡◌, length, list_all, total}
-use Rattle.forest_store.specs.Scenes.{is_out}
+use Rattle.forest_steps.proofs.Common.{◌≡◌, length, list_all, total, is_out}
 use Rattle.forest_steps.proofs.home_buffers.no_buffer_home.Given as goal
 
 -- none of the rest is home exactly if none of all is

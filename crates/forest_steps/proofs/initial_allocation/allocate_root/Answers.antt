@@ -1,22 +1,15 @@
 -- The root's unit comes to its allocation, and what is forced is made in its place.
-use Rattle.forest_steps.proofs.Common.{◌≡◌, ◌∙◌, ℕ, true, false, List, [], Option, None, Some, refl, set, sym, ap, subst, arith, total, NodeKey, not, ◌&&◌, and_left, option_map, option_map_or, affected, is_root_left, node_at, Table, Change, Effect, Entry, Node, Unit, place_in, shelves_of}
+use Rattle.forest_steps.proofs.Common.{◌≡◌, ◌∙◌, true, false, List, [], Option, None, Some, refl, set, sym, ap, subst, arith, total, NodeKey, not, ◌&&◌, and_left, option_map, option_map_or, affected, is_root_left, node_at, Table, Change, Effect, Entry, Node, Unit, place_in, shelves_of, get_or_default, Row, row_at, Holdings, IsOutcomeIn, StoreAgrees, IsPlace, place_is}
 use Rattle.std.proofs.Common.{IsSome}
-use Rattle.std.proofs.lemmas.List.{get_or_default}
-use Rattle.node_table.specs.Table.{Row, row_at}
 use Rattle.forest_store.specs.Counts.{unit_then}
-use Rattle.buffer_pool.specs.Holdings.{Holdings}
-use Rattle.forest_steps.specs.declared.initial_allocation.Plan.{Plan}
 use Rattle.forest_steps.specs.EventEnd.{Closes}
-use Rattle.forest_store.specs.Outcomes.{IsOutcomeIn}
 use Rattle.forest_steps.specs.InitialAllocation.{IsPlanned, IsRooted, IsAllocationOutcome, comes_first, is_bare_root, is_held_ready}
 use Rattle.forest_steps.specs.MidEvent.{EffectMade, AfterEffect, MidEvent}
 use Rattle.forest_steps.specs.NodeEffects.{KeepsCounts}
-use Rattle.forest_store.specs.Stores.{StoreAgrees}
 use Rattle.forest_store.proofs.changes.Altering.{tracker_room}
 use Rattle.forest_steps.proofs.mid_event.Affecting.{affected_on}
 use Rattle.forest_steps.proofs.mid_event.Counted.{may_make, waits_plain}
 use Rattle.forest_steps.proofs.mid_event.Listed.{listed_written}
-use Rattle.forest_store.proofs.shelves.Entries.{IsPlace, place_is}
 use Rattle.forest_steps.proofs.mid_event.Places.{begins_at, one_id}
 use Rattle.forest_steps.proofs.mid_event.Stepping.{node_there}
 use Rattle.forest_steps.proofs.mid_event.RootOutcome.{coming_mid, may_close, outcome_root, pool_then, reserved_mid, told_new, under_mid, waits_not}
@@ -32,12 +25,12 @@ index_mut-entry-requires c =
 
 pub planned-requires-clause-tracked : goal.planned-requires-clause-tracked
 planned-requires-clause-tracked c at n found =
-    tracker_room c.args.store.now.nodes.table (shelves_of c.args.store.now.entries.items) c.requires.ready.ready.kept c.args.made.now.key
-    c.args.made.now.effect (λ m e there. c.requires.ready.ready.change.trackers c.args.made.now.key m (ap (Change.Effect c.args.made.now.key) e) there) at n found
+    tracker_room _ _ c.requires.ready.ready.kept _
+    _ (λ m e there. c.requires.ready.ready.change.trackers c.args.made.now.key m (ap (Change.Effect c.args.made.now.key) e) there) at n found
 
 pub make_effect-requires-clause-may : goal.make_effect-requires-clause-may
 make_effect-requires-clause-may c =
-    may_make c.args.store.now.nodes c.args.store.now.entries.items c.args.at c.args.made.now c.index_mut-entry.result.now c.requires.ready
+    may_make _ _ _ c.requires.ready
     (c.requires.worked c.index_mut-entry.result.now c.index_mut-entry.ensures.value)
 
 pub planned-requires-clause-worked : goal.planned-requires-clause-worked
@@ -46,20 +39,14 @@ planned-requires-clause-worked c = rw c.in-Some.is at (c.requires.worked c.index
 -- an effect that changes no count makes no unit ready
 pub returns-in_default-clause-waits : goal.returns-in_default-clause-waits
 returns-in_default-clause-waits c told e is held =
-    let t = c.args.store.now.nodes.table in
-    let us = c.args.store.now.nodes.units.items in
-    let es = c.args.store.now.entries.items in
     let effect = c.args.made.now.effect in
     let keeps : KeepsCounts effect = rw c.in_default.is at (c.requires.worked e is) in
-    waits_plain t us (shelves_of es) e
-    (begins_at (total c.args.holds.now) t us es c.args.at e is (Change.Effect c.args.made.now.key effect) c.requires.ready refl)
-    c.args.made.now.key effect keeps.plain
+    waits_plain (begins_at (total c.args.holds.now) e is c.requires.ready refl) _ _ keeps.plain
 
 -- the unit does not come to its allocation
 pub returns-in_default-planned-clause-waits : goal.returns-in_default-planned-clause-waits
 returns-in_default-planned-clause-waits c told e is held =
-    waits_not c.args.store.now.nodes.table c.args.store.now.entries.items c.requires.ready.id c.args.at e c.requires.ready.place is
-    c.args.store.now.nodes.units.items c.args.made.now.key c.args.made.now.effect c.requires.ready.ready
+    waits_not e c.requires.ready.place is _ _ c.requires.ready.ready
     (c.planned.ensures.none c.in_default-planned.is) held
 
 -- a node that comes to its allocation has a head
@@ -67,8 +54,8 @@ bare_row : (t : Table Node) (us : List Unit) (key : NodeKey) (effect : Effect) (
     comes_first t us key effect ≡ true → IsSome (row_at t n.head)
 bare_row t us key effect n was comes =
     from (row_at t n.head)
-    (and_left (is_bare_root t n.head) _
-    (sym (ap (λ (o : Option Node). option_map_or
+    (and_left _ _
+    (sym (ap (λ o. option_map_or
     (λ (m : Node). is_bare_root t m.head && is_held_ready (unit_then us m (affected key effect m))) o false) was) ∙ comes))
   where
     from : (o : Option (Row Node)) →
@@ -80,17 +67,15 @@ pub settle_first-requires-clause-there : goal.settle_first-requires-clause-there
 settle_first-requires-clause-there c =
     let p = c.in-Some-planned.ensures.some in
     c.make_effect.ensures.there c.in-Some-planned.plan.head
-    (subst (λ (k : NodeKey). IsSome (row_at c.args.store.now.nodes.table k)) (sym p.head_is)
+    (rw p.head_is
     (bare_row c.args.store.now.nodes.table c.args.store.now.nodes.units.items c.args.made.now.key c.args.made.now.effect p.node p.was
     c.in-Some-planned.ensures.comes))
 
 -- the walk is the same with the effect
 pub settle_first-requires-clause-listed : goal.settle_first-requires-clause-listed
 settle_first-requires-clause-listed c =
-    let x = node_there c.args.store.now.nodes.table (shelves_of c.args.store.now.entries.items) c.requires.ready.ready.kept c.requires.ready.id
-    c.args.made.now.key c.requires.ready.ready.change.named in
-    listed_written c.args.store.now.nodes.table c.make_effect.new.nodes.table c.args.made.now.key c.args.made.now.effect x.0 x.1
-    c.requires.ready.ready.kept.named (c.make_effect.ensures.writes x.0 x.1) c.in-Some-planned.plan.head c.planned.new.keys.items
+    let x = node_there c.requires.ready.ready.kept _ _ c.requires.ready.ready.change.named in
+    listed_written _ x.1 c.requires.ready.ready.kept.named (c.make_effect.ensures.writes x.0 x.1)
     c.in-Some-planned.ensures.listed
 
 -- the entry at its place
@@ -107,16 +92,13 @@ module _ (c : goal.After-finish_event-arg-3-1) where
   abbrev old : Entry
   old = c.index-entry.result.now
 
-  abbrev plan : Plan
-  plan = c.in-Some-planned.plan
-
   -- the place that was told
   told : place_in c.requires.ready.id c.args.store.now.entries.items ≡ Some c.args.at
   told = c.requires.ready.place
 
   -- the entry is found at its place
   place : IsPlace c.requires.ready.id c.args.store.now.entries.items c.args.at
-  place = place_is c.requires.ready.id c.args.store.now.entries.items c.args.at told
+  place = place_is _ _ _ told
 
   -- the entry that is lent is the one that was read
   again : c.index_mut-entry.result.now ≡ c.index-entry.result.now
@@ -125,11 +107,11 @@ module _ (c : goal.After-finish_event-arg-3-1) where
 
   -- the collection is under way, with nothing loose and nothing due
   under : MidEvent c.args.store.now.nodes.table c.args.store.now.nodes.units.items (shelves_of c.args.store.now.entries.items) c.index-entry.result.now [] []
-  under = begins_at (total c.args.holds.now) t us es c.args.at old c.index-entry.ensures (Change.Effect c.args.made.now.key c.args.made.now.effect)
-      c.requires.ready refl
+  under = begins_at (total c.args.holds.now) old c.index-entry.ensures c.requires.ready refl
 
   -- the contract of the plan, read at the units
-  planned : IsPlanned c.args.store.now.nodes.table c.args.store.now.nodes.units.items c.index-entry.result.now c.args.made.now.key c.args.made.now.effect c.in-Some-planned.plan
+  planned : IsPlanned c.args.store.now.nodes.table c.args.store.now.nodes.units.items c.index-entry.result.now
+      c.args.made.now.key c.args.made.now.effect c.in-Some-planned.plan
   planned = c.in-Some-planned.ensures.some
 
   -- the contract of the plan, read at the units
@@ -137,17 +119,16 @@ module _ (c : goal.After-finish_event-arg-3-1) where
   comes = c.in-Some-planned.ensures.comes
 
   -- the effect was made on the node of the plan, which alone concerns its unit
-  affects : AfterEffect c.args.store.now.nodes.table c.make_effect.new.nodes.table c.make_effect.new.nodes.units.items (shelves_of c.args.store.now.entries.items)
-      c.index-entry.result.now c.make_effect.new.entry c.args.made.now.key c.args.made.now.effect planned.node.head
+  affects : AfterEffect c.args.store.now.nodes.table c.make_effect.new.nodes.table c.make_effect.new.nodes.units.items
+      (shelves_of c.args.store.now.entries.items) c.index-entry.result.now c.make_effect.new.entry c.args.made.now.key c.args.made.now.effect planned.node.head
   affects =
-      let x = node_there t (shelves_of es) c.requires.ready.ready.kept c.requires.ready.id c.args.made.now.key c.requires.ready.ready.change.named in
+      let x = node_there c.requires.ready.ready.kept c.requires.ready.id c.args.made.now.key c.requires.ready.ready.change.named in
       let both : Some planned.node ≡ Some x.0 = sym planned.was ∙ x.1 in
       let one : planned.node ≡ x.0 = cc in
       let own : planned.node.collection ≡ old.id =
       ap (λ (m : Node). m.collection) one ∙ (x.3 ∙ sym (ap (λ (e : Entry). e.id) c.index-entry.ensures ∙ place.id_is old)) in
-      affected_on t c.make_effect.new.nodes.table us c.make_effect.new.nodes.units.items (shelves_of es) old c.make_effect.new.entry c.args.made.now.key
-      c.args.made.now.effect planned.node planned.was own under
-      (subst (λ (e : Entry). EffectMade t c.make_effect.new.nodes.table c.make_effect.new.nodes.units.items (shelves_of es) e c.make_effect.new.entry
+      affected_on planned.was own under
+      (subst (λ e. EffectMade t c.make_effect.new.nodes.table c.make_effect.new.nodes.units.items (shelves_of es) e c.make_effect.new.entry
       c.args.made.now.key c.args.made.now.effect planned.node.head) again
       (c.make_effect.ensures.affected (shelves_of es) planned.node planned.was (ap (λ (m : Node). m.gone) one ∙ x.2)
       (own ∙ sym (ap (λ (e : Entry). e.id) again))
@@ -156,9 +137,7 @@ module _ (c : goal.After-finish_event-arg-3-1) where
   -- the contract of the placing
   found : IsAllocationOutcome c.args.pool.now c.place_wanted.new.pool c.requires.ready.id c.index-entry.result.now.held.items c.in-Some-planned.plan.wants
       c.in_ok-verdict.verdict
-  found = subst (λ (i : ℕ). IsAllocationOutcome c.args.pool.now c.place_wanted.new.pool i c.index-entry.result.now.held.items
-      c.in-Some-planned.plan.wants c.in_ok-verdict.verdict)
-      (ap (λ (e : Entry). e.id) c.index-entry.ensures ∙ place.id_is old) c.in_ok-verdict.ensures.verdict
+  found = rw (ap (λ (e : Entry). e.id) c.index-entry.ensures ∙ place.id_is old) at c.in_ok-verdict.ensures.verdict
 
   -- the contract of the allocation, from the collection with the effect
   rooted : IsRooted (total c.args.holds.now) c.make_effect.new.nodes.table c.settle_first.new.nodes.table c.settle_first.new.nodes.units.items
@@ -167,24 +146,18 @@ module _ (c : goal.After-finish_event-arg-3-1) where
   rooted =
       let h = total c.args.holds.now in
       let r = c.requires.ready.ready in
-      let t1 = c.make_effect.new.nodes.table in
-      let us1 = c.make_effect.new.nodes.units.items in
-      let e1 = c.make_effect.new.entry in
       c.settle_first.ensures.rooted (shelves_of es)
-      (under_mid h t es c.requires.ready.id c.args.at old told c.index-entry.ensures us c.args.made.now.key c.args.made.now.effect r under plan planned comes t1
-      us1 e1 affects)
-      (coming_mid h t es c.requires.ready.id c.args.at old told c.index-entry.ensures us c.args.made.now.key c.args.made.now.effect r under plan planned comes t1
-      us1 e1 affects)
-      (reserved_mid h t es c.requires.ready.id c.args.at old told c.index-entry.ensures us c.args.made.now.key c.args.made.now.effect r under plan planned comes
-      t1 us1 e1 affects)
+      (under_mid h told c.index-entry.ensures r under planned comes affects)
+      (coming_mid h told c.index-entry.ensures r under planned comes affects)
+      (reserved_mid h told c.index-entry.ensures r under planned comes affects)
 
   -- it is found at the same place then
   told_then : place_in c.requires.ready.id (set c.args.store.now.entries.items c.args.at c.settle_first.new.entry) ≡ Some c.args.at
   told_then =
-      told_new (total c.args.holds.now) t es c.requires.ready.id c.args.at old told c.index-entry.ensures us c.args.made.now.key c.args.made.now.effect
-      c.requires.ready.ready under plan planned comes c.make_effect.new.nodes.table c.make_effect.new.nodes.units.items c.make_effect.new.entry affects
-      c.args.pool.now c.place_wanted.new.pool c.in_ok-verdict.verdict found c.assert_disjoint.ensures c.requires.pool c.settle_first.new.nodes.table
-      c.settle_first.new.nodes.units.items c.settle_first.new.entry rooted
+      told_new (total c.args.holds.now) told c.index-entry.ensures
+      c.requires.ready.ready under planned comes affects
+      c.args.pool.now c.place_wanted.new.pool c.in_ok-verdict.verdict found c.assert_disjoint.ensures c.requires.pool
+      rooted
 
   -- once what comes last is made, all is
   outcome_then : (last : Table Node) (behind : List Entry) (left : List Unit) (pool : Holdings) →
@@ -194,24 +167,20 @@ module _ (c : goal.After-finish_event-arg-3-1) where
       IsOutcomeIn true (total c.args.holds.now) c.args.pool.now pool c.args.store.now.nodes.table last c.args.store.now.entries.items behind c.requires.ready.id
       (Change.Effect c.args.made.now.key c.args.made.now.effect)
   outcome_then last behind left pool closes size =
-      outcome_root (total c.args.holds.now) t es c.requires.ready.id c.args.at old told c.index-entry.ensures us c.args.made.now.key c.args.made.now.effect
-      c.requires.ready.ready under plan planned comes c.make_effect.new.nodes.table c.make_effect.new.nodes.units.items c.make_effect.new.entry affects
-      c.args.pool.now c.place_wanted.new.pool c.in_ok-verdict.verdict found c.assert_disjoint.ensures c.requires.pool c.settle_first.new.nodes.table
-      c.settle_first.new.nodes.units.items c.settle_first.new.entry rooted last behind left pool closes c.in_ok-verdict.ensures.size size
+      outcome_root (total c.args.holds.now) told c.index-entry.ensures
+      c.requires.ready.ready under planned comes affects
+      c.args.pool.now c.place_wanted.new.pool c.in_ok-verdict.verdict found c.assert_disjoint.ensures c.requires.pool
+      rooted closes c.in_ok-verdict.ensures.size size
 
 pub finish_event-requires-clause-may : goal.finish_event-requires-clause-may
 finish_event-requires-clause-may c =
-    may_close (total c.args.holds.now) (t c) (es c) c.requires.ready.id c.args.at (old c) (told c) c.index-entry.ensures (us c) c.args.made.now.key
-    c.args.made.now.effect c.requires.ready.ready (under c) (plan c) (planned c) (comes c) c.make_effect.new.nodes.table c.make_effect.new.nodes.units.items
-    c.make_effect.new.entry (affects c) c.args.pool.now c.place_wanted.new.pool c.in_ok-verdict.verdict (found c) c.assert_disjoint.ensures
-    c.requires.pool c.settle_first.new.nodes.table c.settle_first.new.nodes.units.items c.settle_first.new.entry (rooted c)
+    may_close (total c.args.holds.now) (told c) c.index-entry.ensures c.requires.ready.ready (under c) (planned c) (comes c)
+    (affects c) _ _ _ (found c) c.assert_disjoint.ensures c.requires.pool (rooted c)
 
 pub finish_event-requires-clause-pool : goal.finish_event-requires-clause-pool
 finish_event-requires-clause-pool c =
-    pool_then (total c.args.holds.now) (t c) (es c) c.requires.ready.id c.args.at (old c) (told c) c.index-entry.ensures (us c) c.args.made.now.key
-    c.args.made.now.effect c.requires.ready.ready (under c) (plan c) (planned c) (comes c) c.make_effect.new.nodes.table c.make_effect.new.nodes.units.items
-    c.make_effect.new.entry (affects c) c.args.pool.now c.place_wanted.new.pool c.in_ok-verdict.verdict (found c) c.assert_disjoint.ensures
-    c.requires.pool c.settle_first.new.nodes.table c.settle_first.new.nodes.units.items c.settle_first.new.entry (rooted c) c.assert_disjoint-2.ensures
+    pool_then (total c.args.holds.now) (told c) c.index-entry.ensures c.requires.ready.ready (under c) (planned c) (comes c)
+    (affects c) _ _ _ (found c) c.assert_disjoint.ensures c.requires.pool (rooted c) c.assert_disjoint-2.ensures
 
 -- what came last was made
 closed : (c : goal.After-finish_event) → Closes (total c.args.holds.now) c.place_wanted.new.pool c.finish_event.new.pool c.settle_first.new.nodes.table
@@ -221,12 +190,7 @@ closed c = c.finish_event.ensures.closes c.requires.ready.id (told_then c.before
 
 pub returns-clause-outcome : goal.returns-clause-outcome
 returns-clause-outcome c = record {
-  outcome = λ id told.
-      subst (λ (i : ℕ). IsOutcomeIn true (total c.args.holds.now) c.args.pool.now c.finish_event.new.pool c.args.store.now.nodes.table
-      c.finish_event.new.store.nodes.table c.args.store.now.entries.items c.finish_event.new.store.entries.items i
-      (Change.Effect c.args.made.now.key c.args.made.now.effect))
-      (one_id c.args.store.now.entries.items c.args.at c.requires.ready.id id c.requires.ready.place told)
-      (outcome_then c.before c.finish_event.new.store.nodes.table c.finish_event.new.store.entries.items
-      c.finish_event.new.store.nodes.units.items c.finish_event.new.pool (closed c) c.finish_event.ensures.size);
+  outcome = λ id told. rw (one_id c.args.store.now.entries.items c.requires.ready.id id c.requires.ready.place told) at
+      (outcome_then c.before _ _ _ _ (closed c) c.finish_event.ensures.size);
   units = (closed c).units;
 }

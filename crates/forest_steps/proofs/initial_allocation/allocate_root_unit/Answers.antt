@@ -1,10 +1,8 @@
 -- The root's unit has its buffers, and those that follow it had their turns.
-use Rattle.forest_steps.proofs.Common.{◌≡◌, ℕ, ◌+◌, ◌∷◌, [], List, Some, length, refl, ap, sym, subst, ◌∙◌, arith, HeldBuffer, NodeKey, total, Table, Entry, Node, Unit, Shelf, nodes_with, put_shelf, shelf_of, reserved_count}
+use Rattle.forest_steps.proofs.Common.{◌≡◌, ℕ, ◌+◌, ◌∷◌, [], List, Some, length, refl, ap, sym, subst, ◌∙◌, arith, HeldBuffer, total, Entry, Shelf, nodes_with, put_shelf, shelf_of, reserved_count, after_allocation, IsGivenAt}
 use Rattle.forest_steps.specs.declared.initial_allocation.AllocationOutcome.{AllocationOutcome}
 use Rattle.forest_steps.specs.declared.pending_units.PendingUnit.{PendingUnit}
-use Rattle.forest_store.specs.Nodes.{after_allocation}
 use Rattle.forest_steps.specs.InitialAllocation.{IsComing, IsRooted}
-use Rattle.forest_store.specs.UnitAllocation.{IsGivenAt}
 use Rattle.forest_steps.specs.MidEvent.{AreTurns, MidEvent}
 use Rattle.forest_steps.proofs.mid_event.RootGiven.{root_left, rooted_given, turns_then, under_then, waits_no_more}
 use Rattle.forest_steps.proofs.initial_allocation.allocate_root_unit.Goals as goal
@@ -12,28 +10,19 @@ use Rattle.forest_steps.proofs.initial_allocation.allocate_root_unit.Goals as go
 -- the list has the root's unit
 pub returns-in_default-clause-rooted : goal.returns-in_default-clause-rooted
 returns-in_default-clause-rooted c ss under coming reserved =
-    let listed = c.list_pending.ensures.listed ss [] (c.args.plan.now.head ∷ [])
-    (subst (λ (us : List Unit). MidEvent c.args.nodes.now.table us ss c.args.entry.now [] (c.args.plan.now.head ∷ [])) (sym c.deref.ensures.value) under)
-    (root_left (nodes_with c.args.nodes.now.table c.args.entry.now.keys.items) c.args.plan.now.head coming) in
+    let listed = c.list_pending.ensures.listed ss [] (c.args.plan.now.head ∷ []) (rw c.deref.ensures.value under)
+    (root_left coming) in
     let long : length c.list_pending.new.turns.items ≡ length listed.1.1 + 1 = ap length listed.1.2 ∙ omega arith in
     let same : length c.deref-3.result.now ≡ length c.list_pending.new.turns.items = ap length c.deref-3.ensures.value in
     let none : length c.deref-3.result.now ≡ 0 = c.in_default.ensures.cases in
     absurd (omega (arith, long, same, none))
 
-module _ (c : goal.After-allocate_all_pending) (ss : List Shelf)
+module _ (c : goal.After-allocate_all_pending) {ss : List Shelf}
     (under : MidEvent c.args.nodes.now.table c.args.nodes.now.units.items ss c.args.entry.now [] (c.args.plan.now.head ∷ []))
     (coming : IsComing (nodes_with c.args.nodes.now.table c.args.entry.now.keys.items) c.args.plan.now.head)
-    (reserved : c.args.plan.now.reserved ≡ reserved_count (after_allocation c.args.plan.now.head (nodes_with c.args.nodes.now.table c.args.entry.now.keys.items)))
+    (reserved : c.args.plan.now.reserved
+    ≡ reserved_count (after_allocation c.args.plan.now.head (nodes_with c.args.nodes.now.table c.args.entry.now.keys.items)))
   where
-    abbrev t : Table Node
-    t = c.args.nodes.now.table
-
-    abbrev us : List Unit
-    us = c.args.nodes.now.units.items
-
-    abbrev e : Entry
-    e = c.args.entry.now
-
     abbrev ws : List PendingUnit
     ws = c.in-Some.rest.now
 
@@ -43,18 +32,13 @@ module _ (c : goal.After-allocate_all_pending) (ss : List Shelf)
     abbrev new : Entry
     new = record (c.args.entry.now) { reserved = c.args.plan.now.reserved; buffers = Some c.args.buffers; held = c.args.held }
 
-    abbrev ks : List NodeKey
-    ks = c.args.room.now.unit.items
-
     given : IsGivenAt c.args.nodes.now.table c.mark_allocated.new.table (c.args.plan.now.head ∷ []) c.args.room.now.unit.items
     given = rw c.deref-2.ensures.value at c.mark_allocated.ensures
 
     listed : AreTurns c.args.nodes.now.table c.args.entry.now.keys.items c.list_pending.new.turns.items
         × ((place : ℕ) × (rest : List PendingUnit) × (c.list_pending.new.turns.items ≡ record { place = place; head = c.args.plan.now.head } ∷ rest))
     listed = c.list_pending.ensures.listed ss [] (c.args.plan.now.head ∷ [])
-        (subst (λ (xs : List Unit). MidEvent c.args.nodes.now.table xs ss c.args.entry.now [] (c.args.plan.now.head ∷ [])) (sym c.deref.ensures.value)
-        under)
-        (root_left (nodes_with t e.keys.items) c.args.plan.now.head coming)
+        (rw c.deref.ensures.value under) (root_left coming)
 
     rest_is : listed.1.1 ≡ c.in-Some.rest.now
     rest_is =
@@ -63,23 +47,22 @@ module _ (c : goal.After-allocate_all_pending) (ss : List Shelf)
         cc
 
     turns : AreTurns c.args.nodes.now.table c.args.entry.now.keys.items (record { place = listed.1.0; head = c.args.plan.now.head } ∷ c.in-Some.rest.now)
-    turns = subst (AreTurns t e.keys.items)
-        (listed.1.2 ∙ ap (λ (xs : List PendingUnit). record { place = listed.1.0; head = c.args.plan.now.head } ∷ xs) rest_is) listed.0
+    turns = subst (AreTurns c.args.nodes.now.table c.args.entry.now.keys.items)
+        (listed.1.2 ∙ ap (λ xs. record { place = listed.1.0; head = c.args.plan.now.head } ∷ xs) rest_is) listed.0
 
-    pub rooted_so : IsRooted (total c.args.holds.now) c.args.nodes.now.table c.allocate_all_pending.new.nodes.table c.allocate_all_pending.new.nodes.units.items ss
+    pub rooted_so : IsRooted (total c.args.holds.now) c.args.nodes.now.table c.allocate_all_pending.new.nodes.table
+        c.allocate_all_pending.new.nodes.units.items ss
         c.args.entry.now c.allocate_all_pending.new.entry c.args.plan.now.head (AllocationOutcome.Given c.args.buffers c.args.held)
     rooted_so =
-        let now = c.mark_allocated.new.table in
         let few = c.requires.few in
-        rooted_given t now us ss e c.args.plan.now.head under coming ks c.requires.listed given c.args.buffers few held ws listed.1.0
+        rooted_given under coming c.requires.listed given c.args.buffers few held ws listed.1.0
         turns new refl refl refl refl reserved
-        (total c.args.holds.now) c.allocate_all_pending.new.nodes.table c.allocate_all_pending.new.nodes.units.items c.allocate_all_pending.new.entry
         (c.allocate_all_pending.ensures.out (put_shelf (shelf_of new) ss)
-        (under_then t now us ss e c.args.plan.now.head under coming ks c.requires.listed given c.args.buffers few held ws listed.1.0
+        (under_then under coming c.requires.listed given c.args.buffers few held ws listed.1.0
         turns new refl refl refl refl reserved)
-        (turns_then t now us ss e c.args.plan.now.head under coming ks c.requires.listed given c.args.buffers few held ws listed.1.0 turns)
-        (waits_no_more t now us ss e c.args.plan.now.head under coming ks c.requires.listed given c.args.buffers few held) refl)
+        (turns_then under coming c.requires.listed given c.args.buffers few held ws listed.1.0 turns)
+        (waits_no_more under coming c.requires.listed given c.args.buffers few held) refl)
         (AllocationOutcome.Given c.args.buffers c.args.held) (λ d. refl) refl
 
 pub returns-clause-rooted : goal.returns-clause-rooted
-returns-clause-rooted c ss under coming reserved = rooted_so c ss under coming reserved
+returns-clause-rooted c ss under coming reserved = rooted_so c under coming reserved

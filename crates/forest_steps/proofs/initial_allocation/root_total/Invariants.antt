@@ -1,7 +1,6 @@
-use Rattle.forest_steps.proofs.Common.{◌≡◌, ◌≤◌, ◌+◌, drop, sum_by, Demand}
-use Rattle.std.proofs.Common.{◌*◌, ◌^◌, max}
-use Rattle.std.specs.List.{filter_map, fold}
-use Rattle.sm_names.specs.Members.{greatest}
+use Rattle.forest_steps.proofs.Common.{◌≡◌, ◌≤◌, ◌+◌, drop, sum_by, Demand, filter_map, fold, greatest}
+use Rattle.std.proofs.Common.{◌*◌, max}
+use Rattle.sm_names.specs.declared.rules.TheConstants.{MAX_CAMPING, MAX_SIZE}
 use Rattle.forest_store.specs.UnitAllocation.{asked_at}
 use Rattle.forest_steps.proofs.initial_allocation.root_total.Given as goal
 
@@ -15,7 +14,7 @@ invariant-loop-key l = record {
       ≡ greatest (λ d. d.at_least) (filter_map (asked_at l.table l.those l.after) l.keys);
   size : fold (λ n (d : Demand). max n d.size) l.asks.size (filter_map (asked_at l.table l.those l.after) (drop l.key-index l.keys))
       ≡ greatest (λ d. d.size) (filter_map (asked_at l.table l.those l.after) l.keys);
-  few : l.asks.camping ≤ 64 * l.key-index;
-  in_range : l.asks.size ≤ 2 ^ 30;
+  few : l.asks.camping ≤ MAX_CAMPING * l.key-index;
+  in_range : l.asks.size ≤ MAX_SIZE;
   some : l.asks.size ≡ 0 → l.asks.camping + l.asks.at_least ≡ 0;
 }

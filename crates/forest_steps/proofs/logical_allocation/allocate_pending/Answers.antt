@@ -1,7 +1,6 @@
 -- The unit is next or not; if it is, it is allocated, or refused and fails.
-use Rattle.forest_steps.proofs.Common.{◌≡◌, ap, sym, ◌∙◌, subst, Bool, true, false, List, [], ◌∷◌, NodeKey, Table, Node, Unit}
+use Rattle.forest_steps.proofs.Common.{◌≡◌, ap, sym, ◌∙◌, Bool, false, List, NodeKey, Table, Node, Unit}
 use Rattle.forest_steps.specs.declared.demand.TotalDemand.{TotalDemand}
-use Rattle.forest_store.specs.UnitAllocation.{IsGivenAt}
 use Rattle.forest_steps.specs.LogicalAllocation.{is_next_there}
 use Rattle.forest_steps.proofs.mid_event.Taking.{AreAsked, allocated_by, given_named, refused_by}
 use Rattle.forest_steps.proofs.mid_event.Turns.{left, still_led}
@@ -9,16 +8,16 @@ use Rattle.forest_steps.proofs.logical_allocation.allocate_pending.Goals as goal
 
 -- what the keys that were read ask for is what those that were listed do
 asked_by : (t : Table Node) (k : NodeKey) (read ks : List NodeKey) (asks : TotalDemand) → read ≡ ks → AreAsked t k read asks → AreAsked t k ks asks
-asked_by t k read ks asks same told = subst (λ (js : List NodeKey). AreAsked t k js asks) same told
+asked_by t k read ks asks same told = rw same at told
 
 -- the counts that were read are those that are kept
 told_by : (t : Table Node) (k : NodeKey) (read us : List Unit) (r b : Bool) → r ≡ is_next_there t read k → read ≡ us → r ≡ b →
     is_next_there t us k ≡ b
-told_by t k read us r b told same is = ap (λ (xs : List Unit). is_next_there t xs k) (sym same) ∙ (sym told ∙ is)
+told_by t k read us r b told same is = ap (λ xs. is_next_there t xs k) (sym same) ∙ (sym told ∙ is)
 
 pub returns-then-not-is_next-clause-taken : goal.returns-then-not-is_next-clause-taken
 returns-then-not-is_next-clause-taken c handles ss place ws u turns no_wait has stays =
-    still_led _ _ ss _ _ place ws u turns handles no_wait
+    still_led place ws u turns handles no_wait
     (told_by c.args.nodes.now.table c.args.head _ _ _ false c.is_next.ensures c.deref.ensures.value c.if-not-is_next.true)
 
 pub returns-in-None-clause-taken : goal.returns-in-None-clause-taken
@@ -26,28 +25,24 @@ returns-in-None-clause-taken c handles ss place ws u turns no_wait has stays =
     let t = c.args.nodes.now.table in
     let k = c.args.head in
     let ks = c.list_unit.new.keys.items in
-    let asks = c.unit_total-asks.result in
     let told = c.unit_total-asks.ensures in
-    let next = told_by t k _ _ _ true c.is_next.ensures c.deref.ensures.value c.if-not-is_next.false in
-    allocated_by t _ ss _ k place ws u turns next no_wait ks c.list_unit.ensures.listed asks
-    (asked_by t k _ ks asks c.deref-2.ensures.value (record { camping = told.camping; at_least = told.at_least; size = told.size }))
-    handles c.args.buffers has stays c.mark_allocated.new.table
-    (subst (λ (js : List NodeKey). IsGivenAt t c.mark_allocated.new.table (k ∷ []) js) c.deref-in-None.ensures.value c.mark_allocated.ensures)
+    let next = told_by t k _ _ _ _ c.is_next.ensures c.deref.ensures.value c.if-not-is_next.false in
+    allocated_by _ ws u turns next no_wait c.list_unit.ensures.listed
+    (asked_by t k _ ks _ c.deref-2.ensures.value (record { camping = told.camping; at_least = told.at_least; size = told.size }))
+    _ has stays (rw c.deref-in-None.ensures.value at c.mark_allocated.ensures)
     (sym c.refusal.ensures ∙ c.in-None.is)
 
 pub returns-in-None-clause-named : goal.returns-in-None-clause-named
-returns-in-None-clause-named c = given_named c.args.nodes.now.table c.mark_allocated.new.table _ _ c.mark_allocated.ensures c.requires.named
+returns-in-None-clause-named c = given_named c.mark_allocated.ensures c.requires.named
 
 pub returns-in-Some-clause-taken : goal.returns-in-Some-clause-taken
 returns-in-Some-clause-taken c handles ss place ws u turns no_wait has stays =
     let t = c.args.nodes.now.table in
     let k = c.args.head in
     let ks = c.list_unit.new.keys.items in
-    let asks = c.unit_total-asks.result in
     let told = c.unit_total-asks.ensures in
-    let next = told_by t k _ _ _ true c.is_next.ensures c.deref.ensures.value c.if-not-is_next.false in
-    refused_by t _ ss _ k place ws u turns next no_wait ks c.list_unit.ensures.listed asks
-    (asked_by t k _ ks asks c.deref-2.ensures.value (record { camping = told.camping; at_least = told.at_least; size = told.size }))
-    handles c.args.buffers has stays c.fall_by.new.nodes.table c.fall_by.new.nodes.units.items c.fall_by.new.entry c.in-Some.why
-    (c.fall_by.ensures.felled handles ss _ u (left t _ ss _ k place ws u turns next))
+    let next = told_by t k _ _ _ _ c.is_next.ensures c.deref.ensures.value c.if-not-is_next.false in
+    refused_by _ ws u turns next no_wait c.list_unit.ensures.listed
+    (asked_by t k _ ks _ c.deref-2.ensures.value (record { camping = told.camping; at_least = told.at_least; size = told.size }))
+    _ has stays (c.fall_by.ensures.felled handles ss _ u (left _ ws u turns next))
     (sym c.refusal.ensures ∙ c.in-Some.is)

@@ -1,7 +1,6 @@
-use Rattle.forest_steps.proofs.Common.{◌≡◌, ◌≤◌, ◌+◌, drop, sum_by, Demand}
+use Rattle.forest_steps.proofs.Common.{◌≡◌, ◌≤◌, ◌+◌, drop, sum_by, Demand, filter_map, fold, greatest}
 use Rattle.std.proofs.Common.{◌*◌, max}
-use Rattle.std.specs.List.{filter_map, fold}
-use Rattle.sm_names.specs.Members.{greatest}
+use Rattle.sm_names.specs.declared.rules.TheConstants.{MAX_CAMPING}
 use Rattle.forest_steps.specs.LogicalAllocation.{asked_there}
 use Rattle.forest_steps.proofs.logical_allocation.unit_total.Given as goal
 
@@ -14,5 +13,5 @@ invariant-loop-at l = record {
       ≡ greatest (λ d. d.at_least) (filter_map (asked_there l.table l.head) l.keys);
   size : fold (λ n (d : Demand). max n d.size) l.asks.size (filter_map (asked_there l.table l.head) (drop l.at-index l.keys))
       ≡ greatest (λ d. d.size) (filter_map (asked_there l.table l.head) l.keys);
-  few : l.asks.camping ≤ 64 * l.at-index;
+  few : l.asks.camping ≤ MAX_CAMPING * l.at-index;
 }

@@ -2,4 +2,4 @@
 use Rattle.forest_steps.proofs.node_effect.counts_after.Goals as goal
 
 pub returns-clause-reserved : goal.returns-clause-reserved
-returns-clause-reserved c = rw (c.camped.ensures, c.camped_after.ensures) at c.exchanged.ensures
+returns-clause-reserved c = rw (c.camped.ensures, c.camped_after.ensures) at c.exchanged.ensures.sum

@@ -1,6 +1,5 @@
 -- The node is written, and what is counted of its unit and of its collection.
-use Rattle.forest_steps.proofs.Common.{◌≡◌, ◌∙◌, List, map, refl, sym, ap, subst, Entry, Unit, nodes_with, affected, reserved_count}
-use Rattle.forest_steps.specs.MidEvent.{EffectMade}
+use Rattle.forest_steps.proofs.Common.{◌≡◌, ◌∙◌, map, refl, ap, Entry, nodes_with, affected, reserved_count}
 use Rattle.forest_steps.specs.NodeEffects.{AreCounts, KeepsCounts}
 use Rattle.forest_steps.proofs.mid_event.Affecting.{becomes_there, named_here, nodes_here, plain_here, there_here, writes_there}
 use Rattle.forest_steps.proofs.mid_event.Counted.{counted_here, reserved_next}
@@ -16,22 +15,20 @@ returns-in_default-clause-affected c ss n was here own store =
     let key = c.args.made.now.key in
     let effect = c.args.made.now.effect in
     let keeps : KeepsCounts effect = rw c.in_default.is at c.requires.may.worked in
-    plain_here t c.args.nodes.now.units.items ss c.args.entry.now store key effect n was here own c.affect_at.new.table
-    (becomes_there t c.affect_at.new.table key effect n was c.requires.named (c.affect_at.ensures.becomes n was))
-    (writes_there t c.affect_at.new.table key effect n was c.requires.named (c.affect_at.ensures.writes n was)) keeps.plain
+    plain_here store key _ was here own
+    (becomes_there t _ key _ was c.requires.named (c.affect_at.ensures.becomes n was))
+    (writes_there t _ key _ was c.requires.named (c.affect_at.ensures.writes n was)) keeps.plain
     (keeps.strong key n)
 
 pub returns-in_default-clause-named : goal.returns-in_default-clause-named
 returns-in_default-clause-named c =
     let n = row_node c.args.nodes.now.table c.args.made.now.key c.requires.may.there in
-    named_here c.args.nodes.now.table c.affect_at.new.table c.args.made.now.key c.args.made.now.effect n.0 n.1 c.requires.named
-    (c.affect_at.ensures.writes n.0 n.1)
+    named_here _ n.1 c.requires.named (c.affect_at.ensures.writes n.0 n.1)
 
 pub returns-in_default-clause-there : goal.returns-in_default-clause-there
 returns-in_default-clause-there c =
     let n = row_node c.args.nodes.now.table c.args.made.now.key c.requires.may.there in
-    there_here c.args.nodes.now.table c.affect_at.new.table c.args.made.now.key c.args.made.now.effect n.0 n.1 c.requires.named
-    (c.affect_at.ensures.writes n.0 n.1)
+    there_here _ n.1 c.requires.named (c.affect_at.ensures.writes n.0 n.1)
 
 pub returns-in_default-clause-len : goal.returns-in_default-clause-len
 returns-in_default-clause-len c =
@@ -49,34 +46,30 @@ returns-clause-affected c ss n was here own store =
     let effect = c.args.made.now.effect in
     let now = c.affect_at.new.table in
     let counts = c.in-Some.counts in
-    let becomes = becomes_there t now key effect n was c.requires.named (c.affect_at.ensures.becomes n was) in
-    let writes = writes_there t now key effect n was c.requires.named (c.affect_at.ensures.writes n was) in
+    let becomes = becomes_there t now key _ was c.requires.named (c.affect_at.ensures.becomes n was) in
+    let writes = writes_there t now key _ was c.requires.named (c.affect_at.ensures.writes n was) in
     let worked : AreCounts t us e key effect n counts = (rw c.in-Some.is at c.requires.may.worked) n was in
     let nodes : nodes_with now e.keys.items ≡ map (affected key effect) (nodes_with t e.keys.items) =
-    nodes_here t us ss e store key effect n was here own now becomes writes in
+    nodes_here store key _ was here own becomes writes in
     let reserved : c.match-counts.entry ≡ reserved_count (map (affected key effect) (nodes_with t e.keys.items)) =
     elim c.match-counts.branch [
       | in-Some-reserved w ↦
-          w.entry-is
-          ∙ reserved_next t us ss e store key effect n was here own now becomes writes counts worked w.in-Some-reserved.reserved
-          w.in-Some-reserved.is
+          w.entry-is ∙ reserved_next store key _ was here own becomes writes worked w.in-Some-reserved.is
       | in-None w ↦ w.entry-is ∙ (rw w.as_slice.ensures.items at w.recount.ensures.reserved) ∙ ap reserved_count nodes
     ] in
     let new : Entry = record e { reserved = c.match-counts.entry; strong = counts.strong } in
-    subst (λ (l : List Unit). EffectMade t now l ss e new key effect n.head) (sym c.put_unit.ensures)
-    (counted_here t us ss e store key effect n was here own now becomes writes counts worked new refl refl refl refl reserved)
+    rw c.put_unit.ensures
+    (counted_here store key _ was here own becomes writes worked new refl refl refl refl reserved)
 
 pub returns-clause-named : goal.returns-clause-named
 returns-clause-named c =
     let n = row_node c.args.nodes.now.table c.args.made.now.key c.requires.may.there in
-    named_here c.args.nodes.now.table c.affect_at.new.table c.args.made.now.key c.args.made.now.effect n.0 n.1 c.requires.named
-    (c.affect_at.ensures.writes n.0 n.1)
+    named_here _ n.1 c.requires.named (c.affect_at.ensures.writes n.0 n.1)
 
 pub returns-clause-there : goal.returns-clause-there
 returns-clause-there c =
     let n = row_node c.args.nodes.now.table c.args.made.now.key c.requires.may.there in
-    there_here c.args.nodes.now.table c.affect_at.new.table c.args.made.now.key c.args.made.now.effect n.0 n.1 c.requires.named
-    (c.affect_at.ensures.writes n.0 n.1)
+    there_here _ n.1 c.requires.named (c.affect_at.ensures.writes n.0 n.1)
 
 pub returns-clause-len : goal.returns-clause-len
 returns-clause-len c =

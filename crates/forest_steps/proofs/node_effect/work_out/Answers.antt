@@ -1,22 +1,19 @@
 -- The node is there, and is counted as it is after the effect.
-use Rattle.forest_steps.proofs.Common.{◌≡◌, ◌∙◌, Some, None, ap, sym, subst, some-injective, node_at, Node}
+use Rattle.forest_steps.proofs.Common.{◌≡◌, ◌∙◌, Some, ap, sym, subst, some-injective, node_at, arith}
 use Rattle.std.proofs.Common.{option_copied}
 use Rattle.forest_steps.specs.NodeEffects.{AreCounts}
 use Rattle.forest_steps.proofs.tables.Rows.{row_node}
 use Rattle.forest_steps.proofs.node_effect.work_out.Goals as goal
 
 pub unreachable-requires : goal.unreachable-requires
-unreachable-requires c =
-    let n = row_node c.args.nodes.now.table c.args.key c.requires in
-    let no : Some n.0 ≡ None = sym n.1 ∙ (sym c.get.ensures ∙ ap option_copied c.in_default.is) in
-    cc
+unreachable-requires c = grind (arith, row_node)
 
 pub returns-clause-worked : goal.returns-clause-worked
 returns-clause-worked c n was =
     let t = c.args.nodes.now.table in
     let us = c.args.nodes.now.units.items in
     let found : node_at t c.args.key ≡ Some c.in-Some.node.now = sym c.get.ensures ∙ ap option_copied c.in-Some.is in
-    subst (λ (m : Node). AreCounts t us c.args.entry.now c.args.key c.args.effect m c.counts_after-counts.result)
+    subst (λ m. AreCounts t us c.args.entry.now c.args.key c.args.effect m c.counts_after-counts.result)
     (some-injective c.in-Some.node.now n (sym found ∙ was)) (record {
       head = c.counts_after-counts.ensures.head;
       unit = c.counts_after-counts.ensures.unit;

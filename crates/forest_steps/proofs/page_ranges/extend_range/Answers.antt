@@ -1,17 +1,13 @@
-use Rattle.forest_steps.proofs.Common.{◌≤◌, subst, arith}
+use Rattle.forest_steps.proofs.Common.{subst, arith}
 use Rattle.std.proofs.Common.{Contains}
 use Rattle.buffer_pool.proofs.Runs.{HasRun-more, run-few, without_run-had}
 use Rattle.forest_steps.proofs.page_ranges.extend_range.Goals as goal
 
 pub overflow_add-result : goal.overflow_add-result
-overflow_add-result c =
-    let few : c.args.run.count ≤ c.args.pool.now.size =
-    run-few c.args.run.start c.args.run.pages c.args.run.count c.args.pool.now.size c.args.pool.now.held c.requires.sound.in_order
-    c.requires.run in
-    omega (arith, c.requires.sound.sized)
+overflow_add-result c = grind (arith, run-few)
 
 pub returns-then-is_next-clause-run : goal.returns-then-is_next-clause-run
 returns-then-is_next-clause-run c =
-    HasRun-more c.args.run.start c.args.run.pages c.args.run.count c.args.pool.now.held c.requires.run
+    HasRun-more _ _ _ _ c.requires.run
     (subst (Contains c.args.pool.now.held) (c.is_next.ensures c.if-is_next.true)
-    (without_run-had c.args.run.start c.args.run.pages c.args.run.count c.args.next c.args.pool.now.held c.requires.next))
+    (without_run-had c.args.run.start c.args.run.pages c.args.run.count _ _ c.requires.next))

@@ -1,5 +1,5 @@
 -- One unit after another.
-use Rattle.forest_steps.proofs.Common.{◌≡◌, ◌+◌, ◌<◌, List, ◌∷◌, drop, get_or, length, refl, sym, ◌∙◌, subst, arith, total}
+use Rattle.forest_steps.proofs.Common.{◌≡◌, ◌+◌, ◌<◌, ◌∷◌, drop, get_or, length, sym, ◌∙◌, arith, total}
 use Rattle.std.proofs.lemmas.List.{drop_more}
 use Rattle.forest_steps.specs.declared.pending_units.PendingUnit.{PendingUnit}
 use Rattle.forest_steps.proofs.mid_event.Leading.{HaveTurns, turns_more, turns_none}
@@ -9,12 +9,7 @@ abbrev none : PendingUnit
 none = record { place = 0; head = record { slot = 0; generation = 0 } }
 
 pub loop-turn-init : goal.loop-turn-init
-loop-turn-init c = record {
-  named = c.requires.named;
-  len = refl;
-  room = omega arith;
-  had = turns_none (total c.args.holds.now) c.args.nodes.now.table c.args.nodes.now.units.items c.args.entry.now c.args.buffers c.args.turns.now;
-}
+loop-turn-init c = grind (arith, turns_none)
 
 pub loop-turn-preserved : goal.loop-turn-preserved
 loop-turn-preserved c =
@@ -27,15 +22,14 @@ loop-turn-preserved c =
     let front : drop i turns ≡ w ∷ drop (i + 1) turns = drop_more turns i none within in
     let had : HaveTurns h c.args.nodes.now.table c.loop-turn.nodes.table c.args.nodes.now.units.items c.loop-turn.nodes.units.items c.args.entry.now
     c.loop-turn.entry c.args.buffers turns (w ∷ drop (i + 1) turns) =
-    subst (λ (l : List PendingUnit). HaveTurns h c.args.nodes.now.table c.loop-turn.nodes.table c.args.nodes.now.units.items c.loop-turn.nodes.units.items
-    c.args.entry.now c.loop-turn.entry c.args.buffers turns l) front was.had in
+    rw front at was.had in
     record {
       named = c.allocate_pending.ensures.named;
       len = c.allocate_pending.ensures.len ∙ was.len;
       room = omega (arith, c.allocate_pending.ensures.room, was.room);
-      had = turns_more h c.args.nodes.now.table c.loop-turn.nodes.table c.allocate_pending.new.nodes.table c.args.nodes.now.units.items c.loop-turn.nodes.units.items
-          c.allocate_pending.new.nodes.units.items c.args.entry.now c.loop-turn.entry c.allocate_pending.new.entry c.args.buffers turns w
-          (drop (i + 1) turns) had
+      had = turns_more h _ _ _ _ _
+          _ _ _ _ _ _ w
+          _ had
           (λ given. sym (c.are_abandoned.ensures given) ∙ c.if-are_abandoned.false)
           (c.allocate_pending.ensures.taken h);
     }

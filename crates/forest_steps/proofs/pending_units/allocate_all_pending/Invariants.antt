@@ -1,6 +1,5 @@
-use Rattle.forest_steps.proofs.Common.{◌≡◌, ◌≤◌, drop, Some, total, NodeKey, node_at, Node}
+use Rattle.forest_steps.proofs.Common.{◌≡◌, ◌≤◌, drop, Some, total, NodeKey, node_at, Node, table_len}
 use Rattle.std.proofs.Common.{vec_capacity}
-use Rattle.node_table.specs.Table.{table_len}
 use Rattle.forest_steps.proofs.mid_event.Leading.{HaveTurns}
 use Rattle.forest_steps.proofs.pending_units.allocate_all_pending.Given as goal
 

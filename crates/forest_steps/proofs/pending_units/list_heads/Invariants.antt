@@ -1,6 +1,5 @@
-use Rattle.forest_steps.proofs.Common.{◌≡◌, ◌≤◌, length, take}
+use Rattle.forest_steps.proofs.Common.{◌≡◌, ◌≤◌, length, take, is_head_at}
 use Rattle.std.proofs.Common.{filter, vec_capacity}
-use Rattle.forest_store.specs.UnitAllocation.{is_head_at}
 use Rattle.forest_steps.specs.MidEvent.{ArePlacedIfThere, turn_heads}
 use Rattle.forest_steps.proofs.pending_units.list_heads.Given as goal
 

@@ -1,6 +1,5 @@
-use Rattle.forest_steps.proofs.Common.{◌≡◌, ◌≤◌, ◌+◌, ◌++◌, length, take, drop}
+use Rattle.forest_steps.proofs.Common.{◌≡◌, ◌≤◌, ◌+◌, ◌++◌, length, take, drop, laid}
 use Rattle.std.proofs.Common.{vec_capacity}
-use Rattle.forest_store.specs.Scenes.{laid}
 use Rattle.forest_steps.proofs.placement.list_placed.Given as goal
 
 -- those so far and those still to come make the whole

@@ -1,9 +1,6 @@
 -- The buffers are placed, and stand before the others.
-use Rattle.forest_steps.proofs.Common.{ℕ, ◌++◌, ◌∙◌, sym, ap, length, arith, List}
-use Rattle.sm_names.specs.Pages.{places}
+use Rattle.forest_steps.proofs.Common.{ℕ, ◌++◌, ◌∙◌, sym, ap, length, arith, List, places, with_buffers, laid}
 use Rattle.sm_names.proofs.PlaceLaws.{places_first}
-use Rattle.buffer_pool.specs.Holdings.{with_buffers}
-use Rattle.forest_store.specs.Scenes.{laid}
 use Rattle.forest_steps.proofs.placement.place_buffers.Goals as goal
 
 -- there are as many starts as buffers
@@ -24,8 +21,7 @@ list_placed-requires-clause-room c =
       c.deref-in-Ok-place.ensures.len,
       c.len.ensures,
       c.in-Ok.ensures.exact,
-      ap
-          length c.deref.ensures.value,
+      ap length c.deref.ensures.value,
     )
 
 -- they lie where the definition has them
@@ -37,10 +33,10 @@ returns-in-Ok-place-clause-some c =
     let placed = c.in-Ok-place.ensures.ok in
     record {
       starts = c.in-Ok-place.placed.starts.items;
-      many = (places_first pool c.pages_of-pages.result count c.args.pool.now.held starts placed.starts_are).0;
-      found = ap (λ (p : ℕ). places pool p count c.args.pool.now.held) (sym c.pages_of-pages.ensures.value) ∙ placed.starts_are;
+      many = (places_first pool c.pages_of-pages.result _ c.args.pool.now.held _ placed.starts_are).0;
+      found = ap (λ p. places pool p count c.args.pool.now.held) (sym c.pages_of-pages.ensures.value) ∙ placed.starts_are;
       lies = c.list_placed.ensures ∙ (λ i. laid c.args.collection (c.pages_of-pages.ensures.value i) 0 (c.deref.ensures.value i)
           ++ c.deref-in-Ok-place.ensures.value i);
       pool = ap (λ p. p.held) placed.held_are
-          ∙ ap (λ (p : ℕ). with_buffers p starts c.args.pool.now.held) c.pages_of-pages.ensures.value;
+          ∙ ap (λ p. with_buffers p starts c.args.pool.now.held) c.pages_of-pages.ensures.value;
     }

@@ -1,8 +1,6 @@
 -- The units are listed and have their turns, or nothing is due.
-use Rattle.forest_steps.proofs.Common.{◌≡◌, ◌∙◌, sym, ap, subst, true, false, Bool, List, [], ◌∷◌, In-list_any, same_key-true, NodeKey, Table, Node, Unit, nodes_with, is_of}
-use Rattle.forest_steps.specs.declared.pending_units.PendingUnit.{PendingUnit}
+use Rattle.forest_steps.proofs.Common.{◌≡◌, ◌∙◌, sym, ap, Bool, List, [], ◌∷◌, In-list_any, same_key-true, NodeKey, Table, Node, Unit, arith}
 use Rattle.forest_steps.specs.LogicalAllocation.{is_next_there}
-use Rattle.forest_steps.specs.MidEvent.{AreTurns, MidEvent, turn_heads}
 use Rattle.forest_steps.proofs.mid_event.NextThere.{listed_due, none_due, told_left, told_there}
 use Rattle.forest_steps.proofs.mid_event.Playing.{played_none}
 use Rattle.forest_steps.proofs.propagation.allocate_ready.Goals as goal
@@ -10,35 +8,25 @@ use Rattle.forest_steps.proofs.propagation.allocate_ready.Goals as goal
 -- the counts that were read are those that are kept
 told_by : (t : Table Node) (k : NodeKey) (read us : List Unit) (r b : Bool) → r ≡ is_next_there t read k → read ≡ us → r ≡ b →
     is_next_there t us k ≡ b
-told_by t k read us r b told same is = ap (λ (xs : List Unit). is_next_there t xs k) (sym same) ∙ (sym told ∙ is)
+told_by t k read us r b told same is = ap (λ xs. is_next_there t xs k) (sym same) ∙ (sym told ∙ is)
 
 pub list_pending-requires-clause-there : goal.list_pending-requires-clause-there
 list_pending-requires-clause-there c =
     told_there c.args.nodes.now.table c.args.nodes.now.units.items c.args.head
-    (told_by c.args.nodes.now.table c.args.head _ _ _ true c.is_next.ensures c.deref.ensures.value c.if-is_next.true)
+    (told_by c.args.nodes.now.table c.args.head _ _ _ _ c.is_next.ensures c.deref.ensures.value c.if-is_next.true)
 
 pub returns-then-is_next-clause-out : goal.returns-then-is_next-clause-out
 returns-then-is_next-clause-out c ss u there no_wait given =
     let t = c.args.nodes.now.table in
     let us = c.args.nodes.now.units.items in
-    let e = c.args.entry.now in
     let k = c.args.head in
-    let next = told_by t k _ us _ true c.is_next.ensures c.deref.ensures.value c.if-is_next.true in
-    let x = In-list_any (is_of k) (nodes_with t e.keys.items) there in
-    let left = told_left t us ss e [] (k ∷ []) u k x.0 x.1 (same_key-true x.0.key k x.2) next in
-    let listed = c.list_pending.ensures.listed ss [] (k ∷ [])
-    (subst (λ (xs : List Unit). MidEvent t xs ss e [] (k ∷ [])) (sym c.deref-then-is_next.ensures.value) u) left in
+    let next = told_by t k _ us _ _ c.is_next.ensures c.deref.ensures.value c.if-is_next.true in
+    let x = In-list_any _ _ there in
+    let left = told_left u k x.0 x.1 (same_key-true _ k x.2) next in
+    let listed = c.list_pending.ensures.listed ss [] (k ∷ []) (rw c.deref-then-is_next.ensures.value u) left in
     let same : c.deref-then-is_next-2.result.now ≡ c.list_pending.new.turns.items = c.deref-then-is_next-2.ensures.value in
     c.allocate_all_pending.ensures.out ss
-    (subst (λ (ws : List PendingUnit). MidEvent t us ss e [] (turn_heads ws)) (sym same)
-    (listed_due t us ss e k u no_wait c.list_pending.new.turns.items listed.1.0 listed.1.1 listed.1.2))
-    (subst (λ (ws : List PendingUnit). AreTurns t e.keys.items ws) (sym same) listed.0) no_wait given
+    (rw same (listed_due u no_wait _ _ _ listed.1.2)) (rw same listed.0) no_wait given
 
 pub returns-else-is_next-clause-out : goal.returns-else-is_next-clause-out
-returns-else-is_next-clause-out c ss u there no_wait given =
-    let t = c.args.nodes.now.table in
-    let us = c.args.nodes.now.units.items in
-    let e = c.args.entry.now in
-    let k = c.args.head in
-    played_none _ t us ss e (none_due t us ss e k u no_wait
-    (told_by t k _ us _ false c.is_next.ensures c.deref.ensures.value c.if-is_next.false))
+returns-else-is_next-clause-out c ss u there no_wait given = grind (arith, none_due, played_none, told_by)

@@ -18,11 +18,10 @@ returns-in_default-clause-out c ss n at here own under waits =
     let key = c.args.made.now.key in
     let effect = c.args.made.now.effect in
     let keeps : KeepsCounts effect = rw c.in_default.is at c.requires.may.worked in
-    still_played t c.args.nodes.now.units.items ss c.args.entry.now under key effect n at here own now
-    (becomes_there t now key effect n at c.requires.named (c.make_effect.ensures.becomes n at))
-    (writes_there t now key effect n at c.requires.named (c.make_effect.ensures.writes n at))
-    c.make_effect.new.nodes.units.items c.make_effect.new.entry (c.make_effect.ensures.affected ss n at here own under.store)
-    (total c.args.holds.now) None keeps refl
+    still_played under at here own
+    (becomes_there t now key effect at c.requires.named (c.make_effect.ensures.becomes n at))
+    (writes_there t now key effect at c.requires.named (c.make_effect.ensures.writes n at))
+    (c.make_effect.ensures.affected ss n at here own under.store) (total c.args.holds.now) None keeps refl
 
 -- the effect was made on the node of the unit that was counted
 counted_on : (t mid : Table Node) (us after : List Unit) (ss : List Shelf) (e e1 : Entry) (key : NodeKey) (effect : Effect)
@@ -31,63 +30,35 @@ counted_on : (t mid : Table Node) (us after : List Unit) (ss : List Shelf) (e e1
     AfterEffect t mid after ss e e1 key effect c.head
 counted_on t mid us after ss e e1 key effect counts c is worked n at own under made =
     let told : AreCountsThen t us e key effect (Some c) = subst (AreCountsThen t us e key effect) is worked in
-    subst (AfterEffect t mid after ss e e1 key effect) (sym (told n at).head)
-    (affected_on t mid us after ss e e1 key effect n at own under made)
+    subst (AfterEffect t mid after ss e e1 key effect) (sym (told n at).head) (affected_on at own under made)
 
 pub returns-then-is_none-clause-out : goal.returns-then-is_none-clause-out
 returns-then-is_none-clause-out c ss n at here own under waits =
-    let mid = c.make_effect.new.nodes.table in
-    let e = c.args.entry.now in
     let head = c.in-Some.counts.head in
-    let done = counted_on c.args.nodes.now.table c.make_effect.new.nodes.table c.args.nodes.now.units.items
-    c.make_effect.new.nodes.units.items ss c.args.entry.now c.make_effect.new.entry c.args.made.now.key c.args.made.now.effect
-    c.args.made.now.counts c.in-Some.counts c.in-Some.is c.requires.may.worked n at own under
+    let done = counted_on _ _ _ _ ss _ _ _ _ _ _ c.in-Some.is c.requires.may.worked n at own under
     (c.make_effect.ensures.affected ss n at here own under.store) in
-    let row = head_row mid c.make_effect.ensures.named e.keys.items head done.left in
-    absurd (lent_there c.get.result row.0 (c.get.ensures ∙ row.1) (c.is_none.ensures ∙ ap not c.if-is_none.true))
+    let row = head_row c.make_effect.new.nodes.table c.make_effect.ensures.named _ _ done.left in
+    absurd (lent_there _ (c.get.ensures ∙ row.1) (c.is_none.ensures ∙ ap not c.if-is_none.true))
 
 pub returns-in-Some-given-clause-out : goal.returns-in-Some-given-clause-out
 returns-in-Some-given-clause-out c ss n at here own under waits =
-    let t = c.args.nodes.now.table in
-    let mid = c.make_effect.new.nodes.table in
-    let us = c.make_effect.new.nodes.units.items in
-    let e = c.args.entry.now in
-    let e1 = c.make_effect.new.entry in
-    let key = c.args.made.now.key in
-    let effect = c.args.made.now.effect in
     let head = c.in-Some.counts.head in
-    let handles = total c.args.holds.now in
-    let done = counted_on c.args.nodes.now.table c.make_effect.new.nodes.table c.args.nodes.now.units.items
-    c.make_effect.new.nodes.units.items ss c.args.entry.now c.make_effect.new.entry c.args.made.now.key c.args.made.now.effect
-    c.args.made.now.counts c.in-Some.counts c.in-Some.is c.requires.may.worked n at own under
+    let done = counted_on _ _ _ _ ss _ _ _ _ _ _ c.in-Some.is c.requires.may.worked n at own under
     (c.make_effect.ensures.affected ss n at here own under.store) in
-    let left = still_left t mid us ss e e1 key effect head done in
-    played_affected t mid us ss e e1 key effect head done handles c.end_above.new.nodes.table c.end_above.new.nodes.units.items
-    c.end_above.new.entry (c.end_above.ensures.led handles ss (head ∷ []) done.under left)
-    (c.end_above.ensures.ended ss (head ∷ []) done.under left) waits c.allocate_ready.new.nodes.table
-    c.allocate_ready.new.nodes.units.items c.allocate_ready.new.entry
+    let left = still_left done in
+    played_affected done (c.end_above.ensures.led (total c.args.holds.now) ss (head ∷ []) done.under left)
+    (c.end_above.ensures.ended ss (head ∷ []) done.under left) waits _ _ _
     (λ pending there no_wait same. c.allocate_ready.ensures.out ss pending there no_wait (same ∙ c.in-Some-given.is))
 
 pub returns-in_default-given-clause-out : goal.returns-in_default-given-clause-out
 returns-in_default-given-clause-out c ss n at here own under waits =
-    let t = c.args.nodes.now.table in
-    let mid = c.make_effect.new.nodes.table in
-    let us = c.make_effect.new.nodes.units.items in
-    let e = c.args.entry.now in
-    let e1 = c.make_effect.new.entry in
-    let key = c.args.made.now.key in
-    let effect = c.args.made.now.effect in
     let head = c.in-Some.counts.head in
     let handles = total c.args.holds.now in
-    let then = c.end_above.new.nodes.table in
     let vs = c.end_above.new.nodes.units.items in
     let e2 = c.end_above.new.entry in
-    let done = counted_on c.args.nodes.now.table c.make_effect.new.nodes.table c.args.nodes.now.units.items
-    c.make_effect.new.nodes.units.items ss c.args.entry.now c.make_effect.new.entry c.args.made.now.key c.args.made.now.effect
-    c.args.made.now.counts c.in-Some.counts c.in-Some.is c.requires.may.worked n at own under
+    let done = counted_on _ _ _ _ ss _ _ _ _ _ _ c.in-Some.is c.requires.may.worked n at own under
     (c.make_effect.ensures.affected ss n at here own under.store) in
-    let left = still_left t mid us ss e e1 key effect head done in
-    played_affected t mid us ss e e1 key effect head done handles then vs e2
+    let left = still_left done in
+    played_affected done
     (c.end_above.ensures.led handles ss (head ∷ []) done.under left) (c.end_above.ensures.ended ss (head ∷ []) done.under left) waits
-    then vs e2
-    (λ pending there no_wait same. played_none handles then vs ss e2 (none_bare then vs ss e2 head pending no_wait (same ∙ c.in_default-given.is)))
+    _ vs e2 (λ pending there no_wait same. played_none _ (none_bare pending no_wait (same ∙ c.in_default-given.is)))

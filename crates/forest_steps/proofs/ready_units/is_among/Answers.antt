@@ -4,5 +4,5 @@ use Rattle.forest_steps.proofs.lists.ByKey.{found}
 use Rattle.forest_steps.proofs.ready_units.is_among.Goals as goal
 
 pub returns : goal.returns
-returns c = c.is_ok.ensures.value ∙ sym (found c.args.keys.now c.args.key c.binary_search.result c.requires c.binary_search.ensures.bound
+returns c = c.is_ok.ensures.value ∙ sym (found _ _ _ c.requires c.binary_search.ensures.bound
     c.binary_search.ensures.position)

@@ -1,9 +1,8 @@
-use Rattle.forest_steps.proofs.Common.{ℕ, ◌≡◌, ◌<◌, ◌≤◌, ◌+◌, ◌∙◌, ◌++◌, ◌∷◌, refl, sym, ap, Bool, true, false, cond, List, length, take, drop, get_or, arith, filter, Interval, total, HeldBuffer}
+use Rattle.forest_steps.proofs.Common.{ℕ, ◌≡◌, ◌<◌, ◌≤◌, ◌+◌, ◌∙◌, ◌++◌, ◌∷◌, refl, sym, ap, Bool, true, false, cond, List, length, take, drop, get_or, arith, filter, Interval, total, HeldBuffer, by_page, is_out, pages_held}
 use Rattle.std.proofs.lemmas.List.Filters.{length-filter_more}
 use Rattle.buffer_pool.specs.Holdings.{in_order}
 use Rattle.buffer_pool.proofs.Runs.{in_order-without_run}
 use Rattle.forest_steps.specs.Runs.{rest_of}
-use Rattle.forest_store.specs.Scenes.{by_page, is_out, pages_held}
 use Rattle.forest_steps.proofs.intervals.Returned.{holds_one, kept_here, kept_past, one_returned}
 use Rattle.forest_steps.proofs.returns.return_pages.Goals as goal
 
@@ -15,9 +14,9 @@ return_one-out-requires-clause-there c =
     let d : HeldBuffer = record { buffer = record { collection = 0; index = 0 }; pages = record { start = 0; pages = 0 } } in
     let within : i < length all = omega arith in
     let others : List Interval = c.requires.0 in
-    holds_one (rest_of c.loop-buffer.run c.loop-buffer.pool.held) (filter out (take i all)) (drop (i + 1) all) (get_or all i d) others
+    holds_one _ (filter out (take i all)) (drop (i + 1) all) (get_or all i d) others
     (c.loop-buffer.invariant.held others c.requires.1
-    ∙ ap (λ (l : List HeldBuffer). by_page (pages_held l ++ others)) (kept_here out all i d within))
+    ∙ ap (λ l. by_page (pages_held l ++ others)) (kept_here out all i d within))
 
 pub loop-buffer-preserved : goal.loop-buffer-preserved
 loop-buffer-preserved c =
@@ -37,15 +36,15 @@ loop-buffer-preserved c =
           c.loop-buffer.pool.held c.loop-buffer.invariant.sound.in_order in
           let holds : rest ≡ by_page (pages_held (filter out (take i all) ++ get_or all i d ∷ drop (i + 1) all) ++ others) =
           c.loop-buffer.invariant.held others beside
-          ∙ ap (λ (l : List HeldBuffer). by_page (pages_held l ++ others)) (kept_here out all i d within) in
+          ∙ ap (λ l. by_page (pages_held l ++ others)) (kept_here out all i d within) in
           c.return_one-out.ensures.held
           ∙ ((λ j. cond (out (get_or all i d)) (holds j)
           (one_returned c.loop-buffer.pool.size rest (filter out (take i all)) (drop (i + 1) all) (get_or all i d)
           others order holds j))
           ∙ (from (out (get_or all i d)) (filter out (take i all)) (drop (i + 1) all) (get_or all i d) others
-          ∙ ap (λ (l : List HeldBuffer). by_page (pages_held l ++ others)) (sym (kept_past out all i d within))));
-      out = ap (λ (n : ℕ). n + c.return_one-out.result) c.loop-buffer.invariant.out
-          ∙ ap (λ (n : ℕ). length (filter out (take i all)) + n) c.return_one-out.ensures.out
+          ∙ ap (λ l. by_page (pages_held l ++ others)) (sym (kept_past out all i d within))));
+      out = ap (λ n. n + c.return_one-out.result) c.loop-buffer.invariant.out
+          ∙ ap (λ n. length (filter out (take i all)) + n) c.return_one-out.ensures.out
           ∙ sym (length-filter_more out all i d within);
       few = omega (arith, c.loop-buffer.invariant.few, c.return_one-out.ensures.out, at_most_one (out (get_or all i d)));
     }

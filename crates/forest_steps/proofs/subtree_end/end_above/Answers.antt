@@ -1,30 +1,27 @@
 -- Nothing changes where something holds the unit; else the highest that nothing holds but the one below ends, as it is forced to.
-use Rattle.forest_steps.proofs.Common.{◌≡◌, [], ◌∷◌, List, true, false, inl, inr, refl, ap, sym, ◌∙◌, Unit, unit_at}
-use Rattle.node_table.specs.Table.{table_len}
+use Rattle.forest_steps.proofs.Common.{◌≡◌, [], ◌∷◌, List, true, false, inl, inr, refl, ap, sym, ◌∙◌, Unit, unit_at, table_len, is_held_by}
 use Rattle.forest_steps.specs.Climbing.{climbed}
-use Rattle.forest_store.specs.Counts.{is_held_by}
 use Rattle.forest_steps.proofs.mid_event.EndAbove.{ended_led, held_led, may_end}
 use Rattle.forest_steps.proofs.subtree_end.end_above.Goals as goal
 
 pub returns-then-is_held_by-clause-led : goal.returns-then-is_held_by-clause-led
 returns-then-is_held_by-clause-led c handles ss pending ok left =
     let some : is_held_by (unit_at c.args.nodes.now.units.items c.args.head.slot) ≡ true =
-    ap is_held_by (sym (c.unit_in.ensures ∙ ap (λ (us : List Unit). unit_at us c.args.head.slot) c.deref.ensures.value))
+    ap is_held_by (sym (c.unit_in.ensures ∙ ap (λ us. unit_at us c.args.head.slot) c.deref.ensures.value))
     ∙ (sym c.is_held_by.ensures ∙ c.if-is_held_by.true) in
-    held_led c.args.nodes.now.table c.args.nodes.now.units.items ss c.args.entry.now c.args.head pending ok left some handles
+    held_led ok left some _
 
 pub returns-clause-led : goal.returns-clause-led
 returns-clause-led c handles ss pending ok left =
     let t = c.args.nodes.now.table in
     let us : List Unit = c.args.nodes.now.units.items in
     let none : is_held_by (unit_at us c.args.head.slot) ≡ false =
-    ap is_held_by (sym (c.unit_in.ensures ∙ ap (λ (l : List Unit). unit_at l c.args.head.slot) c.deref.ensures.value))
+    ap is_held_by (sym (c.unit_in.ensures ∙ ap (λ l. unit_at l c.args.head.slot) c.deref.ensures.value))
     ∙ (sym c.is_held_by.ensures ∙ c.if-is_held_by.false) in
     let is : c.highest-top.result ≡ climbed (table_len t) t us c.args.head =
-    c.highest-top.ensures.climbed ∙ ap (λ (l : List Unit). climbed (table_len t) t l c.args.head) c.deref-2.ensures.value in
-    ended_led t us ss c.args.entry.now c.args.head pending ok left none handles c.highest-top.result is c.remove_subtree.new.nodes.table
-    c.remove_subtree.new.nodes.units.items c.remove_subtree.new.entry c.remove_subtree.result
-    (c.remove_subtree.ensures.went ss (c.args.head ∷ []) pending ok (may_end t us ss c.args.entry.now c.args.head pending ok left none c.highest-top.result is))
+    c.highest-top.ensures.climbed ∙ ap (λ l. climbed (table_len t) t l c.args.head) c.deref-2.ensures.value in
+    ended_led ok left none _ is
+    (c.remove_subtree.ensures.went ss (c.args.head ∷ []) pending ok (may_end ok left none _ is))
 
 pub returns-then-is_held_by-clause-ended : goal.returns-then-is_held_by-clause-ended
 returns-then-is_held_by-clause-ended c ss pending ok left = inl refl
@@ -34,10 +31,9 @@ returns-clause-ended c ss pending ok left =
     let t = c.args.nodes.now.table in
     let us : List Unit = c.args.nodes.now.units.items in
     let none : is_held_by (unit_at us c.args.head.slot) ≡ false =
-    ap is_held_by (sym (c.unit_in.ensures ∙ ap (λ (l : List Unit). unit_at l c.args.head.slot) c.deref.ensures.value))
+    ap is_held_by (sym (c.unit_in.ensures ∙ ap (λ l. unit_at l c.args.head.slot) c.deref.ensures.value))
     ∙ (sym c.is_held_by.ensures ∙ c.if-is_held_by.false) in
     let is : c.highest-top.result ≡ climbed (table_len t) t us c.args.head =
-    c.highest-top.ensures.climbed ∙ ap (λ (l : List Unit). climbed (table_len t) t l c.args.head) c.deref-2.ensures.value in
-    let went = c.remove_subtree.ensures.went ss (c.args.head ∷ []) pending ok
-    (may_end t us ss c.args.entry.now c.args.head pending ok left none c.highest-top.result is) in
+    c.highest-top.ensures.climbed ∙ ap (λ l. climbed (table_len t) t l c.args.head) c.deref-2.ensures.value in
+    let went = c.remove_subtree.ensures.went ss (c.args.head ∷ []) pending ok (may_end ok left none _ is) in
     inr (c.highest-top.result, went.nodes)

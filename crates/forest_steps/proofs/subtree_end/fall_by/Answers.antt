@@ -6,18 +6,18 @@ use Rattle.forest_steps.proofs.subtree_end.fall_by.Goals as goal
 
 pub returns-in_default-clause-felled : goal.returns-in_default-clause-felled
 returns-in_default-clause-felled c handles ss pending u left =
-    felled_alone handles _ _ _ ss _ _ _ pending (c.in_default.ensures.went ss _ pending u (left, refl))
+    felled_alone _ (c.in_default.ensures.went ss _ pending u (left, refl))
 
 pub returns-then-is_some-clause-felled : goal.returns-then-is_some-clause-felled
 returns-then-is_some-clause-felled c handles ss pending u left =
     let went = c.in-Some.ensures.went ss _ pending u (left, refl) in
     let still : is_head_left (nodes_with c.remove_subtree.new.nodes.table c.remove_subtree.new.entry.keys.items) c.in-Some.above ≡ true =
     subst (λ (s : Shelf). is_head_left (nodes_with c.remove_subtree.new.nodes.table s.keys) c.in-Some.above ≡ true) (sym went.shelf) went.left in
-    felled_on handles _ _ _ ss _ _ _ pending _ went _ _ _ (c.end_above.ensures.led handles ss pending went.under still)
+    felled_on _ went (c.end_above.ensures.led handles ss pending went.under still)
     (c.end_above.ensures.ended ss pending went.under still)
 
 pub returns-else-is_some-clause-felled : goal.returns-else-is_some-clause-felled
 returns-else-is_some-clause-felled c handles ss pending u left =
     let went = c.in-Some.ensures.went ss _ pending u (left, refl) in
     let row = head_row c.remove_subtree.new.nodes.table c.remove_subtree.ensures.named c.args.entry.now.keys.items c.in-Some.above went.left in
-    absurd (lent_there c.get.result row.0 (c.get.ensures ∙ row.1) (sym c.is_some.ensures ∙ c.if-is_some.false))
+    absurd (lent_there _ (c.get.ensures ∙ row.1) (sym c.is_some.ensures ∙ c.if-is_some.false))

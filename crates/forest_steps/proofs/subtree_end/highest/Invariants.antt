@@ -1,6 +1,5 @@
-use Rattle.forest_steps.proofs.Common.{◌≡◌, ◌+◌, ℕ}
+use Rattle.forest_steps.proofs.Common.{◌≡◌, ◌+◌, ℕ, row_at}
 use Rattle.std.proofs.Common.{IsSome}
-use Rattle.node_table.specs.Table.{row_at}
 use Rattle.forest_steps.specs.Climbing.{climbed}
 use Rattle.forest_steps.proofs.subtree_end.highest.Given as goal
 

@@ -7,6 +7,6 @@ pub loop-key-preserved : goal.loop-key-preserved
 loop-key-preserved c =
     let more = take_more c.args.keys.now c.loop-key.key-index (record { slot = 0; generation = 0 }) c.loop-key-test.true in
     record {
-      given = rw more (given_more c.args.table.now c.loop-key.table c.mark_allocated_at.new.table c.args.heads.now _ _ c.loop-key.invariant.given
+      given = rw more (given_more c.loop-key.invariant.given
           c.mark_allocated_at.ensures);
     }

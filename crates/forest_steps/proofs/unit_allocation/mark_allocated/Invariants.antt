@@ -1,5 +1,4 @@
-use Rattle.forest_steps.proofs.Common.{take}
-use Rattle.forest_store.specs.UnitAllocation.{IsGivenAt}
+use Rattle.forest_steps.proofs.Common.{take, IsGivenAt}
 use Rattle.forest_steps.proofs.unit_allocation.mark_allocated.Given as goal
 
 -- so far these nodes have them
