@@ -22,9 +22,11 @@ use sm_names::{Fault, NoMemory, NodeKey};
 
 /// Makes room for as many as there are nodes, in each list of what goes or has its turn.
 fn reserve(store: &Store, room: &mut Scratch) -> Result<(), NoMemory>
-    ensures removed { OnOk result (table_len store.now.nodes.table ≤ vec_capacity room.new.removed) }
+    ensures removed { OnOk result
+        (table_len store.now.nodes.table ≤ vec_capacity room.new.removed) }
     ensures unit { OnOk result (table_len store.now.nodes.table ≤ vec_capacity room.new.unit) }
-    ensures pending { OnOk result (table_len store.now.nodes.table ≤ vec_capacity room.new.pending) }
+    ensures pending { OnOk result
+        (table_len store.now.nodes.table ≤ vec_capacity room.new.pending) }
 {
     room.reserve(store.nodes.table.len())
 }

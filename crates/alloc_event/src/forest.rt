@@ -50,7 +50,8 @@ impl Model for Forest {
 
     ghost view = { λ f. forest_of f.store.nodes.table (shelves_of f.store.entries.items) };
 
-    ghost invariant = { λ f. IsForest f.store.nodes.table f.store.entries.items f.store.nodes.units.items };
+    ghost invariant = { λ f.
+        IsForest f.store.nodes.table f.store.entries.items f.store.nodes.units.items };
 }
 
 impl Forest {

@@ -1,12 +1,12 @@
 -- What was finished of one collection, told of the forest.
-use Rattle.alloc_event.proofs.Common.{◌≡◌, ℕ, Bool, true, false, ◌||◌, nat_lt, List, [], ◌∷◌, ◌++◌, Option, Some, None, refl, sym, ap, subst, ◌∙◌, arith, option_map_or, NodeKey, forced, same_key, Table, Change, Node, Collection, Shelf, IsStored, forest_of, node_of, Handles, Settles, collection_or_new, standing}
+use Rattle.alloc_event.proofs.Common.{◌≡◌, ℕ, Bool, true, false, ◌||◌, nat_lt, List, [], ◌∷◌, ◌++◌, Option, Some, None, refl, sym, ap, subst, ◌∙◌, arith, option_map_or, NodeKey, forced, same_key, Table, Change, Node, Collection, Shelf, IsStored, forest_of, Handles, Settles, collection_or_new, standing, Settled}
 use Rattle.std.proofs.Common.{nat_le, slice_index_or}
 use Rattle.std.proofs.lemmas.Bool.{le-leb}
 use Rattle.node_table.specs.Table.{was_given}
 use Rattle.forest_store.specs.Forest.{given, beside}
 use Rattle.forest_store.specs.Shelves.{Finishes, Gives, SameTable}
 use Rattle.forest_store.specs.Nodes.{new_child}
-use Rattle.forest_store.specs.Settling.{Settled, changed, given_back, is_birth, no_key, with_birth}
+use Rattle.forest_store.specs.Settling.{changed, given_back, is_birth, no_key, with_birth}
 use Rattle.forest_store.proofs.newborns.Newborn.{before_is}
 
 -- a key was given by the forest where the table gave it
@@ -24,31 +24,31 @@ birth_id attached client event key c (Some n) = refl
 -- a change keeps the id
 changed_id : (change : Change) (key : NodeKey) (c : Collection) → (changed change key c).id ≡ c.id
 changed_id (Change.Birth None attached client event) key c = refl
-changed_id (Change.Birth (Some above) attached client event) key c = birth_id attached client event key c (node_of c.nodes above)
+changed_id (Change.Birth (Some above) attached client event) key c = birth_id _ _ _ key c _
 changed_id (Change.Effect on effect) key c = refl
 changed_id (Change.Loss origin cause) key c = refl
 changed_id Change.Nothing key c = refl
 
-module _ (pool : ℕ) (handles : Handles) (t now : Table Node) (ss behind : List Shelf) (ok : IsStored t ss) (id : ℕ) where
+module _ (pool : ℕ) (handles : Handles) {t : Table Node} (now : Table Node) {ss : List Shelf} (behind : List Shelf) (ok : IsStored t ss) (id : ℕ) where
   -- the collection has the id
   id_is : (change : Change) (key : NodeKey) → (changed change key (collection_or_new (forest_of t ss) id)).id ≡ id
   id_is change key = changed_id change key (collection_or_new (forest_of t ss) id) ∙ (before_is t ss ok id).id_is
 
   -- a birth
-  pub settled_birth : (parent : Option NodeKey) (attached : Bool) (client event : ℕ) (key : NodeKey) →
+  pub settled_birth : (parent : Option NodeKey) (attached : Bool) (client event : ℕ) {key : NodeKey} →
       Finishes pool handles t ss now behind (with_birth parent attached client event key (collection_or_new (forest_of t ss) id)) →
       Gives t now key → Settled pool handles (forest_of t ss) (forest_of now behind) id (Change.Birth parent attached client event)
       (Some key)
-  settled_birth parent attached client event key f gives =
+  settled_birth parent attached client event {key} f gives =
       let own = id_is (Change.Birth parent attached client event) key in
       record {
         after = f.after;
         told = refl;
         fresh = given_is t ss key ok.first ∙ gives.fresh;
-        settles = subst (λ (i : ℕ). Settles pool handles (beside (forest_of t ss) i) (changed (Change.Birth parent attached client event)
+        settles = subst (λ i. Settles pool handles (beside (forest_of t ss) i) (changed (Change.Birth parent attached client event)
             key (collection_or_new (forest_of t ss) id)) f.after) own f.settles;
         collections = f.collections;
-        rests = subst (λ (i : ℕ). forced pool (standing handles (beside (forest_of now behind) i) (given_back handles f.after)) ≡ None) own
+        rests = subst (λ i. forced pool (standing handles (beside (forest_of now behind) i) (given_back handles f.after)) ≡ None) own
             f.rests;
         limit = gives.limit;
         keys = λ k. given_is now behind k (gives.first ∙ ok.first) ∙ gives.given k
@@ -65,10 +65,10 @@ module _ (pool : ℕ) (handles : Handles) (t now : Table Node) (ss behind : List
         after = f.after;
         told = sym birth;
         fresh = tt;
-        settles = subst (λ (i : ℕ). Settles pool handles (beside (forest_of t ss) i)
+        settles = subst (λ i. Settles pool handles (beside (forest_of t ss) i)
             (changed change no_key (collection_or_new (forest_of t ss) id)) f.after) own f.settles;
         collections = f.collections;
-        rests = subst (λ (i : ℕ). forced pool (standing handles (beside (forest_of now behind) i) (given_back handles f.after)) ≡ None) own
+        rests = subst (λ i. forced pool (standing handles (beside (forest_of now behind) i) (given_back handles f.after)) ≡ None) own
             f.rests;
         limit = same.limit;
         keys = λ k. ap (λ (nexts : List ℕ). nat_lt k.generation (slice_index_or nexts k.slot 0)) same.nexts;

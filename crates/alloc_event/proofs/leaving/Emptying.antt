@@ -1,5 +1,5 @@
 -- What stays true of a forest without a collection that has no node.
-use Rattle.alloc_event.proofs.Common.{◌≡◌, ℕ, zero, suc, ◌+◌, ◌<◌, ◌==◌, Bool, true, false, not, List, [], ◌∷◌, ◌++◌, map, length, Option, Some, None, option_map, cond, refl, sym, ap, subst, ◌∙◌, arith, list_all, filter, find, AllByRecursion, option_map_or, eqb-true, NodeKey, and_left, and_right, some-injective, Table, Entry, Node, Collection, Shelf, shelf_of, shelves_of, place_in, AreRising, IsStored, IsWhole, collection_in, nodes_with, forest_of, all_keys, are_filed, is_filed}
+use Rattle.alloc_event.proofs.Common.{◌≡◌, ℕ, zero, suc, ◌+◌, ◌<◌, ◌==◌, Bool, true, false, not, List, [], ◌∷◌, ◌++◌, map, length, Option, Some, None, option_map, cond, refl, sym, ap, ◌∙◌, arith, list_all, filter, find, AllByRecursion, option_map_or, eqb-true, NodeKey, and_left, and_right, some-injective, Table, Entry, Node, Collection, Shelf, shelf_of, shelves_of, place_in, AreRising, IsStored, collection_in, nodes_with, forest_of, all_keys, are_filed, is_filed}
 use Rattle.std.specs.List.{remove}
 use Rattle.std.proofs.lemmas.Bool.{ne_eqb}
 use Rattle.forest_store.specs.Forest.{collection_at, is_left}
@@ -17,25 +17,25 @@ others_kept id (s ∷ ss) all =
     rw other (ap (λ l. s ∷ l) (others_kept id ss all.1))
 
 -- by whether the first entry is removed
-remove_shelf-by : (id : ℕ) (x : Entry) (es : List Entry) (at : ℕ) → AreRising (shelves_of (x ∷ es)) → (here : Bool) → (x.id == id) ≡ here →
+remove_shelf-by : (id : ℕ) (x : Entry) (es : List Entry) {at : ℕ} → AreRising (shelves_of (x ∷ es)) → (here : Bool) → (x.id == id) ≡ here →
     (behind : Option ℕ) → ((n : ℕ) → behind ≡ Some n → shelves_of (remove es n) ≡ filter (is_beside id) (shelves_of es)) →
     cond here (Some 0) (option_map (λ n. n + 1) behind) ≡ Some at →
     shelves_of (remove (x ∷ es) at) ≡ filter (is_beside id) (shelves_of (x ∷ es))
-remove_shelf-by id x es at rising true here behind on told =
+remove_shelf-by id x es {at} rising true here behind on told =
     let first : zero ≡ at = cc in
-    let low = subst (λ (low : ℕ). AllByRecursion (λ (later : Shelf). low < later.id) (shelves_of es)) (eqb-true x.id id here) rising.0 in
-    rw (← first, here) (sym (others_kept id (shelves_of es) low))
-remove_shelf-by id x es at rising false other None on told = absurd (cc)
-remove_shelf-by id x es at rising false other (Some n) on told =
-    let next : at ≡ suc n = omega (arith, some-injective (n + 1) at told) in
+    let low = rw (eqb-true _ id here) at rising.0 in
+    rw (← first, here) (sym (others_kept id _ low))
+remove_shelf-by id x es rising false other None on told = absurd (cc)
+remove_shelf-by id x es {at} rising false other (Some n) on told =
+    let next : at ≡ suc n = omega (arith, some-injective _ at told) in
     rw (next, other) (ap (λ l. shelf_of x ∷ l) (on n refl))
 
 -- the shelves without the entry that is removed
-pub remove_shelf : (id : ℕ) (es : List Entry) (at : ℕ) → AreRising (shelves_of es) → place_in id es ≡ Some at →
+pub remove_shelf : (id : ℕ) (es : List Entry) {at : ℕ} → AreRising (shelves_of es) → place_in id es ≡ Some at →
     shelves_of (remove es at) ≡ filter (is_beside id) (shelves_of es)
-remove_shelf id [] at rising told = absurd (cc)
-remove_shelf id (x ∷ es) at rising told =
-    remove_shelf-by id x es at rising (x.id == id) refl (place_in id es) (λ n on. remove_shelf id es n rising.1 on) told
+remove_shelf id [] rising told = absurd (cc)
+remove_shelf id (x ∷ es) rising told =
+    remove_shelf-by id x es rising _ refl _ (λ n on. remove_shelf id es rising.1 on) told
 
 -- the collections without it
 pub collections_beside : (t : Table Node) (id : ℕ) (ss : List Shelf) →
@@ -64,7 +64,7 @@ rising-beside id [] rising = tt
 rising-beside id (s ∷ ss) rising =
     elim (s.id == id) as (λ b. AreRising (cond (not b) (s ∷ filter (is_beside id) ss) (filter (is_beside id) ss))) [
       | true ↦ rising-beside id ss rising.1
-      | false ↦ (all-beside (λ (later : Shelf). s.id < later.id) id ss rising.0, rising-beside id ss rising.1)
+      | false ↦ (all-beside _ id ss rising.0, rising-beside id ss rising.1)
     ]
 
 -- the others are filed
@@ -84,7 +84,7 @@ keys-beside-by : (id : ℕ) (s : Shelf) (ss : List Shelf) (here : Bool) → (s.i
     all_keys (filter (is_beside id) ss) ≡ all_keys ss) →
     all_keys (cond (not here) (s ∷ filter (is_beside id) ss) (filter (is_beside id) ss)) ≡ all_keys (s ∷ ss)
 keys-beside-by id s ss true here rising none on =
-    let low = subst (λ (low : ℕ). AllByRecursion (λ (later : Shelf). low < later.id) ss) (eqb-true s.id id here) rising.0 in
+    let low = rw (eqb-true _ id here) at rising.0 in
     rw (none, others_kept id ss low) refl
 keys-beside-by id s ss false other rising none on = ap (λ ks. s.keys ++ ks) (on none)
 
@@ -92,12 +92,12 @@ keys-beside-by id s ss false other rising none on = ap (λ ks. s.keys ++ ks) (on
 keys-beside : (id : ℕ) (ss : List Shelf) → AreRising ss →
     option_map_or (λ (x : Shelf). x.keys) (find (λ (x : Shelf). x.id == id) ss) [] ≡ [] → all_keys (filter (is_beside id) ss) ≡ all_keys ss
 keys-beside id [] rising none = refl
-keys-beside id (s ∷ ss) rising none = keys-beside-by id s ss (s.id == id) refl rising none (keys-beside id ss rising.1)
+keys-beside id (s ∷ ss) rising none = keys-beside-by id s ss _ refl rising none (keys-beside id ss rising.1)
 
 -- all that holds of forests holds
-pub kept-beside : (t : Table Node) (id : ℕ) (ss : List Shelf) → IsStored t ss →
+pub kept-beside : {t : Table Node} (id : ℕ) {ss : List Shelf} → IsStored t ss →
     option_map_or (λ (x : Shelf). x.keys) (find (λ (x : Shelf). x.id == id) ss) [] ≡ [] → IsStored t (filter (is_beside id) ss)
-kept-beside t id ss ok none =
+kept-beside {t} id {ss} ok none =
     let keys = keys-beside id ss ok.rising none in
     record {
       first = ok.first;
@@ -109,7 +109,7 @@ kept-beside t id ss ok none =
       counted = rw keys ok.counted;
       linked = ok.linked;
       heads = ok.heads;
-      whole = all-beside (λ (s : Shelf). IsWhole (collection_in t s)) id ss ok.whole;
+      whole = all-beside _ id ss ok.whole;
       parents = ok.parents;
       kin = ok.kin;
     }
@@ -126,11 +126,11 @@ left-by : (t : Table Node) (id : ℕ) (ss : List Shelf) → are_filed t ss ≡ t
 left-by t id ss filed None found left = refl
 left-by t id ss filed (Some s) found left =
     let none : length (nodes_with t s.keys) ≡ 0 = eqb-true _ _ (and_left _ _ left) in
-    no_key_left s.keys (sym (filed-length t s.id s.keys (filed_found t id ss filed s found)) ∙ none)
+    no_key_left _ (sym (filed-length t _ _ (filed_found t id ss filed s found)) ∙ none)
 
 -- a collection that is left has no key
 pub left_none : (t : Table Node) (id : ℕ) (ss : List Shelf) → are_filed t ss ≡ true →
     option_map_or is_left (collection_at (forest_of t ss) id) false ≡ true →
     option_map_or (λ (x : Shelf). x.keys) (find (λ (x : Shelf). x.id == id) ss) [] ≡ []
-left_none t id ss filed left = left-by t id ss filed (find (λ (x : Shelf). x.id == id) ss) refl (ap (λ (o : Option Collection).
+left_none t id ss filed left = left-by t id ss filed _ refl (ap (λ o.
     option_map_or is_left o false) (sym (collection_is t id ss)) ∙ left)

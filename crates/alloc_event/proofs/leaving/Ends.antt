@@ -16,33 +16,33 @@ module _ (key : NodeKey) (end : End) where
 
   -- the node of the key has the end
   ends-own : (n : Node) → n.key ≡ key → with_end key end n ≡ record n { end = end }
-  ends-own n own = rw (same_key-equal key n.key (sym own)) refl
+  ends-own n own = rw (same_key-equal key _ (sym own)) refl
 
   -- and no other
   ends-others : (n : Node) → n.key ≢ key → with_end key end n ≡ n
-  ends-others n other = rw (same_key-apart key n.key (λ same. other (sym same))) refl
+  ends-others n other = rw (same_key-apart key _ (λ same. other (sym same))) refl
 
-  module _ (t now : Table Node) (n : Node) (was : node_at t key ≡ Some n) (named : n.key ≡ key)
+  module _ {t now : Table Node} {n : Node} (was : node_at t key ≡ Some n) (named : n.key ≡ key)
       (w : Writes t now n.key (record n { end = end })) where
     -- what the table has at each key
     pub ends-look : ((k : NodeKey) (m : Node) → node_at t k ≡ Some m → m.key ≡ k) → (k : NodeKey) →
         node_at now k ≡ option_map (with_end key end) (node_at t k)
-    ends-look knows k = look-changed t now (with_end key end) key n (record n { end = end }) (subst (λ (x : NodeKey).
+    ends-look knows k = look-changed t now (with_end key end) key n (record n { end = end }) (subst (λ x.
         Writes t now x (record n { end = end })) named w) was (ends-own n named) knows ends-others k
 
     -- the forest stays sound
-    pub ends-kept : (es : List Shelf) → now ≡ table_with_node t n.key (record n { end = end }) → IsStored t es → IsStored now es
-    ends-kept es becomes ok =
-        kept-map (with_end key end) same_node (λ m. refl) (λ ns. together_same ns (with_end key end)
+    pub ends-kept : {es : List Shelf} → now ≡ table_with_node t n.key (record n { end = end }) → IsStored t es → IsStored now es
+    ends-kept {es} becomes ok =
+        kept-map _ same_node (λ m. refl) (λ ns. together_same ns (with_end key end)
         (record { key = λ m. refl; head = λ m. refl; allocated = λ m. refl; gone = λ m. refl })) t now
         (ap (λ (x : Table Node). x.first) becomes) (ap (λ (x : Table Node). x.nexts) becomes) w.len (ends-look ok.named)
-        (parents-written t now n.key (record n { end = end }) w) es ok
+        (parents-written t now _ _ w) es ok
 
     -- and shows the end
-    pub ends-shown : (es : List Shelf) → now ≡ table_with_node t n.key (record n { end = end }) → IsStored t es →
+    pub ends-shown : {es : List Shelf} → now ≡ table_with_node t n.key (record n { end = end }) → IsStored t es →
         forest_of now es ≡ on_collections (with_nodes (map (with_end key end))) (forest_of t es)
-    ends-shown es becomes ok = λ i. record {
+    ends-shown {es} becomes ok = λ i. record {
       limit = (ap (λ (x : Table Node). x.limit) becomes) i;
-      collections = (collections-map (with_end key end) same_node t now (ends-look ok.named) es) i;
+      collections = (collections-map _ same_node t now (ends-look ok.named) es) i;
       nexts = (ap (λ (x : Table Node). x.nexts) becomes) i;
     }

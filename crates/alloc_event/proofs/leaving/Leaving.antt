@@ -1,15 +1,13 @@
 -- What stays true of a forest without one node.
-use Rattle.alloc_event.proofs.Common.{◌≡◌, ◌≢◌, ℕ, zero, suc, ◌+◌, ◌<◌, ◌==◌, Bool, true, false, ◌||◌, not, List, [], ◌∷◌, ◌++◌, map, length, set, get_or, Option, Some, None, option_map, is_some, cond, refl, sym, ap, subst, ◌∙◌, inl, inr, arith, list_any, list_all, filter, AllByRecursion, option_map_or, eqb-true, eqb-false, false≢true, NodeKey, same_key, and_left, and_right, either_way, same_key-true, some-injective, Table, node_at, parent_at, Entry, Node, with_nodes, Shelf, shelf_of, shelves_of, place_in, AreRising, IsStored, IsWhole, collection_in, all_keys, are_filed, is_filed, is_of}
+use Rattle.alloc_event.proofs.Common.{◌≡◌, ◌≢◌, ℕ, zero, suc, ◌+◌, ◌<◌, ◌==◌, Bool, true, false, ◌||◌, not, List, [], ◌∷◌, ◌++◌, map, length, set, get_or, Option, Some, None, option_map, is_some, cond, refl, sym, ap, subst, ◌∙◌, inl, inr, arith, list_any, list_all, filter, AllByRecursion, option_map_or, eqb-true, eqb-false, false≢true, NodeKey, same_key, and_left, and_right, either_way, same_key-true, some-injective, Table, node_at, parent_at, Entry, Node, with_nodes, Shelf, shelf_of, shelves_of, place_in, AreRising, IsStored, IsWhole, collection_in, all_keys, are_filed, is_filed, is_of, none_in, shelf_found}
 use Rattle.std.proofs.lemmas.List.Elements.{filter-append}
 use Rattle.node_table.proofs.Keys.{same_key-equal}
 use Rattle.forest_store.specs.Shelves.{TakesOut}
 use Rattle.forest_store.proofs.changes.Altering.{filed_at, kept_of}
-use Rattle.forest_store.proofs.shelves.Entries.{none_in}
 use Rattle.forest_store.proofs.tables.Hanging.{looked_gone}
 use Rattle.forest_store.proofs.tables.Kin.{kin_kept}
 use Rattle.forest_store.proofs.tables.LeftParents.{childless}
 use Rattle.forest_store.proofs.lists.Lookups.{looked-without, looked-kept}
-use Rattle.forest_store.proofs.shelves.Showing.{shelf_found}
 use Rattle.forest_store.proofs.leaving.Thinning.{IsWhole-filter, apart-filter, lacks-filter, one_less}
 
 -- another key
@@ -37,9 +35,9 @@ above-without key id (s ∷ ss) all = (all.0, above-without key id ss all.1)
 -- by induction: fewer keys, the same ids
 rising-without : (key : NodeKey) (ss : List Shelf) → AreRising ss → AreRising (map (shelf_without key) ss)
 rising-without key [] rising = tt
-rising-without key (s ∷ ss) rising = (above-without key s.id ss rising.0, rising-without key ss rising.1)
+rising-without key (s ∷ ss) rising = (above-without key _ ss rising.0, rising-without key ss rising.1)
 
-module _ (t now : Table Node) (key : NodeKey) (node : Node) (out : TakesOut t now key node) where
+module _ {t now : Table Node} {key : NodeKey} {node : Node} (out : TakesOut t now key node) where
   -- where the node is gone, so is what has the key
   pub goes : node.gone ≡ true → (m : Node) → node_at t key ≡ Some m → m.gone ≡ true
   goes gone m is = let same : Some node ≡ Some m = sym out.was ∙ is in let one : node ≡ m = cc in ap (λ (x : Node). x.gone) (sym one) ∙ gone
@@ -50,7 +48,7 @@ module _ (t now : Table Node) (key : NodeKey) (node : Node) (out : TakesOut t no
   collections-without named [] = refl
   collections-without named (s ∷ ss) =
       let none : node_at now key ≡ None = out.look key ∙ rw (same_key-equal key key refl) refl in
-      let nodes = looked-kept key (node_at now) none s.keys ∙ looked-without key (node_at t) (node_at now) named out.look s.keys in
+      let nodes = looked-kept key _ none _ ∙ looked-without key _ _ named out.look _ in
       λ i. record { id = s.id; nodes = nodes i; buffers = s.buffers; held = s.held } ∷ collections-without named ss i
 
   -- by whether it is the key
@@ -68,13 +66,13 @@ module _ (t now : Table Node) (key : NodeKey) (node : Node) (out : TakesOut t no
       list_all (is_filed now id) (filter (is_other key) keys) ≡ true
   filed-without id [] filed = refl
   filed-without id (k ∷ ks) filed =
-      filed-without-by id k ks (same_key key k) refl (and_left _ _ filed) (filed-without id ks (and_right _ _ filed))
+      filed-without-by id k ks _ refl (and_left _ _ filed) (filed-without id ks (and_right _ _ filed))
 
   -- in all shelves
   all_filed-without : (ss : List Shelf) → are_filed t ss ≡ true → are_filed now (map (shelf_without key) ss) ≡ true
   all_filed-without [] filed = refl
   all_filed-without (s ∷ ss) filed =
-      let first : list_all (is_filed now s.id) (filter (is_other key) s.keys) ≡ true = filed-without s.id s.keys (and_left _ _ filed) in
+      let first : list_all (is_filed now s.id) (filter (is_other key) s.keys) ≡ true = filed-without _ _ (and_left _ _ filed) in
       rw first (all_filed-without ss (and_right _ _ filed))
 
   -- the collections stay whole, where the node is gone
@@ -84,126 +82,125 @@ module _ (t now : Table Node) (key : NodeKey) (node : Node) (out : TakesOut t no
   whole-without gone named [] all = tt
   whole-without gone named (s ∷ ss) all =
       let none : node_at now key ≡ None = out.look key ∙ rw (same_key-equal key key refl) refl in
-      let nodes = looked-kept key (node_at now) none s.keys ∙ looked-without key (node_at t) (node_at now) named out.look s.keys in (
-        subst (λ (ns : List Node). IsWhole (record { id = s.id; nodes = ns; buffers = s.buffers; held = s.held })) (sym nodes)
-            (IsWhole-filter (λ n. not (is_of key n)) (collection_in t s) (looked_gone t named key (goes gone) s.keys) all.0),
+      let nodes = looked-kept key _ none _ ∙ looked-without key _ _ named out.look _ in (
+        subst (λ ns. IsWhole (record { id = s.id; nodes = ns; buffers = s.buffers; held = s.held })) (sym nodes)
+            (IsWhole-filter _ _ (looked_gone t named key (goes gone) s.keys) all.0),
         whole-without gone named ss all.1,
       )
 
   -- by whether it is the key
-  found-by : (k : NodeKey) (n : Node) (same : Bool) → same_key key k ≡ same → node_at now k ≡ Some n →
+  found-by : (k : NodeKey) {n : Node} (same : Bool) → same_key key k ≡ same → node_at now k ≡ Some n →
       (same ≡ false) × (node_at t k ≡ Some n)
-  found-by k n true same is = let none : node_at now k ≡ None = out.look k ∙ rw same refl in absurd (cc)
-  found-by k n false other is = (refl, sym (out.look k ∙ rw other refl) ∙ is)
+  found-by k true same is = let none : node_at now k ≡ None = out.look k ∙ rw same refl in absurd (cc)
+  found-by k false other is = (refl, sym (out.look k ∙ rw other refl) ∙ is)
 
   -- a node that is there was there
-  found-without : (k : NodeKey) (n : Node) → node_at now k ≡ Some n → node_at t k ≡ Some n
-  found-without k n is = (found-by k n (same_key key k) refl is).1
+  found-without : (k : NodeKey) {n : Node} → node_at now k ≡ Some n → node_at t k ≡ Some n
+  found-without k is = (found-by k (same_key key k) refl is).1
 
   -- by whether the first is either
-  any-other-by : (k : NodeKey) (n : Node) → node_at now k ≡ Some n → (x : NodeKey) (xs : List NodeKey) (gone : Bool) →
+  any-other-by : (k : NodeKey) {n : Node} → node_at now k ≡ Some n → (x : NodeKey) (xs : List NodeKey) (gone : Bool) →
       same_key key x ≡ gone → (same : Bool) → same_key k x ≡ same → (same || list_any (same_key k) xs) ≡ true →
       (list_any (same_key k) xs ≡ true → list_any (same_key k) (filter (is_other key) xs) ≡ true) →
       list_any (same_key k) (cond (not gone) (x ∷ filter (is_other key) xs) (filter (is_other key) xs)) ≡ true
-  any-other-by k n is x xs true gone true same there on =
+  any-other-by k is x xs true gone true same there on =
       let one : key ≡ k = same_key-true key x gone ∙ sym (same_key-true k x same) in
-      absurd (false≢true (sym (found-by k n (same_key key k) refl is).0 ∙ same_key-equal key k one))
-  any-other-by k n is x xs true gone false same there on = on there
-  any-other-by k n is x xs false gone true same there on = rw same refl
-  any-other-by k n is x xs false gone false same there on = rw same (on there)
+      absurd (false≢true (sym (found-by k (same_key key k) refl is).0 ∙ same_key-equal key k one))
+  any-other-by k is x xs true gone false same there on = on there
+  any-other-by k is x xs false gone true same there on = rw same refl
+  any-other-by k is x xs false gone false same there on = rw same (on there)
 
   -- another key is still among them
-  any-other : (k : NodeKey) (n : Node) → node_at now k ≡ Some n → (ks : List NodeKey) → list_any (same_key k) ks ≡ true →
+  any-other : (k : NodeKey) {n : Node} → node_at now k ≡ Some n → (ks : List NodeKey) → list_any (same_key k) ks ≡ true →
       list_any (same_key k) (filter (is_other key) ks) ≡ true
-  any-other k n is [] there = there
-  any-other k n is (x ∷ xs) there = any-other-by k n is x xs (same_key key x) refl (same_key k x) refl there (any-other k n is xs)
+  any-other k is [] there = there
+  any-other k is (x ∷ xs) there = any-other-by k is x xs _ refl _ refl there (any-other k is xs)
 
   -- a node that is not gone keeps its parent, where the other is gone
-  linked-without : node.gone ≡ true → (ss : List Shelf) → IsStored t ss → (k : NodeKey) (n : Node) → node_at now k ≡ Some n →
+  linked-without : node.gone ≡ true → {ss : List Shelf} → IsStored t ss → (k : NodeKey) {n : Node} → node_at now k ≡ Some n →
       n.gone ≡ false →
       parent_at now k ≡ n.parent
-  linked-without gone ss ok k n is here =
-      let was = found-by k n (same_key key k) refl is in
+  linked-without gone {ss} ok k {n} is here =
+      let was = found-by k (same_key key k) refl is in
       out.parents k (λ same. false≢true (sym was.0 ∙ same_key-equal key k (sym same))) (childless t ss ok key (goes gone) k n was.1 here)
       ∙ ok.linked k n was.1 here
 
   -- all that holds of forests holds
-  pub kept-without : node.gone ≡ true → (ss : List Shelf) → IsStored t ss → IsStored now (map (shelf_without key) ss)
-  kept-without gone ss ok =
+  pub kept-without : node.gone ≡ true → {ss : List Shelf} → IsStored t ss → IsStored now (map (shelf_without key) ss)
+  kept-without gone {ss} ok =
       let keys = all_keys-without key ss in
       record {
         first = out.first ∙ ok.first;
         rising = rising-without key ss ok.rising;
         apart = rw keys (apart-filter (is_other key) (all_keys ss) ok.apart);
-        named = λ k n is. ok.named k n (found-without k n is);
+        named = λ k n is. ok.named k n (found-without k is);
         filed = all_filed-without ss ok.filed;
-        there = λ k n is. rw keys (any-other k n is (all_keys ss) (ok.there k n (found-without k n is)));
-        counted = ap length keys ∙ omega (arith, one_less key (all_keys ss) ok.apart (ok.there key node out.was), ok.counted, out.shorter);
-        linked = linked-without gone ss ok;
-        heads = λ k n is. out.given n.head ∙ ok.heads k n (found-without k n is);
+        there = λ k n is. rw keys (any-other k is _ (ok.there k n (found-without k is)));
+        counted = ap length keys ∙ omega (arith, one_less key _ ok.apart (ok.there key node out.was), ok.counted, out.shorter);
+        linked = linked-without gone ok;
+        heads = λ k n is. out.given n.head ∙ ok.heads k n (found-without k is);
         whole = whole-without gone ok.named ss ok.whole;
         parents = λ k p up. out.given p ∙ ok.parents k p (out.fewer k p up);
-        kin = kin_kept t now (λ k n is. (n, found-without k n is, refl)) out.fewer ok.kin;
+        kin = kin_kept t now (λ k n is. (n, found-without k is, refl)) out.fewer ok.kin;
       }
 
 -- ---- the entries
 
 -- a shelf of another collection has not the key
-lacks_without : (t : Table Node) (key : NodeKey) (node : Node) (s : Shelf) → node_at t key ≡ Some node →
+lacks_without : (t : Table Node) (key : NodeKey) {node : Node} (s : Shelf) → node_at t key ≡ Some node →
     list_all (is_filed t s.id) s.keys ≡ true → s.id ≢ node.collection → shelf_without key s ≡ s
-lacks_without t key node s was filed differ =
+lacks_without t key {node} s was filed differ =
     let none : list_any (same_key key) s.keys ≡ false = elim (either_way (list_any (same_key key) s.keys)) [
-      | inl there ↦ absurd (differ (sym (eqb-true _ _ (filed_at t s.id s.keys key node filed was there))))
+      | inl there ↦ absurd (differ (sym (eqb-true _ _ (filed_at t _ _ key _ filed was there))))
       | inr none ↦ none
     ] in
     λ i. record s { keys = lacks-filter key s.keys none i }
 
 -- so with all of greater ids
-above_lack : (t : Table Node) (key : NodeKey) (node : Node) (ss : List Shelf) → node_at t key ≡ Some node → are_filed t ss ≡ true →
+above_lack : (t : Table Node) (key : NodeKey) {node : Node} (ss : List Shelf) → node_at t key ≡ Some node → are_filed t ss ≡ true →
     AllByRecursion (λ (later : Shelf). node.collection < later.id) ss → map (shelf_without key) ss ≡ ss
-above_lack t key node [] was filed all = refl
-above_lack t key node (s ∷ ss) was filed all =
-    let first = lacks_without t key node s was (and_left _ _ filed) (λ same. omega (arith, all.0)) in
-    let rest = above_lack t key node ss was (and_right _ _ filed) all.1 in
+above_lack t key [] was filed all = refl
+above_lack t key (s ∷ ss) was filed all =
+    let first = lacks_without t key s was (and_left _ _ filed) (λ same. omega (arith, all.0)) in
+    let rest = above_lack t key ss was (and_right _ _ filed) all.1 in
     λ i. first i ∷ rest i
 
 -- by whether the first entry is the collection's
-set_without-by : (t : Table Node) (key : NodeKey) (node : Node) (new x : Entry) (es : List Entry) (at : ℕ) → node_at t key ≡ Some node →
+set_without-by : (t : Table Node) (key : NodeKey) {node : Node} (new x : Entry) (es : List Entry) {at : ℕ} → node_at t key ≡ Some node →
     are_filed t (shelves_of (x ∷ es)) ≡ true → AreRising (shelves_of (x ∷ es)) →
     shelf_of new ≡ shelf_without key (shelf_of (get_or (x ∷ es) at new)) → (here : Bool) → (x.id == node.collection) ≡ here →
     (behind : Option ℕ) → ((n : ℕ) → behind ≡ Some n → shelf_of new ≡ shelf_without key (shelf_of (get_or es n new)) →
     shelves_of (set es n new) ≡ map (shelf_without key) (shelves_of es)) →
     cond here (Some 0) (option_map (λ n. n + 1) behind) ≡ Some at →
     shelves_of (set (x ∷ es) at new) ≡ map (shelf_without key) (shelves_of (x ∷ es))
-set_without-by t key node new x es at was filed rising is true here behind on told =
+set_without-by t key {node} new x es {at} was filed rising is true here behind on told =
     let first : zero ≡ at = cc in
     let own : shelf_of new ≡ shelf_without key (shelf_of x) = rw (← first) at is in
-    let low = subst (λ (low : ℕ). AllByRecursion (λ (later : Shelf). low < later.id) (shelves_of es)) (eqb-true x.id node.collection here)
-    rising.0 in
-    let rest = above_lack t key node (shelves_of es) was (and_right _ _ filed) low in
+    let low = rw (eqb-true _ _ here) at rising.0 in
+    let rest = above_lack t key _ was (and_right _ _ filed) low in
     rw (← first) (λ i. own i ∷ sym rest i)
-set_without-by t key node new x es at was filed rising is false other None on told = absurd (cc)
-set_without-by t key node new x es at was filed rising is false other (Some n) on told =
-    let next : at ≡ suc n = omega (arith, some-injective (n + 1) at told) in
-    let first = lacks_without t key node (shelf_of x) was (and_left _ _ filed) (λ same. eqb-false x.id node.collection other same) in
+set_without-by t key new x es was filed rising is false other None on told = absurd (cc)
+set_without-by t key {node} new x es {at} was filed rising is false other (Some n) on told =
+    let next : at ≡ suc n = omega (arith, some-injective _ at told) in
+    let first = lacks_without t key _ was (and_left _ _ filed) (λ same. eqb-false x.id node.collection other same) in
     let own : shelf_of new ≡ shelf_without key (shelf_of (get_or es n new)) = rw next at is in
     let rest = on n refl own in
     rw next (λ i. sym first i ∷ rest i)
 
 -- one entry without the key is all shelves without it
-pub set_without : (t : Table Node) (key : NodeKey) (node : Node) (new : Entry) (es : List Entry) (at : ℕ) → node_at t key ≡ Some node →
+pub set_without : (t : Table Node) (key : NodeKey) {node : Node} (new : Entry) (es : List Entry) {at : ℕ} → node_at t key ≡ Some node →
     are_filed t (shelves_of es) ≡ true → AreRising (shelves_of es) → place_in node.collection es ≡ Some at →
     shelf_of new ≡ shelf_without key (shelf_of (get_or es at new)) →
     shelves_of (set es at new) ≡ map (shelf_without key) (shelves_of es)
-set_without t key node new [] at was filed rising told is = absurd (cc)
-set_without t key node new (x ∷ es) at was filed rising told is =
-    set_without-by t key node new x es at was filed rising is (x.id == node.collection) refl (place_in node.collection es)
-    (λ n on own. set_without t key node new es n was (and_right _ _ filed) rising.1 on own) told
+set_without t key new [] was filed rising told is = absurd (cc)
+set_without t key {node} new (x ∷ es) was filed rising told is =
+    set_without-by t key new x es was filed rising is _ refl _
+    (λ n on own. set_without t key new es was (and_right _ _ filed) rising.1 on own) told
 
 -- the collection of a node has its entry
-pub never_none : (t : Table Node) (es : List Entry) (key : NodeKey) (node : Node) → IsStored t (shelves_of es) → node_at t key ≡ Some node →
+pub never_none : {t : Table Node} (es : List Entry) (key : NodeKey) {node : Node} → IsStored t (shelves_of es) → node_at t key ≡ Some node →
     place_in node.collection es ≡ None → ⊥
-never_none t es key node ok was none =
-    let some = kept_of t (shelves_of es) key node ok.filed was (ok.there key node was) in
-    let no = shelf_found node.collection es ∙ ap (option_map shelf_of) (none_in node.collection es none) in
+never_none {t} es key {node} ok was none =
+    let some = kept_of t _ key _ ok.filed was (ok.there key node was) in
+    let no = shelf_found _ es ∙ ap (option_map shelf_of) (none_in _ es none) in
     false≢true (ap is_some (sym no) ∙ some)

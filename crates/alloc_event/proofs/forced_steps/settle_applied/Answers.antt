@@ -1,8 +1,7 @@
 -- The effect is made, and what is forced by it, and then the collection is closed.
-use Rattle.alloc_event.proofs.Common.{List, refl, sym, ◌∙◌, arith, total, Change, Entry, nodes_with, shelves_of}
+use Rattle.alloc_event.proofs.Common.{List, refl, sym, ◌∙◌, arith, total, Change, Entry, nodes_with, shelves_of, place_is}
 use Rattle.forest_store.specs.Nodes.{after_effect}
 use Rattle.forest_steps.specs.MidEvent.{PropagatedFrom}
-use Rattle.forest_store.proofs.shelves.Entries.{place_is}
 use Rattle.forest_steps.proofs.mid_event.Counted.{may_make}
 use Rattle.forest_steps.proofs.mid_event.Places.{begins_at, may_finish, outcome_there, pool_there}
 use Rattle.forest_steps.proofs.mid_event.Stepping.{few_there, node_there, own_id}
@@ -15,14 +14,12 @@ index_mut-entry-requires c =
 
 pub apply_effect-requires-clause-few : goal.apply_effect-requires-clause-few
 apply_effect-requires-clause-few c =
-    few_there (total c.args.holds.now) c.args.store.now.nodes.table c.args.store.now.nodes.units.items c.args.store.now.entries.items
-    c.requires.ready.id c.args.at c.index_mut-entry.result.now c.requires.ready.place c.index_mut-entry.ensures.value
-    (Change.Effect c.args.made.now.key c.args.made.now.effect) c.requires.ready.ready refl
+    few_there (total c.args.holds.now) _ c.requires.ready.place c.index_mut-entry.ensures.value
+    c.requires.ready.ready refl
 
 pub apply_effect-requires-clause-may : goal.apply_effect-requires-clause-may
 apply_effect-requires-clause-may c =
-    may_make c.args.store.now.nodes c.args.store.now.entries.items c.args.at c.args.made.now c.index_mut-entry.result.now c.requires.ready
-    (c.requires.worked c.index_mut-entry.result.now c.index_mut-entry.ensures.value)
+    may_make _ _ _ c.requires.ready (c.requires.worked c.index_mut-entry.result.now c.index_mut-entry.ensures.value)
 
 -- what the effect forces was made
 played : (c : After-apply_effect) → PropagatedFrom (total c.args.holds.now)
@@ -31,39 +28,30 @@ played : (c : After-apply_effect) → PropagatedFrom (total c.args.holds.now)
     (shelves_of c.args.store.now.entries.items) c.index_mut-entry.result.now c.apply_effect.new.entry
 played c =
     let handles = total c.args.holds.now in
-    let t = c.args.store.now.nodes.table in
-    let us = c.args.store.now.nodes.units.items in
     let es : List Entry = c.args.store.now.entries.items in
     let e : Entry = c.index_mut-entry.result.now in
     let change : Change = Change.Effect c.args.made.now.key c.args.made.now.effect in
     let may = c.requires.ready in
-    let there = node_there t (shelves_of es) may.ready.kept may.id c.args.made.now.key may.ready.change.named in
-    let own = own_id handles t us es may.id c.args.at e may.place c.index_mut-entry.ensures.value change may.ready refl in
+    let there = node_there may.ready.kept _ _ may.ready.change.named in
+    let own = own_id handles e may.place c.index_mut-entry.ensures.value may.ready refl in
     c.apply_effect.ensures.out (shelves_of es) there.0 there.1 there.2 (there.3 ∙ sym own)
-    (begins_at handles t us es c.args.at e c.index_mut-entry.ensures.value change may refl) (c.requires.waits e c.index_mut-entry.ensures.value)
+    (begins_at handles e c.index_mut-entry.ensures.value may refl) (c.requires.waits e c.index_mut-entry.ensures.value)
 
 pub finish_event-requires-clause-may : goal.finish_event-requires-clause-may
 finish_event-requires-clause-may c =
-    may_finish (total c.args.holds.now) c.args.store.now.nodes.table c.args.store.now.nodes.units.items c.args.store.now.entries.items c.args.at
-    c.index_mut-entry.result.now c.index_mut-entry.ensures.value (Change.Effect c.args.made.now.key c.args.made.now.effect) c.requires.ready refl
-    (after_effect c.args.made.now.key c.args.made.now.effect (nodes_with c.args.store.now.nodes.table c.index_mut-entry.result.now.keys.items)) refl
-    c.apply_effect.new.nodes.table c.apply_effect.new.nodes.units.items c.apply_effect.new.entry
+    may_finish _ _ c.index_mut-entry.ensures.value c.requires.ready refl refl
     (played (goal.at.finish_event-requires-clause-may c).After-apply_effect)
 
 pub finish_event-requires-clause-pool : goal.finish_event-requires-clause-pool
 finish_event-requires-clause-pool c =
-    pool_there (total c.args.holds.now) c.args.store.now.nodes.table c.args.store.now.nodes.units.items c.args.store.now.entries.items c.args.at
-    c.index_mut-entry.result.now c.index_mut-entry.ensures.value (Change.Effect c.args.made.now.key c.args.made.now.effect) c.requires.ready refl
-    (after_effect c.args.made.now.key c.args.made.now.effect (nodes_with c.args.store.now.nodes.table c.index_mut-entry.result.now.keys.items)) refl
-    c.apply_effect.new.nodes.table c.apply_effect.new.nodes.units.items c.apply_effect.new.entry
+    pool_there (total c.args.holds.now)
+    c.index_mut-entry.result.now c.index_mut-entry.ensures.value c.requires.ready refl refl
     (played (goal.at.finish_event-requires-clause-pool c).After-apply_effect) c.args.pool.now c.requires.pool
 
 pub returns : goal.returns
 returns c =
-    outcome_there (total c.args.holds.now) c.args.store.now.nodes.table c.args.store.now.nodes.units.items c.args.store.now.entries.items
-    c.args.at c.index_mut-entry.result.now c.index_mut-entry.ensures.value (Change.Effect c.args.made.now.key c.args.made.now.effect) c.requires.ready refl
-    (after_effect c.args.made.now.key c.args.made.now.effect (nodes_with c.args.store.now.nodes.table c.index_mut-entry.result.now.keys.items)) refl
-    c.apply_effect.new.nodes.table c.apply_effect.new.nodes.units.items c.apply_effect.new.entry
+    outcome_there (total c.args.holds.now)
+    c.index_mut-entry.result.now c.index_mut-entry.ensures.value c.requires.ready refl refl
     (played (goal.at.returns c).After-apply_effect) c.args.pool.now c.finish_event.new.pool c.finish_event.new.store.nodes.table
     c.finish_event.new.store.entries.items c.finish_event.new.store.nodes.units.items c.finish_event.ensures.closes
     c.finish_event.ensures.size

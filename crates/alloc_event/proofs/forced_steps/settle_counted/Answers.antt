@@ -1,7 +1,5 @@
 -- The effect is worked out of the entry at this place.
-use Rattle.alloc_event.proofs.Common.{subst, arith, Entry, shelves_of}
-use Rattle.forest_steps.specs.NodeEffects.{IsWorkedOut}
-use Rattle.forest_store.proofs.shelves.Entries.{place_is}
+use Rattle.alloc_event.proofs.Common.{arith, place_is}
 use Rattle.forest_steps.proofs.changes.Dropped.{one_entry}
 use Rattle.forest_steps.proofs.mid_event.Stepping.{row_there}
 use Rattle.alloc_event.proofs.forced_steps.settle_counted.Goals as goal
@@ -11,18 +9,14 @@ index-requires c =
     omega (arith, (place_is c.requires.ready.id c.args.store.now.entries.items c.args.at c.requires.ready.place).within)
 
 pub work_out-made-requires : goal.work_out-made-requires
-work_out-made-requires c =
-    row_there c.args.store.now.nodes.table (shelves_of c.args.store.now.entries.items) c.requires.ready.ready.kept c.requires.ready.id
-    c.args.key c.requires.ready.ready.change.named
+work_out-made-requires c = row_there c.requires.ready.ready.kept _ _ c.requires.ready.ready.change.named
 
 pub settle_worked_out-requires-clause-ready : goal.settle_worked_out-requires-clause-ready
 settle_worked_out-requires-clause-ready c = rw (c.work_out-made.ensures.key, c.work_out-made.ensures.effect) c.requires.ready
 
 pub settle_worked_out-requires-clause-worked : goal.settle_worked_out-requires-clause-worked
 settle_worked_out-requires-clause-worked c e is =
-    subst (λ (x : Entry). IsWorkedOut c.args.store.now.nodes x c.work_out-made.result)
-    (one_entry c.args.store.now.entries.items c.requires.ready.id c.args.at c.index.result.now e c.requires.ready.place c.index.ensures
-    is) c.work_out-made.ensures.worked
+    rw (one_entry _ _ _ e c.requires.ready.place c.index.ensures is) at c.work_out-made.ensures.worked
 
 pub returns : goal.returns
 returns c = rw (c.work_out-made.ensures.key, c.work_out-made.ensures.effect) at c.settle_worked_out.ensures

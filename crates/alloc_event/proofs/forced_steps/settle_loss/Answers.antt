@@ -1,8 +1,7 @@
 -- The loss is made, and what is forced by it, and then the collection is closed.
-use Rattle.alloc_event.proofs.Common.{List, refl, arith, total, Change, Entry, nodes_with, shelf_of, shelves_of}
+use Rattle.alloc_event.proofs.Common.{List, refl, arith, total, Change, Entry, nodes_with, shelves_of, place_is}
 use Rattle.forest_store.specs.Nodes.{after_loss}
 use Rattle.forest_steps.specs.MidEvent.{PropagatedFrom}
-use Rattle.forest_store.proofs.shelves.Entries.{place_is}
 use Rattle.forest_store.proofs.tables.LeftParents.{loss_left}
 use Rattle.forest_steps.proofs.mid_event.Joining.{shelf_here}
 use Rattle.forest_steps.proofs.mid_event.Places.{begins_at, may_finish, outcome_there, pool_there}
@@ -15,9 +14,7 @@ index_mut-entry-requires c =
     omega (arith, (place_is c.requires.ready.id c.args.store.now.entries.items c.args.at c.requires.ready.place).within)
 
 pub apply_loss-requires-clause-there : goal.apply_loss-requires-clause-there
-apply_loss-requires-clause-there c =
-    row_there c.args.store.now.nodes.table (shelves_of c.args.store.now.entries.items) c.requires.ready.ready.kept c.requires.ready.id
-    c.args.fault.origin c.requires.ready.ready.change.named
+apply_loss-requires-clause-there c = row_there c.requires.ready.ready.kept _ _ c.requires.ready.ready.change.named
 
 -- what the loss forces was made
 played : (c : After-apply_loss) → PropagatedFrom (total c.args.holds.now)
@@ -31,30 +28,25 @@ played c =
     let change : Change = Change.Loss c.args.fault.origin c.args.fault.cause in
     let may = c.requires.ready in
     c.apply_loss.ensures.out (shelves_of es)
-    (begins_at (total c.args.holds.now) t c.args.store.now.nodes.units.items es c.args.at e c.index_mut-entry.ensures.value change may refl)
-    (loss_left t (shelves_of es) may.ready.kept may.id change may.ready.change (shelf_of e)
-    (shelf_here es may.id c.args.at e may.place c.index_mut-entry.ensures.value))
+    (begins_at (total c.args.holds.now) e c.index_mut-entry.ensures.value may refl)
+    (loss_left t _ may.ready.kept _ _ may.ready.change _
+    (shelf_here es _ e may.place c.index_mut-entry.ensures.value))
 
 pub finish_event-requires-clause-may : goal.finish_event-requires-clause-may
 finish_event-requires-clause-may c =
-    may_finish (total c.args.holds.now) c.args.store.now.nodes.table c.args.store.now.nodes.units.items c.args.store.now.entries.items c.args.at
-    c.index_mut-entry.result.now c.index_mut-entry.ensures.value (Change.Loss c.args.fault.origin c.args.fault.cause) c.requires.ready refl
-    (after_loss c.args.fault (nodes_with c.args.store.now.nodes.table c.index_mut-entry.result.now.keys.items)) refl c.apply_loss.new.nodes.table
-    c.apply_loss.new.nodes.units.items c.apply_loss.new.entry (played (goal.at.finish_event-requires-clause-may c).After-apply_loss)
+    may_finish _ _ c.index_mut-entry.ensures.value c.requires.ready refl refl
+    (played (goal.at.finish_event-requires-clause-may c).After-apply_loss)
 
 pub finish_event-requires-clause-pool : goal.finish_event-requires-clause-pool
 finish_event-requires-clause-pool c =
-    pool_there (total c.args.holds.now) c.args.store.now.nodes.table c.args.store.now.nodes.units.items c.args.store.now.entries.items c.args.at
-    c.index_mut-entry.result.now c.index_mut-entry.ensures.value (Change.Loss c.args.fault.origin c.args.fault.cause) c.requires.ready refl
-    (after_loss c.args.fault (nodes_with c.args.store.now.nodes.table c.index_mut-entry.result.now.keys.items)) refl c.apply_loss.new.nodes.table
-    c.apply_loss.new.nodes.units.items c.apply_loss.new.entry (played (goal.at.finish_event-requires-clause-pool c).After-apply_loss)
-    c.args.pool.now c.requires.pool
+    pool_there (total c.args.holds.now)
+    c.index_mut-entry.result.now c.index_mut-entry.ensures.value c.requires.ready refl refl
+    (played (goal.at.finish_event-requires-clause-pool c).After-apply_loss) c.args.pool.now c.requires.pool
 
 pub returns : goal.returns
 returns c =
-    outcome_there (total c.args.holds.now) c.args.store.now.nodes.table c.args.store.now.nodes.units.items c.args.store.now.entries.items
-    c.args.at c.index_mut-entry.result.now c.index_mut-entry.ensures.value (Change.Loss c.args.fault.origin c.args.fault.cause) c.requires.ready refl
-    (after_loss c.args.fault (nodes_with c.args.store.now.nodes.table c.index_mut-entry.result.now.keys.items)) refl c.apply_loss.new.nodes.table
-    c.apply_loss.new.nodes.units.items c.apply_loss.new.entry (played (goal.at.returns c).After-apply_loss) c.args.pool.now
+    outcome_there (total c.args.holds.now)
+    c.index_mut-entry.result.now c.index_mut-entry.ensures.value c.requires.ready refl refl
+    (played (goal.at.returns c).After-apply_loss) c.args.pool.now
     c.finish_event.new.pool c.finish_event.new.store.nodes.table c.finish_event.new.store.entries.items
     c.finish_event.new.store.nodes.units.items c.finish_event.ensures.closes c.finish_event.ensures.size

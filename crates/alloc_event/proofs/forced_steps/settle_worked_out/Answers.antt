@@ -1,7 +1,5 @@
 -- Nothing is forced by the effect, or what is forced is made.
-use Rattle.alloc_event.proofs.Common.{◌≡◌, ◌∙◌, true, subst, sym, refl, arith, total, Change, Entry}
-use Rattle.forest_steps.specs.NodeEffects.{is_unforced}
-use Rattle.forest_store.proofs.shelves.Entries.{place_is}
+use Rattle.alloc_event.proofs.Common.{◌∙◌, sym, refl, arith, total, place_is}
 use Rattle.forest_steps.proofs.changes.Dropped.{one_entry}
 use Rattle.forest_steps.proofs.mid_event.Stepping.{few_there}
 use Rattle.alloc_event.proofs.forced_steps.settle_worked_out.Goals as goal
@@ -12,12 +10,10 @@ index-entry-requires c =
 
 pub is_unforced-requires : goal.is_unforced-requires
 is_unforced-requires c =
-    few_there (total c.args.holds.now) c.args.store.now.nodes.table c.args.store.now.nodes.units.items c.args.store.now.entries.items
-    c.requires.ready.id c.args.at c.index-entry.result.now c.requires.ready.place c.index-entry.ensures
-    (Change.Effect c.args.made.now.key c.args.made.now.effect) c.requires.ready.ready refl
+    few_there (total c.args.holds.now) _ c.requires.ready.place c.index-entry.ensures c.requires.ready.ready refl
 
 pub apply_unforced-requires-clause-unforced : goal.apply_unforced-requires-clause-unforced
 apply_unforced-requires-clause-unforced c e is =
-    subst (λ (x : Entry). is_unforced (total c.args.holds.now) c.args.store.now.nodes.table x c.args.made.now ≡ true)
-    (one_entry c.args.store.now.entries.items c.requires.ready.id c.args.at c.index-entry.result.now e c.requires.ready.place c.index-entry.ensures
-    is) (sym c.is_unforced.ensures ∙ c.if-is_unforced.true)
+    rw
+    (one_entry _ _ _ e c.requires.ready.place c.index-entry.ensures
+    is) at (sym c.is_unforced.ensures ∙ c.if-is_unforced.true)

@@ -4,8 +4,8 @@ use Rattle.alloc_event.proofs.laws.collections_stay_rooted.Goals as goal
 
 pub returns-clause-changed : goal.returns-clause-changed
 returns-clause-changed c change key col fit distinct rooted =
-    (rooted_changed change key col fit (record { one = distinct_one col.nodes distinct; rooted = rooted })).rooted
+    (rooted_changed _ key col fit (record { one = distinct_one _ distinct; rooted = rooted })).rooted
 
 pub returns-clause-settled : goal.returns-clause-settled
 returns-clause-settled c pool handles others col after distinct rooted settles =
-    (rooted_settled pool handles others col after (record { one = distinct_one col.nodes distinct; rooted = rooted }) settles).rooted
+    (rooted_settled _ _ _ col _ (record { one = distinct_one _ distinct; rooted = rooted }) settles).rooted

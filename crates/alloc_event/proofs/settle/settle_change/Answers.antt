@@ -1,7 +1,6 @@
 -- The collection is looked up, and the change is made at its place.
-use Rattle.alloc_event.proofs.Common.{◌≡◌, ◌∙◌, ℕ, Bool, List, Some, subst, sym, Change, Entry, Table, Node, Unit, Handles, place_in}
-use Rattle.buffer_pool.specs.Holdings.{Holdings}
-use Rattle.forest_store.specs.Outcomes.{IsOutcomeIn, IsReady}
+use Rattle.alloc_event.proofs.Common.{◌≡◌, ◌∙◌, ℕ, Bool, List, Some, sym, Change, Entry, Table, Node, Unit, Handles, place_in, Holdings}
+use Rattle.forest_store.specs.Outcomes.{IsReady}
 use Rattle.forest_steps.specs.StoreSteps.{IsOutcomeAt, IsOutcomeOf, IsReadyAt}
 use Rattle.forest_steps.proofs.mid_event.Stepping.{is_there}
 use Rattle.alloc_event.proofs.settle.settle_change.Goals as goal
@@ -10,30 +9,32 @@ use Rattle.alloc_event.proofs.settle.settle_change.Goals as goal
 at_place : (t : Table Node) (es : List Entry) (us : List Unit) (id at : ℕ) (change kind : Change) → place_in id es ≡ Some at →
     change ≡ kind → IsReady t es us id change → IsReadyAt t es us at kind
 at_place t es us id at change kind told is ready =
-    record { id = id; place = told; ready = subst (λ (x : Change). IsReady t es us id x) is ready }
+    record { id = id; place = told; ready = rw is at ready }
 
 -- what came of it there came of it
 of_place : {made : Bool} {handles : Handles} {pool after : Holdings} {t now : Table Node} {es behind : List Entry} {us : List Unit}
     (id at : ℕ) (change kind : Change) → place_in id es ≡ Some at → change ≡ kind →
     IsOutcomeAt made handles pool after t now es behind us at kind → IsOutcomeOf made handles pool after t now es behind us id change
 of_place {made} {handles} {pool} {after} {t} {now} {es} {behind} id at change kind told is outcome = record {
-  outcome = subst (λ (x : Change). IsOutcomeIn made handles pool after t now es behind id x) (sym is) (outcome.outcome id told);
+  outcome = rw is (outcome.outcome id told);
   units = outcome.units;
 }
 
 pub unreachable-requires : goal.unreachable-requires
 unreachable-requires c =
-    is_there c.args.store.now.nodes.table c.args.store.now.nodes.units.items c.args.store.now.entries.items c.args.id c.args.change.now
+    is_there
     c.requires.birth c.requires.ready (sym (rw c.deref.ensures.value at c.place_of.ensures) ∙ c.in_default.is)
 
 pub settle_effect-requires-clause-ready : goal.settle_effect-requires-clause-ready
-settle_effect-requires-clause-ready c = at_place _ _ _ _ _ _ _ (sym (rw c.deref.ensures.value at c.place_of.ensures) ∙ c.in-Some.is) c.in-Effect.is c.requires.ready
+settle_effect-requires-clause-ready c =
+    at_place _ _ _ _ _ _ _ (sym (rw c.deref.ensures.value at c.place_of.ensures) ∙ c.in-Some.is) c.in-Effect.is c.requires.ready
 
 pub settle_loss-requires-clause-ready : goal.settle_loss-requires-clause-ready
 settle_loss-requires-clause-ready c = at_place _ _ _ _ _ _ _ (sym (rw c.deref.ensures.value at c.place_of.ensures) ∙ c.in-Some.is) c.in-Loss.is c.requires.ready
 
 pub settle_nothing-requires-clause-ready : goal.settle_nothing-requires-clause-ready
-settle_nothing-requires-clause-ready c = at_place _ _ _ _ _ _ _ (sym (rw c.deref.ensures.value at c.place_of.ensures) ∙ c.in-Some.is) c.in-Nothing.is c.requires.ready
+settle_nothing-requires-clause-ready c =
+    at_place _ _ _ _ _ _ _ (sym (rw c.deref.ensures.value at c.place_of.ensures) ∙ c.in-Some.is) c.in-Nothing.is c.requires.ready
 
 pub returns-in-Effect : goal.returns-in-Effect
 returns-in-Effect c = of_place _ _ _ _ (sym (rw c.deref.ensures.value at c.place_of.ensures) ∙ c.in-Some.is) c.in-Effect.is c.settle_effect.ensures

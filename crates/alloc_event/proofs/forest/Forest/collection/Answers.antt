@@ -1,13 +1,13 @@
 -- The entry with the id is the collection.
-use Rattle.alloc_event.proofs.Common.{◌≡◌, Some, length, sym, ◌∙◌, ap, option_map, arith, shelf_of, shelves_of}
+use Rattle.alloc_event.proofs.Common.{◌≡◌, Some, length, sym, ◌∙◌, ap, option_map, arith, shelf_of, shelves_of, collection_none, shelf_found}
 use Rattle.forest_store.specs.Forest.{summary_of}
 use Rattle.forest_store.proofs.changes.Altering.{found_whole}
-use Rattle.forest_store.proofs.shelves.Showing.{collection_some, collection_none, few_given, shelf_found}
+use Rattle.forest_store.proofs.shelves.Showing.{collection_some, few_given}
 use Rattle.alloc_event.proofs.forest.Forest.collection.Goals as goal
 
 pub returns-in-Some-clause-value : goal.returns-in-Some-clause-value
 returns-in-Some-clause-value c =
-    let told = collection_some c.self.inside.store.nodes.table c.self.inside.store.entries.items c.self.invariant.kept c.args.id c.in-Some.entry.now
+    let told = collection_some _ _ c.self.invariant.kept _ _
     (sym (rw c.deref.ensures.value at c.in-Some.ensures)) in
     let nodes : c.len.result ≡ length c.in-Some.entry.now.keys.items = omega arith in
     let held : c.len-in-Some.result ≡ length c.in-Some.entry.now.held.items = omega arith in
@@ -20,7 +20,7 @@ returns-in-Some-clause-few c =
     let entry = c.in-Some.entry.now in
     let found = shelf_found c.args.id c.self.inside.store.entries.items
     ∙ ap (option_map shelf_of) (sym (rw c.deref.ensures.value at c.in-Some.ensures)) in
-    few_given entry.buffers (found_whole c.self.inside.store.nodes.table c.args.id (shelves_of c.self.inside.store.entries.items) (shelf_of entry)
+    few_given _ (found_whole c.self.inside.store.nodes.table c.args.id (shelves_of c.self.inside.store.entries.items) (shelf_of entry)
     c.self.invariant.kept.whole found).sound.few
 
 pub returns-in-None-clause-value : goal.returns-in-None-clause-value

@@ -1,14 +1,11 @@
 -- The node leaves the table, and its key the entry of its collection.
-use Rattle.alloc_event.proofs.Common.{◌≡◌, not, map, true, false, Some, None, is_some, get_or, refl, sym, ◌∙◌, ap, subst, arith, option_map_or, and_left, same_key-refl, node_at, Entry, Node, AreUnits, collection_in, nodes_with, place_in, shelf_of, shelves_of, is_of, is_over}
+use Rattle.alloc_event.proofs.Common.{◌≡◌, not, map, true, false, Some, None, is_some, get_or, refl, sym, ◌∙◌, ap, subst, arith, option_map_or, and_left, same_key-refl, node_at, Entry, AreUnits, collection_in, nodes_with, place_in, shelf_of, shelves_of, is_of, is_over, Forest, AreServedByGiven, place_is, node_is}
 use Rattle.std.proofs.lemmas.List.{get_or_default}
-use Rattle.forest_store.specs.Forest.{Forest, node_at as forest_node}
+use Rattle.forest_store.specs.Forest.{node_at as forest_node}
 use Rattle.forest_store.specs.Calm.{IsCounted}
-use Rattle.forest_store.specs.Given.{AreServedByGiven}
 use Rattle.forest_store.proofs.shelves.Counted.{counted_set, dropped_all, drops_one, recounted}
-use Rattle.forest_store.proofs.shelves.Entries.{place_is}
 use Rattle.alloc_event.proofs.leaving.Leaving.{goes, kept-without, collections-without, set_without, shelf_without, never_none}
 use Rattle.forest_store.proofs.lists.Lookups.{looked-kept}
-use Rattle.forest_store.proofs.shelves.Showing.{node_is}
 use Rattle.forest_store.proofs.tallies.Slots.{units_without}
 use Rattle.forest_store.proofs.tables.TakingOut.{SameKeys-shown, taken}
 use Rattle.forest_steps.proofs.mid_event.GivenKept.{given_filtered}
@@ -16,8 +13,8 @@ use Rattle.alloc_event.proofs.forest.Forest.forget.Goals as goal
 
 pub take_out-node-requires : goal.take_out-node-requires
 take_out-node-requires c =
-    ap is_some (sym (node_is c.self.inside.store.nodes.table (shelves_of c.self.inside.store.entries.items) c.self.invariant.kept c.args.key))
-    ∙ ap (λ (f : Forest). is_some (forest_node f c.args.key)) c.self.view_is ∙ c.requires.there
+    ap is_some (sym (node_is _ _ c.self.invariant.kept _))
+    ∙ ap (λ f. is_some (forest_node f c.args.key)) c.self.view_is ∙ c.requires.there
 
 pub index_mut-requires : goal.index_mut-requires
 index_mut-requires c =
@@ -37,12 +34,11 @@ invariant_of-self c =
     λ i. record (shelf_of c.index_mut.result.now) { keys = c.forget.ensures i } in
     let is : shelf_of e ≡ shelf_without c.args.key (shelf_of (get_or c.self.inside.store.entries.items c.in-Some.at e)) =
     own ∙ ap (λ (x : Entry). shelf_without c.args.key (shelf_of x)) was in
-    let same = set_without c.self.inside.store.nodes.table c.args.key c.take_out-node.result e c.self.inside.store.entries.items c.in-Some.at
+    let same = set_without c.self.inside.store.nodes.table c.args.key e c.self.inside.store.entries.items
     c.take_out-node.ensures.was c.self.invariant.kept.filed c.self.invariant.kept.rising told is in
     let found = node_is c.self.inside.store.nodes.table (shelves_of c.self.inside.store.entries.items) c.self.invariant.kept c.args.key
     ∙ c.take_out-node.ensures.was in
-    let over : is_over c.take_out-node.result ≡ true =
-    ap (λ o. option_map_or is_over o false) (sym found)
+    let over : is_over c.take_out-node.result ≡ true = ap (λ o. option_map_or is_over o false) (sym found)
     ∙ ap (λ (f : Forest). option_map_or is_over (forest_node f c.args.key) false) c.self.view_is ∙ c.requires.over in
     let out = taken c.self.inside.store.nodes.table c.take_out-node.new.table c.args.key c.take_out-node.result c.take_out-node.ensures.out
     c.take_out-node.ensures.was in
@@ -57,29 +53,29 @@ invariant_of-self c =
           ∙ looked-kept c.args.key (node_at c.take_out-node.new.table) none old.keys.items) i;
     } in
     record {
-      kept = rw same (kept-without c.self.inside.store.nodes.table c.take_out-node.new.table c.args.key c.take_out-node.result
+      kept = rw same (kept-without
           (taken c.self.inside.store.nodes.table c.take_out-node.new.table c.args.key c.take_out-node.result c.take_out-node.ensures.out
-          c.take_out-node.ensures.was) (and_left _ _ over) (shelves_of c.self.inside.store.entries.items) c.self.invariant.kept);
+          c.take_out-node.ensures.was) (and_left _ _ over) c.self.invariant.kept);
       counted = counted_set c.take_out-node.new.table c.self.inside.store.entries.items c.in-Some.at e
           (λ there counted. let own : IsCounted c.take_out-node.new.table old =
           subst (IsCounted c.take_out-node.new.table) (sym was) counted in
           recounted c.take_out-node.new.table old e shown refl refl own.garbage_known own)
           (dropped_all c.self.inside.store.nodes.table c.take_out-node.new.table c.self.invariant.kept.named drops c.self.inside.store.entries.items
           c.self.invariant.kept.whole c.self.invariant.counted);
-      units = rw same (subst (AreUnits c.self.inside.store.nodes.units.items) (sym (collections-without c.self.inside.store.nodes.table c.take_out-node.new.table
-          c.args.key c.take_out-node.result out c.self.invariant.kept.named (shelves_of c.self.inside.store.entries.items)))
+      units = rw same (subst (AreUnits c.self.inside.store.nodes.units.items) (sym (collections-without
+          out c.self.invariant.kept.named (shelves_of c.self.inside.store.entries.items)))
           (units_without c.self.inside.store.nodes.table c.self.inside.store.nodes.units.items c.args.key c.self.invariant.kept.named
-          (goes c.self.inside.store.nodes.table c.take_out-node.new.table c.args.key c.take_out-node.result out (and_left _ _ over))
+          (goes out (and_left _ _ over))
           (shelves_of c.self.inside.store.entries.items) c.self.invariant.kept.whole c.self.invariant.units));
-      given = rw same (subst AreServedByGiven (sym (collections-without c.self.inside.store.nodes.table c.take_out-node.new.table
-          c.args.key c.take_out-node.result out c.self.invariant.kept.named (shelves_of c.self.inside.store.entries.items)))
-          (given_filtered (λ (n : Node). not (is_of c.args.key n)) (map (collection_in c.self.inside.store.nodes.table)
+      given = rw same (subst AreServedByGiven (sym (collections-without
+          out c.self.invariant.kept.named (shelves_of c.self.inside.store.entries.items)))
+          (given_filtered (λ n. not (is_of c.args.key n)) (map (collection_in c.self.inside.store.nodes.table)
           (shelves_of c.self.inside.store.entries.items)) c.self.invariant.given));
     }
 
 pub invariant_of-self-in_default : goal.invariant_of-self-in_default
 invariant_of-self-in_default c =
-    absurd (never_none c.self.inside.store.nodes.table c.self.inside.store.entries.items c.args.key c.take_out-node.result c.self.invariant.kept
+    absurd (never_none _ _ c.self.invariant.kept
     c.take_out-node.ensures.was (sym (rw c.deref.ensures.value at c.place_of.ensures) ∙ c.in_default.is))
 
 pub returns-in-Some-clause-nodes : goal.returns-in-Some-clause-nodes
@@ -87,34 +83,31 @@ returns-in-Some-clause-nodes c =
     let told : place_in c.take_out-node.result.collection c.self.inside.store.entries.items ≡ Some c.in-Some.at =
     sym (rw c.deref.ensures.value at c.place_of.ensures) ∙ c.in-Some.is in
     let e : Entry = record (c.index_mut.result.now) { keys = c.forget.new.self } in
-    let within = (place_is c.take_out-node.result.collection c.self.inside.store.entries.items c.in-Some.at told).within in
+    let within = (place_is _ _ _ told).within in
     let was : c.index_mut.result.now ≡ get_or c.self.inside.store.entries.items c.in-Some.at e =
     c.index_mut.ensures.value ∙ get_or_default c.self.inside.store.entries.items c.in-Some.at c.index_mut.result.now e within in
     let own : shelf_of e ≡ shelf_without c.args.key (shelf_of c.index_mut.result.now) =
     λ i. record (shelf_of c.index_mut.result.now) { keys = c.forget.ensures i } in
     let is : shelf_of e ≡ shelf_without c.args.key (shelf_of (get_or c.self.inside.store.entries.items c.in-Some.at e)) =
-    own ∙ ap (λ (x : Entry). shelf_without c.args.key (shelf_of x)) was in
-    let same = set_without c.self.inside.store.nodes.table c.args.key c.take_out-node.result e c.self.inside.store.entries.items c.in-Some.at
+    own ∙ ap (λ x. shelf_without c.args.key (shelf_of x)) was in
+    let same = set_without c.self.inside.store.nodes.table c.args.key e c.self.inside.store.entries.items
     c.take_out-node.ensures.was c.self.invariant.kept.filed c.self.invariant.kept.rising told is in
-    rw (same, ← c.self.view_is) (collections-without c.self.inside.store.nodes.table c.take_out-node.new.table c.args.key c.take_out-node.result
-    (taken c.self.inside.store.nodes.table c.take_out-node.new.table c.args.key c.take_out-node.result c.take_out-node.ensures.out
-    c.take_out-node.ensures.was) c.self.invariant.kept.named (shelves_of c.self.inside.store.entries.items))
+    rw (same, ← c.self.view_is) (collections-without
+    (taken _ _ _ _ c.take_out-node.ensures.out c.take_out-node.ensures.was) c.self.invariant.kept.named _)
 
 pub returns-in_default-clause-nodes : goal.returns-in_default-clause-nodes
 returns-in_default-clause-nodes c =
-    absurd (never_none c.self.inside.store.nodes.table c.self.inside.store.entries.items c.args.key c.take_out-node.result c.self.invariant.kept
+    absurd (never_none _ _ c.self.invariant.kept
     c.take_out-node.ensures.was (sym (rw c.deref.ensures.value at c.place_of.ensures) ∙ c.in_default.is))
 
 pub returns-in-Some-clause-keys : goal.returns-in-Some-clause-keys
 returns-in-Some-clause-keys c =
     let ss = shelves_of c.self.inside.store.entries.items in
-    let same = SameKeys-shown c.self.inside.store.nodes.table c.take_out-node.new.table ss ss c.self.invariant.kept.first
-    c.take_out-node.ensures.out.keys in
+    let same = SameKeys-shown _ _ ss ss c.self.invariant.kept.first c.take_out-node.ensures.out.keys in
     rw (← c.self.view_is) (record { limit = same.limit; keys = same.keys })
 
 pub returns-in_default-clause-keys : goal.returns-in_default-clause-keys
 returns-in_default-clause-keys c =
     let ss = shelves_of c.self.inside.store.entries.items in
-    let same = SameKeys-shown c.self.inside.store.nodes.table c.take_out-node.new.table ss ss c.self.invariant.kept.first
-    c.take_out-node.ensures.out.keys in
+    let same = SameKeys-shown _ _ ss ss c.self.invariant.kept.first c.take_out-node.ensures.out.keys in
     rw (← c.self.view_is) (record { limit = same.limit; keys = same.keys })

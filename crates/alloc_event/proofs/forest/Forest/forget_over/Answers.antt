@@ -1,6 +1,5 @@
 -- The forest is what the table and the entries are then.
-use Rattle.alloc_event.proofs.Common.{map, subst, sym, AreUnits, collection_in, shelves_of}
-use Rattle.forest_store.specs.Given.{AreServedByGiven}
+use Rattle.alloc_event.proofs.Common.{subst, sym, AreUnits, shelves_of, AreServedByGiven}
 use Rattle.forest_store.proofs.changes.Finishing.{whole-map}
 use Rattle.forest_store.proofs.tallies.Slots.{units_over}
 use Rattle.forest_store.proofs.tables.TakingOut.{SameKeys-shown}
@@ -12,18 +11,14 @@ invariant_of-self c = record {
   kept = c.forget_over.ensures.kept;
   counted = c.forget_over.ensures.counted;
   units = subst (AreUnits c.self.inside.store.nodes.units.items) (sym c.forget_over.ensures.collections)
-      (units_over c.self.inside.store.nodes.units.items c.args.id (map (collection_in c.self.inside.store.nodes.table) (shelves_of c.self.inside.store.entries.items))
+      (units_over c.self.inside.store.nodes.units.items c.args.id _
       (whole-map c.self.inside.store.nodes.table (shelves_of c.self.inside.store.entries.items) c.self.invariant.kept.whole) c.self.invariant.units);
-  given = subst AreServedByGiven (sym c.forget_over.ensures.collections)
-      (given_over c.args.id (map (collection_in c.self.inside.store.nodes.table) (shelves_of c.self.inside.store.entries.items)) c.self.invariant.given);
+  given = subst AreServedByGiven (sym c.forget_over.ensures.collections) (given_over _ _ c.self.invariant.given);
 }
 
 pub returns-clause-keys : goal.returns-clause-keys
 returns-clause-keys c =
-    rw (← c.self.view_is)
-    (SameKeys-shown c.self.inside.store.nodes.table c.forget_over.new.table (shelves_of c.self.inside.store.entries.items)
-    (shelves_of c.forget_over.new.entries.items)
-    c.self.invariant.kept.first c.forget_over.ensures.keys)
+    rw (← c.self.view_is) (SameKeys-shown _ _ _ _ c.self.invariant.kept.first c.forget_over.ensures.keys)
 
 pub returns-clause-collections : goal.returns-clause-collections
 returns-clause-collections c = rw (← c.self.view_is) c.forget_over.ensures.collections

@@ -1,13 +1,11 @@
 -- One node is written, and the others stay.
-use Rattle.alloc_event.proofs.Common.{refl, sym, ◌∙◌, ◌≡◌, ℕ, Bool, true, false, List, Option, Some, is_some, map, ap, subst, false≢true, NodeKey, option_map_or, Table, node_at, Node, AreUnits, with_nodes, IsStored, Shelf, are_filed, collection_in, forest_of, shelves_of, is_over}
+use Rattle.alloc_event.proofs.Common.{refl, sym, ◌∙◌, ◌≡◌, true, false, List, Some, is_some, map, ap, subst, false≢true, NodeKey, option_map_or, Table, node_at, Node, AreUnits, with_nodes, IsStored, Shelf, are_filed, forest_of, shelves_of, is_over, Forest, AreServedByGiven, node_is}
 use Rattle.node_table.specs.Changes.{Writes}
 use Rattle.node_table.specs.Lending.{table_with_node}
-use Rattle.forest_store.specs.Forest.{Forest, node_at as forest_node, on_collections}
-use Rattle.forest_store.specs.Given.{AreServedByGiven}
+use Rattle.forest_store.specs.Forest.{node_at as forest_node, on_collections}
 use Rattle.forest_store.specs.Nodes.{with_end}
 use Rattle.forest_store.proofs.shelves.Counted.{ends_tidy, mapped_all}
 use Rattle.alloc_event.proofs.leaving.Ends.{ends-kept, ends-look, ends-shown}
-use Rattle.forest_store.proofs.shelves.Showing.{node_is}
 use Rattle.forest_store.proofs.tallies.Slots.{units_with}
 use Rattle.sm_names.proofs.SamenessLaws.{some_is}
 use Rattle.forest_steps.proofs.mid_event.GivenKept.{given_mapped}
@@ -16,13 +14,13 @@ use Rattle.alloc_event.proofs.forest.Forest.set_end.Goals as goal
 -- a node that the forest has is in the table
 known : (t : Table Node) (ss : List Shelf) → IsStored t ss → (f : Forest) (key : NodeKey) → forest_of t ss ≡ f →
     is_some (forest_node f key) ≡ true → is_some (node_at t key) ≡ true
-known t ss kept f key is some = ap is_some (sym (node_is t ss kept key)) ∙ ap (λ (g : Forest). is_some (forest_node g key)) is ∙ some
+known t ss kept f key is some = ap is_some (sym (node_is t ss kept key)) ∙ ap (λ g. is_some (forest_node g key)) is ∙ some
 
 module _ (c : goal.After-list_garbage) where
   -- the key is known, so the table has a node there
   there : (n : Node) × (node_at c.self.inside.store.nodes.table c.args.key ≡ Some n)
-  there = some_is (node_at c.self.inside.store.nodes.table c.args.key) (known c.self.inside.store.nodes.table (shelves_of c.self.inside.store.entries.items)
-      c.self.invariant.kept c.args.self.now c.args.key c.self.view_is c.requires)
+  there = some_is _ (known _ _
+      c.self.invariant.kept _ _ c.self.view_is c.requires)
 
   abbrev n : Node
   n = there.0
@@ -36,38 +34,37 @@ module _ (c : goal.After-list_garbage) where
 
   -- the write under its own key
   writes : Writes c.self.inside.store.nodes.table c.put_end.new.table n.key after
-  writes = subst (λ (k : NodeKey). Writes c.self.inside.store.nodes.table c.put_end.new.table k after) (sym named)
+  writes = subst (λ k. Writes c.self.inside.store.nodes.table c.put_end.new.table k after) (sym named)
       (c.put_end.ensures.writes n there.1)
 
   -- the table with the node under its own key
   becomes : c.put_end.new.table ≡ table_with_node c.self.inside.store.nodes.table n.key after
-  becomes = c.put_end.ensures.becomes n there.1 ∙ ap (λ (k : NodeKey). table_with_node c.self.inside.store.nodes.table k after) (sym named)
+  becomes = c.put_end.ensures.becomes n there.1 ∙ ap (λ k. table_with_node c.self.inside.store.nodes.table k after) (sym named)
 
   -- what the forest is then
   shown : forest_of c.put_end.new.table (shelves_of c.list_garbage.new.entries.items)
       ≡ on_collections (with_nodes (map (with_end c.args.key c.args.end))) (forest_of c.self.inside.store.nodes.table
       (shelves_of c.self.inside.store.entries.items))
   shown =
-      ap (forest_of c.put_end.new.table) c.list_garbage.ensures.shelves
-      ∙ ends-shown c.args.key c.args.end c.self.inside.store.nodes.table c.put_end.new.table n there.1
-      named writes (shelves_of c.self.inside.store.entries.items) becomes c.self.invariant.kept
+      ap (forest_of c.put_end.new.table) c.list_garbage.ensures.shelves ∙ ends-shown _ _ there.1
+      named writes becomes c.self.invariant.kept
 
   -- what was told of the node
   over_is : c.in-Some.over ≡ is_over (record n { end = c.args.end })
-  over_is = ap (λ (o : Option (ℕ × Bool)). option_map_or (λ p. p.1) o false) (sym c.in-Some.is ∙ c.put_end.ensures.told n there.1)
+  over_is = ap (λ o. option_map_or (λ p. p.1) o false) (sym c.in-Some.is ∙ c.put_end.ensures.told n there.1)
 
   -- the function answers the collection of the node
   id_is : c.in-Some.id ≡ n.collection
-  id_is = ap (λ (o : Option (ℕ × Bool)). option_map_or (λ p. p.0) o 0) (sym c.in-Some.is ∙ c.put_end.ensures.told n there.1)
+  id_is = ap (λ o. option_map_or (λ p. p.0) o 0) (sym c.in-Some.is ∙ c.put_end.ensures.told n there.1)
 
 pub invariant_of-self : goal.invariant_of-self
 invariant_of-self c =
     let now = there c in
     record {
       kept = subst (IsStored c.put_end.new.table) (sym c.list_garbage.ensures.shelves)
-          (ends-kept c.args.key c.args.end c.self.inside.store.nodes.table c.put_end.new.table now.0 now.1 (named c) (writes c)
-          (shelves_of c.self.inside.store.entries.items) (becomes c) c.self.invariant.kept);
-      counted = mapped_all c.self.inside.store.nodes.table c.put_end.new.table (with_end c.args.key c.args.end)
+          (ends-kept _ _ now.1 (named c) (writes c)
+          (becomes c) c.self.invariant.kept);
+      counted = mapped_all _ _ _
           (λ n. record {
             key = refl;
             parent = refl;
@@ -79,23 +76,23 @@ invariant_of-self c =
             asks = refl;
           })
           (λ n. refl) (λ n. refl)
-          (ends-look c.args.key c.args.end c.self.inside.store.nodes.table c.put_end.new.table now.0 now.1 (named c) (writes c)
+          (ends-look _ _ now.1 (named c) (writes c)
           c.self.invariant.kept.named)
-          c.list_garbage.new.entries.items
-          (ends_tidy c.self.inside.store.nodes.table c.self.invariant.kept.named c.args.key c.args.end now.0 now.1
-          c.list_garbage.new.entries.items
+          _
+          (ends_tidy _ c.self.invariant.kept.named _ c.args.end _ now.1
+          _
           (ap (are_filed c.self.inside.store.nodes.table) c.list_garbage.ensures.shelves ∙ c.self.invariant.kept.filed)
           (c.list_garbage.ensures.counted c.self.inside.store.nodes.table c.self.invariant.counted)
           (λ over. rw (id_is c) at (c.list_garbage.ensures.garbage (over_is c ∙ over))))
           (c.list_garbage.ensures.counted c.self.inside.store.nodes.table c.self.invariant.counted);
       units = subst (AreUnits c.self.inside.store.nodes.units.items) (sym (ap (λ (f : Forest). f.collections) (shown c)))
-          (units_with c.self.inside.store.nodes.units.items (with_end c.args.key c.args.end)
+          (units_with _ _
           (λ n. record { key = refl; parent = refl; attached = refl; collection = refl; head = refl }) (λ n. refl) (λ k n. refl)
           (λ k n. refl)
-          (map (collection_in c.self.inside.store.nodes.table) (shelves_of c.self.inside.store.entries.items)) c.self.invariant.units);
+          _ c.self.invariant.units);
       given = subst AreServedByGiven (sym (ap (λ (f : Forest). f.collections) (shown c)))
-          (given_mapped (with_end c.args.key c.args.end) (λ n h. h)
-          (map (collection_in c.self.inside.store.nodes.table) (shelves_of c.self.inside.store.entries.items)) c.self.invariant.given);
+          (given_mapped _ (λ n h. h)
+          _ c.self.invariant.given);
     }
 
 pub returns-in-Some : goal.returns-in-Some
@@ -104,12 +101,10 @@ returns-in-Some c = rw (← c.self.view_is) (shown c)
 -- the node is there
 pub invariant_of-self-in_default : goal.invariant_of-self-in_default
 invariant_of-self-in_default c =
-    let told = known c.self.inside.store.nodes.table (shelves_of c.self.inside.store.entries.items) c.self.invariant.kept c.args.self.now c.args.key
-    c.self.view_is c.requires in
+    let told = known _ _ c.self.invariant.kept _ _ c.self.view_is c.requires in
     absurd (false≢true (sym (ap is_some (c.in_default.ensures.none refl)) ∙ told))
 
 pub returns-in_default : goal.returns-in_default
 returns-in_default c =
-    let told = known c.self.inside.store.nodes.table (shelves_of c.self.inside.store.entries.items) c.self.invariant.kept c.args.self.now c.args.key
-    c.self.view_is c.requires in
+    let told = known _ _ c.self.invariant.kept _ _ c.self.view_is c.requires in
     absurd (false≢true (sym (ap is_some (c.in_default.ensures.none refl)) ∙ told))

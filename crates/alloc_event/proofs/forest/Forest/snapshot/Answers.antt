@@ -1,8 +1,7 @@
 -- The entry with the id is the collection.
-use Rattle.alloc_event.proofs.Common.{Some, sym, ◌∙◌, ap, option_map, subst, Collection, collection_in, shelf_of, shelves_of}
-use Rattle.forest_store.specs.Scenes.{IsSound}
+use Rattle.alloc_event.proofs.Common.{Some, sym, ◌∙◌, ap, option_map, collection_in, shelf_of, shelves_of, collection_none, shelf_found}
 use Rattle.forest_store.proofs.changes.Altering.{found_whole}
-use Rattle.forest_store.proofs.shelves.Showing.{collection_is, collection_none, shelf_found}
+use Rattle.forest_store.proofs.shelves.Showing.{collection_is}
 use Rattle.alloc_event.proofs.forest.Forest.snapshot.Goals as goal
 
 pub returns-in_default-clause-value : goal.returns-in_default-clause-value
@@ -25,6 +24,6 @@ pub returns-in-Ok-clause-sound : goal.returns-in-Ok-clause-sound
 returns-in-Ok-clause-sound c =
     let found = shelf_found c.args.id c.self.inside.store.entries.items
     ∙ ap (option_map shelf_of) (sym (rw c.deref.ensures.value at c.in-Some.ensures)) in
-    subst (λ (x : Collection). IsSound x) (sym c.in-Ok.ensures)
+    rw c.in-Ok.ensures
     (found_whole c.self.inside.store.nodes.table c.args.id (shelves_of c.self.inside.store.entries.items) (shelf_of c.in-Some.entry.now)
     c.self.invariant.kept.whole found).sound

@@ -1,19 +1,18 @@
 -- The count of the entry tells it.
-use Rattle.alloc_event.proofs.Common.{false, sym, ◌∙◌, ap, option_map_or, Collection, nodes_with, members_of}
+use Rattle.alloc_event.proofs.Common.{false, sym, ◌∙◌, ap, option_map_or, Collection, nodes_with, members_of, collection_none}
 use Rattle.sm_names.specs.Members.{some_strong_live}
-use Rattle.forest_store.proofs.shelves.Showing.{collection_none}
 use Rattle.forest_steps.proofs.tallies.Strong.{strong_found}
 use Rattle.forest_store.proofs.quiescence.Watched.{found_counted, strong_told}
 use Rattle.alloc_event.proofs.forest.Forest.strong_live.Goals as goal
 
 pub returns-in-Some : goal.returns-in-Some
 returns-in-Some c =
-    let told = strong_found c.self.inside.store.nodes.table c.self.inside.store.entries.items c.args.id c.in-Some.entry.now
+    let told = strong_found c.self.inside.store.nodes.table c.self.inside.store.entries.items c.args.id
     (sym (rw c.deref.ensures.value at c.in-Some.ensures)) in
-    let counted = found_counted c.self.inside.store.nodes.table c.args.id c.self.inside.store.entries.items c.in-Some.entry.now c.self.invariant.counted
+    let counted = found_counted _ _ _ _ c.self.invariant.counted
     (sym (rw c.deref.ensures.value at c.in-Some.ensures)) in
     rw (← c.self.view_is)
-    (strong_told (nodes_with c.self.inside.store.nodes.table c.in-Some.entry.now.keys.items) c.in-Some.entry.now.strong counted.strong ∙ sym told)
+    (strong_told (nodes_with c.self.inside.store.nodes.table c.in-Some.entry.now.keys.items) _ counted.strong ∙ sym told)
 
 pub returns-in-None : goal.returns-in-None
 returns-in-None c =
