@@ -52,7 +52,8 @@ fn make(core: &mut Core, client: ClientId, call: Call) -> Result<Reply, StepFaul
         AdvancesBy core.old core.new ((client, call, reply) ∷ [])) }
     ensures none { OnErr result (AdvancesBy core.old core.new []) }
     ensures full { result ≡ Err StepFault.HistoryFull → core.new.limits.events ≤ core.new.events }
-    ensures memory { IfErr result (λ fault. takes_no_memory call ≡ true → fault ≡ StepFault.HistoryFull) }
+    ensures memory { IfErr result (λ fault.
+        takes_no_memory call ≡ true → fault ≡ StepFault.HistoryFull) }
 {
     core.step(client, call)
 }

@@ -21,15 +21,18 @@ pub fn an_exit_is_for_good()
 /// Once each client that joined has exited, no node is live, no page is held, and the whole pool is
 /// free. It does not matter when each of them exited, nor which calls were made since.
 pub fn all_goes_with_its_clients()
-    ensures live { (pool : ℕ) (limits : Bound) (history : List Entry) → IsLegal pool limits history →
+    ensures live { (pool : ℕ) (limits : Bound) (history : List Entry) →
+        IsLegal pool limits history →
         ((client : ℕ) → has_joined (timeline pool history) client ≡ true →
         ExitedIn pool history client) →
         live_nodes (timeline pool history) ≡ [] }
-    ensures held { (pool : ℕ) (limits : Bound) (history : List Entry) → IsLegal pool limits history →
+    ensures held { (pool : ℕ) (limits : Bound) (history : List Entry) →
+        IsLegal pool limits history →
         ((client : ℕ) → has_joined (timeline pool history) client ≡ true →
         ExitedIn pool history client) →
         held pool (timeline pool history) ≡ [] }
-    ensures free { (pool : ℕ) (limits : Bound) (history : List Entry) → IsLegal pool limits history →
+    ensures free { (pool : ℕ) (limits : Bound) (history : List Entry) →
+        IsLegal pool limits history →
         ((client : ℕ) → has_joined (timeline pool history) client ≡ true →
         ExitedIn pool history client) →
         free_pages pool (timeline pool history) ≡ pool }

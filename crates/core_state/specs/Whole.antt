@@ -1,6 +1,7 @@
 -- What the fields of a core keep true. No public clause cites this module.
 use Rattle.std.specs.Prelude.{◌≡◌, ℕ, ◌<◌, ◌≤◌, ◌^◌, Bool, true, false, ◌||◌, ◌==◌, ⊤, List, [], ◌∷◌, map, Option, Some, None, is_some, IfSome}
 use Rattle.std.specs.List.{All, AllByRecursion, count_by, sum_by}
+use Rattle.sm_names.specs.declared.rules.TheConstants.{MAX_PAGES}
 use Rattle.sm_names.specs.declared.keys.NodeKey.{NodeKey}
 use Rattle.sm_names.specs.declared.keys.BufferName.{BufferName}
 use Rattle.sm_names.specs.declared.keys.Strength.{Strength}
@@ -122,7 +123,7 @@ AreUpTo most f = (c : Collection) → In c f.collections → c.id ≤ most
 -- what holds of the fields of each core
 pub record IsWholeCore (pool : Holdings) (limits : Bound) (events : ℕ) (clients : List Client) (forest : Forest) (holds : Counts)
     (trackers : TrackerTable) : Type 0 where
-  pub sized : (1 ≤ pool.size) × (pool.size ≤ 1048576)
+  pub sized : (1 ≤ pool.size) × (pool.size ≤ MAX_PAGES)
   pub pages : IsPoolOf pool forest
   pub in_time : events ≤ limits.events
   pub few : events < 2 ^ 32

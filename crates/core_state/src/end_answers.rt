@@ -13,7 +13,7 @@ ghost use Rattle.core_state.specs.Traits.{Describes};
 
 use crate::traits::Traits;
 use forest_store::{End, Node};
-use sm_names::{Call, ClientId, Kind, Misuse, Refusal, Reply};
+use sm_names::{Call, ClientId, Kind, MAX_NODE_TRACKERS, Misuse, Refusal, Reply};
 
 /// The kind of the node's end.
 #[inline(always)]
@@ -64,7 +64,7 @@ fn misuse(node: &Node, call: &Call) -> Option<Reply>
         Call::SetWeak(_) if node.constraints.is_some() => Misuse::LateWeak,
         Call::SetWeakOk(_, _) if node.took => Misuse::LateWeakOk,
         Call::Take(_) if node.weak && !node.weak_ok => Misuse::WeakNotOk,
-        Call::TrackNode(_) if node.trackers >= 64 => Misuse::TooManyNodeTrackers,
+        Call::TrackNode(_) if node.trackers >= MAX_NODE_TRACKERS => Misuse::TooManyNodeTrackers,
         _ => {
             return None;
         }

@@ -9,6 +9,9 @@ ghost use Rattle.core_state.specs.State.{counts_of};
 use buffer_holds::{HoldFault, Holds, Spot};
 use sm_names::{BufferName, Call, ClientId, CollectionId, NoMemory, Reply, Strength, has_buffer};
 
+// How many bits a set of buffers has.
+pub(crate) const SET_BITS: u8 = 64;
+
 /// Opens, drops or moves the handles of the call that was answered so.
 ///
 /// `NoMemory` where there is no room for a handle more, or for what the receiver of one needs; then
@@ -82,7 +85,7 @@ pub fn hand_back(holds: &mut Holds, client: ClientId, call: Call, reply: Reply)
                 set,
             } = reply
             {
-                close_below(holds, client, collection, strength, set, 64);
+                close_below(holds, client, collection, strength, set, SET_BITS);
             }
         }
         Call::DupHandle(buffer, strength) => {
@@ -129,13 +132,13 @@ fn open_all(
 ) -> Result<(), NoMemory>
     requires { CanOpen holds.old collection strength set }
     ensures ok { OnOk result (Opens holds.old holds.new client
-        (is_in_set_below collection strength set 64)) }
+        (is_in_set_below collection strength set SET_BITS)) }
     ensures err { OnErr result (counts_of holds.new ≡ counts_of holds.old) }
     ensures limit { holds.new.limit ≡ holds.old.limit }
 {
     let mut near = Spot::new();
     let mut end = 0;
-    while end < 64 && set >> end != 0 {
+    while end < SET_BITS && set >> end != 0 {
         if let Err(NoMemory) = open_at(holds, client, collection, strength, set, end, &mut near) {
             close_below(holds, client, collection, strength, set, end);
             return Err(NoMemory);
@@ -154,7 +157,7 @@ fn close_below(
     set: u64,
     mut end: u8,
 )
-    requires { end ≤ 64 }
+    requires { end ≤ SET_BITS }
     ensures counts { (before : Counts) →
         Opens before holds.old client (is_in_set_below collection strength set end) →
         counts_of holds.new ≡ counts_of before }
@@ -176,7 +179,7 @@ fn open_at(
     index: u8,
     near: &mut Spot,
 ) -> Result<(), NoMemory>
-    requires in_range { index < 64 }
+    requires in_range { index < SET_BITS }
     requires room { bit_at set index ≡ 1 →
         total holds.old (record { collection = collection; index = index }) strength
         < holds.old.limit }
@@ -207,7 +210,7 @@ fn close_at(
     set: u64,
     index: u8,
 )
-    requires { index < 64 }
+    requires { index < SET_BITS }
     ensures counts { (before : Counts) →
         Opens before holds.old client (is_in_set_below collection strength set (index + 1)) →
         Opens before holds.new client (is_in_set_below collection strength set index) }

@@ -13,7 +13,8 @@ use sm_names::{Cause, NodeKey};
 /// Whether the node is there and live.
 pub fn is_live(node: Option<&Node>) -> bool
     ensures { result
-        ≡ option_map_or (λ (n : Kept). not n.gone && not n.released) (option_copied node.entry) false }
+        ≡ option_map_or (λ (n : Kept). not n.gone && not n.released)
+        (option_copied node.entry) false }
 {
     match node {
         Some(node) => !node.gone && !node.released,

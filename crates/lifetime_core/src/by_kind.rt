@@ -1,8 +1,8 @@
-//! One function, compiled once for each kind of call. There the compiler knows what the call is, so that it
-//! leaves out each question for it, and what only other calls need. For that all that looks at the call by
-//! reference on its way is marked `inline(always)`: the toolchain drops such a mark, without a word,
-//! from a function that becomes longer than some 6,000 lines of LLVM's language. Asking what a call
-//! does and taking it are two methods of the core, and meet only here, so that each stays shorter.
+//! One function, compiled once for each kind of call. There the compiler knows the call, and leaves out each
+//! test of it, and what only other calls need. For this, each function on the way that reads the call by
+//! reference is marked `inline(always)`. The toolchain silently drops such a mark from a function of more
+//! than some 6,000 lines of LLVM's language. To decide a call and to make it are therefore two methods of
+//! the core, which meet only here.
 ghost use Rattle.std.specs.Prelude.{◌≡◌};
 ghost use Rattle.sm_names.specs.declared.messages.Call.{Call as Made};
 ghost use Rattle.core_state.specs.Theorem.{Stepped};
@@ -295,7 +295,7 @@ impl KnownCall for TrackWeak {
     }
 }
 
-/// Takes one call of a kind that the compiler knows, as `Core::step` says.
+/// Makes one call of a kind that the compiler knows, as `Core::step` says.
 #[inline(never)]
 fn take_one<K: KnownCall>(core: &mut Core, client: ClientId, kind: K) -> Result<Reply, StepFault>
     ensures { Stepped core.old core.new client (K.made kind) result }
@@ -305,7 +305,7 @@ fn take_one<K: KnownCall>(core: &mut Core, client: ClientId, kind: K) -> Result<
     core.take_asked(client, &call, &asked)
 }
 
-/// Takes one call, as `Core::step` says: the one place that asks what kind of call it is.
+/// Makes one call, as `Core::step` says: the one place that asks what kind of call it is.
 #[inline(always)]
 pub(crate) fn take_by_kind(
     core: &mut Core,

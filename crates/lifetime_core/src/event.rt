@@ -32,12 +32,12 @@ pub(crate) struct Contents {
     pub(crate) trackers: Trackers,
 }
 
-/// Makes of the contents what the call makes of them that was answered so, but for the trackers that
-/// fire and for what is forgotten, and answers the key of a new node, if there is one.
+/// Changes the contents as this call with this reply does, except for the trackers that fire and for
+/// what is forgotten, and answers the key of a new node, if there is one.
 ///
 /// `NoMemory` where memory is refused; then the contents are as they were, but for the order of the
 /// rows of handles. An event that opens and gives nothing, makes no tracker, changes no collection and
-/// admits no client takes none. It costs what `Forest::settle` costs for one collection, and a few look-ups.
+/// admits no client takes none. Costs what `Forest::settle` costs for one collection, and a few look-ups.
 #[inline(always)]
 #[tactic(auto, using(core_state::proofs::handles::Standing::stands_tracked, core_state::proofs::handles::Standing::stands_worked, core_state::proofs::handles::Standing::stands_noted, core_state::proofs::handles::Standing::may_by_handles, core_state::proofs::handles::Standing::may_by_tracker, core_state::proofs::handles::Standing::may_by_work, core_state::proofs::handles::Standing::may_by_room))]
 pub(crate) fn take_effect(
@@ -59,7 +59,8 @@ pub(crate) fn take_effect(
     requires room { IfSome tracking (λ t.
         length contents.old.trackers.unfired < contents.old.trackers.limit) }
     requires alone { takes_room call.now asked.now ≡ true → (task.now ≡ None) × (tracking ≡ None) }
-    requires lands { collects_handle call.now asked.now ≡ true → (task.now ≡ None) × (tracking ≡ None) }
+    requires lands { collects_handle call.now asked.now ≡ true →
+        (task.now ≡ None) × (tracking ≡ None) }
     ensures ok { IfOk result (λ key. TakesEffect contents.old.pool.size
         (record {
           clients = contents.old.clients.items;

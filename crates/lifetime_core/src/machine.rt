@@ -46,8 +46,8 @@ use core_state::reading::with_end;
 use core_state::task::{carried_end, change_in, changed_by};
 use core_state::traits::{key_of, traits_of};
 use sm_names::{
-    BufferName, Buffers, Call, ClientId, CollectionId, Limits, NoMemory, NodeKey, Parcel, Reply,
-    StepFault, Strength, TrackerId,
+    BufferName, Buffers, Call, ClientId, CollectionId, Limits, MAX_BUFFERS, MAX_PAGES, NoMemory,
+    NodeKey, Parcel, Reply, StepFault, Strength, TrackerId,
 };
 use std::alloc::Global;
 use std::marker::Model;
@@ -100,7 +100,7 @@ impl Core {
     /// `NoMemory` where the pool's first list is refused. It costs the same for any size and any
     /// limits.
     pub fn new(alloc: Global, pages: u32, limits: Limits) -> Result<Core, NoMemory>
-        requires { (1 ≤ pages) × (pages ≤ 1048576) }
+        requires { (1 ≤ pages) × (pages ≤ MAX_PAGES) }
         ensures state { IfOk result (λ core. core ≡ record {
           pool = pages;
           limits = limits;
@@ -125,7 +125,7 @@ impl Core {
         limits: Limits,
         seed: [u8; 16],
     ) -> Result<Core, NoMemory>
-        requires { (1 ≤ pages) × (pages ≤ 1048576) }
+        requires { (1 ≤ pages) × (pages ≤ MAX_PAGES) }
         ensures state { IfOk result (λ core. core ≡ record {
           pool = pages;
           limits = limits;
@@ -211,7 +211,7 @@ impl Core {
         self.contents.holds.have_room()
     }
 
-    // Whether as many of these handles are open as may be.
+    // Whether as many of these handles are open as the limit allows.
     pub(crate) fn has_all_handles(&self, buffer: BufferName, strength: Strength) -> bool
         ensures { result ≡ is_at_limit self.now.limits (readings_of self.now) strength buffer }
     {
@@ -221,7 +221,7 @@ impl Core {
         self.limits.handles() <= self.contents.holds.total(buffer, strength)
     }
 
-    // The same. They are looked for near the spot.
+    // The same, sought from the spot on.
     pub(crate) fn has_all_handles_near(
         &self,
         buffer: BufferName,
@@ -233,7 +233,7 @@ impl Core {
         self.limits.handles() <= self.contents.holds.total_near(buffer, strength, near)
     }
 
-    // Whether as many trackers wait as may.
+    // Whether as many trackers wait as the limit allows.
     pub(crate) fn has_all_trackers(&self) -> bool
         ensures { result
             ≡ nat_le self.now.limits.trackers (readings_of self.now).unfired }
@@ -295,19 +295,19 @@ impl Core {
     // What the collection was given.
     pub(crate) fn buffers_of(&self, id: CollectionId) -> Option<Buffers>
         ensures value { result ≡ buffers_in self.now id }
-        ensures few { IfSome result (λ b. b.count ≤ 64) }
+        ensures few { IfSome result (λ b. b.count ≤ MAX_BUFFERS) }
     {
         self.contents.forest.collection(id)?.buffers
     }
 
-    // Whether as many nodes are kept as may be.
+    // Whether as many nodes are kept as the limit allows.
     pub(crate) fn has_all_nodes(&self) -> bool
         ensures { result ≡ nat_le self.now.limits.nodes (node_count self.now.forest) }
     {
         self.limits.nodes() as usize <= self.contents.forest.len()
     }
 
-    // Whether as many collections are kept as may be.
+    // Whether as many collections are kept as the limit allows.
     pub(crate) fn has_all_collections(&self) -> bool
         ensures { result
             ≡ nat_le self.now.limits.collections (length self.now.forest.collections) }
@@ -315,7 +315,7 @@ impl Core {
         self.limits.collections() as usize <= self.contents.forest.collections()
     }
 
-    // Why a call is not taken where there is no memory for it: the history comes first.
+    // Why a call is not made if memory is refused: `HistoryFull` comes first.
     fn without_memory(&self) -> StepFault
         ensures { (result ≡ StepFault.HistoryFull)
             ↔ (self.now.limits.events ≤ self.now.events) }
@@ -327,8 +327,8 @@ impl Core {
         }
     }
 
-    // What is answered to the call, but for the key of a new node, and what it does then, with one
-    // look-up of the node that it names.
+    // Decides the call: its answer, but for the key of a new node, and what it does. Looks the node
+    // that it names up once.
     #[inline(always)]
     pub(crate) fn asked_of(&self, client: ClientId, call: &Call) -> Asked
         ensures { IsAsked self.now client call.now result }
@@ -346,7 +346,7 @@ impl Core {
         }
     }
 
-    // Takes the call of which this was found, as `step` says.
+    // Makes the call that was decided so, as `step` says.
     #[inline(always)]
     pub(crate) fn take_asked(
         &mut self,
@@ -393,31 +393,30 @@ impl Core {
         Ok(with_key(asked.reply, key))
     }
 
-    /// Takes one call: answers it, makes what it changes with all that this forces, spends the end
-    /// that it spends, and forgets what nobody can ask for any longer. That is one event, also
-    /// where the call is refused.
+    /// Takes one call: answers it, makes what it changes and all that this forces, spends the end that
+    /// it spends, and removes the nodes and the collection that are no longer kept. This is one event,
+    /// also if the call is refused.
     ///
-    /// `HistoryFull` exactly where as many events were made as may be, whatever the call is, and
-    /// `NoMemory` where memory is refused. Either leaves the core as it was, but for the order of
-    /// the rows of handles, which `NoMemory` may change. A Shut and a Collect take no memory: a gift
-    /// takes what its Collect needs.
+    /// `HistoryFull` exactly if as many events were made as the limit allows, whatever the call is,
+    /// and `NoMemory` if memory is refused. Either leaves the core as it was, but for the order of the
+    /// rows of handles, which `NoMemory` may change. A Shut and a Collect take no memory: a gift takes
+    /// what its Collect needs.
     ///
-    /// It costs a binary search among the clients, a few look-ups of a node, of a collection and of
-    /// handles, and what `Forest::settle` costs for one collection: that of the node or the buffer that
-    /// the call names, or the new one. A call that changes nothing there costs only the look-ups, and so
-    /// does a DropHandle beside which another handle of that buffer and strength is open. Where none is,
-    /// a DropHandle costs what `Forest::settle_drop` does: where a strong node is live nothing more,
-    /// where the root is gone or has no buffers a look at the handles of that buffer alone, and else
-    /// a look for an open strong handle among the buffers of the collection besides; where there is
-    /// none the collection fails. A buffer that comes home costs a pass over their names. A node that
-    /// is forgotten costs a binary search among the nodes of its collection and a move of the keys on
-    /// its shorter side; where more than 64 are found to be over in one event, one that is found twice
-    /// counted twice, all nodes of the collection are looked at instead. A Take costs at most five
-    /// look-ups more for each buffer, and fewer where the counts of the buffers stand one after the
-    /// other, as the first Take left them. An event that changes something in a collection costs one
-    /// test for each node and each buffer that trackers wait for there, two for a node of which
-    /// lifetimes are waited for too, however many wait for the same. A TrackLifetime or TrackWeak
-    /// costs a test of its own tracker, unless that fires.
+    /// Costs O(log clients + log collections), a few look-ups of handles, and for the collection of
+    /// the node or the buffer that the call names, or the new one:
+    ///
+    /// - nothing, if the call changes nothing there, or drops a handle beside which another one of
+    ///   that buffer and strength is open;
+    /// - for any other DropHandle what `Forest::settle_drop` costs, otherwise what `Forest::settle`
+    ///   costs;
+    /// - for each node that is no longer kept a binary search among the nodes and a move of the keys
+    ///   on its shorter side; or one pass over all nodes, if more than 64 are found in one event, one
+    ///   that is found twice counted twice;
+    /// - if something changed there, a test for each node and each buffer that trackers wait for, two
+    ///   for a node of which lifetimes are tracked too, however many wait for the same. A TrackLifetime
+    ///   or TrackWeak costs a test of its own tracker, unless that fires;
+    /// - for a Take at most five look-ups more for each buffer, and fewer if the counts of the buffers
+    ///   stand one after the other, as the first Take left them.
     #[inline(always)]
     pub fn step(&mut self, client: ClientId, call: Call) -> Result<Reply, StepFault>
         ensures answer { IfOk result (λ reply.
@@ -442,12 +441,12 @@ impl Core {
 
     /// Takes calls in order, each as `step` does, and answers their replies in this order.
     ///
-    /// Where a call is not taken, it answers the replies so far and why that call was not taken.
-    /// The calls before it stand, and none after it was tried. It is `HistoryFull` exactly where as
-    /// many events were made as may be when that call comes, and else `NoMemory`. `NoMemory` without
-    /// a reply may also say that there was no room for the replies, which is made before the first
-    /// call. The reader of each tracker that a reply tells of is then to be taken, beside those that
-    /// were before. It costs the sum of the steps.
+    /// At a fault it answers the replies so far and the fault. The calls before it stand, and none
+    /// after it was tried. The fault is `HistoryFull` exactly if as many events were made as the limit
+    /// allows when that call comes, otherwise `NoMemory`. `NoMemory` without a reply may also say that
+    /// there was no room for the replies, which is made before the first call. The reader of each
+    /// tracker that a reply names can then be taken, beside those from before. Costs the sum of the
+    /// steps.
     pub fn run(
         &mut self,
         alloc: Global,
@@ -488,8 +487,8 @@ impl Core {
         Ok(replies)
     }
 
-    /// The reader of the tracker with this id: `Some` once for each that a reply told of, and else
-    /// `None`. It takes no memory, and costs a binary search among all trackers that were made.
+    /// The reader of the tracker with this id: `Some` once for each that a reply named, otherwise
+    /// `None`. Takes no memory, and costs a binary search among all trackers ever made.
     pub fn take_tracker(&mut self, id: TrackerId) -> Option<Tracker>
         ensures tracker { result ≡ (if is_untaken self.old.trackers.untaken id
             then Some (reader_of self.old.trackers id) else None) }

@@ -24,7 +24,8 @@ use sm_names::{Call, ClientId, Product, Refusal, Reply};
 
 // ---- the clients
 
-// Join is made as nobody, and any other call by a client that joined; so is the receiver.
+// Whether a client is unknown: a Join is made as client 0, any other call by a client that joined, and a
+// gift goes to one that joined.
 #[inline(always)]
 fn is_unknown(core: &Core, client: ClientId, call: &Call, traits: &Traits) -> bool
     requires { Describes call.now traits.now }
@@ -43,7 +44,7 @@ fn is_unknown(core: &Core, client: ClientId, call: &Call, traits: &Traits) -> bo
     }
 }
 
-// Nothing is given to a shut client, and it acquires nothing.
+// Whether a gift goes to a shut client, or a shut client would acquire something.
 #[inline(always)]
 fn is_shut_out(core: &Core, client: ClientId, traits: &Traits) -> bool
     ensures { result ≡ ((is_acquired_in traits.now.makes && (readings_of core.now).is_shut client)
@@ -56,7 +57,7 @@ fn is_shut_out(core: &Core, client: ClientId, traits: &Traits) -> bool
     is_acquired(traits.makes) && core.is_shut(client) || is_receiver_shut
 }
 
-// Why the call is refused for the sake of the clients, if it is.
+// Why the call is refused because of its clients, if it is.
 #[inline(always)]
 fn refusal_of_clients(
     core: &Core,
@@ -80,7 +81,7 @@ fn refusal_of_clients(
 
 // ---- what is named
 
-// What is answered for the sake of the end or the handle that the call names, if anything is.
+// What is answered because of the end or the handle that the call names, if anything is.
 #[inline(always)]
 fn answer_of_named(
     core: &Core,
@@ -140,7 +141,7 @@ fn opens_too_many(core: &Core, on: Named, node: Option<&Node>) -> bool
     }
 }
 
-// As many nodes or collections are kept, trackers wait or handles are open as may be.
+// The limit of nodes, collections, trackers or handles that the call meets, if it meets one.
 #[inline(always)]
 fn limit_met(core: &Core, traits: &Traits, node: Option<&Node>) -> Option<Reply>
     requires { option_and_then (end_in core.now) (key_in traits.now.on)

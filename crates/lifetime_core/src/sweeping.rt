@@ -68,7 +68,7 @@ pub(crate) fn attach(trackers: &mut Trackers, tracking: Option<Waiting>) -> Resu
     }
 }
 
-/// Takes the tracker out again that was attached just now, if one was. It takes no memory.
+/// Undoes the attach of this tracker, if there is one. Takes no memory.
 pub(crate) fn detach(trackers: &mut Trackers, tracking: Option<Waiting>)
     requires { (before : TrackerTable) × GainsTracker before tracking trackers.old }
     ensures { (before : TrackerTable) →
@@ -79,8 +79,8 @@ pub(crate) fn detach(trackers: &mut Trackers, tracking: Option<Waiting>)
     }
 }
 
-/// Where trackers may be due: in the collection that was changed, and where none was, in that of the
-/// new tracker, if it is due at once: one test.
+/// The collection in which trackers may be due: the one that was changed; if none was, that of the new
+/// tracker, if it is due at once. Costs at most one test.
 #[inline(always)]
 pub(crate) fn place_to_sweep(
     changed: Option<CollectionId>,
@@ -102,9 +102,9 @@ pub(crate) fn place_to_sweep(
     }
 }
 
-/// Fires the trackers that are due at this event, all of which are filed under this collection: where
-/// there is none, none is due. It takes no memory, and costs what the trackers' own sweep of one
-/// collection costs, and a constant where no tracker waits at all.
+/// Fires the trackers that are due at this event, all of which concern this collection; without one, none
+/// is due. Takes no memory, and costs what the trackers' own sweep of one collection costs, O(1) if no
+/// tracker waits at all.
 #[inline(always)]
 pub(crate) fn sweep(
     trackers: &mut Trackers,

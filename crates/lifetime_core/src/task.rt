@@ -53,8 +53,8 @@ fn birth(core: &Core, client: ClientId, call: &Call, collection: CollectionId) -
     })
 }
 
-// What is asked of the collection where a handle of one of its buffers is dropped. The buffer may be
-// home after the last one. Where another one stays open, nothing changes.
+// What a dropped handle does to the collection of its buffer: nothing if another one of this buffer and
+// strength stays open; otherwise the buffer may come home.
 #[inline(always)]
 fn dropped(core: &Core, buffer: BufferName, strength: Strength) -> Option<Task>
     ensures work { work_in result ≡ drop_at core.now buffer strength }
@@ -183,8 +183,8 @@ pub(crate) fn task_of(
     }
 }
 
-/// Makes the task's change, if it has one, with all that this forces. Where the call dropped a handle,
-/// only its own buffer can be home by that.
+/// Makes the task's change, if it has one, with all that this forces. A dropped handle
+/// can bring only its own buffer home.
 ///
 /// `NoMemory` where memory is refused; then the forest and the pool are as they were.
 #[inline(always)]
@@ -242,8 +242,8 @@ fn spend(forest: &mut Forest, end: Option<NodeKey>)
     }
 }
 
-/// Puts an end where the event puts it, and forgets what is over then. It takes no memory, and costs
-/// what `forget_over` does.
+/// Puts the end where the event puts it, and removes the nodes that are then no longer kept. Takes no
+/// memory, and costs what `forget_over` costs.
 #[inline(always)]
 pub(crate) fn put_end(forest: &mut Forest, task: &Option<Task>, carried: Option<Place>)
     requires task { CanFinish forest.old task.now }

@@ -7,6 +7,7 @@ use Rattle.sm_names.specs.declared.keys.NodeKey.{NodeKey}
 use Rattle.sm_names.specs.declared.messages.Call.{Call}
 use Rattle.sm_names.specs.declared.messages.Reply.{Reply}
 use Rattle.sm_names.specs.declared.outcomes.Refusal.{Refusal}
+use Rattle.sm_names.specs.declared.rules.TheConstants.{MAX_NODE_TRACKERS}
 use Rattle.sm_names.specs.Answers.{IsAnswer, OpenEnd, answer, answers_first, effect, key_told}
 use Rattle.sm_names.specs.Elements.{In}
 use Rattle.sm_names.specs.Sameness.{same_key}
@@ -112,7 +113,7 @@ tracker_room f sound id (Change.Effect key effect) may =
     all_on (has_tracker_room key effect) (collection_or_new f id).nodes (each effect refl)
   where
     small : (n : Node) → In n (collection_or_new f id).nodes → effect ≡ Effect.Tracked → key ≡ n.key → (o : Option Node) → node_at f key ≡ o →
-        option_map_or (λ (m : Node). m.collection == id && not m.gone) o false ≡ true → nat_lt n.trackers 64 ≡ true
+        option_map_or (λ (m : Node). m.collection == id && not m.gone) o false ≡ true → nat_lt n.trackers MAX_NODE_TRACKERS ≡ true
     small n n_in is same None at there = cc
     small n n_in is same (Some m) at there =
         let ours : m.collection ≡ id = eqb-true m.collection id (and_left (m.collection == id) (not m.gone) there) in

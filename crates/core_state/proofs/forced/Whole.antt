@@ -12,6 +12,7 @@ use Rattle.sm_names.specs.declared.outcomes.Cause.{Cause}
 use Rattle.sm_names.specs.declared.outcomes.Fault.{Fault}
 use Rattle.sm_names.specs.declared.outcomes.Misuse.{Misuse}
 use Rattle.sm_names.specs.declared.outcomes.Refusal.{Refusal}
+use Rattle.sm_names.specs.declared.rules.TheConstants.{MAX_NODE_TRACKERS}
 use Rattle.sm_names.specs.Answers.{OpenEnd, answer, closing, effect, makes_node, new_key, of_end}
 use Rattle.sm_names.specs.Bounds.{Bound}
 use Rattle.sm_names.specs.Marks.{took_effect}
@@ -154,7 +155,7 @@ module _ (limits : Bound) (s : State) (client : ℕ) (call : Call) (asked : Repl
       key_of call ≡ Some key → new_key asked ≡ None →
       ((k : NodeKey) → released_by (Change.Effect key effect) ≡ Some k → spent_by call asked ≡ Some k) →
       ((k : NodeKey) (n : Node) → Change.Effect key effect ≡ Change.Effect k Effect.Tracked → node_at s.forest k ≡ Some n →
-      n.trackers < 64) →
+      n.trackers < MAX_NODE_TRACKERS) →
       (w : Work) → at_node s.forest key (λ n. Change.Effect key effect) ≡ Some w → Well s call asked w
   effect_well key effect stands_so alive going is none releases tracks w work =
       let on = on_node key stands_so alive going is in
@@ -300,19 +301,19 @@ drop_well limits s client buffer strength known w work =
       births = refl;
     })
 
--- a node on which one more tracker is made has fewer than 64
+-- a node on which one more tracker is made has fewer than `MAX_NODE_TRACKERS`
 few_trackers : (limits : Bound) (s : State) (client : ℕ) (key : NodeKey) (id : ℕ) →
     Known limits s client (Call.TrackNode key) (Reply.Tracker id) →
-    (n : Node) → node_at s.forest key ≡ Some n → n.trackers < 64
+    (n : Node) → node_at s.forest key ≡ Some n → n.trackers < MAX_NODE_TRACKERS
 few_trackers limits s client key id known n at =
     let all = took_effect_all limits (readings_of s) client no_key (Call.TrackNode key) (Reply.Tracker id) refl refl known.told in
     let named_so : Named s (Call.TrackNode key) (Reply.Tracker id) key =
     named limits s client no_key (Call.TrackNode key) (Reply.Tracker id) key known.told refl refl in
     let same : named_so.node ≡ n = some_is (sym named_so.at ∙ at) in
     let unspent : is_spent n.end ≡ false = subst (λ (m : Node). is_spent m.end ≡ false) same named_so.unspent in
-    let none : when (nat_le 64 n.trackers) (Reply.Misused Misuse.TooManyNodeTrackers) ≡ None =
+    let none : when (nat_le MAX_NODE_TRACKERS n.trackers) (Reply.Misused Misuse.TooManyNodeTrackers) ≡ None =
     rw (read_end s key n at unspent) at all.no_misuse in
-    leb-false 64 n.trackers (not_met (nat_le 64 n.trackers) (Reply.Misused Misuse.TooManyNodeTrackers) none)
+    leb-false MAX_NODE_TRACKERS n.trackers (not_met (nat_le MAX_NODE_TRACKERS n.trackers) (Reply.Misused Misuse.TooManyNodeTrackers) none)
 
 -- what a call that was answered Done changes
 done_well : (limits : Bound) (s : State) (client : ℕ) (call : Call) → Known limits s client call Reply.Done → (w : Work) →
@@ -355,6 +356,6 @@ well limits s client (Call.TrackNode key) (Reply.Tracker id) known w work =
     cc) (λ k n is at. few k n is at) w work
   where
     few : (k : NodeKey) (n : Node) → Change.Effect key Effect.Tracked ≡ Change.Effect k Effect.Tracked → node_at s.forest k ≡ Some n →
-        n.trackers < 64
+        n.trackers < MAX_NODE_TRACKERS
     few k n is at = let same : key ≡ k = cc in few_trackers limits s client key id known n (rw same at)
 well limits s client _ _ known w work = none_some work

@@ -14,6 +14,7 @@ use Rattle.sm_names.specs.declared.messages.Reply.{Reply}
 use Rattle.sm_names.specs.declared.outcomes.Buffers.{Buffers}
 use Rattle.sm_names.specs.declared.outcomes.Cause.{Cause}
 use Rattle.sm_names.specs.declared.outcomes.Failure.{Failure}
+use Rattle.sm_names.specs.declared.rules.TheConstants.{MAX_BUFFERS}
 use Rattle.sm_names.specs.Answers.{IsAnswer, set_of, strength_of}
 use Rattle.sm_names.specs.Births.{Birth, births, birth_of, collection_in, AreTogether}
 use Rattle.sm_names.specs.Bounds.{Bound}
@@ -78,7 +79,7 @@ module _ (pool : ℕ) (limits : Bound) where
             let fits' : initial_failure pool (standing pool before c) (asked (members before c)) ≡ None =
             subst (λ (k : ℕ). initial_failure pool (standing pool before k) (asked (members before k)) ≡ None) same fits in
             let none : (v.count == 0) ≡ false =
-            second_false (not (some_strong_live (members before c))) (v.count == 0) (nat_lt 64 v.count)
+            second_false (not (some_strong_live (members before c))) (v.count == 0) (nat_lt MAX_BUFFERS v.count)
             (is_none (places pool (pages_of v.size) v.count (standing pool before c).held)) Failure.NoStrong Failure.NoBuffers
             Failure.TooManyBuffers Failure.PoolFull fits' in
             let is_it : asked (members before c) ≡ w = cc in

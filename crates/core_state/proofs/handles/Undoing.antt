@@ -17,6 +17,7 @@ use Rattle.event_laws.proofs.HandleEventLaws.{idle_gains, idle_loses, idle_opens
 use Rattle.buffer_holds.specs.Changes.{Sets}
 use Rattle.buffer_holds.specs.declared.fault.HoldFault.{HoldFault}
 use Rattle.buffer_holds.specs.Counts.{Counts, of, moving_count, total}
+use Rattle.core_state.specs.declared.hands.TheConstants.{SET_BITS}
 use Rattle.core_state.specs.Hands.{MovesHandles, Opens, collects_handle, is_the, is_in_set_below}
 use Rattle.core_state.specs.State.{counts_of}
 use Rattle.core_state.proofs.handles.Opening.{same_counts, up, down, still, one_hold, one_kind, of-le-total}
@@ -59,33 +60,33 @@ unmoved none neither goes = let same = goes.adds_up in let n = ap one_if none in
 
 -- a number of 64 bits has no bit but those below the 64th
 all_below : (collection : ℕ) (strength : Strength) (set : ℕ) → set < 2 ^ 64 → (b : BufferName) (s : Strength) →
-    (collection == b.collection && (same_strength strength s && bit_at set b.index == 1)) ≡ is_in_set_below collection strength set 64 b s
+    (collection == b.collection && (same_strength strength s && bit_at set b.index == 1)) ≡ is_in_set_below collection strength set SET_BITS b s
 all_below collection strength set fits b s =
-    ap (λ t. collection == b.collection && (same_strength strength s && t)) (by (cases_lt b.index 64))
+    ap (λ t. collection == b.collection && (same_strength strength s && t)) (by (cases_lt b.index SET_BITS))
   where
-    by : (b.index < 64) ⊎ (64 ≤ b.index) → (bit_at set b.index == 1) ≡ (bit_at set b.index == 1 && nat_lt b.index 64)
+    by : (b.index < SET_BITS) ⊎ (SET_BITS ≤ b.index) → (bit_at set b.index == 1) ≡ (bit_at set b.index == 1 && nat_lt b.index SET_BITS)
     by (inl below) = grind (arith, common_steps)
-    by (inr above) = let none : bit_at set b.index ≡ 0 = bit_at_above set 64 b.index fits above in rw none refl
+    by (inr above) = let none : bit_at set b.index ≡ 0 = bit_at_above set SET_BITS b.index fits above in rw none refl
 
 module _ (client : ℕ) (key : NodeKey) (collection : ℕ) (strength : Strength) (set : ℕ) (fits : set < 2 ^ 64) where
   -- a Take opens one on each buffer of its set
-  pub moves_taken : (old new : Counts) → Opens old new client (is_in_set_below collection strength set 64) →
+  pub moves_taken : (old new : Counts) → Opens old new client (is_in_set_below collection strength set SET_BITS) →
       MovesHandles old new (Called client (Reply.Taken collection strength set) (Call.Take key))
   moves_taken old new opened = record {
-    each = λ c b s. goes_up (client == c && is_in_set_below collection strength set 64 b s) _ (or_false _
+    each = λ c b s. goes_up (client == c && is_in_set_below collection strength set SET_BITS b s) _ (or_false _
         ∙ ap (λ t. client == c && t) (all_below collection strength set fits b s)) (opened.counts c b s);
     in_parcels = λ b s. goes_not (opened.parcels b s);
-    in_all = λ b s. goes_up (is_in_set_below collection strength set 64 b s) _ (all_below collection strength set fits b s) (opened.totals b s);
+    in_all = λ b s. goes_up (is_in_set_below collection strength set SET_BITS b s) _ (all_below collection strength set fits b s) (opened.totals b s);
   }
 
   -- and no other
   pub taken_opens : (old new : Counts) → MovesHandles old new (Called client (Reply.Taken collection strength set) (Call.Take key)) →
-      Opens old new client (is_in_set_below collection strength set 64)
+      Opens old new client (is_in_set_below collection strength set SET_BITS)
   taken_opens old new moves = record {
-    counts = λ c b s. gained (client == c && is_in_set_below collection strength set 64 b s) _ (or_false _
+    counts = λ c b s. gained (client == c && is_in_set_below collection strength set SET_BITS b s) _ (or_false _
         ∙ ap (λ t. client == c && t) (all_below collection strength set fits b s)) (moves.each c b s);
     parcels = λ b s. neither (moves.in_parcels b s);
-    totals = λ b s. gained (is_in_set_below collection strength set 64 b s) _ (all_below collection strength set fits b s) (moves.in_all b s);
+    totals = λ b s. gained (is_in_set_below collection strength set SET_BITS b s) _ (all_below collection strength set fits b s) (moves.in_all b s);
   }
 
 -- ---- one handle

@@ -9,6 +9,7 @@ use Rattle.sm_names.specs.declared.keys.NodeKey.{NodeKey}
 use Rattle.sm_names.specs.declared.keys.Strength.{Strength}
 use Rattle.sm_names.specs.declared.outcomes.Buffers.{Buffers}
 use Rattle.sm_names.specs.declared.outcomes.Failure.{Failure}
+use Rattle.sm_names.specs.declared.rules.TheConstants.{MAX_BUFFERS}
 use Rattle.sm_names.specs.Births.{Birth}
 use Rattle.sm_names.specs.Bounds.{Bound}
 use Rattle.sm_names.specs.Changes.{without_gone}
@@ -83,7 +84,7 @@ module _ (pool : ℕ) (s : Standing) (other : List Interval) where
           λ i. option_and_then (λ root. when (not root.allocated && is_ready root.key s.members) (outcome root.key (first_some (
           when (not (some_strong_live s.members)) Failure.NoStrong
           ∷ when (want.count == 0) Failure.NoBuffers
-          ∷ when (nat_lt 64 want.count) Failure.TooManyBuffers
+          ∷ when (nat_lt MAX_BUFFERS want.count) Failure.TooManyBuffers
           ∷ when (is_none (room i)) Failure.PoolFull
           ∷ [])))) (root_left s.members)
       from (Some b) e = at_root (root_left s.members) refl (ap is_some e)

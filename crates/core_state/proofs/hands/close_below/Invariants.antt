@@ -1,11 +1,12 @@
 use Rattle.std.proofs.Common.{◌≡◌, ◌≤◌}
 use Rattle.buffer_holds.specs.Counts.{Counts}
+use Rattle.core_state.specs.declared.hands.TheConstants.{SET_BITS}
 use Rattle.core_state.specs.Hands.{Opens, is_in_set_below}
 use Rattle.core_state.proofs.hands.close_below.Given as goal
 
 -- the handles from the end on are closed
 abbrev pub invariant-loop-end : goal.invariant-loop-end
-invariant-loop-end l = (l.end ≤ 64) × (l.holds.limit ≡ l.fn.holds.limit)
+invariant-loop-end l = (l.end ≤ SET_BITS) × (l.holds.limit ≡ l.fn.holds.limit)
     × ((before : Counts) → Opens before l.fn.holds l.client (is_in_set_below l.collection l.strength l.set l.fn.end) →
     Opens before l.holds l.client (is_in_set_below l.collection l.strength l.set l.end))
 

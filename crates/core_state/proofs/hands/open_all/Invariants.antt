@@ -1,11 +1,12 @@
 use Rattle.std.proofs.Common.{◌≡◌, ◌≤◌, ◌-◌}
+use Rattle.core_state.specs.declared.hands.TheConstants.{SET_BITS}
 use Rattle.core_state.specs.Hands.{Opens, is_in_set_below}
 use Rattle.core_state.proofs.hands.open_all.Given as goal
 
 -- the handles below the end are open
 abbrev pub invariant-loop-end : goal.invariant-loop-end
-invariant-loop-end l = (l.end ≤ 64) × (l.holds.limit ≡ l.fn.holds.limit) ×
+invariant-loop-end l = (l.end ≤ SET_BITS) × (l.holds.limit ≡ l.fn.holds.limit) ×
     Opens l.fn.holds l.holds l.client (is_in_set_below l.collection l.strength l.set l.end)
 
 abbrev pub decreases-loop-end : goal.decreases-loop-end
-decreases-loop-end l = 64 - l.end
+decreases-loop-end l = SET_BITS - l.end
