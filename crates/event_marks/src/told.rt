@@ -110,7 +110,8 @@ fn copy_before(core: &Core, client: ClientId, call: &Call) -> Result<Option<Befo
 
 /// A copy of the collection, or an empty one if it is not there.
 fn copy_or_empty(core: &Core, alloc: Global, id: CollectionId) -> Result<Snapshot, NoMemory>
-    ensures value { IfOk result (λ scene. collection_of scene ≡ collection_or_new core.now.forest id) }
+    ensures value { IfOk result (λ scene.
+        collection_of scene ≡ collection_or_new core.now.forest id) }
     ensures sound { IfOk result (λ scene. IsSound (collection_of scene)) }
 {
     let Some(copied) = core.collection(id)? else {
@@ -121,7 +122,8 @@ fn copy_or_empty(core: &Core, alloc: Global, id: CollectionId) -> Result<Snapsho
 
 /// A collection without nodes.
 fn empty(alloc: Global, id: CollectionId) -> Snapshot
-    ensures value { collection_of result ≡ record { id = id; nodes = []; buffers = None; held = [] } }
+    ensures value { collection_of result
+        ≡ record { id = id; nodes = []; buffers = None; held = [] } }
     ensures sound { IsSound (collection_of result) }
 {
     Snapshot {
@@ -140,10 +142,12 @@ fn walk(
     reply: &Reply,
 ) -> Result<Vec<Moment>, AllocError>
     requires room { leaves_tracker_room before.change before.scene.nodes.items ≡ true }
-    requires sound { IsSound (changed before.change (unwrap_or (new_key reply.now) no_key) (collection_of before.scene)) }
-    ensures { IfOk result (λ moments. StagesOf core.now.pool (total core.now.holds) before.others.items
-        before.change (collection_of before.scene)
-        (changed before.change (unwrap_or (new_key reply.now) no_key) (collection_of before.scene)) (map stage_of moments.items)) }
+    requires sound { IsSound (changed before.change (unwrap_or (new_key reply.now) no_key)
+        (collection_of before.scene)) }
+    ensures { IfOk result (λ moments. StagesOf core.now.pool (total core.now.holds)
+        before.others.items before.change (collection_of before.scene)
+        (changed before.change (unwrap_or (new_key reply.now) no_key) (collection_of before.scene))
+        (map stage_of moments.items)) }
 {
     let Before {
         change,
@@ -157,7 +161,8 @@ fn walk(
 
 /// The moment of the loss that the change itself is, if it is one.
 fn own_moment(alloc: Global, change: &Change, scene: &Snapshot) -> Result<Vec<Moment>, AllocError>
-    ensures { IfOk result (λ moments. map stage_of moments.items ≡ own_stage change.now (collection_of scene.now)) }
+    ensures { IfOk result (λ moments. map stage_of moments.items
+        ≡ own_stage change.now (collection_of scene.now)) }
 {
     let mut moments = Vec::new(alloc);
     if let Change::Loss(origin, cause) = *change {
