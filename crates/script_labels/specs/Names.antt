@@ -35,25 +35,25 @@ abbrev pub no_names : Names
 no_names = record { clients = []; nodes = []; trackers = [] }
 
 -- the client of this label
-abbrev pub client_of : Names → Label → Option ℕ
-client_of names label = lookup (λ other. same_label other label) names.clients
+abbrev pub labelled_client : Names → Label → Option ℕ
+labelled_client names label = lookup (λ other. same_label other label) names.clients
 
 -- the node of this label, with its collection
-abbrev pub place_of : Names → Label → Option Place
-place_of names label = lookup (λ other. same_label other label) names.nodes
+abbrev pub labelled_place : Names → Label → Option Place
+labelled_place names label = lookup (λ other. same_label other label) names.nodes
 
 -- the node of this label
-abbrev pub node_of : Names → Label → Option NodeKey
-node_of names label = option_map (λ (p : Place). p.0) (place_of names label)
+abbrev pub labelled_node : Names → Label → Option NodeKey
+labelled_node names label = option_map (λ (p : Place). p.0) (labelled_place names label)
 
 -- the buffer of this label: of the collection of the node, whether there is such a buffer or not
-abbrev pub buffer_of : Names → BufferLabel → Option BufferName
-buffer_of names label =
-    option_map (λ (p : Place). record { collection = p.1; index = label.index }) (place_of names label.node)
+abbrev pub labelled_buffer : Names → BufferLabel → Option BufferName
+labelled_buffer names label =
+    option_map (λ (p : Place). record { collection = p.1; index = label.index }) (labelled_place names label.node)
 
 -- the tracker of this label
-abbrev pub tracker_of : Names → Label → Option ℕ
-tracker_of names label = lookup (λ other. same_label other label) names.trackers
+abbrev pub labelled_tracker : Names → Label → Option ℕ
+labelled_tracker names label = lookup (λ other. same_label other label) names.trackers
 
 -- the first label that was given to what passes the test, where the newest stand first
 abbrev pub first_label : {A : Type 0} → (A → Bool) → List (A × Label) → Option Label
@@ -77,49 +77,49 @@ label_of_tracker names tracker =
     first_label (λ other. other == tracker) (map (λ (t : Label × ℕ). (t.1, t.0)) names.trackers)
 
 -- one more client
-abbrev pub with_client : Names → Label → ℕ → Names
-with_client names label client = record names { clients = (label, client) ∷ names.clients }
+abbrev pub with_labelled_client : Names → Label → ℕ → Names
+with_labelled_client names label client = record names { clients = (label, client) ∷ names.clients }
 
 -- one more label of a node
-abbrev pub with_node : Names → Label → NodeKey → ℕ → Names
-with_node names label node collection = record names { nodes = (label, (node, collection)) ∷ names.nodes }
+abbrev pub with_labelled_node : Names → Label → NodeKey → ℕ → Names
+with_labelled_node names label node collection = record names { nodes = (label, (node, collection)) ∷ names.nodes }
 
 -- one more tracker
-abbrev pub with_tracker : Names → Label → ℕ → Names
-with_tracker names label tracker = record names { trackers = (label, tracker) ∷ names.trackers }
+abbrev pub with_labelled_tracker : Names → Label → ℕ → Names
+with_labelled_tracker names label tracker = record names { trackers = (label, tracker) ∷ names.trackers }
 
 -- what labels stand for after the reply: a label is bound only where the call made what it is to stand for. An end that
 -- was collected gets one more label
 abbrev pub names_after : Names → Binds → Reply → Names
-names_after names (Binds.Client label) (Reply.Joined client) = with_client names label client
-names_after names (Binds.Node label) (Reply.Token node collection) = with_node names label node collection
-names_after names (Binds.Node label) (Reply.Collected node kind collection) = with_node names label node collection
-names_after names (Binds.Tracker label) (Reply.Tracker tracker) = with_tracker names label tracker
+names_after names (Binds.Client label) (Reply.Joined client) = with_labelled_client names label client
+names_after names (Binds.Node label) (Reply.Token node collection) = with_labelled_node names label node collection
+names_after names (Binds.Node label) (Reply.Collected node kind collection) = with_labelled_node names label node collection
+names_after names (Binds.Tracker label) (Reply.Tracker tracker) = with_labelled_tracker names label tracker
 names_after names _ _ = names
 
 -- the act, for a node whose label is still free
 abbrev pub for_new : Names → Label → Act → Option Act
-for_new names label act = if is_some (node_of names label) then None else Some act
+for_new names label act = if is_some (labelled_node names label) then None else Some act
 
 -- the act, for a tracker whose label is still free
 abbrev pub for_tracker : Names → Label → Act → Option Act
-for_tracker names label act = if is_some (tracker_of names label) then None else Some act
+for_tracker names label act = if is_some (labelled_tracker names label) then None else Some act
 
 -- what the labels stand for that a call is made on
 abbrev pub object_named : Names → Object Label BufferLabel → Option (Object NodeKey BufferName)
 object_named names Object.Nothing = Some Object.Nothing
-object_named names (Object.Node node) = option_map Object.Node (node_of names node)
-object_named names (Object.Buffer buffer) = option_map Object.Buffer (buffer_of names buffer)
+object_named names (Object.Node node) = option_map Object.Node (labelled_node names node)
+object_named names (Object.Buffer buffer) = option_map Object.Buffer (labelled_buffer names buffer)
 
 -- what else the call says, by the clients that labels stand for
 abbrev pub argument_named : Names → Argument Label → Option (Argument ℕ)
 argument_named names Argument.Nothing = Some Argument.Nothing
-argument_named names (Argument.Client to) = option_map Argument.Client (client_of names to)
+argument_named names (Argument.Client to) = option_map Argument.Client (labelled_client names to)
 argument_named names (Argument.Children children) = Some (Argument.Children children)
 argument_named names (Argument.Constraints constraints) = Some (Argument.Constraints constraints)
 argument_named names (Argument.Most most) = Some (Argument.Most most)
 argument_named names (Argument.Strength strength) = Some (Argument.Strength strength)
-argument_named names (Argument.Gift strength to) = option_map (Argument.Gift strength) (client_of names to)
+argument_named names (Argument.Gift strength to) = option_map (Argument.Gift strength) (labelled_client names to)
 
 -- the call that is asked for
 abbrev pub call_named : Names → Request Label BufferLabel → Option Call
@@ -144,10 +144,10 @@ ask_by names client r =
 abbrev pub act_of : Names → Line → Option Act
 act_of names Line.Nothing = Some Act.Nothing
 act_of names (Line.Join client) =
-    if is_some (client_of names client) then None else Some (Act.Ask 0 Call.Join (Binds.Client client))
-act_of names (Line.Ask client request) = option_and_then (λ c. ask_by names c request) (client_of names client)
+    if is_some (labelled_client names client) then None else Some (Act.Ask 0 Call.Join (Binds.Client client))
+act_of names (Line.Ask client request) = option_and_then (λ c. ask_by names c request) (labelled_client names client)
 act_of names (Line.Poll client tracker) =
-    option_and_then (λ c. option_map Act.Poll (tracker_of names tracker)) (client_of names client)
+    option_and_then (λ c. option_map Act.Poll (labelled_tracker names tracker)) (labelled_client names client)
 act_of names (Line.Show view) = Some (Act.Show view)
 
 -- what the bytes of a line ask for, without its end; a bad line asks for nothing that is known

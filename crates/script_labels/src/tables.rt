@@ -2,7 +2,7 @@
 ghost use Rattle.std.specs.Prelude.{◌≡◌, OnOk, Some, None, if◌then◌else◌};
 ghost use Rattle.std.specs.HashMap.{get};
 ghost use Rattle.std.specs.Option.{option_map_or};
-ghost use Rattle.script_labels.specs.Names.{Names, act_of, buffer_of, client_of, label_of_node, label_of_root, label_of_tracker, names_after, no_names, node_of, tracker_of, with_client, with_node, with_tracker, for_new, for_tracker, act_binding, argument_named, ask_by, call_named, object_named};
+ghost use Rattle.script_labels.specs.Names.{Names, act_of, labelled_buffer, labelled_client, label_of_node, label_of_root, label_of_tracker, names_after, no_names, labelled_node, labelled_tracker, with_labelled_client, with_labelled_node, with_labelled_tracker, for_new, for_tracker, act_binding, argument_named, ask_by, call_named, object_named};
 ghost use Rattle.script_labels.specs.Tables.{Keeps};
 
 use crate::act::{Act, Binds};
@@ -45,14 +45,14 @@ impl Tables {
 
     /// The client of this label, if it stands for one. Takes a look into a table.
     pub fn client(&self, label: Label) -> Option<ClientId>
-        ensures { (names : Names) → Keeps self.now names → result ≡ client_of names label }
+        ensures { (names : Names) → Keeps self.now names → result ≡ labelled_client names label }
     {
         self.clients.get(&label).copied()
     }
 
     /// The node of this label, if it stands for one. Takes a look into a table.
     pub fn node(&self, label: Label) -> Option<NodeKey>
-        ensures { (names : Names) → Keeps self.now names → result ≡ node_of names label }
+        ensures { (names : Names) → Keeps self.now names → result ≡ labelled_node names label }
     {
         match self.nodes.get(&label) {
             Some((node, _)) => Some(*node),
@@ -62,7 +62,7 @@ impl Tables {
 
     // The buffer of this label.
     fn buffer(&self, label: BufferLabel) -> Option<BufferName>
-        ensures { (names : Names) → Keeps self.now names → result ≡ buffer_of names label }
+        ensures { (names : Names) → Keeps self.now names → result ≡ labelled_buffer names label }
     {
         match self.nodes.get(&label.node) {
             Some((_, collection)) => Some(BufferName {
@@ -75,7 +75,7 @@ impl Tables {
 
     /// The tracker of this label, if it stands for one. Takes a look into a table.
     pub fn tracker(&self, label: Label) -> Option<TrackerId>
-        ensures { (names : Names) → Keeps self.now names → result ≡ tracker_of names label }
+        ensures { (names : Names) → Keeps self.now names → result ≡ labelled_tracker names label }
     {
         self.trackers.get(&label).copied()
     }
@@ -106,7 +106,7 @@ impl Tables {
     // Lets the label stand for a client.
     fn bind_client(&mut self, label: Label, client: ClientId) -> Result<(), AllocError>
         ensures { OnOk result ((names : Names) → Keeps self.old names →
-            Keeps self.new (with_client names label client)) }
+            Keeps self.new (with_labelled_client names label client)) }
     {
         self.clients.insert(label, client)?;
         Ok(())
@@ -121,7 +121,7 @@ impl Tables {
         collection: CollectionId,
     ) -> Result<(), AllocError>
         ensures { OnOk result ((names : Names) → Keeps self.old names →
-            Keeps self.new (with_node names label node collection)) }
+            Keeps self.new (with_labelled_node names label node collection)) }
     {
         self.nodes.insert(label, (node, collection))?;
         name_once(&mut self.births, node, label)?;
@@ -132,7 +132,7 @@ impl Tables {
     // Lets the label stand for a tracker.
     fn bind_tracker(&mut self, label: Label, tracker: TrackerId) -> Result<(), AllocError>
         ensures { OnOk result ((names : Names) → Keeps self.old names →
-            Keeps self.new (with_tracker names label tracker)) }
+            Keeps self.new (with_labelled_tracker names label tracker)) }
     {
         self.trackers.insert(label, tracker)?;
         name_once(&mut self.tracked, tracker, label)?;

@@ -6,7 +6,7 @@ use Rattle.script_labels.specs.declared.act.Binds.{Binds}
 use Rattle.sm_script.specs.declared.session.Session.{Session}
 use Rattle.script_labels.specs.declared.stop.Stop.{Stop}
 use Rattle.script_labels.specs.Names.{act_in}
-use Rattle.sm_script.specs.Scenes.{Scene, Gives}
+use Rattle.sm_script.specs.Scenes.{Scene, ActGives}
 use Rattle.sm_script.specs.Sessions.{IsAt, Advances, Gains, IsStopped}
 
 -- an act of a line answers the line, where nothing was there before its text
@@ -21,7 +21,7 @@ gains-answer old new line before after act scene good empty gains =
       answers = record {
         act = act;
         good = good;
-        gives = subst (λ t. Gives old.core.pool scene act t gains.next) (sym text) gains.gives;
+        gives = subst (λ t. ActGives old.core.pool scene act t gains.next) (sym text) gains.gives;
       };
       is_at = gains.is_at;
     }

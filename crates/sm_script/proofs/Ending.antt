@@ -3,7 +3,7 @@ use Rattle.std.proofs.Common.{◌≡◌, ℕ, List, sym, ap, ◌∙◌, Option}
 use Rattle.std.specs.Prelude.{Ok, Err, Result}
 use Rattle.sm_script.specs.declared.fault.ScriptFault.{ScriptFault}
 use Rattle.sm_script.specs.Endings.{Ends, ending_status, fault_line}
-use Rattle.sm_script.specs.Faults.{fault_status}
+use Rattle.sm_script.specs.Faults.{script_fault_status}
 use Rattle.sm_script.specs.Runs.{Runs}
 use Rattle.script_lines.proofs.Telling.{tells_nothing}
 use Rattle.script_lines.specs.Written.{WritesPart}
@@ -21,7 +21,8 @@ module _ (setting : Setting) (left_before left old new : Option (List ℕ)) (out
   }
 
   -- a run that stopped
-  pub ends_by : (before after : Option (List ℕ)) (fault : ScriptFault) (status : ℕ) → outcome ≡ Err fault → status ≡ fault_status fault →
+  pub ends_by : (before after : Option (List ℕ)) (fault : ScriptFault) (status : ℕ) → outcome ≡ Err fault →
+      status ≡ script_fault_status fault →
       WritesPart before after (fault_line fault) → Ends setting left_before left old new before after status
   ends_by before after fault status is status_is told = record {
     outcome = outcome;

@@ -1,7 +1,7 @@
 -- What a program that runs a script leaves.
 use Rattle.std.specs.Prelude.{◌≡◌, ℕ, List, [], ◌∷◌, ◌++◌, Option, Ok, Err, Result}
 use Rattle.sm_script.specs.declared.fault.ScriptFault.{ScriptFault}
-use Rattle.sm_script.specs.Faults.{fault_status, fault_text}
+use Rattle.sm_script.specs.Faults.{script_fault_status, script_fault_text}
 use Rattle.sm_script.specs.Runs.{Runs}
 use Rattle.script_lines.specs.Written.{WritesPart}
 use Rattle.sm_script.specs.Scenes.{Setting}
@@ -9,11 +9,11 @@ use Rattle.sm_script.specs.Scenes.{Setting}
 -- the status that the program ends with: 0 where the run came to the end of the script
 abbrev pub ending_status : Result (Unit {0}) ScriptFault → ℕ
 ending_status (Ok done) = 0
-ending_status (Err fault) = fault_status fault
+ending_status (Err fault) = script_fault_status fault
 
 -- what is told of a fault: its text, in one line
 abbrev pub fault_line : ScriptFault → List ℕ
-fault_line fault = fault_text fault ++ 10 ∷ []
+fault_line fault = script_fault_text fault ++ 10 ∷ []
 
 -- what is told of the outcome: of a run that came to the end nothing
 abbrev pub ending_line : Result (Unit {0}) ScriptFault → List ℕ

@@ -39,20 +39,20 @@ IsPolled marks tracker text = (text ≡ codes "quiet")
 
 -- the act gives this text and leads to the next scene: a call gives the text of its reply, a poll that of what is read, and
 -- a view that of what is seen
-abbrev pub Gives : ℕ → Scene → Act → List ℕ → Scene → Type 0
-Gives pool scene Act.Nothing text next = (text ≡ []) × (next ≡ scene)
-Gives pool scene (Act.Ask client call binds) text next = (reply : Reply)
+abbrev pub ActGives : ℕ → Scene → Act → List ℕ → Scene → Type 0
+ActGives pool scene Act.Nothing text next = (text ≡ []) × (next ≡ scene)
+ActGives pool scene (Act.Ask client call binds) text next = (reply : Reply)
     × (text ≡ as_line (reply_text scene.names binds reply)) × (next ≡ next_scene scene client call binds reply)
-Gives pool scene (Act.Poll tracker) text next =
+ActGives pool scene (Act.Poll tracker) text next =
     (read : List ℕ) × IsPolled (timeline pool scene.history) tracker read × (text ≡ as_line read) × (next ≡ scene)
-Gives pool scene (Act.Show view) text next =
+ActGives pool scene (Act.Show view) text next =
     (text ≡ as_line (view_text pool (timeline pool scene.history) scene.names view)) × (next ≡ scene)
 
 -- the line is good, gives this text and leads to the next scene
 pub record Answers (pool : ℕ) (scene : Scene) (line text : List ℕ) (next : Scene) : Type 0 where
   pub act : Act
   pub good : act_in scene.names line ≡ Some act
-  pub gives : Gives pool scene act text next
+  pub gives : ActGives pool scene act text next
 
 -- the lines, one after another, give these texts and lead to the last scene
 pub data Plays (pool : ℕ) : Scene → List (List ℕ) → List ℕ → Scene → Type 0 where

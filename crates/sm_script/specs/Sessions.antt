@@ -9,7 +9,7 @@ use Rattle.script_labels.specs.declared.act.Binds.{Binds}
 use Rattle.sm_script.specs.declared.session.Session.{Session}
 use Rattle.script_labels.specs.declared.stop.Stop.{Stop}
 use Rattle.script_labels.specs.Names.{act_in}
-use Rattle.sm_script.specs.Scenes.{Scene, Answers, Gives}
+use Rattle.sm_script.specs.Scenes.{Scene, Answers, ActGives}
 use Rattle.script_labels.specs.Tables.{Keeps}
 
 -- the core shows the scene's history, and the tables keep its names
@@ -28,7 +28,7 @@ pub record Gains (old new : Session) (act : Act) (before after : List ℕ) (scen
   pub text : List ℕ
   pub gained : after ≡ before ++ text
   pub next : Scene
-  pub gives : Gives old.core.pool scene act text next
+  pub gives : ActGives old.core.pool scene act text next
   pub is_at : IsAt new next
 
 -- the line was answered with this text

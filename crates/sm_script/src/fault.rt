@@ -1,6 +1,6 @@
 //! Why a script stopped.
 ghost use Rattle.std.specs.Prelude.{◌≡◌};
-ghost use Rattle.sm_script.specs.Faults.{fault_status};
+ghost use Rattle.sm_script.specs.Faults.{script_fault_status};
 
 use std::fmt;
 use thiserror::Error;
@@ -24,7 +24,7 @@ impl ScriptFault {
     /// The status that a program ends with on this fault: 1 where reading or writing failed, 3 for a
     /// bad line, 4 where the history is full or memory was refused.
     pub fn status(self) -> u8
-        ensures { result ≡ fault_status self }
+        ensures { result ≡ script_fault_status self }
     {
         match self {
             ScriptFault::ReadFault | ScriptFault::WriteFault => 1,
@@ -36,9 +36,9 @@ impl ScriptFault {
 
 impl fmt::Display for ScriptFault {
     ghost use Rattle.std.specs.Prelude.{Some};
-    ghost use Rattle.sm_script.specs.Faults.{fault_text};
+    ghost use Rattle.sm_script.specs.Faults.{script_fault_text};
 
-    ghost output = { λ fault. Some (fault_text fault) };
+    ghost output = { λ fault. Some (script_fault_text fault) };
 
     fn fmt<W: fmt::Write>(&self, f: &mut fmt::Formatter<W>) -> fmt::Result {
         match self {
