@@ -34,6 +34,10 @@ is_taken_of under n = not n.gone && under n.key
 abbrev pub is_handed : List NodeKey → NodeKey → Node → Bool
 is_handed way above n = option_map_or (λ parent. same_key above parent && not (list_any (same_key n.key) way)) n.parent false
 
+-- the same, where a failure came up by these
+abbrev pub is_handed_past : (NodeKey → Bool) → NodeKey → Node → Bool
+is_handed_past passed above n = option_map_or (λ parent. same_key above parent && not (passed n.key)) n.parent false
+
 -- ---- who keeps what
 
 -- the node is live and strong

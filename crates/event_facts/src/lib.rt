@@ -5,6 +5,7 @@
 mod before;
 mod event;
 pub mod keepers;
+mod key_maps;
 pub mod pages;
 pub mod takings;
 pub mod waits;
@@ -12,3 +13,4 @@ pub mod ways;
 
 pub use before::Before;
 pub use event::{Event, fired_since, placed_by, take_event};
+pub use key_maps::{KeyMap, KeyRows, keys_of};

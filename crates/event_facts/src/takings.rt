@@ -1,16 +1,18 @@
 //! The nodes that a failure or an end takes, and who hands it on to whom.
-ghost use Rattle.std.specs.Prelude.{◌≡◌, ◌&&◌, not, IfOk, map};
-ghost use Rattle.std.specs.List.{filter, list_any};
-ghost use Rattle.sm_names.specs.Sameness.{same_key};
+ghost use Rattle.std.specs.Prelude.{◌≡◌, ◌++◌, ◌∷◌, [], if◌then◌else◌, IfOk, OnOk, map};
+ghost use Rattle.std.specs.List.{filter};
+ghost use Rattle.sm_names.specs.declared.keys.NodeKey.{NodeKey as Key};
 ghost use Rattle.forest_store.specs.declared.node.Node.{Node as Kept};
 ghost use Rattle.event_marks.specs.KeySets.{has};
-ghost use Rattle.event_facts.specs.Facts.{is_handed, is_lost_with, is_taken_of};
+ghost use Rattle.event_facts.specs.Facts.{is_handed, is_handed_past, is_lost_with, is_taken_of};
+ghost use Rattle.event_facts.specs.KeyMaps.{row_at};
 
+use crate::key_maps::{KeyRows, keys_of};
 use alloc_event::Node;
 use event_marks::key_sets::KeySet;
 use event_marks::node_sets::nodes_under;
 use sm_names::NodeKey;
-use std::alloc::AllocError;
+use std::alloc::{AllocError, Global};
 
 /// The nodes that are not gone, and are the top one or below it, by birth. Costs O(n log n) for n nodes.
 pub fn taken_under(nodes: &Vec<Node>, top: NodeKey) -> Result<Vec<Node>, AllocError>
@@ -43,38 +45,49 @@ fn takes(under: &KeySet, node: &Node) -> bool
     !node.gone && under.has(node.key)
 }
 
-/// The children of the node among those that are taken, by birth, but for those on the way up: the node
-/// hands on to them what takes it. Costs O(n) for n nodes, times the way.
-pub fn handed_on(
-    taken: &Vec<Node>,
-    above: NodeKey,
-    way: &[NodeKey],
-) -> Result<Vec<NodeKey>, AllocError>
-    ensures { IfOk result (λ below. below.items
+/// To which nodes each node hands on what takes it: its children among those that are taken, by birth, but
+/// for those on the way up. Costs O(n log n) for n nodes, those on the way among them.
+///
+/// `AllocError` where memory is refused.
+pub fn handed_on(taken: &Vec<Node>, way: &[NodeKey]) -> Result<KeyRows<NodeKey>, AllocError>
+    ensures { IfOk result (λ rows. (above : Key) → row_at rows above
         ≡ map (λ (n : Kept). n.key) (filter (is_handed way.now above) taken.now.items)) }
 {
-    let mut below = Vec::new(*taken.allocator());
-    for node in taken {
-        if hands_on(way, above, node) {
-            below.push(node.key)?;
-        }
-    }
-    Ok(below)
+    let passed = keys_of(*taken.allocator(), way)?;
+    let rows = handed_past(taken, &passed)?;
+    Ok(rows)
 }
 
-// Whether this is the node's parent, and the node is not on the way up.
-fn hands_on(way: &[NodeKey], above: NodeKey, node: &Node) -> bool
-    ensures { result ≡ is_handed way.now above node.now }
+// The same, where a failure came up by these.
+fn handed_past(taken: &Vec<Node>, passed: &KeySet) -> Result<KeyRows<NodeKey>, AllocError>
+    ensures { IfOk result (λ rows. (above : Key) → row_at rows above
+        ≡ map (λ (n : Kept). n.key) (filter (is_handed_past (has passed.now) above) taken.now.items)) }
+{
+    let alloc = *taken.allocator();
+    let mut rows = KeyRows::new(alloc);
+    for node in taken {
+        hand_on(&mut rows, alloc, passed, node)?;
+    }
+    Ok(rows)
+}
+
+// Puts the node behind the others that its parent hands on to, unless a failure came up by it.
+fn hand_on(
+    rows: &mut KeyRows<NodeKey>,
+    alloc: Global,
+    passed: &KeySet,
+    node: &Node,
+) -> Result<(), AllocError>
+    ensures { OnOk result ((above : Key) → row_at rows.new above ≡ row_at rows.old above
+        ++ (if is_handed_past (has passed.now) above node.now then node.now.key ∷ [] else [])) }
 {
     match node.parent {
-        Some(parent) => above == parent && !is_on(way, node.key),
-        None => false,
+        Some(parent) => {
+            if passed.has(node.key) {
+                return Ok(());
+            }
+            rows.add(alloc, parent, node.key)
+        }
+        None => Ok(()),
     }
-}
-
-// Whether the key is on the way.
-fn is_on(way: &[NodeKey], key: NodeKey) -> bool
-    ensures { result ≡ list_any (same_key key) way.now }
-{
-    way.iter().any(|other| key == *other)
 }

@@ -195,6 +195,10 @@ handing_text names above below =
     let told = joined (codes "  down    " ∷ name_text names above ∷ codes " >" ∷ flat_map (node_text names) below ∷ codes "\n" ∷ []) in
     if length below == 0 then [] else told
 
+-- what this node hands on to, where each hands on to these
+abbrev pub handed_by : Names → (NodeKey → List NodeKey) → Node → List ℕ
+handed_by names row above = handing_text names above.key (row above.key)
+
 -- what this node hands on to, of those that are taken
 abbrev pub handed_text : Names → List NodeKey → List Node → Node → List ℕ
 handed_text names way taken above =

@@ -1,7 +1,7 @@
 //! What clients and ends are called.
 ghost use Rattle.std.specs.Prelude.{◌≡◌, ℕ, OnOk};
 ghost use Rattle.script_tales.specs.Called.{Calls, client_label, last_label};
-ghost use Rattle.script_labels.specs.Names.{Names, names_after, no_names, with_client, with_node};
+ghost use Rattle.script_labels.specs.Names.{Names, names_after, no_names, with_labelled_client, with_labelled_node};
 
 use script_labels::Binds;
 use script_lines::Label;
@@ -44,7 +44,7 @@ impl Labels {
     // From now on the client is called so.
     fn call_client(&mut self, client: ClientId, label: Label) -> Result<(), AllocError>
         ensures { OnOk result ((names : Names) → Calls self.old names →
-            Calls self.new (with_client names label client)) }
+            Calls self.new (with_labelled_client names label client)) }
     {
         self.clients.insert(client, label)?;
         Ok(())
@@ -53,7 +53,7 @@ impl Labels {
     // From now on the node is called so.
     fn call_node(&mut self, node: NodeKey, label: Label) -> Result<(), AllocError>
         ensures { OnOk result ((names : Names) (collection : ℕ) → Calls self.old names →
-            Calls self.new (with_node names label node collection)) }
+            Calls self.new (with_labelled_node names label node collection)) }
     {
         self.nodes.insert(node, label)?;
         Ok(())

@@ -3,10 +3,12 @@ ghost use Rattle.std.specs.Prelude.{◌≡◌, ◌++◌, [], OnOk};
 ghost use Rattle.std.specs.List.{flat_map};
 ghost use Rattle.script_labels.specs.Names.{Names};
 ghost use Rattle.script_labels.specs.Tables.{Keeps};
-ghost use Rattle.script_tales.specs.LossTexts.{below_text, camped_text, down_text, end_text, failed_text, failure_text, fault_text, few_text, full_text, handed_text, handing_text, last_of, least_text, loss_text, many_text, next_above, size_in, small_text, stop_text, up_text, way_text, why_text};
+ghost use Rattle.event_facts.specs.KeyMaps.{row_at};
+ghost use Rattle.script_tales.specs.LossTexts.{below_text, camped_text, down_text, end_text, failed_text, failure_text, fault_text, few_text, full_text, handed_by, handing_text, last_of, least_text, loss_text, many_text, next_above, size_in, small_text, stop_text, up_text, way_text, why_text};
 
 use crate::words::{PAGE, misuse_words, push_name, push_nodes, shown};
 use alloc_event::{Node, Snapshot};
+use event_facts::KeyRows;
 use event_facts::takings::{handed_on, taken_under};
 use event_facts::ways::{Stop, stop_at, way_up};
 use event_marks::demand::{TotalDemand, reserved, total_demand};
@@ -364,38 +366,24 @@ fn push_down(
         text.new.items ≡ text.old.items ++ down_text names nodes.now.items top way.now) }
 {
     let taken = taken_under(nodes, top)?;
-    push_handings(text, tables, &taken, way)
+    let rows = handed_on(&taken, way)?;
+    push_handings(text, tables, &taken, &rows)
 }
 
 // Puts a line behind what is there for each of the nodes that are taken and hand it on.
 fn push_handings(
     text: &mut Vec<u8>,
     tables: &Tables,
-    taken: &Vec<Node>,
-    way: &[NodeKey],
+    taken: &[Node],
+    rows: &KeyRows<NodeKey>,
 ) -> Result<(), AllocError>
     ensures { OnOk result ((names : Names) → Keeps tables.now names → text.new.items
-        ≡ text.old.items ++ flat_map (handed_text names way.now taken.now.items) taken.now.items) }
+        ≡ text.old.items ++ flat_map (handed_by names (row_at rows.now)) taken.now) }
 {
     for above in taken {
-        push_handed(text, tables, taken, way, above)?;
+        push_handing(text, tables, above.key, rows.row(above.key))?;
     }
     Ok(())
-}
-
-// Puts a line behind what is there of what this node hands on to, of those that are taken.
-fn push_handed(
-    text: &mut Vec<u8>,
-    tables: &Tables,
-    taken: &Vec<Node>,
-    way: &[NodeKey],
-    above: &Node,
-) -> Result<(), AllocError>
-    ensures { OnOk result ((names : Names) → Keeps tables.now names → text.new.items
-        ≡ text.old.items ++ handed_text names way.now taken.now.items above.now) }
-{
-    let below = handed_on(taken, above.key, way)?;
-    push_handing(text, tables, above.key, &below)
 }
 
 // Puts a line behind what is there of a node and those that it hands on to, if there are some.

@@ -233,8 +233,8 @@ impl Teller {
     }
 
     /// Puts a mark behind what is there, in lines: what failed, ended or was allocated, and below it the
-    /// ways of the failure, or the buffers; these are the collection's buffers after it. Costs O(n^2) for
-    /// n nodes, and the text.
+    /// ways of the failure, or the buffers; these are the collection's buffers after it. Costs
+    /// O(n log n) for n nodes, and the text.
     pub fn push_mark(
         &self,
         moment: &Moment,

@@ -1,9 +1,14 @@
-use Rattle.std.proofs.Common.{arith}
-use Rattle.std.proofs.lemmas.Grind.{common_steps}
-use Rattle.std.proofs.lemmas.List.{map-append}
-use Rattle.std.proofs.lemmas.List.Elements.{filter-append}
+use Rattle.std.proofs.Common.{◌∙◌, ◌&&◌, not, false, map}
+use Rattle.std.specs.List.{filter}
+use Rattle.std.specs.Option.{option_map_or}
+use Rattle.sm_names.specs.Sameness.{same_key}
+use Rattle.forest_store.specs.declared.node.Node.{Node}
 use Rattle.event_facts.proofs.takings.handed_on.Goals as goal
 
--- one more comes last, or is left out
-pub loop-node-preserved : goal.loop-node-preserved
-loop-node-preserved c = grind (arith, common_steps, map-append, filter-append)
+-- those by which a failure came up are those on the way
+pub returns : goal.returns
+returns c = λ above.
+    c.in_ok-rows.ensures above
+    ∙ (λ i. map (λ (n : Node). n.key)
+    (filter (λ (n : Node). option_map_or (λ parent. same_key above parent && not (c.in_ok-passed.ensures n.key i)) n.parent false)
+    c.args.taken.now.items))
