@@ -1,17 +1,21 @@
 //! The boxes of nodes in the language of Graphviz.
-ghost use Rattle.std.specs.Prelude.{◌≡◌, ◌++◌, OnOk};
+ghost use Rattle.std.specs.Prelude.{◌≡◌, ◌++◌, List, OnOk};
 ghost use Rattle.std.specs.List.{flat_map};
+ghost use Rattle.sm_names.specs.declared.keys.NodeKey.{NodeKey as Key};
+ghost use Rattle.event_facts.specs.KeyMaps.{HasKeys};
 ghost use Rattle.script_labels.specs.Names.{Names};
 ghost use Rattle.script_labels.specs.Tables.{Keeps};
 ghost use Rattle.script_tales.specs.Called.{Calls};
 ghost use Rattle.picture_dot.specs.DotPictures.{asked_line, border_text, box_head, box_lines, box_text, look_text, width_text};
 
 use alloc_event::Node;
+use event_facts::keys_of;
+use event_marks::key_sets::KeySet;
 use script_labels::Tables;
 use script_lines::push;
 use script_pictures::colors::{edge_color, fill_color, ink_color};
 use script_pictures::{
-    Class, class_of, is_among, push_asked_line, push_kind_line, push_place, push_state_line,
+    Class, class_of, push_asked_line, push_kind_line, push_place, push_state_line,
 };
 use script_tales::Teller;
 use sm_names::{Constraints, NodeKey};
@@ -29,6 +33,21 @@ pub(crate) fn push_boxes(
         Calls teller.now.labels names → text.new.items ≡ text.old.items
         ++ flat_map (box_text names left.now) nodes.now) }
 {
+    let left = keys_of(*text.allocator(), left)?;
+    push_each_box(text, teller, nodes, &left)
+}
+
+// Puts a box for each of the nodes behind what is there, of which these left at the event.
+fn push_each_box(
+    text: &mut Vec<u8>,
+    teller: &Teller,
+    nodes: &[Node],
+    left: &KeySet,
+) -> Result<(), AllocError>
+    ensures { OnOk result ((names : Names) → Keeps teller.now.session.tables names →
+        Calls teller.now.labels names → (keys : List Key) → HasKeys left.now keys →
+        text.new.items ≡ text.old.items ++ flat_map (box_text names keys) nodes.now) }
+{
     for node in nodes {
         push_box(text, teller, node, left)?;
     }
@@ -41,11 +60,11 @@ fn push_box(
     text: &mut Vec<u8>,
     teller: &Teller,
     node: &Node,
-    left: &[NodeKey],
+    left: &KeySet,
 ) -> Result<(), AllocError>
     ensures { OnOk result ((names : Names) → Keeps teller.now.session.tables names →
-        Calls teller.now.labels names → text.new.items ≡ text.old.items
-        ++ box_text names left.now node.now) }
+        Calls teller.now.labels names → (keys : List Key) → HasKeys left.now keys →
+        text.new.items ≡ text.old.items ++ box_text names keys node.now) }
 {
     push_head(text, &teller.session.tables, node)?;
     push_lines(text, teller, node)?;
@@ -100,8 +119,9 @@ fn push_asked(text: &mut Vec<u8>, asked: Option<Constraints>) -> Result<(), Allo
 
 // Puts behind what is there how the box of a node looks.
 #[tactic(auto, unfolding(crate::specs::DotPictures::look_text))]
-fn push_look(text: &mut Vec<u8>, left: &[NodeKey], node: &Node) -> Result<(), AllocError>
-    ensures { OnOk result (text.new.items ≡ text.old.items ++ look_text left.now node.now) }
+fn push_look(text: &mut Vec<u8>, left: &KeySet, node: &Node) -> Result<(), AllocError>
+    ensures { OnOk result ((keys : List Key) → HasKeys left.now keys →
+        text.new.items ≡ text.old.items ++ look_text keys node.now) }
 {
     let class = class_of(node);
     push_parts(
@@ -132,10 +152,10 @@ fn border_of(class: Class) -> &'static str
 }
 
 // The end of a box, whose border is thick if its node is one of these.
-fn width_of(left: &[NodeKey], key: NodeKey) -> &'static str
-    ensures { result.now ≡ width_text left.now key }
+fn width_of(left: &KeySet, key: NodeKey) -> &'static str
+    ensures { (keys : List Key) → HasKeys left.now keys → result.now ≡ width_text keys key }
 {
-    if is_among(left, key) {
+    if left.has(key) {
         "\", penwidth=3];\n"
     } else {
         "\", penwidth=1.5];\n"

@@ -1,15 +1,18 @@
 //! The links of a tree in the language of Graphviz.
-ghost use Rattle.std.specs.Prelude.{◌≡◌, ◌++◌, IfOk, OnOk};
-ghost use Rattle.std.specs.List.{flat_map, list_any};
-ghost use Rattle.script_pictures.specs.Travels.{is_child_of as hangs_under};
-ghost use Rattle.picture_dot.specs.DotPictures.{arrow_text, begin_text, is_leaf as is_leaf_in, leaves_of as leaves_in, link_of, link_text, links_text, middle_of, parent_in, stop_words, table_link, table_link_of, dot_way_text};
+ghost use Rattle.std.specs.Prelude.{◌≡◌, ◌++◌, IfOk, List, OnOk};
+ghost use Rattle.std.specs.List.{flat_map};
+ghost use Rattle.forest_store.specs.declared.node.Node.{Node as Kept};
+ghost use Rattle.script_pictures.specs.declared.travel.Travel.{Travel as Link};
+ghost use Rattle.script_pictures.specs.Kin.{AreParents, FindsNodes};
+ghost use Rattle.script_pictures.specs.Travels.{FindsTravels};
+ghost use Rattle.picture_dot.specs.DotPictures.{arrow_text, begin_text, leaves_of as leaves_in, link_of, link_text, links_text, middle_of, parent_in, stop_words, table_link, table_link_of, dot_way_text};
 
 use crate::tables::has_table;
 use alloc_event::Node;
-use event_facts::ways::find;
+use event_facts::KeyMap;
+use event_marks::key_sets::KeySet;
 use script_lines::push;
-use script_pictures::{Travel, Tree, Way, way_of};
-use sm_names::NodeKey;
+use script_pictures::{Travel, Tree, Way, nodes_by_key, parents_among, way_of};
 use std::alloc::AllocError;
 use text_parts::{Part, push_parts};
 
@@ -18,22 +21,41 @@ use text_parts::{Part, push_parts};
 pub(crate) fn push_links(
     text: &mut Vec<u8>,
     tree: &Tree,
-    travels: &[Travel],
+    travels: &KeyMap<Travel>,
 ) -> Result<(), AllocError>
-    ensures { OnOk result (text.new.items
-        ≡ text.old.items ++ links_text travels.now tree.now) }
+    ensures { OnOk result ((links : List Link) → FindsTravels travels.now links →
+        text.new.items ≡ text.old.items ++ links_text links tree.now) }
 {
     push_node_links(text, &tree.nodes, travels)?;
     push_table_link(text, tree)
 }
 
 // Puts the link of each node to its parent behind what is there.
-fn push_node_links(text: &mut Vec<u8>, nodes: &[Node], travels: &[Travel]) -> Result<(), AllocError>
-    ensures { OnOk result (text.new.items
-        ≡ text.old.items ++ flat_map (link_of nodes.now travels.now) nodes.now) }
+fn push_node_links(
+    text: &mut Vec<u8>,
+    nodes: &Vec<Node>,
+    travels: &KeyMap<Travel>,
+) -> Result<(), AllocError>
+    ensures { OnOk result ((links : List Link) → FindsTravels travels.now links →
+        text.new.items ≡ text.old.items ++ flat_map (link_of nodes.now.items links) nodes.now.items) }
+{
+    let by_key = nodes_by_key(nodes)?;
+    push_each_link(text, nodes, &by_key, travels)
+}
+
+// Puts the link of each of these nodes to its parent behind what is there.
+fn push_each_link(
+    text: &mut Vec<u8>,
+    nodes: &[Node],
+    by_key: &KeyMap<Node>,
+    travels: &KeyMap<Travel>,
+) -> Result<(), AllocError>
+    ensures { OnOk result ((all : List Kept) → FindsNodes by_key.now all →
+        (links : List Link) → FindsTravels travels.now links →
+        text.new.items ≡ text.old.items ++ flat_map (link_of all links) nodes.now) }
 {
     for node in nodes {
-        push_link_of(text, nodes, node, travels)?;
+        push_link_of(text, by_key, node, travels)?;
     }
     Ok(())
 }
@@ -41,25 +63,26 @@ fn push_node_links(text: &mut Vec<u8>, nodes: &[Node], travels: &[Travel]) -> Re
 // Puts the link of the node to its parent behind what is there, if it has one.
 fn push_link_of(
     text: &mut Vec<u8>,
-    nodes: &[Node],
+    by_key: &KeyMap<Node>,
     node: &Node,
-    travels: &[Travel],
+    travels: &KeyMap<Travel>,
 ) -> Result<(), AllocError>
-    ensures { OnOk result (text.new.items
-        ≡ text.old.items ++ link_of nodes.now travels.now node.now) }
+    ensures { OnOk result ((all : List Kept) → FindsNodes by_key.now all →
+        (links : List Link) → FindsTravels travels.now links →
+        text.new.items ≡ text.old.items ++ link_of all links node.now) }
 {
-    match parent_of(nodes, node) {
+    match parent_of(by_key, node) {
         Some(above) => push_link(text, above.event, node, way_of(travels, node.key)),
         None => Ok(()),
     }
 }
 
 // The parent of the node, if it has one.
-fn parent_of(nodes: &[Node], node: &Node) -> Option<Node>
-    ensures { result ≡ parent_in nodes.now node.now }
+fn parent_of(by_key: &KeyMap<Node>, node: &Node) -> Option<Node>
+    ensures { (all : List Kept) → FindsNodes by_key.now all → result ≡ parent_in all node.now }
 {
     match node.parent {
-        Some(parent) => find(nodes, parent),
+        Some(parent) => by_key.get(parent).copied(),
         None => None,
     }
 }
@@ -184,35 +207,20 @@ fn middle(events: &[u64]) -> Option<u64>
 fn leaves_of(nodes: &Vec<Node>) -> Result<Vec<u64>, AllocError>
     ensures { IfOk result (λ leaves. leaves.items ≡ leaves_in nodes.now.items) }
 {
+    let parents = parents_among(nodes)?;
+    leaves_past(nodes, &parents)
+}
+
+// The events of the births of the nodes that are none of these, on which others hang.
+fn leaves_past(nodes: &Vec<Node>, parents: &KeySet) -> Result<Vec<u64>, AllocError>
+    ensures { IfOk result (λ leaves. AreParents parents.now nodes.now.items →
+        leaves.items ≡ leaves_in nodes.now.items) }
+{
     let mut leaves = Vec::new(*nodes.allocator());
     for node in nodes {
-        if is_leaf(nodes, node) {
+        if !parents.has(node.key) {
             leaves.push(node.event)?;
         }
     }
     Ok(leaves)
-}
-
-// Whether the node has no child among these.
-fn is_leaf(nodes: &[Node], node: &Node) -> bool
-    ensures { result ≡ is_leaf_in nodes.now node.now }
-{
-    !has_child(nodes, node.key)
-}
-
-// Whether the node with this key has a child among these.
-fn has_child(nodes: &[Node], key: NodeKey) -> bool
-    ensures { result ≡ list_any (hangs_under key) nodes.now }
-{
-    nodes.iter().any(|other| hangs_on(key, other))
-}
-
-// Whether the node hangs on the one with this key.
-fn hangs_on(above: NodeKey, node: &Node) -> bool
-    ensures { result ≡ hangs_under above node.now }
-{
-    match node.parent {
-        Some(parent) => above == parent,
-        None => false,
-    }
 }

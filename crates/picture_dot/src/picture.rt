@@ -1,18 +1,21 @@
 //! A picture in the language of Graphviz.
-ghost use Rattle.std.specs.Prelude.{◌≡◌, ◌++◌, OnOk};
+ghost use Rattle.std.specs.Prelude.{◌≡◌, ◌++◌, List, OnOk};
 ghost use Rattle.std.specs.List.{flat_map};
 ghost use Rattle.script_labels.specs.Names.{Names};
 ghost use Rattle.script_labels.specs.Tables.{Keeps};
 ghost use Rattle.script_tales.specs.Called.{Calls};
+ghost use Rattle.script_pictures.specs.declared.travel.Travel.{Travel as Link};
+ghost use Rattle.script_pictures.specs.Travels.{FindsTravels};
 ghost use Rattle.picture_dot.specs.DotPictures.{box_words, cluster_text, dot_text, dot_tree, firing_text, graph_foot, graph_head, graph_words, link_words, pool_words, rank_text, when_text};
 
 use crate::boxes::push_boxes;
 use crate::links::push_links;
 use crate::tables::{has_table, push_table_of};
+use event_facts::KeyMap;
 use lifetime_core::Core;
 use script_labels::{Stop, Tables};
 use script_lines::{push, push_number};
-use script_pictures::{Picture, Travel, Tree, push_header};
+use script_pictures::{Picture, Travel, Tree, push_header, travels_by_node};
 use script_tales::Teller;
 use sm_names::{ClientId, Fired};
 use std::alloc::AllocError;
@@ -20,8 +23,9 @@ use text_parts::{Part, push_parts};
 
 /// Puts the picture behind what is there, where the last event has this line.
 ///
-/// `NoMemory` where memory is refused. Costs O(n^2) for the n nodes of each tree, a look into a table for
-/// each label, and for each buffer a look-up for each client and strength.
+/// `NoMemory` where memory is refused. Costs O(n log n) for the n nodes of each tree and the n links along
+/// which failures went, a look into a table for each label, and for each buffer a look-up for each client
+/// and strength.
 #[tactic(auto, unfolding(crate::specs::DotPictures::dot_text))]
 pub fn push_dot(
     text: &mut Vec<u8>,
@@ -36,7 +40,8 @@ pub fn push_dot(
 {
     push_head(text, teller.session.core.events(), line)?;
     let clients = teller.session.core.clients()?;
-    push_trees(text, teller, &clients, picture)?;
+    let travels = travels_by_node(*text.allocator(), &picture.travels)?;
+    push_trees(text, teller, &clients, &picture.trees, &travels)?;
     push_foot(
         text,
         &teller.session.core,
@@ -92,15 +97,16 @@ fn push_trees(
     text: &mut Vec<u8>,
     teller: &Teller,
     clients: &Vec<ClientId>,
-    picture: &Picture,
+    trees: &[Tree],
+    travels: &KeyMap<Travel>,
 ) -> Result<(), AllocError>
     ensures { OnOk result ((names : Names) → Keeps teller.now.session.tables names →
-        Calls teller.now.labels names → text.new.items ≡ text.old.items
-        ++ flat_map (dot_tree teller.now.session.core names clients.now.items
-        picture.now.travels.items) picture.now.trees.items) }
+        Calls teller.now.labels names → (links : List Link) → FindsTravels travels.now links →
+        text.new.items ≡ text.old.items
+        ++ flat_map (dot_tree teller.now.session.core names clients.now.items links) trees.now) }
 {
-    for tree in &picture.trees {
-        push_tree(text, teller, clients, tree, &picture.travels)?;
+    for tree in trees {
+        push_tree(text, teller, clients, tree, travels)?;
     }
     Ok(())
 }
@@ -112,11 +118,12 @@ fn push_tree(
     teller: &Teller,
     clients: &Vec<ClientId>,
     tree: &Tree,
-    travels: &[Travel],
+    travels: &KeyMap<Travel>,
 ) -> Result<(), AllocError>
     ensures { OnOk result ((names : Names) → Keeps teller.now.session.tables names →
-        Calls teller.now.labels names → text.new.items ≡ text.old.items
-        ++ dot_tree teller.now.session.core names clients.now.items travels.now tree.now) }
+        Calls teller.now.labels names → (links : List Link) → FindsTravels travels.now links →
+        text.new.items ≡ text.old.items
+        ++ dot_tree teller.now.session.core names clients.now.items links tree.now) }
 {
     push_cluster(text, teller, clients, tree)?;
     push_links(text, tree, travels)

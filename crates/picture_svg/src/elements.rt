@@ -1,8 +1,35 @@
 //! The elements of a vector graphic.
+ghost use Rattle.std.specs.Prelude.{◌≡◌, ◌-◌, ◌++◌, codes, false, true, OnOk};
+ghost use Rattle.picture_svg.specs.Elements.{anchor_text, attribute, capped_product, capped_sum, circle_text, corner_text, look, look_of, paint_of, paint_text, rect_text, rounded_text, weight_text, words_text};
+
 use script_lines::push;
 use script_pictures::colors::{INK, RED};
 use std::alloc::AllocError;
 use text_parts::{Part, push_parts};
+
+// The margin of a picture.
+pub(crate) const MARGIN: u64 = 28;
+
+// The sum, or the greatest number. The numbers of a picture stay far below it.
+pub(crate) fn plus(a: u64, b: u64) -> u64
+    ensures { result ≡ capped_sum a b }
+{
+    a.saturating_add(b)
+}
+
+// The difference, or 0.
+pub(crate) fn minus(a: u64, b: u64) -> u64
+    ensures { result ≡ a - b }
+{
+    a.saturating_sub(b)
+}
+
+// The product, or the greatest number.
+pub(crate) fn times(a: u64, b: u64) -> u64
+    ensures { result ≡ capped_product a b }
+{
+    a.saturating_mul(b)
+}
 
 // How words look.
 #[derive(Clone, Copy)]
@@ -14,12 +41,16 @@ pub(crate) struct Style {
 }
 
 // Words of this size.
-pub(crate) fn plain(size: u64) -> Style {
+pub(crate) fn plain(size: u64) -> Style
+    ensures { look_of result ≡ look size false (codes "#222222") false }
+{
     colored(size, INK)
 }
 
 // Words of this size and colour.
-pub(crate) fn colored(size: u64, fill: &'static str) -> Style {
+pub(crate) fn colored(size: u64, fill: &'static str) -> Style
+    ensures { look_of result ≡ look size false fill.now false }
+{
     Style {
         size,
         bold: false,
@@ -29,7 +60,9 @@ pub(crate) fn colored(size: u64, fill: &'static str) -> Style {
 }
 
 // Bold words of this size and colour.
-pub(crate) fn bold(size: u64, fill: &'static str) -> Style {
+pub(crate) fn bold(size: u64, fill: &'static str) -> Style
+    ensures { look_of result ≡ look size true fill.now false }
+{
     Style {
         size,
         bold: true,
@@ -57,7 +90,9 @@ pub(crate) fn push_word<'a>(
     body: &mut Vec<u8>,
     name: &'a str,
     value: &'a str,
-) -> Result<(), AllocError> {
+) -> Result<(), AllocError>
+    ensures { OnOk result (body.new.items ≡ body.old.items ++ attribute name.now value.now) }
+{
     if value.is_empty() {
         return Ok(());
     }
@@ -73,14 +108,18 @@ pub(crate) fn push_word<'a>(
     )
 }
 
-// Puts words behind what is there.
+// Puts words behind what is there, at this place.
+#[tactic(auto, unfolding(crate::specs::Elements::words_text))]
 pub(crate) fn push_words(
     body: &mut Vec<u8>,
     x: u64,
     y: u64,
     style: Style,
     words: &[u8],
-) -> Result<(), AllocError> {
+) -> Result<(), AllocError>
+    ensures { OnOk result (body.new.items
+        ≡ body.old.items ++ words_text x y (look_of style) words.now) }
+{
     push_parts(
         body,
         &[
@@ -90,10 +129,10 @@ pub(crate) fn push_words(
             Part::Number(y),
             Part::Word("\" font-size=\""),
             Part::Number(style.size),
-            Part::Word(weight_of(style)),
+            Part::Word(weight_of(style.bold)),
             Part::Word(" fill=\""),
             Part::Word(style.fill),
-            Part::Word(anchor_of(style)),
+            Part::Word(anchor_of(style.middle)),
             Part::Bytes(words),
             Part::Word("</text>\n"),
         ],
@@ -101,8 +140,10 @@ pub(crate) fn push_words(
 }
 
 // The end of an attribute, and the weight of the words.
-fn weight_of(style: Style) -> &'static str {
-    if style.bold {
+fn weight_of(bold: bool) -> &'static str
+    ensures { result.now ≡ weight_text bold }
+{
+    if bold {
         "\" font-weight=\"bold\""
     } else {
         "\""
@@ -110,8 +151,10 @@ fn weight_of(style: Style) -> &'static str {
 }
 
 // The end of an attribute, where the words are anchored, and the end of the tag.
-fn anchor_of(style: Style) -> &'static str {
-    if style.middle {
+fn anchor_of(middle: bool) -> &'static str
+    ensures { result.now ≡ anchor_text middle }
+{
+    if middle {
         "\" text-anchor=\"middle\">"
     } else {
         "\">"
@@ -119,7 +162,21 @@ fn anchor_of(style: Style) -> &'static str {
 }
 
 // Puts a rectangle behind what is there.
-pub(crate) fn push_rect(body: &mut Vec<u8>, rect: &Rect) -> Result<(), AllocError> {
+#[tactic(auto, unfolding(crate::specs::Elements::rect_text))]
+pub(crate) fn push_rect(body: &mut Vec<u8>, rect: &Rect) -> Result<(), AllocError>
+    ensures { OnOk result (body.new.items ≡ body.old.items
+        ++ rect_text rect.now.x rect.now.y rect.now.width rect.now.height (paint_of rect.now)) }
+{
+    push_corner(body, rect)?;
+    push_paint(body, rect)
+}
+
+// Puts where a rectangle lies behind what is there.
+#[tactic(auto, unfolding(crate::specs::Elements::corner_text))]
+fn push_corner(body: &mut Vec<u8>, rect: &Rect) -> Result<(), AllocError>
+    ensures { OnOk result (body.new.items ≡ body.old.items
+        ++ corner_text rect.now.x rect.now.y rect.now.width rect.now.height) }
+{
     push_parts(
         body,
         &[
@@ -133,22 +190,15 @@ pub(crate) fn push_rect(body: &mut Vec<u8>, rect: &Rect) -> Result<(), AllocErro
             Part::Number(rect.height),
             Part::Word("\""),
         ],
-    )?;
-    push_look(body, rect)
+    )
 }
 
 // Puts how a rectangle looks behind what is there, and the end of it.
-fn push_look(body: &mut Vec<u8>, rect: &Rect) -> Result<(), AllocError> {
-    if 0 < rect.rounded {
-        push_parts(
-            body,
-            &[
-                Part::Word(" rx=\""),
-                Part::Number(rect.rounded),
-                Part::Word("\""),
-            ],
-        )?;
-    }
+#[tactic(auto, unfolding(crate::specs::Elements::paint_text))]
+fn push_paint(body: &mut Vec<u8>, rect: &Rect) -> Result<(), AllocError>
+    ensures { OnOk result (body.new.items ≡ body.old.items ++ paint_text (paint_of rect.now)) }
+{
+    push_rounded(body, rect.rounded)?;
     push_word(body, "fill", rect.fill)?;
     push_word(body, "stroke", rect.stroke)?;
     push_word(body, "stroke-width", rect.stroke_width)?;
@@ -156,8 +206,36 @@ fn push_look(body: &mut Vec<u8>, rect: &Rect) -> Result<(), AllocError> {
     push(body, "/>\n")
 }
 
+// Puts behind what is there how round the corners are, if they are.
+fn push_rounded(body: &mut Vec<u8>, rounded: u64) -> Result<(), AllocError>
+    ensures { OnOk result (body.new.items ≡ body.old.items ++ rounded_text rounded) }
+{
+    if 0 < rounded {
+        return push_parts(
+            body,
+            &[
+                Part::Word(" rx=\""),
+                Part::Number(rounded),
+                Part::Word("\""),
+            ],
+        );
+    }
+    Ok(())
+}
+
 // Puts a number in a circle behind what is there.
-pub(crate) fn push_step(body: &mut Vec<u8>, x: u64, y: u64, step: u64) -> Result<(), AllocError> {
+pub(crate) fn push_step(body: &mut Vec<u8>, x: u64, y: u64, step: u64) -> Result<(), AllocError>
+    ensures { OnOk result (body.new.items
+        ≡ body.old.items ++ circle_text x y (capped_sum y 4) step) }
+{
+    push_circle(body, x, y, plus(y, 4), step)
+}
+
+// Puts a number in a circle behind what is there, on the line of this row.
+#[tactic(auto, unfolding(crate::specs::Elements::circle_text))]
+fn push_circle(body: &mut Vec<u8>, x: u64, y: u64, below: u64, step: u64) -> Result<(), AllocError>
+    ensures { OnOk result (body.new.items ≡ body.old.items ++ circle_text x y below step) }
+{
     push_parts(
         body,
         &[
@@ -170,7 +248,7 @@ pub(crate) fn push_step(body: &mut Vec<u8>, x: u64, y: u64, step: u64) -> Result
             Part::Word("\"/>\n<text x=\""),
             Part::Number(x),
             Part::Word("\" y=\""),
-            Part::Number(y.saturating_add(4)),
+            Part::Number(below),
             Part::Word("\" font-size=\"12\" font-weight=\"bold\" fill=\""),
             Part::Word(RED),
             Part::Word("\" text-anchor=\"middle\">"),

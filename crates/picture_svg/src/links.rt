@@ -1,104 +1,203 @@
 //! The links of a tree as a vector graphic.
-use crate::elements::{push_step, push_word};
-use crate::layout::{Corner, GAP_Y, HEIGHT, Layout, minus, parent_place, plus};
+ghost use Rattle.std.specs.Prelude.{◌≡◌, ◌++◌, List, OnOk};
+ghost use Rattle.std.specs.List.{flat_map};
+ghost use Rattle.script_pictures.specs.declared.travel.Travel.{Travel as Step};
+ghost use Rattle.script_pictures.specs.Travels.{FindsTravels};
+ghost use Rattle.picture_svg.specs.Links.{arrow_text, bar_text, end_text, foot_of as foot_in, head_of as head_in, line_color, line_dashes, line_start, line_text, line_width, link_text, path_text, seat_link, stop_text, way_path};
+
+use crate::elements::{minus, plus, push_step, push_word};
+use crate::layout::{Corner, GAP_Y, HEIGHT, Seat};
 use alloc_event::Node;
+use event_facts::KeyMap;
 use script_lines::push;
 use script_pictures::colors::{GREY, INK, RED};
-use script_pictures::{Travel, Tree, Way, way_of};
+use script_pictures::{Travel, Way, way_of};
 use std::alloc::AllocError;
 use text_parts::{Part, push_parts};
 
-// Draws the links of a tree.
+// Draws the links of the nodes, in their order, where a box is so wide.
 pub(crate) fn push_links(
     body: &mut Vec<u8>,
-    tree: &Tree,
-    layout: &Layout,
+    seats: &[Seat],
     width: u64,
-    travels: &[Travel],
-) -> Result<(), AllocError> {
-    for at in 0..tree.nodes.len() {
-        if let Some((from, to)) = ends_of(&tree.nodes, &layout.corners, width, at) {
-            let node = &tree.nodes[at];
-            push_link(body, node, from, to, way_of(travels, node.key))?;
-        }
+    travels: &KeyMap<Travel>,
+) -> Result<(), AllocError>
+    ensures { OnOk result ((steps : List Step) → FindsTravels travels.now steps →
+        body.new.items ≡ body.old.items ++ flat_map (seat_link steps width) seats.now) }
+{
+    for seat in seats {
+        push_seat_link(body, seat, width, travels)?;
     }
     Ok(())
 }
 
-// Where the link of the node at this place begins and ends, if it has one.
-fn ends_of(nodes: &[Node], corners: &[Corner], width: u64, at: usize) -> Option<(Corner, Corner)> {
-    let above = corners.get(parent_place(nodes, at)?)?;
-    let below = corners.get(at)?;
-    let from = Corner {
-        x: plus(above.x, width / 2),
-        y: plus(above.y, HEIGHT),
-    };
-    let to = Corner {
-        x: plus(below.x, width / 2),
-        y: below.y,
-    };
-    Some((from, to))
+// Draws the link of the node, if it has one.
+#[tactic(auto, unfolding(crate::specs::Links::seat_link))]
+fn push_seat_link(
+    body: &mut Vec<u8>,
+    seat: &Seat,
+    width: u64,
+    travels: &KeyMap<Travel>,
+) -> Result<(), AllocError>
+    ensures { OnOk result ((steps : List Step) → FindsTravels travels.now steps →
+        body.new.items ≡ body.old.items ++ seat_link steps width seat.now) }
+{
+    match seat.above {
+        Some(above) => push_link(
+            body,
+            &seat.node,
+            foot_of(above, width),
+            head_of(seat.corner, width),
+            way_of(travels, seat.node.key),
+        ),
+        None => Ok(()),
+    }
+}
+
+// Where a link begins, below the middle of a box.
+fn foot_of(corner: Corner, width: u64) -> Corner
+    ensures { result ≡ foot_in width corner }
+{
+    Corner {
+        x: plus(corner.x, width / 2),
+        y: plus(corner.y, HEIGHT),
+    }
+}
+
+// Where a link ends, above the middle of a box.
+fn head_of(corner: Corner, width: u64) -> Corner
+    ensures { result ≡ head_in width corner }
+{
+    Corner {
+        x: plus(corner.x, width / 2),
+        y: corner.y,
+    }
 }
 
 // Draws a link from above to a node, and how a failure went along it.
+#[tactic(auto, unfolding(crate::specs::Links::link_text))]
 fn push_link(
     body: &mut Vec<u8>,
     node: &Node,
     from: Corner,
     to: Corner,
     way: Option<Way>,
-) -> Result<(), AllocError> {
+) -> Result<(), AllocError>
+    ensures { OnOk result (body.new.items ≡ body.old.items ++ link_text node.now from to way) }
+{
     push_way(body, from, to, way)?;
-    let (color, width) = look_of(way);
+    push_line(body, node, way)?;
+    push_end(body, to, way)
+}
+
+// Puts behind what is there how a link looks.
+#[tactic(auto, unfolding(crate::specs::Links::line_text))]
+fn push_line(body: &mut Vec<u8>, node: &Node, way: Option<Way>) -> Result<(), AllocError>
+    ensures { OnOk result (body.new.items ≡ body.old.items ++ line_text node.now way) }
+{
+    push_stroke(body, way)?;
+    push_word(body, "stroke-dasharray", dashes_of(node))
+}
+
+// Puts the colour and the width of a link behind what is there.
+#[tactic(auto, unfolding(crate::specs::Links::line_start))]
+fn push_stroke(body: &mut Vec<u8>, way: Option<Way>) -> Result<(), AllocError>
+    ensures { OnOk result (body.new.items ≡ body.old.items ++ line_start way) }
+{
     push_parts(
         body,
         &[
             Part::Word("\" fill=\"none\" stroke=\""),
-            Part::Word(color),
+            Part::Word(color_of(way)),
             Part::Word("\" stroke-width=\""),
-            Part::Word(width),
+            Part::Word(width_of(way)),
             Part::Word("\""),
         ],
-    )?;
-    push_word(
-        body,
-        "stroke-dasharray",
-        if node.attached { "7 5" } else { "" },
-    )?;
-    push_end(body, to, way)
+    )
 }
 
-// The colour and the width of a link.
-fn look_of(way: Option<Way>) -> (&'static str, &'static str) {
+// The colour of a link.
+fn color_of(way: Option<Way>) -> &'static str
+    ensures { result.now ≡ line_color way }
+{
     match way {
-        Some(Way::Up(_)) => (RED, "4"),
-        Some(Way::Down(_)) => (RED, "2"),
-        _ => (GREY, "1.5"),
+        Some(Way::Up(_)) => RED,
+        Some(Way::Down(_)) => RED,
+        Some(Way::Stop) => GREY,
+        None => GREY,
     }
 }
 
-// Draws the end of a link, and the step at which a failure went along it.
-fn push_end(body: &mut Vec<u8>, to: Corner, way: Option<Way>) -> Result<(), AllocError> {
+// The width of a link.
+fn width_of(way: Option<Way>) -> &'static str
+    ensures { result.now ≡ line_width way }
+{
     match way {
-        Some(Way::Up(step) | Way::Down(step)) => {
-            push(body, " marker-end=\"url(#a)\"/>\n")?;
-            push_step(body, to.x, plus(minus(to.y, GAP_Y / 2), 13), step)
-        }
-        Some(Way::Stop) => {
-            push(body, "/>\n")?;
-            push_stop(body, to)
-        }
+        Some(Way::Up(_)) => "4",
+        Some(Way::Down(_)) => "2",
+        Some(Way::Stop) => "1.5",
+        None => "1.5",
+    }
+}
+
+// The dashes of the link of a node.
+fn dashes_of(node: &Node) -> &'static str
+    ensures { result.now ≡ line_dashes node.now }
+{
+    if node.attached { "7 5" } else { "" }
+}
+
+// Draws the end of a link, and the step at which a failure went along it.
+fn push_end(body: &mut Vec<u8>, to: Corner, way: Option<Way>) -> Result<(), AllocError>
+    ensures { OnOk result (body.new.items ≡ body.old.items ++ end_text to way) }
+{
+    match way {
+        Some(Way::Up(step)) => push_arrow(body, to, step),
+        Some(Way::Down(step)) => push_arrow(body, to, step),
+        Some(Way::Stop) => push_bar(body, to),
         None => push(body, "/>\n"),
     }
 }
 
+// Draws the end of a link along which a failure went at this step.
+#[tactic(auto, unfolding(crate::specs::Links::arrow_text))]
+fn push_arrow(body: &mut Vec<u8>, to: Corner, step: u64) -> Result<(), AllocError>
+    ensures { OnOk result (body.new.items ≡ body.old.items ++ arrow_text to step) }
+{
+    push(body, " marker-end=\"url(#a)\"/>\n")?;
+    push_step(body, to.x, plus(minus(to.y, GAP_Y / 2), 13), step)
+}
+
+// Draws the end of a link at which a failure stopped.
+#[tactic(auto, unfolding(crate::specs::Links::bar_text))]
+fn push_bar(body: &mut Vec<u8>, to: Corner) -> Result<(), AllocError>
+    ensures { OnOk result (body.new.items ≡ body.old.items ++ bar_text to) }
+{
+    push(body, "/>\n")?;
+    push_stop(
+        body,
+        Corner {
+            x: minus(to.x, 16),
+            y: minus(to.y, 10),
+        },
+        plus(to.x, 16),
+        Corner {
+            x: plus(to.x, 22),
+            y: minus(to.y, 6),
+        },
+    )
+}
+
 // Puts the path of a link behind what is there, in the direction of a failure that went along it.
+#[tactic(auto, unfolding(crate::specs::Links::way_path))]
 fn push_way(
     body: &mut Vec<u8>,
     from: Corner,
     to: Corner,
     way: Option<Way>,
-) -> Result<(), AllocError> {
+) -> Result<(), AllocError>
+    ensures { OnOk result (body.new.items ≡ body.old.items ++ way_path from to way) }
+{
     let middle = minus(to.y, GAP_Y / 2);
     match way {
         Some(Way::Up(_)) => push_bends(body, to, middle, plus(from.x, 12), plus(from.y, 9)),
@@ -109,18 +208,23 @@ fn push_way(
             };
             push_bends(body, start, minus(middle, 12), to.x, minus(to.y, 9))
         }
-        _ => push_bends(body, from, middle, to.x, to.y),
+        Some(Way::Stop) => push_bends(body, from, middle, to.x, to.y),
+        None => push_bends(body, from, middle, to.x, to.y),
     }
 }
 
 // Puts a path behind what is there, from a corner down or up to a row, along it, and on to its end.
+#[tactic(auto, unfolding(crate::specs::Links::path_text))]
 fn push_bends(
     body: &mut Vec<u8>,
     start: Corner,
     middle: u64,
     x: u64,
     y: u64,
-) -> Result<(), AllocError> {
+) -> Result<(), AllocError>
+    ensures { OnOk result (body.new.items
+        ≡ body.old.items ++ path_text start.x start.y middle x y) }
+{
     push_parts(
         body,
         &[
@@ -138,23 +242,27 @@ fn push_bends(
     )
 }
 
-// Draws that a failure stopped at the node.
-fn push_stop(body: &mut Vec<u8>, to: Corner) -> Result<(), AllocError> {
+// Draws a bar from this corner to this column, and at the other corner that a failure stopped.
+#[tactic(auto, unfolding(crate::specs::Links::stop_text))]
+fn push_stop(body: &mut Vec<u8>, start: Corner, right: u64, words: Corner) -> Result<(), AllocError>
+    ensures { OnOk result (body.new.items
+        ≡ body.old.items ++ stop_text start.x start.y right words.x words.y) }
+{
     push_parts(
         body,
         &[
             Part::Word("<path d=\"M"),
-            Part::Number(minus(to.x, 16)),
+            Part::Number(start.x),
             Part::Word(" "),
-            Part::Number(minus(to.y, 10)),
+            Part::Number(start.y),
             Part::Word(" H"),
-            Part::Number(plus(to.x, 16)),
+            Part::Number(right),
             Part::Word("\" stroke=\""),
             Part::Word(INK),
             Part::Word("\" stroke-width=\"5\"/>\n<text x=\""),
-            Part::Number(plus(to.x, 22)),
+            Part::Number(words.x),
             Part::Word("\" y=\""),
-            Part::Number(minus(to.y, 6)),
+            Part::Number(words.y),
             Part::Word("\" font-size=\"12\" font-weight=\"bold\" fill=\""),
             Part::Word(INK),
             Part::Word("\">stops here</text>\n"),

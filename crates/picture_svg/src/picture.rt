@@ -1,184 +1,391 @@
 //! A picture as a vector graphic, laid out by the program itself.
+ghost use Rattle.std.specs.Prelude.{◌≡◌, ◌+◌, ◌++◌, codes, false, true, IfOk, OnOk, map};
+ghost use Rattle.std.specs.List.{flat_map, fold};
+ghost use Rattle.forest_store.specs.Forest.{held_by_page};
+ghost use Rattle.core_state.specs.Reads.{views_of};
+ghost use Rattle.script_labels.specs.Names.{Names};
+ghost use Rattle.script_labels.specs.Tables.{Keeps};
+ghost use Rattle.script_tales.specs.Called.{Calls};
+ghost use Rattle.picture_svg.specs.Elements.{look, look_of, rect_text};
+ghost use Rattle.picture_svg.specs.Trees.{line_items};
+ghost use Rattle.picture_svg.specs.SvgPictures.{all_trees, body_text, box_width as width_of_box, cell_name, cell_paint, fact_text, fires_bottom, fires_line, fires_text, frame_text, free_line_text, free_words, held_cell, held_text, height_of, last_column, legend_text, longest_of as longest_in, mark_look, marks_bottom, marks_text, node_tenths as tenths_of_node, page_width as width_of_page, pool_row, pool_text, right_of, sample_paint, sample_text, svg_text, title_text, told_text, trees_row, tree_tenths as tenths_of_tree, width_of};
+
+use crate::bars::Extent;
 use crate::box_lines::node_lines;
-use crate::elements::{Rect, Style, bold, colored, plain, push_rect, push_words};
-use crate::layout::{minus, plus, times};
-use crate::tree::{dashes_of, push_tree};
+use crate::elements::{
+    MARGIN, Rect, Style, bold, colored, minus, plain, plus, push_rect, push_words, times,
+};
+use crate::tree::{dashes_of, push_trees};
+use alloc_event::Node;
 use event_facts::fired_since;
-use script_labels::Stop;
+use script_labels::{Stop, Tables};
 use script_pictures::colors::{DEEP, EARTH, GREY, INK, RED, SAND, WHITE, edge_color, fill_color};
-use script_pictures::{Class, Picture, Tree, push_header};
+use script_pictures::{Class, Picture, ToldMark, Tree, push_header, travels_by_node};
 use script_tales::Teller;
 use script_tales::words::push_name;
 use sm_names::{Fired, HeldBuffer};
 use std::alloc::{AllocError, Global};
 use text_parts::{Part, push_parts};
 
-// The margin of a picture.
-pub(crate) const MARGIN: u64 = 28;
-
-// What was drawn so far: the elements, the first free row, and the last column. A box is so wide.
-#[derive(Drop)]
-pub(crate) struct Canvas {
-    pub(crate) body: Vec<u8>,
-    pub(crate) y: u64,
-    pub(crate) right: u64,
-    pub(crate) width: u64,
-}
-
-impl Canvas {
-    // The picture goes to this column at least.
-    pub(crate) fn widen(&mut self, right: u64) {
-        self.right = self.right.max(right);
-    }
-
-    // Puts a line of words below those of the event.
-    fn push_fact(&mut self, style: Style, words: &[u8]) -> Result<(), AllocError> {
-        push_words(&mut self.body, MARGIN, minus(self.y, 12), style, words)?;
-        self.y = plus(self.y, 18);
-        Ok(())
-    }
-}
-
-/// Puts the picture behind what is there, where the last event has this line.
+/// Puts the picture behind what is there, where the last event has this line: what the event did, the
+/// trees, the pool, and what the colours stand for.
 ///
-/// `NoMemory` where memory is refused. Costs O(n^2) for the n nodes of each tree, a look into a table for
-/// each label, and for each buffer a look-up for each client and strength.
+/// `NoMemory` where memory is refused. Costs O(n log n) for the n nodes of each tree and the n links along
+/// which failures went, a look into a table for each label, and for each buffer a look-up for each client
+/// and strength.
+#[tactic(auto, unfolding(crate::specs::SvgPictures::svg_text))]
 pub fn push_svg(
     text: &mut Vec<u8>,
     teller: &Teller,
     picture: &Picture,
     line: &[u8],
-) -> Result<(), Stop> {
-    let mut canvas = Canvas {
-        body: Vec::new(*text.allocator()),
-        y: MARGIN + 50,
-        right: 0,
-        width: box_width(teller, picture)?,
-    };
-    push_title(&mut canvas.body, teller.session.core.events(), line)?;
-    draw(&mut canvas, teller, picture)?;
-    push_frame(text, plus(canvas.right, MARGIN), canvas.y)?;
-    push_parts(text, &[Part::Bytes(&canvas.body), Part::Word("</svg>\n")])?;
+) -> Result<(), Stop>
+    ensures { OnOk result ((names : Names) → Keeps teller.now.session.tables names →
+        Calls teller.now.labels names → text.new.items ≡ text.old.items
+        ++ svg_text teller.now.session.core names line.now picture.now) }
+{
+    let mut body = Vec::new(*text.allocator());
+    let extent = push_body(&mut body, teller, picture, line)?;
+    push_frame(text, extent.right, extent.bottom)?;
+    push_framed(text, &body)?;
     Ok(())
 }
 
-// Draws all below the title.
-fn draw(canvas: &mut Canvas, teller: &Teller, picture: &Picture) -> Result<(), Stop> {
-    push_told(canvas, teller, picture)?;
+// Puts what stands in the frame behind what is there; answers the width and the height of the picture.
+#[tactic(auto, unfolding(crate::specs::SvgPictures::body_text))]
+fn push_body(
+    body: &mut Vec<u8>,
+    teller: &Teller,
+    picture: &Picture,
+    line: &[u8],
+) -> Result<Extent, Stop>
+    ensures text { OnOk result ((names : Names) → Keeps teller.now.session.tables names →
+        Calls teller.now.labels names → body.new.items ≡ body.old.items
+        ++ body_text teller.now.session.core names line.now picture.now) }
+    ensures bottom { IfOk result (λ extent. (names : Names) → Keeps teller.now.session.tables names →
+        Calls teller.now.labels names →
+        extent.bottom ≡ height_of teller.now.session.core names picture.now) }
+    ensures right { IfOk result (λ extent. (names : Names) → Keeps teller.now.session.tables names →
+        Calls teller.now.labels names →
+        extent.right ≡ width_of teller.now.session.core names picture.now) }
+{
+    push_title(body, teller.session.core.events(), line)?;
+    let row = push_told(body, teller, picture)?;
+    let trees = push_all_trees(body, teller, picture, row)?;
+    push_pool(body, teller, trees.bottom)?;
+    let legend = plus(trees.bottom, 44);
+    push_legend(body, legend)?;
+    Ok(Extent {
+        bottom: plus(legend, 14 + MARGIN),
+        right: plus(
+            right_column(teller.session.core.pages(), trees.right),
+            MARGIN,
+        ),
+    })
+}
+
+// The last column of the trees, which is this, of the pool, which has so many pages, and of the legend.
+fn right_column(pages: u32, trees: u64) -> u64
+    ensures { result ≡ right_of pages trees }
+{
+    let pool = plus(MARGIN + 60 + 170, times(page_width(pages), pages as u64));
+    trees.max(pool).max(MARGIN + 558 + 150)
+}
+
+// Draws the trees from this row on; answers the row below them, and their last column.
+#[tactic(auto, unfolding(crate::specs::SvgPictures::all_trees))]
+fn push_all_trees(
+    body: &mut Vec<u8>,
+    teller: &Teller,
+    picture: &Picture,
+    row: u64,
+) -> Result<Extent, Stop>
+    ensures text { OnOk result ((names : Names) → Keeps teller.now.session.tables names →
+        Calls teller.now.labels names → row ≡ trees_row teller.now.session.core picture.now →
+        body.new.items ≡ body.old.items ++ all_trees teller.now.session.core names picture.now) }
+    ensures bottom { IfOk result (λ extent. (names : Names) → Keeps teller.now.session.tables names →
+        Calls teller.now.labels names → row ≡ trees_row teller.now.session.core picture.now →
+        extent.bottom ≡ pool_row teller.now.session.core names picture.now) }
+    ensures right { IfOk result (λ extent. (names : Names) → Keeps teller.now.session.tables names →
+        Calls teller.now.labels names → row ≡ trees_row teller.now.session.core picture.now →
+        extent.right ≡ last_column teller.now.session.core names picture.now) }
+{
     let clients = teller.session.core.clients()?;
-    for tree in &picture.trees {
-        push_tree(canvas, teller, &clients, tree, &picture.travels)?;
-    }
-    push_pool(canvas, teller, teller.session.core.pages())?;
-    push_legend(canvas)?;
-    Ok(())
+    let travels = travels_by_node(*body.allocator(), &picture.travels)?;
+    let width = box_width(teller, &picture.trees)?;
+    let extent = push_trees(body, teller, &clients, &picture.trees, &travels, width, row)?;
+    Ok(extent)
+}
+
+// Puts these elements behind what is there, and the end of the picture.
+fn push_framed(text: &mut Vec<u8>, body: &Vec<u8>) -> Result<(), AllocError>
+    ensures { OnOk result (text.new.items
+        ≡ text.old.items ++ (body.now.items ++ codes "</svg>\n")) }
+{
+    push_parts(
+        text,
+        &[Part::Bytes(body.as_slice()), Part::Word("</svg>\n")],
+    )
 }
 
 // The width that a box needs: an even number, for the longest line of all boxes.
-fn box_width(teller: &Teller, picture: &Picture) -> Result<u64, AllocError> {
-    let mut tenths: u64 = 2000;
-    for tree in &picture.trees {
-        tenths = tenths.max(tree_width(teller, tree)?);
-    }
+#[tactic(auto, unfolding(crate::specs::SvgPictures::box_width))]
+fn box_width(teller: &Teller, trees: &[Tree]) -> Result<u64, AllocError>
+    ensures { IfOk result (λ width. (names : Names) → Keeps teller.now.session.tables names →
+        Calls teller.now.labels names → width ≡ width_of_box names trees.now) }
+{
+    let tenths = all_tenths(teller, trees)?;
     Ok(plus(tenths, 10) / 10 / 2 * 2)
 }
 
-// The width that the longest line of the tree's boxes needs, in tenths.
-fn tree_width(teller: &Teller, tree: &Tree) -> Result<u64, AllocError> {
-    let alloc = *tree.nodes.allocator();
-    let mut tenths: u64 = 0;
-    for node in &tree.nodes {
-        let mut name = Vec::new(alloc);
-        push_name(&mut name, &teller.session.tables, node.key)?;
-        tenths = tenths.max(plus(240, times(90, plus(name.len() as u64, 2))));
-        let longest = longest_of(&node_lines(alloc, teller, node)?);
-        tenths = tenths.max(plus(240, times(73, longest)));
+// The width that the longest line of all boxes needs, in tenths, and at least that of a narrow box.
+fn all_tenths(teller: &Teller, trees: &[Tree]) -> Result<u64, AllocError>
+    ensures { IfOk result (λ tenths. (names : Names) → Keeps teller.now.session.tables names →
+        Calls teller.now.labels names → tenths ≡ fold (tenths_of_tree names) 2000 trees.now) }
+{
+    let mut tenths: u64 = 2000;
+    for tree in trees {
+        tenths = tree_tenths(teller, tree, tenths)?;
     }
     Ok(tenths)
 }
 
-// The length of the longest of these lines.
-fn longest_of(lines: &[Vec<u8>]) -> u64 {
-    let mut longest = 0;
-    for line in lines {
-        longest = line.len().max(longest);
+// The width that the longest line of the tree's boxes needs, in tenths, or this one.
+fn tree_tenths(teller: &Teller, tree: &Tree, start: u64) -> Result<u64, AllocError>
+    ensures { IfOk result (λ tenths. (names : Names) → Keeps teller.now.session.tables names →
+        Calls teller.now.labels names → tenths ≡ tenths_of_tree names start tree.now) }
+{
+    let mut tenths = start;
+    for node in &tree.nodes {
+        tenths = node_tenths(*tree.nodes.allocator(), teller, node, tenths)?;
     }
-    longest as u64
+    Ok(tenths)
+}
+
+// The width that the longest line of the node's box needs, in tenths, or this one.
+fn node_tenths(alloc: Global, teller: &Teller, node: &Node, start: u64) -> Result<u64, AllocError>
+    ensures { IfOk result (λ tenths. (names : Names) → Keeps teller.now.session.tables names →
+        Calls teller.now.labels names → tenths ≡ tenths_of_node names start node.now) }
+{
+    let mut name = Vec::new(alloc);
+    push_name(&mut name, &teller.session.tables, node.key)?;
+    let lines = node_lines(alloc, teller, node)?;
+    let head = plus(240, times(90, plus(name.len() as u64, 2)));
+    let below = plus(240, times(73, longest_of(&lines)));
+    Ok(start.max(head).max(below))
+}
+
+// The length of the longest of these lines.
+fn longest_of(lines: &[Vec<u8>]) -> u64
+    ensures { result ≡ longest_in (map line_items lines.now) }
+{
+    let mut longest: u64 = 0;
+    for line in lines {
+        longest = longest.max(line.len() as u64);
+    }
+    longest
 }
 
 // Puts the event and its line behind what is there.
-fn push_title(body: &mut Vec<u8>, event: u64, line: &[u8]) -> Result<(), AllocError> {
+#[tactic(auto, unfolding(crate::specs::SvgPictures::title_text))]
+fn push_title(body: &mut Vec<u8>, event: u64, line: &[u8]) -> Result<(), AllocError>
+    ensures { OnOk result (body.new.items ≡ body.old.items ++ title_text event line.now) }
+{
     let mut title = Vec::new(*body.allocator());
     push_header(&mut title, event, line)?;
     push_words(body, MARGIN, MARGIN + 14, bold(18, INK), &title)
 }
 
-// Draws what the event did, in a line for each mark and each firing.
-fn push_told(canvas: &mut Canvas, teller: &Teller, picture: &Picture) -> Result<(), AllocError> {
-    for told in &picture.told {
-        let fill = if told.fails { DEEP } else { INK };
-        canvas.push_fact(colored(13, fill), &told.line)?;
+// Draws what the event did, in a line for each mark and each firing; answers the row of the trees.
+#[tactic(auto, unfolding(crate::specs::SvgPictures::told_text))]
+fn push_told(body: &mut Vec<u8>, teller: &Teller, picture: &Picture) -> Result<u64, AllocError>
+    ensures text { OnOk result ((names : Names) → Keeps teller.now.session.tables names →
+        body.new.items ≡ body.old.items ++ told_text teller.now.session.core names picture.now) }
+    ensures row { IfOk result (λ row. row ≡ trees_row teller.now.session.core picture.now) }
+{
+    let row = push_marks(body, &picture.told, MARGIN + 50)?;
+    let fired = fired_since(&teller.session.core, picture.fired);
+    let below = push_fires(body, &teller.session.tables, fired, row)?;
+    Ok(plus(below, 8))
+}
+
+// Draws these marks from this row on; answers the row below them.
+fn push_marks(body: &mut Vec<u8>, marks: &[ToldMark], row: u64) -> Result<u64, AllocError>
+    ensures text { OnOk result (body.new.items ≡ body.old.items ++ marks_text row marks.now) }
+    ensures row { IfOk result (λ below. below ≡ marks_bottom row marks.now) }
+{
+    let mut y = row;
+    let mut rest = marks;
+    'marks: while let Some((mark, later)) = rest.split_first() {
+        push_fact(body, y, style_of(mark), &mark.line)?;
+        y = plus(y, 18);
+        rest = later;
     }
-    for firing in fired_since(&teller.session.core, picture.fired) {
-        let line = firing_line(*canvas.body.allocator(), teller, *firing)?;
-        canvas.push_fact(plain(13), &line)?;
+    Ok(y)
+}
+
+// How the words of a mark look.
+fn style_of(mark: &ToldMark) -> Style
+    ensures { look_of result ≡ mark_look mark.now }
+{
+    if mark.fails {
+        colored(13, DEEP)
+    } else {
+        colored(13, INK)
     }
-    canvas.y = plus(canvas.y, 8);
-    Ok(())
+}
+
+// Draws these firings from this row on; answers the row below them.
+fn push_fires(
+    body: &mut Vec<u8>,
+    tables: &Tables,
+    fired: &[Fired],
+    row: u64,
+) -> Result<u64, AllocError>
+    ensures text { OnOk result ((names : Names) → Keeps tables.now names →
+        body.new.items ≡ body.old.items ++ fires_text names row fired.now) }
+    ensures row { IfOk result (λ below. below ≡ fires_bottom row fired.now) }
+{
+    let mut y = row;
+    let mut rest = fired;
+    'firings: while let Some((firing, later)) = rest.split_first() {
+        push_fired(body, tables, *firing, y)?;
+        y = plus(y, 18);
+        rest = later;
+    }
+    Ok(y)
+}
+
+// Draws above this row that a tracker fires.
+fn push_fired(body: &mut Vec<u8>, tables: &Tables, firing: Fired, y: u64) -> Result<(), AllocError>
+    ensures { OnOk result ((names : Names) → Keeps tables.now names → body.new.items
+        ≡ body.old.items ++ fact_text y (look 13 false (codes "#222222") false) (fires_line names firing)) }
+{
+    let line = firing_line(*body.allocator(), tables, firing)?;
+    push_fact(body, y, plain(13), &line)
 }
 
 // That a tracker fires.
-fn firing_line(alloc: Global, teller: &Teller, firing: Fired) -> Result<Vec<u8>, AllocError> {
+fn firing_line(alloc: Global, tables: &Tables, firing: Fired) -> Result<Vec<u8>, AllocError>
+    ensures { IfOk result (λ line. (names : Names) → Keeps tables.now names →
+        line.items ≡ fires_line names firing) }
+{
     let mut line = Vec::new(alloc);
     push_parts(
         &mut line,
         &[
             Part::Word("tracker "),
-            Part::Name(teller.session.tables.tracker_label(firing.tracker)),
+            Part::Name(tables.tracker_label(firing.tracker)),
             Part::Word(" fires"),
         ],
     )?;
     Ok(line)
 }
 
-// The width of a page, where the pool has so many.
-fn page_width(pages: u32) -> u64 {
-    match 800u64.checked_div(pages as u64) {
-        Some(width) => width.min(24).max(2),
-        None => 2,
-    }
+// Puts a line of words behind what is there, above this row.
+#[tactic(auto, unfolding(crate::specs::SvgPictures::fact_text))]
+fn push_fact(body: &mut Vec<u8>, y: u64, style: Style, words: &[u8]) -> Result<(), AllocError>
+    ensures { OnOk result (body.new.items
+        ≡ body.old.items ++ fact_text y (look_of style) words.now) }
+{
+    push_words(body, MARGIN, minus(y, 12), style, words)
 }
 
-// Draws the pages of the pool, and which buffers hold them.
-fn push_pool(canvas: &mut Canvas, teller: &Teller, pages: u32) -> Result<(), Stop> {
-    let held = teller.session.core.held()?;
-    let cell = page_width(pages);
-    let y = canvas.y;
-    let end = times(cell, pages as u64);
-    let head = bold(12, INK);
-    push_words(&mut canvas.body, MARGIN, plus(y, 14), head, b"pool")?;
-    let row = Rect {
-        x: MARGIN + 48,
-        y,
-        width: end,
-        height: 20,
-        rounded: 0,
-        fill: WHITE,
-        stroke: GREY,
-        stroke_width: "",
-        dashes: "",
-    };
-    push_rect(&mut canvas.body, &row)?;
-    for buffer in &held {
-        push_pages(&mut canvas.body, teller, *buffer, cell, y)?;
+// The width of a page, where the pool has so many.
+fn page_width(pages: u32) -> u64
+    ensures { result ≡ width_of_page pages }
+{
+    if pages == 0 {
+        return 2;
     }
-    push_free(canvas, teller.session.core.free_pages(), pages, end)?;
+    (800u64 / pages as u64).min(24).max(2)
+}
+
+// Draws the pages of the pool in this row, and which buffers hold them.
+#[tactic(auto, unfolding(crate::specs::SvgPictures::pool_text))]
+fn push_pool(body: &mut Vec<u8>, teller: &Teller, y: u64) -> Result<(), Stop>
+    ensures { OnOk result ((names : Names) → Keeps teller.now.session.tables names →
+        body.new.items ≡ body.old.items ++ pool_text names y
+        (held_by_page teller.now.session.core.forest)
+        (views_of teller.now.session.core).free teller.now.session.core.pool) }
+{
+    let core = &teller.session.core;
+    let held = core.held()?;
+    push_held(body, teller, &held, core.pages(), y)?;
+    push_free(body, core.free_pages(), core.pages(), y)?;
     Ok(())
 }
 
-// Puts behind the pool, which ends in this column, how many of its pages are free.
-fn push_free(canvas: &mut Canvas, free: u32, pages: u32, end: u64) -> Result<(), AllocError> {
-    let mut line = Vec::new(*canvas.body.allocator());
+// Draws so many pages in this row, and which buffers hold them.
+#[tactic(auto, unfolding(crate::specs::SvgPictures::held_text))]
+fn push_held(
+    body: &mut Vec<u8>,
+    teller: &Teller,
+    held: &[HeldBuffer],
+    pages: u32,
+    y: u64,
+) -> Result<(), AllocError>
+    ensures { OnOk result ((names : Names) → Keeps teller.now.session.tables names →
+        body.new.items ≡ body.old.items ++ held_text names y held.now pages) }
+{
+    push_words(body, MARGIN, plus(y, 14), bold(12, INK), b"pool")?;
+    push_row(body, times(page_width(pages), pages as u64), y)?;
+    push_cells(body, teller, held, page_width(pages), y)
+}
+
+// Draws the frame of the pool in this row, which is so wide.
+fn push_row(body: &mut Vec<u8>, width: u64, y: u64) -> Result<(), AllocError>
+    ensures { OnOk result (body.new.items ≡ body.old.items
+        ++ rect_text (MARGIN + 48) y width 20 (cell_paint (codes "#FFFFFF") (codes "#808080"))) }
+{
+    push_rect(
+        body,
+        &Rect {
+            x: MARGIN + 48,
+            y,
+            width,
+            height: 20,
+            rounded: 0,
+            fill: WHITE,
+            stroke: GREY,
+            stroke_width: "",
+            dashes: "",
+        },
+    )
+}
+
+// Draws the pages of these buffers in this row, where a page is so wide.
+fn push_cells(
+    body: &mut Vec<u8>,
+    teller: &Teller,
+    held: &[HeldBuffer],
+    cell: u64,
+    y: u64,
+) -> Result<(), AllocError>
+    ensures { OnOk result ((names : Names) → Keeps teller.now.session.tables names →
+        body.new.items ≡ body.old.items ++ flat_map (held_cell names cell y) held.now) }
+{
+    for buffer in held {
+        push_cell(body, teller, *buffer, cell, y)?;
+    }
+    Ok(())
+}
+
+// Puts behind the pool, which has so many pages, how many of them are free.
+#[tactic(auto, unfolding(crate::specs::SvgPictures::free_words))]
+fn push_free(body: &mut Vec<u8>, free: u32, pages: u32, y: u64) -> Result<(), AllocError>
+    ensures { OnOk result (body.new.items ≡ body.old.items ++ free_words y free pages) }
+{
+    let line = free_line(*body.allocator(), free, pages)?;
+    let end = times(page_width(pages), pages as u64);
+    push_words(body, plus(MARGIN + 60, end), plus(y, 14), plain(12), &line)
+}
+
+// How many of so many pages are free.
+fn free_line(alloc: Global, free: u32, pages: u32) -> Result<Vec<u8>, AllocError>
+    ensures { IfOk result (λ line. line.items ≡ free_line_text free pages) }
+{
+    let mut line = Vec::new(alloc);
     push_parts(
         &mut line,
         &[
@@ -188,23 +395,32 @@ fn push_free(canvas: &mut Canvas, free: u32, pages: u32, end: u64) -> Result<(),
             Part::Word(" pages free"),
         ],
     )?;
-    let (x, y) = (plus(MARGIN + 60, end), plus(canvas.y, 14));
-    push_words(&mut canvas.body, x, y, plain(12), &line)?;
-    canvas.widen(plus(MARGIN + 60 + 170, end));
-    canvas.y = plus(canvas.y, 44);
-    Ok(())
+    Ok(line)
 }
 
-// Draws the pages of a buffer, and its name where there is room.
-fn push_pages(
+// Draws the pages of a buffer in this row, and its name where there is room.
+#[tactic(auto, unfolding(crate::specs::SvgPictures::held_cell))]
+fn push_cell(
     body: &mut Vec<u8>,
     teller: &Teller,
     held: HeldBuffer,
     cell: u64,
     y: u64,
-) -> Result<(), AllocError> {
+) -> Result<(), AllocError>
+    ensures { OnOk result ((names : Names) → Keeps teller.now.session.tables names →
+        body.new.items ≡ body.old.items ++ held_cell names cell y held) }
+{
     let x = plus(MARGIN + 48, times(cell, held.pages.start as u64));
     let width = times(cell, held.pages.pages as u64);
+    push_cell_rect(body, x, y, width)?;
+    push_cell_name(body, teller, held, x, y, width)
+}
+
+// Draws pages that a buffer holds, from this column on.
+fn push_cell_rect(body: &mut Vec<u8>, x: u64, y: u64, width: u64) -> Result<(), AllocError>
+    ensures { OnOk result (body.new.items ≡ body.old.items
+        ++ rect_text x y width 20 (cell_paint (codes "#FAF2CC") (codes "#7A6A00"))) }
+{
     push_rect(
         body,
         &Rect {
@@ -218,55 +434,81 @@ fn push_pages(
             stroke_width: "",
             dashes: "",
         },
-    )?;
+    )
+}
+
+// Puts the name of a buffer into its pages, which are so wide, where there is room.
+#[tactic(auto, unfolding(crate::specs::SvgPictures::cell_name))]
+fn push_cell_name(
+    body: &mut Vec<u8>,
+    teller: &Teller,
+    held: HeldBuffer,
+    x: u64,
+    y: u64,
+    width: u64,
+) -> Result<(), AllocError>
+    ensures { OnOk result ((names : Names) → Keeps teller.now.session.tables names →
+        body.new.items ≡ body.old.items ++ cell_name names x y width held) }
+{
     if width < 44 {
         return Ok(());
     }
     let mut name = Vec::new(*body.allocator());
     teller.push_buffer_name(&mut name, held.buffer)?;
-    let style = Style {
+    push_words(body, plus(x, width / 2), plus(y, 14), small(), &name)
+}
+
+// How the name of a buffer in the pool looks.
+fn small() -> Style
+    ensures { look_of result ≡ look 10 false (codes "#222222") true }
+{
+    Style {
         size: 10,
         bold: false,
         fill: INK,
         middle: true,
-    };
-    push_words(body, plus(x, width / 2), plus(y, 14), style, &name)
+    }
 }
 
-// Draws what each kind of box stands for.
-fn push_legend(canvas: &mut Canvas) -> Result<(), AllocError> {
-    let mut x = MARGIN;
-    let y = canvas.y;
-    for (class, word) in [
-        (Class::Live, "live"),
-        (Class::Orphan, "released"),
-        (Class::Origin, "failed first"),
-        (Class::Taken, "fell with it"),
-        (Class::Ended, "ended"),
-    ] {
-        push_sample(&mut canvas.body, x, y, class, word)?;
-        x = plus(x, plus(46, times(8, word.len() as u64)));
-    }
+// Draws what each kind of box stands for, in this row.
+#[tactic(auto, unfolding(crate::specs::SvgPictures::legend_text))]
+fn push_legend(body: &mut Vec<u8>, y: u64) -> Result<(), AllocError>
+    ensures { OnOk result (body.new.items ≡ body.old.items ++ legend_text y) }
+{
+    push_sample(body, MARGIN, y, Class::Live, "live")?;
+    push_sample(body, MARGIN + 78, y, Class::Orphan, "released")?;
+    push_sample(body, MARGIN + 188, y, Class::Origin, "failed first")?;
+    push_sample(body, MARGIN + 330, y, Class::Taken, "fell with it")?;
+    push_sample(body, MARGIN + 472, y, Class::Ended, "ended")?;
     push_words(
-        &mut canvas.body,
-        x,
+        body,
+        MARGIN + 558,
         plus(y, 12),
         plain(12),
         b"thick border: now",
-    )?;
-    canvas.widen(plus(x, 150));
-    canvas.y = plus(y, 14 + MARGIN);
-    Ok(())
+    )
 }
 
 // Draws a small box of this class, and the word for it.
+#[tactic(auto, unfolding(crate::specs::SvgPictures::sample_text))]
 fn push_sample(
     body: &mut Vec<u8>,
     x: u64,
     y: u64,
     class: Class,
-    word: &str,
-) -> Result<(), AllocError> {
+    word: &'static str,
+) -> Result<(), AllocError>
+    ensures { OnOk result (body.new.items ≡ body.old.items ++ sample_text x y class word.now) }
+{
+    push_sample_rect(body, x, y, class)?;
+    push_words(body, plus(x, 26), plus(y, 12), plain(12), word.as_bytes())
+}
+
+// Draws a small box of this class.
+fn push_sample_rect(body: &mut Vec<u8>, x: u64, y: u64, class: Class) -> Result<(), AllocError>
+    ensures { OnOk result (body.new.items
+        ≡ body.old.items ++ rect_text x y 18 14 (sample_paint class)) }
+{
     push_rect(
         body,
         &Rect {
@@ -280,12 +522,14 @@ fn push_sample(
             stroke_width: "1.8",
             dashes: dashes_of(class),
         },
-    )?;
-    push_words(body, plus(x, 26), plus(y, 12), plain(12), word.as_bytes())
+    )
 }
 
 // Puts the begin of a picture of this size behind what is there.
-fn push_frame(text: &mut Vec<u8>, width: u64, height: u64) -> Result<(), AllocError> {
+#[tactic(auto, unfolding(crate::specs::SvgPictures::frame_text))]
+fn push_frame(text: &mut Vec<u8>, width: u64, height: u64) -> Result<(), AllocError>
+    ensures { OnOk result (text.new.items ≡ text.old.items ++ frame_text width height) }
+{
     push_parts(
         text,
         &[

@@ -1,133 +1,42 @@
-//! A tree of a vector graphic: boxes and buffers.
-use crate::box_lines::node_lines;
-use crate::elements::{Rect, bold, colored, plain, push_rect, push_words};
-use crate::layout::{Corner, GAP_X, HEIGHT, Layout, lay_out, minus, plus, times};
+//! A tree of a vector graphic: links, boxes and buffers.
+ghost use Rattle.std.specs.Prelude.{◌≡◌, ◌++◌, IfOk, List, OnOk, map};
+ghost use Rattle.std.specs.List.{flat_map};
+ghost use Rattle.script_labels.specs.Names.{Names};
+ghost use Rattle.script_labels.specs.Tables.{Keeps};
+ghost use Rattle.script_pictures.specs.declared.travel.Travel.{Travel as Step};
+ghost use Rattle.script_pictures.specs.Travels.{FindsTravels};
+ghost use Rattle.script_tales.specs.Called.{Calls};
+ghost use Rattle.picture_svg.specs.Trees.{border_width, box_paint, box_text, box_words, dashes_text, line_items, lines_text, sign_text, tree_bottom, tree_right, tree_seats, tree_text, trees_bottom, trees_right, trees_text};
+ghost use Rattle.picture_svg.specs.Elements.{rect_text};
+
+use crate::bars::{Extent, bars_of, push_bars};
+use crate::box_lines::{node_lines, node_name};
+use crate::elements::{MARGIN, Rect, bold, colored, plus, push_rect, push_words};
+use crate::layout::{Corner, HEIGHT, Seat, lowest, rightmost, seats_of};
 use crate::links::push_links;
-use crate::picture::{Canvas, MARGIN};
 use alloc_event::Node;
-use script_lines::push;
-use script_pictures::colors::{EARTH, SAND, WHITE, edge_color, fill_color, ink_color};
-use script_pictures::{Class, Travel, Tree, class_of, is_among, push_pages};
-use script_tales::words::push_nodes;
-use script_tales::{Teller, push_holders};
-use sm_names::{ClientId, HeldBuffer};
+use event_facts::KeyMap;
+use script_pictures::colors::{edge_color, fill_color, ink_color};
+use script_pictures::{Class, Travel, Tree, class_of};
+use script_tales::Teller;
+use sm_names::ClientId;
 use std::alloc::AllocError;
-use text_parts::{Part, push_parts};
 
 // The dashes of a node's border.
-pub(crate) fn dashes_of(class: Class) -> &'static str {
+pub(crate) fn dashes_of(class: Class) -> &'static str
+    ensures { result.now ≡ dashes_text class }
+{
     match class {
         Class::Orphan => "5 3",
         Class::Ended => "2 3",
-        _ => "",
+        Class::Live | Class::Origin | Class::Taken => "",
     }
-}
-
-// Draws a tree, and its buffers below it.
-pub(crate) fn push_tree(
-    canvas: &mut Canvas,
-    teller: &Teller,
-    clients: &Vec<ClientId>,
-    tree: &Tree,
-    travels: &[Travel],
-) -> Result<(), AllocError> {
-    let start = Corner {
-        x: MARGIN,
-        y: canvas.y,
-    };
-    let layout = lay_out(&tree.nodes, start, canvas.width)?;
-    canvas.widen(end_of(&layout, canvas.width));
-    push_links(&mut canvas.body, tree, &layout, canvas.width, travels)?;
-    push_boxes(&mut canvas.body, teller, tree, &layout, canvas.width)?;
-    canvas.y = plus(layout.bottom, HEIGHT + 30);
-    push_buffers(canvas, teller, clients, tree)?;
-    canvas.y = plus(canvas.y, 26);
-    Ok(())
-}
-
-// The last column of the boxes.
-fn end_of(layout: &Layout, width: u64) -> u64 {
-    minus(
-        plus(MARGIN, times(layout.columns, plus(width, GAP_X))),
-        GAP_X,
-    )
-}
-
-// Draws the boxes of a tree.
-fn push_boxes(
-    body: &mut Vec<u8>,
-    teller: &Teller,
-    tree: &Tree,
-    layout: &Layout,
-    width: u64,
-) -> Result<(), AllocError> {
-    for at in 0..tree.nodes.len() {
-        if at < layout.corners.len() {
-            let node = &tree.nodes[at];
-            let corner = layout.corners[at];
-            push_box(body, tree, node, corner, width)?;
-            push_box_words(body, teller, node, corner)?;
-        }
-    }
-    Ok(())
-}
-
-// Draws the box of a node.
-fn push_box(
-    body: &mut Vec<u8>,
-    tree: &Tree,
-    node: &Node,
-    corner: Corner,
-    width: u64,
-) -> Result<(), AllocError> {
-    let class = class_of(node);
-    let left = is_among(&tree.left, node.key);
-    push_rect(
-        body,
-        &Rect {
-            x: corner.x,
-            y: corner.y,
-            width,
-            height: HEIGHT,
-            rounded: 6,
-            fill: fill_color(class),
-            stroke: edge_color(class),
-            stroke_width: if left { "3.5" } else { "1.8" },
-            dashes: dashes_of(class),
-        },
-    )
-}
-
-// Puts the words of a box into it.
-fn push_box_words(
-    body: &mut Vec<u8>,
-    teller: &Teller,
-    node: &Node,
-    corner: Corner,
-) -> Result<(), AllocError> {
-    let alloc = *body.allocator();
-    let class = class_of(node);
-    let fill = ink_color(class);
-    let mut name = Vec::new(alloc);
-    push_parts(
-        &mut name,
-        &[
-            Part::Word(sign_of(class)),
-            Part::Name(teller.session.tables.birth_label(node.key)),
-        ],
-    )?;
-    let x = plus(corner.x, 10);
-    push_words(body, x, plus(corner.y, 20), bold(15, fill), &name)?;
-    let mut y = plus(corner.y, 38);
-    for line in &node_lines(alloc, teller, node)? {
-        push_words(body, x, y, colored(12, fill), line)?;
-        y = plus(y, 16);
-    }
-    Ok(())
 }
 
 // The sign before a node's name.
-fn sign_of(class: Class) -> &'static str {
+pub(crate) fn sign_of(class: Class) -> &'static str
+    ensures { result.now ≡ sign_text class }
+{
     match class {
         Class::Live | Class::Orphan => "",
         Class::Origin | Class::Taken => "✕ ",
@@ -135,97 +44,187 @@ fn sign_of(class: Class) -> &'static str {
     }
 }
 
-// Draws the buffers of a tree, those that gave their pages back among them, by index.
-fn push_buffers(
-    canvas: &mut Canvas,
+// Draws these trees one below the other, from this row on, where a box is so wide; answers the row below
+// them, and their last column.
+pub(crate) fn push_trees(
+    body: &mut Vec<u8>,
+    teller: &Teller,
+    clients: &Vec<ClientId>,
+    trees: &[Tree],
+    travels: &KeyMap<Travel>,
+    width: u64,
+    row: u64,
+) -> Result<Extent, AllocError>
+    ensures text { OnOk result ((names : Names) → Keeps teller.now.session.tables names →
+        Calls teller.now.labels names → (steps : List Step) → FindsTravels travels.now steps →
+        body.new.items ≡ body.old.items ++ trees_text teller.now.session.core names
+        clients.now.items steps width row trees.now) }
+    ensures bottom { IfOk result (λ extent. (names : Names) → Keeps teller.now.session.tables names →
+        Calls teller.now.labels names → extent.bottom
+        ≡ trees_bottom teller.now.session.core names clients.now.items width row trees.now) }
+    ensures right { IfOk result (λ extent. (names : Names) → Keeps teller.now.session.tables names →
+        Calls teller.now.labels names → extent.right
+        ≡ trees_right teller.now.session.core names clients.now.items width row 0 trees.now) }
+{
+    let mut bottom = row;
+    let mut right: u64 = 0;
+    let mut rest = trees;
+    'trees: while let Some((tree, later)) = rest.split_first() {
+        let extent = push_tree(
+            body,
+            teller,
+            clients,
+            tree,
+            travels,
+            width,
+            Extent { bottom, right },
+        )?;
+        bottom = extent.bottom;
+        right = extent.right;
+        rest = later;
+    }
+    Ok(Extent { bottom, right })
+}
+
+// Draws a tree below what is there, and its buffers below it; answers the row below them, and the last
+// column.
+fn push_tree(
+    body: &mut Vec<u8>,
     teller: &Teller,
     clients: &Vec<ClientId>,
     tree: &Tree,
-) -> Result<(), AllocError> {
-    for index in 0..64u8 {
-        for held in &tree.held {
-            if held.buffer.index == index {
-                push_held(canvas, teller, clients, tree, *held)?;
-            }
-        }
-        for freed in &tree.freed {
-            if freed.buffer.index == index {
-                push_buffer(canvas, teller, *freed, WHITE, "3 3")?;
-                push_keepers(canvas, b"free again: no handle, no live strong node", 8)?;
-            }
-        }
+    travels: &KeyMap<Travel>,
+    width: u64,
+    above: Extent,
+) -> Result<Extent, AllocError>
+    ensures text { OnOk result ((names : Names) → Keeps teller.now.session.tables names →
+        Calls teller.now.labels names → (steps : List Step) → FindsTravels travels.now steps →
+        body.new.items ≡ body.old.items ++ tree_text teller.now.session.core names
+        clients.now.items steps width above.bottom tree.now) }
+    ensures bottom { IfOk result (λ extent. (names : Names) → Keeps teller.now.session.tables names →
+        Calls teller.now.labels names → extent.bottom
+        ≡ tree_bottom teller.now.session.core names clients.now.items width above.bottom tree.now) }
+    ensures right { IfOk result (λ extent. (names : Names) → Keeps teller.now.session.tables names →
+        Calls teller.now.labels names → extent.right ≡ tree_right teller.now.session.core names
+        clients.now.items width above.bottom above.right tree.now) }
+{
+    let seats = seats_from(tree, width, above.bottom)?;
+    let bars = bars_of(teller, clients, tree)?;
+    push_links(body, &seats, width, travels)?;
+    push_boxes(body, teller, &seats, width)?;
+    let row = plus(lowest(&seats, above.bottom), HEIGHT + 30);
+    let right = above.right.max(rightmost(&seats, width));
+    let extent = push_bars(body, &bars, width, row, right)?;
+    Ok(Extent {
+        bottom: plus(extent.bottom, 26),
+        right: extent.right,
+    })
+}
+
+// Where the boxes of the tree are, from this row on.
+fn seats_from(tree: &Tree, width: u64, row: u64) -> Result<Vec<Seat>, AllocError>
+    ensures { IfOk result (λ seats. seats.items ≡ tree_seats width row tree.now) }
+{
+    let start = Corner { x: MARGIN, y: row };
+    seats_of(&tree.nodes, &tree.left, start, width)
+}
+
+// Draws the boxes of the nodes.
+fn push_boxes(
+    body: &mut Vec<u8>,
+    teller: &Teller,
+    seats: &[Seat],
+    width: u64,
+) -> Result<(), AllocError>
+    ensures { OnOk result ((names : Names) → Keeps teller.now.session.tables names →
+        Calls teller.now.labels names →
+        body.new.items ≡ body.old.items ++ flat_map (box_text names width) seats.now) }
+{
+    for seat in seats {
+        push_box(body, teller, seat, width)?;
     }
     Ok(())
 }
 
-// Draws a buffer with pages, and who keeps it.
-fn push_held(
-    canvas: &mut Canvas,
-    teller: &Teller,
-    clients: &Vec<ClientId>,
-    tree: &Tree,
-    held: HeldBuffer,
-) -> Result<(), AllocError> {
-    let mut line = Vec::new(*canvas.body.allocator());
-    push_kept(&mut line, teller, clients, tree, held)?;
-    push_buffer(canvas, teller, held, SAND, "")?;
-    push_keepers(canvas, &line, line.len() as u64)
+// Draws the box of a node, and puts its words into it.
+#[tactic(auto, unfolding(crate::specs::Trees::box_text))]
+fn push_box(body: &mut Vec<u8>, teller: &Teller, seat: &Seat, width: u64) -> Result<(), AllocError>
+    ensures { OnOk result ((names : Names) → Keeps teller.now.session.tables names →
+        Calls teller.now.labels names →
+        body.new.items ≡ body.old.items ++ box_text names width seat.now) }
+{
+    push_border(body, seat, width)?;
+    push_box_words(body, teller, &seat.node, seat.corner)
 }
 
-// Puts who keeps a buffer behind what is there.
-fn push_kept(
-    line: &mut Vec<u8>,
-    teller: &Teller,
-    clients: &Vec<ClientId>,
-    tree: &Tree,
-    held: HeldBuffer,
-) -> Result<(), AllocError> {
-    push(line, "kept by ")?;
-    let mut before = "handles: ";
-    if !tree.strong.is_empty() {
-        push(line, "live nodes")?;
-        push_nodes(line, &teller.session.tables, &tree.strong)?;
-        before = "; handles: ";
-    }
-    let core = &teller.session.core;
-    push_holders(line, core, &teller.labels, clients, held.buffer, before)
-}
-
-// Draws a buffer, and the name and pages in it.
-fn push_buffer(
-    canvas: &mut Canvas,
-    teller: &Teller,
-    held: HeldBuffer,
-    fill: &'static str,
-    dashes: &'static str,
-) -> Result<(), AllocError> {
+// Draws the box of a node.
+fn push_border(body: &mut Vec<u8>, seat: &Seat, width: u64) -> Result<(), AllocError>
+    ensures { OnOk result (body.new.items ≡ body.old.items
+        ++ rect_text seat.now.corner.x seat.now.corner.y width HEIGHT
+        (box_paint seat.now.left seat.now.node)) }
+{
+    let class = class_of(&seat.node);
     push_rect(
-        &mut canvas.body,
+        body,
         &Rect {
-            x: MARGIN,
-            y: canvas.y,
-            width: 216,
-            height: 22,
-            rounded: 3,
-            fill,
-            stroke: EARTH,
-            stroke_width: "",
-            dashes,
+            x: seat.corner.x,
+            y: seat.corner.y,
+            width,
+            height: HEIGHT,
+            rounded: 6,
+            fill: fill_color(class),
+            stroke: edge_color(class),
+            stroke_width: border_of(seat.left),
+            dashes: dashes_of(class),
         },
-    )?;
-    let mut line = Vec::new(*canvas.body.allocator());
-    teller.push_buffer_name(&mut line, held.buffer)?;
-    push(&mut line, "  ")?;
-    push_pages(&mut line, held.pages)?;
-    let y = plus(canvas.y, 15);
-    push_words(&mut canvas.body, MARGIN + 10, y, plain(12), &line)
+    )
 }
 
-// Puts who keeps a buffer beside it, where so many letters take room.
-fn push_keepers(canvas: &mut Canvas, line: &[u8], letters: u64) -> Result<(), AllocError> {
-    let x = plus(MARGIN + GAP_X, canvas.width);
-    push_words(&mut canvas.body, x, plus(canvas.y, 15), plain(12), line)?;
-    canvas.widen(plus(x, times(8, letters)));
-    canvas.y = plus(canvas.y, 26);
+// The width of a box's border.
+fn border_of(left: bool) -> &'static str
+    ensures { result.now ≡ border_width left }
+{
+    if left { "3.5" } else { "1.8" }
+}
+
+// Puts the words of a box into it.
+#[tactic(auto, unfolding(crate::specs::Trees::box_words))]
+fn push_box_words(
+    body: &mut Vec<u8>,
+    teller: &Teller,
+    node: &Node,
+    corner: Corner,
+) -> Result<(), AllocError>
+    ensures { OnOk result ((names : Names) → Keeps teller.now.session.tables names →
+        Calls teller.now.labels names →
+        body.new.items ≡ body.old.items ++ box_words names corner node.now) }
+{
+    let alloc = *body.allocator();
+    let name = node_name(alloc, &teller.session.tables, node)?;
+    let lines = node_lines(alloc, teller, node)?;
+    let fill = ink_color(class_of(node));
+    let x = plus(corner.x, 10);
+    push_words(body, x, plus(corner.y, 20), bold(15, fill), &name)?;
+    push_lines(body, x, plus(corner.y, 38), fill, &lines)
+}
+
+// Puts these lines into a box, from this row on.
+fn push_lines(
+    body: &mut Vec<u8>,
+    x: u64,
+    row: u64,
+    fill: &'static str,
+    lines: &[Vec<u8>],
+) -> Result<(), AllocError>
+    ensures { OnOk result (body.new.items
+        ≡ body.old.items ++ lines_text x row fill.now (map line_items lines.now)) }
+{
+    let mut y = row;
+    let mut rest = lines;
+    'lines: while let Some((line, later)) = rest.split_first() {
+        push_words(body, x, y, colored(12, fill), line.as_slice())?;
+        y = plus(y, 16);
+        rest = later;
+    }
     Ok(())
 }

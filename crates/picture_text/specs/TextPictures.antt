@@ -127,6 +127,10 @@ abbrev pub row_text : Names → ℕ → List NodeKey → Line → List ℕ
 row_text names width left r = joined
     (name_cell names width r ∷ signs_of_node left r.node ∷ state_text names r.node ∷ facts_text names r.node ∷ [])
 
+-- the same, of what the program has as a row
+abbrev pub told_row : Names → ℕ → List NodeKey → Row → List ℕ
+told_row names width left r = row_text names width left (line_of r)
+
 -- ---- the row of a buffer
 
 -- the live nodes that keep a buffer

@@ -1,12 +1,13 @@
 //! The outline of a tree: its nodes, each behind the lines that lead to it.
-ghost use Rattle.std.specs.Prelude.{◌≡◌, ◌++◌, ◌∷◌, [], true, IfOk, OnOk, map, reverse};
-ghost use Rattle.std.specs.List.{filter};
-ghost use Rattle.script_pictures.specs.Travels.{is_child_of as hangs_under};
+ghost use Rattle.std.specs.Prelude.{◌≡◌, ◌++◌, ◌∷◌, [], true, IfOk, OnOk, List, map, reverse};
+ghost use Rattle.forest_store.specs.declared.node.Node.{Node as Kept};
+ghost use Rattle.script_pictures.specs.Kin.{FindsChildren};
 ghost use Rattle.picture_text.specs.Outlines.{begin_text, branch_of, first_branches, line_of, line_of_branch, outline, stem_text, twig, twigs, twigs_below};
 
 use alloc_event::Node;
+use event_facts::KeyRows;
 use script_lines::push;
-use sm_names::NodeKey;
+use script_pictures::children_by_key;
 use std::alloc::{AllocError, Global};
 
 // A node, the lines that lead to it, and how many columns they take.
@@ -28,18 +29,19 @@ struct Branch {
 }
 
 // A row for each node, the root first, and behind each node the rows of its children, by birth. Costs
-// O(n^2) for n nodes, and the lines.
+// O(n log n) for n nodes, and the lines.
 #[tactic(auto, using(crate::proofs::Branches::lines_end))]
 pub(crate) fn outline_of(nodes: &Vec<Node>) -> Result<Vec<Row>, AllocError>
     ensures { IfOk result (λ rows. map line_of rows.items ≡ outline nodes.now.items) }
 {
+    let children = children_by_key(nodes)?;
     let mut rows = Vec::new(*nodes.allocator());
     let mut waiting = begin(nodes)?;
     for at in 0..nodes.len() {
         let Some(next) = waiting.pop() else {
             return Ok(rows);
         };
-        push_below(nodes, &next, &mut waiting)?;
+        push_below(&children, &next, &mut waiting)?;
         let row = row_of(next)?;
         rows.push(row)?;
     }
@@ -73,55 +75,37 @@ fn root_alone(alloc: Global, root: Node) -> Result<Vec<Branch>, AllocError>
 }
 
 // Puts the children of the node onto those that have no row yet, the first on top.
-fn push_below(nodes: &Vec<Node>, next: &Branch, waiting: &mut Vec<Branch>) -> Result<(), AllocError>
-    ensures { OnOk result (reverse (map branch_of waiting.new.items)
-        ≡ twigs_below nodes.now.items (branch_of next.now) ++ reverse (map branch_of waiting.old.items)) }
+fn push_below(
+    children: &KeyRows<Node>,
+    next: &Branch,
+    waiting: &mut Vec<Branch>,
+) -> Result<(), AllocError>
+    ensures { OnOk result ((nodes : List Kept) → FindsChildren children.now nodes →
+        reverse (map branch_of waiting.new.items)
+        ≡ twigs_below nodes (branch_of next.now) ++ reverse (map branch_of waiting.old.items)) }
 {
-    let children = children_of(nodes, next.node.key)?;
     let stem = stem_below(next)?;
-    push_branches(waiting, children, &stem, next.depth.saturating_add(1))
-}
-
-// The children of the node with this key, by birth.
-fn children_of(nodes: &Vec<Node>, parent: NodeKey) -> Result<Vec<Node>, AllocError>
-    ensures { IfOk result (λ children.
-        children.items ≡ filter (hangs_under parent) nodes.now.items) }
-{
-    let mut children = Vec::new(*nodes.allocator());
-    for node in nodes {
-        if hangs_on(parent, node) {
-            children.push(*node)?;
-        }
-    }
-    Ok(children)
-}
-
-// Whether the node hangs on the one with this key.
-fn hangs_on(above: NodeKey, node: &Node) -> bool
-    ensures { result ≡ hangs_under above node.now }
-{
-    match node.parent {
-        Some(parent) => above == parent,
-        None => false,
-    }
+    let depth = next.depth.saturating_add(1);
+    push_branches(waiting, children.row(next.node.key), &stem, depth)
 }
 
 // Puts these nodes onto those that have no row yet, the first on top, at this depth, where this leads to
 // their rows.
 fn push_branches(
     waiting: &mut Vec<Branch>,
-    children: Vec<Node>,
+    children: &[Node],
     stem: &[u8],
     depth: u64,
 ) -> Result<(), AllocError>
     ensures { OnOk result (reverse (map branch_of waiting.new.items)
-        ≡ twigs stem.now depth true children.items ++ reverse (map branch_of waiting.old.items)) }
+        ≡ twigs stem.now depth true children.now ++ reverse (map branch_of waiting.old.items)) }
 {
     let mut left = children;
     let mut last = true;
-    'children: while let Some(node) = left.pop() {
-        push_branch(waiting, node, stem, depth, last)?;
+    'children: while let Some((node, older)) = left.split_last() {
+        push_branch(waiting, *node, stem, depth, last)?;
         last = false;
+        left = older;
     }
     Ok(())
 }

@@ -1,19 +1,21 @@
 //! The rows of a tree as text: one for each node, and one for each buffer with pages.
-ghost use Rattle.std.specs.Prelude.{◌≡◌, ◌-◌, ◌++◌, IfOk, OnOk, replicate};
+ghost use Rattle.std.specs.Prelude.{◌≡◌, ◌-◌, ◌++◌, IfOk, List, OnOk, replicate};
 ghost use Rattle.std.specs.List.{flat_map};
+ghost use Rattle.sm_names.specs.declared.keys.NodeKey.{NodeKey as Key};
+ghost use Rattle.event_facts.specs.KeyMaps.{HasKeys};
 ghost use Rattle.script_labels.specs.Names.{Names, label_of_node};
 ghost use Rattle.script_labels.specs.Tables.{Keeps};
 ghost use Rattle.script_tales.specs.Called.{Calls, last_label, other_text};
 ghost use Rattle.picture_text.specs.Outlines.{line_of};
-ghost use Rattle.picture_text.specs.TextPictures.{asked_text, buffer_row, dispensable_text, facts_text, fallen_text, full_name as full_name_of, in_parentheses, keepers_text, live_text, node_mark as mark_in, name_cell, pages_row, released_text, row_text, row_width as width_of_row, sign_of_class, signs_of_node, state_text, weak_text, widest_row};
+ghost use Rattle.picture_text.specs.TextPictures.{asked_text, buffer_row, dispensable_text, facts_text, fallen_text, full_name as full_name_of, in_parentheses, keepers_text, live_text, node_mark as mark_in, name_cell, pages_row, released_text, row_text, row_width as width_of_row, sign_of_class, signs_of_node, state_text, told_row, weak_text, widest_row};
 
 use crate::outline::Row;
 use alloc_event::Node;
+use event_facts::keys_of;
+use event_marks::key_sets::KeySet;
 use script_labels::{Tables, push_cause};
 use script_lines::push;
-use script_pictures::{
-    Class, Tree, class_of, gap_behind, is_among, kind_name, push_pages, push_place,
-};
+use script_pictures::{Class, Tree, class_of, gap_behind, kind_name, push_pages, push_place};
 use script_tales::words::push_nodes;
 use script_tales::{Teller, push_holders};
 use sm_names::{ClientId, Constraints, Fault, HeldBuffer, NodeKey};
@@ -102,6 +104,24 @@ pub(crate) fn push_rows(
         Calls teller.now.labels names → text.new.items ≡ text.old.items
         ++ flat_map (λ r. row_text names width left.now (line_of r)) rows.now) }
 {
+    let left = keys_of(*text.allocator(), left)?;
+    push_each_row(text, teller, rows, &left, width)
+}
+
+// Puts a row for each node behind what is there, in a tree of this width, of which these nodes left at the
+// event.
+fn push_each_row(
+    text: &mut Vec<u8>,
+    teller: &Teller,
+    rows: &[Row],
+    left: &KeySet,
+    width: u64,
+) -> Result<(), AllocError>
+    ensures { OnOk result ((names : Names) → Keeps teller.now.session.tables names →
+        Calls teller.now.labels names → (keys : List Key) → HasKeys left.now keys →
+        text.new.items ≡ text.old.items
+        ++ flat_map (told_row names width keys) rows.now) }
+{
     for row in rows {
         push_row(text, teller, row, left, width)?;
     }
@@ -113,12 +133,12 @@ fn push_row(
     text: &mut Vec<u8>,
     teller: &Teller,
     row: &Row,
-    left: &[NodeKey],
+    left: &KeySet,
     width: u64,
 ) -> Result<(), AllocError>
     ensures { OnOk result ((names : Names) → Keeps teller.now.session.tables names →
-        Calls teller.now.labels names → text.new.items ≡ text.old.items
-        ++ row_text names width left.now (line_of row.now)) }
+        Calls teller.now.labels names → (keys : List Key) → HasKeys left.now keys →
+        text.new.items ≡ text.old.items ++ told_row names width keys row.now) }
 {
     push_name(text, teller, row, width)?;
     push_signs(text, left, &row.node)?;
@@ -139,9 +159,9 @@ fn push_name(text: &mut Vec<u8>, teller: &Teller, row: &Row, width: u64) -> Resu
 }
 
 // Puts behind what is there whether the node left, at this event, or was released.
-fn push_signs(text: &mut Vec<u8>, left: &[NodeKey], node: &Node) -> Result<(), AllocError>
-    ensures { OnOk result (text.new.items ≡ text.old.items
-        ++ signs_of_node left.now node.now) }
+fn push_signs(text: &mut Vec<u8>, left: &KeySet, node: &Node) -> Result<(), AllocError>
+    ensures { OnOk result ((keys : List Key) → HasKeys left.now keys →
+        text.new.items ≡ text.old.items ++ signs_of_node keys node.now) }
 {
     push_parts(
         text,
@@ -166,10 +186,10 @@ fn sign_of(class: Class) -> &'static str
 }
 
 // Whether the node is one of these, which left at the event.
-fn mark_of(left: &[NodeKey], key: NodeKey) -> &'static str
-    ensures { result.now ≡ mark_in left.now key }
+fn mark_of(left: &KeySet, key: NodeKey) -> &'static str
+    ensures { (keys : List Key) → HasKeys left.now keys → result.now ≡ mark_in keys key }
 {
-    if is_among(left, key) { "! " } else { "  " }
+    if left.has(key) { "! " } else { "  " }
 }
 
 // That the node was released before it left.

@@ -12,6 +12,7 @@ use Rattle.script_faults.specs.IndentedLines.{is_indented}
 use Rattle.script_labels.specs.Names.{Names, act_in}
 use Rattle.sm_script.specs.Runs.{IsOver}
 use Rattle.sm_script.specs.Scenes.{Scene, Setting}
+use Rattle.script_pictures.specs.declared.picture.Picture.{Picture}
 use Rattle.script_pictures.specs.declared.picture.Tree.{Tree}
 use Rattle.script_pictures.specs.declared.travel.Travel.{Travel}
 use Rattle.script_pictures.specs.Seen.{IsTree}
@@ -19,15 +20,17 @@ use Rattle.script_draw.specs.declared.draw.Format.{Format}
 use Rattle.script_draw.specs.declared.draw.View.{View}
 use Rattle.script_draw.specs.Played.{LeadsToScene}
 use Rattle.picture_dot.specs.DotPictures.{dot_text}
+use Rattle.picture_svg.specs.SvgPictures.{svg_text}
 use Rattle.picture_text.specs.TextPictures.{picture_text}
 
 -- the text is a picture, in this format, of a core in this state, where labels stand for this and the last event has this line: that of
--- some trees, each of which shows what the core has, and of some links along which failures went. Of a vector graphic nothing is said
+-- some trees, each of which shows what the core has, of some links along which failures went, and of some words for what the event did
 abbrev pub IsPicture : Format → State → Names → List ℕ → List ℕ → Type 0
 IsPicture Format.Text s names last text = (trees : List Tree) × All (IsTree s) trees × (text ≡ picture_text s names last trees)
 IsPicture Format.Dot s names last text =
     (trees : List Tree) × (travels : List Travel) × All (IsTree s) trees × (text ≡ dot_text s names last trees travels)
-IsPicture Format.Svg s names last text = Unit {0}
+IsPicture Format.Svg s names last text =
+    (picture : Picture) × All (IsTree s) picture.trees.items × (text ≡ svg_text s names last picture)
 
 -- the text is a picture of what happened so far: that of a core that shows this history
 pub record Pictures (format : Format) (setting : Setting) (scene : Scene) (last text : List ℕ) : Type 0 where

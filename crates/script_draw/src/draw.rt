@@ -20,7 +20,7 @@ use script_labels::{Act, Binds, Stop};
 use script_lines::{MOST_BYTES, line_end};
 use script_pictures::{Album, Picture, named_collection, picture_of};
 use script_tales::Teller;
-use sm_names::{Call, ClientId, CollectionId, Limits, NoMemory};
+use sm_names::{Call, ClientId, CollectionId, Limits, MAX_PAGES, NoMemory};
 use std::alloc::Global;
 use std::io::{Read, Write};
 
@@ -64,8 +64,9 @@ struct Scroll {
 /// and `BadLine` and `HistoryFull`, where no event is asked for: then the picture is that behind the line
 /// before.
 ///
-/// Costs what `explain_script` costs, O(n^2) for the n nodes that were ever born in each collection that is
-/// drawn, and for each buffer a look-up for each client and strength.
+/// Costs what `explain_script` costs; O(n log n) for each event, for the n nodes that were ever born in the
+/// collection that it names, and for each collection that is drawn; the picture, where the text of a node at
+/// depth d has d columns before it; and for each buffer a look-up for each client and strength.
 pub fn draw_script<R: Read, W: Write>(
     alloc: Global,
     seed: [u8; 16],
@@ -75,7 +76,7 @@ pub fn draw_script<R: Read, W: Write>(
     limits: Limits,
     view: View,
 ) -> Result<(), ReportFault>
-    requires { (1 ≤ pages) × (pages ≤ 1048576) }
+    requires { (1 ≤ pages) × (pages ≤ MAX_PAGES) }
     ensures { Draws (record { pool = pages; limits = limits }) view
         (R.remaining reader.old) (R.remaining reader.new)
         (W.contents writer.old) (W.contents writer.new) result }
@@ -155,7 +156,8 @@ fn draw_so_far<W: Write>(
     view: View,
     fault: ReportFault,
 ) -> Result<(), ReportFault>
-    ensures { (setting : Setting) (script : List ℕ) → PlayLinesHalt setting view.at scroll.now script fault →
+    ensures { (setting : Setting) (script : List ℕ) →
+        PlayLinesHalt setting view.at scroll.now script fault →
         LinesDrawn setting view (W.contents writer.old) (W.contents writer.new) script result }
 {
     if is_line_fault(&fault) {
@@ -233,7 +235,8 @@ fn push_picture(
 ) -> Result<(), Stop>
     ensures { OnOk result ((names : Names) → Keeps scroll.now.teller.session.tables names →
         Calls scroll.now.teller.labels names → text.old.items ≡ [] →
-        IsPicture format scroll.now.teller.session.core names scroll.now.line.items text.new.items) }
+        IsPicture format scroll.now.teller.session.core names scroll.now.line.items
+        text.new.items) }
 {
     let event = scroll.event.as_ref();
     let picture = picture_of(alloc, &scroll.teller, &scroll.album, event)?;
@@ -298,7 +301,7 @@ fn play(
 impl Scroll {
     // No line was played.
     fn new(alloc: Global, seed: [u8; 16], pages: u32, limits: Limits) -> Result<Scroll, NoMemory>
-        requires { (1 ≤ pages) × (pages ≤ 1048576) }
+        requires { (1 ≤ pages) × (pages ≤ MAX_PAGES) }
         ensures { IfOk result (λ scroll. (until : Option ℕ) →
             Reached (record { pool = pages; limits = limits }) until scroll []) }
     {

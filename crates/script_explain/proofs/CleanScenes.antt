@@ -38,8 +38,8 @@ use Rattle.script_lines.specs.Lines.{line_of}
 use Rattle.script_faults.specs.IndentedLines.{is_indented}
 use Rattle.script_labels.specs.declared.act.Act.{Act}
 use Rattle.script_labels.specs.declared.act.Binds.{Binds}
-use Rattle.script_labels.specs.Names.{Names, Place, act_binding, act_in, act_of, ask_by, call_named, client_of, first_label, for_new, for_tracker, label_of_node, label_of_root, label_of_tracker, names_after, node_of, place_of, tracker_of, with_client, with_node, with_tracker}
-use Rattle.sm_script.specs.Scenes.{Answers, Gives, IsPolled, Scene, as_line, next_scene}
+use Rattle.script_labels.specs.Names.{Names, Place, act_binding, act_in, act_of, ask_by, call_named, labelled_client, first_label, for_new, for_tracker, label_of_node, label_of_root, label_of_tracker, names_after, labelled_node, labelled_place, labelled_tracker, with_labelled_client, with_labelled_node, with_labelled_tracker}
+use Rattle.sm_script.specs.Scenes.{Answers, ActGives, IsPolled, Scene, as_line, next_scene}
 use Rattle.script_lines.specs.LineTexts.{strength_name}
 use Rattle.script_labels.specs.Texts.{bound_text, buffer_text, cause_text, failure_name, fired_text, held_text, kind_name, member_text, node_text, numbered, poll_text, reply_text, view_text}
 use Rattle.script_explain.proofs.CleanLabels.{IsClean, IsCleanBinds, IsCleanLine, and-left, and-right, inner-append, is_inner, line-clean, some-if, some-map, some-then, some-then-of}
@@ -160,10 +160,10 @@ act-clean : (names : Names) (line : Line) → IsCleanLine line → IfSome (act_o
 act-clean names Line.Nothing clean = tt
 act-clean names (Line.Join client) clean = some-if IsCleanAct _ None (Some (Act.Ask 0 Call.Join (Binds.Client client))) tt clean
 act-clean names (Line.Ask client request) clean =
-    some-then IsCleanAct (λ c. ask_by names c request) (client_of names client) (λ c. ask-clean names c request clean)
+    some-then IsCleanAct (λ c. ask_by names c request) (labelled_client names client) (λ c. ask-clean names c request clean)
 act-clean names (Line.Poll client tracker) clean =
-    some-then IsCleanAct (λ c. option_map Act.Poll (tracker_of names tracker)) (client_of names client)
-    (λ c. some-map IsCleanAct Act.Poll (tracker_of names tracker) (λ t. tt))
+    some-then IsCleanAct (λ c. option_map Act.Poll (labelled_tracker names tracker)) (labelled_client names client)
+    (λ c. some-map IsCleanAct Act.Poll (labelled_tracker names tracker) (λ t. tt))
 act-clean names (Line.Show view) clean = tt
 
 -- what a line asks for
@@ -293,7 +293,7 @@ pub record Cleanly (text : List ℕ) (next : Scene) : Type 0 where
   pub clean : AreClean next.names
 
 gives-clean : (pool : ℕ) (scene : Scene) → AreClean scene.names → (act : Act) → IsCleanAct act → (text : List ℕ) (next : Scene) →
-    Gives pool scene act text next → Cleanly text next
+    ActGives pool scene act text next → Cleanly text next
 gives-clean pool scene clean Act.Nothing inner text next gives = record {
   reply = subst IsReply (sym gives.0) NoReply;
   clean = subst (λ (s : Scene). AreClean s.names) (sym gives.1) clean;

@@ -13,7 +13,7 @@ use script_faults::{
 };
 use script_lines::{MOST_BYTES, line_end};
 use script_tales::Teller;
-use sm_names::{Limits, NoMemory};
+use sm_names::{Limits, MAX_PAGES, NoMemory};
 use std::alloc::{AllocError, Global};
 use std::io::{Read, Write};
 use text_parts::{Part, push_parts};
@@ -60,7 +60,7 @@ pub fn check_script<R: Read, W: Write>(
     pages: u32,
     limits: Limits,
 ) -> Result<Verdict, ReportFault>
-    requires { (1 ≤ pages) × (pages ≤ 1048576) }
+    requires { (1 ≤ pages) × (pages ≤ MAX_PAGES) }
     ensures { Checks (record { pool = pages; limits = limits })
         (R.remaining reader.old) (R.remaining reader.new)
         (W.contents writer.old) (W.contents writer.new) result }
@@ -87,7 +87,8 @@ fn check_all<W: Write>(
     ensures ok { IfOk result (λ verdict. (setting : Setting) → Compared setting comparison.old [] →
         IsJudged setting (W.contents writer.old) (W.contents writer.new) script.now verdict) }
     ensures err { IfErr result (λ fault. (setting : Setting) → Compared setting comparison.old [] →
-        ComparisonStopped setting (W.contents writer.old) (W.contents writer.new) script.now fault) }
+        ComparisonStopped setting (W.contents writer.old) (W.contents writer.new)
+        script.now fault) }
 {
     let verdict = match comparison.judge(alloc, script) {
         Ok(verdict) => verdict,
@@ -107,7 +108,7 @@ impl Comparison {
         pages: u32,
         limits: Limits,
     ) -> Result<Comparison, NoMemory>
-        requires { (1 ≤ pages) × (pages ≤ 1048576) }
+        requires { (1 ≤ pages) × (pages ≤ MAX_PAGES) }
         ensures start { IfOk result (λ c.
             Compared (record { pool = pages; limits = limits }) c []) }
         ensures no_text { IfOk result (λ c. c.text.items ≡ []) }

@@ -15,7 +15,7 @@ use script_faults::{
 use script_labels::Stop;
 use script_lines::{MOST_BYTES, line_end, write_out};
 use script_tales::Teller;
-use sm_names::{Limits, NoMemory};
+use sm_names::{Limits, MAX_PAGES, NoMemory};
 use std::alloc::{AllocError, Global};
 use std::io::{Read, Write};
 use text_parts::{Part, push_parts};
@@ -51,7 +51,7 @@ struct Explainer {
 /// Labels and the core's counts are hashed from the seed, best of random bytes: it changes what a line
 /// costs, and nothing that is written. A line that changes no collection costs what `run_script` costs and
 /// its text; any other a copy of its collection, a list of the held buffers, and for each step that it
-/// forces O(n^2) for the n nodes of the collection.
+/// forces O(n log n) for the n nodes of the collection.
 pub fn explain_script<R: Read, W: Write>(
     alloc: Global,
     seed: [u8; 16],
@@ -60,7 +60,7 @@ pub fn explain_script<R: Read, W: Write>(
     pages: u32,
     limits: Limits,
 ) -> Result<(), ReportFault>
-    requires { (1 ≤ pages) × (pages ≤ 1048576) }
+    requires { (1 ≤ pages) × (pages ≤ MAX_PAGES) }
     ensures { Explains (record { pool = pages; limits = limits })
         (R.remaining reader.old) (R.remaining reader.new)
         (W.contents writer.old) (W.contents writer.new) result }
@@ -131,7 +131,7 @@ fn explain_lines<W: Write>(
 impl Explainer {
     // No line was explained.
     fn new(alloc: Global, seed: [u8; 16], pages: u32, limits: Limits) -> Result<Explainer, NoMemory>
-        requires { (1 ≤ pages) × (pages ≤ 1048576) }
+        requires { (1 ≤ pages) × (pages ≤ MAX_PAGES) }
         ensures { IfOk result (λ explainer. (old : Option (List ℕ)) →
             ExplainedSoFar (record { pool = pages; limits = limits }) explainer.teller.session
             old old explainer.text.items []) }

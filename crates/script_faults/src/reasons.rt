@@ -1,8 +1,13 @@
 //! What is wrong with a bad line, in words.
 use script_labels::Tables;
 use script_lines::{BufferLabel, Label, push};
-use sm_names::{ArgumentForm, Product, Target, kind_named, row_of};
+use sm_names::{
+    ArgumentForm, MAX_AT_LEAST, MAX_CAMPING, MAX_SIZE, Product, Target, kind_named, row_of,
+};
 use std::alloc::AllocError;
+
+// How long a line may be.
+const LONGEST: usize = 256;
 
 // What a word behind a verb is to be.
 #[derive(Clone, Copy)]
@@ -69,7 +74,7 @@ pub(crate) fn push_reason(
     tables: &Tables,
     line: &[u8],
 ) -> Result<(), AllocError> {
-    if 256 < line.len() {
+    if LONGEST < line.len() {
         return push(text, "the line is longer than 256 bytes");
     }
     if line.last() == Some(&13) {
@@ -218,17 +223,23 @@ fn push_part_reason(
     part: Part,
 ) -> Result<(), AllocError> {
     match part {
-        Part::Camping => push_range_reason(text, word, 0, 64, "camping is 0 to 64"),
-        Part::AtLeast => push_range_reason(text, word, 0, 64, "at least is 0 to 64"),
-        Part::Size => push_range_reason(text, word, 1, 1 << 30, "the size is 1 to 1073741824"),
+        Part::Camping => push_range_reason(
+            text,
+            word,
+            0,
+            u32::from(MAX_CAMPING),
+            "camping is 0 to 64",
+        ),
+        Part::AtLeast => push_range_reason(
+            text,
+            word,
+            0,
+            u32::from(MAX_AT_LEAST),
+            "at least is 0 to 64",
+        ),
+        Part::Size => push_range_reason(text, word, 1, MAX_SIZE, "the size is 1 to 1073741824"),
         Part::Number => {
-            push_range_reason(
-                text,
-                word,
-                0,
-                4_294_967_295,
-                "the number is 0 to 4294967295",
-            )
+            push_range_reason(text, word, 0, u32::MAX, "the number is 0 to 4294967295")
         }
         Part::Strength => {
             if is(word, "strong") || is(word, "weak") {

@@ -1,5 +1,7 @@
+pub mod Albums
 pub mod BoxLines
 pub mod Colors
 pub mod Features
+pub mod Kin
 pub mod Seen
 pub mod Travels

@@ -93,13 +93,6 @@ pub fn push_pages(text: &mut Vec<u8>, pages: Interval) -> Result<(), AllocError>
     )
 }
 
-/// Whether the key is one of these. Costs O(n) for n keys.
-pub fn is_among(keys: &[NodeKey], key: NodeKey) -> bool
-    ensures { result ≡ list_any (same_key key) keys.now }
-{
-    keys.iter().any(|other| key == *other)
-}
-
 /// What stands between the live nodes that keep a buffer and the handles: nothing where there are no such
 /// nodes. Takes a constant time.
 pub fn gap_behind(nodes: &[NodeKey]) -> &'static str

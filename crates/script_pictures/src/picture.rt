@@ -6,7 +6,7 @@ ghost use Rattle.forest_store.specs.Snapshots.{collection_of};
 ghost use Rattle.core_state.specs.State.{State};
 ghost use Rattle.script_pictures.specs.Seen.{IsTree, held_of_collection, seen_in};
 
-use crate::album::{Album, Family};
+use crate::album::Album;
 use crate::travel::{Travel, travels};
 use alloc_event::{End, Node, Snapshot};
 use event_facts::keepers::strong_live;
@@ -53,8 +53,8 @@ pub struct Picture {
     pub fired: usize,
 }
 
-/// What is to be shown behind the last event, if there was one. Costs O(n^2) for the n nodes that were ever
-/// born in each collection.
+/// What is to be shown behind the last event, if there was one. Costs O(n log n) for the n nodes that were
+/// ever born in each collection, and the text of each mark.
 ///
 /// `NoMemory` where memory is refused.
 pub fn picture_of(
@@ -83,7 +83,7 @@ pub fn picture_of(
     }
 }
 
-// The trees of all families that are shown.
+// The trees of all collections that are shown.
 fn trees_of(
     alloc: Global,
     core: &Core,
@@ -93,8 +93,8 @@ fn trees_of(
     ensures { IfOk result (λ trees. All (IsTree core.now) trees.items) }
 {
     let mut trees = Vec::new(alloc);
-    for family in &album.families {
-        let (kept, tree) = tree_of(alloc, core, family, event)?;
+    for (id, nodes) in &album.families {
+        let (kept, tree) = tree_of(alloc, core, *id, nodes, event)?;
         add_shown(&mut trees, kept, tree)?;
     }
     Ok(trees)
@@ -142,37 +142,39 @@ fn told_mark(
     Ok(ToldMark { fails, line })
 }
 
-// The tree of the family, and whether its collection is kept.
+// The tree of the collection with this id and these nodes, and whether it is kept.
 fn tree_of(
     alloc: Global,
     core: &Core,
-    family: &Family,
+    id: CollectionId,
+    known: &Vec<Node>,
     event: Option<&Event>,
 ) -> Result<(bool, Tree), Stop>
     ensures { IfOk result (λ told. IsTree core.now told.1) }
 {
-    let copied = core.collection(family.id)?;
+    let copied = core.collection(id)?;
     let kept = copied.is_some();
-    let tree = grow(alloc, core, family, held_of(alloc, copied), event)?;
+    let tree = grow(alloc, core, id, known, held_of(alloc, copied), event)?;
     Ok((kept, tree))
 }
 
-// The tree of the family, with these buffers.
+// The tree of the collection with this id and these nodes, with these buffers.
 fn grow(
     alloc: Global,
     core: &Core,
-    family: &Family,
+    id: CollectionId,
+    known: &Vec<Node>,
     held: Vec<HeldBuffer>,
     event: Option<&Event>,
 ) -> Result<Tree, AllocError>
-    ensures { IfOk result (λ tree. held.items ≡ held_of_collection core.now family.now.id →
+    ensures { IfOk result (λ tree. held.items ≡ held_of_collection core.now id →
         IsTree core.now tree) }
 {
-    let (left, freed) = changed(alloc, family, &held, event)?;
-    let nodes = seen_now(core, &family.nodes)?;
+    let (left, freed) = changed(alloc, id, known, &held, event)?;
+    let nodes = seen_now(core, known)?;
     let strong = strong_live(&nodes)?;
     Ok(Tree {
-        id: family.id,
+        id,
         nodes,
         left,
         held,
@@ -207,16 +209,18 @@ fn at_present(core: &Core, node: &Node) -> Node
     }
 }
 
-// The nodes of the family that left at the event, and the buffers that gave their pages back.
+// Those of the nodes of the collection with this id that left at the event, and the buffers that gave their
+// pages back.
 fn changed(
     alloc: Global,
-    family: &Family,
+    id: CollectionId,
+    known: &Vec<Node>,
     held: &[HeldBuffer],
     event: Option<&Event>,
 ) -> Result<(Vec<NodeKey>, Vec<HeldBuffer>), AllocError> {
-    match before_of(event, family.id) {
+    match before_of(event, id) {
         Some(before) => Ok((
-            left_since(&family.nodes, &before.copied.nodes)?,
+            left_since(known, &before.copied.nodes)?,
             given_back(&before.copied.held, held)?,
         )),
         None => Ok((Vec::new(alloc), Vec::new(alloc))),

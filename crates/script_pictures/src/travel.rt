@@ -1,9 +1,10 @@
 //! The links along which failures went at one event.
-ghost use Rattle.std.specs.Prelude.{◌≡◌};
-ghost use Rattle.std.specs.List.{find as find_in};
-ghost use Rattle.script_pictures.specs.Travels.{is_link_of, way_in};
+ghost use Rattle.std.specs.Prelude.{◌≡◌, IfOk, List};
+ghost use Rattle.script_pictures.specs.declared.travel.Travel.{Travel as Link};
+ghost use Rattle.script_pictures.specs.Travels.{FindsTravels, way_in};
 
 use alloc_event::{Node, Snapshot};
+use event_facts::KeyMap;
 use event_facts::takings::taken_under;
 use event_facts::ways::{find, way_up};
 use event_marks::{Forced, Moment};
@@ -29,21 +30,27 @@ pub struct Travel {
     pub way: Way,
 }
 
-/// How a failure went along the link of this node. Costs O(n) for n links.
-pub fn way_of(travels: &[Travel], node: NodeKey) -> Option<Way>
-    ensures { result ≡ way_in travels.now node }
+/// The links by their nodes. Costs O(n log n) for n links.
+///
+/// `AllocError` where memory is refused.
+pub fn travels_by_node(alloc: Global, travels: &[Travel]) -> Result<KeyMap<Travel>, AllocError>
+    ensures { IfOk result (λ map. FindsTravels map travels.now) }
 {
-    match travel_of(travels, node) {
+    let mut map = KeyMap::new(alloc);
+    for travel in travels {
+        map.add(travel.node, *travel)?;
+    }
+    Ok(map)
+}
+
+/// How a failure went along the link of this node. Costs O(log n) for n links.
+pub fn way_of(travels: &KeyMap<Travel>, node: NodeKey) -> Option<Way>
+    ensures { (links : List Link) → FindsTravels travels.now links → result ≡ way_in links node }
+{
+    match travels.get(node) {
         Some(travel) => Some(travel.way),
         None => None,
     }
-}
-
-// The link of this node, if a failure went along it.
-fn travel_of(travels: &[Travel], node: NodeKey) -> Option<Travel>
-    ensures { result ≡ find_in (is_link_of node) travels.now }
-{
-    travels.iter().find(|travel| travel.node == node).copied()
 }
 
 // The links along which failures went so far, each once, and the place of each node's link among them.

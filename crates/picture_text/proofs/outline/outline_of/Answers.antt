@@ -26,7 +26,7 @@ loop-at-preserved c =
     ap (map branch_of) c.in-Some.ensures.items ∙ map-append branch_of c.pop.new.self.items (c.in-Some.next ∷ []) in
     ap (λ (l : List Line). l ++ lines_from (length nodes - (c.loop-at.at + 1)) nodes (reverse (map branch_of c.push_below.new.waiting.items))) row
     ∙ (line_more nodes c.loop-at.at lines t (map branch_of c.loop-at.waiting.items) (map branch_of c.pop.new.self.items)
-    (map branch_of c.push_below.new.waiting.items) within top c.in_ok-push_below.ensures
+    (map branch_of c.push_below.new.waiting.items) within top (c.in_ok-push_below.ensures nodes c.in_ok-children.ensures)
     ∙ c.loop-at.invariant)
 
 -- no node waits

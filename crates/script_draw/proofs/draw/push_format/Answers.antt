@@ -1,6 +1,7 @@
 use Rattle.std.proofs.Common.{◌++◌, refl, ap, ◌∙◌}
 use Rattle.std.proofs.lemmas.Result.{on_ok_weaker}
 use Rattle.picture_dot.specs.DotPictures.{dot_text}
+use Rattle.picture_svg.specs.SvgPictures.{svg_text}
 use Rattle.picture_text.specs.TextPictures.{picture_text}
 use Rattle.script_draw.proofs.draw.push_format.Goals as goal
 
@@ -24,3 +25,12 @@ returns-in-Dot c = rw c.in-Dot.is (on_ok_weaker c.push_dot.result
           c.args.picture.now.trees.items c.args.picture.now.travels.items) blank,
     ))
     c.push_dot.ensures)
+
+pub returns-in-Svg : goal.returns-in-Svg
+returns-in-Svg c = rw c.in-Svg.is (on_ok_weaker c.push_svg.result
+    (λ put names keeps calls blank trees. (
+      c.args.picture.now,
+      trees,
+      put names keeps calls ∙ ap (λ t. t ++ svg_text c.args.teller.now.session.core names c.args.line.now c.args.picture.now) blank,
+    ))
+    c.push_svg.ensures)

@@ -1,0 +1,51 @@
+use Rattle.std.proofs.Common.{◌∙◌, ap, sym, ℕ, ◌++◌}
+use Rattle.std.proofs.lemmas.List.{nil_from_length}
+use Rattle.picture_svg.specs.Trees.{tree_bottom, tree_right, tree_text, trees_bottom, trees_right, trees_text}
+use Rattle.picture_svg.proofs.Rows.{more, none}
+use Rattle.picture_svg.proofs.tree.push_trees.Goals as goal
+
+-- one more
+pub trees-preserved : goal.trees-preserved
+trees-preserved c = λ names keeps calls.
+    let s = c.args.teller.now.session.core in
+    let clients = c.args.clients.now.items in
+    let width : ℕ = c.args.width in
+    let y : ℕ = c.trees.bottom in
+    let tree = c.in-Some.tree.now in
+    let later = c.in-Some.later.now in
+    let below = c.in_ok-extent.ensures.bottom names keeps calls in
+    let beside = c.in_ok-extent.ensures.right names keeps calls in
+    let first = c.in-Some.ensures.cases.0 in
+    let rest = c.trees.invariant names keeps calls in (
+      λ steps finds.
+          ap (λ (row : ℕ). c.push_tree.new.body.items ++ trees_text s names clients steps width row later) below
+          ∙ (more c.trees.body.items c.push_tree.new.body.items (tree_text s names clients steps width y tree)
+          (trees_text s names clients steps width (tree_bottom s names clients width y tree) later)
+          (trees_text s names clients steps width y c.trees.rest.now)
+          (c.in_ok-extent.ensures.text names keeps calls steps finds)
+          (ap (trees_text s names clients steps width y) first)
+          ∙ rest.0 steps finds),
+      ap (λ (row : ℕ). trees_bottom s names clients width row later) below
+          ∙ (sym (ap (trees_bottom s names clients width y) first) ∙ rest.1),
+      (λ i. trees_right s names clients width (below i) (beside i) later)
+          ∙ (sym (ap (trees_right s names clients width y c.trees.right) first) ∙ rest.2),
+    )
+
+-- none is left
+pub returns-clause-text : goal.returns-clause-text
+returns-clause-text c = λ names keeps calls steps finds.
+    let text = trees_text c.args.teller.now.session.core names c.args.clients.now.items steps c.args.width c.trees.bottom in
+    none c.trees.body.items (text c.trees.rest.now) (ap text (nil_from_length c.trees.rest.now c.in_default.ensures.cases))
+    ∙ (c.trees.invariant names keeps calls).0 steps finds
+
+pub returns-clause-bottom : goal.returns-clause-bottom
+returns-clause-bottom c = λ names keeps calls.
+    sym (ap (trees_bottom c.args.teller.now.session.core names c.args.clients.now.items c.args.width c.trees.bottom)
+    (nil_from_length c.trees.rest.now c.in_default.ensures.cases))
+    ∙ (c.trees.invariant names keeps calls).1
+
+pub returns-clause-right : goal.returns-clause-right
+returns-clause-right c = λ names keeps calls.
+    sym (ap (trees_right c.args.teller.now.session.core names c.args.clients.now.items c.args.width c.trees.bottom c.trees.right)
+    (nil_from_length c.trees.rest.now c.in_default.ensures.cases))
+    ∙ (c.trees.invariant names keeps calls).2

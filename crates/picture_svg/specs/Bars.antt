@@ -1,0 +1,120 @@
+-- The buffers of a tree as a vector graphic.
+use Rattle.std.specs.Prelude.{ℕ, ◌≡◌, ◌+◌, ◌-◌, ◌==◌, max, Bool, false, if◌then◌else◌, List, [], ◌∷◌, ◌++◌, codes, length, map, Vec}
+use Rattle.std.specs.List.{filter, flat_map, fold, range_with_len}
+use Rattle.sm_names.specs.declared.keys.HeldBuffer.{HeldBuffer}
+use Rattle.sm_names.specs.declared.keys.NodeKey.{NodeKey}
+use Rattle.core_state.specs.State.{State}
+use Rattle.event_facts.specs.Facts.{holders_in}
+use Rattle.script_labels.specs.Names.{Names}
+use Rattle.script_labels.specs.Texts.{node_text}
+use Rattle.script_tales.specs.FactTexts.{buffer_name, holders_text, joined}
+use Rattle.script_pictures.specs.declared.picture.Tree.{Tree}
+use Rattle.script_pictures.specs.Features.{pages_text}
+use Rattle.picture_svg.specs.declared.bars.Bar.{Bar}
+use Rattle.picture_svg.specs.declared.elements.TheConstants.{MARGIN}
+use Rattle.picture_svg.specs.declared.layout.TheConstants.{GAP_X}
+use Rattle.picture_svg.specs.Elements.{Paint, capped_product, capped_sum, look, rect_text, words_text}
+
+-- what is drawn of a buffer: its name and pages, who keeps it, how many letters that has, and its colours
+pub record Shown : Type 0 where
+  pub name : List ℕ
+  pub keepers : List ℕ
+  pub letters : ℕ
+  pub fill : List ℕ
+  pub dashes : List ℕ
+
+abbrev pub shown_in : Bar → Shown
+shown_in b = record {
+  name = b.name.items;
+  keepers = b.keepers.items;
+  letters = b.letters;
+  fill = b.fill.now;
+  dashes = b.dashes.now;
+}
+
+-- its name and pages
+unfoldable pub buffer_line : Names → HeldBuffer → List ℕ
+buffer_line names held = joined (buffer_name names held.buffer ∷ codes "  " ∷ pages_text held.pages ∷ [])
+
+-- the live nodes that keep it, if there are some, and what stands before the handles
+abbrev pub live_part : Names → List NodeKey → List ℕ
+live_part names nodes = if length nodes == 0 then [] else joined (codes "live nodes" ∷ flat_map (node_text names) nodes ∷ [])
+
+abbrev pub words_before : List NodeKey → List ℕ
+words_before nodes = if length nodes == 0 then codes "handles: " else codes "; handles: "
+
+-- who keeps it
+unfoldable pub kept_line : State → Names → List ℕ → List NodeKey → HeldBuffer → List ℕ
+kept_line s names clients strong held = joined (
+    codes "kept by "
+    ∷ live_part names strong
+    ∷ holders_text names (words_before strong) (holders_in s.holds clients held.buffer)
+    ∷ []
+    )
+
+-- what is drawn of a buffer with pages
+abbrev pub held_shown : State → Names → List ℕ → List NodeKey → HeldBuffer → Shown
+held_shown s names clients strong held = record {
+  name = buffer_line names held;
+  keepers = kept_line s names clients strong held;
+  letters = length (kept_line s names clients strong held);
+  fill = codes "#FAF2CC";
+  dashes = [];
+}
+
+-- what is drawn of a buffer that gave its pages back at the event
+abbrev pub freed_shown : Names → HeldBuffer → Shown
+freed_shown names freed = record {
+  name = buffer_line names freed;
+  keepers = codes "free again: no handle, no live strong node";
+  letters = 8;
+  fill = codes "#FFFFFF";
+  dashes = codes "3 3";
+}
+
+abbrev pub has_index : ℕ → HeldBuffer → Bool
+has_index index held = held.buffer.index == index
+
+-- the buffers with this index, and those with all indexes, of which there are at most 64
+abbrev pub shown_at : State → Names → List ℕ → Tree → ℕ → List Shown
+shown_at s names clients tree index =
+    map (held_shown s names clients tree.strong.items) (filter (has_index index) tree.held.items)
+    ++ map (freed_shown names) (filter (has_index index) tree.freed.items)
+
+unfoldable pub shown_to : State → Names → List ℕ → Tree → ℕ → List Shown
+shown_to s names clients tree count = flat_map (λ shown. shown) (map (shown_at s names clients tree) (range_with_len 0 count))
+
+abbrev pub shown_of : State → Names → List ℕ → Tree → List Shown
+shown_of s names clients tree = shown_to s names clients tree 64
+
+-- ---- how they are drawn
+
+abbrev pub bar_paint : Shown → Paint
+bar_paint b = record { rounded = 3; fill = b.fill; stroke = codes "#7A6A00"; stroke_width = []; dashes = b.dashes }
+
+-- the column of the words beside a buffer, where a box is so wide
+abbrev pub beside : ℕ → ℕ
+beside width = capped_sum (MARGIN + GAP_X) width
+
+-- a buffer in this row, where a box is so wide
+unfoldable pub bar_text : ℕ → ℕ → Shown → List ℕ
+bar_text width y b = joined (
+    rect_text MARGIN y 216 22 (bar_paint b)
+    ∷ words_text (MARGIN + 10) (capped_sum y 15) (look 12 false (codes "#222222") false) b.name
+    ∷ words_text (beside width) (capped_sum y 15) (look 12 false (codes "#222222") false) b.keepers
+    ∷ []
+    )
+
+-- these buffers, from this row on
+abbrev pub bars_text : ℕ → ℕ → List Shown → List ℕ
+bars_text width y [] = []
+bars_text width y (b ∷ bs) = bar_text width y b ++ bars_text width (capped_sum y 26) bs
+
+-- the last column of the words beside them, or this one
+unfoldable pub bars_right : ℕ → ℕ → List Shown → ℕ
+bars_right width right bars = fold (λ x b. max x (capped_sum (beside width) (capped_product 8 b.letters))) right bars
+
+-- the first row below them
+abbrev pub bars_bottom : ℕ → List Shown → ℕ
+bars_bottom y [] = y
+bars_bottom y (b ∷ bs) = bars_bottom (capped_sum y 26) bs

@@ -1,0 +1,128 @@
+-- The elements of a vector graphic.
+use Rattle.std.specs.Prelude.{ℕ, ◌+◌, ◌*◌, ◌-◌, ◌^◌, min, ◌==◌, nat_lt, Bool, if◌then◌else◌, List, [], ◌∷◌, codes, decimal, length}
+use Rattle.script_tales.specs.FactTexts.{joined}
+use Rattle.picture_svg.specs.declared.elements.Rect.{Rect}
+use Rattle.picture_svg.specs.declared.elements.Style.{Style}
+
+-- the sum and the product, or the greatest number
+abbrev pub capped_sum : ℕ → ℕ → ℕ
+capped_sum a b = min (a + b) (2 ^ 64 - 1)
+
+abbrev pub capped_product : ℕ → ℕ → ℕ
+capped_product a b = min (a * b) (2 ^ 64 - 1)
+
+-- an attribute with this value, if it has one
+abbrev pub attribute : List ℕ → List ℕ → List ℕ
+attribute name value = if length value == 0 then [] else joined (codes " " ∷ name ∷ codes "=\"" ∷ value ∷ codes "\"" ∷ [])
+
+-- ---- words
+
+-- how words look
+pub record Look : Type 0 where
+  pub size : ℕ
+  pub bold : Bool
+  pub fill : List ℕ
+  pub middle : Bool
+
+abbrev pub look_of : Style → Look
+look_of s = record { size = s.size; bold = s.bold; fill = s.fill.now; middle = s.middle }
+
+abbrev pub look : ℕ → Bool → List ℕ → Bool → Look
+look size bold fill middle = record { size = size; bold = bold; fill = fill; middle = middle }
+
+abbrev pub weight_text : Bool → List ℕ
+weight_text bold = if bold then codes "\" font-weight=\"bold\"" else codes "\""
+
+abbrev pub anchor_text : Bool → List ℕ
+anchor_text middle = if middle then codes "\" text-anchor=\"middle\">" else codes "\">"
+
+-- words that begin at this place, or have it in their middle
+unfoldable pub words_text : ℕ → ℕ → Look → List ℕ → List ℕ
+words_text x y l words = joined (
+    codes "<text x=\""
+    ∷ decimal x
+    ∷ codes "\" y=\""
+    ∷ decimal y
+    ∷ codes "\" font-size=\""
+    ∷ decimal l.size
+    ∷ weight_text l.bold
+    ∷ codes " fill=\""
+    ∷ l.fill
+    ∷ anchor_text l.middle
+    ∷ words
+    ∷ codes "</text>\n"
+    ∷ []
+    )
+
+-- ---- rectangles
+
+-- how a rectangle looks
+pub record Paint : Type 0 where
+  pub rounded : ℕ
+  pub fill : List ℕ
+  pub stroke : List ℕ
+  pub stroke_width : List ℕ
+  pub dashes : List ℕ
+
+abbrev pub paint_of : Rect → Paint
+paint_of r = record {
+  rounded = r.rounded;
+  fill = r.fill.now;
+  stroke = r.stroke.now;
+  stroke_width = r.stroke_width.now;
+  dashes = r.dashes.now;
+}
+
+abbrev pub rounded_text : ℕ → List ℕ
+rounded_text rounded = if nat_lt 0 rounded then joined (codes " rx=\"" ∷ decimal rounded ∷ codes "\"" ∷ []) else []
+
+unfoldable pub paint_text : Paint → List ℕ
+paint_text p = joined (
+    rounded_text p.rounded
+    ∷ attribute (codes "fill") p.fill
+    ∷ attribute (codes "stroke") p.stroke
+    ∷ attribute (codes "stroke-width") p.stroke_width
+    ∷ attribute (codes "stroke-dasharray") p.dashes
+    ∷ codes "/>\n"
+    ∷ []
+    )
+
+unfoldable pub corner_text : ℕ → ℕ → ℕ → ℕ → List ℕ
+corner_text x y width height = joined (
+    codes "<rect x=\""
+    ∷ decimal x
+    ∷ codes "\" y=\""
+    ∷ decimal y
+    ∷ codes "\" width=\""
+    ∷ decimal width
+    ∷ codes "\" height=\""
+    ∷ decimal height
+    ∷ codes "\""
+    ∷ []
+    )
+
+-- a rectangle with this corner, so wide and so high, that looks so
+unfoldable pub rect_text : ℕ → ℕ → ℕ → ℕ → Paint → List ℕ
+rect_text x y width height paint = joined (corner_text x y width height ∷ paint_text paint ∷ [])
+
+-- ---- the number of a step, in a circle
+
+unfoldable pub circle_text : ℕ → ℕ → ℕ → ℕ → List ℕ
+circle_text x y below step = joined (
+    codes "<circle cx=\""
+    ∷ decimal x
+    ∷ codes "\" cy=\""
+    ∷ decimal y
+    ∷ codes "\" r=\"9\" fill=\"#FFFFFF\" stroke=\""
+    ∷ codes "#D55E00"
+    ∷ codes "\"/>\n<text x=\""
+    ∷ decimal x
+    ∷ codes "\" y=\""
+    ∷ decimal below
+    ∷ codes "\" font-size=\"12\" font-weight=\"bold\" fill=\""
+    ∷ codes "#D55E00"
+    ∷ codes "\" text-anchor=\"middle\">"
+    ∷ decimal step
+    ∷ codes "</text>\n"
+    ∷ []
+    )

@@ -1,0 +1,125 @@
+-- The links of a tree as a vector graphic.
+use Rattle.std.specs.Prelude.{ℕ, ◌-◌, ◌/◌, if◌then◌else◌, List, [], ◌∷◌, codes, decimal, Option, Some, None}
+use Rattle.std.specs.Option.{option_map_or}
+use Rattle.forest_store.specs.declared.node.Node.{Node}
+use Rattle.script_tales.specs.FactTexts.{joined}
+use Rattle.script_pictures.specs.declared.travel.Travel.{Travel}
+use Rattle.script_pictures.specs.declared.travel.Way.{Way}
+use Rattle.script_pictures.specs.Travels.{way_in}
+use Rattle.picture_svg.specs.declared.layout.Corner.{Corner}
+use Rattle.picture_svg.specs.declared.layout.TheConstants.{GAP_Y, HEIGHT}
+use Rattle.picture_svg.specs.declared.layout.Seat.{Seat}
+use Rattle.picture_svg.specs.Elements.{attribute, capped_sum, circle_text}
+
+-- ---- paths
+
+-- a path from a corner down or up to a row, along it, and on to its end
+unfoldable pub path_text : ℕ → ℕ → ℕ → ℕ → ℕ → List ℕ
+path_text a b middle x y = joined (
+    codes "<path d=\"M"
+    ∷ decimal a
+    ∷ codes " "
+    ∷ decimal b
+    ∷ codes " V"
+    ∷ decimal middle
+    ∷ codes " H"
+    ∷ decimal x
+    ∷ codes " V"
+    ∷ decimal y
+    ∷ []
+    )
+
+-- the row in which a link goes along that ends in this row
+abbrev pub middle_row : ℕ → ℕ
+middle_row y = y - GAP_Y / 2
+
+-- the path between two ends: upwards to the right of the parent's middle, downwards to its left, each with room for an arrow
+unfoldable pub way_path : Corner → Corner → Option Way → List ℕ
+way_path from to None = path_text from.x from.y (middle_row to.y) to.x to.y
+way_path from to (Some (Way.Up step)) =
+    path_text to.x to.y (middle_row to.y) (capped_sum from.x 12) (capped_sum from.y 9)
+way_path from to (Some (Way.Down step)) =
+    path_text (from.x - 12) from.y (middle_row to.y - 12) to.x (to.y - 9)
+way_path from to (Some Way.Stop) = path_text from.x from.y (middle_row to.y) to.x to.y
+
+-- ---- how a link looks
+
+-- its colour, its width and its dashes
+abbrev pub line_color : Option Way → List ℕ
+line_color (Some (Way.Up step)) = codes "#D55E00"
+line_color (Some (Way.Down step)) = codes "#D55E00"
+line_color (Some Way.Stop) = codes "#808080"
+line_color None = codes "#808080"
+
+abbrev pub line_width : Option Way → List ℕ
+line_width (Some (Way.Up step)) = codes "4"
+line_width (Some (Way.Down step)) = codes "2"
+line_width (Some Way.Stop) = codes "1.5"
+line_width None = codes "1.5"
+
+abbrev pub line_dashes : Node → List ℕ
+line_dashes n = if n.attached then codes "7 5" else []
+
+unfoldable pub line_start : Option Way → List ℕ
+line_start way = joined
+    (codes "\" fill=\"none\" stroke=\"" ∷ line_color way ∷ codes "\" stroke-width=\"" ∷ line_width way ∷ codes "\"" ∷ [])
+
+unfoldable pub line_text : Node → Option Way → List ℕ
+line_text n way = joined (line_start way ∷ attribute (codes "stroke-dasharray") (line_dashes n) ∷ [])
+
+-- ---- its end
+
+-- an arrow, and the number of the step at which a failure went along the link
+unfoldable pub arrow_text : Corner → ℕ → List ℕ
+arrow_text to step =
+    let row = capped_sum (middle_row to.y) 13 in
+    joined (codes " marker-end=\"url(#a)\"/>\n" ∷ circle_text to.x row (capped_sum row 4) step ∷ [])
+
+-- the bar where a failure stopped
+unfoldable pub stop_text : ℕ → ℕ → ℕ → ℕ → ℕ → List ℕ
+stop_text left row right x y = joined (
+    codes "<path d=\"M"
+    ∷ decimal left
+    ∷ codes " "
+    ∷ decimal row
+    ∷ codes " H"
+    ∷ decimal right
+    ∷ codes "\" stroke=\""
+    ∷ codes "#222222"
+    ∷ codes "\" stroke-width=\"5\"/>\n<text x=\""
+    ∷ decimal x
+    ∷ codes "\" y=\""
+    ∷ decimal y
+    ∷ codes "\" font-size=\"12\" font-weight=\"bold\" fill=\""
+    ∷ codes "#222222"
+    ∷ codes "\">stops here</text>\n"
+    ∷ []
+    )
+
+unfoldable pub bar_text : Corner → List ℕ
+bar_text to = joined
+    (codes "/>\n" ∷ stop_text (to.x - 16) (to.y - 10) (capped_sum to.x 16) (capped_sum to.x 22) (to.y - 6) ∷ [])
+
+abbrev pub end_text : Corner → Option Way → List ℕ
+end_text to None = codes "/>\n"
+end_text to (Some (Way.Up step)) = arrow_text to step
+end_text to (Some (Way.Down step)) = arrow_text to step
+end_text to (Some Way.Stop) = bar_text to
+
+-- ---- the link
+
+-- the link of a node, from below its parent's box to above its own, along which failures went so
+unfoldable pub link_text : Node → Corner → Corner → Option Way → List ℕ
+link_text n from to way = joined (way_path from to way ∷ line_text n way ∷ end_text to way ∷ [])
+
+-- the middle below a box that is so wide, and that above it
+abbrev pub foot_of : ℕ → Corner → Corner
+foot_of width c = record { x = capped_sum c.x (width / 2); y = capped_sum c.y HEIGHT }
+
+abbrev pub head_of : ℕ → Corner → Corner
+head_of width c = record { x = capped_sum c.x (width / 2); y = c.y }
+
+-- the link of the node to its parent, if it has one
+unfoldable pub seat_link : List Travel → ℕ → Seat → List ℕ
+seat_link travels width s = option_map_or
+    (λ above. link_text s.node (foot_of width above) (head_of width s.corner) (way_in travels s.node.key)) s.above []

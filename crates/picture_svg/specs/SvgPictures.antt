@@ -1,0 +1,234 @@
+-- A picture as a vector graphic, as a function of a core, of what labels stand for, and of what is shown.
+use Rattle.std.specs.Prelude.{ℕ, ◌+◌, ◌*◌, ◌/◌, ◌-◌, ◌==◌, min, max, nat_lt, Bool, true, false, if◌then◌else◌, List, [], ◌∷◌, ◌++◌, codes, decimal, drop, length, map}
+use Rattle.std.specs.List.{flat_map, fold}
+use Rattle.sm_names.specs.declared.keys.HeldBuffer.{HeldBuffer}
+use Rattle.sm_names.specs.declared.tracking.Fired.{Fired}
+use Rattle.forest_store.specs.declared.node.Node.{Node}
+use Rattle.forest_store.specs.Forest.{held_by_page}
+use Rattle.core_state.specs.Reads.{views_of}
+use Rattle.core_state.specs.State.{Client, State}
+use Rattle.script_lines.specs.Labels.{label_text}
+use Rattle.script_labels.specs.Names.{Names, label_of_node, label_of_tracker}
+use Rattle.script_tales.specs.FactTexts.{buffer_name, joined}
+use Rattle.script_pictures.specs.declared.features.Class.{Class}
+use Rattle.script_pictures.specs.declared.picture.Picture.{Picture}
+use Rattle.script_pictures.specs.declared.picture.ToldMark.{ToldMark}
+use Rattle.script_pictures.specs.declared.picture.Tree.{Tree}
+use Rattle.script_pictures.specs.BoxLines.{header_text}
+use Rattle.script_pictures.specs.Colors.{edge_text, fill_text}
+use Rattle.picture_svg.specs.declared.elements.TheConstants.{MARGIN}
+use Rattle.picture_svg.specs.Elements.{Look, Paint, capped_product, capped_sum, look, rect_text, words_text}
+use Rattle.picture_svg.specs.Trees.{dashes_text, node_lines, trees_bottom, trees_right, trees_text}
+
+-- ---- the width of a box
+
+-- the widest of these lines, and what the lines of a node's box need, in tenths
+abbrev pub longest_of : List (List ℕ) → ℕ
+longest_of lines = fold (λ most line. max most (length line)) 0 lines
+
+abbrev pub node_tenths : Names → ℕ → Node → ℕ
+node_tenths names tenths n =
+    max (max tenths (capped_sum 240 (capped_product 90 (capped_sum (length (label_text (label_of_node names n.key))) 2))))
+    (capped_sum 240 (capped_product 73 (longest_of (node_lines names n))))
+
+abbrev pub tree_tenths : Names → ℕ → Tree → ℕ
+tree_tenths names tenths tree = fold (node_tenths names) tenths tree.nodes.items
+
+-- the width that a box needs: an even number, for the longest line of all boxes
+unfoldable pub box_width : Names → List Tree → ℕ
+box_width names trees = capped_sum (fold (tree_tenths names) 2000 trees) 10 / 10 / 2 * 2
+
+-- ---- above the trees
+
+-- the number of the event and its line
+unfoldable pub title_text : ℕ → List ℕ → List ℕ
+title_text event line = words_text MARGIN (MARGIN + 14) (look 18 true (codes "#222222") false) (header_text event line)
+
+-- a line of words above this row
+unfoldable pub fact_text : ℕ → Look → List ℕ → List ℕ
+fact_text y l words = words_text MARGIN (y - 12) l words
+
+-- the marks of the event, from this row on
+abbrev pub mark_look : ToldMark → Look
+mark_look m = look 13 false (if m.fails then codes "#A84300" else codes "#222222") false
+
+abbrev pub marks_text : ℕ → List ToldMark → List ℕ
+marks_text y [] = []
+marks_text y (m ∷ ms) = fact_text y (mark_look m) m.line.items ++ marks_text (capped_sum y 18) ms
+
+abbrev pub marks_bottom : ℕ → List ToldMark → ℕ
+marks_bottom y [] = y
+marks_bottom y (m ∷ ms) = marks_bottom (capped_sum y 18) ms
+
+-- the trackers that fired, from this row on
+abbrev pub fires_line : Names → Fired → List ℕ
+fires_line names firing = joined (codes "tracker " ∷ label_text (label_of_tracker names firing.tracker) ∷ codes " fires" ∷ [])
+
+abbrev pub fires_text : Names → ℕ → List Fired → List ℕ
+fires_text names y [] = []
+fires_text names y (f ∷ fs) =
+    fact_text y (look 13 false (codes "#222222") false) (fires_line names f) ++ fires_text names (capped_sum y 18) fs
+
+abbrev pub fires_bottom : ℕ → List Fired → ℕ
+fires_bottom y [] = y
+fires_bottom y (f ∷ fs) = fires_bottom (capped_sum y 18) fs
+
+-- ---- the pool
+
+-- the width of a page, where the pool has so many
+abbrev pub page_width : ℕ → ℕ
+page_width pages = if pages == 0 then 2 else max (min (800 / pages) 24) 2
+
+abbrev pub cell_paint : List ℕ → List ℕ → Paint
+cell_paint fill stroke = record { rounded = 0; fill = fill; stroke = stroke; stroke_width = []; dashes = [] }
+
+-- the name of a buffer in its pages, which are so wide, where there is room
+unfoldable pub cell_name : Names → ℕ → ℕ → ℕ → HeldBuffer → List ℕ
+cell_name names x y width held =
+    let name = words_text (capped_sum x (width / 2)) (capped_sum y 14) (look 10 false (codes "#222222") true) (buffer_name names held.buffer) in
+    if nat_lt width 44 then [] else name
+
+-- the pages of a buffer, and its name, where a page is so wide
+unfoldable pub held_cell : Names → ℕ → ℕ → HeldBuffer → List ℕ
+held_cell names cell y held =
+    let x = capped_sum (MARGIN + 48) (capped_product cell held.pages.start) in
+    let width = capped_product cell held.pages.pages in
+    joined (rect_text x y width 20 (cell_paint (codes "#FAF2CC") (codes "#7A6A00")) ∷ cell_name names x y width held ∷ [])
+
+-- so many pages in this row, and which buffers hold them
+unfoldable pub held_text : Names → ℕ → List HeldBuffer → ℕ → List ℕ
+held_text names y held pages = joined (
+    words_text MARGIN (capped_sum y 14) (look 12 true (codes "#222222") false) (codes "pool")
+    ∷ rect_text (MARGIN + 48) y (capped_product (page_width pages) pages) 20 (cell_paint (codes "#FFFFFF") (codes "#808080"))
+    ∷ flat_map (held_cell names (page_width pages) y) held
+    ∷ []
+    )
+
+-- how many pages are free, behind the pool
+abbrev pub free_line_text : ℕ → ℕ → List ℕ
+free_line_text free pages = joined (decimal free ∷ codes " of " ∷ decimal pages ∷ codes " pages free" ∷ [])
+
+unfoldable pub free_words : ℕ → ℕ → ℕ → List ℕ
+free_words y free pages = words_text (capped_sum (MARGIN + 60) (capped_product (page_width pages) pages)) (capped_sum y 14)
+    (look 12 false (codes "#222222") false) (free_line_text free pages)
+
+-- the pool in this row
+unfoldable pub pool_text : Names → ℕ → List HeldBuffer → ℕ → ℕ → List ℕ
+pool_text names y held free pages = joined (held_text names y held pages ∷ free_words y free pages ∷ [])
+
+-- ---- the legend
+
+-- how a small box of this class looks
+abbrev pub sample_paint : Class → Paint
+sample_paint class = record {
+  rounded = 3;
+  fill = fill_text class;
+  stroke = edge_text class;
+  stroke_width = codes "1.8";
+  dashes = dashes_text class;
+}
+
+-- that box, and the word for it
+unfoldable pub sample_text : ℕ → ℕ → Class → List ℕ → List ℕ
+sample_text x y class word = joined (
+    rect_text x y 18 14 (sample_paint class)
+    ∷ words_text (capped_sum x 26) (capped_sum y 12) (look 12 false (codes "#222222") false) word
+    ∷ []
+    )
+
+-- what each kind of box stands for
+unfoldable pub legend_text : ℕ → List ℕ
+legend_text y = joined (
+    sample_text MARGIN y Class.Live (codes "live")
+    ∷ sample_text (MARGIN + 78) y Class.Orphan (codes "released")
+    ∷ sample_text (MARGIN + 188) y Class.Origin (codes "failed first")
+    ∷ sample_text (MARGIN + 330) y Class.Taken (codes "fell with it")
+    ∷ sample_text (MARGIN + 472) y Class.Ended (codes "ended")
+    ∷ words_text (MARGIN + 558) (capped_sum y 12) (look 12 false (codes "#222222") false) (codes "thick border: now")
+    ∷ []
+    )
+
+-- ---- the whole
+
+-- the begin of a picture of this size
+unfoldable pub frame_text : ℕ → ℕ → List ℕ
+frame_text width height = joined (
+    codes "<svg xmlns=\"http://www.w3.org/2000/svg\" width=\""
+    ∷ decimal width
+    ∷ codes "\" height=\""
+    ∷ decimal height
+    ∷ codes "\" viewBox=\"0 0 "
+    ∷ decimal width
+    ∷ codes " "
+    ∷ decimal height
+    ∷ codes "\" font-family=\"DejaVu Sans Mono, monospace\">\n<defs><marker id=\"a\" markerUnits=\"userSpaceOnUse\" markerWidth=\"14\" markerHeight=\"14\" refX=\"5\" refY=\"7\" orient=\"auto\"><path d=\"M0 0 L12 7 L0 14 Z\" fill=\""
+    ∷ codes "#D55E00"
+    ∷ codes "\"/></marker></defs>\n<rect width=\"100%\" height=\"100%\" fill=\"#FFFFFF\"/>\n"
+    ∷ []
+    )
+
+-- the clients, and the trackers that fired at the event
+abbrev pub clients_of : State → List ℕ
+clients_of s = map (λ (c : Client). c.id) s.clients
+
+abbrev pub fired_in : State → Picture → List Fired
+fired_in s picture = drop picture.fired s.trackers.fired
+
+-- the row of the first tree
+unfoldable pub trees_row : State → Picture → ℕ
+trees_row s picture = capped_sum (fires_bottom (marks_bottom (MARGIN + 50) picture.told.items) (fired_in s picture)) 8
+
+-- what the event did, below the title
+unfoldable pub told_text : State → Names → Picture → List ℕ
+told_text s names picture = joined (
+    marks_text (MARGIN + 50) picture.told.items
+    ∷ fires_text names (marks_bottom (MARGIN + 50) picture.told.items) (fired_in s picture)
+    ∷ []
+    )
+
+-- the trees
+unfoldable pub all_trees : State → Names → Picture → List ℕ
+all_trees s names picture = trees_text s names (clients_of s) picture.travels.items
+    (box_width names picture.trees.items) (trees_row s picture) picture.trees.items
+
+-- the row of the pool, that of the legend, and the height of the picture
+unfoldable pub pool_row : State → Names → Picture → ℕ
+pool_row s names picture =
+    trees_bottom s names (clients_of s) (box_width names picture.trees.items) (trees_row s picture) picture.trees.items
+
+abbrev pub legend_row : State → Names → Picture → ℕ
+legend_row s names picture = capped_sum (pool_row s names picture) 44
+
+abbrev pub height_of : State → Names → Picture → ℕ
+height_of s names picture = capped_sum (legend_row s names picture) (14 + MARGIN)
+
+-- the last column of the trees, and the width of the picture
+unfoldable pub last_column : State → Names → Picture → ℕ
+last_column s names picture =
+    trees_right s names (clients_of s) (box_width names picture.trees.items) (trees_row s picture) 0 picture.trees.items
+
+abbrev pub right_of : ℕ → ℕ → ℕ
+right_of pages right = max (max right (capped_sum (MARGIN + 60 + 170) (capped_product (page_width pages) pages))) (MARGIN + 558 + 150)
+
+abbrev pub width_of : State → Names → Picture → ℕ
+width_of s names picture = capped_sum (right_of s.pool (last_column s names picture)) MARGIN
+
+-- what stands in the frame
+unfoldable pub body_text : State → Names → List ℕ → Picture → List ℕ
+body_text s names line picture = joined (
+    title_text s.events line
+    ∷ told_text s names picture
+    ∷ all_trees s names picture
+    ∷ pool_text names (pool_row s names picture) (held_by_page s.forest) (views_of s).free s.pool
+    ∷ legend_text (legend_row s names picture)
+    ∷ []
+    )
+
+-- the picture behind the last event, of which this is the line
+unfoldable pub svg_text : State → Names → List ℕ → Picture → List ℕ
+svg_text s names line picture = joined (
+    frame_text (width_of s names picture) (height_of s names picture)
+    ∷ body_text s names line picture
+    ∷ codes "</svg>\n"
+    ∷ []
+    )

@@ -1,0 +1,135 @@
+-- A tree as a vector graphic: its links, its boxes, and its buffers below them.
+use Rattle.std.specs.Prelude.{ℕ, ◌+◌, max, Bool, true, false, if◌then◌else◌, List, [], ◌∷◌, ◌++◌, codes, map, Option, Some, None, Vec}
+use Rattle.std.specs.declared.alloc.Global.{Global}
+use Rattle.std.specs.List.{flat_map}
+use Rattle.sm_names.specs.Demands.{Demand}
+use Rattle.forest_store.specs.declared.node.Node.{Node}
+use Rattle.core_state.specs.State.{State}
+use Rattle.script_lines.specs.Labels.{label_text}
+use Rattle.script_labels.specs.Names.{Names, label_of_node}
+use Rattle.script_tales.specs.FactTexts.{joined}
+use Rattle.script_pictures.specs.declared.features.Class.{Class}
+use Rattle.script_pictures.specs.declared.picture.Tree.{Tree}
+use Rattle.script_pictures.specs.declared.travel.Travel.{Travel}
+use Rattle.script_pictures.specs.BoxLines.{asked_words, kind_words, state_words}
+use Rattle.script_pictures.specs.Colors.{edge_text, fill_text, ink_text}
+use Rattle.script_pictures.specs.Features.{class_of, place_text}
+use Rattle.picture_svg.specs.declared.elements.TheConstants.{MARGIN}
+use Rattle.picture_svg.specs.declared.layout.Corner.{Corner}
+use Rattle.picture_svg.specs.declared.layout.TheConstants.{HEIGHT}
+use Rattle.picture_svg.specs.declared.layout.Seat.{Seat}
+use Rattle.picture_svg.specs.Bars.{Shown, bars_bottom, bars_right, bars_text, shown_of}
+use Rattle.picture_svg.specs.Elements.{Paint, capped_sum, look, rect_text, words_text}
+use Rattle.picture_svg.specs.Layouts.{lowest_of, rightmost_of, seats_of}
+use Rattle.picture_svg.specs.Links.{seat_link}
+
+-- ---- boxes
+
+-- the dashes of a box's border
+abbrev pub dashes_text : Class → List ℕ
+dashes_text Class.Live = []
+dashes_text Class.Orphan = codes "5 3"
+dashes_text Class.Origin = []
+dashes_text Class.Taken = []
+dashes_text Class.Ended = codes "2 3"
+
+-- its border is thick if the node left at the event
+abbrev pub border_width : Bool → List ℕ
+border_width left = if left then codes "3.5" else codes "1.8"
+
+-- how the box of a node looks, which left at the event, or not
+abbrev pub box_paint : Bool → Node → Paint
+box_paint left n = record {
+  rounded = 6;
+  fill = fill_text (class_of n);
+  stroke = edge_text (class_of n);
+  stroke_width = border_width left;
+  dashes = dashes_text (class_of n);
+}
+
+-- a cross or a circle before the name of a node that left, in UTF-8
+abbrev pub sign_text : Class → List ℕ
+sign_text Class.Live = []
+sign_text Class.Orphan = []
+sign_text Class.Origin = 226 ∷ 156 ∷ 149 ∷ 32 ∷ []
+sign_text Class.Taken = 226 ∷ 156 ∷ 149 ∷ 32 ∷ []
+sign_text Class.Ended = 226 ∷ 151 ∷ 139 ∷ 32 ∷ []
+
+-- the name of the node
+abbrev pub name_words : Names → Node → List ℕ
+name_words names n = joined (sign_text (class_of n) ∷ label_text (label_of_node names n.key) ∷ [])
+
+-- what it asks for, and where its end is
+abbrev pub lines_below : Names → Node → Option Demand → List (List ℕ)
+lines_below names n None = place_text names n.end ∷ []
+lines_below names n (Some asked) = asked_words asked ∷ place_text names n.end ∷ []
+
+-- the lines below its name: its state, what it is, what it asks for, and where its end is
+abbrev pub node_lines : Names → Node → List (List ℕ)
+node_lines names n = state_words names n ∷ kind_words names n ∷ lines_below names n n.constraints
+
+-- a line as its text
+abbrev pub line_items : Vec ℕ Global → List ℕ
+line_items line = line.items
+
+-- lines in a box, from this row on
+abbrev pub lines_text : ℕ → ℕ → List ℕ → List (List ℕ) → List ℕ
+lines_text x y fill [] = []
+lines_text x y fill (line ∷ lines) = words_text x y (look 12 false fill false) line ++ lines_text x (capped_sum y 16) fill lines
+
+-- the name of a node and the lines below it, in a box with this corner
+unfoldable pub box_words : Names → Corner → Node → List ℕ
+box_words names c n = joined (
+    words_text (capped_sum c.x 10) (capped_sum c.y 20) (look 15 true (ink_text (class_of n)) false) (name_words names n)
+    ∷ lines_text (capped_sum c.x 10) (capped_sum c.y 38) (ink_text (class_of n)) (node_lines names n)
+    ∷ []
+    )
+
+-- the box of a node, so wide, with its words
+unfoldable pub box_text : Names → ℕ → Seat → List ℕ
+box_text names width s =
+    joined (rect_text s.corner.x s.corner.y width HEIGHT (box_paint s.left s.node) ∷ box_words names s.corner s.node ∷ [])
+
+-- ---- trees
+
+-- where the boxes of a tree are, from this row on
+abbrev pub tree_seats : ℕ → ℕ → Tree → List Seat
+tree_seats width y tree = seats_of (record { x = MARGIN; y = y }) width tree.left.items tree.nodes.items
+
+-- the row of its buffers
+abbrev pub bars_row : ℕ → ℕ → Tree → ℕ
+bars_row width y tree = capped_sum (lowest_of y (tree_seats width y tree)) (HEIGHT + 30)
+
+-- a tree from this row on: its links, its boxes, and its buffers
+unfoldable pub tree_text : State → Names → List ℕ → List Travel → ℕ → ℕ → Tree → List ℕ
+tree_text s names clients travels width y tree = joined (
+    flat_map (seat_link travels width) (tree_seats width y tree)
+    ∷ flat_map (box_text names width) (tree_seats width y tree)
+    ∷ bars_text width (bars_row width y tree) (shown_of s names clients tree)
+    ∷ []
+    )
+
+-- the first row below it, and its last column, or this one
+unfoldable pub tree_bottom : State → Names → List ℕ → ℕ → ℕ → Tree → ℕ
+tree_bottom s names clients width y tree =
+    capped_sum (bars_bottom (bars_row width y tree) (shown_of s names clients tree)) 26
+
+unfoldable pub tree_right : State → Names → List ℕ → ℕ → ℕ → ℕ → Tree → ℕ
+tree_right s names clients width y right tree =
+    bars_right width (max right (rightmost_of width (tree_seats width y tree))) (shown_of s names clients tree)
+
+-- the trees from this row on, one below the other
+abbrev pub trees_text : State → Names → List ℕ → List Travel → ℕ → ℕ → List Tree → List ℕ
+trees_text s names clients travels width y [] = []
+trees_text s names clients travels width y (t ∷ ts) =
+    tree_text s names clients travels width y t
+    ++ trees_text s names clients travels width (tree_bottom s names clients width y t) ts
+
+abbrev pub trees_bottom : State → Names → List ℕ → ℕ → ℕ → List Tree → ℕ
+trees_bottom s names clients width y [] = y
+trees_bottom s names clients width y (t ∷ ts) = trees_bottom s names clients width (tree_bottom s names clients width y t) ts
+
+abbrev pub trees_right : State → Names → List ℕ → ℕ → ℕ → ℕ → List Tree → ℕ
+trees_right s names clients width y right [] = right
+trees_right s names clients width y right (t ∷ ts) =
+    trees_right s names clients width (tree_bottom s names clients width y t) (tree_right s names clients width y right t) ts
