@@ -42,7 +42,8 @@ impl ActorListBuilder {
     pub(crate) fn take_line(&mut self, bytes: &[u8]) -> Result<(), Halt>
         requires sound { BuilderInvariant self.old self.old.lines }
         requires few { self.old.lines < 2 ^ 30 }
-        ensures says { MatchResult result (λ _. after_line (seen self.old) bytes.now ≡ Some (seen self.new))
+        ensures says { MatchResult result
+            (λ _. after_line (seen self.old) bytes.now ≡ Some (seen self.new))
             (Halts (after_line (seen self.old) bytes.now)) }
         ensures sound { OnOk result (BuilderInvariant self.new self.new.lines) }
         ensures counted { OnOk result (self.new.lines ≡ self.old.lines + 1) }

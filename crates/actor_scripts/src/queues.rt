@@ -37,7 +37,8 @@ impl Queues {
 
     // One more handle of this buffer.
     pub(crate) fn push(&mut self, buffer: BufferName, slot: usize) -> Result<(), AllocError>
-        ensures { OnOk result (queues_of self.new ≡ with_slot_last (queues_of self.old) buffer slot) }
+        ensures { OnOk result (queues_of self.new
+            ≡ with_slot_last (queues_of self.old) buffer slot) }
     {
         let mut queue = match self.slots.remove(&buffer) {
             Some(queue) => queue,

@@ -5,6 +5,7 @@ use crate::help::{
 };
 use clap::builder::ValueParser;
 use clap::{Arg, ArgAction, Command, value_parser};
+use sm_names::MAX_PAGES;
 use std::alloc::{AllocError, Global};
 
 const VERSION: &str = "0.1.0";
@@ -49,7 +50,7 @@ fn option<'a>(alloc: Global, name: &'a str, value: &'a str, help: &'a str) -> Ar
 
 // A parser of how many pages a pool may have.
 fn page_counts<'a>() -> ValueParser<'a> {
-    value_parser!(u32).range(1..=1_048_576)
+    value_parser!(u32).range(1..=i64::from(MAX_PAGES))
 }
 
 // The option `--pages N`.

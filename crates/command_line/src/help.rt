@@ -209,7 +209,7 @@ by two spaces, and by lines indented by four or more, which are ignored. What
 numbers of lines that were played and of replies are written; else the first
 reply that differs:
 
-    line 41: enc check encoder
+    line 38: enc check encoder
       recorded  pending
       legal     closed lost fordis
         since   line 36: dis close display

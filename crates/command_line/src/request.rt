@@ -49,7 +49,8 @@ pub fn request_of<'a>(matches: &ArgMatches<'a>) -> Option<Request<'a>>
 // no number from 1 to 1,048,576. The range is tested once more, since the parse of a subcommand
 // tells nothing of its values.
 fn pages_of(matches: &ArgMatches<'_>) -> Option<Pages>
-    ensures { AreAsked (value_text (codes "pages") matches.now) (option_map (λ pages. pages.count) result) }
+    ensures { AreAsked (value_text (codes "pages") matches.now)
+        (option_map (λ pages. pages.count) result) }
 {
     let (_, inner) = matches.subcommand()?;
     Pages::new(inner.get_one::<u32>(PAGES)?)

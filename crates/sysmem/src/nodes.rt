@@ -112,7 +112,8 @@ impl Encode<Node> for NodeWords {
 
 fn put_nodes(core: &Core, out: &mut [NodeWords], count: &mut u64) -> u32
     ensures codes { (result ≡ 0) ⊎ (result ≡ 6) }
-    ensures done { result ≡ 0 → out.new ≡ written_over (map node_words (all_nodes core.now.forest)) out.old }
+    ensures done { result ≡ 0 →
+        out.new ≡ written_over (map node_words (all_nodes core.now.forest)) out.old }
     ensures count { result ≡ 0 → count.new ≡ length (all_nodes core.now.forest) }
     ensures failed { result ≢ 0 → (out.new ≡ out.old) × (count.new ≡ count.old) }
 {

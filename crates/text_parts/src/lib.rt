@@ -49,7 +49,8 @@ fn push_part(text: &mut Vec<u8>, part: Part) -> Result<(), AllocError>
 
 // Puts the number and the word behind what is there, with an s at any number but 1.
 fn push_counted(text: &mut Vec<u8>, number: u64, word: &str) -> Result<(), AllocError>
-    ensures { OnOk result (text.new.items ≡ text.old.items ++ text_of (Part.Counted number word.entry)) }
+    ensures { OnOk result (text.new.items
+        ≡ text.old.items ++ text_of (Part.Counted number word.entry)) }
 {
     push_number(text, number)?;
     push(text, " ")?;
