@@ -1,9 +1,0 @@
-use Rattle.std.proofs.Common.{arith}
-use Rattle.std.proofs.lemmas.Grind.{common_steps}
-use Rattle.std.proofs.lemmas.List.{map-append}
-use Rattle.std.proofs.lemmas.List.Elements.{filter-append}
-use Rattle.picture_dot.proofs.links.leaves_of.Goals as goal
-
--- one more comes last, or is left out
-pub loop-node-preserved : goal.loop-node-preserved
-loop-node-preserved c = grind (arith, common_steps, map-append, filter-append)
