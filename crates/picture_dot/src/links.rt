@@ -5,7 +5,7 @@ ghost use Rattle.forest_store.specs.declared.node.Node.{Node as Kept};
 ghost use Rattle.script_pictures.specs.declared.travel.Travel.{Travel as Link};
 ghost use Rattle.script_pictures.specs.Kin.{AreParents, FindsNodes};
 ghost use Rattle.script_pictures.specs.Travels.{FindsTravels};
-ghost use Rattle.picture_dot.specs.DotPictures.{arrow_text, begin_text, leaves_of as leaves_in, link_of, link_text, links_text, middle_of, parent_in, stop_words, table_link, table_link_of, dot_way_text};
+ghost use Rattle.picture_dot.specs.DotPictures.{arrow_text, begin_text, dot_way_text, leaves_of as leaves_in, link_of, link_text, links_text, middle_of, parent_in, stop_words, table_link, table_link_of};
 
 use crate::tables::has_table;
 use alloc_event::Node;

@@ -4,7 +4,7 @@ ghost use Rattle.std.specs.List.{flat_map};
 ghost use Rattle.script_labels.specs.Names.{Names};
 ghost use Rattle.script_labels.specs.Tables.{Keeps};
 ghost use Rattle.script_tales.specs.Called.{Calls};
-ghost use Rattle.picture_dot.specs.DotPictures.{cells_text, freed_row, has_table as has_table_in, held_row, dot_live_words, buffers_table, table_text, table_words};
+ghost use Rattle.picture_dot.specs.DotPictures.{buffers_table, cells_text, dot_live_words, freed_row, has_table as has_table_in, held_row, table_text, table_words};
 
 use script_labels::Tables;
 use script_lines::{push, push_number};

@@ -1,3 +1,2 @@
 pub mod Indexes
-pub mod Places
 pub mod Rows

@@ -1,5 +1,5 @@
 -- The buffers of a tree as a vector graphic.
-use Rattle.std.specs.Prelude.{ℕ, ◌≡◌, ◌+◌, ◌-◌, ◌==◌, max, Bool, false, if◌then◌else◌, List, [], ◌∷◌, ◌++◌, codes, length, map, Vec}
+use Rattle.std.specs.Prelude.{ℕ, ◌+◌, ◌==◌, max, Bool, false, if◌then◌else◌, List, [], ◌∷◌, ◌++◌, codes, length, map}
 use Rattle.std.specs.List.{filter, flat_map, fold, range_with_len}
 use Rattle.sm_names.specs.declared.keys.HeldBuffer.{HeldBuffer}
 use Rattle.sm_names.specs.declared.keys.NodeKey.{NodeKey}
@@ -10,10 +10,11 @@ use Rattle.script_labels.specs.Texts.{node_text}
 use Rattle.script_tales.specs.FactTexts.{buffer_name, holders_text, joined}
 use Rattle.script_pictures.specs.declared.picture.Tree.{Tree}
 use Rattle.script_pictures.specs.Features.{pages_text}
+use Rattle.picture_layout.specs.declared.layout.TheConstants.{COLUMN_GAP}
+use Rattle.picture_layout.specs.Lengths.{capped_product, capped_sum}
 use Rattle.picture_svg.specs.declared.bars.Bar.{Bar}
 use Rattle.picture_svg.specs.declared.elements.TheConstants.{MARGIN}
-use Rattle.picture_svg.specs.declared.layout.TheConstants.{GAP_X}
-use Rattle.picture_svg.specs.Elements.{Paint, capped_product, capped_sum, look, rect_text, words_text}
+use Rattle.picture_svg.specs.Elements.{Paint, look, rect_text, words_text}
 
 -- what is drawn of a buffer: its name and pages, who keeps it, how many letters that has, and its colours
 pub record Shown : Type 0 where
@@ -94,7 +95,7 @@ bar_paint b = record { rounded = 3; fill = b.fill; stroke = codes "#7A6A00"; str
 
 -- the column of the words beside a buffer, where a box is so wide
 abbrev pub beside : ℕ → ℕ
-beside width = capped_sum (MARGIN + GAP_X) width
+beside width = capped_sum (MARGIN + COLUMN_GAP) width
 
 -- a buffer in this row, where a box is so wide
 unfoldable pub bar_text : ℕ → ℕ → Shown → List ℕ

@@ -1,15 +1,8 @@
 -- The elements of a vector graphic.
-use Rattle.std.specs.Prelude.{ℕ, ◌+◌, ◌*◌, ◌-◌, ◌^◌, min, ◌==◌, nat_lt, Bool, if◌then◌else◌, List, [], ◌∷◌, codes, decimal, length}
+use Rattle.std.specs.Prelude.{ℕ, ◌==◌, nat_lt, Bool, if◌then◌else◌, List, [], ◌∷◌, codes, decimal, length}
 use Rattle.script_tales.specs.FactTexts.{joined}
 use Rattle.picture_svg.specs.declared.elements.Rect.{Rect}
 use Rattle.picture_svg.specs.declared.elements.Style.{Style}
-
--- the sum and the product, or the greatest number
-abbrev pub capped_sum : ℕ → ℕ → ℕ
-capped_sum a b = min (a + b) (2 ^ 64 - 1)
-
-abbrev pub capped_product : ℕ → ℕ → ℕ
-capped_product a b = min (a * b) (2 ^ 64 - 1)
 
 -- an attribute with this value, if it has one
 abbrev pub attribute : List ℕ → List ℕ → List ℕ

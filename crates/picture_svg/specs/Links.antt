@@ -6,10 +6,11 @@ use Rattle.script_tales.specs.FactTexts.{joined}
 use Rattle.script_pictures.specs.declared.travel.Travel.{Travel}
 use Rattle.script_pictures.specs.declared.travel.Way.{Way}
 use Rattle.script_pictures.specs.Travels.{way_in}
-use Rattle.picture_svg.specs.declared.layout.Corner.{Corner}
-use Rattle.picture_svg.specs.declared.layout.TheConstants.{GAP_Y, HEIGHT}
-use Rattle.picture_svg.specs.declared.layout.Seat.{Seat}
-use Rattle.picture_svg.specs.Elements.{attribute, capped_sum, circle_text}
+use Rattle.picture_layout.specs.declared.layout.Corner.{Corner}
+use Rattle.picture_layout.specs.declared.layout.TheConstants.{BOX_HEIGHT, ROW_GAP}
+use Rattle.picture_layout.specs.declared.layout.NodeBox.{NodeBox}
+use Rattle.picture_layout.specs.Lengths.{capped_sum}
+use Rattle.picture_svg.specs.Elements.{attribute, circle_text}
 
 -- ---- paths
 
@@ -31,7 +32,7 @@ path_text a b middle x y = joined (
 
 -- the row in which a link goes along that ends in this row
 abbrev pub middle_row : ℕ → ℕ
-middle_row y = y - GAP_Y / 2
+middle_row y = y - ROW_GAP / 2
 
 -- the path between two ends: upwards to the right of the parent's middle, downwards to its left, each with room for an arrow
 unfoldable pub way_path : Corner → Corner → Option Way → List ℕ
@@ -114,12 +115,12 @@ link_text n from to way = joined (way_path from to way ∷ line_text n way ∷ e
 
 -- the middle below a box that is so wide, and that above it
 abbrev pub foot_of : ℕ → Corner → Corner
-foot_of width c = record { x = capped_sum c.x (width / 2); y = capped_sum c.y HEIGHT }
+foot_of width c = record { x = capped_sum c.x (width / 2); y = capped_sum c.y BOX_HEIGHT }
 
 abbrev pub head_of : ℕ → Corner → Corner
 head_of width c = record { x = capped_sum c.x (width / 2); y = c.y }
 
 -- the link of the node to its parent, if it has one
-unfoldable pub seat_link : List Travel → ℕ → Seat → List ℕ
-seat_link travels width s = option_map_or
+unfoldable pub box_link : List Travel → ℕ → NodeBox → List ℕ
+box_link travels width s = option_map_or
     (λ above. link_text s.node (foot_of width above) (head_of width s.corner) (way_in travels s.node.key)) s.above []

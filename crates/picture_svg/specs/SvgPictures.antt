@@ -1,5 +1,5 @@
 -- A picture as a vector graphic, as a function of a core, of what labels stand for, and of what is shown.
-use Rattle.std.specs.Prelude.{ℕ, ◌+◌, ◌*◌, ◌/◌, ◌-◌, ◌==◌, min, max, nat_lt, Bool, true, false, if◌then◌else◌, List, [], ◌∷◌, ◌++◌, codes, decimal, drop, length, map}
+use Rattle.std.specs.Prelude.{ℕ, ◌+◌, ◌*◌, ◌/◌, ◌-◌, ◌==◌, min, max, nat_lt, true, false, if◌then◌else◌, List, [], ◌∷◌, ◌++◌, codes, decimal, drop, length, map}
 use Rattle.std.specs.List.{flat_map, fold}
 use Rattle.sm_names.specs.declared.keys.HeldBuffer.{HeldBuffer}
 use Rattle.sm_names.specs.declared.tracking.Fired.{Fired}
@@ -16,8 +16,9 @@ use Rattle.script_pictures.specs.declared.picture.ToldMark.{ToldMark}
 use Rattle.script_pictures.specs.declared.picture.Tree.{Tree}
 use Rattle.script_pictures.specs.BoxLines.{header_text}
 use Rattle.script_pictures.specs.Colors.{edge_text, fill_text}
+use Rattle.picture_layout.specs.Lengths.{capped_product, capped_sum}
 use Rattle.picture_svg.specs.declared.elements.TheConstants.{MARGIN}
-use Rattle.picture_svg.specs.Elements.{Look, Paint, capped_product, capped_sum, look, rect_text, words_text}
+use Rattle.picture_svg.specs.Elements.{Look, Paint, look, rect_text, words_text}
 use Rattle.picture_svg.specs.Trees.{dashes_text, node_lines, trees_bottom, trees_right, trees_text}
 
 -- ---- the width of a box

@@ -1,5 +1,5 @@
 -- A tree as a vector graphic: its links, its boxes, and its buffers below them.
-use Rattle.std.specs.Prelude.{ℕ, ◌+◌, max, Bool, true, false, if◌then◌else◌, List, [], ◌∷◌, ◌++◌, codes, map, Option, Some, None, Vec}
+use Rattle.std.specs.Prelude.{ℕ, ◌+◌, max, Bool, true, false, if◌then◌else◌, List, [], ◌∷◌, ◌++◌, codes, Option, Some, None, Vec}
 use Rattle.std.specs.declared.alloc.Global.{Global}
 use Rattle.std.specs.List.{flat_map}
 use Rattle.sm_names.specs.Demands.{Demand}
@@ -14,14 +14,15 @@ use Rattle.script_pictures.specs.declared.travel.Travel.{Travel}
 use Rattle.script_pictures.specs.BoxLines.{asked_words, kind_words, state_words}
 use Rattle.script_pictures.specs.Colors.{edge_text, fill_text, ink_text}
 use Rattle.script_pictures.specs.Features.{class_of, place_text}
+use Rattle.picture_layout.specs.declared.layout.Corner.{Corner}
+use Rattle.picture_layout.specs.declared.layout.TheConstants.{BOX_HEIGHT}
+use Rattle.picture_layout.specs.declared.layout.NodeBox.{NodeBox}
+use Rattle.picture_layout.specs.Lengths.{capped_sum}
+use Rattle.picture_layout.specs.Layouts.{boxes_of, lowest_of, rightmost_of}
 use Rattle.picture_svg.specs.declared.elements.TheConstants.{MARGIN}
-use Rattle.picture_svg.specs.declared.layout.Corner.{Corner}
-use Rattle.picture_svg.specs.declared.layout.TheConstants.{HEIGHT}
-use Rattle.picture_svg.specs.declared.layout.Seat.{Seat}
-use Rattle.picture_svg.specs.Bars.{Shown, bars_bottom, bars_right, bars_text, shown_of}
-use Rattle.picture_svg.specs.Elements.{Paint, capped_sum, look, rect_text, words_text}
-use Rattle.picture_svg.specs.Layouts.{lowest_of, rightmost_of, seats_of}
-use Rattle.picture_svg.specs.Links.{seat_link}
+use Rattle.picture_svg.specs.Bars.{bars_bottom, bars_right, bars_text, shown_of}
+use Rattle.picture_svg.specs.Elements.{Paint, look, rect_text, words_text}
+use Rattle.picture_svg.specs.Links.{box_link}
 
 -- ---- boxes
 
@@ -86,25 +87,25 @@ box_words names c n = joined (
     )
 
 -- the box of a node, so wide, with its words
-unfoldable pub box_text : Names → ℕ → Seat → List ℕ
+unfoldable pub box_text : Names → ℕ → NodeBox → List ℕ
 box_text names width s =
-    joined (rect_text s.corner.x s.corner.y width HEIGHT (box_paint s.left s.node) ∷ box_words names s.corner s.node ∷ [])
+    joined (rect_text s.corner.x s.corner.y width BOX_HEIGHT (box_paint s.left s.node) ∷ box_words names s.corner s.node ∷ [])
 
 -- ---- trees
 
 -- where the boxes of a tree are, from this row on
-abbrev pub tree_seats : ℕ → ℕ → Tree → List Seat
-tree_seats width y tree = seats_of (record { x = MARGIN; y = y }) width tree.left.items tree.nodes.items
+abbrev pub tree_boxes : ℕ → ℕ → Tree → List NodeBox
+tree_boxes width y tree = boxes_of (record { x = MARGIN; y = y }) width tree.left.items tree.nodes.items
 
 -- the row of its buffers
 abbrev pub bars_row : ℕ → ℕ → Tree → ℕ
-bars_row width y tree = capped_sum (lowest_of y (tree_seats width y tree)) (HEIGHT + 30)
+bars_row width y tree = capped_sum (lowest_of y (tree_boxes width y tree)) (BOX_HEIGHT + 30)
 
 -- a tree from this row on: its links, its boxes, and its buffers
 unfoldable pub tree_text : State → Names → List ℕ → List Travel → ℕ → ℕ → Tree → List ℕ
 tree_text s names clients travels width y tree = joined (
-    flat_map (seat_link travels width) (tree_seats width y tree)
-    ∷ flat_map (box_text names width) (tree_seats width y tree)
+    flat_map (box_link travels width) (tree_boxes width y tree)
+    ∷ flat_map (box_text names width) (tree_boxes width y tree)
     ∷ bars_text width (bars_row width y tree) (shown_of s names clients tree)
     ∷ []
     )
@@ -116,7 +117,7 @@ tree_bottom s names clients width y tree =
 
 unfoldable pub tree_right : State → Names → List ℕ → ℕ → ℕ → ℕ → Tree → ℕ
 tree_right s names clients width y right tree =
-    bars_right width (max right (rightmost_of width (tree_seats width y tree))) (shown_of s names clients tree)
+    bars_right width (max right (rightmost_of width (tree_boxes width y tree))) (shown_of s names clients tree)
 
 -- the trees from this row on, one below the other
 abbrev pub trees_text : State → Names → List ℕ → List Travel → ℕ → ℕ → List Tree → List ℕ

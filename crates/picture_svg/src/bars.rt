@@ -1,13 +1,13 @@
 //! The buffers of a tree as a vector graphic: a bar for each, and beside it who keeps it.
-ghost use Rattle.std.specs.Prelude.{◌≡◌, ◌++◌, ◌∷◌, [], codes, IfOk, OnOk, map};
+ghost use Rattle.std.specs.Prelude.{◌≡◌, ◌++◌, codes, IfOk, OnOk, map};
 ghost use Rattle.std.specs.List.{filter};
 ghost use Rattle.script_labels.specs.Names.{Names};
 ghost use Rattle.script_labels.specs.Tables.{Keeps};
 ghost use Rattle.script_tales.specs.Called.{Calls};
-ghost use Rattle.picture_svg.specs.Bars.{bar_text, bars_bottom, bars_right, bars_text, beside as beside_box, buffer_line as line_of_buffer, freed_shown, has_index as has_index_in, held_shown, kept_line as line_of_keepers, live_part, shown_at, shown_in, shown_of, shown_to, words_before as words_before_handles};
+ghost use Rattle.picture_svg.specs.Bars.{bar_text, bars_bottom, bars_right, bars_text, beside as beside_box, buffer_line as line_of_buffer, freed_shown, has_index as has_index_in, held_shown, kept_line as line_of_keepers, live_part, shown_at, shown_in, shown_of, words_before as words_before_handles};
 
-use crate::elements::{MARGIN, Rect, plain, plus, push_rect, push_words, times};
-use crate::layout::GAP_X;
+use crate::elements::{MARGIN, Rect, plain, push_rect, push_words};
+use picture_layout::{COLUMN_GAP, plus, times};
 use script_labels::Tables;
 use script_lines::push;
 use script_pictures::colors::{EARTH, SAND, WHITE};
@@ -282,7 +282,7 @@ fn right_of(bars: &[Bar], width: u64, start: u64) -> u64
 fn beside(width: u64) -> u64
     ensures { result ≡ beside_box width }
 {
-    plus(MARGIN + GAP_X, width)
+    plus(MARGIN + COLUMN_GAP, width)
 }
 
 // Draws a buffer in this row, and puts beside it who keeps it.

@@ -1,7 +1,9 @@
 //! The elements of a vector graphic.
-ghost use Rattle.std.specs.Prelude.{◌≡◌, ◌-◌, ◌++◌, codes, false, true, OnOk};
-ghost use Rattle.picture_svg.specs.Elements.{anchor_text, attribute, capped_product, capped_sum, circle_text, corner_text, look, look_of, paint_of, paint_text, rect_text, rounded_text, weight_text, words_text};
+ghost use Rattle.std.specs.Prelude.{◌≡◌, ◌++◌, codes, false, true, OnOk};
+ghost use Rattle.picture_layout.specs.Lengths.{capped_sum};
+ghost use Rattle.picture_svg.specs.Elements.{anchor_text, attribute, circle_text, corner_text, look, look_of, paint_of, paint_text, rect_text, rounded_text, weight_text, words_text};
 
+use picture_layout::plus;
 use script_lines::push;
 use script_pictures::colors::{INK, RED};
 use std::alloc::AllocError;
@@ -9,27 +11,6 @@ use text_parts::{Part, push_parts};
 
 // The margin of a picture.
 pub(crate) const MARGIN: u64 = 28;
-
-// The sum, or the greatest number. The numbers of a picture stay far below it.
-pub(crate) fn plus(a: u64, b: u64) -> u64
-    ensures { result ≡ capped_sum a b }
-{
-    a.saturating_add(b)
-}
-
-// The difference, or 0.
-pub(crate) fn minus(a: u64, b: u64) -> u64
-    ensures { result ≡ a - b }
-{
-    a.saturating_sub(b)
-}
-
-// The product, or the greatest number.
-pub(crate) fn times(a: u64, b: u64) -> u64
-    ensures { result ≡ capped_product a b }
-{
-    a.saturating_mul(b)
-}
 
 // How words look.
 #[derive(Clone, Copy)]

@@ -1,10 +1,9 @@
-//! Pictures of a script's trees as vector graphics, laid out by the program itself.
+//! Pictures of a script's trees as vector graphics.
 #![tactic(auto)]
 
 mod bars;
 mod box_lines;
 mod elements;
-mod layout;
 mod links;
 mod picture;
 mod tree;

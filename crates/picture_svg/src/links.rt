@@ -3,12 +3,12 @@ ghost use Rattle.std.specs.Prelude.{◌≡◌, ◌++◌, List, OnOk};
 ghost use Rattle.std.specs.List.{flat_map};
 ghost use Rattle.script_pictures.specs.declared.travel.Travel.{Travel as Step};
 ghost use Rattle.script_pictures.specs.Travels.{FindsTravels};
-ghost use Rattle.picture_svg.specs.Links.{arrow_text, bar_text, end_text, foot_of as foot_in, head_of as head_in, line_color, line_dashes, line_start, line_text, line_width, link_text, path_text, seat_link, stop_text, way_path};
+ghost use Rattle.picture_svg.specs.Links.{arrow_text, bar_text, box_link, end_text, foot_of as foot_in, head_of as head_in, line_color, line_dashes, line_start, line_text, line_width, link_text, path_text, stop_text, way_path};
 
-use crate::elements::{minus, plus, push_step, push_word};
-use crate::layout::{Corner, GAP_Y, HEIGHT, Seat};
+use crate::elements::{push_step, push_word};
 use alloc_event::Node;
 use event_facts::KeyMap;
+use picture_layout::{BOX_HEIGHT, Corner, NodeBox, ROW_GAP, minus, plus};
 use script_lines::push;
 use script_pictures::colors::{GREY, INK, RED};
 use script_pictures::{Travel, Way, way_of};
@@ -18,37 +18,37 @@ use text_parts::{Part, push_parts};
 // Draws the links of the nodes, in their order, where a box is so wide.
 pub(crate) fn push_links(
     body: &mut Vec<u8>,
-    seats: &[Seat],
+    boxes: &[NodeBox],
     width: u64,
     travels: &KeyMap<Travel>,
 ) -> Result<(), AllocError>
     ensures { OnOk result ((steps : List Step) → FindsTravels travels.now steps →
-        body.new.items ≡ body.old.items ++ flat_map (seat_link steps width) seats.now) }
+        body.new.items ≡ body.old.items ++ flat_map (box_link steps width) boxes.now) }
 {
-    for seat in seats {
-        push_seat_link(body, seat, width, travels)?;
+    for node_box in boxes {
+        push_box_link(body, node_box, width, travels)?;
     }
     Ok(())
 }
 
 // Draws the link of the node, if it has one.
-#[tactic(auto, unfolding(crate::specs::Links::seat_link))]
-fn push_seat_link(
+#[tactic(auto, unfolding(crate::specs::Links::box_link))]
+fn push_box_link(
     body: &mut Vec<u8>,
-    seat: &Seat,
+    node_box: &NodeBox,
     width: u64,
     travels: &KeyMap<Travel>,
 ) -> Result<(), AllocError>
     ensures { OnOk result ((steps : List Step) → FindsTravels travels.now steps →
-        body.new.items ≡ body.old.items ++ seat_link steps width seat.now) }
+        body.new.items ≡ body.old.items ++ box_link steps width node_box.now) }
 {
-    match seat.above {
+    match node_box.above {
         Some(above) => push_link(
             body,
-            &seat.node,
+            &node_box.node,
             foot_of(above, width),
-            head_of(seat.corner, width),
-            way_of(travels, seat.node.key),
+            head_of(node_box.corner, width),
+            way_of(travels, node_box.node.key),
         ),
         None => Ok(()),
     }
@@ -60,7 +60,7 @@ fn foot_of(corner: Corner, width: u64) -> Corner
 {
     Corner {
         x: plus(corner.x, width / 2),
-        y: plus(corner.y, HEIGHT),
+        y: plus(corner.y, BOX_HEIGHT),
     }
 }
 
@@ -165,7 +165,7 @@ fn push_arrow(body: &mut Vec<u8>, to: Corner, step: u64) -> Result<(), AllocErro
     ensures { OnOk result (body.new.items ≡ body.old.items ++ arrow_text to step) }
 {
     push(body, " marker-end=\"url(#a)\"/>\n")?;
-    push_step(body, to.x, plus(minus(to.y, GAP_Y / 2), 13), step)
+    push_step(body, to.x, plus(minus(to.y, ROW_GAP / 2), 13), step)
 }
 
 // Draws the end of a link at which a failure stopped.
@@ -198,7 +198,7 @@ fn push_way(
 ) -> Result<(), AllocError>
     ensures { OnOk result (body.new.items ≡ body.old.items ++ way_path from to way) }
 {
-    let middle = minus(to.y, GAP_Y / 2);
+    let middle = minus(to.y, ROW_GAP / 2);
     match way {
         Some(Way::Up(_)) => push_bends(body, to, middle, plus(from.x, 12), plus(from.y, 9)),
         Some(Way::Down(_)) => {

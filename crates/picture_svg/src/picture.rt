@@ -8,16 +8,15 @@ ghost use Rattle.script_labels.specs.Tables.{Keeps};
 ghost use Rattle.script_tales.specs.Called.{Calls};
 ghost use Rattle.picture_svg.specs.Elements.{look, look_of, rect_text};
 ghost use Rattle.picture_svg.specs.Trees.{line_items};
-ghost use Rattle.picture_svg.specs.SvgPictures.{all_trees, body_text, box_width as width_of_box, cell_name, cell_paint, fact_text, fires_bottom, fires_line, fires_text, frame_text, free_line_text, free_words, held_cell, held_text, height_of, last_column, legend_text, longest_of as longest_in, mark_look, marks_bottom, marks_text, node_tenths as tenths_of_node, page_width as width_of_page, pool_row, pool_text, right_of, sample_paint, sample_text, svg_text, title_text, told_text, trees_row, tree_tenths as tenths_of_tree, width_of};
+ghost use Rattle.picture_svg.specs.SvgPictures.{all_trees, body_text, box_width as width_of_box, cell_name, cell_paint, fact_text, fires_bottom, fires_line, fires_text, frame_text, free_line_text, free_words, height_of, held_cell, held_text, last_column, legend_text, longest_of as longest_in, mark_look, marks_bottom, marks_text, node_tenths as tenths_of_node, page_width as width_of_page, pool_row, pool_text, right_of, sample_paint, sample_text, svg_text, title_text, told_text, tree_tenths as tenths_of_tree, trees_row, width_of};
 
 use crate::bars::Extent;
 use crate::box_lines::node_lines;
-use crate::elements::{
-    MARGIN, Rect, Style, bold, colored, minus, plain, plus, push_rect, push_words, times,
-};
+use crate::elements::{MARGIN, Rect, Style, bold, colored, plain, push_rect, push_words};
 use crate::tree::{dashes_of, push_trees};
 use alloc_event::Node;
 use event_facts::fired_since;
+use picture_layout::{minus, plus, times};
 use script_labels::{Stop, Tables};
 use script_pictures::colors::{DEEP, EARTH, GREY, INK, RED, SAND, WHITE, edge_color, fill_color};
 use script_pictures::{Class, Picture, ToldMark, Tree, push_header, travels_by_node};

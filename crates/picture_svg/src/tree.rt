@@ -6,16 +6,16 @@ ghost use Rattle.script_labels.specs.Tables.{Keeps};
 ghost use Rattle.script_pictures.specs.declared.travel.Travel.{Travel as Step};
 ghost use Rattle.script_pictures.specs.Travels.{FindsTravels};
 ghost use Rattle.script_tales.specs.Called.{Calls};
-ghost use Rattle.picture_svg.specs.Trees.{border_width, box_paint, box_text, box_words, dashes_text, line_items, lines_text, sign_text, tree_bottom, tree_right, tree_seats, tree_text, trees_bottom, trees_right, trees_text};
+ghost use Rattle.picture_svg.specs.Trees.{border_width, box_paint, box_text, box_words, dashes_text, line_items, lines_text, sign_text, tree_bottom, tree_boxes, tree_right, tree_text, trees_bottom, trees_right, trees_text};
 ghost use Rattle.picture_svg.specs.Elements.{rect_text};
 
 use crate::bars::{Extent, bars_of, push_bars};
 use crate::box_lines::{node_lines, node_name};
-use crate::elements::{MARGIN, Rect, bold, colored, plus, push_rect, push_words};
-use crate::layout::{Corner, HEIGHT, Seat, lowest, rightmost, seats_of};
+use crate::elements::{MARGIN, Rect, bold, colored, push_rect, push_words};
 use crate::links::push_links;
 use alloc_event::Node;
 use event_facts::KeyMap;
+use picture_layout::{BOX_HEIGHT, Corner, NodeBox, boxes_of, lowest_row, plus, right_edge};
 use script_pictures::colors::{edge_color, fill_color, ink_color};
 use script_pictures::{Class, Travel, Tree, class_of};
 use script_tales::Teller;
@@ -108,12 +108,12 @@ fn push_tree(
         Calls teller.now.labels names → extent.right ≡ tree_right teller.now.session.core names
         clients.now.items width above.bottom above.right tree.now) }
 {
-    let seats = seats_from(tree, width, above.bottom)?;
+    let boxes = boxes_from(tree, width, above.bottom)?;
     let bars = bars_of(teller, clients, tree)?;
-    push_links(body, &seats, width, travels)?;
-    push_boxes(body, teller, &seats, width)?;
-    let row = plus(lowest(&seats, above.bottom), HEIGHT + 30);
-    let right = above.right.max(rightmost(&seats, width));
+    push_links(body, &boxes, width, travels)?;
+    push_boxes(body, teller, &boxes, width)?;
+    let row = plus(lowest_row(&boxes, above.bottom), BOX_HEIGHT + 30);
+    let right = above.right.max(right_edge(&boxes, width));
     let extent = push_bars(body, &bars, width, row, right)?;
     Ok(Extent {
         bottom: plus(extent.bottom, 26),
@@ -122,59 +122,64 @@ fn push_tree(
 }
 
 // Where the boxes of the tree are, from this row on.
-fn seats_from(tree: &Tree, width: u64, row: u64) -> Result<Vec<Seat>, AllocError>
-    ensures { IfOk result (λ seats. seats.items ≡ tree_seats width row tree.now) }
+fn boxes_from(tree: &Tree, width: u64, row: u64) -> Result<Vec<NodeBox>, AllocError>
+    ensures { IfOk result (λ boxes. boxes.items ≡ tree_boxes width row tree.now) }
 {
     let start = Corner { x: MARGIN, y: row };
-    seats_of(&tree.nodes, &tree.left, start, width)
+    boxes_of(&tree.nodes, &tree.left, start, width)
 }
 
 // Draws the boxes of the nodes.
 fn push_boxes(
     body: &mut Vec<u8>,
     teller: &Teller,
-    seats: &[Seat],
+    boxes: &[NodeBox],
     width: u64,
 ) -> Result<(), AllocError>
     ensures { OnOk result ((names : Names) → Keeps teller.now.session.tables names →
         Calls teller.now.labels names →
-        body.new.items ≡ body.old.items ++ flat_map (box_text names width) seats.now) }
+        body.new.items ≡ body.old.items ++ flat_map (box_text names width) boxes.now) }
 {
-    for seat in seats {
-        push_box(body, teller, seat, width)?;
+    for node_box in boxes {
+        push_box(body, teller, node_box, width)?;
     }
     Ok(())
 }
 
 // Draws the box of a node, and puts its words into it.
 #[tactic(auto, unfolding(crate::specs::Trees::box_text))]
-fn push_box(body: &mut Vec<u8>, teller: &Teller, seat: &Seat, width: u64) -> Result<(), AllocError>
+fn push_box(
+    body: &mut Vec<u8>,
+    teller: &Teller,
+    node_box: &NodeBox,
+    width: u64,
+) -> Result<(), AllocError>
     ensures { OnOk result ((names : Names) → Keeps teller.now.session.tables names →
         Calls teller.now.labels names →
-        body.new.items ≡ body.old.items ++ box_text names width seat.now) }
+        body.new.items ≡ body.old.items ++ box_text names width node_box.now) }
 {
-    push_border(body, seat, width)?;
-    push_box_words(body, teller, &seat.node, seat.corner)
+    push_border(body, node_box, width)?;
+    push_box_words(body, teller, &node_box.node, node_box.corner)
 }
 
 // Draws the box of a node.
-fn push_border(body: &mut Vec<u8>, seat: &Seat, width: u64) -> Result<(), AllocError>
+fn push_border(body: &mut Vec<u8>, node_box: &NodeBox, width: u64) -> Result<(), AllocError>
     ensures { OnOk result (body.new.items ≡ body.old.items
-        ++ rect_text seat.now.corner.x seat.now.corner.y width HEIGHT
-        (box_paint seat.now.left seat.now.node)) }
+        ++ rect_text node_box.now.corner.x node_box.now.corner.y width BOX_HEIGHT
+        (box_paint node_box.now.left node_box.now.node)) }
 {
-    let class = class_of(&seat.node);
+    let class = class_of(&node_box.node);
     push_rect(
         body,
         &Rect {
-            x: seat.corner.x,
-            y: seat.corner.y,
+            x: node_box.corner.x,
+            y: node_box.corner.y,
             width,
-            height: HEIGHT,
+            height: BOX_HEIGHT,
             rounded: 6,
             fill: fill_color(class),
             stroke: edge_color(class),
-            stroke_width: border_of(seat.left),
+            stroke_width: border_of(node_box.left),
             dashes: dashes_of(class),
         },
     )

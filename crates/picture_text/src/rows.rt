@@ -7,7 +7,7 @@ ghost use Rattle.script_labels.specs.Names.{Names, label_of_node};
 ghost use Rattle.script_labels.specs.Tables.{Keeps};
 ghost use Rattle.script_tales.specs.Called.{Calls, last_label, other_text};
 ghost use Rattle.picture_text.specs.Outlines.{line_of};
-ghost use Rattle.picture_text.specs.TextPictures.{asked_text, buffer_row, dispensable_text, facts_text, fallen_text, full_name as full_name_of, in_parentheses, keepers_text, live_text, node_mark as mark_in, name_cell, pages_row, released_text, row_text, row_width as width_of_row, sign_of_class, signs_of_node, state_text, told_row, weak_text, widest_row};
+ghost use Rattle.picture_text.specs.TextPictures.{asked_text, buffer_row, dispensable_text, facts_text, fallen_text, full_name as full_name_of, in_parentheses, keepers_text, live_text, name_cell, node_mark as mark_in, pages_row, released_text, row_text, row_width as width_of_row, sign_of_class, signs_of_node, state_text, told_row, weak_text, widest_row};
 
 use crate::outline::Row;
 use alloc_event::Node;

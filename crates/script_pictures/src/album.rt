@@ -1,5 +1,5 @@
 //! All nodes that were ever born, as they were last seen, collection by collection.
-ghost use Rattle.std.specs.Prelude.{◌≡◌, ◌==◌, ◌&&◌, not, [], Bool, IfOk, List, OnOk, Some, if◌then◌else◌, map, ℕ};
+ghost use Rattle.std.specs.Prelude.{◌≡◌, ◌==◌, ◌&&◌, [], Bool, IfOk, List, OnOk, Some, if◌then◌else◌, map, ℕ};
 ghost use Rattle.std.specs.List.{list_any};
 ghost use Rattle.std.specs.Option.{option_map};
 ghost use Rattle.sm_names.specs.declared.keys.NodeKey.{NodeKey as Key};

@@ -1,7 +1,5 @@
 //! What pictures say of a node and of a buffer, whatever their format.
 ghost use Rattle.std.specs.Prelude.{◌≡◌, ◌++◌, OnOk};
-ghost use Rattle.std.specs.List.{list_any};
-ghost use Rattle.sm_names.specs.Sameness.{same_key};
 ghost use Rattle.script_labels.specs.Names.{Names};
 ghost use Rattle.script_tales.specs.Called.{Calls};
 ghost use Rattle.script_pictures.specs.Features.{class_of as class_in, gap_behind as gap_behind_nodes, kind_text, pages_text, place_text};

@@ -1,7 +1,7 @@
 use Rattle.std.specs.Prelude.{codes, decimal}
 use Rattle.std.specs.List.{flat_map}
 use Rattle.std.proofs.lemmas.Result.{on_ok_weaker}
-use Rattle.picture_dot.specs.DotPictures.{box_text, cluster_text, buffers_table}
+use Rattle.picture_dot.specs.DotPictures.{box_text, buffers_table, cluster_text}
 use Rattle.script_pictures.proofs.Texts.{after, last}
 use Rattle.picture_dot.proofs.picture.push_cluster.Goals as goal
 

@@ -1,7 +1,7 @@
 use Rattle.std.proofs.Common.{◌≡◌, ◌<◌, arith, get_or, length}
 use Rattle.std.proofs.lemmas.Grind.{common_steps}
 use Rattle.picture_dot.specs.DotPictures.{dot_tree}
-use Rattle.picture_dot.proofs.Loops.{one-more}
+use Rattle.script_pictures.proofs.Loops.{one-more}
 use Rattle.picture_dot.proofs.picture.push_trees.Goals as goal
 
 -- one more comes last

@@ -2,7 +2,7 @@ use Rattle.std.specs.Prelude.{codes}
 use Rattle.std.proofs.lemmas.Result.{on_ok_weaker}
 use Rattle.event_facts.specs.Facts.{holders_in}
 use Rattle.script_tales.specs.FactTexts.{holders_text}
-use Rattle.picture_dot.specs.DotPictures.{cells_text, held_row, dot_live_words}
+use Rattle.picture_dot.specs.DotPictures.{cells_text, dot_live_words, held_row}
 use Rattle.script_pictures.specs.Features.{gap_behind}
 use Rattle.script_pictures.proofs.Texts.{after, last}
 use Rattle.picture_dot.proofs.tables.push_held_row.Goals as goal

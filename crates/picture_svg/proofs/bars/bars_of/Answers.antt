@@ -1,4 +1,4 @@
-use Rattle.std.proofs.Common.{◌≡◌, ◌∙◌, ap, sym, ℕ, List, ◌++◌, arith}
+use Rattle.std.proofs.Common.{◌≡◌, ◌∙◌, ap, sym, List, ◌++◌, arith}
 use Rattle.picture_svg.specs.Bars.{Shown, shown_at, shown_to}
 use Rattle.picture_svg.proofs.Indexes.{shown-more, shown-none}
 use Rattle.picture_svg.proofs.bars.bars_of.Goals as goal

@@ -1,7 +1,7 @@
 use Rattle.std.proofs.Common.{◌≡◌, map, max, take}
 use Rattle.std.specs.List.{fold}
+use Rattle.picture_layout.specs.Lengths.{capped_product, capped_sum}
 use Rattle.picture_svg.specs.Bars.{Shown, beside, shown_in}
-use Rattle.picture_svg.specs.Elements.{capped_product, capped_sum}
 use Rattle.picture_svg.proofs.bars.right_of.Given as goal
 
 -- that of those so far

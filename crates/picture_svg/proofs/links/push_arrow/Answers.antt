@@ -1,7 +1,8 @@
 use Rattle.std.specs.Prelude.{codes}
 use Rattle.std.proofs.lemmas.Result.{on_ok_weaker}
 use Rattle.script_pictures.proofs.Texts.{after, last}
-use Rattle.picture_svg.specs.Elements.{capped_sum, circle_text}
+use Rattle.picture_layout.specs.Lengths.{capped_sum}
+use Rattle.picture_svg.specs.Elements.{circle_text}
 use Rattle.picture_svg.specs.Links.{arrow_text, middle_row}
 use Rattle.picture_svg.proofs.links.push_arrow.Goals as goal
 

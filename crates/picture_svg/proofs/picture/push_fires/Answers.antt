@@ -1,7 +1,8 @@
 use Rattle.std.proofs.Common.{◌∙◌, ap, sym, ℕ, ◌++◌, false}
 use Rattle.std.specs.Prelude.{codes}
 use Rattle.std.proofs.lemmas.List.{nil_from_length}
-use Rattle.picture_svg.specs.Elements.{capped_sum, look}
+use Rattle.picture_layout.specs.Lengths.{capped_sum}
+use Rattle.picture_svg.specs.Elements.{look}
 use Rattle.picture_svg.specs.SvgPictures.{fact_text, fires_bottom, fires_line, fires_text}
 use Rattle.picture_svg.proofs.Rows.{more, none}
 use Rattle.picture_svg.proofs.picture.push_fires.Goals as goal

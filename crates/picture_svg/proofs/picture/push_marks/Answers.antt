@@ -1,6 +1,6 @@
 use Rattle.std.proofs.Common.{◌∙◌, ap, arith, sym, ℕ, ◌++◌}
 use Rattle.std.proofs.lemmas.List.{nil_from_length}
-use Rattle.picture_svg.specs.Elements.{capped_sum}
+use Rattle.picture_layout.specs.Lengths.{capped_sum}
 use Rattle.picture_svg.specs.SvgPictures.{fact_text, mark_look, marks_bottom, marks_text}
 use Rattle.picture_svg.proofs.Rows.{more, none}
 use Rattle.picture_svg.proofs.picture.push_marks.Goals as goal

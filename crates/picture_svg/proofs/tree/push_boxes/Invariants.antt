@@ -7,6 +7,6 @@ use Rattle.picture_svg.specs.Trees.{box_text}
 use Rattle.picture_svg.proofs.tree.push_boxes.Given as goal
 
 -- those so far
-abbrev pub invariant-loop-seat : goal.invariant-loop-seat
-invariant-loop-seat l = (names : Names) → Keeps l.teller.session.tables names → Calls l.teller.labels names →
-    l.body.items ≡ l.initial.body.items ++ flat_map (box_text names l.width) (take l.seat-index l.seats)
+abbrev pub invariant-loop-node_box : goal.invariant-loop-node_box
+invariant-loop-node_box l = (names : Names) → Keeps l.teller.session.tables names → Calls l.teller.labels names →
+    l.body.items ≡ l.initial.body.items ++ flat_map (box_text names l.width) (take l.node_box-index l.boxes)

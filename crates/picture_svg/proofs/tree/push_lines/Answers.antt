@@ -1,6 +1,7 @@
 use Rattle.std.proofs.Common.{◌∙◌, ap, arith, List, ℕ, ◌++◌, false, map}
 use Rattle.std.proofs.lemmas.List.{nil_from_length}
-use Rattle.picture_svg.specs.Elements.{capped_sum, look, words_text}
+use Rattle.picture_layout.specs.Lengths.{capped_sum}
+use Rattle.picture_svg.specs.Elements.{look, words_text}
 use Rattle.picture_svg.specs.Trees.{line_items, lines_text}
 use Rattle.picture_svg.proofs.Rows.{more, none}
 use Rattle.picture_svg.proofs.tree.push_lines.Goals as goal

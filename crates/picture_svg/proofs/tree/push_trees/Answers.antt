@@ -1,6 +1,6 @@
 use Rattle.std.proofs.Common.{◌∙◌, ap, sym, ℕ, ◌++◌}
 use Rattle.std.proofs.lemmas.List.{nil_from_length}
-use Rattle.picture_svg.specs.Trees.{tree_bottom, tree_right, tree_text, trees_bottom, trees_right, trees_text}
+use Rattle.picture_svg.specs.Trees.{tree_bottom, tree_text, trees_bottom, trees_right, trees_text}
 use Rattle.picture_svg.proofs.Rows.{more, none}
 use Rattle.picture_svg.proofs.tree.push_trees.Goals as goal
 

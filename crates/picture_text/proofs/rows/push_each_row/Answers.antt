@@ -1,7 +1,7 @@
 use Rattle.std.proofs.Common.{◌≡◌, ◌<◌, arith, get_or, length}
 use Rattle.std.proofs.lemmas.Grind.{common_steps}
 use Rattle.picture_text.specs.TextPictures.{told_row}
-use Rattle.picture_text.proofs.Loops.{one-more}
+use Rattle.script_pictures.proofs.Loops.{one-more}
 use Rattle.picture_text.proofs.rows.push_each_row.Goals as goal
 
 -- one more comes last

@@ -1,9 +1,0 @@
-use Rattle.std.proofs.Common.{◌≡◌, map}
-use Rattle.std.specs.List.{range_with_len}
-use Rattle.picture_svg.specs.Layouts.{corner_at}
-use Rattle.picture_svg.proofs.layout.corners_over.Given as goal
-
--- those so far
-abbrev pub invariant-loop-at : goal.invariant-loop-at
-invariant-loop-at l =
-    l.corners.items ≡ map (corner_at l.start l.pitch l.widths l.columns l.depths) (range_with_len 0 l.at)
