@@ -1,0 +1,18 @@
+use Rattle.std.proofs.Common.{refl}
+use Rattle.sm_runs.proofs.Legal.{is_legal}
+use Rattle.sm_runs.proofs.answers.a_misuse_fails_the_node.Goals as goal
+
+pub returns-clause-second_constraints : goal.returns-clause-second_constraints
+returns-clause-second_constraints c = is_legal _ _ _ refl refl refl
+
+pub returns-clause-late_weak : goal.returns-clause-late_weak
+returns-clause-late_weak c = is_legal _ _ _ refl refl refl
+
+pub returns-clause-late_weak_ok : goal.returns-clause-late_weak_ok
+returns-clause-late_weak_ok c = is_legal _ _ _ refl refl refl
+
+pub returns-clause-weak_takes_early : goal.returns-clause-weak_takes_early
+returns-clause-weak_takes_early c = is_legal _ _ _ refl refl refl
+
+pub returns-clause-misuse_before_limits : goal.returns-clause-misuse_before_limits
+returns-clause-misuse_before_limits c = is_legal _ _ _ refl refl refl

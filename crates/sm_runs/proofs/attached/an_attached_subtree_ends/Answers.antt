@@ -1,0 +1,12 @@
+use Rattle.std.proofs.Common.{refl}
+use Rattle.sm_runs.proofs.Legal.{is_legal}
+use Rattle.sm_runs.proofs.attached.an_attached_subtree_ends.Goals as goal
+
+pub returns-clause-attached_released : goal.returns-clause-attached_released
+returns-clause-attached_released c = is_legal _ _ _ refl refl refl
+
+pub returns-clause-attached_with_a_child : goal.returns-clause-attached_with_a_child
+returns-clause-attached_with_a_child c = is_legal _ _ _ refl refl refl
+
+pub returns-clause-attached_below_attached : goal.returns-clause-attached_below_attached
+returns-clause-attached_below_attached c = is_legal _ _ _ refl refl refl

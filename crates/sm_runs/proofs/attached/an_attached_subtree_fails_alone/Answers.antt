@@ -1,0 +1,15 @@
+use Rattle.std.proofs.Common.{refl}
+use Rattle.sm_runs.proofs.Legal.{is_legal}
+use Rattle.sm_runs.proofs.attached.an_attached_subtree_fails_alone.Goals as goal
+
+pub returns-clause-too_large : goal.returns-clause-too_large
+returns-clause-too_large c = is_legal _ _ _ refl refl refl
+
+pub returns-clause-at_least_two : goal.returns-clause-at_least_two
+returns-clause-at_least_two c = is_legal _ _ _ refl refl refl
+
+pub returns-clause-too_few_and_too_small : goal.returns-clause-too_few_and_too_small
+returns-clause-too_few_and_too_small c = is_legal _ _ _ refl refl refl
+
+pub returns-clause-bytes_and_not_pages : goal.returns-clause-bytes_and_not_pages
+returns-clause-bytes_and_not_pages c = is_legal _ _ _ refl refl refl

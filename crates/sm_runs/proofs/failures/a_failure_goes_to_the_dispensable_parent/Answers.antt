@@ -1,0 +1,9 @@
+use Rattle.std.proofs.Common.{refl}
+use Rattle.sm_runs.proofs.Legal.{is_legal}
+use Rattle.sm_runs.proofs.failures.a_failure_goes_to_the_dispensable_parent.Goals as goal
+
+pub returns-clause-child_of_dispensable_lost : goal.returns-clause-child_of_dispensable_lost
+returns-clause-child_of_dispensable_lost c = is_legal _ _ _ refl refl refl
+
+pub returns-clause-dispensable_after_its_child : goal.returns-clause-dispensable_after_its_child
+returns-clause-dispensable_after_its_child c = is_legal _ _ _ refl refl refl

@@ -1,0 +1,9 @@
+use Rattle.std.proofs.Common.{refl}
+use Rattle.sm_runs.proofs.Legal.{is_legal}
+use Rattle.sm_runs.proofs.failures.the_first_failure_is_told.Goals as goal
+
+pub returns-clause-failed_and_then_lost : goal.returns-clause-failed_and_then_lost
+returns-clause-failed_and_then_lost c = is_legal _ _ _ refl refl refl
+
+pub returns-clause-failed_and_abandoned : goal.returns-clause-failed_and_abandoned
+returns-clause-failed_and_abandoned c = is_legal _ _ _ refl refl refl

@@ -1,0 +1,9 @@
+use Rattle.std.proofs.Common.{refl}
+use Rattle.sm_runs.proofs.Legal.{is_legal}
+use Rattle.sm_runs.proofs.releases.an_orphan_keeps_its_count.Goals as goal
+
+pub returns-clause-failed_counts_return : goal.returns-clause-failed_counts_return
+returns-clause-failed_counts_return c = is_legal _ _ _ refl refl refl
+
+pub returns-clause-released_counts_stay : goal.returns-clause-released_counts_stay
+returns-clause-released_counts_stay c = is_legal _ _ _ refl refl refl

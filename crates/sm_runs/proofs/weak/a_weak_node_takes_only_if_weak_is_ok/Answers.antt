@@ -1,0 +1,15 @@
+use Rattle.std.proofs.Common.{refl}
+use Rattle.sm_runs.proofs.Legal.{is_legal}
+use Rattle.sm_runs.proofs.weak.a_weak_node_takes_only_if_weak_is_ok.Goals as goal
+
+pub returns-clause-weak_not_ok : goal.returns-clause-weak_not_ok
+returns-clause-weak_not_ok c = is_legal _ _ _ refl refl refl
+
+pub returns-clause-weak_ok_for_children : goal.returns-clause-weak_ok_for_children
+returns-clause-weak_ok_for_children c = is_legal _ _ _ refl refl refl
+
+pub returns-clause-weak_ok_stays : goal.returns-clause-weak_ok_stays
+returns-clause-weak_ok_stays c = is_legal _ _ _ refl refl refl
+
+pub returns-clause-weak_ok_too_late : goal.returns-clause-weak_ok_too_late
+returns-clause-weak_ok_too_late c = is_legal _ _ _ refl refl refl
