@@ -1,4 +1,4 @@
-//! A block of intervals: a short list that is changed in its place.
+//! A block of intervals: a short list, which a change does not copy.
 ghost use Rattle.std.specs.Prelude.{◌≡◌, false, ◌+◌, ◌-◌, ◌<◌, ◌≤◌, [], ◌++◌, length, take, drop, set, slice_index_or, nat_lt, IfOk};
 ghost use Rattle.std.specs.List.{insert, remove_range, prefix_len};
 ghost use Rattle.std.specs.List.Sorted.{IsNonDecreasingBy};
@@ -127,7 +127,7 @@ impl Block {
     }
 
     /// How many end before this page, or begin before it. It looks close to a place first, and then
-    /// goes by halves.
+    /// searches by halves.
     pub(crate) fn place(&self, page: u64, by_end: bool, near: usize) -> usize
         requires { IsNonDecreasingBy (edge_of by_end) self.now }
         ensures { result ≡ prefix_len (λ i. nat_lt (edge_of by_end i) page) self.now }

@@ -225,7 +225,7 @@ fn clients_of<E: Setup, S: Ledger, W: Ledger>(
 
 /// Runs all scripts side by side: a client for each joins, in order, and then each runs its script,
 /// as by `run_actor`, in a thread of its own. All threads wait until all are there, so that each
-/// actor may wait for any other; all have ended when it returns. The gate is told of each step of
+/// actor may wait for any other; all have ended when it returns. The gate hears of each step of
 /// each actor, outside the lock.
 ///
 /// One end for each script, in order; labels of clients stand for the clients of these ends. An

@@ -142,8 +142,9 @@ impl<E: Setup, S: Ledger, W: Ledger> Handle<E, S, W> {
         self.let_go(rt, service, client, call)
     }
 
-    /// Gives the handle to another client, who collects it: its unit goes under the lock with it.
-    /// Where the answer is not Done the handle comes back with the reason. Costs one event.
+    /// Gives the handle to another client, which collects it: the handle and its unit lie under the
+    /// lock until then. Where the answer is not Done the handle comes back with the reason. Costs
+    /// one event.
     pub fn give<R: Wait>(
         self,
         rt: &R,

@@ -154,13 +154,13 @@ fn first_mismatch<E: Setup, S: Ledger, W: Ledger>(
 /// Compares the parts with what lies under the lock, client by client, in one pass over the record.
 /// It makes no event, merges no shares and changes nothing.
 ///
-/// Answered Ok, the record is a legal history of so many events, each client that joined has its
-/// part here, each own list is just that client's part of the record, and all open handles are here.
-/// Else, in this order: `NoMemory` where memory is refused; `MissingClient` with the first client that
+/// Answered Ok, the record is a legal history of so many events, each client that joined has its part
+/// here, each own list is just that client's part of the record, and all open handles are here. Else,
+/// in this order: `NoMemory` where memory is refused; `MissingClient` with the first client that
 /// joined and has no part here; `OpenValues` where more or fewer handles of a strength are open than
 /// are here, with how many are missing, 0 where none are; `RecordMismatch` for the least client whose
 /// list is not its part, with the event of the part at the first place where they differ, or of the
-/// list, if the part is over.
+/// list, if the part has no further one.
 ///
 /// Costs three passes over the record, one over each own list, and one over all handles; memory for
 /// two numbers and a bit for each event, a number for each part, and a line for each client.

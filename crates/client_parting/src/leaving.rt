@@ -1,4 +1,4 @@
-//! How a client goes.
+//! How a client vanishes.
 ghost use Rattle.std.specs.Prelude.{◌≡◌, ◌+◌, ◌<◌, ◌≤◌, ◌↔◌, ◌++◌, [], length, map, vec_len, vec_capacity, MatchResult, IfOk, IfErr, IfSome, OnOk, is_ok, true};
 ghost use Rattle.std.specs.List.{All};
 ghost use Rattle.sm_names.specs.declared.outcomes.StepFault.{StepFault as Fault};

@@ -8,8 +8,8 @@ use sm_names::ClientId;
 use std::marker::Model;
 use std::sync::ledger::Ledger;
 
-/// What is left of a client that is gone: its own list, and what it could not part with. It must be
-/// spent: at the end of the service, at the latest.
+/// What remains of a client that vanished: its own list, and what it could not give up. It must be
+/// spent, at the latest once the service has ended.
 pub struct Wreck<E: Setup, S: Ledger, W: Ledger> {
     client: Client<E, S, W>,
     refused: Held<E, S, W>,

@@ -92,7 +92,7 @@ fn record_word<'a>(alloc: Global) -> Arg<'a> {
         .help("Writes all events as a transcript, and the report behind # below it")
 }
 
-// The name of a file that is read in place of standard input.
+// The name of a file that is read instead of standard input.
 fn file_word<'a>(alloc: Global) -> Arg<'a> {
     Arg::new(alloc, FILE)
         .action(ArgAction::Set)
@@ -123,7 +123,7 @@ fn threads<'a>(alloc: Global) -> Result<Command<'a>, AllocError> {
     read_by(alloc, command)?.arg(record_word(alloc))
 }
 
-// The command that tells each line.
+// The command that explains each line.
 fn explain<'a>(alloc: Global) -> Result<Command<'a>, AllocError> {
     let command = Command::new(alloc, EXPLAIN)
         .about(EXPLAIN_ABOUT)

@@ -87,8 +87,8 @@ fn parent_of(by_key: &KeyMap<Node>, node: &Node) -> Option<Node>
     }
 }
 
-// Puts a link behind what is there, from the parent that was born at this event, and how a failure went
-// along it.
+// Puts a link behind what is there, from the parent that was born at this event, and how a failure
+// followed it along it.
 fn push_link(
     text: &mut Vec<u8>,
     above: u64,
@@ -122,7 +122,7 @@ fn begin_of(node: &Node) -> &'static str
     }
 }
 
-// Puts behind what is there how a failure went along a link, if it did.
+// Appends how a failure followed a link, if it did.
 fn push_way(text: &mut Vec<u8>, way: Option<Way>) -> Result<(), AllocError>
     ensures { OnOk result (text.new.items ≡ text.old.items ++ dot_way_text way) }
 {
@@ -143,7 +143,7 @@ fn words_for_stop() -> &'static str
      label=\" stops\""
 }
 
-// Puts behind what is there how an arrow looks that a failure went along, at this step.
+// Appends how an arrow looks that a failure followed, at this step.
 fn push_arrow<'a>(
     text: &mut Vec<u8>,
     direction: &'a str,

@@ -21,10 +21,10 @@ use sm_names::{ClientId, Fired};
 use std::alloc::AllocError;
 use text_parts::{Part, push_parts};
 
-/// Puts the picture behind what is there, where the last event has this line.
+/// Appends the picture; the last event has this line.
 ///
-/// `NoMemory` where memory is refused. Costs O(n log n) for the n nodes of each tree and the n links along
-/// which failures went, a look into a table for each label, and for each buffer a look-up for each client
+/// `NoMemory` where memory is refused. Costs O(n log n) for the n nodes of each tree and the n links that
+/// failures followed, a look into a table for each label, and for each buffer a look-up for each client
 /// and strength.
 #[tactic(auto, unfolding(crate::specs::DotPictures::dot_text))]
 pub fn push_dot(

@@ -74,7 +74,7 @@ fn head_of(corner: Corner, width: u64) -> Corner
     }
 }
 
-// Draws a link from above to a node, and how a failure went along it.
+// Draws a link from above to a node, and how a failure followed it.
 #[tactic(auto, unfolding(crate::specs::Links::link_text))]
 fn push_link(
     body: &mut Vec<u8>,
@@ -147,7 +147,7 @@ fn dashes_of(node: &Node) -> &'static str
     if node.attached { "7 5" } else { "" }
 }
 
-// Draws the end of a link, and the step at which a failure went along it.
+// Draws the end of a link, and the step at which a failure followed it.
 fn push_end(body: &mut Vec<u8>, to: Corner, way: Option<Way>) -> Result<(), AllocError>
     ensures { OnOk result (body.new.items ≡ body.old.items ++ end_text to way) }
 {
@@ -159,7 +159,7 @@ fn push_end(body: &mut Vec<u8>, to: Corner, way: Option<Way>) -> Result<(), Allo
     }
 }
 
-// Draws the end of a link along which a failure went at this step.
+// Draws the end of a link that a failure followed at this step.
 #[tactic(auto, unfolding(crate::specs::Links::arrow_text))]
 fn push_arrow(body: &mut Vec<u8>, to: Corner, step: u64) -> Result<(), AllocError>
     ensures { OnOk result (body.new.items ≡ body.old.items ++ arrow_text to step) }
@@ -188,7 +188,7 @@ fn push_bar(body: &mut Vec<u8>, to: Corner) -> Result<(), AllocError>
     )
 }
 
-// Puts the path of a link behind what is there, in the direction of a failure that went along it.
+// Appends the path of a link, in the direction of a failure that followed it.
 #[tactic(auto, unfolding(crate::specs::Links::way_path))]
 fn push_way(
     body: &mut Vec<u8>,

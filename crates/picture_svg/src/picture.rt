@@ -26,11 +26,11 @@ use sm_names::{Fired, HeldBuffer};
 use std::alloc::{AllocError, Global};
 use text_parts::{Part, push_parts};
 
-/// Puts the picture behind what is there, where the last event has this line: what the event did, the
-/// trees, the pool, and what the colours stand for.
+/// Appends the picture; the last event has this line. It shows what the event did, the trees, the
+/// pool, and what the colours stand for.
 ///
-/// `NoMemory` where memory is refused. Costs O(n log n) for the n nodes of each tree and the n links along
-/// which failures went, a look into a table for each label, and for each buffer a look-up for each client
+/// `NoMemory` where memory is refused. Costs O(n log n) for the n nodes of each tree and the n links that
+/// failures followed, a look into a table for each label, and for each buffer a look-up for each client
 /// and strength.
 #[tactic(auto, unfolding(crate::specs::SvgPictures::svg_text))]
 pub fn push_svg(

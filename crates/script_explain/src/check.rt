@@ -23,7 +23,7 @@ use text_parts::{Part, push_parts};
 pub enum Verdict {
     /// Each reply that is there is the machine's.
     Agrees,
-    /// The first that differs was told.
+    /// The first that differs was written.
     Differs,
 }
 

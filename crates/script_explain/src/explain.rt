@@ -39,7 +39,7 @@ struct Explainer {
 /// event came to. Lines that begin with two spaces are passed over: they count as lines. The whole script
 /// is read before any line is judged.
 ///
-/// On a fault, what went out is the text of the whole lines before the one at which it came:
+/// On a fault, the output is the text of the whole lines before the one at which it came:
 /// - `ReadFault`, `TooLong`: the reader failed, or the script has more than `MOST_BYTES` bytes; nothing
 ///   was written.
 /// - `WriteFault`: the writer failed, or took nothing, or could not be flushed. A first part of the text

@@ -1,4 +1,4 @@
-//! What is told of an allocation.
+//! The text of an allocation.
 ghost use Rattle.std.specs.Prelude.{◌≡◌, ◌++◌, OnOk};
 ghost use Rattle.std.specs.List.{flat_map};
 ghost use Rattle.script_labels.specs.Names.{Names};

@@ -1,4 +1,4 @@
-//! What is told of who keeps the pages of a buffer.
+//! The text of who keeps the pages of a buffer.
 ghost use Rattle.std.specs.Prelude.{◌≡◌, ◌++◌, [], OnOk};
 ghost use Rattle.std.specs.List.{flat_map};
 ghost use Rattle.event_facts.specs.Facts.{holders_in};

@@ -1,4 +1,4 @@
-//! What is told of a failure, and of an end: where it went, and where it stopped.
+//! The text of a failure and of an end: its way, and where it stopped.
 ghost use Rattle.std.specs.Prelude.{◌≡◌, ◌++◌, [], OnOk};
 ghost use Rattle.std.specs.List.{flat_map};
 ghost use Rattle.script_labels.specs.Names.{Names};
@@ -37,7 +37,7 @@ pub(crate) fn push_loss(
     push_below(text, tables, &scene.nodes, &way)
 }
 
-// Puts behind what is there why a failure that came up this way goes no further, and the way down.
+// Appends why a failure that came up this way climbs no further, and the way down.
 fn push_below(
     text: &mut Vec<u8>,
     tables: &Tables,
@@ -88,7 +88,7 @@ fn push_fault(
     push(text, "\n")
 }
 
-// Puts behind what is there that the node ends, and what goes with it.
+// Appends that the node ends, and which nodes end with it.
 pub(crate) fn push_end(
     text: &mut Vec<u8>,
     tables: &Tables,
@@ -315,7 +315,7 @@ fn push_next(text: &mut Vec<u8>, tables: &Tables, node: NodeKey) -> Result<(), A
     )
 }
 
-// Puts behind what is there why the failure goes no further than this node, if it is no root.
+// Appends why the failure climbs no further than this node, if it is no root.
 fn push_stop(
     text: &mut Vec<u8>,
     tables: &Tables,

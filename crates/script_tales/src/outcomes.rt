@@ -1,4 +1,4 @@
-//! What is told of what an event left: who is waited for, and what became of buffers.
+//! The text of what an event left: for whom an allocation waits, and what became of buffers.
 ghost use Rattle.std.specs.Prelude.{◌≡◌, ◌++◌, OnOk};
 ghost use Rattle.std.specs.List.{flat_map};
 ghost use Rattle.script_labels.specs.Names.{Names};

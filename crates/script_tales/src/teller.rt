@@ -1,4 +1,4 @@
-//! A session whose events are told.
+//! A session that also writes the facts of its events.
 ghost use Rattle.std.specs.Prelude.{◌≡◌, ◌≢◌, ◌≤◌, ◌++◌, [], IfErr, IfOk, OnOk, option_map};
 ghost use Rattle.core_state.specs.Reads.{views_of};
 ghost use Rattle.script_labels.specs.Names.{Names, label_of_node};
@@ -72,7 +72,7 @@ impl Teller {
     }
 
     /// Answers the line of this number, without its end, as `Session::answer` does: what it is answered
-    /// goes into `reply`, and what its event came to into `facts`, both in place of what was there.
+    /// is written into `reply`, and the facts of its event into `facts`; both are emptied first.
     ///
     /// On an error neither is to be read. Where memory was refused its call may have been made. Costs what
     /// the session's answer costs, and where a collection changes what `take_event` costs.

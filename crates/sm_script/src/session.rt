@@ -54,7 +54,7 @@ impl Session {
         })
     }
 
-    /// Answers a line, without its end, in place of what was in `reply`.
+    /// Answers a line, without its end, into `reply`, which is emptied first.
     ///
     /// On an error the line was not answered, and `reply` holds nothing that is to be read. Where memory
     /// was refused its call may have been made. Takes a time in proportion to the line and its text, a
@@ -163,7 +163,7 @@ impl Session {
     }
 }
 
-// Takes the reader of the tracker that the reply tells of, if it tells of one.
+// Takes the reader of the tracker in the reply, if there is one.
 fn keep_reader(
     core: &mut Core,
     readers: &mut HashMap<TrackerId, Tracker>,
@@ -181,7 +181,7 @@ fn keep_reader(
     Ok(())
 }
 
-// The event at which the tracker fired, if its reader tells of it, and the core too.
+// The event at which the tracker fired, if its reader knows it, and the core too.
 fn firing(readers: &mut HashMap<TrackerId, Tracker>, core: &Core, tracker: TrackerId) -> Option<u64>
     ensures { (history : List Entry) → Shows core.now history → IfSome result (λ event.
         Contains (fired (timeline core.now.pool history))

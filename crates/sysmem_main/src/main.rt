@@ -1,5 +1,5 @@
 //! The program: `sysmem run` answers a script, `sysmem threads` runs its clients side by side, `sysmem
-//! explain` and `sysmem draw` tell what its events came to, `sysmem check` compares a transcript.
+//! explain` and `sysmem draw` say what its events did, `sysmem check` compares a transcript.
 #![tactic(auto)]
 
 mod messages;
@@ -38,8 +38,8 @@ fn status_of(kind: ErrorKind) -> u8
     }
 }
 
-// Says why the words ask for no run: a missing command and a file in its place in words of our own,
-// all else in clap's.
+// Says why the words ask for no run: a missing command and a file instead of one in words of our
+// own, all else in clap's.
 fn tell(rt: &(impl Print + Eprint), error: &Error, words: &[String]) {
     let _ = match error.kind() {
         ErrorKind::MissingSubcommand => rt.eprintln(NO_COMMAND),
