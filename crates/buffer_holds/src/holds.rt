@@ -25,9 +25,10 @@ use std::marker::Model;
 /// for which of them one more handle takes no memory (`has_handle_room`). A client gains room with the
 /// first handle that it opens or lands, and keeps it when the last one is closed or given, so that
 /// `sub` is undone by `add` without memory. `tidy` takes the room back: call it once a `sub` or a
-/// `lift` stands for good, else what was open keeps its memory. `lift` makes room for the client that
-/// lands the handle, so that `land` takes no memory. A room that was taken back is used again; the
-/// memory is as much as was needed at once, with room for a row more for each handle in a parcel.
+/// `lift` need not be undone any more; otherwise the client keeps the room. `lift` makes room for the
+/// client that lands the handle, so that `land` takes no memory. A room that was taken back is used
+/// again; the memory is as much as was needed at once, with room for a row more for each handle in a
+/// parcel.
 ///
 /// Each call looks for one client's row, for the tally of one kind of handle, or for both, and never
 /// looks at all clients: a look-up is one at the place where the last one ended and at the one behind
@@ -94,7 +95,7 @@ impl Holds {
     }
 
     /// How many of these handles the client has open: what it opened and landed, less what it
-    /// closed and lifted. Those in parcels are nobody's. One look-up.
+    /// closed and lifted. Those in parcels belong to nobody. One look-up.
     pub fn of(&self, client: ClientId, buffer: BufferName, strength: Strength) -> u32
         ensures { result ≡ of self.now client buffer strength }
     {
@@ -274,8 +275,9 @@ impl Holds {
         }
     }
 
-    /// Puts one of the client's handles into a parcel, where it is open and nobody's, and answers
-    /// whether it had one. Without one nothing changes. The client keeps its room until `tidy`.
+    /// Puts one of the client's handles into a parcel, where it is open and belongs to nobody, and
+    /// answers whether it had one. Without one nothing changes. The client keeps its room until
+    /// `tidy`.
     ///
     /// It makes room for the handle's receiver, which is not known yet, so that `land` takes no
     /// memory: a place for one row more for each handle in a parcel. `NoMemory` comes only where

@@ -235,7 +235,8 @@ impl<E: Setup, S: Ledger, W: Ledger> Client<E, S, W> {
         }
     }
 
-    // Makes the event that lets a handle go, whose unit comes back unless the answer is Done.
+    // Makes the event that drops or gives a handle, whose unit comes back unless the answer is
+    // Done.
     pub(crate) fn let_go<R: Wait>(
         &mut self,
         rt: &R,

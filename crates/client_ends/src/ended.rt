@@ -9,7 +9,7 @@ pub struct Ended<E: Setup, S: Ledger, W: Ledger> {
     ledgers: PhantomData<(E, S, W)>,
 }
 
-/// Ends the service, and lets its record and its core go. It takes no lock and no memory.
+/// Ends the service, and drops its record and its core. It takes no lock and no memory.
 pub fn end<E: Setup, S: Ledger, W: Ledger>(service: Service<E, S, W>) -> Ended<E, S, W> {
     service.end();
     Ended {

@@ -163,7 +163,7 @@ impl<E: Setup, S: Ledger, W: Ledger> Handle<E, S, W> {
         self.let_go(rt, service, client, call)
     }
 
-    // Makes a call that lets the handle go.
+    // Makes a call that drops or gives the handle.
     fn let_go<R: Wait>(
         self,
         rt: &R,

@@ -257,7 +257,7 @@ fn spend<E: Setup, S: Ledger, W: Ledger>(
     client.spend(ended);
 }
 
-/// Ends the service, and lets all parts go without events. It takes no lock and no memory. Costs a
+/// Ends the service, and drops all parts without events. It takes no lock and no memory. Costs a
 /// constant for each value.
 pub fn end_service<E: Setup, S: Ledger, W: Ledger>(
     service: Service<E, S, W>,

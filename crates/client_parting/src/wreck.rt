@@ -30,7 +30,7 @@ impl<E: Setup, S: Ledger, W: Ledger> Wreck<E, S, W> {
         Wreck { client, refused }
     }
 
-    /// The id of the client that is gone. It takes no lock, nor do the other readers.
+    /// The id of the client that vanished. It takes no lock, nor do the other readers.
     pub fn id(&self) -> ClientId
         ensures { result ≡ self.now.client.id }
     {
@@ -52,7 +52,7 @@ impl<E: Setup, S: Ledger, W: Ledger> Wreck<E, S, W> {
         self.client.own().len() as u64
     }
 
-    /// What the client could not part with: its Close or DropHandle was not answered Done.
+    /// What the client could not give up: its Close or DropHandle was not answered Done.
     pub(crate) fn refused(&self) -> &Held<E, S, W>
         ensures { held_in result.now ≡ self.now.refused }
     {

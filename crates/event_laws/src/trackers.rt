@@ -36,7 +36,7 @@ pub fn waiting_is_counted()
     ensures { (marks : Timeline) → unfired marks ≡ length (unfired_trackers marks) }
 {}
 
-/// Events are numbered in turn, and a tracker bears the number of the event that attached it: of
+/// Events are numbered in turn, and a tracker has the number of the event that attached it: of
 /// those that wait the ids rise, and a later event has a greater number than each tracker that was
 /// ever attached.
 pub fn trackers_are_numbered()

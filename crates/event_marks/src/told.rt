@@ -34,7 +34,7 @@ pub struct Moment {
     pub before: Snapshot,
 }
 
-/// What a call came to.
+/// What a call was answered, and the marks of its event.
 #[derive(Drop)]
 pub struct Told {
     pub reply: Reply,

@@ -90,7 +90,7 @@ fn push_link(
     push_end(body, to, way)
 }
 
-// Puts behind what is there how a link looks.
+// Appends how a link looks.
 #[tactic(auto, unfolding(crate::specs::Links::line_text))]
 fn push_line(body: &mut Vec<u8>, node: &Node, way: Option<Way>) -> Result<(), AllocError>
     ensures { OnOk result (body.new.items ≡ body.old.items ++ line_text node.now way) }
@@ -99,7 +99,7 @@ fn push_line(body: &mut Vec<u8>, node: &Node, way: Option<Way>) -> Result<(), Al
     push_word(body, "stroke-dasharray", dashes_of(node))
 }
 
-// Puts the colour and the width of a link behind what is there.
+// Appends the colour and the width of a link.
 #[tactic(auto, unfolding(crate::specs::Links::line_start))]
 fn push_stroke(body: &mut Vec<u8>, way: Option<Way>) -> Result<(), AllocError>
     ensures { OnOk result (body.new.items ≡ body.old.items ++ line_start way) }
@@ -213,7 +213,7 @@ fn push_way(
     }
 }
 
-// Puts a path behind what is there, from a corner down or up to a row, along it, and on to its end.
+// Appends a path, from a corner down or up to a row, along it, and on to its end.
 #[tactic(auto, unfolding(crate::specs::Links::path_text))]
 fn push_bends(
     body: &mut Vec<u8>,

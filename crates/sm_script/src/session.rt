@@ -93,7 +93,7 @@ impl Session {
         }
     }
 
-    // Makes the call, and puts its reply as a line behind what is there.
+    // Makes the call, and appends its reply as a line.
     fn ask(
         &mut self,
         client: ClientId,
@@ -137,7 +137,7 @@ impl Session {
         keep_reader(&mut self.core, &mut self.readers, reply)
     }
 
-    // Puts what is read of the tracker as a line behind what is there.
+    // Appends what is read of the tracker as a line.
     fn poll(&mut self, tracker: TrackerId, text: &mut Vec<u8>) -> Result<(), Stop>
         ensures ok { OnOk result ((scene : Scene) → IsAt self.old scene →
             Gains self.old self.new (Act.Poll tracker) text.old.items text.new.items scene) }
@@ -151,7 +151,7 @@ impl Session {
         Ok(())
     }
 
-    // Puts what is seen as a line behind what is there.
+    // Appends what is seen as a line.
     fn show(&self, view: View, text: &mut Vec<u8>) -> Result<(), Stop>
         ensures ok { OnOk result ((scene : Scene) → IsAt self.now scene →
             Gains self.now self.now (Act.Show view) text.old.items text.new.items scene) }
