@@ -89,7 +89,7 @@ fn record_word<'a>(alloc: Global) -> Arg<'a> {
     Arg::new(alloc, RECORD)
         .long(RECORD)
         .action(ArgAction::SetTrue)
-        .help("Writes all events as a transcript, and the report behind # below it")
+        .help("Writes all events as a transcript, and below it the report, each line after #")
 }
 
 // The name of a file that is read instead of standard input.
@@ -97,7 +97,7 @@ fn file_word<'a>(alloc: Global) -> Arg<'a> {
     Arg::new(alloc, FILE)
         .action(ArgAction::Set)
         .value_name("FILE")
-        .help("A file that is read in place of standard input")
+        .help("A file that is read instead of standard input")
 }
 
 // The command, which has a pool and reads a script from a file.
