@@ -1,4 +1,6 @@
-//! Each line of a script with its reply, and indented the facts of its event.
+//! Each line of a script with its reply, and indented the facts of its event. A line is explained
+//! in a buffer of its own, which is then appended to the text: if memory is refused, the text still
+//! ends with a whole line.
 ghost use Rattle.std.specs.Prelude.{◌≡◌, ◌^◌, ◌<◌, ◌≤◌, ◌+◌, [], ◌∷◌, ◌++◌, List, ℕ, Option, IfErr, IfOk, OnErr, OnOk, length};
 ghost use Rattle.std.specs.Io.KnownBytes.{Appends};
 ghost use Rattle.script_lines.specs.Pieces.{last_part, whole_lines};

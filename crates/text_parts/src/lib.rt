@@ -1,4 +1,5 @@
-//! Texts that are put together of parts.
+//! Texts made of parts: one call appends an array of parts. A proof follows each early return, so
+//! that with a call for each part its time would grow with the square of their number.
 #![tactic(auto)]
 
 ghost use Rattle.std.specs.Prelude.{◌≡◌, ◌++◌, OnOk};
