@@ -78,8 +78,8 @@ impl Holds {
         Self::with_seed(alloc, limit, [0; 16])
     }
 
-    /// Does what `new` does. The tables hash from this seed: with random bytes, a caller that picks
-    /// clients and buffers can't make their counts collide. No count depends on it.
+    /// Does what `new` does. The tables hash from this seed: with random bytes, a caller can't pick
+    /// clients and buffers whose counts collide. No count depends on it.
     pub fn with_seed(alloc: Global, limit: u32, seed: [u8; 16]) -> Self
         ensures { result ≡ record { limit = limit; rows = []; parcels = [] } }
     {

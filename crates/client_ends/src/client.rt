@@ -459,7 +459,7 @@ impl<E: Setup, S: Ledger, W: Ledger> Client<E, S, W> {
         self.new_end(rt, service, Call::OpenRoot)
     }
 
-    /// Lets the client go without an event, after the service was ended.
+    /// Spends the client without an event, after the service was ended.
     pub fn spend(self, _ended: &Ended<E, S, W>) {
         let Client { id: _, account } = self;
         account.spend();

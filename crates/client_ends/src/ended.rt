@@ -3,7 +3,7 @@ use service_lock::{Service, Setup};
 use std::marker::PhantomData;
 use std::sync::ledger::Ledger;
 
-/// A service was ended: what its clients had may be let go without events.
+/// A service was ended: the values of its clients may be spent without events.
 #[derive(Drop)]
 pub struct Ended<E: Setup, S: Ledger, W: Ledger> {
     ledgers: PhantomData<(E, S, W)>,

@@ -15,7 +15,7 @@ use std::alloc::Global;
 use std::sync::Wait;
 use std::sync::ledger::Ledger;
 
-/// A client at the end: there, with what it holds, or gone.
+/// A client at the end: either with what it holds, or as the wreck of one that vanished.
 pub enum Holding<E: Setup, S: Ledger, W: Ledger> {
     Present(Client<E, S, W>, Held<E, S, W>),
     Wrecked(Wreck<E, S, W>),

@@ -1,4 +1,4 @@
-//! What is left of a client that is gone.
+//! What remains of a client that vanished.
 ghost use Rattle.std.specs.Prelude.{◌≡◌, ◌+◌, length};
 ghost use Rattle.client_parting.specs.Partings.{held_in};
 

@@ -116,9 +116,8 @@ impl Core {
     }
 
     /// Does what `new` does. The counts of handles hash from this seed: with random bytes, a caller
-    /// that makes calls can't choose clients and buffers whose counts collide, so that one call
-    /// would cost the square of what it opens. The seed changes what calls cost, and nothing that
-    /// is answered.
+    /// can't choose clients and buffers whose counts collide, so that one call would cost the
+    /// square of what it opens. The seed changes what calls cost, and nothing that is answered.
     pub fn with_seed(
         alloc: Global,
         pages: u32,
