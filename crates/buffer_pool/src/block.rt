@@ -12,7 +12,7 @@ use std::marker::Model;
 /// The most intervals that a block has.
 pub(crate) const FULL: usize = 128;
 
-/// How many stay where a full block is cut in two.
+/// How many stay where a full block is divided in two.
 pub(crate) const HALF: usize = 64;
 
 /// So many intervals one after another. A change moves those behind it.
