@@ -201,7 +201,7 @@ is_answered() {
 for script in examples/*.script; do count is_answered "$script"; done
 
 # Each example is explained as it stands beside it; what is explained is a transcript that agrees, its lines without an
-# indent are the script, and those behind two spaces the answers. A file is read in place of standard input.
+# indent are the script, and those behind two spaces the answers. A file is read instead of standard input.
 is_explained() {
   "$program" explain "$1" 2>"$room/told" | cmp -s - "${1%.script}.explained" && hears ''
 }
@@ -224,6 +224,7 @@ unopened() {
 }
 for command in run threads explain draw check; do count unopened "$command" examples/none.script 'no such file'; done
 count unopened run examples/first.script/none 'a part of its path is no directory'
+for command in run threads explain draw check; do count unopened "$command" examples 'it is a directory'; done
 count unopened run "$(printf 'n%.0s' {1..300})" 'the name is too long'
 ln -s loop "$room/loop"
 count unopened run "$room/loop" 'too many symbolic links'
@@ -341,7 +342,7 @@ helps() {
 }
 for command in run threads explain; do count helps "$command" '^ *C trackweak B T '; done
 for command in draw check; do count helps "$command" 'sysmem run --help'; done
-count helps explain '^up: the failure went'
+count helps explain '^up: the failure climbs'
 count helps check '^A transcript is'
 echo "$passed passed, $failed failed"
 [ "$failed" = 0 ]

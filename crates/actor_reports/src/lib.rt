@@ -1,4 +1,4 @@
-//! What is told of actors that came to their end.
+//! The report on actors that have ended.
 #![tactic(auto)]
 
 mod report;

@@ -171,7 +171,7 @@ impl ActorState {
         self.call_at(clients, asked)
     }
 
-    // The label that the step binds to a node stands for what the reply tells of.
+    // The label that the step binds to a node stands for the node in the reply.
     fn label_node(&mut self, step: Step, reply: &Reply) -> Result<(), AllocError>
         ensures { OnOk result (known self.new ≡ with_node_label (known self.old) step reply.now) }
     {
@@ -338,11 +338,11 @@ impl ActorState {
         }
     }
 
-    /// What the reply to the step's call tells: a new label, objects that are gone, and objects
-    /// that came. A reply that tells none of these changes nothing. Where memory is refused the
-    /// table is of no more use.
+    /// Takes in the reply to the step's call: a new label, objects that were spent, and objects
+    /// that came. A reply with none of these changes nothing. Where memory is refused the table is
+    /// of no more use.
     ///
-    /// Costs a constant number of look-ups for each object that came or went.
+    /// Costs a constant number of look-ups for each object that came or was spent.
     pub fn note_reply(
         &mut self,
         step: Step,

@@ -1,4 +1,4 @@
-//! What replies tell.
+//! What an actor reads in replies.
 ghost use Rattle.std.specs.Prelude.{◌≡◌};
 ghost use Rattle.actor_scripts.specs.ActorStates.{handle_of as handle_told, new_place as place_told, new_tracker as tracker_told, spends_by as spends_told, spends_object as is_spending};
 
@@ -6,7 +6,7 @@ use sm_names::{
     BufferName, Call, CollectionId, NodeKey, Reply, Spends, Strength, TrackerId, parts_of, row_of,
 };
 
-/// The node that the reply tells of, and its collection.
+/// The node in the reply, and its collection.
 pub(crate) fn new_place(reply: &Reply) -> Option<(NodeKey, CollectionId)>
     ensures { result ≡ place_told reply.now }
 {
@@ -21,7 +21,7 @@ pub(crate) fn new_place(reply: &Reply) -> Option<(NodeKey, CollectionId)>
     }
 }
 
-/// The tracker that it tells of.
+/// The tracker in the reply.
 pub(crate) fn new_tracker(reply: &Reply) -> Option<TrackerId>
     ensures { result ≡ tracker_told reply.now }
 {

@@ -13,7 +13,7 @@ use script_lines::{LabelHash, line_end};
 use std::alloc::Global;
 use std::io::Read;
 
-/// Reads a script of actors to its end, and tells its actors and their steps. No line is judged
+/// Reads a script of actors to its end, and answers its actors and their steps. No line is judged
 /// before the end was read.
 ///
 /// The script has the lines of a script, without views, and each client's lines are its steps, in
@@ -28,7 +28,7 @@ use std::io::Read;
 /// - `NoMemory`: memory was refused.
 ///
 /// Takes a time in proportion to the script's length, and for each line at most three looks into a
-/// table of labels. How labels are hashed changes what a look costs, and nothing that is told.
+/// table of labels. The hash of labels changes what a look-up costs, and no answer.
 pub fn read_actors<R: Read>(
     alloc: Global,
     labels: LabelHash,

@@ -4,10 +4,10 @@ ghost use Rattle.std.specs.Hash.FoldHasher as fold;
 
 use std::hash::{BuildHasher, FoldHasher, Hasher};
 
-/// How the tables of counts hash: from a seed, best one that whoever makes calls does not know. Who
-/// does not know the seed can't know which counts fall into one place of a table; who knows it can
-/// pick such clients and buffers. That is meant, and not proved: the hash is fast, and no cipher.
-/// The seed changes what a look-up costs, and no count.
+/// How the tables of counts hash: from a seed, best one that the callers do not know. A caller who
+/// knows the seed can pick clients and buffers whose counts fall into one place of a table; one who
+/// does not know it can't. That is meant, and not proved: the hash is fast, and no cipher. The seed
+/// changes what a look-up costs, and no count.
 #[derive(Clone, Copy)]
 pub struct CountHash {
     start: FoldHasher,

@@ -21,16 +21,17 @@ use std::marker::Model;
 
 /// How many handles are open, by client, buffer and strength, and how many are in parcels.
 ///
-/// A contract sees the counts of clients and of parcels (`of`, `moving` and their sum, `total`),
-/// and for which of them one more handle takes no memory (`has_handle_room`). A client gains room with
-/// the first handle that it opens or lands, and keeps it when the last one goes, so that `sub` is
-/// undone by `add` without memory. `tidy` takes the room back: call it once a `sub` or a `lift`
-/// stands for good, else what was open keeps its memory. `lift` makes room for whoever lands the
-/// handle, so that `land` takes no memory. A room that was taken back is used again; the memory is
-/// as much as was needed at once, with room for a row more for each handle in a parcel.
+/// A contract sees the counts of clients and of parcels (`of`, `moving` and their sum, `total`), and
+/// for which of them one more handle takes no memory (`has_handle_room`). A client gains room with the
+/// first handle that it opens or lands, and keeps it when the last one is closed or given, so that
+/// `sub` is undone by `add` without memory. `tidy` takes the room back: call it once a `sub` or a
+/// `lift` need not be undone any more; otherwise the client keeps the room. `lift` makes room for the
+/// client that lands the handle, so that `land` takes no memory. A room that was taken back is used
+/// again; the memory is as much as was needed at once, with room for a row more for each handle in a
+/// parcel.
 ///
 /// Each call looks for one client's row, for the tally of one kind of handle, or for both, and never
-/// goes over all clients: a look-up is one at the place where the last one ended and at the one behind
+/// looks at all clients: a look-up is one at the place where the last one ended and at the one behind
 /// it, and where the counts stand elsewhere one in a hash table. Where the last one ended changes what
 /// a call costs, and no count. A new row is amortised: where a table grows, its entries are moved.
 /// `total_near` and `add_near` look behind the last entry that was found first: handles that are opened
@@ -77,8 +78,8 @@ impl Holds {
         Self::with_seed(alloc, limit, [0; 16])
     }
 
-    /// Does what `new` does. The tables hash from this seed: with random bytes, whoever picks
-    /// clients and buffers can't make their counts collide. No count depends on it.
+    /// Does what `new` does. The tables hash from this seed: with random bytes, a caller can't pick
+    /// clients and buffers whose counts collide. No count depends on it.
     pub fn with_seed(alloc: Global, limit: u32, seed: [u8; 16]) -> Self
         ensures { result ≡ record { limit = limit; rows = []; parcels = [] } }
     {
@@ -94,7 +95,7 @@ impl Holds {
     }
 
     /// How many of these handles the client has open: what it opened and landed, less what it
-    /// closed and lifted. Those in parcels are nobody's. One look-up.
+    /// closed and lifted. Those in parcels belong to nobody. One look-up.
     pub fn of(&self, client: ClientId, buffer: BufferName, strength: Strength) -> u32
         ensures { result ≡ of self.now client buffer strength }
     {
@@ -123,8 +124,8 @@ impl Holds {
         tally_of(&self.tallies, kind, self.last.tally(strength)).total
     }
 
-    /// What `total` says. It looks at the spot first, which goes on behind what it finds, and takes
-    /// a look-up only where the tally stands elsewhere.
+    /// Answers what `total` answers. It looks at the spot first, and then moves the spot behind the
+    /// tally that it finds. It takes a look-up only if the tally stands elsewhere.
     pub fn total_near(&self, buffer: BufferName, strength: Strength, near: &mut Spot) -> u32
         ensures value { result ≡ total self.now buffer strength }
         ensures within { result ≤ self.now.limit }
@@ -211,8 +212,8 @@ impl Holds {
         self.add_near(client, buffer, strength, &mut near)
     }
 
-    /// Does what `add` does. It looks at the spot first, which goes on behind what it finds, and
-    /// takes look-ups only where the row or the tally stands elsewhere or is new.
+    /// Does what `add` does. It looks at the spot first, and then moves the spot behind what it
+    /// finds. It takes look-ups only if the row or the tally stands elsewhere or is new.
     pub fn add_near(
         &mut self,
         client: ClientId,
@@ -274,12 +275,13 @@ impl Holds {
         }
     }
 
-    /// Puts one of the client's handles into a parcel, where it is open and nobody's, and answers
-    /// whether it had one. Without one nothing changes. The client keeps its room until `tidy`.
+    /// Puts one of the client's handles into a parcel, where it is open and belongs to nobody, and
+    /// answers whether it had one. Without one nothing changes. The client keeps its room until
+    /// `tidy`.
     ///
-    /// It makes room for the handle's receiver, whoever that is, so that `land` takes no memory: a
-    /// place for one row more for each handle in a parcel. `NoMemory` comes only where there is no
-    /// such place and memory was refused, and changes nothing. Two look-ups.
+    /// It makes room for the handle's receiver, which is not known yet, so that `land` takes no
+    /// memory: a place for one row more for each handle in a parcel. `NoMemory` comes only where
+    /// there is no such place and memory was refused, and changes nothing. Two look-ups.
     pub fn lift(
         &mut self,
         client: ClientId,

@@ -169,7 +169,7 @@ pub(crate) fn tally_near(
     *tallies.get_index(found).unwrap().1
 }
 
-// One client less has a row. A tally that says nothing goes.
+// One client less has a row. A tally without counts is removed.
 pub(crate) fn leave(tallies: &mut Tallies, kind: HandleKind, hint: &Hint)
     requires { 0 < (tally_at tallies.old.entries kind).clients }
     ensures { Resets same_handle_kind tallies.old.entries tallies.new.entries kind

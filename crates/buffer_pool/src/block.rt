@@ -1,4 +1,4 @@
-//! A block of intervals: a short list that is changed in its place.
+//! A block of intervals: a short list, which a change does not copy.
 ghost use Rattle.std.specs.Prelude.{◌≡◌, false, ◌+◌, ◌-◌, ◌<◌, ◌≤◌, [], ◌++◌, length, take, drop, set, slice_index_or, nat_lt, IfOk};
 ghost use Rattle.std.specs.List.{insert, remove_range, prefix_len};
 ghost use Rattle.std.specs.List.Sorted.{IsNonDecreasingBy};
@@ -12,7 +12,7 @@ use std::marker::Model;
 /// The most intervals that a block has.
 pub(crate) const FULL: usize = 128;
 
-/// How many stay where a full block is cut in two.
+/// How many stay where a full block is divided in two.
 pub(crate) const HALF: usize = 64;
 
 /// So many intervals one after another. A change moves those behind it.
@@ -127,7 +127,7 @@ impl Block {
     }
 
     /// How many end before this page, or begin before it. It looks close to a place first, and then
-    /// goes by halves.
+    /// searches by halves.
     pub(crate) fn place(&self, page: u64, by_end: bool, near: usize) -> usize
         requires { IsNonDecreasingBy (edge_of by_end) self.now }
         ensures { result ≡ prefix_len (λ i. nat_lt (edge_of by_end i) page) self.now }

@@ -397,7 +397,7 @@ fn short_pair(blocks: &[Block]) -> usize
 }
 
 // The block in which the place lies behind all that end before this page, or that begin before it. It
-// looks close to a block first, and then goes by halves.
+// looks close to a block first, and then searches by halves.
 fn block_of(blocks: &[Block], page: u64, by_end: bool, near: usize) -> usize
     requires { All (λ b. 0 < length b) blocks.now }
     ensures within { result ≤ length blocks.now }

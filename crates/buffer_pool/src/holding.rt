@@ -7,7 +7,7 @@ ghost use Rattle.buffer_pool.specs.Rows.{all_in, capacity_of};
 use crate::blocks::Blocks;
 use sm_names::{Interval, MAX_PAGES};
 
-/// Puts an interval in its place.
+/// Inserts an interval where it belongs by page.
 pub(crate) fn hold(held: &mut Blocks, new: Interval)
     requires up { IsNonDecreasingBy (λ i. i.start) (all_in held.old.lists) }
     requires room { length (all_in held.old.lists) < capacity_of held.old }

@@ -194,7 +194,7 @@ fn reserve(
 }
 
 // Places buffers that all have room, and counts the looks. As the buffers are of one size, a hole
-// that was too small for one is too small for those after it, so the search goes on where it was.
+// that was too small for one is too small for those after it, so the search continues where it was.
 fn fill(
     holes: &mut Holes,
     held: &mut Blocks,

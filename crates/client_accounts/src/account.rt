@@ -191,7 +191,7 @@ impl<E: Setup, S: Ledger, W: Ledger> Account<E, S, W> {
     }
 
     /// Makes an event that may bring a handle, and answers its unit too, if it did. It takes one part of each
-    /// book for the unit, which goes back if the event brought none.
+    /// book for the unit, which the book takes back if the event brought none.
     #[tactic(auto, using(crate::proofs::UnitLaws::needs_none))]
     pub fn make_gaining(
         &mut self,
@@ -278,7 +278,7 @@ impl<E: Setup, S: Ledger, W: Ledger> Account<E, S, W> {
         self.apply_and_count(state, client, Call::Take(key))
     }
 
-    /// Lets the account go, once its client is done. Its list goes with it.
+    /// Drops the account and its list, once its client is done.
     pub fn spend(self) {
         let Account { units: _, own: _ } = self;
     }

@@ -2,7 +2,7 @@
 //! made. Each event that an account makes is counted in both.
 //!
 //! An account is below clients, ends and handles: it knows nothing of who holds what. An account makes no
-//! event that `service_lock::apply` would not make for whoever has the state under the lock.
+//! event that `service_lock::apply` would not make for a caller that has the state under the lock.
 #![tactic(auto)]
 
 mod account;

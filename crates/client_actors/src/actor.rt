@@ -27,7 +27,7 @@ pub(crate) struct Actor<E: Setup, S: Ledger, W: Ledger> {
     pub state: ActorState,
 }
 
-// Makes the call on what lies in the slot, if one is told.
+// Makes the call on the object in the slot, if the call names one.
 fn ask_on<E: Setup, S: Ledger, W: Ledger, R: Wait>(
     rt: &R,
     alloc: Global,

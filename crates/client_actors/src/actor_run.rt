@@ -70,11 +70,11 @@ fn leave<E: Setup, S: Ledger, W: Ledger>(actor: Actor<E, S, W>) -> (Client<E, S,
     (client, held)
 }
 
-/// Plays the script: makes its steps in order, with the calls that what it knows by then makes of
-/// them, and then vanishes, as by `vanish`, with all that it holds, in the list of each kind in the
-/// order in which it came: tokens as replies gave them, collections as they were bound or collected,
-/// handles as they were opened. The client is one that joined and has made no event since; `clients` are the
-/// ids of all actors, in the order of their scripts. The gate is told of each step.
+/// Plays the script: makes its steps in order, with the calls that what it knows by then makes of them, and
+/// then vanishes, as by `vanish`, with all that it holds, in the list of each kind in the order in which it
+/// came: tokens as replies gave them, collections as they were bound or collected, handles as they were
+/// opened. The client is one that joined and has made no event since; `clients` are the ids of all actors,
+/// in the order of their scripts. The gate hears of each step.
 ///
 /// Ended `Wrecked`, the client's own list is a run of the script, each step's call once, and then
 /// the events of its parting. On a fault it is `Stopped` at once: its own list is a run of the first
@@ -82,8 +82,8 @@ fn leave<E: Setup, S: Ledger, W: Ledger>(actor: Actor<E, S, W>) -> (Client<E, S,
 /// parting; it has all that it then holds.
 ///
 /// Costs the events of its calls, a constant number of look-ups for each step and each object that
-/// came or went, and memory for each object that was ever given. A tracker is let go at once, and a
-/// look at one makes no call.
+/// came or was spent, and memory for each object that was ever given. A tracker is dropped at once,
+/// and a look at one makes no call.
 pub fn run_actor<E: Setup, S: Ledger, W: Ledger, G: Gate, R: Wait>(
     rt: &R,
     alloc: Global,

@@ -1,4 +1,8 @@
-//! A thread for each actor.
+//! A thread for each actor. A client is a linear value, so that no closure may own one: the actors
+//! lie in a list, and `thread::for_each_mut` runs each place in a thread of its own. If the system
+//! gives no second thread, it silently runs two places in one, where an actor that waits for the
+//! other would wait for ever. So no actor begins before all threads run, or no further one began
+//! for ten seconds; an actor whose thread begins later is not started.
 ghost use Rattle.std.specs.Prelude.{◌≡◌, ◌<◌, ◌≤◌, ◌↔◌, [], Some, map, length, IfOk, IfErr, OnOk, IsSome, vec_len, vec_capacity};
 ghost use Rattle.std.specs.List.{All, AllZip};
 ghost use Rattle.sm_names.specs.declared.outcomes.StepFault.{StepFault as Fault};
@@ -225,7 +229,7 @@ fn clients_of<E: Setup, S: Ledger, W: Ledger>(
 
 /// Runs all scripts side by side: a client for each joins, in order, and then each runs its script,
 /// as by `run_actor`, in a thread of its own. All threads wait until all are there, so that each
-/// actor may wait for any other; all have ended when it returns. The gate is told of each step of
+/// actor may wait for any other; all have ended when it returns. The gate hears of each step of
 /// each actor, outside the lock.
 ///
 /// One end for each script, in order; labels of clients stand for the clients of these ends. An

@@ -1,11 +1,11 @@
-//! What is told of actors while they run, and at their end.
+//! What a program hears of actors while they run, and at their end.
 use client_ends::{Client, Held};
 use client_parting::Wreck;
 use service_lock::Setup;
 use sm_names::{ClientId, Reply, StepFault};
 use std::sync::ledger::Ledger;
 
-/// Is told of each step of each actor, outside the lock. Steps are numbered from 1, those that are
+/// Hears of each step of each actor, outside the lock. Steps are numbered from 1, those that are
 /// skipped and looks at trackers too.
 pub trait Gate {
     /// The actor is about to make the step.

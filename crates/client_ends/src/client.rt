@@ -235,7 +235,8 @@ impl<E: Setup, S: Ledger, W: Ledger> Client<E, S, W> {
         }
     }
 
-    // Makes the event that lets a handle go, whose unit comes back unless the answer is Done.
+    // Makes the event that drops or gives a handle, whose unit comes back unless the answer is
+    // Done.
     pub(crate) fn let_go<R: Wait>(
         &mut self,
         rt: &R,
@@ -458,7 +459,7 @@ impl<E: Setup, S: Ledger, W: Ledger> Client<E, S, W> {
         self.new_end(rt, service, Call::OpenRoot)
     }
 
-    /// Lets the client go without an event, after the service was ended.
+    /// Spends the client without an event, after the service was ended.
     pub fn spend(self, _ended: &Ended<E, S, W>) {
         let Client { id: _, account } = self;
         account.spend();

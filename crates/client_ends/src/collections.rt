@@ -88,7 +88,8 @@ impl CollectionEnd {
         client.taken(rt, alloc, service, self.key())
     }
 
-    /// A tracker that fires once at most so many buffers are left
+    /// Makes a tracker that fires once the node's unit is allocated and at most so many buffers of
+    /// the collection are not home, or once the node is gone before that
     /// (`fuchsia.sysmem2.BufferCollection.AttachLifetimeTracking`). It is read without the lock.
     /// Costs one event, and a binary search among all trackers.
     pub fn track_lifetime<E: Setup, S: Ledger, W: Ledger, R: Wait>(

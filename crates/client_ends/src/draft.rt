@@ -45,14 +45,14 @@ impl Model for Draft {
     } };
 }
 
-/// What the calls that were made told: the new ends, and all replies, in order.
+/// What the calls that were made answered: the new ends, and all replies, in order.
 pub struct Part {
     pub made: Vec<TokenEnd>,
     pub replies: Vec<Reply>,
 }
 
-/// What a draft told that was made whole: its token, the new ends, and all replies in order, that
-/// of the Sync last.
+/// What a draft that was made whole answered: its token, the new ends, and all replies in order,
+/// that of the Sync last.
 pub struct Synced {
     pub token: TokenEnd,
     pub made: Vec<TokenEnd>,

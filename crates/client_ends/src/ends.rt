@@ -58,7 +58,7 @@ impl<K> EndOf<K> {
         }
     }
 
-    /// Lets the end go without an event, after a service was ended.
+    /// Spends the end without an event, after a service was ended.
     pub fn spend<E: Setup, S: Ledger, W: Ledger>(self, _ended: &Ended<E, S, W>) {
         self.used_up();
     }
@@ -80,7 +80,8 @@ impl<K> EndOf<K> {
         self.client
     }
 
-    /// Answers once the earlier calls were received (`fuchsia.sysmem2.Node.Sync`). Costs one event.
+    /// Asks only whether the node has failed; all earlier calls were made before it
+    /// (`fuchsia.sysmem2.Node.Sync`). Costs one event.
     pub fn sync<E: Setup, S: Ledger, W: Ledger, R: Wait>(
         &self,
         rt: &R,
@@ -128,8 +129,9 @@ impl<K> EndOf<K> {
         client.event(rt, service, Call::SetWeakOk(self.key, children))
     }
 
-    /// A tracker that fires once the node is gone (`fuchsia.sysmem2.Node.AttachNodeTracking`). It
-    /// is read without the lock. Costs one event, and a binary search among all trackers.
+    /// Makes a tracker that fires once the node is gone
+    /// (`fuchsia.sysmem2.Node.AttachNodeTracking`). It is read without the lock. Costs one event,
+    /// and a binary search among all trackers.
     pub fn track_node<E: Setup, S: Ledger, W: Ledger, R: Wait>(
         &self,
         rt: &R,

@@ -56,7 +56,7 @@ impl<E: Setup, S: Ledger, W: Ledger> Handle<E, S, W> {
         }
     }
 
-    /// Lets the handle go without an event, after the service was ended.
+    /// Spends the handle without an event, after the service was ended.
     pub fn spend(self, _ended: &Ended<E, S, W>) {
         let Handle {
             client: _,
@@ -104,7 +104,7 @@ impl<E: Setup, S: Ledger, W: Ledger> Handle<E, S, W> {
         client.doubled(rt, service, self.buffer, self.strength)
     }
 
-    /// A tracker that fires once the buffer is doomed (the field `close_weak_asap` of
+    /// Makes a tracker that fires once the buffer is doomed (the field `close_weak_asap` of
     /// `fuchsia.sysmem2.VmoBuffer`). Only a weak handle has one: else the call is refused. It is
     /// read without the lock. Costs one event, and a binary search among all trackers.
     pub fn track_weak<R: Wait>(
@@ -142,8 +142,9 @@ impl<E: Setup, S: Ledger, W: Ledger> Handle<E, S, W> {
         self.let_go(rt, service, client, call)
     }
 
-    /// Gives the handle to another client, who collects it: its unit goes under the lock with it.
-    /// Where the answer is not Done the handle comes back with the reason. Costs one event.
+    /// Gives the handle to another client, which collects it: the handle and its unit lie under the
+    /// lock until then. Where the answer is not Done the handle comes back with the reason. Costs
+    /// one event.
     pub fn give<R: Wait>(
         self,
         rt: &R,
@@ -162,7 +163,7 @@ impl<E: Setup, S: Ledger, W: Ledger> Handle<E, S, W> {
         self.let_go(rt, service, client, call)
     }
 
-    // Makes a call that lets the handle go.
+    // Makes a call that drops or gives the handle.
     fn let_go<R: Wait>(
         self,
         rt: &R,

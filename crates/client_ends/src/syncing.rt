@@ -42,7 +42,7 @@ fn call_of(key: NodeKey, drafted: Drafted) -> Call
     }
 }
 
-// Keeps the reply, and the end that it tells of.
+// Keeps the reply, and the new end in it.
 fn keep(client: ClientId, reply: &Reply, part: &mut Part)
     requires replies_room { vec_len part.old.replies < vec_capacity part.old.replies }
     requires made_room { vec_len part.old.made < vec_capacity part.old.made }

@@ -30,7 +30,7 @@ impl TokenEnd {
         client.new_end(rt, service, Call::Duplicate(self.key()))
     }
 
-    /// Once the node's unit is allocated, its failure goes no further up
+    /// Once the node's unit is allocated, its failure climbs no further
     /// (`fuchsia.sysmem2.BufferCollectionToken.SetDispensable`). Costs one event.
     pub fn set_dispensable<E: Setup, S: Ledger, W: Ledger, R: Wait>(
         &self,

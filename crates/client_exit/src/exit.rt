@@ -17,14 +17,14 @@ use alloc_event::End;
 use lifetime_core::Core;
 use sm_names::{BufferName, Call, ClientId, NodeKey, Reply, StepFault, Strength};
 
-/// What parting with a client made.
+/// What the exit of a client made.
 #[derive(Clone, Copy, Debug, PartialEq, Eq)]
 pub struct Parted {
     /// How many events were made.
     pub events: u64,
 }
 
-/// Why parting with a client stopped.
+/// Why the exit of a client stopped.
 #[derive(Clone, Copy, Debug, PartialEq, Eq)]
 pub enum PartFault {
     /// No client with this number joined: its Shut was refused, which is the only event.
@@ -222,13 +222,13 @@ fn exit(core: &mut Core, client: ClientId) -> Result<(), PartFault>
     }
 }
 
-/// Parts with all that a client has, as if it were lost: its Shut, a Collect for each parcel that
+/// Gives up all that a client has, as if it were lost: its Shut, a Collect for each parcel that
 /// waits for it then, a Close of each end that it holds, and a DropHandle of each handle that it has
 /// open. Each is an event of the history, made as this client. The client is shut from then on, no
 /// parcel waits for it, it holds no end and has no handle open, for good.
 ///
-/// It can be called in any state: also of a client that was shut, and again of one that was parted
-/// with, which makes one event, a Shut.
+/// It can be called in any state: also of a client that was shut, and of one that has exited, which
+/// makes one event, a Shut.
 ///
 /// `NoSuchClient` where no client with this number joined: the only event is its Shut, refused.
 /// `HistoryFull` where as many events were made as may be, and `NoMemory` where memory is refused:

@@ -1,4 +1,4 @@
-//! How a client exits: the events that part with all that it has, made on a core, and what they bring
+//! How a client exits: the events that give up all that it has, made on a core, and what they bring
 //! about.
 #![tactic(auto)]
 

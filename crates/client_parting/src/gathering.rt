@@ -15,7 +15,7 @@ use std::alloc::Global;
 use std::sync::Wait;
 use std::sync::ledger::Ledger;
 
-/// A client at the end: there, with what it holds, or gone.
+/// A client at the end: either with what it holds, or as the wreck of one that vanished.
 pub enum Holding<E: Setup, S: Ledger, W: Ledger> {
     Present(Client<E, S, W>, Held<E, S, W>),
     Wrecked(Wreck<E, S, W>),
@@ -154,13 +154,13 @@ fn first_mismatch<E: Setup, S: Ledger, W: Ledger>(
 /// Compares the parts with what lies under the lock, client by client, in one pass over the record.
 /// It makes no event, merges no shares and changes nothing.
 ///
-/// Answered Ok, the record is a legal history of so many events, each client that joined has its
-/// part here, each own list is just that client's part of the record, and all open handles are here.
-/// Else, in this order: `NoMemory` where memory is refused; `MissingClient` with the first client that
+/// Answered Ok, the record is a legal history of so many events, each client that joined has its part
+/// here, each own list is just that client's part of the record, and all open handles are here. Else,
+/// in this order: `NoMemory` where memory is refused; `MissingClient` with the first client that
 /// joined and has no part here; `OpenValues` where more or fewer handles of a strength are open than
 /// are here, with how many are missing, 0 where none are; `RecordMismatch` for the least client whose
 /// list is not its part, with the event of the part at the first place where they differ, or of the
-/// list, if the part is over.
+/// list, if the part has no further one.
 ///
 /// Costs three passes over the record, one over each own list, and one over all handles; memory for
 /// two numbers and a bit for each event, a number for each part, and a line for each client.
@@ -257,7 +257,7 @@ fn spend<E: Setup, S: Ledger, W: Ledger>(
     client.spend(ended);
 }
 
-/// Ends the service, and lets all parts go without events. It takes no lock and no memory. Costs a
+/// Ends the service, and drops all parts without events. It takes no lock and no memory. Costs a
 /// constant for each value.
 pub fn end_service<E: Setup, S: Ledger, W: Ledger>(
     service: Service<E, S, W>,

@@ -1,4 +1,4 @@
-//! How a client goes.
+//! How a client vanishes.
 ghost use Rattle.std.specs.Prelude.{◌≡◌, ◌+◌, ◌<◌, ◌≤◌, ◌↔◌, ◌++◌, [], length, map, vec_len, vec_capacity, MatchResult, IfOk, IfErr, IfSome, OnOk, is_ok, true};
 ghost use Rattle.std.specs.List.{All};
 ghost use Rattle.sm_names.specs.declared.outcomes.StepFault.{StepFault as Fault};
@@ -98,7 +98,7 @@ fn room_for<E: Setup, S: Ledger, W: Ledger, R: Wait>(
     make_room(alloc, guard.state(), held, waiting)
 }
 
-// Makes one Collect, and puts what it brings behind the others.
+// Makes one Collect, and appends what it brings to the others.
 fn collect_one<E: Setup, S: Ledger, W: Ledger, R: Wait>(
     rt: &R,
     service: &Service<E, S, W>,
@@ -158,7 +158,7 @@ fn collect_all<E: Setup, S: Ledger, W: Ledger, R: Wait>(
     Ok(())
 }
 
-// Makes the call that parts with the object, which comes back where the answer is not Done.
+// Makes the call that gives up the object, which comes back if the answer is not Done.
 fn part_with<E: Setup, S: Ledger, W: Ledger, R: Wait>(
     rt: &R,
     service: &Service<E, S, W>,
@@ -273,7 +273,7 @@ fn stack_all<E: Setup, S: Ledger, W: Ledger>(
     stack
 }
 
-/// Ends a client: it is shut, collects each parcel that waited for it, and parts with all that it
+/// Ends a client: it is shut, collects each parcel that waited for it, and gives up all that it
 /// has, in this order: a Close of each end that it collected, of each token and of each collection,
 /// then a DropHandle of each handle that it collected and of each other. What it holds is its own.
 ///

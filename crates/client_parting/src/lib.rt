@@ -1,5 +1,5 @@
-//! How clients go, and what is compared at the end: clients that vanish with all that they hold, and
-//! all parts gathered against the record under the lock.
+//! How clients vanish, and what is compared at the end: clients that vanish with all that they hold,
+//! and all parts gathered against the record under the lock.
 #![tactic(auto)]
 
 mod fault;

@@ -1,4 +1,4 @@
-//! What a client that goes has still to part with: a stack, whose top comes first.
+//! What a client that vanishes has still to give up: a stack, whose top comes first.
 ghost use Rattle.std.specs.Prelude.{◌≡◌, ◌+◌, ◌<◌, ◌≤◌, ◌∷◌, ◌++◌, [], map, vec_len, vec_capacity};
 ghost use Rattle.client_parting.specs.Partings.{Collection, Handle as Handed, Token, held_in, object_of};
 ghost use Rattle.client_parting.specs.Stacks.{HasRoomFor, both, sorted_one, top_first};

@@ -1,4 +1,4 @@
-//! What is left of a client that is gone.
+//! What remains of a client that vanished.
 ghost use Rattle.std.specs.Prelude.{◌≡◌, ◌+◌, length};
 ghost use Rattle.client_parting.specs.Partings.{held_in};
 
@@ -8,8 +8,8 @@ use sm_names::ClientId;
 use std::marker::Model;
 use std::sync::ledger::Ledger;
 
-/// What is left of a client that is gone: its own list, and what it could not part with. It must be
-/// spent: at the end of the service, at the latest.
+/// What remains of a client that vanished: its own list, and what it could not give up. It must be
+/// spent, at the latest once the service has ended.
 pub struct Wreck<E: Setup, S: Ledger, W: Ledger> {
     client: Client<E, S, W>,
     refused: Held<E, S, W>,
@@ -30,7 +30,7 @@ impl<E: Setup, S: Ledger, W: Ledger> Wreck<E, S, W> {
         Wreck { client, refused }
     }
 
-    /// The id of the client that is gone. It takes no lock, nor do the other readers.
+    /// The id of the client that vanished. It takes no lock, nor do the other readers.
     pub fn id(&self) -> ClientId
         ensures { result ≡ self.now.client.id }
     {
@@ -52,7 +52,7 @@ impl<E: Setup, S: Ledger, W: Ledger> Wreck<E, S, W> {
         self.client.own().len() as u64
     }
 
-    /// What the client could not part with: its Close or DropHandle was not answered Done.
+    /// What the client could not give up: its Close or DropHandle was not answered Done.
     pub(crate) fn refused(&self) -> &Held<E, S, W>
         ensures { held_in result.now ≡ self.now.refused }
     {

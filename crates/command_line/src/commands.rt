@@ -89,15 +89,15 @@ fn record_word<'a>(alloc: Global) -> Arg<'a> {
     Arg::new(alloc, RECORD)
         .long(RECORD)
         .action(ArgAction::SetTrue)
-        .help("Writes all events as a transcript, and the report behind # below it")
+        .help("Writes all events as a transcript, and below it the report, each line after #")
 }
 
-// The name of a file that is read in place of standard input.
+// The name of a file that is read instead of standard input.
 fn file_word<'a>(alloc: Global) -> Arg<'a> {
     Arg::new(alloc, FILE)
         .action(ArgAction::Set)
         .value_name("FILE")
-        .help("A file that is read in place of standard input")
+        .help("A file that is read instead of standard input")
 }
 
 // The command, which has a pool and reads a script from a file.
@@ -123,7 +123,7 @@ fn threads<'a>(alloc: Global) -> Result<Command<'a>, AllocError> {
     read_by(alloc, command)?.arg(record_word(alloc))
 }
 
-// The command that tells each line.
+// The command that explains each line.
 fn explain<'a>(alloc: Global) -> Result<Command<'a>, AllocError> {
     let command = Command::new(alloc, EXPLAIN)
         .about(EXPLAIN_ABOUT)

@@ -34,7 +34,8 @@ nodes, T is a tracker, B a buffer such as r.0, S is strong or weak.
     C dispensable N         no failure climbs from N, once its unit has buffers
     C weak N                N and its later children keep no buffers alive
     C weakok N              N may take weak handles
-    C weakok N children     so may N, its later children and all below these
+    C weakok N children     N, its later children, and all nodes below these may
+                            take weak handles
     C constrain N CAMPING AT_LEAST SIZE
                             how many buffers N camps on, how many there must be
                             at least, and of how many bytes
@@ -48,9 +49,9 @@ nodes, T is a tracker, B a buffer such as r.0, S is strong or weak.
     C droph B S             drops a handle
     C giveh B S D           puts a handle into a parcel for D
     C tracknode N T         makes a tracker that fires once N is gone
-    C tracklife N NUMBER T  one that fires once at most so many buffers hold
-                            pages, or once N is gone before it had buffers
-    C trackweak B T         one that fires once nothing strong keeps B
+    C tracklife N NUMBER T  makes one that fires once N has buffers and at most
+                            so many of them hold pages, or N is gone before
+    C trackweak B T         makes one that fires once nothing strong keeps B
     C poll T                asks whether T fired
     show live               the live nodes
     show held               the held buffers with their pages
@@ -60,7 +61,7 @@ nodes, T is a tracker, B a buffer such as r.0, S is strong or weak.
 Empty lines and lines that begin with # are skipped. A line is bad if it is
 longer than 256 bytes, or is the last one and has no end; if it has two spaces
 between words, or one before the first or after the last; if it has a byte 13
-before its end, or a remark behind a call; if it has none of the forms above; or
+before its end, or a remark after a call; if it has none of the forms above; or
 if a label has more than 16 letters and digits, a number is out of its range, or
 an index is over 63. docs/SCRIPT.md has the whole language, examples/ scripts.";
 
@@ -117,17 +118,17 @@ is reported
     b events 3 strong 0 weak 0
     gather ok
 
-All clients join first, and there is no show. Labels of nodes and trackers are an
-actor's own. A step is left out if a label that it uses stands for nothing that
-the actor has, or one that it binds stands for something. At its end each actor
-is shut, collects what waits for it, closes its tokens and its collections, and
-drops its handles. Then all is gathered, and the report tells how many events
-there were, and for each actor how many it made after its join and how many
-handles of each strength it has open.
+All clients join first, and there is no show. Each actor has its own labels of
+nodes and trackers. A step is skipped if it uses a label that stands for nothing
+that the actor has, or binds one that is bound. At its end each actor is shut,
+collects its parcels, closes its tokens and its collections, and drops its
+handles. Then the actors' own lists are compared with the record of all events.
+The report has the number of these events, and for each actor how many events it
+made after its join and how many handles of each strength it has open.
 
-With --record all that happened is written before it, in the order in which it
-did, as a transcript: each call with its reply. The lines of the report then
-begin with #, and a node is called n and the number of the event of its birth:
+With --record the record is written before the report, as a transcript: each
+call, in order, with its reply. The lines of the report then begin with #. The
+label of a node is n and the number of the event of its birth:
 
     a open n3
       token n3
@@ -138,11 +139,11 @@ begin with #, and a node is called n and the number of the event of its birth:
 if both commands have the same --pages.
 
 Status: 0 the report was written; 1 FILE can't be opened, or read or write fault;
-2 the command line was refused; 3 a bad line: a show, a join behind a step or of
-a client that joined, a step of one that did not or for one, or no client at
-all; 4 no memory, no thread, or history full; 5 what the actors had at the end
-does not fit the record. A fault is told in one line on standard error, and
-nothing is reported.";
+2 the command line was refused; 3 a bad line: also a show, a join after a step
+or of a client that joined, a client that does not join, or no client at all; 4
+no memory, no thread, or history full; 5 what the actors had at the end does not
+agree with the record. A fault is one line on standard error; there is then no
+report.";
 
 pub(crate) const EXPLAIN_ABOUT: &str =
     "Repeats each line with its reply, what its event forced, and why";
@@ -160,13 +161,14 @@ replies of `sysmem run`, and below them stands what the event did:
         fordis fails, lost: its end was closed without a release
           up      fordis > root
           down    root > forcam forenc
-        kept    root.0 root.1 by cam strong 1, dis strong 1
+        kept    root.0 root.1 root.2 root.3 by cam strong 1, dis strong 1
         fires   gone
 
-up: the failure went from a node to its parent, whose link to it is not blocked.
-down: it went on to all children. stops: why it went no further. kept: who keeps
-pages that did not go back. camps: who camps on how many buffers. waits: for
-whom an allocation waits. since: the line whose event made that loss.
+up: the failure climbs from node to parent, along links that are not blocked.
+down: all children fail too. stops: why it climbs no further. kept: who keeps
+pages that are not free yet. camps: how many buffers each node camps on. waits:
+the nodes for which an allocation waits. since: the line whose event made that
+loss.
 
 Lines that begin with two spaces are skipped, and count as lines.
 

@@ -47,7 +47,7 @@ pub fn request_of<'a>(matches: &ArgMatches<'a>) -> Option<Request<'a>>
 // The pages that the matches of a parse ask for: the number that stands behind the subcommand's
 // `--pages`, or its default. `None` where there is no subcommand, or no such text, or the text is
 // no number from 1 to 1,048,576. The range is tested once more, since the parse of a subcommand
-// tells nothing of its values.
+// says nothing of its values.
 fn pages_of(matches: &ArgMatches<'_>) -> Option<Pages>
     ensures { AreAsked (value_text (codes "pages") matches.now)
         (option_map (λ pages. pages.count) result) }
@@ -56,7 +56,7 @@ fn pages_of(matches: &ArgMatches<'_>) -> Option<Pages>
     Pages::new(inner.get_one::<u32>(PAGES)?)
 }
 
-// The file that is to be read in place of standard input, if one is named.
+// The file that is read instead of standard input, if one is named.
 fn file_of<'a>(matches: &ArgMatches<'a>) -> Option<&'a str>
     ensures { option_map (λ name. name.now) result ≡ text_of (codes "file") matches.now }
 {

@@ -80,8 +80,8 @@ pub fn first_waiting(clients: &[Client], client: ClientId) -> Option<Parcel>
     row.waiting.front().copied()
 }
 
-/// Makes of the clients what the event makes of them: a client joins or is shut, or a parcel is
-/// given or collected.
+/// Changes the clients as the event does: a client joins or is shut, or a parcel is given or
+/// collected.
 ///
 /// `NoMemory` where there is no room for a client or a parcel more; then they are as they were. A
 /// look, or a binary search.

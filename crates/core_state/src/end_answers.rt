@@ -1,4 +1,4 @@
-//! What is answered to a call for the sake of the end that it names.
+//! The answers that the end of a call determines.
 ghost use Rattle.std.specs.Prelude.{◌≡◌, ◌∷◌, ◌&&◌, [], false, not, if◌then◌else◌};
 ghost use Rattle.std.specs.Option.{option_map, option_map_or, option_or};
 ghost use Rattle.sm_names.specs.declared.outcomes.Refusal.{Refusal as Refused};
@@ -72,9 +72,9 @@ fn misuse(node: &Node, call: &Call) -> Option<Reply>
     Some(Reply::Misused(misuse))
 }
 
-/// What is answered to a call with these traits for the sake of the end of this node, which is not spent,
-/// if anything is: whose it is, then Done to each Close, then why and where the node failed, then the
-/// other kind, then the misuse. It costs a constant.
+/// The answer that the end of this node, which is not spent, determines for a call with these traits, if
+/// it determines one. In this order: by its holder; Done to each Close; cause and origin of a node that
+/// failed; by the other kind; the misuse. It costs a constant.
 #[inline(always)]
 pub fn answer_of_end(client: ClientId, node: &Node, call: &Call, traits: &Traits) -> Option<Reply>
     requires law { Describes call.now traits.now }

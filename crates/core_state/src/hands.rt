@@ -122,7 +122,7 @@ pub fn tidy_up(holds: &mut Holds, client: ClientId, call: &Call)
     }
 }
 
-// Opens a handle on each buffer of the set. It goes up to the last one.
+// Opens a handle on each buffer of the set, up to its last one.
 fn open_all(
     holds: &mut Holds,
     client: ClientId,

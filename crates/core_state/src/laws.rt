@@ -15,8 +15,8 @@ ghost use Rattle.core_state.specs.Reads.{readings_of};
 ghost use Rattle.core_state.specs.Shown.{Shows};
 ghost use Rattle.core_state.specs.State.{State};
 
-/// What answers read of a core is what they read of each history that it shows, but that a core may
-/// take more keys for given than the history gave: those of no node, which it never gives again.
+/// A core's readings are those of each history that it shows, except that a core may count more
+/// keys as used than the history used: keys of no node, which it never uses again.
 pub fn a_core_reads_as_its_history()
     ensures readings { (s : State) (history : List Entry) → Shows s history →
         record (readings_of s) { was_given = (readings (timeline s.pool history)).was_given }

@@ -1,5 +1,5 @@
 //! The state of a core as plain data: what answers and views read of it, what an event makes of it, and the
-//! theorem that it then shows the history that went on by this event. And the code of a core that needs no
+//! theorem that it then shows the history extended by this event. And the code of a core that needs no
 //! forced step: its clients, its handles, and what is read of a call, of a reply and of one node.
 #![tactic(auto)]
 

@@ -76,7 +76,7 @@ fn of_handle(buffer: BufferName, strength: Strength, makes: Product) -> Traits
     }
 }
 
-/// What the call names and makes. Each call is told of here, and none is left to a rest.
+/// What the call names and makes. Each call is listed here: there is no catch-all.
 #[inline(always)]
 pub fn traits_of(call: &Call) -> Traits
     ensures value { result ≡ traits_in call.now }

@@ -1,4 +1,4 @@
-//! How a collection stood before an event, as far as facts are told of it.
+//! A collection before an event, as far as facts need it.
 ghost use Rattle.std.specs.Prelude.{◌≡◌, Some, IfOk, IfSome};
 ghost use Rattle.sm_names.specs.Answers.{IsAnswer};
 ghost use Rattle.sm_names.specs.declared.messages.Reply.{Reply};

@@ -1,4 +1,4 @@
-//! One event: a call, its reply, and what it came to.
+//! One event: a call, its reply, and its marks.
 ghost use Rattle.std.specs.Prelude.{◌≡◌, ◌≤◌, IfErr, IfOk, IfSome, Ok, drop, length, map};
 ghost use Rattle.std.specs.List.{list_any};
 ghost use Rattle.std.specs.Option.{option_and_then, option_map};
@@ -19,7 +19,7 @@ use lifetime_core::Core;
 use sm_names::{Buffers, Call, ClientId, Fired, HeldBuffer, NoMemory, Reply, StepFault};
 use std::alloc::Global;
 
-/// A call and its reply, and what it came to in the collection that it changed, if it changed one.
+/// A call and its reply, and what it did to the collection that it changed, if it changed one.
 #[derive(Drop)]
 pub struct Event {
     pub call: Call,
@@ -34,7 +34,8 @@ pub struct Event {
     pub fired: usize,
 }
 
-/// Makes the call, as `Core::step` does, and tells what its event came to.
+/// Makes the call, as `Core::step` does, and answers its event: the reply, the marks, and the
+/// collection before and after.
 ///
 /// `HistoryFull` where as many events were made as may be: nothing was done. `NoMemory` where memory was
 /// refused: then the call may have been made. Costs what `take_told` costs, and two copies of the

@@ -1,5 +1,6 @@
-//! What an event came to, as facts on nodes, buffers and handles: the way of a failure, who hands it on
-//! to whom, who keeps which pages, what went back, and what fired. None of them is text.
+//! The facts of an event, on nodes, buffers and handles: the way of a failure, the children that fail
+//! with each node, who keeps which pages, which pages were given back, and which trackers fired. None
+//! of them is text.
 #![tactic(auto)]
 
 mod before;

@@ -1,4 +1,4 @@
-//! The nodes that a failure or an end takes, and who hands it on to whom.
+//! The nodes that a failure or an end takes, and the children to which each node hands it on.
 ghost use Rattle.std.specs.Prelude.{◌≡◌, ◌++◌, ◌∷◌, [], if◌then◌else◌, IfOk, OnOk, map};
 ghost use Rattle.std.specs.List.{filter};
 ghost use Rattle.sm_names.specs.declared.keys.NodeKey.{NodeKey as Key};

@@ -13,7 +13,7 @@ use event_marks::node_sets::blocking_nodes;
 use sm_names::NodeKey;
 use std::alloc::AllocError;
 
-/// Why a failure goes no further than a node.
+/// Why a failure climbs no further than a node.
 #[derive(Clone, Copy, PartialEq, Eq)]
 pub enum Stop {
     /// The node is a root.
@@ -24,7 +24,7 @@ pub enum Stop {
     AtDispensable(NodeKey),
 }
 
-/// The nodes from this one up to the highest that its failure goes to: each but the last has a link to
+/// The nodes from this one up to the highest that its failure reaches: each but the last has a link to
 /// its parent that is not blocked. Costs O(n log n) for n nodes.
 pub fn way_up(nodes: &Vec<Node>, origin: NodeKey) -> Result<Vec<NodeKey>, AllocError>
     ensures { IfOk result (λ way. way.items ≡ climb (λ k. list_any (blocks_here k) nodes.now.items)
@@ -72,7 +72,7 @@ fn with_last(way: Vec<NodeKey>, last: NodeKey) -> Result<Vec<NodeKey>, AllocErro
     Ok(whole)
 }
 
-/// Why a failure goes no further than the node with this key. Costs O(n) for n nodes.
+/// Why a failure climbs no further than the node with this key. Costs O(n) for n nodes.
 pub fn stop_at(nodes: &[Node], top: NodeKey) -> Stop
     ensures { result ≡ stop_of nodes.now top }
 {

@@ -212,7 +212,8 @@ pub fn handles_add_up()
 {}
 
 /// In a legal history a collection is given buffers at most once: so the list of those that were
-/// given any, as the marks tell it, has each of them once, and will do for `handles_add_up`.
+/// given any, as the marks have it, has each of them once, and is a list that `handles_add_up`
+/// takes.
 pub fn allocated_collections_are_listed()
     ensures { (pool : ℕ) (limits : Bound) (history : List Entry) →
         IsLegal pool limits history →

@@ -20,8 +20,8 @@ pub fn all_clients_have_lines()
         joined history ≡ reverse (clients (timeline pool history)) }
 {}
 
-/// In a legal history each line, which is counted from its client's part alone, tells how many
-/// handles of each strength the client has open over all buffers.
+/// In a legal history each line, which is counted from its client's part alone, has the numbers of
+/// handles of each strength that the client has open over all buffers.
 pub fn lines_tell_open_handles()
     ensures { (pool : ℕ) (limits : Bound) (history : List Entry) →
         IsLegal pool limits history →

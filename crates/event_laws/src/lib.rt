@@ -1,5 +1,5 @@
 //! What one event does to handles, parcels, ends, clients and trackers: laws of the definitions of
-//! sm_names, for whoever keeps counts, queues and waiting trackers in place of a history.
+//! sm_names, for a program that keeps counts, queues and waiting trackers instead of a history.
 #![tactic(auto)]
 
 pub mod amounts;

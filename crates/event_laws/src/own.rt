@@ -3,7 +3,7 @@ ghost use Rattle.std.specs.Prelude.{◌≡◌, ◌≢◌, true, false};
 
 use sm_names::{Call, Reply};
 
-/// An event that a client made, as it was told of it: its number in the record, from 1, what was
+/// An event that a client made, as the client has it: its number in the record, from 1, what was
 /// asked, and what was answered.
 #[derive(Clone, Copy, Debug, PartialEq, Eq)]
 pub struct Own {

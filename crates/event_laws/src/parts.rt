@@ -33,7 +33,7 @@ impl<'a> Model for Parts<'a> {
     ghost invariant = { λ p. Links 0 p.first.items p.next.items p.«record».now };
 }
 
-// An entry of the record, as its client was told of it.
+// An entry of the record, as its client has it.
 fn noted(event: u64, entry: &(ClientId, Call, Reply)) -> Own
     ensures { result ≡ own_entry event entry.now }
 {
@@ -118,7 +118,7 @@ impl<'a> Parts<'a> {
         }
     }
 
-    // What the client was told at this event, and the next event of its part, or 0.
+    // What the client was answered at this event, and the next event of its part, or 0.
     fn step(&self, client: ClientId, event: u64) -> (Own, u64)
         requires some { 0 < event }
         requires stands { Stands self.now client event }
@@ -132,8 +132,8 @@ impl<'a> Parts<'a> {
     }
 
     /// Where a client's own list is not its part: the event of the part at the first place where they
-    /// differ, or of the list, if the part is over. `None` where the list is the part. Costs a step for
-    /// each event of the list.
+    /// differ, or of the list, if the part has no further one. `None` where the list is the part. Costs
+    /// a step for each event of the list.
     pub fn differ(&self, client: ClientId, own: &[Own]) -> Option<u64>
         ensures { MatchOption result (own.now ≡ part client self.now)
             (λ event. DifferAt event own.now (part client self.now)) }

@@ -1,4 +1,4 @@
-//! What one event does to the trackers: all of it is told by those that wait.
+//! What one event does to the trackers: those that wait determine it.
 ghost use Rattle.std.specs.Prelude.{◌≡◌, ◌≤◌, ◌<◌, ◌+◌, ◌∷◌, ◌++◌, not, ℕ, List, [], length, map, All, Some, false, true};
 ghost use Rattle.std.specs.List.{AllPairs, filter};
 ghost use Rattle.sm_names.specs.declared.keys.NodeKey.{NodeKey};
@@ -36,7 +36,7 @@ pub fn waiting_is_counted()
     ensures { (marks : Timeline) → unfired marks ≡ length (unfired_trackers marks) }
 {}
 
-/// Events are numbered in turn, and a tracker bears the number of the event that attached it: of
+/// Events are numbered in turn, and a tracker has the number of the event that attached it: of
 /// those that wait the ids rise, and a later event has a greater number than each tracker that was
 /// ever attached.
 pub fn trackers_are_numbered()
@@ -107,9 +107,8 @@ pub fn allocated_is_for_good()
         allocated (timeline pool (history ++ more)) node ≡ true }
 {}
 
-/// What was over before an event may be forgotten: whoever takes a node that was gone for
-/// allocated, and knows nothing of a buffer that was home, sees of each tracker rightly whether it
-/// is due.
+/// Nodes that were gone and buffers that were home before an event may be forgotten: a program that
+/// takes such a node for allocated, and does not know such a buffer, finds the same trackers due.
 pub fn what_is_over_may_be_forgotten()
     ensures { (pool : ℕ) (limits : Bound) (history : List Entry) (entry : Entry) →
         IsLegal pool limits (history ++ entry ∷ []) → (w : World) →

@@ -1,4 +1,6 @@
-//! The nodes of which something holds, as sets of keys, each found in one walk over the nodes.
+//! The nodes of which something holds, as sets of keys, each found in one walk over the nodes. The
+//! sets are ordered (`BTreeSet`): a look-up costs O(log n) whatever the keys are, and takes no
+//! seed.
 ghost use Rattle.std.specs.Prelude.{◌≡◌, not, true, false, IfOk, OnOk, reverse};
 ghost use Rattle.std.specs.List.{list_all, list_any};
 ghost use Rattle.sm_names.specs.declared.keys.NodeKey.{NodeKey as Key};

@@ -34,7 +34,7 @@ pub struct Moment {
     pub before: Snapshot,
 }
 
-/// What a call came to.
+/// What a call was answered, and the marks of its event.
 #[derive(Drop)]
 pub struct Told {
     pub reply: Reply,
@@ -51,8 +51,8 @@ pub(crate) struct Before {
     pub(crate) others: Vec<Interval>,
 }
 
-/// Takes the call, as `Core::step` does, and tells the marks of its event, each with the collection
-/// before it.
+/// Makes the call, as `Core::step` does, and answers the marks of its event, each with the
+/// collection before it.
 ///
 /// Where memory for the marks is refused, the call is taken all the same, and they are `None`. A call
 /// that changes no collection has none, and costs what the step costs. Any other costs besides a copy
@@ -134,7 +134,7 @@ fn empty(alloc: Global, id: CollectionId) -> Snapshot
     }
 }
 
-/// Makes the change to the copy, and then the steps that it forces, and tells the moments.
+/// Makes the change to the copy, and then the steps that it forces, and answers the moments.
 fn walk(
     core: &Core,
     alloc: Global,
@@ -187,7 +187,7 @@ pub(crate) fn copy_of(scene: &Snapshot) -> Result<Snapshot, AllocError>
     })
 }
 
-/// The key of the new node that the reply tells of, or any.
+/// The key of the new node in the reply, or any.
 fn key_told(reply: &Reply) -> NodeKey
     ensures { result ≡ unwrap_or (new_key reply.now) no_key }
 {

@@ -1,5 +1,5 @@
 //! What a failure takes: a climb over the links that do not block, and then all that lies below.
-//! And what lies below a node as far as a bound lets a walk go.
+//! And the nodes below a node, up to a bound.
 #![tactic(auto)]
 
 mod found;

@@ -1,11 +1,11 @@
 //! What the walks ask of a node.
 ghost use Rattle.std.specs.Prelude.{◌≡◌, Bool, false};
 
-/// A node as it hangs on its parent.
+/// The link of a node to its parent.
 pub trait Link {
     ghost blocks: { Self → Bool };
 
-    /// Whether a failure of the node leaves its parent alone, as of a node that is attached
+    /// Whether a failure of the node does not reach its parent, as of a node that is attached
     /// (`fuchsia.sysmem2.BufferCollection.AttachToken`) or dispensable
     /// (`fuchsia.sysmem2.BufferCollectionToken.SetDispensable`). It takes all below the node in any
     /// case. `fall` asks once for each node of its climb, and counts on a constant time.

@@ -39,7 +39,7 @@ pub fn fall<N: Link>(alloc: Global, table: &NodeTable<N>, origin: NodeKey) -> Re
     Ok(Fall { keys, visits })
 }
 
-/// The same, written into this list in the place of what stands there. Answers the visits.
+/// The same, written into this list, which is emptied first. Answers the visits.
 ///
 /// Where the list has room for as many keys as there are nodes, it takes no memory and never
 /// fails. It never loses room. On `NoMemory`, which comes only where it was refused more, it is
@@ -72,8 +72,8 @@ pub fn fall_into<N: Link>(
     Ok(steps + below)
 }
 
-/// The highest node that a failure of `origin` goes up to, and the steps to it: fewer than there
-/// are nodes.
+/// The highest node that a failure of `origin` climbs to, and the steps to it: fewer than there are
+/// nodes.
 fn climb<N: Link>(table: &NodeTable<N>, origin: NodeKey) -> (NodeKey, u64)
     requires { IsSome (row_at table.now origin) }
     ensures path { Climb (parent_at table.now) (blocked_at N.blocks table.now)
@@ -91,7 +91,7 @@ fn climb<N: Link>(table: &NodeTable<N>, origin: NodeKey) -> (NodeKey, u64)
     unreachable!()
 }
 
-/// The parent that a failure of `key` goes to, if it goes to one.
+/// The parent that a failure of `key` climbs to, if it climbs.
 fn way_up<N: Link>(table: &NodeTable<N>, key: NodeKey) -> Option<NodeKey>
     ensures value { result ≡ way_up N.blocks table.now key }
     ensures forest { OnSome result (IsForest table.now) }
@@ -103,7 +103,7 @@ fn way_up<N: Link>(table: &NodeTable<N>, key: NodeKey) -> Option<NodeKey>
 }
 
 /// The top node and what lies below it within the bound: every child of the top, and of each node
-/// that it takes and that doesn't stop it. Written into this list in the place of what stands there:
+/// that it takes and that doesn't stop it. They are written into this list, which is emptied first:
 /// the top first, and then such children of each key in turn, by birth.
 ///
 /// It takes a constant time for each key, and none for what lies below a node that stops it. Where

@@ -57,7 +57,7 @@ use trackers::{Tracker, Trackers};
 /// and the pool.
 ///
 /// A contract sees the state of `specs/State`, and names the histories that the state shows
-/// (`specs/Shown`): whoever knows one of them knows each reply and all that is seen.
+/// (`specs/Shown`): one of them determines each reply and all that is seen.
 #[derive(Drop)]
 pub struct Core {
     limits: Limits,
@@ -115,10 +115,9 @@ impl Core {
         Core::with_seed(alloc, pages, limits, [0; 16])
     }
 
-    /// Does what `new` does. The counts of handles hash from this seed: with random bytes, whoever
-    /// makes calls can't choose clients and buffers whose counts collide, so that one call would
-    /// cost the square of what it opens. The seed changes what calls cost, and nothing that is
-    /// answered.
+    /// Does what `new` does. The counts of handles hash from this seed: with random bytes, a caller
+    /// can't choose clients and buffers whose counts collide, so that one call would cost the
+    /// square of what it opens. The seed changes what calls cost, and nothing that is answered.
     pub fn with_seed(
         alloc: Global,
         pages: u32,
@@ -520,7 +519,7 @@ impl Core {
         ensures fresh { IfSome result (λ w. (key : Key) → given self.now.forest key ≡ false →
             list_any (is_of key) (collection_or_new self.now.forest w.0).nodes ≡ false) }
     {
-        // The core's own fields tell that the change fits.
+        // The core's own fields say that the change fits.
         let _limits = self.limits;
         change_in(self.asked_of(client, call).task)
     }

@@ -25,7 +25,7 @@ use sm_names::{Call, ClientId, Product, Refusal, Reply};
 // ---- the clients
 
 // Whether a client is unknown: a Join is made as client 0, any other call by a client that joined, and a
-// gift goes to one that joined.
+// gift is to one that joined.
 #[inline(always)]
 fn is_unknown(core: &Core, client: ClientId, call: &Call, traits: &Traits) -> bool
     requires { Describes call.now traits.now }
@@ -44,7 +44,7 @@ fn is_unknown(core: &Core, client: ClientId, call: &Call, traits: &Traits) -> bo
     }
 }
 
-// Whether a gift goes to a shut client, or a shut client would acquire something.
+// Whether a gift is to a shut client, or a shut client would acquire something.
 #[inline(always)]
 fn is_shut_out(core: &Core, client: ClientId, traits: &Traits) -> bool
     ensures { result ≡ ((is_acquired_in traits.now.makes && (readings_of core.now).is_shut client)

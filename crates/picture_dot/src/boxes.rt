@@ -22,7 +22,7 @@ use sm_names::{Constraints, NodeKey};
 use std::alloc::AllocError;
 use text_parts::{Part, push_parts};
 
-// Puts a box for each of the nodes behind what is there, of which these left at the event.
+// Appends a box for each of the nodes, of which these left at the event.
 pub(crate) fn push_boxes(
     text: &mut Vec<u8>,
     teller: &Teller,
@@ -37,7 +37,7 @@ pub(crate) fn push_boxes(
     push_each_box(text, teller, nodes, &left)
 }
 
-// Puts a box for each of the nodes behind what is there, of which these left at the event.
+// Appends a box for each of the nodes, of which these left at the event.
 fn push_each_box(
     text: &mut Vec<u8>,
     teller: &Teller,
@@ -54,7 +54,7 @@ fn push_each_box(
     Ok(())
 }
 
-// Puts the box of a node behind what is there.
+// Appends the box of a node.
 #[tactic(auto, unfolding(crate::specs::DotPictures::box_text))]
 fn push_box(
     text: &mut Vec<u8>,
@@ -71,7 +71,7 @@ fn push_box(
     push_look(text, left, node)
 }
 
-// Puts the begin of a box behind what is there, with the label of its node.
+// Appends the begin of a box, with the label of its node.
 #[tactic(auto, unfolding(crate::specs::DotPictures::box_head))]
 fn push_head(text: &mut Vec<u8>, tables: &Tables, node: &Node) -> Result<(), AllocError>
     ensures { OnOk result ((names : Names) → Keeps tables.now names →
@@ -89,7 +89,7 @@ fn push_head(text: &mut Vec<u8>, tables: &Tables, node: &Node) -> Result<(), All
     )
 }
 
-// Puts the lines of a box behind what is there.
+// Appends the lines of a box.
 fn push_lines(text: &mut Vec<u8>, teller: &Teller, node: &Node) -> Result<(), AllocError>
     ensures { OnOk result ((names : Names) → Keeps teller.now.session.tables names →
         Calls teller.now.labels names → text.new.items ≡ text.old.items
@@ -104,7 +104,7 @@ fn push_lines(text: &mut Vec<u8>, teller: &Teller, node: &Node) -> Result<(), Al
     push_place(text, &teller.labels, node)
 }
 
-// Puts the line of what is asked for behind what is there, if something is.
+// Appends the line of what is asked for, if something is.
 fn push_asked(text: &mut Vec<u8>, asked: Option<Constraints>) -> Result<(), AllocError>
     ensures { OnOk result (text.new.items ≡ text.old.items ++ asked_line asked) }
 {
@@ -117,7 +117,7 @@ fn push_asked(text: &mut Vec<u8>, asked: Option<Constraints>) -> Result<(), Allo
     }
 }
 
-// Puts behind what is there how the box of a node looks.
+// Appends how the box of a node looks.
 #[tactic(auto, unfolding(crate::specs::DotPictures::look_text))]
 fn push_look(text: &mut Vec<u8>, left: &KeySet, node: &Node) -> Result<(), AllocError>
     ensures { OnOk result ((keys : List Key) → HasKeys left.now keys →

@@ -16,7 +16,7 @@ use script_pictures::{Travel, Tree, Way, nodes_by_key, parents_among, way_of};
 use std::alloc::AllocError;
 use text_parts::{Part, push_parts};
 
-// Puts the links of a tree behind what is there, and one that keeps its table below it.
+// Appends the links of a tree, and one that keeps its table below it.
 #[tactic(auto, unfolding(crate::specs::DotPictures::links_text))]
 pub(crate) fn push_links(
     text: &mut Vec<u8>,
@@ -30,7 +30,7 @@ pub(crate) fn push_links(
     push_table_link(text, tree)
 }
 
-// Puts the link of each node to its parent behind what is there.
+// Appends the link of each node to its parent.
 fn push_node_links(
     text: &mut Vec<u8>,
     nodes: &Vec<Node>,
@@ -43,7 +43,7 @@ fn push_node_links(
     push_each_link(text, nodes, &by_key, travels)
 }
 
-// Puts the link of each of these nodes to its parent behind what is there.
+// Appends the link of each of these nodes to its parent.
 fn push_each_link(
     text: &mut Vec<u8>,
     nodes: &[Node],
@@ -60,7 +60,7 @@ fn push_each_link(
     Ok(())
 }
 
-// Puts the link of the node to its parent behind what is there, if it has one.
+// Appends the link of the node to its parent, if it has one.
 fn push_link_of(
     text: &mut Vec<u8>,
     by_key: &KeyMap<Node>,
@@ -87,8 +87,8 @@ fn parent_of(by_key: &KeyMap<Node>, node: &Node) -> Option<Node>
     }
 }
 
-// Puts a link behind what is there, from the parent that was born at this event, and how a failure went
-// along it.
+// Appends a link, from the parent that was born at this event, and how a failure followed it along
+// it.
 fn push_link(
     text: &mut Vec<u8>,
     above: u64,
@@ -122,7 +122,7 @@ fn begin_of(node: &Node) -> &'static str
     }
 }
 
-// Puts behind what is there how a failure went along a link, if it did.
+// Appends how a failure followed a link, if it did.
 fn push_way(text: &mut Vec<u8>, way: Option<Way>) -> Result<(), AllocError>
     ensures { OnOk result (text.new.items ≡ text.old.items ++ dot_way_text way) }
 {
@@ -143,7 +143,7 @@ fn words_for_stop() -> &'static str
      label=\" stops\""
 }
 
-// Puts behind what is there how an arrow looks that a failure went along, at this step.
+// Appends how an arrow looks that a failure followed, at this step.
 fn push_arrow<'a>(
     text: &mut Vec<u8>,
     direction: &'a str,
@@ -166,7 +166,7 @@ fn push_arrow<'a>(
     )
 }
 
-// Puts a link from the middle leaf to the table behind what is there, if there are both.
+// Appends a link from the middle leaf to the table, if there are both.
 fn push_table_link(text: &mut Vec<u8>, tree: &Tree) -> Result<(), AllocError>
     ensures { OnOk result (text.new.items ≡ text.old.items ++ table_link_of tree.now) }
 {
@@ -180,7 +180,7 @@ fn push_table_link(text: &mut Vec<u8>, tree: &Tree) -> Result<(), AllocError>
     }
 }
 
-// Puts a link behind what is there, from the node that was born at this event to the table of this number.
+// Appends a link, from the node that was born at this event to the table of this number.
 fn push_leaf_link(text: &mut Vec<u8>, id: u64, event: u64) -> Result<(), AllocError>
     ensures { OnOk result (text.new.items ≡ text.old.items ++ table_link id event) }
 {

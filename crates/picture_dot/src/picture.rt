@@ -21,10 +21,10 @@ use sm_names::{ClientId, Fired};
 use std::alloc::AllocError;
 use text_parts::{Part, push_parts};
 
-/// Puts the picture behind what is there, where the last event has this line.
+/// Appends the picture; the last event has this line.
 ///
-/// `NoMemory` where memory is refused. Costs O(n log n) for the n nodes of each tree and the n links along
-/// which failures went, a look into a table for each label, and for each buffer a look-up for each client
+/// `NoMemory` where memory is refused. Costs O(n log n) for the n nodes of each tree and the n links that
+/// failures followed, a look into a table for each label, and for each buffer a look-up for each client
 /// and strength.
 #[tactic(auto, unfolding(crate::specs::DotPictures::dot_text))]
 pub fn push_dot(
@@ -51,7 +51,7 @@ pub fn push_dot(
     Ok(())
 }
 
-// Puts the begin of the graph behind what is there.
+// Appends the begin of the graph.
 fn push_head(text: &mut Vec<u8>, event: u64, line: &[u8]) -> Result<(), AllocError>
     ensures { OnOk result (text.new.items ≡ text.old.items ++ graph_head event line.now) }
 {
@@ -92,7 +92,7 @@ fn words_for_links() -> &'static str
     "  edge [fontname=\"DejaVu Sans Mono\", fontsize=11, color=\"#808080\"];\n"
 }
 
-// Puts the trees behind what is there.
+// Appends the trees.
 fn push_trees(
     text: &mut Vec<u8>,
     teller: &Teller,
@@ -111,7 +111,7 @@ fn push_trees(
     Ok(())
 }
 
-// Puts a tree and its links behind what is there.
+// Appends a tree and its links.
 #[tactic(auto, unfolding(crate::specs::DotPictures::dot_tree))]
 fn push_tree(
     text: &mut Vec<u8>,
@@ -129,7 +129,7 @@ fn push_tree(
     push_links(text, tree, travels)
 }
 
-// Puts the boxes of a tree and the table of its buffers behind what is there.
+// Appends the boxes of a tree and the table of its buffers.
 #[tactic(auto, unfolding(crate::specs::DotPictures::cluster_text))]
 fn push_cluster(
     text: &mut Vec<u8>,
@@ -149,7 +149,7 @@ fn push_cluster(
     push(text, "  }\n")
 }
 
-// Puts the line of the pool and the firings behind what is there, and the end of the graph.
+// Appends the line of the pool and the firings, and the end of the graph.
 #[tactic(auto, unfolding(crate::specs::DotPictures::graph_foot))]
 fn push_foot(
     text: &mut Vec<u8>,
@@ -167,7 +167,7 @@ fn push_foot(
     push(text, "}\n")
 }
 
-// Puts behind what is there how many pages of the pool are free.
+// Appends how many pages of the pool are free.
 fn push_pool(text: &mut Vec<u8>, core: &Core) -> Result<(), AllocError>
     ensures { OnOk result (text.new.items ≡ text.old.items ++ pool_words core.now) }
 {
@@ -183,7 +183,7 @@ fn push_pool(text: &mut Vec<u8>, core: &Core) -> Result<(), AllocError>
     )
 }
 
-// Puts the firings behind what is there, where the last event has this number.
+// Appends the firings, where the last event has this number.
 fn push_firings(
     text: &mut Vec<u8>,
     tables: &Tables,
@@ -199,7 +199,7 @@ fn push_firings(
     Ok(())
 }
 
-// Puts behind what is there that a tracker fired, now or at an event before.
+// Appends that a tracker fired, now or at an event before.
 #[tactic(auto, unfolding(crate::specs::DotPictures::firing_text))]
 fn push_firing(
     text: &mut Vec<u8>,
@@ -220,7 +220,7 @@ fn push_firing(
     push_when(text, firing.event, event)
 }
 
-// Puts behind what is there that it was at this event, the last one or one before.
+// Appends that it was at this event, the last one or one before.
 fn push_when(text: &mut Vec<u8>, fired: u64, event: u64) -> Result<(), AllocError>
     ensures { OnOk result (text.new.items ≡ text.old.items ++ when_text event fired) }
 {
@@ -231,7 +231,7 @@ fn push_when(text: &mut Vec<u8>, fired: u64, event: u64) -> Result<(), AllocErro
     }
 }
 
-// Puts behind what is there that the foot stands below each table.
+// Appends that the foot stands below each table.
 fn push_ranks(text: &mut Vec<u8>, trees: &[Tree]) -> Result<(), AllocError>
     ensures { OnOk result (text.new.items ≡ text.old.items ++ flat_map rank_text trees.now) }
 {
@@ -241,7 +241,7 @@ fn push_ranks(text: &mut Vec<u8>, trees: &[Tree]) -> Result<(), AllocError>
     Ok(())
 }
 
-// Puts behind what is there that the foot stands below the table of the tree, if it has one.
+// Appends that the foot stands below the table of the tree, if it has one.
 #[tactic(auto, unfolding(crate::specs::DotPictures::rank_text))]
 fn push_rank(text: &mut Vec<u8>, tree: &Tree) -> Result<(), AllocError>
     ensures { OnOk result (text.new.items ≡ text.old.items ++ rank_text tree.now) }

@@ -21,7 +21,7 @@ pub(crate) fn has_table(tree: &Tree) -> bool
     !tree.held.is_empty() || !tree.freed.is_empty()
 }
 
-// Puts the table of the tree's buffers behind what is there, if there is one.
+// Appends the table of the tree's buffers, if there is one.
 pub(crate) fn push_table_of(
     text: &mut Vec<u8>,
     teller: &Teller,
@@ -39,7 +39,7 @@ pub(crate) fn push_table_of(
     }
 }
 
-// Puts the table of the tree's buffers behind what is there.
+// Appends the table of the tree's buffers.
 #[tactic(auto, unfolding(crate::specs::DotPictures::table_text))]
 fn push_table(
     text: &mut Vec<u8>,
@@ -69,7 +69,7 @@ fn words_for_table() -> &'static str
      </td></tr>"
 }
 
-// Puts a row for each buffer with pages behind what is there.
+// Appends a row for each buffer with pages.
 fn push_held_rows(
     text: &mut Vec<u8>,
     teller: &Teller,
@@ -87,7 +87,7 @@ fn push_held_rows(
     Ok(())
 }
 
-// Puts the row of a buffer with pages behind what is there.
+// Appends the row of a buffer with pages.
 #[tactic(auto, unfolding(crate::specs::DotPictures::held_row))]
 fn push_held_row(
     text: &mut Vec<u8>,
@@ -114,8 +114,7 @@ fn push_held_row(
     push(text, "</td></tr>")
 }
 
-// Puts the cells of the buffer's name and pages behind what is there, each begun so, and the begin of one
-// more.
+// Appends the cells of the buffer's name and pages, each begun so, and the begin of one more.
 fn push_cells(
     text: &mut Vec<u8>,
     teller: &Teller,
@@ -134,7 +133,7 @@ fn push_cells(
     push(text, "</td><td align=\"left\">")
 }
 
-// Puts the live nodes behind what is there, if there are some.
+// Appends the live nodes, if there are some.
 fn push_live(text: &mut Vec<u8>, tables: &Tables, nodes: &[NodeKey]) -> Result<(), AllocError>
     ensures { OnOk result ((names : Names) → Keeps tables.now names →
         text.new.items ≡ text.old.items ++ dot_live_words names nodes.now) }
@@ -146,7 +145,7 @@ fn push_live(text: &mut Vec<u8>, tables: &Tables, nodes: &[NodeKey]) -> Result<(
     push_nodes(text, tables, nodes)
 }
 
-// Puts a row for each buffer that gave its pages back behind what is there.
+// Appends a row for each buffer that gave its pages back.
 fn push_freed_rows(
     text: &mut Vec<u8>,
     teller: &Teller,
@@ -161,7 +160,7 @@ fn push_freed_rows(
     Ok(())
 }
 
-// Puts the row of a buffer that gave its pages back behind what is there.
+// Appends the row of a buffer that gave its pages back.
 #[tactic(auto, unfolding(crate::specs::DotPictures::freed_row))]
 fn push_freed_row(text: &mut Vec<u8>, teller: &Teller, buffer: HeldBuffer) -> Result<(), AllocError>
     ensures { OnOk result ((names : Names) → Keeps teller.now.session.tables names →

@@ -204,7 +204,7 @@ fn kept_line(
     Ok(line)
 }
 
-// Puts the live nodes that keep a buffer behind what is there, if there are some.
+// Appends the live nodes that keep a buffer, if there are some.
 fn push_live(line: &mut Vec<u8>, tables: &Tables, nodes: &[NodeKey]) -> Result<(), AllocError>
     ensures { OnOk result ((names : Names) → Keeps tables.now names →
         line.new.items ≡ line.old.items ++ live_part names nodes.now) }

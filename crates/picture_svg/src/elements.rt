@@ -66,7 +66,7 @@ pub(crate) struct Rect {
     pub(crate) dashes: &'static str,
 }
 
-// Puts an attribute with a word behind what is there; nothing where the word is empty.
+// Appends an attribute with a word; nothing where the word is empty.
 pub(crate) fn push_word<'a>(
     body: &mut Vec<u8>,
     name: &'a str,
@@ -89,7 +89,7 @@ pub(crate) fn push_word<'a>(
     )
 }
 
-// Puts words behind what is there, at this place.
+// Appends words, at this place.
 #[tactic(auto, unfolding(crate::specs::Elements::words_text))]
 pub(crate) fn push_words(
     body: &mut Vec<u8>,
@@ -142,7 +142,7 @@ fn anchor_of(middle: bool) -> &'static str
     }
 }
 
-// Puts a rectangle behind what is there.
+// Appends a rectangle.
 #[tactic(auto, unfolding(crate::specs::Elements::rect_text))]
 pub(crate) fn push_rect(body: &mut Vec<u8>, rect: &Rect) -> Result<(), AllocError>
     ensures { OnOk result (body.new.items ≡ body.old.items
@@ -152,7 +152,7 @@ pub(crate) fn push_rect(body: &mut Vec<u8>, rect: &Rect) -> Result<(), AllocErro
     push_paint(body, rect)
 }
 
-// Puts where a rectangle lies behind what is there.
+// Appends where a rectangle lies.
 #[tactic(auto, unfolding(crate::specs::Elements::corner_text))]
 fn push_corner(body: &mut Vec<u8>, rect: &Rect) -> Result<(), AllocError>
     ensures { OnOk result (body.new.items ≡ body.old.items
@@ -174,7 +174,7 @@ fn push_corner(body: &mut Vec<u8>, rect: &Rect) -> Result<(), AllocError>
     )
 }
 
-// Puts how a rectangle looks behind what is there, and the end of it.
+// Appends how a rectangle looks, and the end of it.
 #[tactic(auto, unfolding(crate::specs::Elements::paint_text))]
 fn push_paint(body: &mut Vec<u8>, rect: &Rect) -> Result<(), AllocError>
     ensures { OnOk result (body.new.items ≡ body.old.items ++ paint_text (paint_of rect.now)) }
@@ -187,7 +187,7 @@ fn push_paint(body: &mut Vec<u8>, rect: &Rect) -> Result<(), AllocError>
     push(body, "/>\n")
 }
 
-// Puts behind what is there how round the corners are, if they are.
+// Appends how round the corners are, if they are.
 fn push_rounded(body: &mut Vec<u8>, rounded: u64) -> Result<(), AllocError>
     ensures { OnOk result (body.new.items ≡ body.old.items ++ rounded_text rounded) }
 {
@@ -204,7 +204,7 @@ fn push_rounded(body: &mut Vec<u8>, rounded: u64) -> Result<(), AllocError>
     Ok(())
 }
 
-// Puts a number in a circle behind what is there.
+// Appends a number in a circle.
 pub(crate) fn push_step(body: &mut Vec<u8>, x: u64, y: u64, step: u64) -> Result<(), AllocError>
     ensures { OnOk result (body.new.items
         ≡ body.old.items ++ circle_text x y (capped_sum y 4) step) }
@@ -212,7 +212,7 @@ pub(crate) fn push_step(body: &mut Vec<u8>, x: u64, y: u64, step: u64) -> Result
     push_circle(body, x, y, plus(y, 4), step)
 }
 
-// Puts a number in a circle behind what is there, on the line of this row.
+// Appends a number in a circle, on the line of this row.
 #[tactic(auto, unfolding(crate::specs::Elements::circle_text))]
 fn push_circle(body: &mut Vec<u8>, x: u64, y: u64, below: u64, step: u64) -> Result<(), AllocError>
     ensures { OnOk result (body.new.items ≡ body.old.items ++ circle_text x y below step) }

@@ -74,7 +74,7 @@ fn head_of(corner: Corner, width: u64) -> Corner
     }
 }
 
-// Draws a link from above to a node, and how a failure went along it.
+// Draws a link from above to a node, and how a failure followed it.
 #[tactic(auto, unfolding(crate::specs::Links::link_text))]
 fn push_link(
     body: &mut Vec<u8>,
@@ -90,7 +90,7 @@ fn push_link(
     push_end(body, to, way)
 }
 
-// Puts behind what is there how a link looks.
+// Appends how a link looks.
 #[tactic(auto, unfolding(crate::specs::Links::line_text))]
 fn push_line(body: &mut Vec<u8>, node: &Node, way: Option<Way>) -> Result<(), AllocError>
     ensures { OnOk result (body.new.items ≡ body.old.items ++ line_text node.now way) }
@@ -99,7 +99,7 @@ fn push_line(body: &mut Vec<u8>, node: &Node, way: Option<Way>) -> Result<(), Al
     push_word(body, "stroke-dasharray", dashes_of(node))
 }
 
-// Puts the colour and the width of a link behind what is there.
+// Appends the colour and the width of a link.
 #[tactic(auto, unfolding(crate::specs::Links::line_start))]
 fn push_stroke(body: &mut Vec<u8>, way: Option<Way>) -> Result<(), AllocError>
     ensures { OnOk result (body.new.items ≡ body.old.items ++ line_start way) }
@@ -147,7 +147,7 @@ fn dashes_of(node: &Node) -> &'static str
     if node.attached { "7 5" } else { "" }
 }
 
-// Draws the end of a link, and the step at which a failure went along it.
+// Draws the end of a link, and the step at which a failure followed it.
 fn push_end(body: &mut Vec<u8>, to: Corner, way: Option<Way>) -> Result<(), AllocError>
     ensures { OnOk result (body.new.items ≡ body.old.items ++ end_text to way) }
 {
@@ -159,7 +159,7 @@ fn push_end(body: &mut Vec<u8>, to: Corner, way: Option<Way>) -> Result<(), Allo
     }
 }
 
-// Draws the end of a link along which a failure went at this step.
+// Draws the end of a link that a failure followed at this step.
 #[tactic(auto, unfolding(crate::specs::Links::arrow_text))]
 fn push_arrow(body: &mut Vec<u8>, to: Corner, step: u64) -> Result<(), AllocError>
     ensures { OnOk result (body.new.items ≡ body.old.items ++ arrow_text to step) }
@@ -188,7 +188,7 @@ fn push_bar(body: &mut Vec<u8>, to: Corner) -> Result<(), AllocError>
     )
 }
 
-// Puts the path of a link behind what is there, in the direction of a failure that went along it.
+// Appends the path of a link, in the direction of a failure that followed it.
 #[tactic(auto, unfolding(crate::specs::Links::way_path))]
 fn push_way(
     body: &mut Vec<u8>,
@@ -213,7 +213,7 @@ fn push_way(
     }
 }
 
-// Puts a path behind what is there, from a corner down or up to a row, along it, and on to its end.
+// Appends a path, from a corner down or up to a row, along it, and on to its end.
 #[tactic(auto, unfolding(crate::specs::Links::path_text))]
 fn push_bends(
     body: &mut Vec<u8>,

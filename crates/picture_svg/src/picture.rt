@@ -26,11 +26,11 @@ use sm_names::{Fired, HeldBuffer};
 use std::alloc::{AllocError, Global};
 use text_parts::{Part, push_parts};
 
-/// Puts the picture behind what is there, where the last event has this line: what the event did, the
-/// trees, the pool, and what the colours stand for.
+/// Appends the picture; the last event has this line. It shows what the event did, the trees, the
+/// pool, and what the colours stand for.
 ///
-/// `NoMemory` where memory is refused. Costs O(n log n) for the n nodes of each tree and the n links along
-/// which failures went, a look into a table for each label, and for each buffer a look-up for each client
+/// `NoMemory` where memory is refused. Costs O(n log n) for the n nodes of each tree and the n links that
+/// failures followed, a look into a table for each label, and for each buffer a look-up for each client
 /// and strength.
 #[tactic(auto, unfolding(crate::specs::SvgPictures::svg_text))]
 pub fn push_svg(
@@ -50,7 +50,7 @@ pub fn push_svg(
     Ok(())
 }
 
-// Puts what stands in the frame behind what is there; answers the width and the height of the picture.
+// Appends what stands in the frame; answers the width and the height of the picture.
 #[tactic(auto, unfolding(crate::specs::SvgPictures::body_text))]
 fn push_body(
     body: &mut Vec<u8>,
@@ -116,7 +116,7 @@ fn push_all_trees(
     Ok(extent)
 }
 
-// Puts these elements behind what is there, and the end of the picture.
+// Appends these elements, and the end of the picture.
 fn push_framed(text: &mut Vec<u8>, body: &Vec<u8>) -> Result<(), AllocError>
     ensures { OnOk result (text.new.items
         ≡ text.old.items ++ (body.now.items ++ codes "</svg>\n")) }
@@ -185,7 +185,7 @@ fn longest_of(lines: &[Vec<u8>]) -> u64
     longest
 }
 
-// Puts the event and its line behind what is there.
+// Appends the event and its line.
 #[tactic(auto, unfolding(crate::specs::SvgPictures::title_text))]
 fn push_title(body: &mut Vec<u8>, event: u64, line: &[u8]) -> Result<(), AllocError>
     ensures { OnOk result (body.new.items ≡ body.old.items ++ title_text event line.now) }
@@ -281,7 +281,7 @@ fn firing_line(alloc: Global, tables: &Tables, firing: Fired) -> Result<Vec<u8>,
     Ok(line)
 }
 
-// Puts a line of words behind what is there, above this row.
+// Appends a line of words, above this row.
 #[tactic(auto, unfolding(crate::specs::SvgPictures::fact_text))]
 fn push_fact(body: &mut Vec<u8>, y: u64, style: Style, words: &[u8]) -> Result<(), AllocError>
     ensures { OnOk result (body.new.items
@@ -524,7 +524,7 @@ fn push_sample_rect(body: &mut Vec<u8>, x: u64, y: u64, class: Class) -> Result<
     )
 }
 
-// Puts the begin of a picture of this size behind what is there.
+// Appends the begin of a picture of this size.
 #[tactic(auto, unfolding(crate::specs::SvgPictures::frame_text))]
 fn push_frame(text: &mut Vec<u8>, width: u64, height: u64) -> Result<(), AllocError>
     ensures { OnOk result (text.new.items ≡ text.old.items ++ frame_text width height) }

@@ -21,7 +21,7 @@ use text_parts::{Part, push_parts};
 // The most pages of a pool of which each is drawn.
 const MOST_DRAWN: u32 = 64;
 
-/// Puts the picture behind what is there, where the last event has this line.
+/// Appends the picture, where the last event has this line.
 ///
 /// `NoMemory` where memory is refused. Costs O(n log n) for the n nodes of each tree, the text, a look into
 /// a table for each label, and for each buffer a look-up for each client and strength.
@@ -45,7 +45,7 @@ pub fn push_text(
     Ok(())
 }
 
-// Puts the number of the event and its line behind what is there.
+// Appends the number of the event and its line.
 fn push_head(text: &mut Vec<u8>, event: u64, line: &[u8]) -> Result<(), AllocError>
     ensures { OnOk result (text.new.items ≡ text.old.items ++ head_text event line.now) }
 {
@@ -68,7 +68,7 @@ fn colon(event: u64) -> &'static str
     if event == 0 { "" } else { ": " }
 }
 
-// Puts the trees behind what is there, each behind an empty line.
+// Appends the trees, each behind an empty line.
 fn push_trees(
     text: &mut Vec<u8>,
     teller: &Teller,
@@ -85,8 +85,7 @@ fn push_trees(
     Ok(())
 }
 
-// Puts a tree behind what is there, behind an empty line: a row for each node, and one for each buffer with
-// pages.
+// Appends a tree, behind an empty line: a row for each node, and one for each buffer with pages.
 fn push_tree(
     text: &mut Vec<u8>,
     teller: &Teller,
@@ -104,7 +103,7 @@ fn push_tree(
     push_held_rows(text, teller, clients, tree, width)
 }
 
-// Puts the pool behind what is there, behind an empty line: a sign for each page, and how many are free.
+// Appends the pool, behind an empty line: a sign for each page, and how many are free.
 fn push_pool(text: &mut Vec<u8>, core: &Core) -> Result<(), Stop>
     ensures { OnOk result (text.new.items ≡ text.old.items ++ pool_text core.now) }
 {
@@ -115,7 +114,7 @@ fn push_pool(text: &mut Vec<u8>, core: &Core) -> Result<(), Stop>
     Ok(())
 }
 
-// Puts behind what is there how many pages are free.
+// Appends how many pages are free.
 fn push_free(text: &mut Vec<u8>, core: &Core) -> Result<(), AllocError>
     ensures { OnOk result (text.new.items ≡ text.old.items ++ free_text core.now) }
 {
@@ -130,7 +129,7 @@ fn push_free(text: &mut Vec<u8>, core: &Core) -> Result<(), AllocError>
     )
 }
 
-// Puts a sign for each of so many pages behind what is there, unless they are many.
+// Appends a sign for each of so many pages, unless they are many.
 fn push_signs(text: &mut Vec<u8>, held: &[HeldBuffer], pages: u32) -> Result<(), AllocError>
     ensures { OnOk result (text.new.items ≡ text.old.items ++ pool_signs held.now pages) }
 {
@@ -141,7 +140,7 @@ fn push_signs(text: &mut Vec<u8>, held: &[HeldBuffer], pages: u32) -> Result<(),
     push(text, " ")
 }
 
-// Puts a sign for each of so many pages behind what is there.
+// Appends a sign for each of so many pages.
 fn push_each_sign(text: &mut Vec<u8>, held: &[HeldBuffer], pages: u32) -> Result<(), AllocError>
     ensures { OnOk result (text.new.items ≡ text.old.items ++ signs_of_pages held.now pages) }
 {
@@ -172,7 +171,7 @@ fn is_on(buffer: &HeldBuffer, page: u32) -> bool
     buffer.pages.start <= page && page - buffer.pages.start < buffer.pages.pages
 }
 
-// Puts the trackers that fired so far behind what is there, if there are some.
+// Appends the trackers that fired so far, if there are some.
 fn push_fired(text: &mut Vec<u8>, tables: &Tables, fired: &[Fired]) -> Result<(), AllocError>
     ensures { OnOk result ((names : Names) → Keeps tables.now names →
         text.new.items ≡ text.old.items ++ fired_line names fired.now) }
@@ -185,7 +184,7 @@ fn push_fired(text: &mut Vec<u8>, tables: &Tables, fired: &[Fired]) -> Result<()
     push(text, "\n")
 }
 
-// Puts each of the firings behind what is there.
+// Appends each of the firings.
 fn push_firings(text: &mut Vec<u8>, tables: &Tables, fired: &[Fired]) -> Result<(), AllocError>
     ensures { OnOk result ((names : Names) → Keeps tables.now names →
         text.new.items ≡ text.old.items ++ flat_map (fired_text names) fired.now) }

@@ -56,8 +56,8 @@ fn full_name(teller: &Teller, row: &Row) -> Result<Vec<u8>, AllocError>
     Ok(name)
 }
 
-// Puts the label under which the end of the node was collected last behind what is there, in parentheses,
-// if it is another than that of its birth.
+// Appends the label under which the end of the node was collected last, in parentheses, if it is another
+// than that of its birth.
 fn push_other_name(text: &mut Vec<u8>, teller: &Teller, node: NodeKey) -> Result<(), AllocError>
     ensures { OnOk result ((names : Names) → Keeps teller.now.session.tables names →
         Calls teller.now.labels names → text.new.items ≡ text.old.items
@@ -68,7 +68,7 @@ fn push_other_name(text: &mut Vec<u8>, teller: &Teller, node: NodeKey) -> Result
     push_in_parentheses(text, &other)
 }
 
-// Puts the words behind what is there, in parentheses, if there are some.
+// Appends the words, in parentheses, if there are some.
 fn push_in_parentheses(text: &mut Vec<u8>, words: &[u8]) -> Result<(), AllocError>
     ensures { OnOk result (text.new.items ≡ text.old.items ++ in_parentheses words.now) }
 {
@@ -81,7 +81,7 @@ fn push_in_parentheses(text: &mut Vec<u8>, words: &[u8]) -> Result<(), AllocErro
     )
 }
 
-// Puts so many spaces behind what is there.
+// Appends so many spaces.
 fn push_spaces(text: &mut Vec<u8>, count: u64) -> Result<(), AllocError>
     ensures { OnOk result (text.new.items ≡ text.old.items ++ replicate count 32) }
 {
@@ -91,8 +91,7 @@ fn push_spaces(text: &mut Vec<u8>, count: u64) -> Result<(), AllocError>
     Ok(())
 }
 
-// Puts a row for each node behind what is there, in a tree of this width, of which these nodes left at the
-// event.
+// Appends a row for each node, in a tree of this width, of which these nodes left at the event.
 pub(crate) fn push_rows(
     text: &mut Vec<u8>,
     teller: &Teller,
@@ -108,8 +107,7 @@ pub(crate) fn push_rows(
     push_each_row(text, teller, rows, &left, width)
 }
 
-// Puts a row for each node behind what is there, in a tree of this width, of which these nodes left at the
-// event.
+// Appends a row for each node, in a tree of this width, of which these nodes left at the event.
 fn push_each_row(
     text: &mut Vec<u8>,
     teller: &Teller,
@@ -128,7 +126,7 @@ fn push_each_row(
     Ok(())
 }
 
-// Puts the row of a node behind what is there.
+// Appends the row of a node.
 fn push_row(
     text: &mut Vec<u8>,
     teller: &Teller,
@@ -146,7 +144,7 @@ fn push_row(
     push_facts(text, teller, &row.node)
 }
 
-// Puts the lines that lead to the node and its name behind what is there, up to this width.
+// Appends the lines that lead to the node and its name, up to this width.
 fn push_name(text: &mut Vec<u8>, teller: &Teller, row: &Row, width: u64) -> Result<(), AllocError>
     ensures { OnOk result ((names : Names) → Keeps teller.now.session.tables names →
         Calls teller.now.labels names → text.new.items ≡ text.old.items
@@ -158,7 +156,7 @@ fn push_name(text: &mut Vec<u8>, teller: &Teller, row: &Row, width: u64) -> Resu
     push_spaces(text, width.saturating_sub(taken))
 }
 
-// Puts behind what is there whether the node left, at this event, or was released.
+// Appends whether the node left, at this event, or was released.
 fn push_signs(text: &mut Vec<u8>, left: &KeySet, node: &Node) -> Result<(), AllocError>
     ensures { OnOk result ((keys : List Key) → HasKeys left.now keys →
         text.new.items ≡ text.old.items ++ signs_of_node keys node.now) }
@@ -203,7 +201,7 @@ fn released_words(node: &Node) -> &'static str
     }
 }
 
-// Puts the state of the node behind what is there.
+// Appends the state of the node.
 fn push_state(text: &mut Vec<u8>, tables: &Tables, node: &Node) -> Result<(), AllocError>
     ensures { OnOk result ((names : Names) → Keeps tables.now names →
         text.new.items ≡ text.old.items ++ state_text names node.now) }
@@ -219,7 +217,7 @@ fn push_state(text: &mut Vec<u8>, tables: &Tables, node: &Node) -> Result<(), Al
     }
 }
 
-// Puts behind what is there why the node fell, and with whom.
+// Appends why the node fell, and with whom.
 fn push_fallen(text: &mut Vec<u8>, tables: &Tables, fault: Fault) -> Result<(), AllocError>
     ensures { OnOk result ((names : Names) → Keeps tables.now names →
         text.new.items ≡ text.old.items ++ fallen_text names fault) }
@@ -272,7 +270,7 @@ fn weak_words(node: &Node) -> &'static str
     if node.weak { "; weak" } else { "" }
 }
 
-// Puts what is asked for behind what is there.
+// Appends what is asked for.
 fn push_asked(text: &mut Vec<u8>, asked: Option<Constraints>) -> Result<(), AllocError>
     ensures { OnOk result (text.new.items ≡ text.old.items ++ asked_text asked) }
 {
@@ -292,7 +290,7 @@ fn push_asked(text: &mut Vec<u8>, asked: Option<Constraints>) -> Result<(), Allo
     }
 }
 
-// Puts a row for each buffer of the tree with pages behind what is there.
+// Appends a row for each buffer of the tree with pages.
 pub(crate) fn push_held_rows(
     text: &mut Vec<u8>,
     teller: &Teller,
@@ -311,7 +309,7 @@ pub(crate) fn push_held_rows(
     Ok(())
 }
 
-// Puts the row of a buffer behind what is there.
+// Appends the row of a buffer.
 fn push_buffer_row(
     text: &mut Vec<u8>,
     teller: &Teller,
@@ -329,7 +327,7 @@ fn push_buffer_row(
     push_keepers(text, teller, clients, &tree.strong, buffer)
 }
 
-// Puts the name of the buffer and its pages behind what is there.
+// Appends the name of the buffer and its pages.
 fn push_pages_row(
     text: &mut Vec<u8>,
     teller: &Teller,
@@ -347,7 +345,7 @@ fn push_pages_row(
     push_pages(text, buffer.pages)
 }
 
-// Puts who keeps the buffer behind what is there, where these nodes are strong and live.
+// Appends who keeps the buffer, where these nodes are strong and live.
 fn push_keepers(
     text: &mut Vec<u8>,
     teller: &Teller,
@@ -373,7 +371,7 @@ fn push_keepers(
     push(text, "\n")
 }
 
-// Puts the live nodes behind what is there, if there are some.
+// Appends the live nodes, if there are some.
 fn push_live(text: &mut Vec<u8>, tables: &Tables, nodes: &[NodeKey]) -> Result<(), AllocError>
     ensures { OnOk result ((names : Names) → Keeps tables.now names →
         text.new.items ≡ text.old.items ++ live_text names nodes.now) }

@@ -143,7 +143,7 @@ fn push_asker(
     }
 }
 
-/// Puts the line of a call behind what is there, without its end; a part of it where memory is refused.
+/// Appends the line of a call, without its end; a part of it where memory is refused.
 pub(crate) fn push_call(
     text: &mut Vec<u8>,
     recorder: &Recorder,

@@ -57,7 +57,7 @@ impl Recorder {
         }
     }
 
-    // Puts an entry behind what is there, where the next client that joins has this label.
+    // Appends an entry, where the next client that joins has this label.
     fn push_entry(
         &mut self,
         alloc: Global,
@@ -101,8 +101,8 @@ fn labels_left<'a>(labels: &'a [Label], call: &Call) -> &'a [Label]
     }
 }
 
-/// Puts the record behind what is there, as a transcript: for each entry the line that makes its call, and
-/// below it, behind two spaces, its reply.
+/// Appends the record, as a transcript: for each entry the line that makes its call, and below it, behind
+/// two spaces, its reply.
 ///
 /// The clients have these labels, in the order of their joins. A node's label is `n` and the number of the
 /// event of its birth, or of its Collect on the line of that, and a tracker's is `t` and the number of its

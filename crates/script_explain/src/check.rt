@@ -18,12 +18,12 @@ use std::alloc::{AllocError, Global};
 use std::io::{Read, Write};
 use text_parts::{Part, push_parts};
 
-/// What a transcript came to.
+/// The result of comparing a transcript.
 #[derive(Clone, Copy)]
 pub enum Verdict {
     /// Each reply that is there is the machine's.
     Agrees,
-    /// The first that differs was told.
+    /// The first that differs was written.
     Differs,
 }
 
@@ -31,7 +31,7 @@ pub enum Verdict {
 #[derive(Drop)]
 struct Comparison {
     teller: Teller,
-    // The last line that was played, its number, what the machine answered, and what its event came to.
+    // The last line that was played, its number, what the machine answered, and the facts of its event.
     number: u64,
     line: Vec<u8>,
     reply: Vec<u8>,
@@ -47,7 +47,7 @@ struct Comparison {
 /// pages, and compares each reply that is there with the machine's. A line that begins with two spaces is
 /// the reply to the line before it that begins with none; one that begins with four says nothing. Where
 /// all agree, writes how many lines were played and how many replies compared; else the first that
-/// differs, with the machine's reply and what the event came to. The whole transcript is read before any
+/// differs, with the machine's reply and the facts of the event. The whole transcript is read before any
 /// line is judged.
 ///
 /// On a fault nothing was written, but for `WriteFault`, where a first part of the text was. Costs what
@@ -256,7 +256,7 @@ impl Comparison {
         }
     }
 
-    // Puts behind what is there that all replies agree.
+    // Appends that all replies agree.
     fn push_agreement(&mut self) -> Result<(), AllocError>
         ensures { OnOk result ((scene : Scene) → self.new.text.items
             ≡ self.old.text.items ++ agreement_text (comparison_place self.old scene)) }
@@ -273,8 +273,8 @@ impl Comparison {
         )
     }
 
-    // Puts the last line behind what is there, with the reply that is recorded, and that of the machine,
-    // and what its event came to.
+    // Appends the last line, with the reply that is recorded, and that of the machine, and the
+    // facts of its event.
     fn tell_difference(&mut self, recorded: &[u8]) -> Result<(), AllocError>
         ensures { OnOk result (self.new.text.items ≡ self.old.text.items
             ++ told_difference self.old.number self.old.line.items self.old.reply.items recorded.now
@@ -291,7 +291,7 @@ impl Comparison {
     }
 }
 
-// Puts a line and its number behind what is there, the reply that is recorded, and that of the machine.
+// Appends a line and its number, the reply that is recorded, and that of the machine.
 fn push_difference<'a>(
     text: &mut Vec<u8>,
     number: u64,

@@ -1,4 +1,6 @@
-//! Each line of a script with its reply, and indented what its event came to.
+//! Each line of a script with its reply, and indented the facts of its event. A line is explained
+//! in a buffer of its own, which is then appended to the text: if memory is refused, the text still
+//! ends with a whole line.
 ghost use Rattle.std.specs.Prelude.{◌≡◌, ◌^◌, ◌<◌, ◌≤◌, ◌+◌, [], ◌∷◌, ◌++◌, List, ℕ, Option, IfErr, IfOk, OnErr, OnOk, length};
 ghost use Rattle.std.specs.Io.KnownBytes.{Appends};
 ghost use Rattle.script_lines.specs.Pieces.{last_part, whole_lines};
@@ -39,7 +41,7 @@ struct Explainer {
 /// event came to. Lines that begin with two spaces are passed over: they count as lines. The whole script
 /// is read before any line is judged.
 ///
-/// On a fault, what went out is the text of the whole lines before the one at which it came:
+/// On a fault, the output is the text of the whole lines before the one at which it came:
 /// - `ReadFault`, `TooLong`: the reader failed, or the script has more than `MOST_BYTES` bytes; nothing
 ///   was written.
 /// - `WriteFault`: the writer failed, or took nothing, or could not be flushed. A first part of the text
@@ -181,7 +183,7 @@ impl Explainer {
         self.write_so_far(writer)
     }
 
-    // Puts the explanation of the line of this number behind what is there; nothing where it is stopped.
+    // Appends the explanation of the line of this number; nothing where it is stopped.
     fn explain(&mut self, alloc: Global, number: u64, line: &[u8]) -> Result<(), Stop>
         ensures text { OnOk result (self.new.text.items ≡ self.old.text.items
             ++ told_line line.now self.new.reply.items self.new.facts.items) }
@@ -229,7 +231,7 @@ impl Explainer {
     }
 }
 
-// Puts the line behind what is there, below it its reply, and then the facts.
+// Appends the line, below it its reply, and then the facts.
 fn push_told(text: &mut Vec<u8>, line: &[u8], reply: &[u8], facts: &[u8]) -> Result<(), AllocError>
     ensures { OnOk result
         (text.new.items ≡ text.old.items ++ told_line line.now reply.now facts.now) }
@@ -238,7 +240,7 @@ fn push_told(text: &mut Vec<u8>, line: &[u8], reply: &[u8], facts: &[u8]) -> Res
     push_indented(text, facts)
 }
 
-// Puts the line behind what is there, and below it its reply, which is a line of its own, if it has one.
+// Appends the line, and below it its reply, which is a line of its own, if it has one.
 fn push_line<'a>(text: &mut Vec<u8>, line: &'a [u8], reply: &'a [u8]) -> Result<(), AllocError>
     ensures { OnOk result (text.new.items ≡ text.old.items ++ line_with_reply line.now reply.now) }
 {

@@ -1,4 +1,4 @@
-//! Each line of a script with its reply and what its event came to, and transcripts of that compared.
+//! Each line of a script with its reply and the facts of its event, and transcripts of that compared.
 #![tactic(auto)]
 
 mod check;

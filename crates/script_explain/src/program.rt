@@ -18,8 +18,8 @@ const DIFFERS: u8 = 6;
 
 /// Explains the script that the reader holds, with these pages and the greatest limits, as
 /// `explain_script` does, and answers the status that a program is to end with: 0 where the script came
-/// to its end, and else the status of the fault, which is told in one line on `faults`, as far as that
-/// takes it. Costs what `explain_script` costs.
+/// to its end, and else the status of the fault, which is reported as one line on `faults`, as far as
+/// that takes it. Costs what `explain_script` costs.
 pub fn explain_to_exit<R: Read, W: Write, F: Write>(
     alloc: Global,
     seed: [u8; 16],

@@ -17,8 +17,8 @@ fn fault_line(alloc: Global, fault: &ReportFault) -> Result<Vec<u8>, AllocError>
     Ok(line)
 }
 
-/// The status of the fault, which is told in one line on `faults`, as far as that takes it. Takes a time
-/// in proportion to the line.
+/// The status of the fault, which is reported as one line on `faults`, as far as that takes it. Takes a
+/// time in proportion to the line.
 pub fn end_with<F: Write>(alloc: Global, faults: &mut F, fault: &ReportFault) -> ExitCode
     ensures { exit_status result ≡ fault_status fault.now }
 {

@@ -47,8 +47,8 @@ impl ReportFault {
         }
     }
 
-    /// Puts the text of the fault behind what is there, without an end of a line; a part of it where
-    /// memory is refused. Takes a time in proportion to the text.
+    /// Appends the text of the fault, without an end of a line; a part of it where memory is
+    /// refused. Takes a time in proportion to the text.
     pub fn push_text(&self, text: &mut Vec<u8>) -> Result<(), AllocError> {
         match self {
             ReportFault::ReadFault => push(text, "read fault"),

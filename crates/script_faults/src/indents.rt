@@ -24,9 +24,8 @@ pub fn behind_indent(line: &[u8]) -> Option<&[u8]>
     }
 }
 
-/// Puts the whole lines behind what is there, each behind four spaces; some of them where memory is
-/// refused. What stands behind the last end of a line is left out. Takes a time in proportion to the
-/// lines.
+/// Appends the whole lines, each behind four spaces; some of them where memory is refused. What
+/// stands behind the last end of a line is left out. Takes a time in proportion to the lines.
 pub fn push_indented(text: &mut Vec<u8>, lines: &[u8]) -> Result<(), AllocError>
     ensures { OnOk result (text.new.items ≡ text.old.items ++ indented lines.now) }
 {

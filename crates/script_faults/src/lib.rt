@@ -1,4 +1,4 @@
-//! Why a script is not reported on to its end, how a script comes in, and how a report goes out.
+//! The faults of reports on scripts, how a script is read, and how a report is written.
 #![tactic(auto)]
 
 mod ending;

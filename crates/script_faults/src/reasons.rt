@@ -67,8 +67,8 @@ fn new_part(product: Product) -> Part {
     }
 }
 
-// Puts behind what is there why the line is bad, where the labels of the lines before stand so. Costs a
-// walk over the line, and a look into a table for each label.
+// Appends why the line is bad, where the labels of the lines before stand so. Costs a walk over the
+// line, and a look into a table for each label.
 pub(crate) fn push_reason(
     text: &mut Vec<u8>,
     tables: &Tables,
@@ -138,7 +138,7 @@ fn has_empty_word(line: &[u8]) -> bool {
     before == b' '
 }
 
-// Puts words and a word of the line behind what is there. Bytes that are no printed ASCII are put as `?`.
+// Appends words and a word of the line. Bytes that are no printed ASCII are put as `?`.
 fn push_word(text: &mut Vec<u8>, words: &str, word: &[u8]) -> Result<(), AllocError> {
     push(text, words)?;
     for byte in word {
@@ -152,7 +152,7 @@ fn push_word(text: &mut Vec<u8>, words: &str, word: &[u8]) -> Result<(), AllocEr
     Ok(())
 }
 
-// Puts behind what is there that a label is bound already, or is not bound.
+// Appends that a label is bound already, or is not bound.
 fn push_label_reason(text: &mut Vec<u8>, label: &[u8], is_bound: bool) -> Result<(), AllocError> {
     push_word(text, "the label ", label)?;
     push(
@@ -165,7 +165,7 @@ fn push_label_reason(text: &mut Vec<u8>, label: &[u8], is_bound: bool) -> Result
     )
 }
 
-// Puts behind what is there what is wrong with the words behind `show`.
+// Appends what is wrong with the words behind `show`.
 fn push_view_reason(text: &mut Vec<u8>, rest: Option<&[u8]>) -> Result<(), AllocError> {
     let Some(rest) = rest else {
         return push(text, "a word is missing behind show");
@@ -180,7 +180,7 @@ fn push_view_reason(text: &mut Vec<u8>, rest: Option<&[u8]>) -> Result<(), Alloc
     }
 }
 
-// Puts behind what is there what is wrong with the words behind the verb, the first thing of it.
+// Appends what is wrong with the words behind the verb, the first thing of it.
 fn push_parts_reason(
     text: &mut Vec<u8>,
     tables: &Tables,
@@ -215,7 +215,7 @@ fn push_parts_reason(
     }
 }
 
-// Puts behind what is there what is wrong with the word, if it is not what it is to be.
+// Appends what is wrong with the word, if it is not what it is to be.
 fn push_part_reason(
     text: &mut Vec<u8>,
     tables: &Tables,
@@ -276,7 +276,7 @@ fn number_of(word: &[u8]) -> Option<u32> {
     Some(number)
 }
 
-// Puts this reason behind what is there, if the word is no number of the range.
+// Appends this reason, if the word is no number of the range.
 fn push_range_reason(
     text: &mut Vec<u8>,
     word: &[u8],
@@ -290,7 +290,7 @@ fn push_range_reason(
     }
 }
 
-// Puts behind what is there what is wrong with the name of a buffer, if something is.
+// Appends what is wrong with the name of a buffer, if something is.
 fn push_buffer_reason(text: &mut Vec<u8>, tables: &Tables, word: &[u8]) -> Result<(), AllocError> {
     let Some(buffer) = BufferLabel::new(word) else {
         return push_word(text, "no buffer: ", word);
@@ -304,7 +304,7 @@ fn push_buffer_reason(text: &mut Vec<u8>, tables: &Tables, word: &[u8]) -> Resul
     }
 }
 
-// Puts behind what is there what is wrong with a label, if something is.
+// Appends what is wrong with a label, if something is.
 fn push_name_reason(
     text: &mut Vec<u8>,
     tables: &Tables,

@@ -1,4 +1,4 @@
-//! Text goes out.
+//! Text is written.
 ghost use Rattle.std.specs.Prelude.{◌≡◌, IfErr, OnOk};
 ghost use Rattle.std.specs.Io.KnownBytes.{Appends};
 ghost use Rattle.script_lines.specs.Written.{WritesPart};

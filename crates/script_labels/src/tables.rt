@@ -139,7 +139,7 @@ impl Tables {
         Ok(())
     }
 
-    /// Binds what the reply made, or told of for the first time.
+    /// Binds what the reply made, or named for the first time.
     ///
     /// `AllocError` where memory is refused: then some of this may be left out. Takes a look into a table
     /// for each label.

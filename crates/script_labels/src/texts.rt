@@ -53,8 +53,8 @@ fn kind_name(kind: Kind) -> &'static str
     }
 }
 
-/// Puts why a node failed behind what is there; a part of it where memory is refused. Takes a time in
-/// proportion to the text.
+/// Appends why a node failed; a part of it where memory is refused. Takes a time in proportion to the
+/// text.
 pub fn push_cause(text: &mut Vec<u8>, cause: Cause) -> Result<(), AllocError>
     ensures { OnOk result (text.new.items ≡ text.old.items ++ cause_text cause) }
 {
@@ -72,9 +72,8 @@ pub fn push_cause(text: &mut Vec<u8>, cause: Cause) -> Result<(), AllocError>
     }
 }
 
-/// Puts the reply to a call that was to bind this behind what is there, without the end of its line; a part
-/// of it where memory is refused. Takes a time in proportion to the text, and a look into a table for each
-/// label.
+/// Appends the reply to a call that was to bind this, without the end of its line; a part of it where
+/// memory is refused. Takes a time in proportion to the text, and a look into a table for each label.
 pub fn push_reply(
     text: &mut Vec<u8>,
     tables: &Tables,
@@ -238,8 +237,8 @@ fn push_closed(
     push_label(text, tables.birth_label(origin))
 }
 
-/// Puts a space and the node's label behind what is there; a part of it where memory is refused. Takes a
-/// time in proportion to the text, and a look into a table.
+/// Appends a space and the node's label; a part of it where memory is refused. Takes a time in
+/// proportion to the text, and a look into a table.
 pub fn push_node(text: &mut Vec<u8>, tables: &Tables, node: NodeKey) -> Result<(), AllocError>
     ensures { OnOk result ((names : Names) → Keeps tables.now names →
         text.new.items ≡ text.old.items ++ node_text names node) }
@@ -248,8 +247,8 @@ pub fn push_node(text: &mut Vec<u8>, tables: &Tables, node: NodeKey) -> Result<(
     push_label(text, tables.birth_label(node))
 }
 
-/// Puts a space and the buffer behind what is there; a part of it where memory is refused. Takes a time
-/// in proportion to the text, and a look into a table.
+/// Appends a space and the buffer; a part of it where memory is refused. Takes a time in proportion to
+/// the text, and a look into a table.
 pub fn push_buffer(
     text: &mut Vec<u8>,
     tables: &Tables,
@@ -264,8 +263,8 @@ pub fn push_buffer(
     push_number(text, buffer.index as u64)
 }
 
-/// Puts a space, the held buffer, its first page and their number behind what is there; a part of it
-/// where memory is refused. Takes a time in proportion to the text, and a look into a table.
+/// Appends a space, the held buffer, its first page and their number; a part of it where memory is
+/// refused. Takes a time in proportion to the text, and a look into a table.
 pub fn push_held(text: &mut Vec<u8>, tables: &Tables, held: HeldBuffer) -> Result<(), AllocError>
     ensures { OnOk result ((names : Names) → Keeps tables.now names →
         text.new.items ≡ text.old.items ++ held_text names held) }
@@ -277,8 +276,8 @@ pub fn push_held(text: &mut Vec<u8>, tables: &Tables, held: HeldBuffer) -> Resul
     push_number(text, held.pages.pages as u64)
 }
 
-/// Puts a space, the tracker's label and the event of its firing behind what is there; a part of it where
-/// memory is refused. Takes a time in proportion to the text, and a look into a table.
+/// Appends a space, the tracker's label and the event of its firing; a part of it where memory is
+/// refused. Takes a time in proportion to the text, and a look into a table.
 pub fn push_firing(text: &mut Vec<u8>, tables: &Tables, firing: Fired) -> Result<(), AllocError>
     ensures { OnOk result ((names : Names) → Keeps tables.now names →
         text.new.items ≡ text.old.items ++ fired_text names firing) }
@@ -289,8 +288,8 @@ pub fn push_firing(text: &mut Vec<u8>, tables: &Tables, firing: Fired) -> Result
     push_number(text, firing.event)
 }
 
-/// Puts behind what is there that a tracker fired at this event; a part of it where memory is refused. Takes a
-/// time in proportion to the text.
+/// Appends that a tracker fired at this event; a part of it where memory is refused. Takes a time in
+/// proportion to the text.
 pub fn push_poll(text: &mut Vec<u8>, event: u64) -> Result<(), AllocError>
     ensures { OnOk result (text.new.items ≡ text.old.items ++ poll_text event) }
 {

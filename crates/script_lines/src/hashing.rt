@@ -4,10 +4,10 @@ ghost use Rattle.std.specs.Hash.FoldHasher as fold;
 
 use std::hash::{BuildHasher, FoldHasher, Hasher};
 
-/// How the tables of a script's labels hash: from a seed, best one that whoever writes scripts does
-/// not know. Who does not know the seed can't know which labels fall into one place of a table; who
-/// knows it can pick such labels. That is meant, and not proved: the hash is fast, and no cipher. The
-/// seed changes what a look-up costs, and no answer.
+/// How the tables of a script's labels hash: from a seed, best one that the writer of the script does
+/// not know. A writer who knows the seed can pick labels that fall into one place of a table; one who
+/// does not know it can't. That is meant, and not proved: the hash is fast, and no cipher. The seed
+/// changes what a look-up costs, and no answer.
 #[derive(Clone, Copy)]
 pub struct LabelHash {
     start: FoldHasher,

@@ -20,8 +20,8 @@ pub fn strength_name(strength: Strength) -> &'static str
     }
 }
 
-/// Puts the line behind what is there, without its end, as `read_line` reads it; a part of it where
-/// memory is refused. Takes a time in proportion to the text.
+/// Appends the line, without its end, as `read_line` reads it; a part of it where memory is
+/// refused. Takes a time in proportion to the text.
 pub fn push_line(text: &mut Vec<u8>, line: Line) -> Result<(), AllocError>
     ensures { OnOk result (text.new.items ≡ text.old.items ++ line_text line) }
 {

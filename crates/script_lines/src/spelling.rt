@@ -6,8 +6,8 @@ use crate::label::Label;
 use itoa::Buffer;
 use std::alloc::AllocError;
 
-/// Puts the text behind what is there; nothing where memory is refused. Takes a time in proportion to
-/// its length, once in a while to all that is there, which then moves.
+/// Appends the text; nothing where memory is refused. Takes a time in proportion to its length, once
+/// in a while to all that is there, which then moves.
 pub fn push(text: &mut Vec<u8>, more: &str) -> Result<(), AllocError>
     ensures ok { OnOk result (text.new.items ≡ text.old.items ++ more.now) }
     ensures err { OnErr result (text.new.items ≡ text.old.items) }
@@ -15,7 +15,7 @@ pub fn push(text: &mut Vec<u8>, more: &str) -> Result<(), AllocError>
     text.extend_from_slice(more.as_bytes())
 }
 
-/// Puts the number behind what is there, in decimal; nothing where memory is refused. Costs what `push` costs.
+/// Appends the number, in decimal; nothing where memory is refused. Costs what `push` costs.
 pub fn push_number(text: &mut Vec<u8>, number: u64) -> Result<(), AllocError>
     ensures ok { OnOk result (text.new.items ≡ text.old.items ++ decimal number) }
     ensures err { OnErr result (text.new.items ≡ text.old.items) }
@@ -24,7 +24,7 @@ pub fn push_number(text: &mut Vec<u8>, number: u64) -> Result<(), AllocError>
     text.extend_from_slice(buffer.format(number).as_bytes())
 }
 
-/// Puts the label behind what is there, if there is one; nothing where memory is refused. Costs what `push` costs.
+/// Appends the label, if there is one; nothing where memory is refused. Costs what `push` costs.
 pub fn push_label(text: &mut Vec<u8>, label: Option<Label>) -> Result<(), AllocError>
     ensures ok { OnOk result (text.new.items ≡ text.old.items ++ label_text label) }
     ensures err { OnErr result (text.new.items ≡ text.old.items) }

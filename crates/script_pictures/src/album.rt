@@ -62,10 +62,10 @@ impl Album {
         }
     }
 
-    /// Takes in what an event changed, where its call named this collection: its nodes are brought to their
+    /// Takes in what an event changed, whose call named this collection: its nodes are brought to their
     /// present state, those among them that the core forgot to the state that the walk of the event gave them
-    /// last; and the node that the reply tells of is added, or brought to its present state. Costs O(n log n)
-    /// for the n nodes that were ever born in these collections, and O(log m) for m collections.
+    /// last; and the node in the reply is added, or brought to its present state. Costs O(n log n) for the n
+    /// nodes that were ever born in these collections, and O(log m) for m collections.
     ///
     /// `NoMemory` where memory is refused: then some of this may be left out.
     pub fn update(
@@ -121,7 +121,7 @@ impl Album {
         }
     }
 
-    // Adds the node that the reply tells of, or brings it to its present state.
+    // Adds the node in the reply, or brings it to its present state.
     fn add_told(&mut self, alloc: Global, core: &Core, reply: Reply) -> Result<(), AllocError>
         ensures { OnOk result ((id : ℕ) →
             known_in self.new id ≡ with_told core.now reply id (known_in self.old id)) }

@@ -1,4 +1,4 @@
-//! Colours that colour-blind readers tell apart, and that differ in grey.
+//! Colours that colour-blind readers can distinguish, and that differ in grey.
 ghost use Rattle.std.specs.Prelude.{◌≡◌};
 ghost use Rattle.script_pictures.specs.Colors.{edge_text, fill_text, ink_text};
 
@@ -13,7 +13,7 @@ pub const RED: &str = "#D55E00";
 /// What failed itself.
 pub const DEEP: &str = "#A84300";
 
-/// What ended, and links along which no failure went.
+/// What ended, and links that no failure followed.
 pub const GREY: &str = "#808080";
 
 /// Words.

@@ -56,7 +56,7 @@ pub fn kind_name(node: &Node) -> &'static str
     if node.bound { "collection" } else { "token" }
 }
 
-/// Puts where the node's end is behind what is there. Takes a time in proportion to the text.
+/// Appends where the node's end is. Takes a time in proportion to the text.
 pub fn push_place(text: &mut Vec<u8>, labels: &Labels, node: &Node) -> Result<(), AllocError>
     ensures { OnOk result ((names : Names) → Calls labels.now names →
         text.new.items ≡ text.old.items ++ place_text names node.now.end) }
@@ -71,7 +71,7 @@ pub fn push_place(text: &mut Vec<u8>, labels: &Labels, node: &Node) -> Result<()
     }
 }
 
-/// Puts the pages behind what is there. Takes a time in proportion to the text.
+/// Appends the pages. Takes a time in proportion to the text.
 pub fn push_pages(text: &mut Vec<u8>, pages: Interval) -> Result<(), AllocError>
     ensures { OnOk result (text.new.items ≡ text.old.items ++ pages_text pages) }
 {

@@ -14,7 +14,7 @@ use sm_names::{Cause, Constraints, Fault, NodeKey};
 use std::alloc::AllocError;
 use text_parts::{Part, push_parts};
 
-/// Puts the number of the event and its line behind what is there. Takes a time in proportion to the text.
+/// Appends the number of the event and its line. Takes a time in proportion to the text.
 pub fn push_header(text: &mut Vec<u8>, event: u64, line: &[u8]) -> Result<(), AllocError>
     ensures { OnOk result (text.new.items ≡ text.old.items ++ header_text event line.now) }
 {
@@ -25,8 +25,7 @@ pub fn push_header(text: &mut Vec<u8>, event: u64, line: &[u8]) -> Result<(), Al
     push_parts(text, &[Part::Word(":  "), Part::Bytes(line)])
 }
 
-/// Puts the state of the node behind what is there. Takes a time in proportion to the text, and a look into
-/// a table.
+/// Appends the state of the node. Takes a time in proportion to the text, and a look into a table.
 pub fn push_state_line(text: &mut Vec<u8>, tables: &Tables, node: &Node) -> Result<(), AllocError>
     ensures { OnOk result ((names : Names) → Keeps tables.now names →
         text.new.items ≡ text.old.items ++ state_words names node.now) }
@@ -54,7 +53,7 @@ fn released_words(node: &Node) -> &'static str
     }
 }
 
-// Puts why the node itself failed behind what is there.
+// Appends why the node itself failed.
 fn push_own_cause(text: &mut Vec<u8>, cause: Cause) -> Result<(), AllocError>
     ensures { OnOk result (text.new.items ≡ text.old.items ++ own_cause cause) }
 {
@@ -66,7 +65,7 @@ fn push_own_cause(text: &mut Vec<u8>, cause: Cause) -> Result<(), AllocError>
     }
 }
 
-// Puts behind what is there with whom the node fell.
+// Appends with whom the node fell.
 fn push_fallen(text: &mut Vec<u8>, tables: &Tables, fault: Fault) -> Result<(), AllocError>
     ensures { OnOk result ((names : Names) → Keeps tables.now names →
         text.new.items ≡ text.old.items ++ fallen_words names fault) }
@@ -80,8 +79,8 @@ fn push_fallen(text: &mut Vec<u8>, tables: &Tables, fault: Fault) -> Result<(), 
     )
 }
 
-/// Puts what the node is behind what is there, and what it was collected as. Takes a time in proportion to
-/// the text, and a look into two tables.
+/// Appends what the node is, and what it was collected as. Takes a time in proportion to the text, and a
+/// look into two tables.
 pub fn push_kind_line(text: &mut Vec<u8>, teller: &Teller, node: &Node) -> Result<(), AllocError>
     ensures { OnOk result ((names : Names) → Keeps teller.now.session.tables names →
         Calls teller.now.labels names →
@@ -116,8 +115,8 @@ fn weak_words(node: &Node) -> &'static str
     if node.weak { ", weak" } else { "" }
 }
 
-// Puts the label under which the end of the node was collected last behind what is there, if it is another
-// than that of its birth.
+// Appends the label under which the end of the node was collected last, if it is another than that of its
+// birth.
 fn push_other_name(text: &mut Vec<u8>, teller: &Teller, node: NodeKey) -> Result<(), AllocError>
     ensures { OnOk result ((names : Names) → Keeps teller.now.session.tables names →
         Calls teller.now.labels names → text.new.items ≡ text.old.items
@@ -128,7 +127,7 @@ fn push_other_name(text: &mut Vec<u8>, teller: &Teller, node: NodeKey) -> Result
     push_also(text, &other)
 }
 
-// Puts the name behind what is there, if there is one.
+// Appends the name, if there is one.
 fn push_also(text: &mut Vec<u8>, name: &[u8]) -> Result<(), AllocError>
     ensures { OnOk result (text.new.items ≡ text.old.items ++ also_text name.now) }
 {
@@ -138,7 +137,7 @@ fn push_also(text: &mut Vec<u8>, name: &[u8]) -> Result<(), AllocError>
     push_parts(text, &[Part::Word(" as "), Part::Bytes(name)])
 }
 
-/// Puts what is asked for behind what is there. Takes a time in proportion to the text.
+/// Appends what is asked for. Takes a time in proportion to the text.
 pub fn push_asked_line(text: &mut Vec<u8>, asked: Constraints) -> Result<(), AllocError>
     ensures { OnOk result (text.new.items ≡ text.old.items ++ asked_words asked) }
 {
@@ -160,7 +159,7 @@ pub fn push_asked_line(text: &mut Vec<u8>, asked: Constraints) -> Result<(), All
     )
 }
 
-// Puts behind what is there how many buffers there are to be at least, if some are.
+// Appends how many buffers there are to be at least, if some are.
 fn push_least(text: &mut Vec<u8>, at_least: u64) -> Result<(), AllocError>
     ensures { OnOk result (text.new.items ≡ text.old.items ++ least_text at_least) }
 {

@@ -43,7 +43,7 @@ pub struct ToldMark {
     pub line: Vec<u8>,
 }
 
-/// The trees behind an event, its marks, the links along which its failures went, and how many trackers had
+/// The trees behind an event, its marks, the links that its failures followed, and how many trackers had
 /// fired before it.
 #[derive(Drop)]
 pub struct Picture {

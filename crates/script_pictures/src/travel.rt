@@ -1,4 +1,4 @@
-//! The links along which failures went at one event.
+//! The links that failures followed at one event.
 ghost use Rattle.std.specs.Prelude.{◌≡◌, IfOk, List};
 ghost use Rattle.script_pictures.specs.declared.travel.Travel.{Travel as Link};
 ghost use Rattle.script_pictures.specs.Travels.{FindsTravels, way_in};
@@ -12,7 +12,7 @@ use sm_names::{Fault, NodeKey};
 use std::alloc::{AllocError, Global};
 use std::collections::BTreeMap;
 
-/// How a failure went along a link, and at which step of the event.
+/// How a failure followed a link, and at which step of the event.
 #[derive(Clone, Copy)]
 pub enum Way {
     /// From the node to its parent.
@@ -23,7 +23,7 @@ pub enum Way {
     Stop,
 }
 
-/// The link of a node to its parent, and how a failure went along it.
+/// The link of a node to its parent, and how a failure followed it.
 #[derive(Clone, Copy)]
 pub struct Travel {
     pub node: NodeKey,
@@ -43,7 +43,7 @@ pub fn travels_by_node(alloc: Global, travels: &[Travel]) -> Result<KeyMap<Trave
     Ok(map)
 }
 
-/// How a failure went along the link of this node. Costs O(log n) for n links.
+/// How a failure followed the link of this node. Costs O(log n) for n links.
 pub fn way_of(travels: &KeyMap<Travel>, node: NodeKey) -> Option<Way>
     ensures { (links : List Link) → FindsTravels travels.now links → result ≡ way_in links node }
 {
@@ -53,7 +53,7 @@ pub fn way_of(travels: &KeyMap<Travel>, node: NodeKey) -> Option<Way>
     }
 }
 
-// The links along which failures went so far, each once, and the place of each node's link among them.
+// The links that failures followed so far, each once, and the place of each node's link among them.
 #[derive(Drop)]
 struct Trail {
     travels: Vec<Travel>,
@@ -69,12 +69,12 @@ impl Trail {
         }
     }
 
-    // Whether a failure went along the link of this node. Costs O(log n) for n links, as does `put`.
+    // Whether a failure followed the link of this node. Costs O(log n) for n links, as does `put`.
     fn has(&self, node: NodeKey) -> bool {
         self.places.contains_key(&node)
     }
 
-    // Puts how a failure went along the link of the node in the place of what is there of it.
+    // Replaces the way in which a failure followed the link of the node.
     fn put(&mut self, node: NodeKey, way: Way) -> Result<(), AllocError> {
         let place = self.places.get(&node).copied();
         match place {
@@ -92,7 +92,7 @@ impl Trail {
     }
 }
 
-// The links along which the failures among these marks went. Costs O(n log n) for the n nodes of each mark
+// The links that the failures among these marks followed. Costs O(n log n) for the n nodes of each mark
 // that is a failure.
 pub(crate) fn travels(alloc: Global, moments: &[Moment]) -> Result<Vec<Travel>, AllocError> {
     let mut trail = Trail::new(alloc);
@@ -112,7 +112,7 @@ fn follow(trail: &mut Trail, moments: &[Moment]) -> Result<(), AllocError> {
     Ok(())
 }
 
-// The failure goes up, and down to all that it takes; answers the last step.
+// The failure climbs, and falls to all that it takes; answers the last step.
 fn go_on(
     trail: &mut Trail,
     scene: &Snapshot,
@@ -131,7 +131,7 @@ fn go_on(
     }
 }
 
-// The failure goes up from each of these; answers the last step.
+// The failure climbs from each of these; answers the last step.
 fn go_up(trail: &mut Trail, below: &[NodeKey], before: u64) -> Result<u64, AllocError> {
     let mut step = before;
     for node in below {
@@ -141,7 +141,7 @@ fn go_up(trail: &mut Trail, below: &[NodeKey], before: u64) -> Result<u64, Alloc
     Ok(step)
 }
 
-// The failure stopped at the node, unless that is a root, or one went along its link already.
+// The failure stopped at the node, unless that is a root, or one followed its link already.
 fn note_stop(trail: &mut Trail, nodes: &[Node], top: NodeKey) -> Result<(), AllocError> {
     if has_parent(nodes, top) && !trail.has(top) {
         trail.put(top, Way::Stop)?;
@@ -164,8 +164,8 @@ struct Reached {
     generation: usize,
 }
 
-// The failure goes down to all that are taken, which stand by birth, the top one first, one generation a
-// step; answers the last step. A generation along whose links failures went already takes no step.
+// The failure falls to all that are taken, which stand by birth, the top one first, one generation a
+// step; answers the last step. A generation whose links failures followed already takes no step.
 fn go_down(trail: &mut Trail, taken: &Vec<Node>, before: u64) -> Result<u64, AllocError> {
     let reached = reached_below(trail, taken)?;
     let steps = steps_of(&reached, taken.len(), before)?;
@@ -177,7 +177,7 @@ fn go_down(trail: &mut Trail, taken: &Vec<Node>, before: u64) -> Result<u64, All
     Ok(steps.last().copied().unwrap_or(before))
 }
 
-// Those of the taken nodes below the top one along whose links no failure went.
+// Those of the taken nodes below the top one whose links no failure followed.
 fn reached_below(trail: &Trail, taken: &Vec<Node>) -> Result<Vec<Reached>, AllocError> {
     let alloc = *taken.allocator();
     let mut generations = BTreeMap::new(alloc);

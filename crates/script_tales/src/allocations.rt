@@ -1,4 +1,4 @@
-//! What is told of an allocation.
+//! The text of an allocation.
 ghost use Rattle.std.specs.Prelude.{◌≡◌, ◌++◌, OnOk};
 ghost use Rattle.std.specs.List.{flat_map};
 ghost use Rattle.script_labels.specs.Names.{Names};
@@ -15,8 +15,7 @@ use sm_names::{Buffers, HeldBuffer, NodeKey};
 use std::alloc::AllocError;
 use text_parts::{Part, push_parts};
 
-// Puts behind what is there that the unit of the root was given these buffers, where the collection
-// stood so before.
+// Appends that the unit of the root was given these buffers, where the collection stood so before.
 pub(crate) fn push_initial(
     text: &mut Vec<u8>,
     tables: &Tables,
@@ -34,7 +33,7 @@ pub(crate) fn push_initial(
     push_pages(text, tables, held)
 }
 
-// Puts the buffers that the unit of the root was given behind what is there.
+// Appends the buffers that the unit of the root was given.
 fn push_given(
     text: &mut Vec<u8>,
     tables: &Tables,
@@ -57,7 +56,7 @@ fn push_given(
     )
 }
 
-// Puts behind what is there that so many buffers were asked for at least, where fewer are camped on.
+// Appends that so many buffers were asked for at least, where fewer are camped on.
 fn push_at_least(text: &mut Vec<u8>, camped: u64, count: u64) -> Result<(), AllocError>
     ensures { OnOk result (text.new.items ≡ text.old.items ++ at_least_text camped count) }
 {
@@ -68,7 +67,7 @@ fn push_at_least(text: &mut Vec<u8>, camped: u64, count: u64) -> Result<(), Allo
     }
 }
 
-// Puts the line of the pages behind what is there.
+// Appends the line of the pages.
 fn push_pages(text: &mut Vec<u8>, tables: &Tables, held: &[HeldBuffer]) -> Result<(), AllocError>
     ensures { OnOk result ((names : Names) → Keeps tables.now names →
         text.new.items ≡ text.old.items ++ pages_line names held.now) }
@@ -78,7 +77,7 @@ fn push_pages(text: &mut Vec<u8>, tables: &Tables, held: &[HeldBuffer]) -> Resul
     push(text, "\n")
 }
 
-// Puts a space and each of the buffers behind what is there, with its pages.
+// Appends a space and each of the buffers, with its pages.
 pub(crate) fn push_each_held(
     text: &mut Vec<u8>,
     tables: &Tables,
@@ -93,8 +92,8 @@ pub(crate) fn push_each_held(
     Ok(())
 }
 
-// Puts behind what is there that the unit of an attached head shares the collection's buffers, where
-// the collection stood so before.
+// Appends that the unit of an attached head shares the collection's buffers, where the collection
+// stood so before.
 pub(crate) fn push_logical(
     text: &mut Vec<u8>,
     tables: &Tables,
@@ -110,7 +109,7 @@ pub(crate) fn push_logical(
     push_reserved(text, &scene.nodes, given.count as u64)
 }
 
-// Puts behind what is there that the unit of an attached head is allocated.
+// Appends that the unit of an attached head is allocated.
 fn push_shared(text: &mut Vec<u8>, tables: &Tables, head: NodeKey) -> Result<(), AllocError>
     ensures { OnOk result ((names : Names) → Keeps tables.now names →
         text.new.items ≡ text.old.items ++ shared_text names head) }
@@ -124,7 +123,7 @@ fn push_shared(text: &mut Vec<u8>, tables: &Tables, head: NodeKey) -> Result<(),
     )
 }
 
-// Puts behind what is there how many of so many buffers were reserved before.
+// Appends how many of so many buffers were reserved before.
 fn push_reserved(text: &mut Vec<u8>, nodes: &[Node], count: u64) -> Result<(), AllocError>
     ensures { OnOk result (text.new.items ≡ text.old.items ++ reserved_text nodes.now count) }
 {
@@ -167,7 +166,7 @@ fn camped(nodes: &[Node], head: NodeKey) -> u64
     sum
 }
 
-// Puts who of the unit camps on how many buffers behind what is there.
+// Appends who of the unit camps on how many buffers.
 fn push_camps(
     text: &mut Vec<u8>,
     tables: &Tables,
@@ -189,7 +188,7 @@ fn nobody_of(sum: u64) -> &'static str
     if sum == 0 { " nobody" } else { "" }
 }
 
-// Puts each node of the unit that camps behind what is there.
+// Appends each node of the unit that camps.
 fn push_each_camp(
     text: &mut Vec<u8>,
     tables: &Tables,
@@ -205,7 +204,7 @@ fn push_each_camp(
     Ok(())
 }
 
-// Puts the node behind what is there, and on how many buffers it camps, if it does.
+// Appends the node, and on how many buffers it camps, if it does.
 fn push_camp(
     text: &mut Vec<u8>,
     tables: &Tables,

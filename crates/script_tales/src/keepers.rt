@@ -1,4 +1,4 @@
-//! What is told of who keeps the pages of a buffer.
+//! The text of who keeps the pages of a buffer.
 ghost use Rattle.std.specs.Prelude.{◌≡◌, ◌++◌, [], OnOk};
 ghost use Rattle.std.specs.List.{flat_map};
 ghost use Rattle.event_facts.specs.Facts.{holders_in};
@@ -18,7 +18,7 @@ use sm_names::{BufferName, ClientId, HeldBuffer, NodeKey};
 use std::alloc::AllocError;
 use text_parts::{Part, push_parts};
 
-// Puts behind what is there that these live nodes keep the buffer.
+// Appends that these live nodes keep the buffer.
 pub(crate) fn push_kept_by_nodes(
     text: &mut Vec<u8>,
     tables: &Tables,
@@ -46,8 +46,7 @@ fn live_words(nodes: &[NodeKey]) -> &'static str
     }
 }
 
-// Puts behind what is there who has handles on the buffers, those in a row that the same have in one
-// line.
+// Appends who has handles on the buffers, those in a row that the same have in one line.
 pub(crate) fn push_kept(
     text: &mut Vec<u8>,
     core: &Core,
@@ -83,7 +82,7 @@ fn begin_row(text: &mut Vec<u8>, some: bool, row: &[u8], who: &[u8]) -> Result<(
     push(text, "kept   ")
 }
 
-// Puts the end of a row behind what is there.
+// Appends the end of a row.
 fn push_by(text: &mut Vec<u8>, row: &[u8]) -> Result<(), AllocError> {
     push_parts(
         text,
@@ -103,9 +102,9 @@ fn holder_words(
     Ok(words)
 }
 
-/// Puts behind what is there who has handles on the buffer open, and how many: these clients in their
-/// order, strong before weak, and the parcels last. These words stand before them, if there are some.
-/// Costs a look-up for each client and strength, and the text.
+/// Appends who has handles on the buffer open, and how many: these clients in their order, strong
+/// before weak, and the parcels last. These words stand before them, if there are some. Costs a
+/// look-up for each client and strength, and the text.
 pub fn push_holders(
     text: &mut Vec<u8>,
     core: &Core,
@@ -122,7 +121,7 @@ pub fn push_holders(
     push_found(text, labels, &found, before)
 }
 
-// Puts these holders behind what is there, and these words before them, if there are some.
+// Appends these holders, and these words before them, if there are some.
 fn push_found(
     text: &mut Vec<u8>,
     labels: &Labels,
@@ -142,7 +141,7 @@ fn push_found(
     }
 }
 
-// Puts these holders behind what is there, each behind a comma.
+// Appends these holders, each behind a comma.
 fn push_others(text: &mut Vec<u8>, labels: &Labels, others: &[Holder]) -> Result<(), AllocError>
     ensures { OnOk result ((names : Names) → Calls labels.now names →
         text.new.items ≡ text.old.items ++ flat_map (next_holder names) others.now) }
@@ -153,7 +152,7 @@ fn push_others(text: &mut Vec<u8>, labels: &Labels, others: &[Holder]) -> Result
     Ok(())
 }
 
-// Puts the holder behind what is there, behind a comma.
+// Appends the holder, behind a comma.
 fn push_next(text: &mut Vec<u8>, labels: &Labels, holder: &Holder) -> Result<(), AllocError>
     ensures { OnOk result ((names : Names) → Calls labels.now names →
         text.new.items ≡ text.old.items ++ next_holder names holder.now) }
@@ -162,7 +161,7 @@ fn push_next(text: &mut Vec<u8>, labels: &Labels, holder: &Holder) -> Result<(),
     push_holder(text, labels, holder)
 }
 
-// Puts the holder behind what is there.
+// Appends the holder.
 fn push_holder(text: &mut Vec<u8>, labels: &Labels, holder: &Holder) -> Result<(), AllocError>
     ensures { OnOk result ((names : Names) → Calls labels.now names →
         text.new.items ≡ text.old.items ++ holder_text names holder.now) }

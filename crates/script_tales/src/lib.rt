@@ -1,4 +1,4 @@
-//! A session whose events are told: what each came to, in lines of text.
+//! A session that also writes the facts of each event, in lines of text.
 #![tactic(auto)]
 
 mod allocations;

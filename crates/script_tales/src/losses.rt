@@ -1,4 +1,4 @@
-//! What is told of a failure, and of an end: where it went, and where it stopped.
+//! The text of a failure and of an end: its way, and where it stopped.
 ghost use Rattle.std.specs.Prelude.{◌≡◌, ◌++◌, [], OnOk};
 ghost use Rattle.std.specs.List.{flat_map};
 ghost use Rattle.script_labels.specs.Names.{Names};
@@ -18,8 +18,8 @@ use sm_names::{Buffers, Cause, Failure, Fault, NodeKey};
 use std::alloc::AllocError;
 use text_parts::{Part, push_parts};
 
-// Puts behind what is there that the node where the fault began fails, why, and where the failure
-// goes, in the collection before it; so many pages are free.
+// Appends that the node where the fault began fails, why, and where the failure goes, in the
+// collection before it; so many pages are free.
 pub(crate) fn push_loss(
     text: &mut Vec<u8>,
     tables: &Tables,
@@ -37,7 +37,7 @@ pub(crate) fn push_loss(
     push_below(text, tables, &scene.nodes, &way)
 }
 
-// Puts behind what is there why a failure that came up this way goes no further, and the way down.
+// Appends why a failure that came up this way climbs no further, and the way down.
 fn push_below(
     text: &mut Vec<u8>,
     tables: &Tables,
@@ -63,7 +63,7 @@ fn top_of(way: &[NodeKey]) -> Option<NodeKey>
     way.get(way.len().saturating_sub(1)).copied()
 }
 
-// Puts behind what is there that the node where the fault began fails, and why.
+// Appends that the node where the fault began fails, and why.
 fn push_fault(
     text: &mut Vec<u8>,
     tables: &Tables,
@@ -88,7 +88,7 @@ fn push_fault(
     push(text, "\n")
 }
 
-// Puts behind what is there that the node ends, and what goes with it.
+// Appends that the node ends, and which nodes end with it.
 pub(crate) fn push_end(
     text: &mut Vec<u8>,
     tables: &Tables,
@@ -108,7 +108,7 @@ pub(crate) fn push_end(
     push_down(text, tables, &scene.nodes, top, &[])
 }
 
-// Puts why the node where the fault began fails behind what is there.
+// Appends why the node where the fault began fails.
 fn push_why(text: &mut Vec<u8>, scene: &Snapshot, free: u32, fault: Fault) -> Result<(), AllocError>
     ensures { OnOk result (text.new.items ≡ text.old.items
         ++ why_text scene.now.nodes.items scene.now.buffers free fault.origin fault.cause) }
@@ -121,7 +121,7 @@ fn push_why(text: &mut Vec<u8>, scene: &Snapshot, free: u32, fault: Fault) -> Re
     }
 }
 
-// Puts why the allocation of the unit with this head fails behind what is there.
+// Appends why the allocation of the unit with this head fails.
 fn push_failed(
     text: &mut Vec<u8>,
     scene: &Snapshot,
@@ -136,7 +136,7 @@ fn push_failed(
     push_failure(text, scene, free, asks, failure)
 }
 
-// Puts why the allocation of a unit that asks so fails behind what is there.
+// Appends why the allocation of a unit that asks so fails.
 fn push_failure(
     text: &mut Vec<u8>,
     scene: &Snapshot,
@@ -159,7 +159,7 @@ fn push_failure(
     }
 }
 
-// Puts behind what is there that too many buffers are asked for.
+// Appends that too many buffers are asked for.
 fn push_many(text: &mut Vec<u8>, count: u64) -> Result<(), AllocError>
     ensures { OnOk result (text.new.items ≡ text.old.items ++ many_text count) }
 {
@@ -173,7 +173,7 @@ fn push_many(text: &mut Vec<u8>, count: u64) -> Result<(), AllocError>
     )
 }
 
-// Puts behind what is there that the pool has no room.
+// Appends that the pool has no room.
 fn push_full(text: &mut Vec<u8>, count: u64, size: u32, free: u32) -> Result<(), AllocError>
     ensures { OnOk result (text.new.items ≡ text.old.items ++ full_text count size free) }
 {
@@ -191,7 +191,7 @@ fn push_full(text: &mut Vec<u8>, count: u64, size: u32, free: u32) -> Result<(),
     )
 }
 
-// Puts behind what is there that the buffers of the collection are smaller than is asked for.
+// Appends that the buffers of the collection are smaller than is asked for.
 fn push_small(text: &mut Vec<u8>, scene: &Snapshot, size: u32) -> Result<(), AllocError>
     ensures { OnOk result (text.new.items ≡ text.old.items ++ small_text scene.now.buffers size) }
 {
@@ -216,7 +216,7 @@ fn size_of(given: Option<Buffers>) -> u32
     }
 }
 
-// Puts behind what is there that the collection was given too few buffers.
+// Appends that the collection was given too few buffers.
 fn push_few(text: &mut Vec<u8>, scene: &Snapshot, asks: TotalDemand) -> Result<(), AllocError>
     ensures { OnOk result (text.new.items ≡ text.old.items
         ++ few_text scene.now.nodes.items scene.now.buffers asks.camping asks.at_least) }
@@ -233,7 +233,7 @@ fn push_few(text: &mut Vec<u8>, scene: &Snapshot, asks: TotalDemand) -> Result<(
     }
 }
 
-// Puts behind what is there that the unit camps on so many of the buffers, of which so many are taken.
+// Appends that the unit camps on so many of the buffers, of which so many are taken.
 fn push_camped(text: &mut Vec<u8>, camping: u64, taken: u64, count: u64) -> Result<(), AllocError>
     ensures { OnOk result (text.new.items ≡ text.old.items ++ camped_text camping taken count) }
 {
@@ -251,7 +251,7 @@ fn push_camped(text: &mut Vec<u8>, camping: u64, taken: u64, count: u64) -> Resu
     )
 }
 
-// Puts behind what is there that the unit asks for so many buffers at least, and there are so many.
+// Appends that the unit asks for so many buffers at least, and there are so many.
 fn push_least(text: &mut Vec<u8>, at_least: u64, count: u64) -> Result<(), AllocError>
     ensures { OnOk result (text.new.items ≡ text.old.items ++ least_text at_least count) }
 {
@@ -266,7 +266,7 @@ fn push_least(text: &mut Vec<u8>, at_least: u64, count: u64) -> Result<(), Alloc
     )
 }
 
-// Puts the way up behind what is there, if it has a link.
+// Appends the way up, if it has a link.
 fn push_way(text: &mut Vec<u8>, tables: &Tables, way: &[NodeKey]) -> Result<(), AllocError>
     ensures { OnOk result ((names : Names) → Keeps tables.now names →
         text.new.items ≡ text.old.items ++ way_text names way.now) }
@@ -277,7 +277,7 @@ fn push_way(text: &mut Vec<u8>, tables: &Tables, way: &[NodeKey]) -> Result<(), 
     push_up(text, tables, way)
 }
 
-// Puts the way up behind what is there.
+// Appends the way up.
 fn push_up(text: &mut Vec<u8>, tables: &Tables, way: &[NodeKey]) -> Result<(), AllocError>
     ensures { OnOk result ((names : Names) → Keeps tables.now names →
         text.new.items ≡ text.old.items ++ up_text names way.now) }
@@ -293,7 +293,7 @@ fn push_up(text: &mut Vec<u8>, tables: &Tables, way: &[NodeKey]) -> Result<(), A
     }
 }
 
-// Puts the nodes further up behind what is there.
+// Appends the nodes further up.
 fn push_above(text: &mut Vec<u8>, tables: &Tables, others: &[NodeKey]) -> Result<(), AllocError>
     ensures { OnOk result ((names : Names) → Keeps tables.now names →
         text.new.items ≡ text.old.items ++ flat_map (next_above names) others.now) }
@@ -304,7 +304,7 @@ fn push_above(text: &mut Vec<u8>, tables: &Tables, others: &[NodeKey]) -> Result
     Ok(())
 }
 
-// Puts a node further up behind what is there.
+// Appends a node further up.
 fn push_next(text: &mut Vec<u8>, tables: &Tables, node: NodeKey) -> Result<(), AllocError>
     ensures { OnOk result ((names : Names) → Keeps tables.now names →
         text.new.items ≡ text.old.items ++ next_above names node) }
@@ -315,7 +315,7 @@ fn push_next(text: &mut Vec<u8>, tables: &Tables, node: NodeKey) -> Result<(), A
     )
 }
 
-// Puts behind what is there why the failure goes no further than this node, if it is no root.
+// Appends why the failure climbs no further than this node, if it is no root.
 fn push_stop(
     text: &mut Vec<u8>,
     tables: &Tables,
@@ -354,7 +354,7 @@ fn push_stop(
     }
 }
 
-// Puts a line behind what is there for each node that hands on to children what takes it.
+// Appends a line for each node that hands on to children what takes it.
 fn push_down(
     text: &mut Vec<u8>,
     tables: &Tables,
@@ -370,7 +370,7 @@ fn push_down(
     push_handings(text, tables, &taken, &rows)
 }
 
-// Puts a line behind what is there for each of the nodes that are taken and hand it on.
+// Appends a line for each of the nodes that are taken and hand it on.
 fn push_handings(
     text: &mut Vec<u8>,
     tables: &Tables,
@@ -386,7 +386,7 @@ fn push_handings(
     Ok(())
 }
 
-// Puts a line behind what is there of a node and those that it hands on to, if there are some.
+// Appends a line of a node and those that it hands on to, if there are some.
 fn push_handing(
     text: &mut Vec<u8>,
     tables: &Tables,

@@ -1,4 +1,4 @@
-//! What is told of what an event left: who is waited for, and what became of buffers.
+//! The text of what an event left: for whom an allocation waits, and what became of buffers.
 ghost use Rattle.std.specs.Prelude.{◌≡◌, ◌++◌, OnOk};
 ghost use Rattle.std.specs.List.{flat_map};
 ghost use Rattle.script_labels.specs.Names.{Names};
@@ -18,7 +18,7 @@ use sm_names::{CollectionId, Fired, HeldBuffer, NodeKey};
 use std::alloc::AllocError;
 use text_parts::{Part, push_parts};
 
-// Puts behind what is there for whom the allocation of the unit of this node waits.
+// Appends for whom the allocation of the unit of this node waits.
 pub(crate) fn push_waits(
     text: &mut Vec<u8>,
     tables: &Tables,
@@ -32,7 +32,7 @@ pub(crate) fn push_waits(
     }
 }
 
-// Puts behind what is there for whom the allocation of the unit with this head waits.
+// Appends for whom the allocation of the unit with this head waits.
 fn push_awaited(
     text: &mut Vec<u8>,
     tables: &Tables,
@@ -47,7 +47,7 @@ fn push_awaited(
     push_found(text, tables, labels, &found)
 }
 
-// Puts the nodes that are waited for behind what is there.
+// Appends the nodes that are waited for.
 fn push_found(
     text: &mut Vec<u8>,
     tables: &Tables,
@@ -63,7 +63,7 @@ fn push_found(
     }
 }
 
-// Puts a node that is waited for behind what is there, and others.
+// Appends a node that is waited for, and others.
 fn push_listed(
     text: &mut Vec<u8>,
     tables: &Tables,
@@ -80,7 +80,7 @@ fn push_listed(
     push(text, "\n")
 }
 
-// Puts more nodes that are waited for behind what is there.
+// Appends more nodes that are waited for.
 fn push_others(
     text: &mut Vec<u8>,
     tables: &Tables,
@@ -96,7 +96,7 @@ fn push_others(
     Ok(())
 }
 
-// Puts one more node that is waited for behind what is there.
+// Appends one more node that is waited for.
 fn push_next(
     text: &mut Vec<u8>,
     tables: &Tables,
@@ -110,7 +110,7 @@ fn push_next(
     push_waited(text, tables, labels, node)
 }
 
-// Puts a node that is waited for behind what is there, and who has its end.
+// Appends a node that is waited for, and who has its end.
 fn push_waited(
     text: &mut Vec<u8>,
     tables: &Tables,
@@ -143,7 +143,7 @@ fn want_of(node: &Node) -> &'static str
     }
 }
 
-// Puts the label of the client that has the end behind what is there, or words for a parcel.
+// Appends the label of the client that has the end, or words for a parcel.
 fn push_end_holder(text: &mut Vec<u8>, labels: &Labels, end: End) -> Result<(), AllocError>
     ensures { OnOk result ((names : Names) → Calls labels.now names →
         text.new.items ≡ text.old.items ++ end_holder names end) }
@@ -162,7 +162,7 @@ fn head_above(nodes: &[Node], head: NodeKey) -> Option<NodeKey> {
     Some(above.head)
 }
 
-// Puts behind what is there that the unit above that with this head is waited for.
+// Appends that the unit above that with this head is waited for.
 fn push_unit_above(
     text: &mut Vec<u8>,
     tables: &Tables,
@@ -182,7 +182,7 @@ fn push_unit_above(
     }
 }
 
-// Puts the buffers of the set behind what is there, as doomed, if there are some.
+// Appends the buffers of the set, as doomed, if there are some.
 pub(crate) fn push_doomed(
     text: &mut Vec<u8>,
     tables: &Tables,
@@ -198,7 +198,7 @@ pub(crate) fn push_doomed(
     push_some_doomed(text, tables, collection, set)
 }
 
-// Puts the buffers of the set behind what is there, as doomed.
+// Appends the buffers of the set, as doomed.
 fn push_some_doomed(
     text: &mut Vec<u8>,
     tables: &Tables,
@@ -213,7 +213,7 @@ fn push_some_doomed(
     push(text, "\n")
 }
 
-// Puts the buffers that gave their pages back behind what is there, if there are some.
+// Appends the buffers that gave their pages back, if there are some.
 pub(crate) fn push_free(
     text: &mut Vec<u8>,
     tables: &Tables,
@@ -230,7 +230,7 @@ pub(crate) fn push_free(
     push(text, "\n")
 }
 
-// Puts the trackers that fired behind what is there, if there are some.
+// Appends the trackers that fired, if there are some.
 pub(crate) fn push_fires(
     text: &mut Vec<u8>,
     tables: &Tables,
@@ -247,7 +247,7 @@ pub(crate) fn push_fires(
     push(text, "\n")
 }
 
-// Puts a space and each of the trackers behind what is there.
+// Appends a space and each of the trackers.
 fn push_trackers(text: &mut Vec<u8>, tables: &Tables, fired: &[Fired]) -> Result<(), AllocError>
     ensures { OnOk result ((names : Names) → Keeps tables.now names →
         text.new.items ≡ text.old.items ++ flat_map (tracker_text names) fired.now) }
@@ -258,7 +258,7 @@ fn push_trackers(text: &mut Vec<u8>, tables: &Tables, fired: &[Fired]) -> Result
     Ok(())
 }
 
-// Puts a space and the tracker that fired behind what is there.
+// Appends a space and the tracker that fired.
 fn push_fired(text: &mut Vec<u8>, tables: &Tables, firing: Fired) -> Result<(), AllocError>
     ensures { OnOk result ((names : Names) → Keeps tables.now names →
         text.new.items ≡ text.old.items ++ tracker_text names firing) }

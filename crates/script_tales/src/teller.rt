@@ -1,4 +1,4 @@
-//! A session whose events are told.
+//! A session that also writes the facts of its events.
 ghost use Rattle.std.specs.Prelude.{◌≡◌, ◌≢◌, ◌≤◌, ◌++◌, [], IfErr, IfOk, OnOk, option_map};
 ghost use Rattle.core_state.specs.Reads.{views_of};
 ghost use Rattle.script_labels.specs.Names.{Names, label_of_node};
@@ -72,7 +72,7 @@ impl Teller {
     }
 
     /// Answers the line of this number, without its end, as `Session::answer` does: what it is answered
-    /// goes into `reply`, and what its event came to into `facts`, both in place of what was there.
+    /// is written into `reply`, and the facts of its event into `facts`; both are emptied first.
     ///
     /// On an error neither is to be read. Where memory was refused its call may have been made. Costs what
     /// the session's answer costs, and where a collection changes what `take_event` costs.
@@ -108,8 +108,8 @@ impl Teller {
         }
     }
 
-    // Keeps the line with each loss that its event made, and puts what the event came to behind what is
-    // there. It fails for want of memory alone.
+    // Keeps the line with each loss that its event made, and appends the facts of the event. It fails
+    // for want of memory alone.
     fn tell(
         &mut self,
         alloc: Global,
@@ -162,7 +162,7 @@ impl Teller {
         }
     }
 
-    // Puts the text of the reply behind what is there, and takes note of what it made or brought.
+    // Appends the text of the reply, and takes note of what it made or brought.
     fn note(&mut self, binds: Binds, reply: Reply, text: &mut Vec<u8>) -> Result<(), AllocError>
         ensures { OnOk result
             (Notes self.old self.new binds reply text.old.items text.new.items) }
@@ -191,7 +191,7 @@ impl Teller {
         Ok(())
     }
 
-    // Puts what the event came to behind what is there.
+    // Appends the facts of the event.
     fn push_facts(&self, event: &Event, facts: &mut Vec<u8>) -> Result<(), Stop> {
         self.push_marks(event, facts)?;
         self.push_reasons(event, facts)?;
@@ -204,7 +204,7 @@ impl Teller {
         Ok(())
     }
 
-    // Puts the marks of the event behind what is there.
+    // Appends the marks of the event.
     fn push_marks(&self, event: &Event, facts: &mut Vec<u8>) -> Result<(), AllocError>
         ensures { OnOk result ((names : Names) → Keeps self.now.session.tables names →
             facts.new.items ≡ facts.old.items ++ marks_text names
@@ -218,7 +218,7 @@ impl Teller {
         Ok(())
     }
 
-    // Puts behind what is there which buffers are doomed since the event, and which gave their pages back.
+    // Appends which buffers are doomed since the event, and which gave their pages back.
     fn push_buffers(
         &self,
         event: &Event,
@@ -232,9 +232,9 @@ impl Teller {
         push_free(facts, tables, &freed)
     }
 
-    /// Puts a mark behind what is there, in lines: what failed, ended or was allocated, and below it the
-    /// ways of the failure, or the buffers; these are the collection's buffers after it. Costs
-    /// O(n log n) for n nodes, and the text.
+    /// Appends a mark, in lines: what failed, ended or was allocated, and below it the ways of the
+    /// failure, or the buffers; these are the collection's buffers after it. Costs O(n log n) for n
+    /// nodes, and the text.
     pub fn push_mark(
         &self,
         moment: &Moment,
@@ -256,7 +256,7 @@ impl Teller {
         }
     }
 
-    // Puts behind what is there that the unit with this head was allocated.
+    // Appends that the unit with this head was allocated.
     fn push_allocated(
         &self,
         scene: &Snapshot,
@@ -276,7 +276,7 @@ impl Teller {
         }
     }
 
-    // Puts behind what is there why a node is waited for or closed.
+    // Appends why a node is waited for or closed.
     fn push_reasons(&self, event: &Event, facts: &mut Vec<u8>) -> Result<(), Stop> {
         match event.reply {
             Reply::Pending => self.push_pending(&event.call, facts),
@@ -288,7 +288,7 @@ impl Teller {
         }
     }
 
-    // Puts behind what is there for whom the node that is asked about waits.
+    // Appends for whom the node that is asked about waits.
     fn push_pending(&self, call: &Call, facts: &mut Vec<u8>) -> Result<(), Stop> {
         let Some(key) = object_key(parts_of(*call).object) else {
             return Ok(());
@@ -309,7 +309,7 @@ impl Teller {
         Ok(())
     }
 
-    // Puts the line behind what is there whose event made the loss that began at the node.
+    // Appends the line whose event made the loss that began at the node.
     fn push_since(&self, origin: NodeKey, facts: &mut Vec<u8>) -> Result<(), AllocError> {
         match self.losses.get(&origin) {
             Some(told) => push_parts(
@@ -326,8 +326,7 @@ impl Teller {
         }
     }
 
-    // Puts behind what is there who keeps pages that did not go back, where a handle was dropped or a
-    // live node left.
+    // Appends who keeps pages that did not go back, where a handle was dropped or a live node left.
     fn push_keepers(&self, event: &Event, facts: &mut Vec<u8>) -> Result<(), Stop> {
         let Some(after) = &event.after else {
             return Ok(());
@@ -344,7 +343,7 @@ impl Teller {
         }
     }
 
-    // Puts behind what is there who keeps the pages of the buffer, if they did not go back.
+    // Appends who keeps the pages of the buffer, if they did not go back.
     fn push_kept_one(
         &self,
         after: &Snapshot,
@@ -362,8 +361,8 @@ impl Teller {
         Ok(())
     }
 
-    /// Puts the label under which the end of the node was collected last behind what is there, if it is
-    /// another than that of its birth. Costs a look into two tables.
+    /// Appends the label under which the end of the node was collected last, if it is another than that
+    /// of its birth. Costs a look into two tables.
     pub fn push_other_name(&self, text: &mut Vec<u8>, node: NodeKey) -> Result<(), AllocError>
         ensures { OnOk result ((names : Names) → Keeps self.now.session.tables names →
             Calls self.now.labels names → text.new.items ≡ text.old.items
@@ -376,7 +375,7 @@ impl Teller {
         )
     }
 
-    /// Puts the name of the buffer behind what is there. Costs a look into a table, and the text.
+    /// Appends the name of the buffer. Costs a look into a table, and the text.
     pub fn push_buffer_name(&self, text: &mut Vec<u8>, buffer: BufferName) -> Result<(), AllocError>
         ensures { OnOk result ((names : Names) → Keeps self.now.session.tables names →
             text.new.items ≡ text.old.items ++ buffer_name names buffer) }
@@ -391,14 +390,14 @@ impl Teller {
         )
     }
 
-    // Puts behind what is there who has handles on the buffers.
+    // Appends who has handles on the buffers.
     fn push_kept_all(&self, held: &[HeldBuffer], facts: &mut Vec<u8>) -> Result<(), Stop> {
         let session = &self.session;
         push_kept(facts, &session.core, &session.tables, &self.labels, held)
     }
 }
 
-// Puts the last label behind what is there, where it is another than the first.
+// Appends the last label, where it is another than the first.
 fn push_other(
     text: &mut Vec<u8>,
     last: Option<Label>,

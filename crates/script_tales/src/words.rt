@@ -21,7 +21,7 @@ pub(crate) const PAGE: u64 = 4096;
 // How many bits a set has, one for each buffer.
 const SET_BITS: u8 = 64;
 
-/// Puts the node's label behind what is there. Takes a time in proportion to it, and a look into a table.
+/// Appends the node's label. Takes a time in proportion to it, and a look into a table.
 pub fn push_name(text: &mut Vec<u8>, tables: &Tables, node: NodeKey) -> Result<(), AllocError>
     ensures { OnOk result ((names : Names) → Keeps tables.now names →
         text.new.items ≡ text.old.items ++ label_text (label_of_node names node)) }
@@ -29,8 +29,8 @@ pub fn push_name(text: &mut Vec<u8>, tables: &Tables, node: NodeKey) -> Result<(
     push_label(text, tables.birth_label(node))
 }
 
-/// Puts a space and the label of each node behind what is there. Takes a time in proportion to them, and a
-/// look into a table for each.
+/// Appends a space and the label of each node. Takes a time in proportion to them, and a look into a table
+/// for each.
 pub fn push_nodes(text: &mut Vec<u8>, tables: &Tables, nodes: &[NodeKey]) -> Result<(), AllocError>
     ensures { OnOk result ((names : Names) → Keeps tables.now names →
         text.new.items ≡ text.old.items ++ flat_map (node_text names) nodes.now) }
@@ -41,8 +41,7 @@ pub fn push_nodes(text: &mut Vec<u8>, tables: &Tables, nodes: &[NodeKey]) -> Res
     Ok(())
 }
 
-/// Puts the client's label behind what is there. Takes a time in proportion to it, and a look into a
-/// table.
+/// Appends the client's label. Takes a time in proportion to it, and a look into a table.
 pub fn push_client(text: &mut Vec<u8>, labels: &Labels, client: ClientId) -> Result<(), AllocError>
     ensures { OnOk result ((names : Names) → Calls labels.now names →
         text.new.items ≡ text.old.items ++ label_text (client_label names client)) }
@@ -50,7 +49,7 @@ pub fn push_client(text: &mut Vec<u8>, labels: &Labels, client: ClientId) -> Res
     push_label(text, labels.client(client))
 }
 
-// Puts a space and each buffer of the set behind what is there.
+// Appends a space and each buffer of the set.
 pub(crate) fn push_set(
     text: &mut Vec<u8>,
     tables: &Tables,
@@ -67,7 +66,7 @@ pub(crate) fn push_set(
     Ok(())
 }
 
-// Puts a space and the buffer behind what is there, if it is in the set.
+// Appends a space and the buffer, if it is in the set.
 fn push_member(
     text: &mut Vec<u8>,
     tables: &Tables,

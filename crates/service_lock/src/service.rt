@@ -82,15 +82,15 @@ impl<E: Setup, S: Ledger, W: Ledger> Service<E, S, W> {
         })
     }
 
-    /// Waits for the lock. Whoever holds it has the state. It costs an exchange of one word where
-    /// nobody holds it.
+    /// Waits for the lock. The thread that holds it has the state. It costs an exchange of one word
+    /// where nobody holds it.
     pub fn lock<R: Wait>(&self, rt: &R) -> Guard<'_, E, S, W> {
         Guard {
             lock: self.state.lock(rt),
         }
     }
 
-    /// Ends the service, and lets the record and the core go. It takes no lock, since nobody else has
+    /// Ends the service, and drops the record and the core. It takes no lock, since nobody else has
     /// the service any more.
     pub fn end(self) {
         let Service { state } = self;

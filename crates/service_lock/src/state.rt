@@ -88,7 +88,7 @@ impl<E: Setup, S: Ledger, W: Ledger> State<E, S, W> {
         })
     }
 
-    /// Lets all of it go.
+    /// Drops all of it.
     pub(crate) fn end(self) {
         let State {
             core: _,
@@ -189,8 +189,8 @@ pub fn is_full<E: Setup, S: Ledger, W: Ledger>(state: &State<E, S, W>) -> bool
     state.limits.events() as u64 <= state.core.events()
 }
 
-/// The reader of the tracker with this id: `Some` once for each that a reply told of, and else
-/// `None`. It knows the firing if there was one, and tells a later one without the lock. It takes no
+/// The reader of the tracker with this id: `Some` once for each that a reply named, and else `None`.
+/// It knows the firing if there was one, and learns of a later one without the lock. It takes no
 /// memory, and costs a binary search among all trackers that were made.
 pub fn take_tracker<E: Setup, S: Ledger, W: Ledger>(
     state: &mut State<E, S, W>,

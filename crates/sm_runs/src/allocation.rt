@@ -66,8 +66,8 @@ pub fn a_full_pool_fails_the_collection()
     ensures not_pending { IsLegal 16 full (answered_instead Reply.Pending pool_full) → ⊥ }
 {}
 
-/// Where nobody strong is there, no buffers are asked for, and too many are, the first of these is
-/// told.
+/// No strong node is live, no buffers are asked for, too many are: the first of these that applies
+/// is the failure.
 pub fn no_strong_node_is_looked_at_first()
     ensures legal { IsLegal 16 full weak_and_no_buffers }
     ensures not_closed { IsLegal 16 full
@@ -76,8 +76,8 @@ pub fn no_strong_node_is_looked_at_first()
         → ⊥ }
 {}
 
-/// A buffer goes to the first hole that is long enough; pages that come back join the holes beside
-/// them.
+/// A buffer is placed in the first hole that is long enough; pages that come back join the holes
+/// beside them.
 pub fn holes_are_filled_and_merged()
     ensures holes { IsLegal 16 full holes }
     ensures held_1 { held_by_page 16 (timeline 16 (take 18 holes))

@@ -20,8 +20,8 @@ pub fn an_attached_failure_stops()
         (answered_instead (Reply.Refused Refusal.WrongKind) attached_closed) → ⊥ }
 {}
 
-/// An attached subtree that asks for more or larger buffers than there are fails alone, and too few
-/// is told first.
+/// An attached subtree that asks for more or larger buffers than there are fails alone; if both, by
+/// TooFew.
 pub fn an_attached_subtree_fails_alone()
     ensures too_large { IsLegal 16 full too_large }
     ensures not_allocated_1 { IsLegal 16 full

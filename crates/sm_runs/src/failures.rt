@@ -9,8 +9,8 @@ ghost use Rattle.sm_names.specs.Timelines.{timeline};
 ghost use Rattle.sm_names.specs.Views.{live_nodes};
 ghost use Rattle.sm_runs.specs.Failures.{child_lost, lost_through_orphan, dispensable_lost_before, dispensable_lost_after, child_of_dispensable_lost, dispensable_after_its_child, failed_and_then_lost, failed_and_abandoned, end_spent};
 
-/// A child that is closed without Release fails its parent, and with it the other child; whoever
-/// asks is told the origin.
+/// A child that is closed without Release fails its parent, and with it the other child; a call on
+/// any of them is answered the origin.
 pub fn a_failure_goes_up_to_the_root()
     ensures legal { IsLegal 16 full child_lost }
     ensures live { live_nodes (timeline 16 (take 6 child_lost)) ≡ [] }
@@ -20,7 +20,7 @@ pub fn a_failure_goes_up_to_the_root()
     ensures not_done { IsLegal 16 full (answered_instead Reply.Done (take 7 child_lost)) → ⊥ }
 {}
 
-/// The failure of a child of a released node goes up through it.
+/// The failure of a child of a released node climbs through it.
 pub fn a_failure_passes_through_an_orphan()
     ensures legal { IsLegal 16 full lost_through_orphan }
     ensures not_done { IsLegal 16 full (answered_instead Reply.Done lost_through_orphan) → ⊥ }
@@ -39,7 +39,7 @@ pub fn a_failure_stops_at_an_allocated_dispensable_child()
         (answered_instead (Reply.Allocated 1 4096) dispensable_lost_after) → ⊥ }
 {}
 
-/// The failure of a normal child of a dispensable node goes to that node and stops there, also
+/// The failure of a normal child of a dispensable node climbs to that node and stops there, also
 /// where the child was born first.
 pub fn a_failure_goes_to_the_dispensable_parent()
     ensures child_of_dispensable_lost { IsLegal 16 full child_of_dispensable_lost }

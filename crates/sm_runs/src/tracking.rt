@@ -22,8 +22,8 @@ pub fn a_node_tracker_fires_once_the_node_is_gone()
     ensures fired { fired (timeline 16 attached_tracker) ≡ fires 6 7 ∷ [] }
 {}
 
-/// A lifetime tracker fires once its unit is allocated and few enough buffers are left, or its node
-/// went before.
+/// A lifetime tracker fires once its unit is allocated and few enough buffers are not home, or its
+/// node was gone before.
 pub fn a_lifetime_tracker_waits_for_its_units_allocation()
     ensures few_left { IsLegal 16 full few_left }
     ensures quiet_1 { fired_at (timeline 16 (take 4 few_left))

@@ -12,7 +12,8 @@ use std::process::ExitCode;
 
 /// Runs the script that the reader holds, with these pages and the greatest limits, as `run_script`
 /// does, and answers the status that a program is to end with: 0 where the script came to its end,
-/// and else the status of the fault, which is told in one line on `faults`, as far as that takes it.
+/// and else the status of the fault, which is reported as one line on `faults`, as far as that takes
+/// it.
 pub fn run_to_exit<R: Read, W: Write, F: Write>(
     alloc: Global,
     seed: [u8; 16],

@@ -17,23 +17,23 @@ use std::io::{Read, Write};
 // How many bytes are asked for at a time.
 const BLOCK: usize = 65_536;
 
-/// Runs the script that the reader holds against a new core with a pool of `pages` pages, and
-/// writes one line for each call, poll and view. All whole lines that were read are answered before
-/// the next read, and the writer is flushed at the end. It keeps a reader of each tracker that is
-/// made; a poll tells what the reader knows, if the core knows it too. Labels and the core's counts
-/// are hashed from the seed, best of random bytes: it changes what a line costs, and nothing that is
+/// Runs the script that the reader holds against a new core with a pool of `pages` pages, and writes
+/// one line for each call, poll and view. All whole lines that were read are answered before the
+/// next read, and the writer is flushed at the end. It keeps a reader of each tracker that is made;
+/// a poll answers what the reader knows, if the core knows it too. Labels and the core's counts are
+/// hashed from the seed, best of random bytes: it changes what a line costs, and nothing that is
 /// written.
 ///
-/// What went out is the text of all lines where the run comes to the end of the script. Else:
-/// - `ReadFault`: the reader failed, or the script has more than `MOST_BYTES` bytes. What went out
-///   is the text of the whole lines among those that were read.
-/// - `WriteFault`: the writer failed, or took nothing, or could not be flushed. What went out is a
+/// The output is the text of all lines if the run comes to the end of the script. Else:
+/// - `ReadFault`: the reader failed, or the script has more than `MOST_BYTES` bytes. The output is
+///   the text of the whole lines among the bytes that were read.
+/// - `WriteFault`: the writer failed, or took nothing, or could not be flushed. The output is a
 ///   first part of the text.
-/// - `BadLine`, `HistoryFull`: this line is bad, or makes a call where as many events were made as
-///   may be. What went out is the text of the lines before it.
-/// - `NoMemory`: memory was refused. What went out is the text of the lines before the one at hand:
-///   a whole line, or the front of one behind all whole lines that were read. It is nothing where
-///   memory was refused before the first read.
+/// - `BadLine`, `HistoryFull`: this line is bad, or makes a call when the history is full. The
+///   output is the text of the lines before it.
+/// - `NoMemory`: memory was refused. The output is the text of the lines before the current one,
+///   which is a whole line, or the front of the line after all whole lines that were read. It is
+///   nothing if memory was refused before the first read.
 ///
 /// Each line takes a time in proportion to its length and that of its text, a look into a table
 /// for each label, and the time of its call; a poll takes a look for its reader, and a binary

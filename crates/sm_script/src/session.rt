@@ -54,7 +54,7 @@ impl Session {
         })
     }
 
-    /// Answers a line, without its end, in place of what was in `reply`.
+    /// Answers a line, without its end, into `reply`, which is emptied first.
     ///
     /// On an error the line was not answered, and `reply` holds nothing that is to be read. Where memory
     /// was refused its call may have been made. Takes a time in proportion to the line and its text, a
@@ -93,7 +93,7 @@ impl Session {
         }
     }
 
-    // Makes the call, and puts its reply as a line behind what is there.
+    // Makes the call, and appends its reply as a line.
     fn ask(
         &mut self,
         client: ClientId,
@@ -137,7 +137,7 @@ impl Session {
         keep_reader(&mut self.core, &mut self.readers, reply)
     }
 
-    // Puts what is read of the tracker as a line behind what is there.
+    // Appends what is read of the tracker as a line.
     fn poll(&mut self, tracker: TrackerId, text: &mut Vec<u8>) -> Result<(), Stop>
         ensures ok { OnOk result ((scene : Scene) → IsAt self.old scene →
             Gains self.old self.new (Act.Poll tracker) text.old.items text.new.items scene) }
@@ -151,7 +151,7 @@ impl Session {
         Ok(())
     }
 
-    // Puts what is seen as a line behind what is there.
+    // Appends what is seen as a line.
     fn show(&self, view: View, text: &mut Vec<u8>) -> Result<(), Stop>
         ensures ok { OnOk result ((scene : Scene) → IsAt self.now scene →
             Gains self.now self.now (Act.Show view) text.old.items text.new.items scene) }
@@ -163,7 +163,7 @@ impl Session {
     }
 }
 
-// Takes the reader of the tracker that the reply tells of, if it tells of one.
+// Takes the reader of the tracker in the reply, if there is one.
 fn keep_reader(
     core: &mut Core,
     readers: &mut HashMap<TrackerId, Tracker>,
@@ -181,7 +181,7 @@ fn keep_reader(
     Ok(())
 }
 
-// The event at which the tracker fired, if its reader tells of it, and the core too.
+// The event at which the tracker fired, if its reader knows it, and the core too.
 fn firing(readers: &mut HashMap<TrackerId, Tracker>, core: &Core, tracker: TrackerId) -> Option<u64>
     ensures { (history : List Entry) → Shows core.now history → IfSome result (λ event.
         Contains (fired (timeline core.now.pool history))

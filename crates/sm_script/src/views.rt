@@ -14,7 +14,7 @@ use script_lines::{View, push, push_number};
 use sm_names::{Fired, HeldBuffer, NodeKey};
 use std::alloc::AllocError;
 
-// Puts the view behind what is there.
+// Appends the view.
 pub(crate) fn push_view(
     text: &mut Vec<u8>,
     core: &Core,
@@ -52,7 +52,7 @@ pub(crate) fn push_view(
     }
 }
 
-// Puts the nodes behind what is there.
+// Appends the nodes.
 fn push_nodes(text: &mut Vec<u8>, tables: &Tables, nodes: &[NodeKey]) -> Result<(), AllocError>
     ensures { OnOk result ((names : Names) → Keeps tables.now names →
         text.new.items ≡ text.old.items ++ flat_map (node_text names) nodes.now) }
@@ -63,7 +63,7 @@ fn push_nodes(text: &mut Vec<u8>, tables: &Tables, nodes: &[NodeKey]) -> Result<
     Ok(())
 }
 
-// Puts the held buffers behind what is there.
+// Appends the held buffers.
 fn push_buffers(
     text: &mut Vec<u8>,
     tables: &Tables,
@@ -78,7 +78,7 @@ fn push_buffers(
     Ok(())
 }
 
-// Puts the firings behind what is there.
+// Appends the firings.
 fn push_firings(text: &mut Vec<u8>, tables: &Tables, firings: &[Fired]) -> Result<(), AllocError>
     ensures { OnOk result ((names : Names) → Keeps tables.now names →
         text.new.items ≡ text.old.items ++ flat_map (fired_text names) firings.now) }

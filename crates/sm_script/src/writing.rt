@@ -1,4 +1,4 @@
-//! Text goes out before a run stops.
+//! Text is written before a run stops.
 ghost use Rattle.sm_script.specs.Players.{GivesUp};
 
 use crate::fault::ScriptFault;
@@ -6,8 +6,8 @@ use script_labels::Stop;
 use script_lines::write_out;
 use std::io::Write;
 
-// Writes the text of the lines before the one of this number, which was not answered, and gives
-// the fault to tell.
+// Writes the text of the lines before the one of this number, which was not answered, and gives the
+// fault to report.
 pub(crate) fn give_up<W: Write>(writer: &mut W, text: &[u8], number: u64, stop: Stop) -> ScriptFault
     ensures { GivesUp (W.contents writer.old) (W.contents writer.new) text.now number stop result }
 {

@@ -3,7 +3,7 @@
 //!
 //! No function has a premise of its own: any number may stand in a call, and a handle may be open
 //! or not. Where a function answers another code than `DONE`, what it was given to write is as it
-//! was; `sysmem_vanish` alone tells then how many events it made before.
+//! was; `sysmem_vanish` alone then still writes how many events it made before.
 #![tactic(auto)]
 
 mod arrays;

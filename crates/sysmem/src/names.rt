@@ -1,4 +1,4 @@
-//! Names of the numbers that C is told.
+//! Names of the numbers for C.
 ghost use Rattle.std.specs.Prelude.{◌≡◌, ◌≢◌, ◌∷◌, ◌++◌, length, []};
 ghost use Rattle.sysmem.specs.Arrays.{written_over};
 ghost use Rattle.sysmem.specs.Names.{cause_name, code_name, misuse_at, name, refusal_at};

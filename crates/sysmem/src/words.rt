@@ -144,7 +144,7 @@ pub(crate) fn cause_word(cause: Cause) -> u32
     }
 }
 
-// The words of a reply that has nothing to tell.
+// The words of a reply that has no fields.
 const NOTHING: ReplyWords = ReplyWords {
     kind: 0,
     slot: 0,
@@ -157,7 +157,7 @@ const NOTHING: ReplyWords = ReplyWords {
     index: 0,
 };
 
-// The words of a reply of this kind that tells an id.
+// The words of a reply of this kind that has an id.
 fn id_words(kind: u32, id: u64) -> ReplyWords
     ensures { result ≡ record blank_reply { kind = kind; id = id } }
 {
@@ -168,7 +168,7 @@ fn id_words(kind: u32, id: u64) -> ReplyWords
     }
 }
 
-// The words of a reply of this kind that tells a node.
+// The words of a reply of this kind that has a node.
 fn node_words(kind: u32, node: NodeKey, detail: u32, id: u64) -> ReplyWords
     ensures { result ≡ record blank_reply {
       kind = kind;
@@ -188,7 +188,7 @@ fn node_words(kind: u32, node: NodeKey, detail: u32, id: u64) -> ReplyWords
     }
 }
 
-// The words of a reply of this kind that tells only why.
+// The words of a reply of this kind that has only a reason.
 fn detail_words(kind: u32, detail: u32) -> ReplyWords
     ensures { result ≡ record blank_reply { kind = kind; detail = detail } }
 {
@@ -199,7 +199,7 @@ fn detail_words(kind: u32, detail: u32) -> ReplyWords
     }
 }
 
-// The words of a reply that tells buffers of a strength: their set, or the index of one.
+// The words of a reply that has buffers of a strength: their set, or the index of one.
 fn buffer_words(kind: u32, collection: u64, strength: Strength, set: u64, index: u8) -> ReplyWords
     ensures { result ≡ record blank_reply {
       kind = kind;

@@ -8,6 +8,7 @@ abbrev pub open_reason : ErrorKind → List ℕ
 open_reason ErrorKind.NotFound = codes "no such file"
 open_reason ErrorKind.PermissionDenied = codes "permission denied"
 open_reason ErrorKind.NotADirectory = codes "a part of its path is no directory"
+open_reason ErrorKind.IsADirectory = codes "it is a directory"
 open_reason ErrorKind.FilesystemLoop = codes "too many symbolic links"
 open_reason ErrorKind.InvalidFilename = codes "the name is too long"
 open_reason ErrorKind.OutOfMemory = codes "no memory"

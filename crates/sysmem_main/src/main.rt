@@ -1,5 +1,5 @@
 //! The program: `sysmem run` answers a script, `sysmem threads` runs its clients side by side, `sysmem
-//! explain` and `sysmem draw` tell what its events came to, `sysmem check` compares a transcript.
+//! explain` and `sysmem draw` say what its events did, `sysmem check` compares a transcript.
 #![tactic(auto)]
 
 mod messages;
@@ -18,6 +18,7 @@ use messages::{Misplaced, NO_COMMAND, Unopened, misplaced_file, reason_of};
 use script_draw::draw_to_exit;
 use script_explain::{check_to_exit, explain_to_exit};
 use sm_script::run_to_exit;
+use std::fs::{Files, OpenFile};
 use std::io::Read;
 use std::process::ExitCode;
 use std::random::RandomSource;
@@ -38,8 +39,8 @@ fn status_of(kind: ErrorKind) -> u8
     }
 }
 
-// Says why the words ask for no run: a missing command and a file in its place in words of our own,
-// all else in clap's.
+// Says why the words ask for no run: a missing command and a file instead of one in words of our
+// own, all else in clap's.
 fn tell(rt: &(impl Print + Eprint), error: &Error, words: &[String]) {
     let _ = match error.kind() {
         ErrorKind::MissingSubcommand => rt.eprintln(NO_COMMAND),
@@ -158,18 +159,35 @@ fn read<H: Threads + Wait + Clock + Sync>(
 ) -> ExitCode {
     match request.file {
         None => play(rt, host, seed, &mut rt.reader(), request),
-        Some(name) => match fs::open(rt, name) {
+        Some(name) => match opened(rt, name) {
             Ok(mut file) => play(rt, host, seed, &mut file, request),
-            Err(error) => unopened(rt, name, &error),
+            Err(kind) => unopened(rt, name, kind),
         },
     }
 }
 
-// The file of this name can't be opened.
-fn unopened(rt: &impl Eprint, name: &str, error: &io::Error) -> ExitCode
+// Opens the file of this name. The system opens a directory too, which can't be read: here that is an error.
+fn opened<R: Files>(files: &R, name: &str) -> Result<R::File, io::ErrorKind> {
+    match fs::open(files, name) {
+        Ok(file) if is_directory(&file) => Err(io::ErrorKind::IsADirectory),
+        Ok(file) => Ok(file),
+        Err(error) => Err(error.kind()),
+    }
+}
+
+// Whether the open file is a directory. False if the system does not say.
+fn is_directory(file: &impl OpenFile) -> bool {
+    match file.metadata() {
+        Ok(metadata) => metadata.is_dir(),
+        Err(_) => false,
+    }
+}
+
+// The file of this name can't be read: opening it gives an error of this kind.
+fn unopened(rt: &impl Eprint, name: &str, kind: io::ErrorKind) -> ExitCode
     ensures { exit_status result ≡ 1 }
 {
-    let reason = reason_of(error.kind());
+    let reason = reason_of(kind);
     let _ = rt.eprintln(Unopened { name, reason });
     ExitCode::from(1)
 }

@@ -54,6 +54,7 @@ pub(crate) fn reason_of(kind: ErrorKind) -> &'static str
         ErrorKind::NotFound => "no such file",
         ErrorKind::PermissionDenied => "permission denied",
         ErrorKind::NotADirectory => "a part of its path is no directory",
+        ErrorKind::IsADirectory => "it is a directory",
         ErrorKind::FilesystemLoop => "too many symbolic links",
         ErrorKind::InvalidFilename => "the name is too long",
         ErrorKind::OutOfMemory => "no memory",

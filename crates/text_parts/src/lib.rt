@@ -1,4 +1,5 @@
-//! Texts that are put together of parts.
+//! Texts made of parts: one call appends an array of parts. A proof follows each early return, so
+//! that with a call for each part its time would grow with the square of their number.
 #![tactic(auto)]
 
 ghost use Rattle.std.specs.Prelude.{◌≡◌, ◌++◌, OnOk};
@@ -23,8 +24,8 @@ pub enum Part<'a> {
     Name(Option<Label>),
 }
 
-/// Puts the parts behind what is there, one after another; some of them where memory is refused. Costs
-/// what `push` costs for each.
+/// Appends the parts, one after another; some of them where memory is refused. Costs what `push` costs
+/// for each.
 pub fn push_parts(text: &mut Vec<u8>, parts: &[Part]) -> Result<(), AllocError>
     ensures { OnOk result (text.new.items ≡ text.old.items ++ flat_map text_of parts.now) }
 {
@@ -34,7 +35,7 @@ pub fn push_parts(text: &mut Vec<u8>, parts: &[Part]) -> Result<(), AllocError>
     Ok(())
 }
 
-// Puts the part behind what is there.
+// Appends the part.
 fn push_part(text: &mut Vec<u8>, part: Part) -> Result<(), AllocError>
     ensures { OnOk result (text.new.items ≡ text.old.items ++ text_of part.entry) }
 {
@@ -47,7 +48,7 @@ fn push_part(text: &mut Vec<u8>, part: Part) -> Result<(), AllocError>
     }
 }
 
-// Puts the number and the word behind what is there, with an s at any number but 1.
+// Appends the number and the word, with an s at any number but 1.
 fn push_counted(text: &mut Vec<u8>, number: u64, word: &str) -> Result<(), AllocError>
     ensures { OnOk result (text.new.items
         ≡ text.old.items ++ text_of (Part.Counted number word.entry)) }

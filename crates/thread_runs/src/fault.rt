@@ -66,7 +66,7 @@ impl From<GatherFault> for ThreadsFault {
 
     ghost from_gives = { λ fault told. told ≡ gather_fault fault };
 
-    // Refused memory is told as such.
+    // Refused memory is reported as such.
     fn from(fault: GatherFault) -> ThreadsFault {
         match fault {
             GatherFault::NoMemory => ThreadsFault::NoMemory,

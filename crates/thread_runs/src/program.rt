@@ -40,7 +40,7 @@ pub fn run_threads_to_exit<I: Read, O: Write, F: Write, R: Threads + Wait + Cloc
     )
 }
 
-// The status of an outcome, whose fault is told in one line, as far as the writer takes it.
+// The status of an outcome, whose fault is reported as one line, as far as the writer takes it.
 fn exit_of<F: Write>(ended: Result<(), ThreadsFault>, faults: &mut F) -> ExitCode
     ensures status { exit_status result ≡ outcome_status ended }
     ensures told { WritesPart (F.contents faults.old) (F.contents faults.new) (outcome_line ended) }

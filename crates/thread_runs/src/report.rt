@@ -1,4 +1,4 @@
-//! The actors run, and what they leave is told.
+//! The actors run, and what they leave is reported.
 ghost use Rattle.std.specs.Prelude.{◌≡◌, ◌++◌, IfErr, IfOk, IfNone, OnOk, length, map};
 ghost use Rattle.actor_scripts.specs.ActorLists.{actors_of};
 ghost use Rattle.client_parting.specs.Gatherings.{ids_of};
@@ -60,7 +60,7 @@ fn first_stray<E: Setup, S: Ledger, W: Ledger>(
     }
 }
 
-// Puts what is to be told of the record, whose report this is, behind what is there.
+// Appends the report of the record, after its transcript if that is asked for.
 fn push_output(
     alloc: Global,
     hash: LabelHash,
@@ -85,8 +85,8 @@ fn push_output(
     }
 }
 
-// What is to be told of what lies under the lock, if the parts are all that there is, and those of the
-// clients that joined, in order.
+// The report on what lies under the lock, if the parts are all that there is, and those of the clients
+// that joined, in order.
 fn text_of<E: Setup, S: Ledger, W: Ledger>(
     alloc: Global,
     hash: LabelHash,
@@ -121,8 +121,8 @@ fn text_of<E: Setup, S: Ledger, W: Ledger>(
     }
 }
 
-// What is to be told of all parts, which come back. The lock is held all the time, so that all of it is
-// of one record.
+// The report on all parts, which come back. The lock is held all the time, so that all of it is of one
+// record.
 fn tell<E: Setup, S: Ledger, W: Ledger, R: Wait>(
     rt: &R,
     alloc: Global,
@@ -142,7 +142,7 @@ fn tell<E: Setup, S: Ledger, W: Ledger, R: Wait>(
     (parts, told)
 }
 
-// What is to be told of the actors, and what is left of them.
+// The report on the actors, and what is left of them.
 fn run_all<
     E: Setup + Send + Sync,
     S: Ledger + Send + Sync,
@@ -184,7 +184,7 @@ fn run_all<
     }
 }
 
-// What is to be told of the actors on a service that has seen nothing, which is ended.
+// The report on the actors on a service that has seen nothing, which is ended.
 fn run_on<
     E: Setup + Send + Sync,
     S: Ledger + Send + Sync,
@@ -216,7 +216,7 @@ fn run_on<
     }
 }
 
-// What is to be told of the actors.
+// The report on the actors.
 pub(crate) fn tell_all<R: Threads + Wait + Clock + Sync>(
     rt: &R,
     alloc: Global,

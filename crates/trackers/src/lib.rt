@@ -1,5 +1,5 @@
-//! Trackers: each waits for a node to go, a lifetime to end or a buffer to be doomed, fires once,
-//! and is read without a lock.
+//! Trackers: each waits for a node to be gone, a lifetime to end or a buffer to be doomed, fires
+//! once, and is read without a lock.
 #![tactic(auto)]
 
 mod index;

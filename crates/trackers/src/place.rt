@@ -1,4 +1,4 @@
-//! Where what is kept of a tracker lies.
+//! The places of trackers in the table.
 ghost use Rattle.std.specs.Prelude.{◌≡◌, ◌+◌, ◌^◌, ◌<◌, ◌≤◌, [], ◌∷◌, ◌++◌, length, vec_len, vec_capacity, Some, None, OnOk, false, if◌then◌else◌};
 ghost use Rattle.slab.specs.Slab.{get, HasRoomFor, Updates};
 ghost use Rattle.trackers.specs.declared.place.Place.{Place as PlaceValue};
@@ -28,8 +28,8 @@ pub(crate) enum Stage {
     Taken,
 }
 
-/// What is kept of a tracker for good: the slot of its row, or the place of its firing. The note,
-/// which takes no bytes, names its cell for the proofs.
+/// What the table keeps of a tracker for good: the slot of its row, or the place of its firing. The
+/// note, which takes no bytes, names its cell for the proofs.
 #[derive(Drop)]
 pub(crate) struct Place {
     pub(crate) number: u32,

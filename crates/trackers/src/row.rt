@@ -88,7 +88,8 @@ impl Row {
     }
 
     /// The firing of the tracker at this event, to which its cell is set for a reader that was taken.
-    /// One that is still here will be told instead, so that the cell and its room are given back.
+    /// A reader that is still here gets the firing as a value instead: nobody will read the cell, so
+    /// that the cell and its room are given back.
     pub(crate) fn fire(self, event: u64) -> Fired
         ensures { result ≡ record { tracker = self.tracker.id; event = event } }
     {

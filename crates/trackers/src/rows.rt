@@ -1,5 +1,7 @@
 //! The rows of all trackers: one that waits has a row in a slot, which is used again once it fired;
-//! of one that fired its firing is kept, and the number of that.
+//! of one that fired the table keeps its firing, and a place of 8 bytes with the number of that.
+//! Places stand by rising id, for a binary search; firings stand in their order, in which ids do
+//! not rise.
 ghost use Rattle.std.specs.Prelude.{◌≡◌, ◌+◌, ◌^◌, ◌<◌, ◌≤◌, [], ◌∷◌, ◌++◌, length, true, false, Option, None, OnOk, OnErr, IsTrue, slice_index_or, slice_set, option_to_list};
 ghost use Rattle.std.specs.List.{AllByRecursion};
 ghost use Rattle.trackers.specs.Row.{TrackerRow, Over, is_waiting, firing_of_row, reader_of_row, row_of_waiting};

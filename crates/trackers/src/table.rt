@@ -166,9 +166,9 @@ impl Trackers {
     /// Whether what a reader of one of these cells knows is the firing of its tracker. The answer is
     /// `false` where the tracker has not fired. Of a reader that knows no firing, as one that was not
     /// polled since, the cell is looked at instead. Nothing but the firing sets a cell, so that the
-    /// answer is `true` wherever there was one; but no contract of a cell says so. Both sides are
-    /// `&mut`, since what is known of a cell is read through one; neither changes. It takes no memory,
-    /// and a binary search.
+    /// answer is `true` wherever there was one; but no contract of a cell says so. A body that always
+    /// answers `false` breaks this contract. Both sides are `&mut`, since what is known of a cell is
+    /// read through one; neither changes. It takes no memory, and a binary search.
     pub fn agree(&mut self, tracker: &mut Tracker) -> bool
         requires own { cell_of self.old.cells tracker.old.tracker ≡ Some tracker.old.cell }
         ensures waiting { firing_of self.old.fired tracker.old.tracker ≡ None → result ≡ false }

@@ -14,7 +14,7 @@ use std::sync::Arc;
 enum Source {
     /// In the cell, which the table sets.
     Cell(Arc<OnceBox<Fired>>),
-    /// Here: it was told, since the tracker fired before the reader was taken.
+    /// Here: the reader got it as a value, since the tracker fired before the reader was taken.
     Told(Fired),
 }
 

@@ -6,8 +6,8 @@ ghost use Rattle.std.proofs.Props.{props};
 use sm_names::Condition;
 use std::collections::BinaryHeap;
 
-/// The rows that wait for one node to go, or for one buffer to be doomed, or for lifetimes of one
-/// node to end, whatever number of buffers each allows. The more buffers a lifetime allows, the
+/// The rows that wait for one node to be gone, or for one buffer to be doomed, or for lifetimes of
+/// one node to end, whatever number of buffers each allows. The more buffers a lifetime allows, the
 /// sooner it ends, so that where the widest of them has not ended, none has.
 #[derive(Drop)]
 pub(crate) struct WaitList {

@@ -4,8 +4,8 @@ ghost use Rattle.sm_names.specs.Trackers.{World as Seen, holds};
 
 use sm_names::{BufferName, CollectionId, Condition, NodeKey};
 
-/// What trackers look at. It must still know a node when the event at which it left is swept; of
-/// one that was forgotten since, `gone` and `allocated` are true.
+/// What trackers look at. It must still know a node when the event at which the node became gone is
+/// swept; of one that was forgotten since, `gone` and `allocated` are true.
 pub trait World {
     ghost seen: { Self → Seen };
 
@@ -27,7 +27,7 @@ pub trait World {
 }
 
 /// Whether what is waited for holds. After an event that did no more than attach a tracker, this is
-/// the test that tells whether a sweep is needed: two looks at the world at most.
+/// the test whether a sweep is needed: two looks at the world at most.
 pub fn holds_in<W: World>(condition: Condition, world: &W) -> bool
     ensures { result ≡ holds (W.seen world.now) condition }
 {

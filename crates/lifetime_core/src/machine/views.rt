@@ -92,7 +92,7 @@ impl Core {
             AllPairs (λ (a b : Held).
             a.pages.start + a.pages.pages ≤ b.pages.start) held.items) }
     {
-        // The pool tells that each buffer has a page, so that no two start at the same one.
+        // By the pool each buffer has a page, so that no two start at the same one.
         let _free = self.contents.pool.free_pages();
         self.contents.forest.held()
     }
