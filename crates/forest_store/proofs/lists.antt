@@ -1,5 +1,6 @@
 -- Lists and tests, whatever they are of.
 pub mod Booleans
+pub mod Elements
 pub mod ByPage
 pub mod Filters
 pub mod Lookups

@@ -3,6 +3,7 @@ pub mod Amounts
 pub mod AtOnce
 pub mod Holding
 pub mod Hung
+pub mod InTurn
 pub mod Reckoning
 pub mod Reserved
 pub mod Slots

@@ -26,7 +26,7 @@ pub enum Change {
 pub enum Effect {
     /// It was a token, and is a collection. FIDL: `Allocator.BindSharedCollection`.
     Bound,
-    /// Once its unit is allocated, its failure goes no further up.
+    /// Once its unit is allocated, its failure does not propagate to its parent.
     /// FIDL: `BufferCollectionToken.SetDispensable`.
     Dispensable,
     /// It keeps no buffer alive, nor do children made from now on. FIDL: `Node.SetWeak`.
@@ -38,7 +38,7 @@ pub enum Effect {
     Constrained(Constraints),
     /// It took its handles. FIDL: `BufferCollection.WaitForAllBuffersAllocated`.
     Taken,
-    /// It left without a failure. FIDL: `Node.Release`.
+    /// It is released. FIDL: `Node.Release`.
     Released,
     /// One more tracker was made on it. FIDL: `Node.AttachNodeTracking`.
     Tracked,

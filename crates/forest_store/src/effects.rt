@@ -21,8 +21,8 @@ fn if_done(reply: &Reply, key: NodeKey, effect: Effect) -> Option<Change>
     }
 }
 
-/// The effect of the call, answered so, on the node that it names, if it has one. Each call is told
-/// of here, and none is left to a rest. Takes a constant time.
+/// The effect of the call on the node that it names, if the call with this reply has one. The match
+/// names each call, without a catch-all. Takes O(1).
 #[inline(always)]
 pub fn effect_of(call: &Call, reply: &Reply) -> Option<Change>
     ensures { result ≡ option_map (λ e. Changed.Effect e.0 e.1) (effect_in call.now reply.now) }

@@ -9,10 +9,11 @@ use std::cell::Cell;
 
 /// A collection, with the keys of its nodes.
 ///
-/// The fields stand so that it is 128 bytes long: the collections behind one that ends move.
+/// The order of the fields makes it 128 bytes long: the collections behind one that is removed
+/// move.
 #[derive(Drop)]
 pub struct Entry {
-    /// How many buffers its nodes of allocated units camp on that are not gone.
+    /// How many buffers its nodes camp on that are not gone and whose units are allocated.
     pub reserved: u128,
     /// Its id.
     pub id: CollectionId,
@@ -20,19 +21,20 @@ pub struct Entry {
     pub keys: KeyList,
     /// The buffers whose pages were not given back, by index.
     pub held: Vec<HeldBuffer>,
-    /// The keys of nodes that are over, until they are forgotten.
+    /// The keys of dead nodes that are still in the table.
     pub garbage: Vec<NodeKey>,
     /// How many of its nodes are live and strong.
     pub strong: usize,
     /// What it was given.
     pub buffers: Option<Buffers>,
-    /// Where it stands first, the place at which the last collection was found by a search: a guess.
+    /// In the first entry: the index at which the last search found a collection. The next search
+    /// tries it first.
     pub guess: Cell<u16>,
-    /// It is known that none of its nodes is over, but for those that are noted.
+    /// It is known that each of its dead nodes is listed in `garbage`.
     pub garbage_known: bool,
 }
 
-/// How many collections have a smaller id, if the last one tells it: it has this id or a smaller one.
+/// How many collections have a smaller id, if the last one has this id or a smaller one.
 fn before_last(entries: &[Entry], id: CollectionId) -> Option<usize>
     requires { AreRising (shelves_of entries.now) }
     ensures { IfSome result (λ at. at ≡ prefix_len (λ e. nat_lt e.id id) entries.now) }
@@ -47,7 +49,7 @@ fn before_last(entries: &[Entry], id: CollectionId) -> Option<usize>
     }
 }
 
-/// The place that is guessed, if the collection with this id stands there.
+/// The index that is guessed, if the collection with this id is there.
 fn guessed(entries: &[Entry], id: CollectionId) -> Option<usize>
     requires { AreRising (shelves_of entries.now) }
     ensures { IfSome result (λ at. at ≡ prefix_len (λ e. nat_lt e.id id) entries.now) }
@@ -60,7 +62,7 @@ fn guessed(entries: &[Entry], id: CollectionId) -> Option<usize>
     }
 }
 
-/// Keeps the place as the one that is guessed, if it is a small number.
+/// Keeps the index as the next guess, if it fits in 16 bits.
 fn keep_guess(entries: &[Entry], at: usize) {
     if let Some(first) = entries.first() {
         if at <= u16::MAX as usize {
@@ -79,8 +81,8 @@ fn searched(entries: &[Entry], id: CollectionId) -> usize
     at
 }
 
-/// How many collections have a smaller id. A look at the last one and at the one that was found last,
-/// and else a binary search.
+/// How many collections have a smaller id. Looks at the last one, then at the one that was found
+/// last, then makes a binary search.
 pub(crate) fn entries_before(entries: &[Entry], id: CollectionId) -> usize
     requires { AreRising (shelves_of entries.now) }
     ensures { result ≡ prefix_len (λ e. nat_lt e.id id) entries.now }
@@ -94,7 +96,7 @@ pub(crate) fn entries_before(entries: &[Entry], id: CollectionId) -> usize
     }
 }
 
-/// Where the collection with this id stands.
+/// The index of the collection with this id.
 pub fn place_of(entries: &[Entry], id: CollectionId) -> Option<usize>
     requires { AreRising (shelves_of entries.now) }
     ensures { result ≡ place_in id entries.now }

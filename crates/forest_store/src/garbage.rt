@@ -1,5 +1,5 @@
-//! Forgetting: nodes that are taken out of the table with their keys, and collections of which
-//! nothing is left.
+//! Garbage: removes dead nodes with their keys, and collections without nodes and pages. A node is
+//! dead once it is gone and its end is spent.
 ghost use Rattle.std.specs.Prelude.{IfSome, Some, None, ◌≡◌, ◌==◌, [], map, not, IsSome, MatchOption, length, nat_lt, ◌≤◌, List, true, false};
 ghost use Rattle.std.specs.List.{filter, find, list_all, list_any, AllByRecursion};
 ghost use Rattle.std.specs.Option.{option_map_or};
@@ -24,10 +24,11 @@ use node_table::NodeTable;
 use sm_names::{CollectionId, NodeKey};
 use std::alloc::AllocError;
 
-/// A pass over so many nodes costs no more than to note which of them are over.
+/// For collections of at most this many nodes, a pass over all nodes costs no more than a list of
+/// the dead ones.
 const FEW: usize = 4;
 
-/// So many nodes of a collection are noted at a time.
+/// The list of a collection's dead nodes has at most this many keys.
 const MOST: usize = 64;
 
 /// The first child of the node.
@@ -37,7 +38,7 @@ pub(crate) fn first_child(table: &NodeTable<Node>, key: NodeKey) -> Option<NodeK
     table.first_child(key)
 }
 
-/// Cuts the children of the node, which costs their number.
+/// Removes the links between the node and its children. Takes O(number of children).
 fn cut_children(table: &mut NodeTable<Node>, key: NodeKey)
     ensures { Unlinks table.old table.new key }
 {
@@ -46,7 +47,7 @@ fn cut_children(table: &mut NodeTable<Node>, key: NodeKey)
     }
 }
 
-/// Takes a node out of the table. Its children stay. It takes no memory.
+/// Removes the node from the table. Its children stay, without a parent. Allocates nothing.
 pub fn take_out(table: &mut NodeTable<Node>, key: NodeKey) -> Node
     requires { IsSome (node_at table.old key) }
     ensures out { TakesOut table.old table.new key }
@@ -56,7 +57,7 @@ pub fn take_out(table: &mut NodeTable<Node>, key: NodeKey) -> Node
     table.remove(key)
 }
 
-/// Whether the table has a node of the key that is gone and whose end is spent.
+/// Whether the table has a dead node with this key.
 fn is_over_at(table: &NodeTable<Node>, key: NodeKey) -> bool
     ensures { result ≡ option_map_or is_over (node_at table.now key) false }
 {
@@ -66,8 +67,8 @@ fn is_over_at(table: &NodeTable<Node>, key: NodeKey) -> bool
     }
 }
 
-/// Takes those of the nodes with these keys out of the table that are over, from the last to the
-/// first. It takes no memory.
+/// Removes the dead nodes with these keys from the table, from the last to the first. Allocates
+/// nothing.
 fn collect_garbage(table: &mut NodeTable<Node>, keys: &[NodeKey])
     ensures look { (k : Key) → node_at table.new k ≡ left_at table.old keys.now k }
     ensures kept { (ss : List Shelf) → IsStored table.old ss →
@@ -83,21 +84,21 @@ fn collect_garbage(table: &mut NodeTable<Node>, keys: &[NodeKey])
     }
 }
 
-/// Whether the table has a node of the key.
+/// Whether the table has a node with this key.
 pub(crate) fn is_found(table: &NodeTable<Node>, key: NodeKey) -> bool
     ensures { result ≡ is_found table.now key }
 {
     table.get(key).is_some()
 }
 
-/// Whether it is known that no node of the collection is over.
+/// Whether it is known that no node of the collection is dead.
 fn is_garbage_known(entry: &Entry) -> bool
     ensures { result ≡ true → (entry.now.garbage_known ≡ true) × (entry.now.garbage.items ≡ []) }
 {
     entry.garbage_known && entry.garbage.is_empty()
 }
 
-/// Whether the table has a node of the key that was born before this event.
+/// Whether the table has a node with this key that was born before this event.
 fn is_born_before(table: &NodeTable<Node>, key: NodeKey, event: u64) -> bool
     ensures { result ≡ option_map_or (λ (n : NodeValue).
         nat_lt n.event event) (node_at table.now key) false }
@@ -108,7 +109,7 @@ fn is_born_before(table: &NodeTable<Node>, key: NodeKey, event: u64) -> bool
     }
 }
 
-/// The place, if the key stands there.
+/// The index, if the key is at this index.
 fn found_at(keys: &[NodeKey], at: usize, key: NodeKey) -> Option<usize>
     ensures { IfSome result (λ at. IsPlace keys.now key at) }
 {
@@ -119,8 +120,9 @@ fn found_at(keys: &[NodeKey], at: usize, key: NodeKey) -> Option<usize>
     }
 }
 
-/// The place of the key among these, which stand by birth: a constant for the first, for the one behind
-/// it, which is the oldest below a root that stays, and for the last, and else a binary search.
+/// The index of the key among these, which are ordered by birth. Takes O(1) for the first key, for
+/// the second one, which is the oldest below a root that stays, and for the last one, and O(log n)
+/// for the others.
 pub(crate) fn place_by_birth(
     table: &NodeTable<Node>,
     keys: &[NodeKey],
@@ -142,7 +144,7 @@ pub(crate) fn place_by_birth(
     found_at(keys, at, key)
 }
 
-/// The same, which is looked for behind this place first, and before it.
+/// The same. Looks first behind this index, then before it.
 pub fn place_near(
     table: &NodeTable<Node>,
     keys: &[NodeKey],
@@ -160,7 +162,7 @@ pub fn place_near(
     place_by_birth(table, keys, key)
 }
 
-/// Whether the node with this key, if it is over, is of this collection.
+/// Whether the node with this key belongs to this collection, if it is dead.
 fn is_own_if_over(table: &NodeTable<Node>, id: CollectionId, key: NodeKey) -> bool
     ensures { result ≡ is_own_if_over table.now id key }
 {
@@ -170,14 +172,14 @@ fn is_own_if_over(table: &NodeTable<Node>, id: CollectionId, key: NodeKey) -> bo
     }
 }
 
-/// Whether each node with these keys that is over is of this collection.
+/// Whether each dead node with one of these keys belongs to this collection.
 fn are_own(table: &NodeTable<Node>, id: CollectionId, keys: &[NodeKey]) -> bool
     ensures { result ≡ list_all (is_own_if_over table.now id) keys.now }
 {
     keys.iter().all(|key| is_own_if_over(table, id, *key))
 }
 
-/// Takes this key out of those of a collection.
+/// Removes this key from those of a collection.
 fn drop_key(table: &NodeTable<Node>, keys: &mut KeyList, key: NodeKey)
     requires { are_apart keys.old.items ≡ true }
     ensures { keys.new.items ≡ filter (λ other. not (same_key key other)) keys.old.items }
@@ -188,7 +190,7 @@ fn drop_key(table: &NodeTable<Node>, keys: &mut KeyList, key: NodeKey)
     }
 }
 
-/// Takes those of the noted keys of which the nodes are over out of those of a collection.
+/// Removes the listed keys whose nodes are dead from those of a collection.
 fn drop_keys(table: &NodeTable<Node>, keys: &mut KeyList, garbage: &[NodeKey])
     requires { are_apart keys.old.items ≡ true }
     ensures { keys.new.items ≡ filter (is_left_by table.now garbage.now) keys.old.items }
@@ -202,8 +204,9 @@ fn drop_keys(table: &NodeTable<Node>, keys: &mut KeyList, garbage: &[NodeKey])
     }
 }
 
-/// Takes the nodes with these keys that are over out of the table, and their keys out of these: the noted
-/// ones, where it is known that no other is over, and else all that are found. It takes no memory.
+/// Removes the dead nodes with these keys from the table, and their keys from these. If it is known
+/// that no other node is dead, this reads only the listed keys, and otherwise all keys. Allocates
+/// nothing.
 fn take_all_over(table: &mut NodeTable<Node>, keys: &mut KeyList, garbage: &[NodeKey], known: bool)
     requires apart { are_apart keys.old.items ≡ true }
     requires known { known ≡ true → AreAllOver table.old garbage.now keys.old.items }
@@ -222,7 +225,7 @@ fn take_all_over(table: &mut NodeTable<Node>, keys: &mut KeyList, garbage: &[Nod
     }
 }
 
-/// Forgets the nodes of the collection that are over.
+/// Removes the dead nodes of the collection.
 fn forget_of(table: &mut NodeTable<Node>, entry: &mut Entry)
     requires { IsForgettable table.old entry.old }
     ensures look { (k : Key) → node_at table.new k ≡ left_at table.old entry.old.keys.items k }
@@ -244,7 +247,7 @@ fn is_bare(entry: &Entry) -> bool
     entry.keys.len() == 0 && entry.held.is_empty()
 }
 
-/// Takes the collection away, if it has no node and no page. It takes no memory.
+/// Removes the collection, if it has no node and no page. Allocates nothing.
 pub(crate) fn drop_bare(entries: &mut Vec<Entry>, id: CollectionId)
     requires { AreRising (shelves_of entries.old.items) }
     ensures shelves { shelves_of entries.new.items
@@ -259,10 +262,10 @@ pub(crate) fn drop_bare(entries: &mut Vec<Entry>, id: CollectionId)
     }
 }
 
-/// Forgets the nodes of the collection that are over. Where it is known that none is, it costs a binary
-/// search of the collection alone. Where those that are over are noted, each costs a binary search among
-/// the collection's nodes and a move of the keys on its shorter side besides, and else it costs a pass
-/// over the collection's nodes. Answers whether nothing is left of it then.
+/// Removes the dead nodes of the collection. Answers whether the collection has no node and no page
+/// then. If it is known that no node is dead, this takes O(log n) in the number of collections. If
+/// the dead nodes are listed, each takes a binary search among the collection's nodes and a move of
+/// the keys on its shorter side. Otherwise this takes O(n) in the number of the collection's nodes.
 fn forget_nodes(table: &mut NodeTable<Node>, entries: &mut Vec<Entry>, id: CollectionId) -> bool
     requires kept { IsStored table.old (shelves_of entries.old.items) }
     requires counted { AreCounted table.old entries.old.items }
@@ -286,8 +289,8 @@ fn forget_nodes(table: &mut NodeTable<Node>, entries: &mut Vec<Entry>, id: Colle
     is_bare(entry)
 }
 
-/// Takes the nodes of the collection that are over out, and the collection where nothing is left
-/// of it. It takes no memory.
+/// Removes the dead nodes of the collection, and the collection if it has no node and no page then.
+/// Allocates nothing.
 pub fn forget_over(table: &mut NodeTable<Node>, entries: &mut Vec<Entry>, id: CollectionId)
     requires kept { IsStored table.old (shelves_of entries.old.items) }
     requires counted { AreCounted table.old entries.old.items }
@@ -302,8 +305,8 @@ pub fn forget_over(table: &mut NodeTable<Node>, entries: &mut Vec<Entry>, id: Co
     }
 }
 
-/// Notes the key of a node that is over, or where there is no room for it, that more may be over than
-/// is noted. It takes no memory.
+/// Lists the key of a dead node. If the list has no room, the entry records that not all dead nodes
+/// are listed. Allocates nothing.
 fn note_key(entry: &mut Entry, key: NodeKey)
     ensures entry { IsNoting entry.old entry.new }
     ensures garbage { IsNotedIn entry.new key }
@@ -314,7 +317,7 @@ fn note_key(entry: &mut Entry, key: NodeKey)
     entry.garbage_known = false;
 }
 
-/// Notes of the collection whether its node with this key is over now. It takes no memory.
+/// Lists the collection's node with this key, if it is dead now. Allocates nothing.
 pub fn list_garbage(entries: &mut Vec<Entry>, id: CollectionId, key: NodeKey, over: bool)
     requires { AreRising (shelves_of entries.old.items) }
     ensures shelves { shelves_of entries.new.items ≡ shelves_of entries.old.items }
@@ -331,7 +334,7 @@ pub fn list_garbage(entries: &mut Vec<Entry>, id: CollectionId, key: NodeKey, ov
     }
 }
 
-/// Notes those of the collection's nodes with these keys that are over. It takes no memory.
+/// Lists the collection's nodes with these keys that are dead. Allocates nothing.
 fn note_all(table: &NodeTable<Node>, entry: &mut Entry, keys: &[NodeKey])
     requires named { AreNamed table.now }
     ensures entry { IsNoting entry.old entry.new }
@@ -347,8 +350,8 @@ fn note_all(table: &NodeTable<Node>, entry: &mut Entry, keys: &[NodeKey])
     }
 }
 
-/// Notes which nodes of the collection are over once those with these keys went, of which one is or
-/// none. It takes no memory.
+/// Lists the collection's nodes with these keys that are dead, if the caller says that one is.
+/// Allocates nothing.
 pub fn note_gone(table: &NodeTable<Node>, entry: &mut Entry, keys: &[NodeKey], over: bool)
     requires named { AreNamed table.now }
     requires over { over ≡ list_any is_over (nodes_with table.now keys.now) }
@@ -361,8 +364,8 @@ pub fn note_gone(table: &NodeTable<Node>, entry: &mut Entry, keys: &[NodeKey], o
     }
 }
 
-/// Makes room to note nodes of a collection of so many: for none where all are passed over as
-/// cheaply, and for at most 64.
+/// Reserves room for the list of dead nodes of a collection with so many nodes: none where a pass
+/// over all nodes is as cheap, and at most 64 keys.
 pub(crate) fn reserve_notes(garbage: &mut Vec<NodeKey>, nodes: usize) -> Result<(), AllocError>
     ensures { garbage.new.items ≡ garbage.old.items }
 {

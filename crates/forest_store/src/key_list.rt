@@ -11,11 +11,11 @@ use sm_names::NodeKey;
 use std::alloc::{AllocError, Global};
 use std::marker::Model;
 
-/// The keys of a collection's nodes, by birth. Where one is taken out, those on its shorter side
-/// move.
+/// The keys of a collection's nodes, by birth. The removal of a key moves those on its shorter
+/// side.
 #[derive(Drop)]
 pub struct KeyList {
-    // Those before `front` are left over.
+    // The cells before `front` are free.
     cells: Vec<NodeKey>,
     front: usize,
 }
@@ -70,7 +70,7 @@ impl KeyList {
         &self.cells[self.front..]
     }
 
-    /// Makes room for one more.
+    /// Reserves room for one more.
     pub fn reserve_one(&mut self) -> Result<(), AllocError>
         ensures items { self.new.items ≡ self.old.items }
         ensures room { OnOk result (length self.new.items < self.new.capacity) }
@@ -83,7 +83,7 @@ impl KeyList {
         self.cells.reserve(1)
     }
 
-    /// Puts one behind the others.
+    /// Adds one at the end.
     pub fn push(&mut self, key: NodeKey)
         requires room { length self.old.items < self.old.capacity }
         ensures { self.new.items ≡ self.old.items ++ key ∷ [] }
@@ -91,7 +91,7 @@ impl KeyList {
         self.cells.push(key).unwrap();
     }
 
-    /// Takes the key at this place out. It costs a move of those on its shorter side.
+    /// Removes the key at this index. Takes O(n) in the number of keys on its shorter side.
     pub fn remove(&mut self, at: usize)
         requires { at < length self.old.items }
         ensures { self.new.items ≡ remove self.old.items at }
@@ -105,7 +105,7 @@ impl KeyList {
         }
     }
 
-    /// Takes this key out.
+    /// Removes this key.
     pub fn forget(&mut self, key: NodeKey)
         ensures { self.new.items ≡ filter (λ other. not (same_key key other)) self.old.items }
     {
@@ -135,7 +135,7 @@ fn move_down(cells: &mut Vec<NodeKey>, front: usize)
     cells.truncate(left);
 }
 
-// Moves the cells from one place up to another by one, over the one that stands there.
+// Moves the cells from one index up to another by one, over the last of them.
 fn move_up(cells: &mut Vec<NodeKey>, from: usize, to: usize)
     requires order { from ≤ to }
     requires within { to < length cells.old.items }

@@ -23,7 +23,7 @@ pub fn is_strong(node: &Node) -> bool
     is_live(node) && !node.weak
 }
 
-/// Whether the node is gone and its end is spent.
+/// Whether the node is dead: it is gone and its end is spent.
 pub(crate) fn is_over(node: &Node) -> bool
     ensures { result ≡ is_over node.now }
 {

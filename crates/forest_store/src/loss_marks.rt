@@ -1,4 +1,4 @@
-//! How nodes go, and how their units count them no longer.
+//! How a node is marked gone, and how the counts of its unit lose it.
 ghost use Rattle.std.specs.Prelude.{◌≡◌, ◌+◌, Some, true};
 ghost use Rattle.forest_store.specs.LossMarks.{gone_by, lowered, without_below, without_node};
 ghost use Rattle.forest_store.specs.Nodes.{lost};
@@ -15,7 +15,7 @@ fn lowered(count: usize, is: bool) -> usize
     if is && 0 < count { count - 1 } else { count }
 }
 
-/// Counts the node no longer for its unit.
+/// Takes the node from the counts of its unit.
 pub(crate) fn uncount(units: &mut Vec<Unit>, node: &Node)
     ensures { units.new.items ≡ without_node node.now units.old.items }
 {
@@ -29,7 +29,7 @@ pub(crate) fn uncount(units: &mut Vec<Unit>, node: &Node)
     put_unit(units, slot, less);
 }
 
-/// Counts one unit less right below the one with this head.
+/// Takes one unit from those right below the unit with this head.
 pub(crate) fn uncount_below(units: &mut Vec<Unit>, head: Option<NodeKey>)
     ensures { units.new.items ≡ without_below head units.old.items }
 {
@@ -45,16 +45,16 @@ pub(crate) fn uncount_below(units: &mut Vec<Unit>, head: Option<NodeKey>)
     }
 }
 
-/// How nodes go.
+/// Why nodes are marked gone.
 #[derive(Clone, Copy)]
 pub enum Going {
     /// They fail.
     Fails(Fault),
-    /// They leave without a fault.
+    /// Their subtree ends: they have no fault.
     Leaves,
 }
 
-/// The node goes. One that is gone keeps its fault.
+/// Marks the node gone. A node that is gone already keeps its fault.
 pub(crate) fn go(node: &mut Node, going: &Going)
     ensures { node.new ≡ gone_by going.now node.old }
 {

@@ -33,13 +33,13 @@ pub struct Node {
     pub head: NodeKey,
     /// Its unit has its buffers.
     pub allocated: bool,
-    /// It failed, or left with what ended.
+    /// It failed, or a subtree that contains it ended.
     pub gone: bool,
     /// What failed it, if it failed.
     pub fault: Option<Fault>,
-    /// It left without a failure, by a Release on it.
+    /// It was released.
     pub released: bool,
-    /// Once its unit is allocated, its failure goes no further up.
+    /// Once its unit is allocated, its failure does not propagate to its parent.
     pub dispensable: bool,
     /// It keeps no buffer alive.
     pub weak: bool,

@@ -1,4 +1,4 @@
-//! Nodes with some keys, as they stand in the table: what is asked of them before they go, and how they go.
+//! Removal of nodes: what their counts lose, and how each is marked gone in the table.
 ghost use Rattle.std.specs.Prelude.{◌≡◌, ◌≢◌, ◌∷◌, [], Some, None, map, false};
 ghost use Rattle.std.specs.List.{AllPairs, list_any};
 ghost use Rattle.std.specs.Option.{option_map_or};
@@ -22,16 +22,16 @@ use crate::unit_counts::{Unit, head_above};
 use node_table::NodeTable;
 use sm_names::NodeKey;
 
-/// What is to be known of nodes before they go.
+/// What the counts of a collection lose with some nodes.
 #[derive(Clone, Copy)]
 pub struct Recounted {
     /// How many of them are strong and live.
     pub strong: usize,
-    /// How many buffers they camp on that are reserved.
+    /// How many reserved buffers they camp on.
     pub reserved: u128,
 }
 
-/// What is to be known of the nodes with these keys. It costs their number.
+/// What the counts lose with the nodes with these keys. Takes O(n).
 pub fn recount(table: &NodeTable<Node>, keys: &[NodeKey]) -> Recounted
     ensures strong { result.strong ≡ strong_count (nodes_with table.now keys.now) }
     ensures reserved { result.reserved ≡ reserved_count (nodes_with table.now keys.now) }
@@ -49,8 +49,8 @@ pub fn recount(table: &NodeTable<Node>, keys: &[NodeKey]) -> Recounted
     found
 }
 
-/// Counts the node with this key no longer, if it is there and not gone: for its unit, and for the one
-/// right above that, if it heads one.
+/// Takes the node with this key from the counts, if it is there and not gone: from those of its
+/// unit, and, if it heads the unit, from those of the unit right above.
 fn decrement_for(table: &NodeTable<Node>, units: &mut Vec<Unit>, key: NodeKey)
     ensures { units.new.items
         ≡ unreckoned table.now (nodes_with table.now (key ∷ [])) units.old.items }
@@ -63,7 +63,7 @@ fn decrement_for(table: &NodeTable<Node>, units: &mut Vec<Unit>, key: NodeKey)
     }
 }
 
-/// Counts the nodes with these keys no longer, for their units and for those right above.
+/// Takes the nodes with these keys from the counts of their units and of those right above.
 pub fn decrement_all(table: &NodeTable<Node>, units: &mut Vec<Unit>, keys: &[NodeKey])
     ensures { units.new.items
         ≡ unreckoned table.now (nodes_with table.now keys.now) units.old.items }
@@ -73,7 +73,7 @@ pub fn decrement_all(table: &NodeTable<Node>, units: &mut Vec<Unit>, keys: &[Nod
     }
 }
 
-/// The node with this key goes, if it is there. Answers whether it is over then.
+/// Marks the node with this key gone, if it is there. Answers whether it is dead then.
 fn mark_gone(table: &mut NodeTable<Node>, key: NodeKey, going: &Going) -> bool
     ensures none { node_at table.old key ≡ None → table.new ≡ table.old }
     ensures becomes { (n : NodeValue) → node_at table.old key ≡ Some n →
@@ -92,8 +92,7 @@ fn mark_gone(table: &mut NodeTable<Node>, key: NodeKey, going: &Going) -> bool
     }
 }
 
-/// The nodes with these keys go, each in its place. Answers whether one of them is over then. It
-/// costs their number.
+/// Marks the nodes with these keys gone. Answers whether one of them is dead then. Takes O(n).
 pub fn mark_all_gone(table: &mut NodeTable<Node>, keys: &[NodeKey], going: &Going) -> bool
     requires named { AreNamed table.old }
     requires once { AllPairs (λ (a b : Key). a ≢ b) keys.now }

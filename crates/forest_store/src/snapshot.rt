@@ -1,4 +1,4 @@
-//! A collection as it stands, copied out.
+//! A copy of a collection.
 use crate::node::Node;
 use sm_names::{Buffers, CollectionId, HeldBuffer};
 

@@ -33,8 +33,8 @@ pub struct Store {
     pub entries: Vec<Entry>,
 }
 
-/// Puts the end of the node with this key. Answers the node's collection, and whether it is over
-/// then.
+/// Sets the end of the node with this key. Answers the node's collection, and whether the node is
+/// dead then.
 pub fn put_end(table: &mut NodeTable<Node>, key: NodeKey, end: End) -> Option<(CollectionId, bool)>
     ensures none { result ≡ None → node_at table.old key ≡ None }
     ensures told { (n : NodeValue) → node_at table.old key ≡ Some n →
@@ -53,7 +53,7 @@ pub fn put_end(table: &mut NodeTable<Node>, key: NodeKey, end: End) -> Option<(C
     }
 }
 
-/// Puts the entry in the place of the one with its id, or where that would stand.
+/// Replaces the entry with the same id by this one, or inserts it in the order of the ids.
 pub(crate) fn put_entry(entries: &mut Vec<Entry>, entry: Entry)
     requires rising { AreRising (shelves_of entries.old.items) }
     requires room { vec_len entries.old < vec_capacity entries.old }

@@ -1,4 +1,4 @@
-//! What is told of a collection.
+//! The sizes of a collection.
 use sm_names::Buffers;
 
 /// A collection at a glance.

@@ -1,7 +1,7 @@
 -- Attached units that are allocated in their places: what is forced besides stays as it was.
-use Rattle.forest_store.proofs.Common.{◌≡◌, refl, ap, ◌∙◌, Bool, true, false, not, ◌&&◌, ◌||◌, is_none, List, [], ◌∷◌, map, Option, Some, None, list_all, list_any, find, option_map_or, option_and_then, NodeKey, Cause, same_key, when, In-find, and_left, both_ways, false_if, same_key-true, Node, has_strong, waiting, Collection, is_deserted_node, is_ready_node, is_root_left, heads_itself, Decision, Loses, IsSound, is_root_of, option_map}
+use Rattle.forest_store.proofs.Common.{◌≡◌, refl, ap, ◌∙◌, Bool, true, false, not, ◌&&◌, ◌||◌, is_none, List, map, Option, Some, None, list_all, list_any, find, option_map_or, option_and_then, NodeKey, Cause, same_key, when, In-find, and_left, both_ways, false_if, same_key-true, Node, has_strong, waiting, Collection, is_deserted_node, is_ready_node, is_root_left, heads_itself, Decision, Loses, IsSound, is_root_of, option_map}
 use Rattle.forest_store.specs.Falls.{given_all}
-use Rattle.forest_store.proofs.quiescence.Calming.{find_map}
+use Rattle.forest_store.proofs.lists.Elements.{all_map, find_map}
 use Rattle.forest_store.proofs.quiescence.Steps.{all-In, found_by_key}
 
 -- the root is lost, for want of a strong node
@@ -15,11 +15,6 @@ pub record AreQuiescent (nodes : List Node) (strong_open : Bool) : Type 0 where
   pub no_end : find (is_deserted_node nodes) nodes ≡ None
   pub no_loss : losing nodes strong_open (find is_root_left nodes) ≡ None
   pub no_root : waiting nodes ≡ None
-
--- by induction: each element passes as it did before the map
-all_same : (p q : Node → Bool) (f : Node → Node) (ns : List Node) → ((n : Node) → p (f n) ≡ q n) → list_all p (map f ns) ≡ list_all q ns
-all_same p q f [] same = refl
-all_same p q f (n ∷ ns) same = λ i. same n i && all_same p q f ns same i
 
 -- ---- the allocation of attached units leaves them so
 
@@ -38,14 +33,6 @@ module _ (c : Collection) (sound : IsSound c) (hs : List NodeKey) (children : Ar
   abbrev after : List Node
   after = after_all hs c.nodes
 
-  -- allocation does not change whether a node is ready
-  pub ready_on : (head : NodeKey) → list_all (is_ready_node head) after ≡ list_all (is_ready_node head) c.nodes
-  ready_on head = all_same _ _ f c.nodes (λ n. refl)
-
-  -- allocation changes neither parents nor what is gone
-  pub root_on : find is_root_left after ≡ option_map f (find is_root_left c.nodes)
-  root_on = find_map _ _ f c.nodes (λ n. refl)
-
   -- the root is of another unit
   pub root_same : (r : Node) → find is_root_left c.nodes ≡ Some r → (list_any (same_key r.head) hs || r.allocated) ≡ r.allocated
   root_same r e =
@@ -61,7 +48,8 @@ module _ (c : Collection) (sound : IsSound c) (hs : List NodeKey) (children : Ar
   -- the root unit waits or has its buffers, as before
   pub wait_on : waiting c.nodes ≡ None → waiting after ≡ None
   wait_on h =
-      ap (option_and_then (λ (root : Node). when (not root.allocated && list_all (is_ready_node root.key) after) root)) root_on
+      ap (option_and_then (λ (root : Node). when (not root.allocated && list_all (is_ready_node root.key) after) root))
+      (find_map _ _ f c.nodes (λ n. refl))
       ∙ from _ refl h
     where
       from : (o : Option Node) → find is_root_left c.nodes ≡ o →
@@ -69,7 +57,7 @@ module _ (c : Collection) (sound : IsSound c) (hs : List NodeKey) (children : Ar
           option_and_then (λ (root : Node). when (not root.allocated && list_all (is_ready_node root.key) after) root) (option_map f o)
           ≡ None
       from None e h = refl
-      from (Some r) e h = (λ i. when (not (root_same r e i) && ready_on r.key i) (f r))
+      from (Some r) e h = (λ i. when (not (root_same r e i) && all_map (is_ready_node r.key) (is_ready_node r.key) f c.nodes (λ n. refl) i) (f r))
           ∙ still _ h
         where
           still : (b : Bool) → when b r ≡ None → when b (f r) ≡ None

@@ -1,33 +1,21 @@
 -- A unit that is to be allocated, as the table tells before it is.
-use Rattle.forest_store.proofs.Common.{◌≡◌, refl, ap, sym, ◌∙◌, subst, Bool, true, false, not, ◌&&◌, ◌||◌, ◌==◌, inl, inr, is_none, List, [], ◌∷◌, Option, Some, None, eq-eqb, not-true, cons_option, find, list_all, list_any, option_map_or, NodeKey, same_key, In, In-list_any, and_both, and_left, and_right, both_ways, either_way, or_left, or_right, same_key-refl, same_key-true, Table, node_at, parent_at, Node, Unit, unit_at, waits_in, Collection, IsStored, IsWhole, Shelf, collection_in, nodes_with, is_of, is_ready_node, times-zero, HasUnits, has_buffers, IsSound, is_root_of}
+use Rattle.forest_store.proofs.Common.{some-injective, In-any, ◌≡◌, refl, ap, sym, ◌∙◌, subst, Bool, true, false, not, ◌&&◌, ◌||◌, ◌==◌, inl, inr, is_none, List, Option, Some, None, eq-eqb, not-true, find, list_all, list_any, option_map_or, NodeKey, same_key, In, In-list_any, and_both, and_left, and_right, both_ways, either_way, same_key-refl, same_key-true, Table, node_at, parent_at, Node, Unit, unit_at, waits_in, Collection, IsStored, IsWhole, Shelf, collection_in, nodes_with, is_of, is_ready_node, times-zero, HasUnits, has_buffers, IsSound, is_root_of}
 use Rattle.forest_store.specs.UnitAllocation.{hangs_below, has_turn_at, is_left_out, is_of_some, is_waiting_head, left_out_at}
-use Rattle.forest_store.proofs.Basics.{all-In, found_by_key, found_whole, hangs_in_some, in_all, looked_there, left_node, left_parent, head_there}
+use Rattle.forest_store.proofs.Basics.{In-made, all-In, found_by_key, found_whole, hangs_in_some, in_all, looked_there, left_node, left_parent, head_there}
 
 -- a key that passes is one of those that pass
 pub any_key : (test : NodeKey → Bool) (keys : List NodeKey) (key : NodeKey) → list_any (same_key key) keys ≡ true → test key ≡ true →
     list_any test keys ≡ true
-any_key test [] key there h = cc
-any_key test (k ∷ ks) key there h = elim (either_way (same_key key k)) [
-  | inl e ↦ or_left (test k) (list_any test ks) (ap test (sym (same_key-true key k e)) ∙ h)
-  | inr e ↦ or_right (test k) (list_any test ks) (any_key test ks key (rest (same_key key k) (list_any (same_key key) ks) there e) h)
-]
-  where
-    rest : (a b : Bool) → (a || b) ≡ true → a ≡ false → b ≡ true
-    rest true b h e = cc
-    rest false b h e = h
+any_key test keys key there h =
+    let x = In-list_any (same_key key) keys there in
+    In-any test keys x.0 x.1 (ap test (sym (same_key-true key x.0 x.2)) ∙ h)
 
 -- a node that is found by keys has one of them
 pub key_listed : (t : Table Node) → ((key : NodeKey) (n : Node) → node_at t key ≡ Some n → n.key ≡ key) → (keys : List NodeKey) (n : Node) →
     In n (nodes_with t keys) → list_any (same_key n.key) keys ≡ true
-key_listed t named [] n on = absurd on
-key_listed t named (k ∷ ks) n on = by (λ there. key_listed t named ks n there) (node_at t k) refl on
-  where
-    by : (In n (nodes_with t ks) → list_any (same_key n.key) ks ≡ true) → (o : Option Node) → node_at t k ≡ o →
-        In n (cons_option o (nodes_with t ks)) → list_any (same_key n.key) (k ∷ ks) ≡ true
-    by rest None at there = or_right (same_key n.key k) (list_any (same_key n.key) ks) (rest there)
-    by rest (Some m) at (inl is) = or_left (same_key n.key k) (list_any (same_key n.key) ks)
-        (rw (← (ap (λ (x : Node). x.key) is ∙ named k m at)) (same_key-refl n.key))
-    by rest (Some m) at (inr there) = or_right (same_key n.key k) (list_any (same_key n.key) ks) (rest there)
+key_listed t named keys n on =
+    let x = In-made (node_at t) keys n on in
+    In-any (same_key n.key) keys x.0 x.1 (ap (λ k. same_key k x.0) (named x.0 n x.2) ∙ same_key-refl x.0)
 
 -- a node with a parent is no root
 pub no_root : (c : Collection) → IsSound c → (h : Node) → In h c.nodes → (p : NodeKey) → h.parent ≡ Some p → is_root_of c h.key ≡ false
@@ -87,10 +75,6 @@ module _ (t : Table Node) (ss : List Shelf) (kept : IsStored t ss) (s : Shelf) (
   pub at_key : (m : Node) → In m nodes → node_at t m.key ≡ Some m
   at_key m there = in_all _ _ (looked_there t kept.named s.keys) m there
 
-  -- the constructor is injective
-  one_node : (a b : Node) → Some a ≡ Some b → a ≡ b
-  one_node a b e = cc
-
   -- an attached node heads its unit
   heads : (none attached own : Bool) → attached ≡ true → (not (none || attached) || own) ≡ true → (h : Node) → h.key ≡ k →
       own ≡ same_key h.head h.key → h.head ≡ k
@@ -111,13 +95,13 @@ module _ (t : Table Node) (ss : List Shelf) (kept : IsStored t ss) (s : Shelf) (
       let head : Node = h.0 in
       let key : head.key ≡ k = h.2 ∙ own in
       let waits = node_there _ _ (and_left _ _ turn) in
-      let one : waits.0 ≡ head = one_node _ _ (sym waits.1 ∙ (ap (node_at t) (sym key) ∙ at_key _ h.1)) in
+      let one : waits.0 ≡ head = some-injective _ _ (sym waits.1 ∙ (ap (node_at t) (sym key) ∙ at_key _ h.1)) in
       let is : is_waiting_head head ≡ true = rw (← one) waits.2 in
       let above = some_there _ _ (and_right _ _ turn) in
       let over = node_there _ _ above.2 in
       let up = sym (kept.linked head.key head (at_key _ h.1) h.3) ∙ (ap (parent_at t) key ∙ above.1) in
       let left = left_node _ _ (left_parent _ whole_before.rooted _ _ h.1 h.3 up) in
-      let same : over.0 ≡ left.node = one_node _ _ (sym over.1 ∙ (ap (node_at t) (sym left.is) ∙ at_key _ left.on)) in
+      let same : over.0 ≡ left.node = some-injective _ _ (sym over.1 ∙ (ap (node_at t) (sym left.is) ∙ at_key _ left.on)) in
       let serves : has_buffers left.node ≡ true = subst (λ (m : Node). has_buffers m ≡ true) same over.2 in
       record {
         head = head;

@@ -1,7 +1,6 @@
 -- Attached units that become ready are what is allocated next, and nothing after them.
 use Rattle.forest_store.proofs.Common.{◌≡◌, Bool, true, false, not, ◌&&◌, ◌||◌, List, list_any, option_map_or, NodeKey, same_key, In, same_key-true, Node, Collection, is_of, IsSound}
 use Rattle.forest_store.proofs.quiescence.Steps.{all-In}
-use Rattle.forest_store.proofs.allocation.Allocated.{AreChildren}
 
 -- the node's parent is in a unit with one of these heads
 abbrev pub hangs_in_some : List Node → List NodeKey → Node → Bool
@@ -15,7 +14,3 @@ head_own c sound n on attached = same_key-true _ _ (by _ _ _ attached (all-In _ 
     by true attached own e h = h
     by false true own e h = h
     by false false own e h = cc
-
-module _ (c : Collection) (sound : IsSound c) (hs : List NodeKey) (children : AreChildren c hs) where
-  abbrev nodes : List Node
-  nodes = c.nodes

@@ -1,13 +1,10 @@
 -- A change to a collection that is there: what it keeps of the nodes, and where they lie.
-use Rattle.forest_store.proofs.Common.{◌≡◌, ℕ, ◌<◌, ◌==◌, true, false, ◌&&◌, not, List, [], ◌∷◌, map, Option, Some, None, option_map, is_some, cond, refl, sym, ap, ◌∙◌, inl, inr, arith, list_any, list_all, find, cons_option, AllByRecursion, option_map_or, eqb-true, eq-eqb, lt-ltb, false≢true, NodeKey, same_key, and_left, and_right, or_cases, same_key-true, Table, node_at, Change, Effect, Node, Collection, with_nodes, Shelf, AreRising, IsStored, IsWhole, put_shelf, collection_in, nodes_with, forest_of, all_keys, are_filed, is_filed, affected, ne_eqb, ltb-true, list_any-append, all_of, lost, is_taken, changed, is_birth, no_key, is_there, has_collection, In-find, either_way}
-use Rattle.forest_store.proofs.tables.Hanging.{all_at}
-use Rattle.sm_names.specs.declared.rules.TheConstants.{MAX_NODE_TRACKERS}
-use Rattle.forest_store.specs.Forest.{node_at as forest_node}
-use Rattle.forest_store.specs.Scenes.{has_tracker_room}
-use Rattle.forest_store.specs.Settling.{fits}
+use Rattle.forest_store.proofs.Common.{list_any-map, all_on, In-list_any, or_left, or_right, ◌≡◌, ℕ, ◌<◌, ◌==◌, true, false, ◌&&◌, not, List, [], ◌∷◌, map, Option, Some, None, is_some, refl, sym, ap, ◌∙◌, inl, inr, arith, list_any, list_all, find, AllByRecursion, option_map_or, eqb-true, eq-eqb, lt-ltb, false≢true, NodeKey, same_key, and_left, and_right, or_cases, same_key-true, Table, node_at, Change, Effect, Node, Collection, with_nodes, Shelf, AreRising, IsStored, IsWhole, put_shelf, collection_in, nodes_with, forest_of, all_keys, are_filed, is_filed, affected, ne_eqb, ltb-true, list_any-append, all_of, lost, is_taken, changed, is_birth, is_there, has_collection, In-find, either_way, find-none, is_some-find, MAX_NODE_TRACKERS, forest_node, has_tracker_room, fits}
+use Rattle.forest_store.proofs.lists.Elements.{In-made, all_at, each_none, map-same}
+use Rattle.forest_store.proofs.quiescence.Steps.{all-In}
 use Rattle.forest_store.proofs.changes.Finishing.{keys_in}
 use Rattle.forest_store.proofs.shelves.Putting.{cases_place, above-weaker}
-use Rattle.forest_store.proofs.shelves.Showing.{node_is, collection_is, filed_found}
+use Rattle.forest_store.proofs.shelves.Showing.{node_is, filed_found}
 use Rattle.forest_store.proofs.tables.Writing.{IsSameNode}
 
 -- ---- what a change keeps
@@ -22,11 +19,6 @@ same_affected key (Effect.Constrained demand) n = record { key = refl; parent = 
 same_affected key Effect.Taken n = record { key = refl; parent = refl; attached = refl; collection = refl; head = refl }
 same_affected key Effect.Released n = record { key = refl; parent = refl; attached = refl; collection = refl; head = refl }
 same_affected key Effect.Tracked n = record { key = refl; parent = refl; attached = refl; collection = refl; head = refl }
-
--- each node as itself
-unchanged : (ns : List Node) → map (λ (n : Node). n) ns ≡ ns
-unchanged [] = refl
-unchanged (n ∷ ns) = ap (λ l. n ∷ l) (unchanged ns)
 
 -- a change that is no birth makes each node another, with the same key, links, collection and unit
 pub record MakesNodes (c now : Collection) : Type 0 where
@@ -46,7 +38,7 @@ change_makes (Change.Loss origin cause) key c h = record {
 change_makes Change.Nothing key c h = record {
   of = λ n. n;
   same = λ n. record { key = refl; parent = refl; attached = refl; collection = refl; head = refl };
-  is = λ i. record c { nodes = sym (unchanged c.nodes) i };
+  is = λ i. record c { nodes = sym (map-same (λ (n : Node). n) c.nodes (λ n on. refl)) i };
 }
 
 -- ---- the shelf of a collection
@@ -58,10 +50,9 @@ Some-shelf x s e = cc
 -- no shelf of a greater id is found
 pub none_above : (id : ℕ) (ss : List Shelf) → AllByRecursion (λ (later : Shelf). id < later.id) ss →
     find (λ (s : Shelf). s.id == id) ss ≡ None
-none_above id [] all = refl
-none_above id (s ∷ ss) all =
-    let other : (s.id == id) ≡ false = ne_eqb _ _ (λ same. omega (arith, all.0)) in
-    rw other (none_above id ss all.1)
+none_above id ss all = find-none _ ss (each_none _ ss (λ s on.
+    let less : id < s.id = all_at _ _ all s on in
+    ne_eqb s.id id (λ same. omega arith)))
 
 -- a shelf that is found has the id
 pub found_id : (id : ℕ) (ss : List Shelf) (s : Shelf) → find (λ (x : Shelf). x.id == id) ss ≡ Some s → s.id ≡ id
@@ -77,47 +68,32 @@ found_put s (x ∷ xs) rising found = cases_place _ _ _
     let none = none_above _ _ (above-weaker _ _ _ less rising.0) in
     absurd (cc)) (λ other below. rw (other, below) (ap (λ l. x ∷ l) (found_put s xs rising.1 (rw other at found))))
 
--- by what the first key finds
-looked-of-by : (id : ℕ) (o : Option Node) (ns : List Node) → option_map_or (λ (n : Node). n.collection == id) o false ≡ true →
-    all_of id ns ≡ true → all_of id (cons_option o ns) ≡ true
-looked-of-by id None ns filed on = on
-looked-of-by id (Some n) ns filed on = rw (filed, on) refl
-
 -- the nodes of filed keys are of the collection
 pub looked-of : (t : Table Node) (id : ℕ) (keys : List NodeKey) → list_all (is_filed t id) keys ≡ true →
     all_of id (nodes_with t keys) ≡ true
-looked-of t id [] filed = refl
-looked-of t id (k ∷ ks) filed =
-    looked-of-by id (node_at t k) (nodes_with t ks) (and_left _ _ filed) (looked-of t id ks (and_right _ _ filed))
+looked-of t id keys filed = all_on _ _ (λ n on.
+    let x = In-made (node_at t) keys n on in
+    rw x.2 at (all-In (is_filed t id) keys x.0 x.1 filed))
 
 -- a key that is filed has a node of the collection
 pub filed_at : (t : Table Node) (id : ℕ) (keys : List NodeKey) (key : NodeKey) (n : Node) → list_all (is_filed t id) keys ≡ true →
     node_at t key ≡ Some n → list_any (same_key key) keys ≡ true → (n.collection == id) ≡ true
-filed_at t id [] key n filed is there = absurd (false≢true there)
-filed_at t id (k ∷ ks) key n filed is there = elim (or_cases (same_key key k) (list_any (same_key key) ks) there) [
-  | inl here ↦
-      let found : node_at t k ≡ Some n = ap (node_at t) (sym (same_key-true key k here)) ∙ is in
-      let own : is_filed t id k ≡ true = and_left _ _ filed in
-      rw found at own
-  | inr behind ↦ filed_at t id ks key n (and_right _ _ filed) is behind
-]
-
--- a shelf that is found behind another is found
-found_behind : (s : Shelf) (ss : List Shelf) (id : ℕ) → is_some (find (λ (x : Shelf). x.id == id) ss) ≡ true →
-    is_some (find (λ (x : Shelf). x.id == id) (s ∷ ss)) ≡ true
-found_behind s ss id found =
-    elim (s.id == id) as (λ b. is_some (cond b (Some s) (find (λ (x : Shelf). x.id == id) ss)) ≡ true) [ true ↦ refl | false ↦ found ]
+filed_at t id keys key n filed is there =
+    let x = In-list_any (same_key key) keys there in
+    rw (ap (node_at t) (sym (same_key-true key x.0 x.2)) ∙ is) at (all-In (is_filed t id) keys x.0 x.1 filed)
 
 -- a node that is there is of a collection that is there
 pub kept_of : (t : Table Node) (ss : List Shelf) (key : NodeKey) (n : Node) → are_filed t ss ≡ true → node_at t key ≡ Some n →
     list_any (same_key key) (all_keys ss) ≡ true → is_some (find (λ (s : Shelf). s.id == n.collection) ss) ≡ true
-kept_of t [] key n filed is there = absurd (false≢true there)
-kept_of t (s ∷ ss) key n filed is there = elim (or_cases _ _ (sym (list_any-append (same_key key) s.keys (all_keys ss)) ∙ there)) [
-  | inl here ↦
-      let own : (n.collection == s.id) ≡ true = filed_at t s.id s.keys key n (and_left _ _ filed) is here in
-      rw (eq-eqb s.id n.collection (sym (eqb-true _ _ own))) refl
-  | inr behind ↦ found_behind s ss n.collection (kept_of t ss key n (and_right _ _ filed) is behind)
-]
+kept_of t ss key n filed is there = is_some-find _ ss ∙ kept ss filed there
+  where
+    kept : (ss : List Shelf) → are_filed t ss ≡ true → list_any (same_key key) (all_keys ss) ≡ true →
+        list_any (λ (s : Shelf). s.id == n.collection) ss ≡ true
+    kept [] filed there = absurd (false≢true there)
+    kept (s ∷ ss) filed there = elim (or_cases _ _ (sym (list_any-append (same_key key) s.keys (all_keys ss)) ∙ there)) [
+      | inl here ↦ or_left _ _ (eq-eqb s.id n.collection (sym (eqb-true _ _ (filed_at t s.id s.keys key n (and_left _ _ filed) is here))))
+      | inr behind ↦ or_right _ _ (kept ss (and_right _ _ filed) behind)
+    ]
 
 -- by the node
 there_kept-by : (t : Table Node) (ss : List Shelf) → IsStored t ss → (id : ℕ) (key : NodeKey) (o : Option Node) → node_at t key ≡ o →
@@ -134,15 +110,12 @@ there_kept t ss ok id key there =
     there_kept-by t _ ok _ _ _ refl (ap (λ o. option_map_or (λ (n : Node). n.collection == id && not n.gone) o false)
     (sym (node_is t _ ok key)) ∙ there)
 
--- what is kept of a shelf is kept of a collection
-mapped_some : (t : Table Node) (o : Option Shelf) → is_some (option_map (collection_in t) o) ≡ is_some o
-mapped_some t None = refl
-mapped_some t (Some s) = refl
-
 -- a collection that is kept has a shelf
 collection_kept : (t : Table Node) (ss : List Shelf) (id : ℕ) → has_collection (forest_of t ss) id ≡ true →
     is_some (find (λ (s : Shelf). s.id == id) ss) ≡ true
-collection_kept t ss id fit = sym (mapped_some t _) ∙ ap is_some (sym (collection_is t id ss)) ∙ fit
+collection_kept t ss id fit = is_some-find _ ss
+    ∙ sym (list_any-map (λ (c : Collection). c.id == id) (λ (s : Shelf). s.id == id) (collection_in t) ss (λ s on. refl))
+    ∙ sym (is_some-find (λ (c : Collection). c.id == id) (map (collection_in t) ss)) ∙ fit
 
 -- a collection that is changed is there
 pub change_kept : (t : Table Node) (ss : List Shelf) → IsStored t ss → (id : ℕ) (change : Change) → is_birth change ≡ false →
@@ -185,10 +158,3 @@ found_filed t id ss s filed found = filed_found t id ss filed s found
 pub found_whole : (t : Table Node) (id : ℕ) (ss : List Shelf) (s : Shelf) → AllByRecursion (λ (x : Shelf). IsWhole (collection_in t x)) ss →
     find (λ (x : Shelf). x.id == id) ss ≡ Some s → IsWhole (collection_in t s)
 found_whole t id ss s all found = all_at _ _ all s (In-find _ _ s found).0
-
-module _ (t : Table Node) (ss : List Shelf) (ok : IsStored t ss) (id : ℕ) (s : Shelf)
-    (found : find (λ (x : Shelf). x.id == id) ss ≡ Some s) (change : Change) (birth : is_birth change ≡ false)
-    (c now : Collection) (loaded : c ≡ collection_in t s) (became : now ≡ changed change no_key c) where
-  -- its keys are filed
-  own : list_all (is_filed t s.id) s.keys ≡ true
-  own = found_filed t id ss s ok.filed found

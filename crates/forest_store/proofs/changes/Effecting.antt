@@ -1,14 +1,12 @@
 -- An effect that is made in its place, and what the count of strong live nodes becomes.
-use Rattle.forest_store.proofs.Common.{◌≡◌, ◌≢◌, ℕ, zero, suc, ◌+◌, ◌==◌, Bool, true, false, ◌||◌, ◌&&◌, not, if◌then◌else◌, is_some, ◌<◌, ◌⊎◌, inl, inr, List, [], ◌∷◌, map, length, set, Option, Some, option_map, refl, sym, ap, subst, ◌∙◌, arith, eqb-true, lt-ltb, not-true, list_all, option_map_or, NodeKey, Cause, same_key, times, In, In-find, In-map, In-map-back, and_both, and_left, and_right, both_ways, either_way, same_key-refl, same_key-true, Table, node_at, Change, Effect, Node, Unit, strong_count, AreUnits, lives_in, unit_at, waits_in, Collection, IsStored, IsWhole, Shelf, collection_in, forest_of, is_filed, nodes_with, affected, is_over, is_live_node, is_head, get_or-set_other, get_or-set_same, length-set, and-false, or_none_right, Writes, table_with_node, HasUnit, HasUnits, heads_below, is_unready, no_unit, unit_of, bit, Stores, is_strong, is_there}
-use Rattle.forest_store.specs.Counts.{decrement_if}
-use Rattle.forest_store.specs.Unforced.{MayAffect, is_plain}
+use Rattle.forest_store.proofs.Common.{◌≡◌, ◌≢◌, ℕ, zero, suc, ◌+◌, ◌==◌, Bool, true, false, ◌||◌, ◌&&◌, not, if◌then◌else◌, is_some, ◌<◌, ◌⊎◌, inl, inr, List, map, length, set, Option, Some, option_map, refl, sym, ap, subst, ◌∙◌, arith, eqb-true, lt-ltb, not-true, list_all, option_map_or, NodeKey, Cause, same_key, times, In, In-find, In-map, In-map-back, and_both, and_left, and_right, both_ways, either_way, same_key-refl, same_key-true, Table, node_at, Change, Effect, Node, Unit, strong_count, AreUnits, lives_in, unit_at, waits_in, Collection, IsStored, IsWhole, Shelf, collection_in, is_filed, nodes_with, affected, is_over, is_live_node, is_head, get_or-set_other, get_or-set_same, length-set, and-false, or_none_right, Writes, table_with_node, HasUnit, HasUnits, heads_below, is_unready, no_unit, unit_of, bit, is_strong, decrement_if, MayAffect, is_plain}
 use Rattle.forest_store.proofs.tables.LeftParents.{loss_left}
 use Rattle.forest_store.proofs.tallies.Slots.{Stays, all_at, but_all, but_join, but_moved, but_stays, one_shelf, one_slot}
 use Rattle.forest_store.proofs.Basics.{together_effect, times_changed, found_filed, found_whole, looked-of, same_affected, IsPlain, collection-beside, all_in, in_all, looked_there, head_there, below_mapped, looked-map, lives_other, lives_own, waits_other, waits_own, IsLeft, left_node, node_is, all-In, Stores-more, Stores-none, IsSameNode, kept-map, look-changed, parents-written}
 
 -- ---- what an effect does to a node
 
--- one that neither releases nor sets constraints changes of a node what the forced steps read only in its weakness
+-- an effect that neither releases nor sets constraints keeps what the steps read but weakness
 pub plain_affected : (key : NodeKey) (effect : Effect) → is_plain effect ≡ true → (n : Node) → IsPlain (affected key effect n) n
 plain_affected key Effect.Bound is n =
     record { key = refl; parent = refl; attached = refl; head = refl; allocated = refl; gone = refl; released = refl; asks = refl }
@@ -36,7 +34,7 @@ alone_affected key Effect.Taken m other = rw other refl
 alone_affected key Effect.Released m other = rw other refl
 alone_affected key Effect.Tracked m other = rw other refl
 
--- no effect changes whether a node is gone, allocated, or over; it is released, weak, and asks for good
+-- no effect changes whether a node is gone, allocated or dead; releases and demands stay
 pub record Remains (m n : Node) : Type 0 where
   pub gone : m.gone ≡ n.gone
   pub allocated : m.allocated ≡ n.allocated
@@ -82,7 +80,7 @@ live_before key effect n h =
     let r = remains_affected key effect n in
     and_both _ _ (ap not (sym r.gone) ∙ and_left _ _ h) (ap not (r.released (not-true _ (and_right _ _ h))))
 
--- a node that is strong after the effect was live and strong before, since effects only take these away
+-- a node that is strong after the effect was strong before, since effects only take this away
 pub strong_before : (key : NodeKey) (effect : Effect) (n : Node) → is_strong (affected key effect n) ≡ true → is_strong n ≡ true
 strong_before key effect n h = and_both _ _ (live_before key effect n (and_left _ _ h))
     (ap not ((remains_affected key effect n).weak (not-true _ (and_right _ _ h))))
@@ -153,14 +151,10 @@ module _ (t now : Table Node) (us : List Unit) (key : NodeKey) (effect : Effect)
   pub whole : IsWhole (collection_in t s)
   whole = found_whole t _ _ s opens.kept.whole opens.found
 
-  -- the node is one of the collection
-  fit : is_there (forest_of t ss) s.id key ≡ true
-  fit = opens.named
-
   -- the node is of the collection and not gone, so it is one of those left
   left : IsLeft nodes key
   left = left_node _ _ (loss_left t ss opens.kept s.id (Change.Loss key Cause.Lost)
-      (record { named = fit; room = λ e. cc; heads = refl; trackers = λ k m e. cc }) s opens.found)
+      (record { named = opens.named; room = λ e. cc; heads = refl; trackers = λ k m e. cc }) s opens.found)
 
   -- each node stands in the table under its key
   pub at_key : (m : Node) → In m nodes → node_at t m.key ≡ Some m
@@ -191,15 +185,12 @@ module _ (t now : Table Node) (us : List Unit) (key : NodeKey) (effect : Effect)
       ap (is_filed t s.id) own ∙ ap (λ (o : Option Node). option_map_or (λ (m : Node). m.collection == s.id) o false) was
       ∙ and_left _ _
       (ap (λ (o : Option Node). option_map_or (λ (m : Node). m.collection == s.id && not m.gone) o false) (sym (node_is t _ opens.kept key
-      ∙ was)) ∙ fit)
-
-  -- one node is written, and nothing else
-  pub stores : Stores t now (f n ∷ [])
-  stores = Stores-more t t _ _ _ opens.kept.named (Stores-none t) becomes writes
+      ∙ was)) ∙ opens.named)
 
   -- the other collections stay
   pub beside_same : (x : Shelf) → x.id ≢ s.id → list_all (is_filed t x.id) x.keys ≡ true → collection_in now x ≡ collection_in t x
-  beside_same x differ own_filed = collection-beside t now _ _ stores opens.kept.named
+  beside_same x differ own_filed = collection-beside t now _ _
+      (Stores-more t t _ _ _ opens.kept.named (Stores-none t) becomes writes) opens.kept.named
       (and_both _ _ filed refl) x differ own_filed
 
   -- ---- the units
@@ -244,18 +235,14 @@ module _ (t now : Table Node) (us : List Unit) (key : NodeKey) (effect : Effect)
   pub count_is : (test : Node → Bool) → times test (map f nodes) + bit (test n) ≡ times test nodes + bit (test (f n))
   count_is test = times_changed test f _ n whole.sound.distinct on (λ m there other. alone m other)
 
-  -- a head is of its own unit
-  own_unit : same_key n.head n.head ≡ true
-  own_unit = same_key-refl n.head
-
   -- the effect keeps the head
   own_unit_now : same_key (f n).head n.head ≡ true
-  own_unit_now = ap (λ (k : NodeKey). same_key k n.head) (same n).head ∙ own_unit
+  own_unit_now = ap (λ (k : NodeKey). same_key k n.head) (same n).head ∙ same_key-refl n.head
 
   -- the count of the unit's live nodes changes by the one node
   pub live_is : n.head.slot < length us → times (lives_in n.head) (map f nodes) + bit (is_live_node n) ≡ (unit_at us n.head.slot).live + bit
       (is_live_node (f n))
-  live_is within = ap (λ (b : Bool). times (lives_in n.head) (map f nodes) + bit b) (sym (lives_own _ n own_unit))
+  live_is within = ap (λ (b : Bool). times (lives_in n.head) (map f nodes) + bit b) (sym (lives_own _ n (same_key-refl n.head)))
       ∙ (count_is _
       ∙ (λ i. (sym unit_is i).live + bit (lives_own n.head (f n) own_unit_now i)))
 
@@ -263,7 +250,7 @@ module _ (t now : Table Node) (us : List Unit) (key : NodeKey) (effect : Effect)
   pub unready_is : n.head.slot < length us →
       times (waits_in n.head) (map f nodes) + bit (is_unready n) ≡ (unit_at us n.head.slot).unready + bit (is_unready (f n))
   unready_is within =
-      ap (λ (b : Bool). times (waits_in n.head) (map f nodes) + bit b) (sym (waits_own _ n own_unit))
+      ap (λ (b : Bool). times (waits_in n.head) (map f nodes) + bit b) (sym (waits_own _ n (same_key-refl n.head)))
       ∙ (count_is _
       ∙ (λ i. (sym unit_is i).unready + bit (waits_own n.head (f n) own_unit_now i)))
 
@@ -272,7 +259,7 @@ module _ (t now : Table Node) (us : List Unit) (key : NodeKey) (effect : Effect)
     abbrev pub after_one : List Unit
     after_one = set us n.head.slot next
 
-    -- the slot that is written is that of a head of this collection, so no slot of another's changes
+    -- the slot that is written is that of a head of this collection, so no other's changes
     pub stays_one : Stays t s.id us after_one
     stays_one k m at differ inside = (
       subst (λ (l : ℕ). k.slot < l) (sym (length-set us n.head.slot next)) inside,
@@ -300,10 +287,6 @@ module _ (t now : Table Node) (us : List Unit) (key : NodeKey) (effect : Effect)
         let w : times (waits_in k) (map f nodes) ≡ times (waits_in k) nodes = omega arith in
         λ i. record { live = l i; unready = w i; below = below_same k i }
 
-    -- no effect changes how many units hang right below
-    below_now : next.below ≡ times (heads_below (map f nodes) n.head) (map f nodes)
-    below_now = below_next ∙ ap (λ (u : Unit). u.below) unit_is ∙ sym (below_same n.head)
-
     -- the unit of the node has the new counts, and each other one the old ones
     pub has_one : HasUnits after_one (map f nodes)
     has_one = all_in _ _ (λ m there.
@@ -314,17 +297,19 @@ module _ (t now : Table Node) (us : List Unit) (key : NodeKey) (effect : Effect)
         one_of : (x : Node) → In x nodes → (same_key n.head x.key ≡ true) ⊎ (same_key n.head x.key ≡ false) →
             HasUnit after_one (map f nodes) x
         one_of x there (inl e) =
+            let below : next.below ≡ times (heads_below (map f nodes) n.head) (map f nodes) =
+            below_next ∙ ap (λ (u : Unit). u.below) unit_is ∙ sym (below_same n.head) in
             subst (λ (k : NodeKey). (k.slot < length after_one) × (unit_at after_one k.slot ≡ unit_of (map f nodes) k))
             (same_key-true _ _ e) (
               rw (length-set us n.head.slot next) within,
               get_or-set_same us n.head.slot next no_unit within
-                  ∙ (λ i. record { live = live_next i; unready = unready_next i; below = below_now i }),
+                  ∙ (λ i. record { live = live_next i; unready = unready_next i; below = below i }),
             )
         one_of x there (inr e) =
             let had = in_all _ _ unit_has x there in (
               rw (length-set us n.head.slot next) had.0,
               get_or-set_other us n.head.slot x.key.slot next no_unit (λ slots.
                   let one : x.key ≡ n.head = one_slot t _ _ x _ (at_key x there) head_at slots in
-                  both_ways _ (ap (same_key n.head) one ∙ own_unit) e)
+                  both_ways _ (ap (same_key n.head) one ∙ same_key-refl n.head) e)
                   ∙ (had.1 ∙ sym (other_unit _ e)),
             )

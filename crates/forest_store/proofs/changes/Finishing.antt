@@ -1,10 +1,11 @@
 -- What stays true where a collection that was worked on is put back.
-use Rattle.forest_store.proofs.Common.{◌≡◌, ◌≢◌, ℕ, ◌<◌, ◌==◌, Bool, true, false, List, [], ◌∷◌, map, Option, Some, None, option_map, is_some, cond, refl, sym, ap, ◌∙◌, inl, inr, arith, list_all, AllByRecursion, cons_option, option_map_or, eqb-true, eqb-false, false≢true, NodeKey, same_key, and_left, and_right, same_key-true, Table, node_at, parent_at, Node, Collection, Shelf, AreRising, IsStored, IsWhole, put_shelf, collection_in, nodes_with, all_keys, are_filed, is_filed, put, cases_eq, ltb-true, was_given, Stores, all_of, stored, written}
-use Rattle.forest_store.specs.Shelves.{AreHeadsGiven}
+use Rattle.forest_store.proofs.Common.{◌≡◌, ◌≢◌, ℕ, ◌==◌, Bool, true, false, List, [], ◌∷◌, map, Option, Some, None, option_map, is_some, cond, refl, sym, ap, ◌∙◌, inl, inr, list_all, AllByRecursion, cons_option, option_map_or, eqb-true, false≢true, NodeKey, same_key, and_left, and_right, same_key-true, Table, node_at, parent_at, Node, Collection, Shelf, AreRising, IsStored, IsWhole, put_shelf, collection_in, nodes_with, all_keys, is_filed, put, cases_eq, was_given, Stores, all_of, stored, AreHeadsGiven}
 use Rattle.forest_store.proofs.tables.Kin.{kin_kept}
 use Rattle.forest_store.proofs.tables.Writing.{given-same}
 use Rattle.forest_store.proofs.tables.Hanging.{in_all}
-use Rattle.forest_store.proofs.shelves.Putting.{cases_place, rising-put, keys-put, filed-same, filed-put, above-weaker}
+use Rattle.forest_store.proofs.lists.Elements.{all_mapped, made-In}
+use Rattle.forest_store.proofs.quiescence.Steps.{all-In}
+use Rattle.forest_store.proofs.shelves.Putting.{cases_place, rising-put, keys-put, filed-same, filed-put}
 use Rattle.forest_store.proofs.tables.Storing.{stored-key, stored_one}
 
 -- the keys of nodes
@@ -33,16 +34,12 @@ looked-keys t id named (k ∷ ks) filed =
 
 -- ---- collections
 
--- by whether it is written over
-written-of : (id : ℕ) (m n : Node) (same : Bool) → m.collection ≡ id → n.collection ≡ id → (cond same m n).collection ≡ id
-written-of id m n true mine own = mine
-written-of id m n false mine own = own
-
 -- a node of the collection stays of it
 stored-of : (id : ℕ) (ns : List Node) (n : Node) → all_of id ns ≡ true → n.collection ≡ id → (stored ns n).collection ≡ id
-stored-of id [] n all own = own
-stored-of id (m ∷ ms) n all own =
-    stored-of id ms (written m n) (and_right _ _ all) (written-of _ m n _ (eqb-true _ _ (and_left _ _ all)) own)
+stored-of id ns n all own = elim (stored_one ns n) [
+  | inl same ↦ ap (λ (m : Node). m.collection) same ∙ own
+  | inr on ↦ eqb-true _ id (all-In (λ (m : Node). m.collection == id) ns (stored ns n) on all)
+]
 
 -- a node of another collection has none of these keys
 unwritten : (t : Table Node) (id : ℕ) (m n : Node) (same : Bool) → same_key m.key n.key ≡ same → is_filed t id m.key ≡ true →
@@ -75,13 +72,10 @@ nodes-beside : (t now : Table Node) (id : ℕ) (ns : List Node) →
     ((key : NodeKey) → node_at now key ≡ option_map (stored ns) (node_at t key)) → ((key : NodeKey) (n : Node) → node_at t key ≡ Some n →
     n.key ≡ key) → list_all (is_filed t id) (keys_in ns) ≡ true → (other : ℕ) → other ≢ id → (keys : List NodeKey) →
     list_all (is_filed t other) keys ≡ true → nodes_with now keys ≡ nodes_with t keys
-nodes-beside t now id ns look named own other differ [] filed = refl
-nodes-beside t now id ns look named own other differ (k ∷ ks) filed =
-    let rest : nodes_with now ks ≡ nodes_with t ks = nodes-beside t now id ns look named own other differ ks (and_right _ _ filed) in
-    rw (look k, rest)
-    (ap (λ o. cons_option o (nodes_with t ks)) (node-beside t _ _ own _ differ k _ refl (named k) (and_left _ _ filed)))
+nodes-beside t now id ns look named own other differ keys filed = made-In _ _ keys (λ k on.
+    look k ∙ node-beside t id ns own other differ k _ refl (named k) (all-In (is_filed t other) keys k on filed))
 
--- what holds while a collection is put back: its nodes are in the table, in the places of those with their keys
+-- a collection is put back: its nodes are stored in the table
 module _ (t now : Table Node) (id : ℕ) (ns : List Node) (stores : Stores t now ns) (named : (key : NodeKey) (n : Node) →
     node_at t key ≡ Some n → n.key ≡ key) (own : list_all (is_filed t id) (keys_in ns) ≡ true) where
   -- a node that is written over is of its collection still
@@ -111,34 +105,6 @@ module _ (t now : Table Node) (id : ℕ) (ns : List Node) (stores : Stores t now
     buffers = s.buffers;
     held = s.held;
   }
-
-  -- so all of greater ids
-  collections-above : (ss : List Shelf) → AllByRecursion (λ (later : Shelf). id < later.id) ss → are_filed t ss ≡ true →
-      map (collection_in now) ss ≡ map (collection_in t) ss
-  collections-above [] all filed = refl
-  collections-above (s ∷ ss) all filed =
-      let first : collection_in now s ≡ collection_in t s = collection-beside s (λ same. omega (arith, all.0)) (and_left _ _ filed) in
-      let rest : map (collection_in now) ss ≡ map (collection_in t) ss = collections-above ss all.1 (and_right _ _ filed) in
-      λ i. first i ∷ rest i
-
-  -- all collections, with that one put back
-  pub collections-put : (new old : Shelf) (ss : List Shelf) → new.id ≡ id → old.id ≡ new.id → AreRising ss →
-      are_filed t (put_shelf old ss) ≡ true →
-      map (collection_in now) (put_shelf new ss) ≡ put (collection_in now new) (map (collection_in t) ss)
-  collections-put new old [] is was rising filed = refl
-  collections-put new old (s ∷ ss) is was rising filed = cases_place _ _ _
-      (λ same. rw same (ap (λ cs. collection_in now new ∷ cs)
-      (collections-above _ (rw (← (eqb-true s.id new.id same
-      ∙ is)) rising.0) (and_right _ _ (rw (was, same) at filed))))) (λ other above.
-      let less : id < s.id = omega (arith, is, ltb-true _ _ above) in
-      rw (other, above) (ap (λ cs. collection_in now new ∷ cs)
-      (collections-above (s ∷ ss) (less, above-weaker id s.id ss less rising.0) (and_right _ _ (rw (was, other, above) at filed)))))
-      (λ other below.
-      let differ : s.id ≢ id = λ same. eqb-false s.id new.id other (same ∙ sym is) in
-      let parts = rw (was, other, below) at filed in
-      let first : collection_in now s ≡ collection_in t s = collection-beside s differ (and_left _ _ parts) in
-      let rest = collections-put new old ss is was rising.1 (and_right _ _ parts) in
-      rw (other, below) (λ i. first i ∷ rest i))
 
   -- a node that is found was found under the same key
   found-before : (key : NodeKey) (o : Option Node) (n : Node) → option_map (stored ns) o ≡ Some n → (m : Node) × (o ≡ Some m) ×
@@ -208,8 +174,7 @@ module _ (t now : Table Node) (id : ℕ) (ns : List Node) (stores : Stores t now
 -- of shelves and of their collections
 pub whole-map : (t : Table Node) (ss : List Shelf) → AllByRecursion (λ (s : Shelf). IsWhole (collection_in t s)) ss →
     AllByRecursion IsWhole (map (collection_in t) ss)
-whole-map t [] all = tt
-whole-map t (s ∷ ss) all = (all.0, whole-map t ss all.1)
+whole-map t ss all = all_mapped _ _ ss all
 
 -- and back
 pub whole-unmap : (t : Table Node) (ss : List Shelf) → AllByRecursion IsWhole (map (collection_in t) ss) →

@@ -1,7 +1,5 @@
 -- A collection to which an effect may be made, found at the place of its id.
-use Rattle.forest_store.proofs.Common.{◌≡◌, ℕ, ◌==◌, List, get_or, Some, option_map, sym, ap, subst, ◌∙◌, find, Table, Change, Entry, Node, Unit, IsStored, Shelf, forest_of, shelf_of, shelves_of, AreCounted, IsCounted, MayChange}
-use Rattle.forest_store.specs.Counts.{HaveUnits}
-use Rattle.forest_store.specs.Unforced.{IsOpen}
+use Rattle.forest_store.proofs.Common.{◌≡◌, ℕ, ◌==◌, List, get_or, Some, option_map, sym, ap, subst, ◌∙◌, find, Table, Change, Entry, Node, Unit, IsStored, Shelf, forest_of, shelf_of, shelves_of, AreCounted, IsCounted, MayChange, HaveUnits, IsOpen}
 use Rattle.forest_store.proofs.shelves.Entries.{IsPlace}
 use Rattle.forest_store.proofs.shelves.Showing.{shelf_found}
 use Rattle.forest_store.proofs.quiescence.Watched.{found_counted}
@@ -9,17 +7,11 @@ use Rattle.forest_store.proofs.quiescence.Watched.{found_counted}
 module _ (t : Table Node) (es : List Entry) (id at : ℕ) (old : Entry) (place : IsPlace id es at) (is : old ≡ get_or es at old)
     (kept : IsStored t (shelves_of es)) (all : AreCounted t es) (us : List Unit) (units : HaveUnits us t es) (change : Change)
     (may : MayChange (forest_of t (shelves_of es)) id change) where
-  -- the entry at the place has the id that was looked for
-  own_id : old.id ≡ id
-  own_id = ap (λ (e : Entry). e.id) is ∙ place.id_is old
-
-  -- the place is that of the first entry with the id
-  found : find (λ (e : Entry). e.id == id) es ≡ Some old
-  found = place.found old ∙ ap Some (sym is)
-
   -- the entry at the place is counted, as each is, and its shelf is found
   pub opens_at : IsOpen t us (shelves_of es) (shelf_of old) change old.strong
   opens_at =
+      let own_id : old.id ≡ id = ap (λ (e : Entry). e.id) is ∙ place.id_is old in
+      let found : find (λ (e : Entry). e.id == id) es ≡ Some old = place.found old ∙ ap Some (sym is) in
       let counted : IsCounted t old = found_counted t _ _ _ all found in
       record {
         kept = kept;

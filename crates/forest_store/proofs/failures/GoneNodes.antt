@@ -1,8 +1,9 @@
 -- A node that goes: what it keeps, what it counts for no more, and how it is written.
-use Rattle.forest_store.proofs.Common.{◌≡◌, ℕ, ◌==◌, refl, ap, sym, ◌∙◌, subst, Bool, true, false, not, ◌&&◌, ◌||◌, ◌⊎◌, inl, inr, if◌then◌else◌, List, [], ◌∷◌, map, Option, Some, None, cons_option, list_all, list_any, option_map_or, NodeKey, same_key, In, and_both, and_left, and_right, either_way, or_cases, same_key-refl, same_key-true, Table, node_at, Node, lives_in, waits_in, is_filed, nodes_with, and-false, Going, gone_by, all_of, is_strong, stored, written, camped}
-use Rattle.std.proofs.Math.Bool.{and-true}
+use Rattle.forest_store.proofs.Common.{In-map, all_on, ◌≡◌, ℕ, ◌==◌, refl, ap, sym, ◌∙◌, Bool, true, false, not, ◌&&◌, ◌||◌, ◌⊎◌, inl, inr, if◌then◌else◌, List, [], ◌∷◌, map, Option, Some, None, cons_option, list_all, list_any, NodeKey, same_key, In, either_way, same_key-refl, same_key-true, Table, node_at, Node, lives_in, waits_in, is_filed, nodes_with, and-false, Going, gone_by, all_of, is_strong, stored, written, camped, and-true}
 use Rattle.forest_store.proofs.changes.Finishing.{keys_in}
-use Rattle.forest_store.proofs.lists.Lookups.{same_key-swap}
+use Rattle.forest_store.proofs.lists.Lookups.{in_nodes, same_key-swap}
+use Rattle.forest_store.proofs.lists.Elements.{In-made}
+use Rattle.forest_store.proofs.quiescence.Steps.{all-In}
 use Rattle.forest_store.proofs.tallies.Reckoning.{lives_gone, waits_gone}
 use Rattle.forest_store.proofs.tallies.Reserved.{camped_but, camped_gone}
 use Rattle.forest_store.proofs.tallies.Untold.{but}
@@ -40,36 +41,37 @@ goes_not going keys n e = λ i. if e i then gone_by going n else n
 
 -- either it goes, which keeps the place, or it stays
 pub same_of : (going : Going) (keys : List NodeKey) (n : Node) → IsSameNode (goes_of going keys n) n
-same_of going keys n = elim (either_way (list_any (same_key n.key) keys)) [
-  | inl e ↦ subst (λ (m : Node). IsSameNode m n) (sym (goes_in going keys n e)) (gone_same going n)
-  | inr e ↦ subst (λ (m : Node). IsSameNode m n) (sym (goes_not going keys n e))
-      (record { key = refl; parent = refl; attached = refl; collection = refl; head = refl })
+same_of going keys n = elim (list_any (same_key n.key) keys) as (λ (b : Bool). IsSameNode (if b then gone_by going n else n) n) [
+  | true ↦ gone_same going n
+  | false ↦ record { key = refl; parent = refl; attached = refl; collection = refl; head = refl }
 ]
 
 -- either it goes, which keeps the allocation, or it stays
 pub given_of : (going : Going) (keys : List NodeKey) (n : Node) → (goes_of going keys n).allocated ≡ n.allocated
-given_of going keys n = elim (either_way (list_any (same_key n.key) keys)) [
-  | inl e ↦ ap (λ (m : Node). m.allocated) (goes_in going keys n e) ∙ gone_given going n
-  | inr e ↦ ap (λ (m : Node). m.allocated) (goes_not going keys n e)
-]
+given_of going keys n =
+    elim (list_any (same_key n.key) keys) as (λ (b : Bool). (if b then gone_by going n else n).allocated ≡ n.allocated) [
+      | true ↦ gone_given going n
+      | false ↦ refl
+    ]
 
 -- either it goes now, or it is as before
 pub gone_of : (going : Going) (keys : List NodeKey) (n : Node) → (goes_of going keys n).gone ≡ (list_any (same_key n.key) keys || n.gone)
-gone_of going keys n = elim (either_way (list_any (same_key n.key) keys)) [
-  | inl e ↦ ap (λ (m : Node). m.gone) (goes_in going keys n e) ∙ gone_is going n ∙ (λ i. sym e i || n.gone)
-  | inr e ↦ ap (λ (m : Node). m.gone) (goes_not going keys n e) ∙ (λ i. sym e i || n.gone)
-]
+gone_of going keys n =
+    elim (list_any (same_key n.key) keys) as (λ (b : Bool). (if b then gone_by going n else n).gone ≡ (b || n.gone)) [
+      | true ↦ gone_is going n
+      | false ↦ refl
+    ]
 
 -- ---- what is counted of nodes that go
 
 -- a test that no node that is gone passes
 but_is : (test : Node → Bool) → ((m : Node) → m.gone ≡ true → test m ≡ false) → (going : Going) (keys : List NodeKey) (n : Node) →
     test (goes_of going keys n) ≡ but test keys n
-but_is test none going keys n = elim (either_way (list_any (same_key n.key) keys)) [
-  | inl e ↦ ap test (goes_in going keys n e) ∙ none (gone_by going n) (gone_is going n) ∙ sym (ap (λ (b : Bool). test n && not b) e
-      ∙ and-false (test n))
-  | inr e ↦ ap test (goes_not going keys n e) ∙ sym (ap (λ (b : Bool). test n && not b) e ∙ and-true (test n))
-]
+but_is test none going keys n =
+    elim (list_any (same_key n.key) keys) as (λ (b : Bool). test (if b then gone_by going n else n) ≡ (test n && not b)) [
+      | true ↦ none (gone_by going n) (gone_is going n) ∙ sym (and-false (test n))
+      | false ↦ sym (and-true (test n))
+    ]
 
 -- a strong node is not gone
 pub strong_gone : (m : Node) → m.gone ≡ true → is_strong m ≡ false
@@ -89,40 +91,28 @@ waits_but k keys going n = but_is _ (waits_gone k) going keys n
 
 -- a gone node camps on nothing
 pub camped_of : (keys : List NodeKey) (going : Going) (n : Node) → camped (goes_of going keys n) ≡ camped_but keys n
-camped_of keys going n = elim (either_way (list_any (same_key n.key) keys)) [
-  | inl e ↦ ap camped (goes_in going keys n e) ∙ camped_gone (gone_by going n) (gone_is going n)
-      ∙ sym (ap (λ (b : Bool). if b then 0 else camped n) e)
-  | inr e ↦ ap camped (goes_not going keys n e) ∙ sym (ap (λ (b : Bool). if b then 0 else camped n) e)
-]
+camped_of keys going n =
+    elim (list_any (same_key n.key) keys) as (λ (b : Bool). camped (if b then gone_by going n else n) ≡ (if b then 0 else camped n)) [
+      | true ↦ camped_gone (gone_by going n) (gone_is going n)
+      | false ↦ refl
+    ]
 
 -- ---- nodes that are written as they go
 
 module _ (t : Table Node) (named : (key : NodeKey) (n : Node) → node_at t key ≡ Some n → n.key ≡ key) (going : Going) where
   -- a node whose key is among these is found by them
   pub in_looked : (ks : List NodeKey) (n : Node) → node_at t n.key ≡ Some n → list_any (same_key n.key) ks ≡ true → In n (nodes_with t ks)
-  in_looked [] n is h = cc
-  in_looked (k ∷ ks) n is h = by (λ rest. in_looked ks n is rest) _ refl (or_cases _ _ h)
-    where
-      by : (list_any (same_key n.key) ks ≡ true → In n (nodes_with t ks)) → (o : Option Node) → node_at t k ≡ o →
-          (same_key n.key k ≡ true) ⊎ (list_any (same_key n.key) ks ≡ true) → In n (cons_option o (nodes_with t ks))
-      by on None at (inl e) = let both : Some n ≡ None = sym is ∙ (ap (node_at t) (same_key-true _ k e) ∙ at) in cc
-      by on None at (inr e) = on e
-      by on (Some m) at (inl e) = let both : Some n ≡ Some m = sym is ∙ (ap (node_at t) (same_key-true _ k e) ∙ at) in inl cc
-      by on (Some m) at (inr e) = inr (on e)
+  in_looked ks n is h = in_nodes t ks n.key n is h
 
   -- what is found by keys is filed
   pub filed_fallen : (id : ℕ) (ks : List NodeKey) → all_of id (nodes_with t ks) ≡ true →
       list_all (is_filed t id) (keys_in (map (gone_by going) (nodes_with t ks))) ≡ true
-  filed_fallen id [] own = refl
-  filed_fallen id (k ∷ ks) own = by (λ rest. filed_fallen id ks rest) _ refl own
-    where
-      by : (all_of id (nodes_with t ks) ≡ true → list_all (is_filed t id) (keys_in (map (gone_by going) (nodes_with t ks))) ≡ true) →
-          (o : Option Node) → node_at t k ≡ o → all_of id (cons_option o (nodes_with t ks)) ≡ true →
-          list_all (is_filed t id) (keys_in (map (gone_by going) (cons_option o (nodes_with t ks)))) ≡ true
-      by on None at own = on own
-      by on (Some m) at own = and_both _ _
-          (ap (λ (o : Option Node). option_map_or (λ (n : Node). n.collection == id) o false) (ap (node_at t) ((gone_same going m).key
-          ∙ named k m at) ∙ at) ∙ and_left _ _ own) (on (and_right _ _ own))
+  filed_fallen id ks own = all_on (is_filed t id) (keys_in (map (gone_by going) (nodes_with t ks))) (λ k on.
+      let a = In-map (λ (n : Node). n.key) _ k on in
+      let b = In-map (gone_by going) _ a.0 a.1 in
+      let x = In-made (node_at t) ks b.0 b.1 in
+      let key : k ≡ x.0 = a.2 ∙ (ap (λ (n : Node). n.key) b.2 ∙ ((gone_same going b.0).key ∙ named x.0 b.0 x.2)) in
+      rw (key, x.2) (all-In (λ (n : Node). n.collection == id) (nodes_with t ks) b.0 b.1 own))
 
   -- a node is written as it goes where its key is among these
   pub stored_goes : (ks : List NodeKey) (n : Node) → node_at t n.key ≡ Some n → (x : Node) → (x ≡ n) ⊎ (x ≡ gone_by going n) →

@@ -1,7 +1,5 @@
 -- Nodes that are written as they go, one after another.
-use Rattle.forest_store.proofs.Common.{◌≡◌, ◌≢◌, ℕ, zero, suc, ◌<◌, Bool, true, false, ◌||◌, inl, if◌then◌else◌, List, [], ◌∷◌, ◌++◌, length, map, take, get_or, Option, Some, None, option_map, refl, ap, sym, ◌∙◌, subst, arith, cons_option, list_any, option_map_or, NodeKey, same_key, or_right, same_key-refl, Table, node_at, Node, nodes_with, is_over, map-append, filter_map-append, list_any-append, AllPairs, or_none_left, or_none_right, Writes, table_with_node, Going, gone_by, Stores, stored}
-use Rattle.std.proofs.Math.Bool.{or-false}
-use Rattle.std.proofs.lemmas.List.{append-nil}
+use Rattle.forest_store.proofs.Common.{◌≡◌, ◌≢◌, ℕ, zero, suc, ◌<◌, Bool, true, false, ◌||◌, inl, if◌then◌else◌, List, [], ◌∷◌, ◌++◌, length, map, take, get_or, Option, Some, None, option_map, refl, ap, sym, ◌∙◌, subst, arith, cons_option, list_any, option_map_or, NodeKey, same_key, or_right, same_key-refl, Table, node_at, Node, nodes_with, is_over, map-append, filter_map-append, list_any-append, AllPairs, or_none_left, or_none_right, Writes, table_with_node, Going, gone_by, Stores, stored, or-false, append-nil}
 use Rattle.forest_store.proofs.Basics.{gone_same, stored_goes, same_key-swap, Stores-more, first_once, rest_once}
 
 -- a key that is not among these is not the one that stands here
@@ -59,7 +57,7 @@ module _ (t : Table Node) (named : (key : NodeKey) (n : Node) → node_at t key 
           subst (Stores t now) (sym (map-append (gone_by going) (nodes_with t done) (n ∷ [])))
           (Stores-more t u _ _ _ named stores (rw (← key) (becomes n is)) (rw (← key) (writes n is)))
 
-  -- one of them is over where one was, or this one is
+  -- one of them is dead where one was, or this one is
   pub over_more : (over one : Bool) → over ≡ list_any is_over went →
       one ≡ option_map_or (λ (n : Node). is_over (gone_by going n)) (node_at u k) false →
       (over || one) ≡ list_any is_over (map (gone_by going) (nodes_with t (done ++ k ∷ [])))

@@ -1,7 +1,5 @@
 -- A key that is taken out of a list whose first cells are left over.
-use Rattle.forest_store.proofs.Common.{ℕ, suc, ◌≡◌, ◌+◌, ◌<◌, ◌≤◌, ap, sym, ◌∙◌, List, ◌++◌, length, take, drop, arith, ◌-◌, append_assoc, remove}
-use Rattle.std.specs.List.{copy_within}
-use Rattle.std.proofs.lemmas.List.{drop-drop, drop_at, length-take-le, take-append-drop}
+use Rattle.forest_store.proofs.Common.{ℕ, suc, ◌≡◌, ◌+◌, ◌<◌, ◌≤◌, ap, sym, ◌∙◌, List, ◌++◌, length, take, drop, arith, ◌-◌, append_assoc, remove, copy_within, drop-drop, drop_at, length-take-le, take-append-drop}
 use Rattle.std.proofs.lemmas.List.Edits.{remove-append_right}
 
 -- those before it move up by one, over it

@@ -1,8 +1,7 @@
--- A collection of which no other nodes are over than are noted: to look at those is to look at all.
-use Rattle.forest_store.proofs.Common.{◌≡◌, refl, ap, sym, ◌∙◌, Bool, true, false, not, ◌&&◌, ◌||◌, ◌⊎◌, inl, inr, List, [], ◌∷◌, cond, Option, Some, None, is_some, ◌==◌, eqb-true, filter, list_all, list_any, option_map_or, NodeKey, same_key, In, In-list_any, both_ways, either_way, same_key-true, Table, node_at, Entry, Node, is_filed, is_over, and-false, filter-In, IsForgettable, is_found, is_left_by, is_own_if_over, left_at, unless_over}
-use Rattle.forest_store.proofs.leaving.Forgotten.{in_nodes}
-use Rattle.forest_store.proofs.shelves.Counted.{none_each, own_key}
-use Rattle.forest_store.proofs.Basics.{all-In, none_but, same_key-swap}
+-- A collection of which no other nodes are dead than are noted: to look at those is to look at all.
+use Rattle.forest_store.proofs.Common.{In-filter, false_if, filter-less, not-true, ◌≡◌, refl, ap, sym, ◌∙◌, Bool, true, false, not, ◌&&◌, ◌||◌, ◌⊎◌, inl, inr, List, [], ◌∷◌, cond, Option, Some, None, is_some, ◌==◌, eqb-true, filter, list_all, list_any, option_map_or, NodeKey, same_key, In, In-list_any, both_ways, either_way, same_key-true, Table, node_at, Entry, Node, is_filed, is_over, and-false, filter-In, IsForgettable, is_found, is_left_by, is_own_if_over, left_at, unless_over}
+use Rattle.forest_store.proofs.shelves.Counted.{own_key}
+use Rattle.forest_store.proofs.Basics.{in_nodes, none_each, all-In, none_but, same_key-swap}
 
 module _ (t : Table Node) (e : Entry) (can : IsForgettable t e) (garbage_known : e.garbage_known ≡ true)
     (own : list_all (is_own_if_over t e.id) e.garbage.items ≡ true) where
@@ -12,14 +11,14 @@ module _ (t : Table Node) (e : Entry) (can : IsForgettable t e) (garbage_known :
   abbrev garbage : List NodeKey
   garbage = e.garbage.items
 
-  -- a node of the collection that is not noted is not over
+  -- a node of the collection that is not noted is not dead
   unnoted : (k : NodeKey) (n : Node) → node_at t k ≡ Some n → list_any (same_key k) keys ≡ true → list_any (same_key k) garbage ≡ false →
       is_over n ≡ false
   unnoted k n is there other =
       none_but _ n (none_each _ _ (can.garbage_known garbage_known) n (in_nodes t _ k n is there))
       (ap (λ (j : NodeKey). list_any (same_key j) garbage) (can.named k n is) ∙ other)
 
-  -- a noted node that is over is one of the collection
+  -- a noted node that is dead is one of the collection
   listed : (k : NodeKey) (n : Node) → node_at t k ≡ Some n → list_any (same_key k) garbage ≡ true → is_over n ≡ true →
       list_any (same_key k) keys ≡ true
   listed k n is on over =
@@ -71,7 +70,7 @@ module _ (t : Table Node) (e : Entry) (can : IsForgettable t e) (garbage_known :
 
 -- ---- keys that are dropped one after another
 
--- a key that is left where the first node is not over is left by the others
+-- a key that is left where the first node is not dead is left by the others
 pub left_on : (t : Table Node) (key : NodeKey) (later : List NodeKey) → option_map_or is_over (node_at t key) false ≡ false →
     (k : NodeKey) → is_left_by t (key ∷ later) k ≡ is_left_by t later k
 left_on t key later e k = elim (either_way (same_key k key)) [
@@ -84,32 +83,22 @@ left_on t key later e k = elim (either_way (same_key k key)) [
   | inr other ↦ λ i. not ((other i || list_any (same_key k) later) && option_map_or is_over (node_at t k) false)
 ]
 
--- and where it is over, by the others once its key was dropped
+-- and where it is dead, by the others once its key was dropped
 pub left_dropped : (t : Table Node) (key : NodeKey) (later : List NodeKey) → option_map_or is_over (node_at t key) false ≡ true →
     (ks : List NodeKey) →
     filter (is_left_by t later) (filter (λ other. not (same_key key other)) ks) ≡ filter (is_left_by t (key ∷ later)) ks
-left_dropped t key later e [] = refl
-left_dropped t key later e (k ∷ ks) = by (either_way (same_key key k)) (left_dropped t key later e ks)
+left_dropped t key later e ks =
+    sym (filter-less _ _ ks stays ∙ filter-In _ _ _ (λ k on. others k (not-true (same_key key k) (In-filter _ ks k on).1)))
   where
-    by : (same_key key k ≡ true) ⊎ (same_key key k ≡ false) →
-        filter (is_left_by t later) (filter (λ other. not (same_key key other)) ks) ≡ filter (is_left_by t (key ∷ later)) ks →
-        filter (is_left_by t later) (filter (λ other. not (same_key key other)) (k ∷ ks)) ≡ filter (is_left_by t (key ∷ later)) (k ∷ ks)
-    by (inl same) rest =
+    -- the key itself is left out
+    stays : (k : NodeKey) → is_left_by t (key ∷ later) k ≡ true → not (same_key key k) ≡ true
+    stays k h = ap not (false_if (same_key key k) (λ same.
         let over : option_map_or is_over (node_at t k) false ≡ true =
         ap (λ (j : NodeKey). option_map_or is_over (node_at t j) false) (sym (same_key-true _ k same)) ∙ e in
-        let out : is_left_by t (key ∷ later) k ≡ false =
-        (λ i. not (((same_key-swap k key ∙ same) i || list_any (same_key k) later) && over i)) in
-        rw (same, out) rest
-    by (inr other) rest =
-        let kept : is_left_by t (key ∷ later) k ≡ is_left_by t later k =
-        (λ i. not (((same_key-swap k key ∙ other) i || list_any (same_key k) later) && option_map_or is_over (node_at t k) false)) in
-        rw (other, kept) (elim (is_left_by t later k) as (λ b.
-        cond b (k ∷ filter (is_left_by t later) (filter (λ other. not (same_key key other)) ks))
-        (filter (is_left_by t later) (filter (λ other. not (same_key key other)) ks))
-        ≡ cond b (k ∷ filter (is_left_by t (key ∷ later)) ks) (filter (is_left_by t (key ∷ later)) ks)) [
-          | true ↦ ap (λ l. k ∷ l) rest
-          | false ↦ rest
-        ])
+        both_ways (is_left_by t (key ∷ later) k) h (λ i. not (((same_key-swap k key ∙ same) i || list_any (same_key k) later) && over i))))
+
+    others : (k : NodeKey) → same_key key k ≡ false → is_left_by t (key ∷ later) k ≡ is_left_by t later k
+    others k differ = λ i. not (((same_key-swap k key ∙ differ) i || list_any (same_key k) later) && option_map_or is_over (node_at t k) false)
 
 -- no key is left out by none
 pub left_none : (t : Table Node) (ks : List NodeKey) → filter (is_left_by t []) ks ≡ ks

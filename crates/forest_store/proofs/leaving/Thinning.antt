@@ -1,18 +1,14 @@
 -- What stays true of a forest where a node was taken out, and its key is dropped.
-use Rattle.forest_store.proofs.Common.{◌≡◌, ℕ, ◌+◌, ◌==◌, ◌<◌, Bool, true, false, not, List, [], ◌∷◌, ◌++◌, map, length, drop, Option, Some, None, is_some, cond, refl, sym, ap, subst, ◌∙◌, inl, inr, arith, list_any, list_all, filter, cons_option, AllByRecursion, option_map_or, false≢true, not-true, NodeKey, same_key, In, and_both, and_left, and_right, either_way, or_cases, or_left, or_right, same_key-true, Table, node_at, parent_at, Node, Collection, with_nodes, Shelf, AreRising, IsStored, IsWhole, all_keys, are_filed, collection_in, is_filed, nodes_with, is_of, are_distinct, heads_itself, filter-append, filter-list_all, list_all-filter, or_both, or_none_left, or_none_right, table_len, same_key-equal, TakesOut, is_found, thinned, are_apart, IsSound}
+use Rattle.forest_store.proofs.Common.{In-any, In-filter, In-filter-back, In-list_any, all_on, both_ways, filter-In, ◌≡◌, ℕ, ◌+◌, ◌==◌, Bool, true, false, not, List, [], ◌∷◌, ◌++◌, map, length, drop, Option, Some, None, is_some, cond, refl, sym, ap, subst, ◌∙◌, inl, inr, arith, list_any, list_all, filter, AllByRecursion, option_map_or, false≢true, not-true, NodeKey, same_key, In, and_both, and_left, and_right, either_way, same_key-true, Table, node_at, parent_at, Node, Collection, with_nodes, Shelf, AreRising, IsStored, IsWhole, all_keys, are_filed, collection_in, is_filed, nodes_with, is_of, are_distinct, heads_itself, filter-append, filter-list_all, list_all-filter, table_len, same_key-equal, TakesOut, is_found, thinned, are_apart, IsSound, filter-all, filter-less, list_all-append}
 use Rattle.forest_store.proofs.tables.LeftParents.{childless}
-use Rattle.forest_store.proofs.Basics.{looked_gone, rooted_filter, kin_kept, looked-without, whole_rooted, same_first, together_filter, united_filter, place-filed}
+use Rattle.forest_store.proofs.Basics.{all_weaker, all-In, all_mapped, each_none, made-found, map-same, none_each, looked_gone, rooted_filter, kin_kept, looked-without, whole_rooted, same_first, together_filter, united_filter, place-filed}
 
 -- ---- lists of which some elements are kept
 
 module _ {A : Type 0} (p : A → Bool) where
   -- no element that is kept passes a test that none passes
   pub none-filter : (test : A → Bool) (xs : List A) → list_any test xs ≡ false → list_any test (filter p xs) ≡ false
-  none-filter test [] none = refl
-  none-filter test (x ∷ xs) none = elim (p x) as (λ b. list_any test (cond b (x ∷ filter p xs) (filter p xs)) ≡ false) [
-    | true ↦ or_both _ _ (or_none_left _ _ none) (none-filter test xs (or_none_right _ _ none))
-    | false ↦ none-filter test xs (or_none_right _ _ none)
-  ]
+  none-filter test xs none = each_none test _ (λ x on. none_each test xs none x (In-filter p xs x on).0)
 
   -- what all behind the first pass, all that are left behind the first pass
   pub behind-filter : (test : A → Bool) (xs : List A) → list_all test (drop 1 xs) ≡ true → list_all test (drop 1 (filter p xs)) ≡ true
@@ -28,14 +24,7 @@ module _ {A : Type 0} (p : A → Bool) where
 
   -- what is kept twice
   pub filter-twice : (q : A → Bool) → ((x : A) → p x ≡ true → q x ≡ true) → (xs : List A) → filter p (filter q xs) ≡ filter p xs
-  filter-twice q weaker [] = refl
-  filter-twice q weaker (x ∷ xs) = elim (either_way (p x)) [
-    | inl kept ↦ rw (weaker x kept, kept) (ap (λ l. x ∷ l) (filter-twice q weaker xs))
-    | inr left ↦ elim (either_way (q x)) [
-      | inl more ↦ rw (more, left) (filter-twice q weaker xs)
-      | inr less ↦ rw (less, left) (filter-twice q weaker xs)
-    ]
-  ]
+  filter-twice q weaker xs = sym (filter-less p q xs weaker)
 
 -- ---- keys
 
@@ -52,22 +41,13 @@ apart-filter p (k ∷ ks) apart = elim (p k) as (λ b. are_apart (cond b (k ∷ 
 -- a key that passes is still there
 pub there-filter : (p : NodeKey → Bool) (key : NodeKey) (ks : List NodeKey) → p key ≡ true → list_any (same_key key) ks ≡ true →
     list_any (same_key key) (filter p ks) ≡ true
-there-filter p key [] passes there = there
-there-filter p key (k ∷ ks) passes there = elim (or_cases (same_key key k) (list_any (same_key key) ks) there) [
-  | inl here ↦
-      let own : p k ≡ true = ap p (sym (same_key-true key k here)) ∙ passes in
-      rw own (or_left _ _ here)
-  | inr behind ↦ elim (p k) as (λ b. list_any (same_key key) (cond b (k ∷ filter p ks) (filter p ks)) ≡ true) [
-    | true ↦ or_right _ _ (there-filter p key ks passes behind)
-    | false ↦ there-filter p key ks passes behind
-  ]
-]
+there-filter p key ks passes there =
+    let x = In-list_any (same_key key) ks there in
+    In-any _ _ x.0 (In-filter-back p ks x.0 x.1 (ap p (sym (same_key-true key x.0 x.2)) ∙ passes)) x.2
 
 -- a key that none of them is can't be left out
 pub lacks-filter : (key : NodeKey) (ks : List NodeKey) → list_any (same_key key) ks ≡ false → filter (λ k. not (same_key key k)) ks ≡ ks
-lacks-filter key [] none = refl
-lacks-filter key (k ∷ ks) none =
-    rw (or_none_left (same_key key k) (list_any (same_key key) ks) none) (ap (λ l. k ∷ l) (lacks-filter key ks (or_none_right _ _ none)))
+lacks-filter key ks none = filter-all _ ks (λ k on. ap not (none_each _ ks none k on))
 
 -- by induction: keys that stand once are one fewer without one of them
 pub one_less : (key : NodeKey) (ks : List NodeKey) → are_apart ks ≡ true → list_any (same_key key) ks ≡ true →
@@ -114,16 +94,10 @@ IsWhole-filter p c over ok = record {
 
 -- ---- shelves with the keys that a table has
 
--- greater ids stay greater
-thinned-above : (t : Table Node) (low : ℕ) (ss : List Shelf) → AllByRecursion (λ (later : Shelf). low < later.id) ss →
-    AllByRecursion (λ (later : Shelf). low < later.id) (map (thinned t) ss)
-thinned-above t low [] all = tt
-thinned-above t low (s ∷ ss) all = (all.0, thinned-above t low ss all.1)
-
 -- the ids still rise
 thinned-rising : (t : Table Node) (ss : List Shelf) → AreRising ss → AreRising (map (thinned t) ss)
 thinned-rising t [] rising = tt
-thinned-rising t (s ∷ ss) rising = (thinned-above t _ _ rising.0, thinned-rising t ss rising.1)
+thinned-rising t (s ∷ ss) rising = (all_mapped _ _ ss rising.0, thinned-rising t ss rising.1)
 
 -- the keys are those that the table has
 pub thinned-keys : (t : Table Node) (ss : List Shelf) → all_keys (map (thinned t) ss) ≡ filter (is_found t) (all_keys ss)
@@ -133,8 +107,7 @@ thinned-keys t (s ∷ ss) =
 
 -- so have all
 pub filed_all : (t : Table Node) (id : ℕ) (ks : List NodeKey) → list_all (is_filed t id) ks ≡ true → list_all (is_found t) ks ≡ true
-filed_all t id [] h = refl
-filed_all t id (k ∷ ks) h = and_both _ _ (place-filed _ _ (and_left _ _ h)) (filed_all t id ks (and_right _ _ h))
+filed_all t id ks h = all_on _ ks (λ k on. place-filed id (node_at t k) (all-In (is_filed t id) ks k on h))
 
 -- a shelf whose keys are filed has only keys that the table has
 pub thinned-same : (t : Table Node) (s : Shelf) → list_all (is_filed t s.id) s.keys ≡ true → thinned t s ≡ s
@@ -142,8 +115,8 @@ thinned-same t s filed = λ i. record s { keys = filter-list_all (is_found t) s.
 
 -- so have all shelves
 pub all_thinned-same : (t : Table Node) (ss : List Shelf) → are_filed t ss ≡ true → map (thinned t) ss ≡ ss
-all_thinned-same t [] filed = refl
-all_thinned-same t (s ∷ ss) filed = λ i. thinned-same t s (and_left _ _ filed) i ∷ all_thinned-same t ss (and_right _ _ filed) i
+all_thinned-same t ss filed = map-same _ ss (λ s on.
+    thinned-same t s (all-In (λ (s : Shelf). list_all (is_filed t s.id) s.keys) ss s on filed))
 
 -- what is kept by a table, and by one that has fewer nodes
 pub thinned-twice : (t now : Table Node) → ((k : NodeKey) → is_found now k ≡ true → is_found t k ≡ true) → (ss : List Shelf) →
@@ -174,18 +147,14 @@ module _ (t now : Table Node) (key : NodeKey) (out : TakesOut t now key) where
   -- a key is filed still, if it is found
   filed-kept : (id : ℕ) (ks : List NodeKey) → list_all (is_filed t id) ks ≡ true →
       list_all (is_filed now id) (filter (is_found now) ks) ≡ true
-  filed-kept id [] filed = refl
-  filed-kept id (k ∷ ks) filed = elim (either_way (same_key key k)) [
-    | inl same ↦
-        let none : node_at now k ≡ None = out.look k ∙ (rw same refl) in
-        rw none (filed-kept id ks (and_right _ _ filed))
-    | inr other ↦
-        let there : node_at now k ≡ node_at t k = out.look k ∙ (rw other refl) in
-        let found : is_found now k ≡ true = ap is_some there ∙ place-filed id (node_at t k) (and_left _ _ filed) in
-        let own : is_filed now id k ≡ true =
-        ap (λ o. option_map_or (λ (n : Node). n.collection == id) o false) there ∙ and_left _ _ filed in
-        rw found (and_both _ _ own (filed-kept id ks (and_right _ _ filed)))
-  ]
+  filed-kept id ks filed = all_on _ _ (λ k on.
+      let x = In-filter (is_found now) ks k on in
+      elim (either_way (same_key key k)) [
+        | inl same ↦ let none : node_at now k ≡ None = out.look k ∙ rw same refl in both_ways (is_found now k) x.1 (ap is_some none)
+        | inr other ↦
+            let there : node_at now k ≡ node_at t k = out.look k ∙ rw other refl in
+            ap (λ o. option_map_or (λ (n : Node). n.collection == id) o false) there ∙ all-In (is_filed t id) ks k x.0 filed
+      ])
 
   -- by induction over the shelves
   all_filed-kept : (ss : List Shelf) → are_filed t ss ≡ true → are_filed now (map (thinned now) ss) ≡ true
@@ -194,51 +163,30 @@ module _ (t now : Table Node) (key : NodeKey) (out : TakesOut t now key) where
 
   -- of keys that were found all are found but this one
   found-others : (ks : List NodeKey) → list_all (is_found t) ks ≡ true → filter (is_found now) ks ≡ filter (λ k. not (same_key key k)) ks
-  found-others [] all = refl
-  found-others (k ∷ ks) all = elim (either_way (same_key key k)) [
-    | inl same ↦
-        let none : is_found now k ≡ false = ap is_some (out.look k) ∙ (rw same refl) in
-        rw (none, same) (found-others ks (and_right _ _ all))
-    | inr other ↦
-        let there : is_found now k ≡ true = ap is_some (out.look k) ∙ (rw other (and_left _ _ all)) in
-        rw (there, other) (ap (λ l. k ∷ l) (found-others ks (and_right _ _ all)))
-  ]
+  found-others ks all = filter-In _ _ ks (λ k on. ap is_some (out.look k)
+      ∙ elim (same_key key k) as (λ (b : Bool). is_some (cond b None (node_at t k)) ≡ not b) [
+        | true ↦ refl
+        | false ↦ all-In (is_found t) ks k on all
+      ])
 
   -- all keys have nodes
   all_found : (ss : List Shelf) → are_filed t ss ≡ true → list_all (is_found t) (all_keys ss) ≡ true
   all_found [] filed = refl
-  all_found (s ∷ ss) filed =
-      all-append (is_found t) s.keys (all_keys ss) (filed_all t s.id s.keys (and_left _ _ filed)) (all_found ss (and_right _ _ filed))
-    where
-      all-append : (test : NodeKey → Bool) (xs ys : List NodeKey) → list_all test xs ≡ true → list_all test ys ≡ true →
-          list_all test (xs ++ ys) ≡ true
-      all-append test [] ys one two = two
-      all-append test (x ∷ xs) ys one two = and_both _ _ (and_left _ _ one) (all-append test xs ys (and_right _ _ one) two)
+  all_found (s ∷ ss) filed = list_all-append _ s.keys (all_keys ss)
+      ∙ and_both _ _ (filed_all t s.id s.keys (and_left _ _ filed)) (all_found ss (and_right _ _ filed))
 
   -- the nodes are the others
   pub nodes_left : ((k : NodeKey) (n : Node) → node_at t k ≡ Some n → n.key ≡ k) → (ks : List NodeKey) →
       nodes_with now (filter (is_found now) ks) ≡ filter (λ n. not (is_of key n)) (nodes_with t ks)
-  nodes_left named ks = only_found ks ∙ looked-without _ _ _ named out.look ks
-    where
-      by : (k : NodeKey) (o : Option Node) (ks : List NodeKey) (ns : List Node) → node_at now k ≡ o → nodes_with now ks ≡ ns →
-          nodes_with now (cond (is_some o) (k ∷ ks) ks) ≡ cons_option o ns
-      by k None ks ns is on = on
-      by k (Some n) ks ns is on = rw (is, on) refl
-
-      only_found : (ks : List NodeKey) → nodes_with now (filter (is_found now) ks) ≡ nodes_with now ks
-      only_found [] = refl
-      only_found (k ∷ ks) = by k _ _ _ refl (only_found ks)
+  nodes_left named ks = made-found (node_at now) ks ∙ looked-without _ _ _ named out.look ks
 
   -- the collections stay whole, where the node is gone
   whole-kept : ((m : Node) → node_at t key ≡ Some m → m.gone ≡ true) → ((k : NodeKey) (n : Node) → node_at t k ≡ Some n → n.key ≡ k) →
       (ss : List Shelf) → AllByRecursion (λ (s : Shelf). IsWhole (collection_in t s)) ss →
       AllByRecursion (λ (s : Shelf). IsWhole (collection_in now s)) (map (thinned now) ss)
-  whole-kept goes named [] all = tt
-  whole-kept goes named (s ∷ ss) all = (
-    rw (nodes_left named s.keys) (IsWhole-filter (λ n. not (is_of key n)) (collection_in t s) (looked_gone t named key goes s.keys)
-        all.0),
-    whole-kept goes named ss all.1,
-  )
+  whole-kept goes named ss all = all_mapped _ _ ss (all_weaker _ _ ss (λ s whole.
+      rw (nodes_left named s.keys)
+      (IsWhole-filter (λ n. not (is_of key n)) (collection_in t s) (looked_gone t named key goes s.keys) whole)) all)
 
   -- a node that is not gone keeps its parent, where the other is gone
   linked-kept : ((m : Node) → node_at t key ≡ Some m → m.gone ≡ true) → (ss : List Shelf) → IsStored t ss → (k : NodeKey) (n : Node) →

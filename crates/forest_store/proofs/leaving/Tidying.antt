@@ -1,16 +1,14 @@
--- A collection without the nodes that are over, and collections without those of which nothing is left.
-use Rattle.forest_store.proofs.Common.{◌≡◌, ℕ, suc, ◌==◌, ◌<◌, Bool, true, false, ◌&&◌, not, List, [], ◌∷◌, ◌++◌, map, length, Option, Some, None, is_some, cond, refl, sym, ap, ◌∙◌, inl, inr, arith, find, list_any, list_all, filter, cons_option, AllByRecursion, option_map_or, false≢true, eqb-true, eqb-false, eq-eqb, NodeKey, same_key, and_both, and_left, and_right, or_cases, or_left, or_right, same_key-true, Table, node_at, Node, Shelf, AreRising, IsStored, IsWhole, all_keys, are_filed, collection_in, is_filed, nodes_with, is_over, ne_eqb, filter-list_all, list_all-filter, same_key-equal, is_left, tidied, without_over_in, is_bare, is_found, left_at, thin_in, thinned, unless_over, without_bare, are_apart, either_way}
-use Rattle.std.proofs.lemmas.Bool.{false_from_ne_true}
+-- A collection without its dead nodes, and collections without the empty ones.
+use Rattle.forest_store.proofs.Common.{false_if, In-list_any, all_on, map-In, ◌≡◌, ℕ, suc, ◌==◌, ◌<◌, Bool, true, false, ◌&&◌, not, List, [], ◌∷◌, ◌++◌, map, length, Option, Some, None, is_some, cond, refl, sym, ap, ◌∙◌, inl, inr, arith, find, list_any, list_all, filter, cons_option, AllByRecursion, option_map_or, false≢true, eqb-true, eqb-false, eq-eqb, NodeKey, same_key, and_left, and_right, or_left, or_right, same_key-true, Table, node_at, Node, Shelf, AreRising, IsStored, all_keys, are_filed, collection_in, is_filed, nodes_with, is_over, ne_eqb, filter-list_all, list_all-filter, same_key-equal, is_left, tidied, without_over_in, is_bare, is_found, left_at, thin_in, thinned, unless_over, without_bare, are_apart, either_way, filter-all, none-find}
 use Rattle.forest_store.proofs.leaving.Thinning.{filed_all}
+use Rattle.forest_store.proofs.Basics.{all-In, all_at, all_filter, all_in, all_weaker, made-In, map-same, none_each}
 
 -- a key of a collection has a node of it
 filed_there : (t : Table Node) (id : ℕ) (ks : List NodeKey) (key : NodeKey) → list_all (is_filed t id) ks ≡ true →
     list_any (same_key key) ks ≡ true → is_filed t id key ≡ true
-filed_there t id [] key filed there = absurd (false≢true there)
-filed_there t id (k ∷ ks) key filed there = elim (or_cases (same_key key k) (list_any (same_key key) ks) there) [
-  | inl same ↦ ap (is_filed t id) (same_key-true key k same) ∙ and_left _ _ filed
-  | inr behind ↦ filed_there t id ks key (and_right _ _ filed) behind
-]
+filed_there t id ks key filed there =
+    let x = In-list_any (same_key key) ks there in
+    rw (same_key-true key x.0 x.2) (all-In (is_filed t id) ks x.0 x.1 filed)
 
 -- a node is of one collection
 one_collection-by : (one two : ℕ) (o : Option Node) → option_map_or (λ (n : Node). n.collection == one) o false ≡ true →
@@ -31,17 +29,14 @@ module _ (t now : Table Node) (s : Shelf) (filed : list_all (is_filed t s.id) s.
   other_look : (id : ℕ) (key : NodeKey) → (id == s.id) ≡ false → is_filed t id key ≡ true → node_at now key ≡ node_at t key
   other_look id key other own =
       let off : list_any (same_key key) s.keys ≡ false =
-      false_from_ne_true _ (λ there. eqb-false id s.id other
+      false_if _ (λ there. eqb-false id s.id other
       (one_collection-by _ _ _ own (filed_there t _ _ _ filed there))) in
       look key ∙ (rw off refl)
 
   -- so do all of its keys
   other_nodes : (id : ℕ) (ks : List NodeKey) → (id == s.id) ≡ false → list_all (is_filed t id) ks ≡ true →
       nodes_with now ks ≡ nodes_with t ks
-  other_nodes id [] other own = refl
-  other_nodes id (k ∷ ks) other own =
-      let here : node_at now k ≡ node_at t k = other_look _ k other (and_left _ _ own) in
-      ap (λ o. cons_option o (nodes_with now ks)) here ∙ ap (cons_option (node_at t k)) (other_nodes id ks other (and_right _ _ own))
+  other_nodes id ks other own = made-In _ _ ks (λ k on. other_look id k other (all-In (is_filed t id) ks k on own))
 
   -- another collection stays
   pub other_same : (x : Shelf) → (x.id == s.id) ≡ false → list_all (is_filed t x.id) x.keys ≡ true → collection_in now x ≡ collection_in t x
@@ -49,17 +44,14 @@ module _ (t now : Table Node) (s : Shelf) (filed : list_all (is_filed t s.id) s.
 
   -- the table has its keys still
   other_found : (id : ℕ) (ks : List NodeKey) → (id == s.id) ≡ false → list_all (is_filed t id) ks ≡ true → list_all (is_found now) ks ≡ true
-  other_found id [] other own = refl
-  other_found id (k ∷ ks) other own =
-      let here : node_at now k ≡ node_at t k = other_look _ k other (and_left _ _ own) in
-      and_both _ _ (ap is_some here ∙ and_left _ _ (filed_all t id (k ∷ ks) own))
-      (other_found id ks other (and_right _ _ own))
+  other_found id ks other own = all_on _ ks (λ k on.
+      ap is_some (other_look id k other (all-In (is_filed t id) ks k on own)) ∙ all-In (is_found t) ks k on (filed_all t id ks own))
 
   -- so its shelf stays
   pub other_thinned : (x : Shelf) → (x.id == s.id) ≡ false → list_all (is_filed t x.id) x.keys ≡ true → thinned now x ≡ x
   other_thinned x other own = λ i. record x { keys = filter-list_all (is_found now) x.keys (other_found _ _ other own) i }
 
-  -- the nodes of some of its keys are those that are not over
+  -- the nodes of some of its keys are those that are not dead
   own_nodes : (ks : List NodeKey) → ((k : NodeKey) → list_any (same_key k) ks ≡ true → list_any (same_key k) s.keys ≡ true) →
       nodes_with now (filter (is_found now) ks) ≡ filter (λ n. not (is_over n)) (nodes_with t ks)
   own_nodes [] within = refl
@@ -99,23 +91,20 @@ bare_left t s = ap (λ n. (n == 0) && (length s.held == 0)) (sym (found-length t
 -- ids above another are others
 pub above_other : (id low : ℕ) (ss : List Shelf) → AllByRecursion (λ (later : Shelf). low < later.id) ss → (low == id) ≡ true →
     AllByRecursion (λ (x : Shelf). (x.id == id) ≡ false) ss
-above_other id low [] all same = tt
-above_other id low (s ∷ ss) all same =
-    (ne_eqb s.id id (λ equal. let own = eqb-true low id same in omega (arith, all.0, own, equal)), above_other id low ss all.1 same)
+above_other id low ss all same = all_weaker _ _ ss (λ s less.
+    ne_eqb s.id id (λ equal. let own = eqb-true low id same in omega (arith, less, own, equal))) all
 
 -- shelves of other ids stay
 pub bare_others : (id : ℕ) (ss : List Shelf) → AllByRecursion (λ (x : Shelf). (x.id == id) ≡ false) ss → without_bare id ss ≡ ss
-bare_others id [] others = refl
-bare_others id (s ∷ ss) others = rw others.0 (ap (λ l. s ∷ l) (bare_others id ss others.1))
+bare_others id ss others = filter-all _ ss (λ x on. rw (all_at _ _ others x on) refl)
 
--- by induction: no other shelf has the id
+-- no other shelf has the id
 pub thin_others : (t : Table Node) (id : ℕ) (ss : List Shelf) → AllByRecursion (λ (x : Shelf). (x.id == id) ≡ false) ss →
     thin_in t id ss ≡ ss
-thin_others t id [] others = refl
-thin_others t id (s ∷ ss) others = rw others.0 (ap (λ l. s ∷ l) (thin_others t id ss others.1))
+thin_others t id ss others = map-same _ ss (λ x on. rw (all_at _ _ others x on) refl)
 
 -- by induction: no other collection has the id
-over_others : (t : Table Node) (id : ℕ) (ss : List Shelf) → AllByRecursion (λ (x : Shelf). (x.id == id) ≡ false) ss →
+pub over_others : (t : Table Node) (id : ℕ) (ss : List Shelf) → AllByRecursion (λ (x : Shelf). (x.id == id) ≡ false) ss →
     without_over_in id (map (collection_in t) ss) ≡ map (collection_in t) ss
 over_others t id [] others = refl
 over_others t id (s ∷ ss) others = rw others.0 (ap (λ l. collection_in t s ∷ l) (over_others t id ss others.1))
@@ -123,25 +112,15 @@ over_others t id (s ∷ ss) others = rw others.0 (ap (λ l. collection_in t s �
 -- where none is found all are others
 pub none_others : (id : ℕ) (ss : List Shelf) → find (λ (x : Shelf). x.id == id) ss ≡ None →
     AllByRecursion (λ (x : Shelf). (x.id == id) ≡ false) ss
-none_others id [] none = tt
-none_others id (s ∷ ss) none = elim (either_way (s.id == id)) [
-  | inl same ↦ let some = rw same at none in absurd (cc)
-  | inr other ↦ (other, none_others id ss (rw other at none))
-]
-
--- and nothing is forgotten
-pub over_none : (t : Table Node) (id : ℕ) (ss : List Shelf) → find (λ (x : Shelf). x.id == id) ss ≡ None →
-    map (collection_in t) ss ≡ without_over_in id (map (collection_in t) ss)
-over_none t id ss none = sym (over_others t _ _ (none_others _ _ none))
+none_others id ss none = all_in _ ss (none_each _ ss (none-find _ ss none))
 
 module _ (t now : Table Node) (s : Shelf) (filed : list_all (is_filed t s.id) s.keys ≡ true) (look : (k : NodeKey) →
     node_at now k ≡ left_at t s.keys k) where
   -- other collections stay
   others_same : (ss : List Shelf) → are_filed t ss ≡ true → AllByRecursion (λ (x : Shelf). (x.id == s.id) ≡ false) ss →
       map (collection_in now) ss ≡ map (collection_in t) ss
-  others_same [] all others = refl
-  others_same (x ∷ xs) all others =
-      λ i. other_same t now s filed look x others.0 (and_left _ _ all) i ∷ others_same xs (and_right _ _ all) others.1 i
+  others_same ss all others = map-In _ _ ss (λ x on.
+      other_same t now s filed look x (all_at _ _ others x on) (all-In (λ (x : Shelf). list_all (is_filed t x.id) x.keys) ss x on all))
 
   -- the found one, with all behind it
   tidied_here : (ss : List Shelf) → are_filed t ss ≡ true → AllByRecursion (λ (x : Shelf). (x.id == s.id) ≡ false) ss → (b : Bool) →
@@ -157,7 +136,7 @@ module _ (t now : Table Node) (s : Shelf) (filed : list_all (is_filed t s.id) s.
       by true = others_same ss all others
       by false = λ i. own_tidied t now s filed look i ∷ others_same ss all others i
 
-  -- the nodes that are over are gone from the collection with the id, and it too where nothing is left
+  -- the collection with the id has no dead node any more, and is removed if it is empty
   pub tidied_all : (ss : List Shelf) → AreRising ss → are_filed t ss ≡ true → find (λ (x : Shelf). x.id == s.id) ss ≡ Some s →
       map (collection_in now) (without_bare s.id (thin_in now s.id ss)) ≡ without_over_in s.id (map (collection_in t) ss)
   tidied_all [] rising all found = absurd (cc)
@@ -177,36 +156,15 @@ module _ (t now : Table Node) (s : Shelf) (filed : list_all (is_filed t s.id) s.
       by on false other is = rw (other, other)
           (λ i. other_same t now s filed look x other (and_left _ _ all) i ∷ on is i)
 
-  -- the shelves of others have only keys that the table has
-  others_thinned : (ss : List Shelf) → are_filed t ss ≡ true → AllByRecursion (λ (x : Shelf). (x.id == s.id) ≡ false) ss →
-      map (thinned now) ss ≡ ss
-  others_thinned [] all others = refl
-  others_thinned (x ∷ xs) all others =
-      λ i. other_thinned t now s filed look x others.0 (and_left _ _ all) i ∷ others_thinned xs (and_right _ _ all) others.1 i
-
-  -- so thinning one shelf thins all
-  pub thinned_all : (ss : List Shelf) → AreRising ss → are_filed t ss ≡ true → thin_in now s.id ss ≡ map (thinned now) ss
-  thinned_all [] rising all = refl
-  thinned_all (x ∷ xs) rising all = elim (either_way (x.id == s.id)) [
-    | inl same ↦
-        let others = above_other _ _ _ rising.0 same in
-        rw same (ap (λ l. thinned now x ∷ l) (thin_others now _ _ others ∙ sym (others_thinned _ (and_right _ _ all) others)))
-    | inr other ↦ rw other (λ i. sym (other_thinned t now s filed look x other (and_left _ _ all)) i
-        ∷ thinned_all xs rising.1 (and_right _ _ all) i)
-  ]
+  -- the shelves of others have only keys that the table has, so thinning one shelf thins all
+  pub thinned_all : (ss : List Shelf) → are_filed t ss ≡ true → thin_in now s.id ss ≡ map (thinned now) ss
+  thinned_all ss all = map-In _ _ ss (λ x on. elim (either_way (x.id == s.id)) [
+    | inl same ↦ rw same refl
+    | inr other ↦ rw other
+        (sym (other_thinned t now s filed look x other (all-In (λ (x : Shelf). list_all (is_filed t x.id) x.keys) ss x on all)))
+  ])
 
 -- ---- shelves without a bare one
-
--- greater ids stay greater
-bare-above : (id low : ℕ) (ss : List Shelf) → AllByRecursion (λ (later : Shelf). low < later.id) ss →
-    AllByRecursion (λ (later : Shelf). low < later.id) (without_bare id ss)
-bare-above id low [] all = tt
-bare-above id low (s ∷ ss) all =
-    elim (s.id == id && is_bare s) as (λ b. AllByRecursion (λ (later : Shelf).
-    low < later.id) (cond (not b) (s ∷ without_bare id ss) (without_bare id ss))) [
-      | true ↦ bare-above id low ss all.1
-      | false ↦ (all.0, bare-above id low ss all.1)
-    ]
 
 -- the ids still rise
 bare-rising : (id : ℕ) (ss : List Shelf) → AreRising ss → AreRising (without_bare id ss)
@@ -214,7 +172,7 @@ bare-rising id [] rising = tt
 bare-rising id (s ∷ ss) rising =
     elim (s.id == id && is_bare s) as (λ b. AreRising (cond (not b) (s ∷ without_bare id ss) (without_bare id ss))) [
       | true ↦ bare-rising id ss rising.1
-      | false ↦ (bare-above id _ _ rising.0, bare-rising id ss rising.1)
+      | false ↦ (all_filter _ _ _ rising.0, bare-rising id ss rising.1)
     ]
 
 -- the keys stay
@@ -237,17 +195,6 @@ bare-filed : (t : Table Node) (id : ℕ) (ss : List Shelf) → are_filed t ss �
 bare-filed t id ss filed =
     list_all-filter (λ (s : Shelf). list_all (is_filed t s.id) s.keys) (λ (s : Shelf). not (s.id == id && is_bare s)) ss filed
 
--- the collections stay whole
-bare-whole : (t : Table Node) (id : ℕ) (ss : List Shelf) → AllByRecursion (λ (s : Shelf). IsWhole (collection_in t s)) ss →
-    AllByRecursion (λ (s : Shelf). IsWhole (collection_in t s)) (without_bare id ss)
-bare-whole t id [] all = tt
-bare-whole t id (s ∷ ss) all =
-    elim (s.id == id && is_bare s) as (λ b. AllByRecursion (λ (x : Shelf).
-    IsWhole (collection_in t x)) (cond (not b) (s ∷ without_bare id ss) (without_bare id ss))) [
-      | true ↦ bare-whole t id ss all.1
-      | false ↦ (all.0, bare-whole t id ss all.1)
-    ]
-
 -- all that holds of forests holds without a bare collection
 pub bare-kept : (t : Table Node) (id : ℕ) (ss : List Shelf) → IsStored t ss → IsStored t (without_bare id ss)
 bare-kept t id ss ok = record {
@@ -260,7 +207,7 @@ bare-kept t id ss ok = record {
   counted = ap length (bare-keys id ss) ∙ ok.counted;
   linked = ok.linked;
   heads = ok.heads;
-  whole = bare-whole t id ss ok.whole;
+  whole = all_filter _ _ _ ok.whole;
   parents = ok.parents;
   kin = ok.kin;
 }

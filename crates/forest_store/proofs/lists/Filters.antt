@@ -1,8 +1,7 @@
 -- Tests over lists that were filtered and mapped.
-use Rattle.forest_store.proofs.Common.{ℕ, ◌≡◌, ◌<◌, ◌≤◌, nat_lt, refl, ap, sym, ◌∙◌, Bool, true, false, not, ◌&&◌, ◌||◌, cond, if◌then◌else◌, List, [], ◌∷◌, map, Option, Some, None, inl, inr, arith, list_any, list_all, find, filter, cons_option, lt-ltb, either_way, or_cases, or_right, max, filter_map, fold, ltb-true, ltb-false, or_false, option_map}
-use Rattle.std.proofs.Math.Bool.{or_assoc}
-use Rattle.sm_names.proofs.StandingLaws.{both_tests}
+use Rattle.forest_store.proofs.Common.{ℕ, ◌≡◌, ◌<◌, ◌≤◌, nat_lt, refl, ap, sym, ◌∙◌, Bool, true, false, not, ◌&&◌, ◌||◌, cond, if◌then◌else◌, List, [], ◌∷◌, map, Option, Some, None, inl, inr, arith, list_any, list_all, find, filter, cons_option, lt-ltb, either_way, or_cases, or_right, max, filter_map, fold, ltb-true, ltb-false, or_false, option_map, or_assoc, both_tests}
 use Rattle.sm_names.proofs.BitLaws.{none_below}
+use Rattle.forest_store.proofs.lists.Elements.{map-same}
 
 module _ {A B : Type 0} (asked : A → Bool) (f : A → B) (p : B → Bool) where
   -- some of those that were asked for pass
@@ -42,21 +41,11 @@ module _ {A B : Type 0} (asked : A → Bool) (f : A → B) (p : B → Bool) wher
 module _ {A : Type 0} (asked p : A → Bool) where
   -- some of those that were asked for pass
   pub any-filter : (xs : List A) → list_any p (filter asked xs) ≡ list_any (λ x. asked x && p x) xs
-  any-filter [] = refl
-  any-filter (x ∷ xs) =
-      elim (either_way (asked x)) [
-        | inl e ↦ rw e (ap (λ (b : Bool). p x || b) (any-filter xs))
-        | inr e ↦ rw e (any-filter xs)
-      ]
+  any-filter xs = ap (list_any p) (sym (map-same (λ x. x) _ (λ x on. refl))) ∙ any-map_filter asked (λ x. x) p xs
 
   -- all of those that were asked for pass
   pub all-filter : (xs : List A) → list_all p (filter asked xs) ≡ list_all (λ x. not (asked x) || p x) xs
-  all-filter [] = refl
-  all-filter (x ∷ xs) =
-      elim (either_way (asked x)) [
-        | inl e ↦ rw e (ap (λ (b : Bool). p x && b) (all-filter xs))
-        | inr e ↦ rw e (all-filter xs)
-      ]
+  all-filter xs = ap (list_all p) (sym (map-same (λ x. x) _ (λ x on. refl))) ∙ all-map_filter asked (λ x. x) p xs
 
 -- what is made of those that were asked for twice
 pub made-filter_map : {A B C : Type 0} (asked : A → Bool) (f : A → B) (again : B → Bool) (h : B → Option C)

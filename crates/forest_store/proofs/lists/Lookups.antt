@@ -1,6 +1,6 @@
 -- The nodes that a list of keys finds, by a look-up of one key.
-use Rattle.forest_store.proofs.Common.{◌≡◌, Bool, true, false, ◌||◌, not, List, [], ◌∷◌, map, Option, Some, None, option_map, cond, if◌then◌else◌, refl, sym, ap, ◌∙◌, filter, list_any, cons_option, NodeKey, same_key, same_key-true, Node, is_of, node_of, filter_map, same_key-equal, same_key-apart, either_way, inl, inr}
-use Rattle.node_table.proofs.Keys.{false-same_key}
+use Rattle.forest_store.proofs.Common.{In, In-list_any, Table, node_at, nodes_with, ◌≡◌, Bool, true, false, ◌||◌, not, List, [], ◌∷◌, map, Option, Some, None, option_map, cond, if◌then◌else◌, refl, sym, ap, ◌∙◌, filter, list_any, cons_option, NodeKey, same_key, same_key-true, Node, is_of, node_of, filter_map, same_key-equal, same_key-apart, either_way, inl, inr, false-same_key}
+use Rattle.forest_store.proofs.lists.Elements.{In-made-back}
 
 -- a look-up of nodes by key
 abbrev pub Look : Type 0
@@ -82,3 +82,10 @@ looked-kept key now none (k ∷ ks) = elim (either_way (same_key key k)) [
       rw (same, here) (looked-kept key now none ks)
   | inr other ↦ rw other (ap (cons_option (now k)) (looked-kept key now none ks))
 ]
+
+-- the node of a key is among those of the keys
+pub in_nodes : (t : Table Node) (keys : List NodeKey) (k : NodeKey) (n : Node) → node_at t k ≡ Some n → list_any (same_key k) keys ≡ true →
+    In n (nodes_with t keys)
+in_nodes t keys k n is there =
+    let x = In-list_any (same_key k) keys there in
+    In-made-back (node_at t) keys x.0 n x.1 (ap (node_at t) (sym (same_key-true k x.0 x.2)) ∙ is)

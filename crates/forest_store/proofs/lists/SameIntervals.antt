@@ -1,15 +1,13 @@
--- Lists of the same intervals in another order, of which no two begin at one page: sorted by page they are one list.
-use Rattle.forest_store.proofs.Common.{◌≡◌, ◌≢◌, ℕ, ◌<◌, ◌≤◌, ◌==◌, nat_lt, Bool, true, false, ◌||◌, ◌&&◌, not, List, [], ◌∷◌, ◌++◌, cond, refl, ap, ◌∙◌, inl, inr, arith, list_any, lt-ltb, Interval, and_left, and_right, le-ltb, ne_eqb, cases_lt, ltb-true, leb-true, insert_by, sorted_by}
-use Rattle.std.proofs.lemmas.Grind.{common_steps}
+-- Lists of the same intervals in another order, no two at one page: sorted they are one list.
+use Rattle.forest_store.proofs.Common.{◌≡◌, ◌≢◌, ℕ, ◌<◌, ◌≤◌, ◌==◌, nat_lt, Bool, true, false, ◌||◌, ◌&&◌, not, List, [], ◌∷◌, ◌++◌, cond, refl, ap, ◌∙◌, inl, inr, arith, list_any, lt-ltb, Interval, and_left, and_right, le-ltb, ne_eqb, cases_lt, ltb-true, leb-true, insert_by, sorted_by, common_steps, in_order}
 use Rattle.forest_store.specs.Starts.{begins_with, starts_differ}
-use Rattle.buffer_pool.specs.Holdings.{in_order}
 use Rattle.buffer_pool.specs.Holes.{end_of}
 
 -- where an interval begins
 abbrev pub start_of : Interval → ℕ
 start_of i = i.start
 
--- the tests find the same in both, and where no two begin at one page, the two are one list once sorted
+-- tests find the same in both; where no two begin at one page, they are one list once sorted
 pub record Alike (xs ys : List Interval) : Type 0 where
   pub any : (test : Interval → Bool) → list_any test xs ≡ list_any test ys
   pub parted : starts_differ xs ≡ starts_differ ys
@@ -44,7 +42,7 @@ pub less_of : (a b : ℕ) → a ≢ b → b ≤ a → b < a
 less_of a b differ le = elim (cases_lt b a) [ inl less ↦ less | inr more ↦ absurd (differ (omega arith)) ]
 
 -- two that go in at different places, in either order
-insert-swap : (x y : Interval) (zs : List Interval) → x.start ≢ y.start →
+pub insert-swap : (x y : Interval) (zs : List Interval) → x.start ≢ y.start →
     insert_by start_of x (insert_by start_of y zs) ≡ insert_by start_of y (insert_by start_of x zs)
 insert-swap x y [] differ = elim (cases_lt x.start y.start) [
   | inl less ↦ rw (lt-ltb x.start y.start less, le-ltb y.start x.start (omega arith)) refl
@@ -125,7 +123,7 @@ parted-insert x (z ∷ zs) =
     ]
 
 -- sorting parts no less
-any-sorted : (test : Interval → Bool) (xs : List Interval) → list_any test (sorted_by start_of xs) ≡ list_any test xs
+pub any-sorted : (test : Interval → Bool) (xs : List Interval) → list_any test (sorted_by start_of xs) ≡ list_any test xs
 any-sorted test [] = refl
 any-sorted test (x ∷ xs) = any-insert test x _ ∙ ap (λ b. test x || b) (any-sorted test xs)
 

@@ -1,19 +1,8 @@
 -- A stable sort by a number gives what putting the elements in place one after another gives.
-use Rattle.forest_store.proofs.Common.{ℕ, suc, ◌≡◌, ◌==◌, ◌<◌, ◌≤◌, refl, ap, sym, ◌∙◌, Bool, true, false, ◌&&◌, not, nat_lt, cond, inl, inr, List, [], ◌∷◌, length, arith, filter, AllByRecursion, eq-eqb, either_way, IsNonDecreasingBy, ne_eqb, ltb-true, ltb-false, insert_by, sorted_by, slice_index_or}
-use Rattle.std.proofs.lemmas.Grind.{common_steps}
-use Rattle.std.specs.List.Sorted.{ties, IsSortedByKey, IsStableByKey}
+use Rattle.forest_store.proofs.Common.{ℕ, suc, ◌≡◌, ◌==◌, ◌<◌, ◌≤◌, refl, ap, sym, ◌∙◌, Bool, true, false, nat_lt, cond, inl, inr, List, [], ◌∷◌, length, arith, filter, AllByRecursion, eq-eqb, either_way, IsNonDecreasingBy, ne_eqb, ltb-true, ltb-false, insert_by, sorted_by, slice_index_or, common_steps, ties, IsSortedByKey, IsStableByKey, IsNonDecreasingBy-from_sort}
 use Rattle.std.specs.Ordering.{is_lt, nat_cmp}
-use Rattle.std.proofs.lemmas.List.Sorted.{IsNonDecreasingBy-from_sort}
 
 -- ---- numbers
-
--- whether a number is less, by the order
-less_is : (a b : ℕ) → is_lt (nat_cmp a b) ≡ nat_lt a b
-less_is a b = grind (arith, common_steps)
-
--- neither of two numbers is less where they are the same
-neither_is : (a b : ℕ) → (not (nat_lt a b) && not (nat_lt b a)) ≡ (a == b)
-neither_is a b = grind (arith, common_steps)
 
 -- a number that is less is not the same
 pub other_number : (a b : ℕ) → a < b → (a == b) ≡ false

@@ -1,8 +1,7 @@
 -- A node that is born: what the table has, and what stays true.
-use Rattle.forest_store.proofs.Common.{◌≡◌, ℕ, ◌+◌, nat_lt, Bool, true, false, length, Option, Some, None, option_map, cond, if◌then◌else◌, refl, sym, ap, subst, ◌∙◌, inl, inr, arith, option_map_or, lt-ltb, false≢true, NodeKey, same_key, either_way, Table, node_at, parent_at, Node, nat_le, Result, Ok, Err, IfOk, ne_eqb, cases_eq, get_or_past, Row, row_at, parent_in, next_at, was_given, Writes, at_parent, table_with_node, key_cases, same_key-equal, same_key-apart, Bears, born, named}
-use Rattle.std.proofs.lemmas.Bool.{le-leb}
-use Rattle.node_table.specs.Changes.{Births, with_child}
+use Rattle.forest_store.proofs.Common.{◌≡◌, ℕ, ◌+◌, nat_lt, Bool, true, false, length, Option, Some, None, option_map, if◌then◌else◌, refl, sym, ap, subst, ◌∙◌, inl, inr, arith, option_map_or, lt-ltb, false≢true, NodeKey, same_key, either_way, Table, node_at, parent_at, Node, nat_le, Result, Ok, Err, IfOk, ne_eqb, cases_eq, get_or_past, Row, row_at, parent_in, next_at, was_given, Writes, table_with_node, key_cases, same_key-equal, same_key-apart, Bears, born, named, le-leb, Births, with_child}
 use Rattle.forest_store.proofs.tables.Writing.{look-written, parents-written}
+use Rattle.forest_store.proofs.tables.TakingOut.{still_node, still_parent}
 
 -- ---- the table
 
@@ -30,16 +29,6 @@ first_born t u parent node key b =
     sym (get_or_past u.nexts far u.first (omega arith)) ∙ b.nexts far (λ same. omega (arith, same))
     ∙ get_or_past t.nexts far t.first (omega arith)
 
--- the other rows have their nodes
-still_node : (parent : Option NodeKey) (key other : NodeKey) (o : Option (Row Node)) →
-    option_map (λ (row : Row Node). row.node) (option_map (at_parent parent (with_child key) other) o) ≡ option_map (λ (row : Row Node).
-    row.node) o
-still_node None key other None = refl
-still_node None key other (Some row) = refl
-still_node (Some above) key other None = refl
-still_node (Some above) key other (Some row) =
-    elim (same_key above other) as (λ b. Some (cond b (with_child key row) row).node ≡ Some row.node) [ true ↦ refl | false ↦ refl ]
-
 -- what the table has once the node is born and written
 pub born_look : (t u now : Table Node) (parent : Option NodeKey) (draft node : Node) → Births t u parent draft node.key →
     Writes u now node.key node → (k : NodeKey) → node_at now k ≡ (if same_key node.key k then Some node else node_at t k)
@@ -49,17 +38,8 @@ born_look t u now parent draft node b w k = look-written u now node.key node w k
       rw (same_key-equal node.key k same, there) refl
   | inr differ ↦
       rw (same_key-apart node.key k differ) (ap (option_map (λ (row : Row Node). row.node)) (b.others k (λ same. differ (sym same)))
-      ∙ still_node parent node.key k (row_at t k))
+      ∙ still_node (with_child node.key) (λ row. refl) parent k (row_at t k))
 ])
-
--- and their parents
-still_parent : (parent : Option NodeKey) (key other : NodeKey) (o : Option (Row Node)) →
-    parent_in (option_map (at_parent parent (with_child key) other) o) ≡ parent_in o
-still_parent None key other None = refl
-still_parent None key other (Some row) = refl
-still_parent (Some above) key other None = refl
-still_parent (Some above) key other (Some row) =
-    elim (same_key above other) as (λ b. (cond b (with_child key row) row).parent ≡ row.parent) [ true ↦ refl | false ↦ refl ]
 
 -- the node has its parent in the table, and the others have theirs
 born_parents : (t u now : Table Node) (parent : Option NodeKey) (draft node : Node) → node.parent ≡ parent →
@@ -68,7 +48,7 @@ born_parents : (t u now : Table Node) (parent : Option NodeKey) (draft node : No
 born_parents t u now parent draft node up b w k = parents-written u now node.key node w k ∙ (elim (key_cases node.key k) [
   | inl same ↦ rw (same_key-equal node.key k same) (ap (parent_at u) (sym same) ∙ ap parent_in b.born ∙ sym up)
   | inr differ ↦ rw (same_key-apart node.key k differ) (ap parent_in (b.others k (λ same. differ (sym same)))
-      ∙ still_parent parent node.key k (row_at t k))
+      ∙ still_parent (with_child node.key) (λ row. refl) parent k (row_at t k))
 ])
 
 -- there is one more node

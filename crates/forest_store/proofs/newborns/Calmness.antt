@@ -1,5 +1,5 @@
 -- A birth leaves a calm collection calm.
-use Rattle.forest_store.proofs.Common.{◌≡◌, ℕ, ap, refl, sym, subst, ◌∙◌, Bool, true, false, not, ◌&&◌, List, [], ◌∷◌, ◌++◌, Option, Some, None, option_map, is_some, find, list_any, option_and_then, option_map_or, NodeKey, Buffers, Cause, when, Change, Node, Collection, is_of, members_of, node_of, is_next_node, Standing, is_next_head, logical_failure, outcome, Ended, Loss, Mark, Member, demands, reserved, some_strong_live, unit, map-None, AtRest, none_is, IsQuiescent, member_of, new_child, new_root, changed}
+use Rattle.forest_store.proofs.Common.{arith, ◌≡◌, ℕ, ap, refl, sym, subst, ◌∙◌, Bool, true, false, not, ◌&&◌, List, [], ◌∷◌, ◌++◌, Option, Some, None, option_map, is_some, find, list_any, option_and_then, option_map_or, NodeKey, Buffers, Cause, when, Change, Node, Collection, is_of, members_of, node_of, Standing, is_next_head, logical_failure, outcome, Ended, Loss, Mark, Member, demands, reserved, some_strong_live, unit, map-None, AtRest, none_is, IsQuiescent, member_of, new_child, new_root, changed}
 use Rattle.forest_store.proofs.quiescence.Calming.{calm_none, later, none_calm, wait_tie}
 use Rattle.forest_store.proofs.quiescence.Forcing.{deserted_tie, next_tie}
 use Rattle.forest_store.proofs.newborns.Members.{IsNewborn, rests_with}
@@ -23,17 +23,7 @@ module _ (c : Collection) where
   not_abandoned (Some root) = from _ (some_strong_live ms)
     where
       from : (a s : Bool) → when (a && (not s && false)) (Loss root.key Cause.NoStrong) ≡ None
-      from false s = refl
-      from true true = refl
-      from true false = refl
-
-  -- the next head is the same on both sides
-  next_none : find (is_next_node c.nodes) c.nodes ≡ None → find (is_next_head ms) ms ≡ None
-  next_none none = next_tie c.nodes ∙ ap (option_map (member_of c.nodes)) none
-
-  -- the next head is the same on both sides
-  none_next : find (is_next_head ms) ms ≡ None → find (is_next_node c.nodes) c.nodes ≡ None
-  none_next none = map-None _ _ (sym (next_tie c.nodes) ∙ none)
+      from a s = grind arith
 
   -- the allocation of an attached unit
   abbrev served : Option Buffers → Option Mark
@@ -43,12 +33,12 @@ module _ (c : Collection) where
   -- without buffers nothing is served; with them no head is next
   none_served : (o : Option Buffers) → later c.nodes o ≡ None → served o ≡ None
   none_served None h = refl
-  none_served (Some b) h = rw (next_none (map-None _ _ h)) refl
+  none_served (Some b) h = rw (next_tie c.nodes ∙ ap (option_map (member_of c.nodes)) (map-None _ _ h)) refl
 
   -- the same from the members to the nodes
   none_later : (o : Option Buffers) → served o ≡ None → later c.nodes o ≡ None
   none_later None h = refl
-  none_later (Some b) h = rw (none_next (map-None _ _ h)) refl
+  none_later (Some b) h = rw (map-None _ _ (sym (next_tie c.nodes) ∙ map-None _ _ h)) refl
 
   -- no step is left in the collection, so none is among its members
   pub calm_rest : IsQuiescent c → AtRest (kept_open c)

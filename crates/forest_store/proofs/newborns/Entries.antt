@@ -1,8 +1,7 @@
 -- The entries once a node is born of which nothing else follows.
-use Rattle.forest_store.proofs.Common.{◌≡◌, ℕ, ◌+◌, ◌==◌, Bool, false, if◌then◌else◌, List, [], Option, Some, None, option_map, get_or, set, refl, sym, ap, subst, ◌∙◌, arith, find, list_any, option_map_or, NodeKey, Table, Entry, Node, strong_count, over_except, Collection, IsStored, Shelf, collection_in, forest_of, place_in, put_shelf, shelf_of, shelves_of, nodes_with, reserved_count, collection_or_new, Result, Ok, Err, IfOk, get_or_default, unwrap_or, AreCounted, IsQuiescent, IsCounted, put_in, Bears, born, no_shelf, shelf_before, shelf_with}
-use Rattle.std.proofs.Common.{OnErr}
+use Rattle.forest_store.proofs.Common.{◌≡◌, ℕ, ◌+◌, ◌==◌, Bool, false, if◌then◌else◌, List, [], Option, Some, None, option_map, get_or, set, refl, sym, ap, subst, ◌∙◌, arith, find, list_any, option_map_or, NodeKey, Table, Entry, Node, strong_count, over_except, Collection, IsStored, Shelf, collection_in, forest_of, place_in, put_shelf, shelf_of, shelves_of, nodes_with, reserved_count, collection_or_new, Result, Ok, Err, IfOk, get_or_default, unwrap_or, AreCounted, IsQuiescent, IsCounted, put_in, Bears, born, no_shelf, shelf_before, shelf_with, OnErr}
 use Rattle.forest_store.proofs.newborns.Forest.{still_collection}
-use Rattle.forest_store.proofs.shelves.Counted.{counted_but, counted_put, counted_set, moved_all, recounted, set_shelves, shelves_put}
+use Rattle.forest_store.proofs.shelves.Counted.{counted_but, counted_put, counted_set, moved_all, counted_as, set_shelves, shelves_put}
 use Rattle.forest_store.proofs.newborns.Newborn.{Above}
 use Rattle.forest_store.proofs.newborns.Quiet.{counted_born}
 use Rattle.forest_store.proofs.Basics.{IsPlace, set_put, collection_is, shelf_found, found_counted}
@@ -55,7 +54,7 @@ module _ (t : Table Node) (es : List Entry) (ok : IsStored t (shelves_of es)) (a
       -- a refusal keeps counts, notes and nodes
       pub refused_counted : AreCounted t (set es at new)
       refused_counted = counted_set t _ at new
-          (λ within was. recounted t _ _ (ap (collection_in t) same) strong reserved (λ h.
+          (λ within was. counted_as (ap (collection_in t) same) strong reserved (λ h.
           ap (λ (ks : List NodeKey). list_any (over_except ks) (nodes_with t old.keys.items)) garbage ∙ counted.garbage_known (sym garbage_known ∙ h)) counted)
           all
 

@@ -1,6 +1,6 @@
 -- What stays true of a forest with one node more.
-use Rattle.forest_store.proofs.Common.{◌≡◌, ℕ, suc, ◌<◌, ◌==◌, ◌⊎◌, Bool, true, false, ◌||◌, List, [], ◌∷◌, ◌++◌, map, length, Option, Some, None, refl, sym, ap, subst, ◌∙◌, inl, inr, arith, list_any, list_all, find, cons_option, AllByRecursion, option_map_or, eq-eqb, false≢true, NodeKey, same_key, HeldBuffer, and_left, and_right, or_right, same_key-true, some-injective, Table, node_at, parent_at, Node, Collection, Shelf, AreRising, IsStored, IsWhole, put_shelf, collection_in, nodes_with, forest_of, all_keys, are_filed, is_filed, put, append_assoc, flat_map, ltb-true, filter_map-append, list_any-append, was_given, key_cases, same_key-equal, same_key-apart, all_held, AreKin, Bears, are_apart}
-use Rattle.forest_store.proofs.Basics.{or_swap, part_swap, none_above, whole-map, whole-unmap, same_key-swap, given_there, cases_place, rising-put, above-weaker, put-map}
+use Rattle.forest_store.proofs.Common.{all_on, and_both, map-In, ◌≡◌, ℕ, suc, ◌<◌, ◌==◌, ◌⊎◌, Bool, true, false, ◌||◌, List, [], ◌∷◌, ◌++◌, map, length, Option, Some, None, refl, sym, ap, subst, ◌∙◌, inl, inr, arith, list_any, list_all, find, cons_option, AllByRecursion, option_map_or, eq-eqb, false≢true, NodeKey, same_key, HeldBuffer, and_left, and_right, or_right, same_key-true, some-injective, Table, node_at, parent_at, Node, Collection, Shelf, AreRising, IsStored, IsWhole, put_shelf, collection_in, nodes_with, forest_of, all_keys, are_filed, is_filed, put, append_assoc, flat_map, ltb-true, filter_map-append, list_any-append, was_given, key_cases, same_key-equal, same_key-apart, all_held, AreKin, Bears, are_apart, list_all-append}
+use Rattle.forest_store.proofs.Basics.{all-In, each_none, made-In, or_swap, part_swap, none_above, whole-map, whole-unmap, same_key-swap, given_there, cases_place, rising-put, above-weaker, put-map}
 
 -- ---- keys in another order
 
@@ -110,10 +110,7 @@ both_none {a} {b} p q = rw (p, q) refl
 -- a test that all of two lists pass
 pub all-append : {A : Type 0} (test : A → Bool) (xs ys : List A) → list_all test xs ≡ true → list_all test ys ≡ true →
     list_all test (xs ++ ys) ≡ true
-all-append test [] ys p q = q
-all-append test (x ∷ xs) ys p q =
-    let first : test x ≡ true = and_left _ _ p in
-    rw first (all-append test xs ys (and_right _ _ p) q)
+all-append test xs ys p q = list_all-append test xs ys ∙ and_both _ _ p q
 
 module _ (t now : Table Node) (node : Node) (bears : Bears t now node) where
   -- a key that had a node has it still
@@ -127,12 +124,6 @@ module _ (t now : Table Node) (node : Node) (bears : Bears t now node) where
   pub born_at : node_at now node.key ≡ Some node
   born_at = bears.look node.key ∙ rw (same_key-equal _ _ refl) refl
 
-  -- by what was there
-  still_filed-by : (id : ℕ) (key : NodeKey) (o : Option Node) → node_at t key ≡ o →
-      option_map_or (λ (n : Node). n.collection == id) o false ≡ true → is_filed now id key ≡ true
-  still_filed-by id key None is filed = absurd (false≢true filed)
-  still_filed-by id key (Some n) is filed = rw (still_at _ n is) filed
-
   -- a filed key finds the node that it found
   still_found : (id : ℕ) (key : NodeKey) (o : Option Node) → node_at t key ≡ o →
       option_map_or (λ (n : Node). n.collection == id) o false ≡ true → node_at now key ≡ node_at t key
@@ -141,23 +132,18 @@ module _ (t now : Table Node) (node : Node) (bears : Bears t now node) where
 
   -- filed keys find the nodes that they found
   still_looked : (id : ℕ) (keys : List NodeKey) → list_all (is_filed t id) keys ≡ true → nodes_with now keys ≡ nodes_with t keys
-  still_looked id [] filed = refl
-  still_looked id (k ∷ ks) filed =
-      let rest = still_looked id ks (and_right _ _ filed) in
-      λ i. cons_option (still_found _ k _ refl (and_left _ _ filed) i) (rest i)
+  still_looked id keys filed = made-In _ _ keys (λ k on. still_found id k _ refl (all-In (is_filed t id) keys k on filed))
 
   -- and are filed still
   still_filed : (id : ℕ) (keys : List NodeKey) → list_all (is_filed t id) keys ≡ true → list_all (is_filed now id) keys ≡ true
-  still_filed id [] filed = refl
-  still_filed id (k ∷ ks) filed =
-      let first : is_filed now id k ≡ true = still_filed-by _ k _ refl (and_left _ _ filed) in
-      rw first (still_filed id ks (and_right _ _ filed))
+  still_filed id keys filed = all_on _ keys (λ k on.
+      let own = all-In (is_filed t id) keys k on filed in
+      ap (λ (o : Option Node). option_map_or (λ (n : Node). n.collection == id) o false) (still_found id k _ refl own) ∙ own)
 
   -- all of them
   still_all_filed : (ss : List Shelf) → are_filed t ss ≡ true → are_filed now ss ≡ true
-  still_all_filed [] filed = refl
-  still_all_filed (s ∷ ss) filed =
-      rw (still_filed _ _ (and_left _ _ filed)) (still_all_filed ss (and_right _ _ filed))
+  still_all_filed ss filed = all_on _ ss (λ s on.
+      still_filed s.id s.keys (all-In (λ (s : Shelf). list_all (is_filed t s.id) s.keys) ss s on filed))
 
   -- a collection stays
   pub still_collection : (s : Shelf) → list_all (is_filed t s.id) s.keys ≡ true → collection_in now s ≡ collection_in t s
@@ -165,10 +151,8 @@ module _ (t now : Table Node) (node : Node) (bears : Bears t now node) where
 
   -- so do all
   pub still_collections : (ss : List Shelf) → are_filed t ss ≡ true → map (collection_in now) ss ≡ map (collection_in t) ss
-  still_collections [] filed = refl
-  still_collections (s ∷ ss) filed =
-      let rest = still_collections ss (and_right _ _ filed) in
-      λ i. still_collection s (and_left _ _ filed) i ∷ rest i
+  still_collections ss filed = map-In _ _ ss (λ s on.
+      still_collection s (all-In (λ (s : Shelf). list_all (is_filed t s.id) s.keys) ss s on filed))
 
   -- the keys with that of the node find the nodes with the node
   pub born_looked : (id : ℕ) (keys : List NodeKey) → list_all (is_filed t id) keys ≡ true →
@@ -185,9 +169,7 @@ module _ (t now : Table Node) (node : Node) (bears : Bears t now node) where
 
   -- no filed key is the new one
   pub none_there : (id : ℕ) (keys : List NodeKey) → list_all (is_filed t id) keys ≡ true → list_any (same_key node.key) keys ≡ false
-  none_there id [] filed = refl
-  none_there id (k ∷ ks) filed =
-      both_none (not_this _ k _ refl (and_left _ _ filed)) (none_there id ks (and_right _ _ filed))
+  none_there id keys filed = each_none _ keys (λ k on. not_this id k _ refl (all-In (is_filed t id) keys k on filed))
 
   -- a node that is found is the new one, or was found
   found_more : (key : NodeKey) (n : Node) → node_at now key ≡ Some n → ((node.key ≡ key) × (node ≡ n)) ⊎ (node_at t key ≡ Some n)

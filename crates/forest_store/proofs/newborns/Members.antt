@@ -1,22 +1,6 @@
--- Where nothing was forced, a newborn that comes last among the nodes of a collection forces nothing.
-use Rattle.forest_store.proofs.Common.{◌≡◌, refl, ap, sym, ◌∙◌, Bool, true, false, cond, ◌&&◌, ◌||◌, not, ◌⊎◌, inl, inr, List, [], ◌∷◌, ◌++◌, Option, Some, None, is_some, list_any, list_all, find, option_map_or, option_and_then, NodeKey, Buffers, Cause, Demand, same_key, when, In, and_left, both_ways, either_way, or_left, or_right, same_key-refl, same_key-true, filter-append, list_any-append, Standing, ending, abandoned, logical_allocation, logical_failure, outcome, is_allocated, is_deserted, is_next_head, Mark, Loss, Ended, Member, is_live, is_ready, is_root, is_settled, root_left, some_live, some_strong_live, subtree, unit, demands, reserved, AtRest, or_both, or_parts, map-None, option_map, arith}
-use Rattle.std.proofs.Math.Bool.{and-false, or-false, or-true}
-use Rattle.std.proofs.lemmas.List.Folds.{find-append, list_all-append}
-use Rattle.std.specs.Option.{option_or}
-use Rattle.sm_names.proofs.ListLaws.{find-none, none-find}
-
--- ---- lists
-
--- where none passes a test, none passes one that asks more
-any-less : {A : Type 0} (p q : A → Bool) (xs : List A) → ((x : A) → In x xs → p x ≡ true → q x ≡ true) →
-    list_any q xs ≡ false → list_any p xs ≡ false
-any-less p q [] more none = refl
-any-less p q (x ∷ xs) more none =
-    let parts = or_parts _ _ none in
-    elim (either_way (p x)) [
-      | inl e ↦ both_ways _ (more x (inl refl) e) parts.0
-      | inr e ↦ or_both _ _ e (any-less p q xs (λ y on. more y (inr on)) parts.1)
-    ]
+-- Where nothing was forced, a newborn that comes last among the nodes forces nothing.
+use Rattle.forest_store.proofs.Common.{◌≡◌, refl, ap, sym, ◌∙◌, Bool, true, false, cond, ◌&&◌, ◌||◌, not, ◌⊎◌, inl, inr, List, [], ◌∷◌, ◌++◌, Option, Some, None, is_some, list_any, list_all, find, option_map_or, option_and_then, NodeKey, Buffers, Cause, Demand, same_key, when, In, and_left, either_way, or_left, or_right, same_key-refl, same_key-true, filter-append, list_any-append, Standing, ending, abandoned, logical_allocation, logical_failure, outcome, is_allocated, is_deserted, is_next_head, Mark, Loss, Ended, Member, is_live, is_ready, is_root, is_settled, root_left, some_live, some_strong_live, subtree, unit, demands, reserved, AtRest, or_both, map-None, option_map, arith, and-false, or-false, or-true, find-append, list_all-append, option_or, find-none, none-find}
+use Rattle.forest_store.proofs.lists.Elements.{none_less}
 
 -- ---- tests
 
@@ -77,7 +61,7 @@ module _ (ms : List Member) (m : Member) (newborn : IsNewborn ms m) where
   root_more : root_left more ≡ option_or (root_left ms) (root_left (m ∷ []))
   root_more = find-append _ ms _
 
-  -- what holds where there is none, and of the newborn if it is a root, holds of the newborn's own root
+  -- what holds of no root, and of the newborn if it is one, holds of the newborn's own root
   newest_root : (P : Option Member → Type 0) → P None → (is_root m ≡ true → P (Some m)) → P (root_left (m ∷ []))
   newest_root P none some =
       (elim (is_root m && not m.gone) as (λ (b : Bool). (is_root m && not m.gone) ≡ b → P (cond b (Some m) None)) [
@@ -99,7 +83,7 @@ module _ (ms : List Member) (m : Member) (newborn : IsNewborn ms m) where
   none_deserted : list_any (is_deserted ms) ms ≡ false → list_any (is_deserted more) more ≡ false
   none_deserted none = list_any-append (is_deserted more) ms (m ∷ [])
       ∙ or_both (list_any (is_deserted more) ms) (list_any (is_deserted more) (m ∷ []))
-      (any-less (is_deserted more) (is_deserted ms) ms (λ x on. deserted_less x) none) (rw not_deserted refl)
+      (none_less (is_deserted more) (is_deserted ms) ms (λ x on. deserted_less x) none) (rw not_deserted refl)
 
   -- ---- heads of units
 
@@ -133,9 +117,9 @@ module _ (ms : List Member) (m : Member) (newborn : IsNewborn ms m) where
   -- so none is, where none was
   none_next : list_any (is_next_head ms) ms ≡ false → list_any (is_next_head more) more ≡ false
   none_next none = list_any-append _ ms _
-      ∙ or_both _ _ (any-less _ _ _ next_less none) (rw not_next refl)
+      ∙ or_both _ _ (none_less _ _ _ next_less none) (rw not_next refl)
 
--- the loss of a root that has its buffers, where neither a strong node nor a strong handle keeps them
+-- the loss of a root with buffers that neither a strong node nor a strong handle keeps
 abbrev loss_of : Bool → Bool → Member → Option Mark
 loss_of strong open_handle root = when (root.allocated && (not strong && not open_handle)) (Loss root.key Cause.NoStrong)
 

@@ -1,6 +1,5 @@
 -- The collection that a node is born into.
-use Rattle.forest_store.proofs.Common.{◌≡◌, ℕ, ◌==◌, Bool, true, false, ◌||◌, ◌&&◌, ◌⊎◌, not, List, [], ◌∷◌, ◌++◌, drop, reverse, Option, Some, None, option_map, is_some, refl, sym, ap, subst, ◌∙◌, inl, inr, list_any, list_all, find, option_map_or, option_and_then, eqb-true, eq-eqb, false≢true, not-true, NodeKey, same_key, In, In-find, and_left, and_right, both_ways, either_way, or_cases, or_left, or_right, same_key-refl, same_key-true, some-injective, In-any, Table, node_at, Change, Node, is_left_of, Collection, Shelf, AreRising, IsStored, IsWhole, put_shelf, collection_in, nodes_with, forest_of, all_keys, are_filed, is_filed, is_of, node_of, are_distinct, heads_itself, collection_or_new, are_rooted, IsSome, IfSome, unwrap_or, map-append, list_any-append, or_none_left, or_none_right, row_at, was_given, same_key-equal, all_held, Bears, born, new_root, IsSound, MayChange, with_birth, has_collection, GoTogether, are_united, shares_unit}
-use Rattle.forest_store.specs.Shelves.{Gives, SameTable}
+use Rattle.forest_store.proofs.Common.{and_both, ◌≡◌, ℕ, ◌==◌, Bool, true, false, ◌||◌, ◌&&◌, ◌⊎◌, not, List, [], ◌∷◌, ◌++◌, drop, Option, Some, None, option_map, is_some, refl, sym, ap, subst, ◌∙◌, inl, inr, list_any, list_all, find, option_map_or, option_and_then, eqb-true, eq-eqb, false≢true, not-true, NodeKey, same_key, In, In-find, and_left, and_right, both_ways, either_way, or_cases, or_left, or_right, same_key-refl, same_key-true, some-injective, In-any, Table, node_at, Change, Node, is_left_of, Collection, Shelf, AreRising, IsStored, IsWhole, put_shelf, collection_in, nodes_with, forest_of, all_keys, are_filed, is_filed, is_of, node_of, are_distinct, heads_itself, collection_or_new, IsSome, IfSome, unwrap_or, map-append, list_any-append, or_none_left, or_none_right, row_at, was_given, same_key-equal, all_held, Bears, born, new_root, MayChange, with_birth, has_collection, shares_unit, Gives, SameTable}
 use Rattle.forest_store.proofs.newborns.Forest.{keys_before, held_before, kept-born, helds-born, helds_in, born_looked, none_there, all-append}
 use Rattle.forest_store.proofs.Basics.{filed_at, kept_of, found_id, found_filed, found_whole, shelf_by, none_above, born_key, keys_in, looked-keys, in_all, looked_there, rooted_birth, node_of-looked, same_key-swap, distinct_one, left_in, whole_rooted, node_is, collection_is, row_there, together_born, together_none, united_born}
 
@@ -16,15 +15,6 @@ pub record IsBefore (t : Table Node) (ss : List Shelf) (id : ℕ) (c : Collectio
   pub filed : list_all (is_filed t id) (keys_before id ss) ≡ true
   pub whole : IsWhole c
 
--- an empty collection is whole
-whole-empty : (id : ℕ) → IsWhole (record { id = id; nodes = []; buffers = None; held = [] })
-whole-empty id = record {
-  sound = record { distinct = refl; heads = refl; one_root = refl; few = refl };
-  rooted = refl;
-  united = refl;
-  together = together_none;
-}
-
 -- by the shelf that is found
 before-by : (t : Table Node) (ss : List Shelf) → IsStored t ss → (id : ℕ) (o : Option Shelf) → find (λ (s : Shelf). s.id == id) ss ≡ o →
     IsBefore t ss id (unwrap_or (option_map (collection_in t) o) (record { id = id; nodes = []; buffers = None; held = [] }))
@@ -33,7 +23,12 @@ before-by t ss ok id None is = record {
   nodes = ap (λ (o : Option Shelf). nodes_with t (option_map_or (λ (s : Shelf). s.keys) o [])) (sym is);
   held = ap (λ (o : Option Shelf). option_map_or (λ (s : Shelf). s.held) o []) (sym is);
   filed = ap (λ (o : Option Shelf). list_all (is_filed t id) (option_map_or (λ (s : Shelf). s.keys) o [])) is;
-  whole = whole-empty id;
+  whole = record {
+    sound = record { distinct = refl; heads = refl; one_root = refl; few = refl };
+    rooted = refl;
+    united = refl;
+    together = together_none;
+  };
 }
 before-by t ss ok id (Some s) is =
     let own = found_id id ss s is in
@@ -86,23 +81,6 @@ one_root-more [] node kind ok = refl
 one_root-more (n ∷ ns) node (inl child) ok = all-append (λ (x : Node). is_some x.parent) ns (node ∷ []) ok (rw child refl)
 one_root-more (n ∷ ns) node (inr none) ok = absurd (cc)
 
--- with another that fits it stays sound
-sound-more : (c : Collection) (node : Node) → IsSound c → list_any (is_of node.key) c.nodes ≡ false → heads_itself node ≡ true →
-    (is_some node.parent ≡ true) ⊎ (c.nodes ≡ []) → IsSound (grown c node)
-sound-more c node ok none head kind = record {
-  distinct = distinct-more c.nodes node none ok.distinct;
-  heads = all-append heads_itself c.nodes (node ∷ []) ok.heads (rw head refl);
-  one_root = one_root-more c.nodes node kind ok.one_root;
-  few = ok.few;
-}
-
--- a node that is born heads its unit itself where it has to
-born_heads : (above : Option Node) (attached : Bool) (id event client : ℕ) (key : NodeKey) →
-    heads_itself (born above attached id event client key) ≡ true
-born_heads None attached id event client key = same_key-equal key _ refl
-born_heads (Some above) true id event client key = same_key-equal key _ refl
-born_heads (Some above) false id event client key = refl
-
 -- ---- a birth
 
 -- the node above is there, or the collection is new
@@ -110,18 +88,16 @@ pub data Above (t : Table Node) (ss : List Shelf) (id : ℕ) : Option NodeKey �
   Root : find (λ (s : Shelf). s.id == id) ss ≡ None → Above t ss id None None
   Child : (key : NodeKey) (n : Node) → node_at t key ≡ Some n → n.collection ≡ id → n.gone ≡ false → Above t ss id (Some key) (Some n)
 
--- the node is of the collection
-of_above : {t : Table Node} {ss : List Shelf} {id : ℕ} {parent : Option NodeKey} {above : Option Node} → Above t ss id parent above →
-    (attached : Bool) (event client : ℕ) (key : NodeKey) → (born above attached id event client key).collection ≡ id
-of_above (Root none) attached event client key = refl
-of_above (Child _ n is own here) attached event client key = own
-
--- a root comes first
-kind_of : {t : Table Node} {ss : List Shelf} {id : ℕ} {parent : Option NodeKey} {above : Option Node} → Above t ss id parent above →
-    (attached : Bool) (event client : ℕ) (key : NodeKey) → (ns : List Node) → ns ≡ nodes_with t (keys_before id ss) →
-    (is_some (born above attached id event client key).parent ≡ true) ⊎ (ns ≡ [])
-kind_of (Root none) attached event client key ns is = inr (is ∙ rw none refl)
-kind_of (Child _ n there own here) attached event client key ns is = inl refl
+-- where a node that is born belongs, and what the one above is to it
+record IsBirth (t : Table Node) (c : Collection) (id : ℕ) (node : Node) : Type 0 where
+  of : node.collection ≡ id
+  heads : heads_itself node ≡ true
+  kind : (is_some node.parent ≡ true) ⊎ (c.nodes ≡ [])
+  left : option_map_or (is_left_of c.nodes) node.parent true ≡ true
+  shares : (q : Node) → In q c.nodes → shares_unit node q ≡ true
+  unit : (node.head ≡ node.key) ⊎ ((q : Node) × In q c.nodes × (node.head ≡ q.head) × (node.allocated ≡ q.allocated))
+  given : (now : Table Node) → Bears t now node → was_given now node.head ≡ true
+  above : (p : NodeKey) → node.parent ≡ Some p → (q : Node) × (node_at t p ≡ Some q) × (q.collection ≡ node.collection)
 
 -- whether a node has the key is told by the keys
 any-is_of : (key : NodeKey) (ns : List Node) → list_any (is_of key) ns ≡ list_any (same_key key) (keys_in ns)
@@ -156,38 +132,46 @@ module _ {t : Table Node} {ss : List Shelf} (ok : IsStored t ss) (c : Collection
   birth_by (Root none) before attached client event key = λ i. grown c (new_root key (before.id_is i) event client)
   birth_by (Child up n is own here) before attached client event key = rw (found_child before up n is own) refl
 
-  -- the node above is left in the collection
-  above_left : {id : ℕ} {parent : Option NodeKey} {above : Option Node} → Above t ss id parent above → IsBefore t ss id c →
-      (attached : Bool) (client event : ℕ) (key : NodeKey) →
-      option_map_or (is_left_of c.nodes) (born above attached id event client key).parent true ≡ true
-  above_left (Root none) before attached client event key = refl
-  above_left (Child up n is own here) before attached client event key =
-      left_in _ n (In-find _ _ n (found_child before up n is own)).0 here
-
-  -- and is the parent of the node, and of its unit where that heads none
-  above_shares : {id : ℕ} {parent : Option NodeKey} {above : Option Node} → Above t ss id parent above → IsBefore t ss id c →
-      (attached : Bool) (client event : ℕ) (key : NodeKey) (q : Node) → In q c.nodes →
-      shares_unit (born above attached id event client key) q ≡ true
-  above_shares (Root none) before attached client event key q on = refl
-  above_shares (Child up n is own here) before true client event key q on = refl
-  above_shares (Child up n is own here) before false client event key q on = elim (either_way (same_key q.key n.key)) [
-    | inl e ↦
-        let found = In-find (is_of up) c.nodes n (found_child before up n is own) in
-        let same : q ≡ n = distinct_one _ before.whole.sound.distinct q n on found.0 (same_key-true _ _ e) in
-        or_right _ _ (ap (λ (x : Node). same_key x.head n.head) same ∙ same_key-refl n.head)
-    | inr e ↦ rw e refl
-  ]
-
-  -- it heads its unit, or is of its parent's, and has its buffers with it
-  head_kind : {id : ℕ} {parent : Option NodeKey} {above : Option Node} → Above t ss id parent above → IsBefore t ss id c →
-      (attached : Bool) (client event : ℕ) (key : NodeKey) →
-      ((born above attached id event client key).head ≡ (born above attached id event client key).key)
-      ⊎ ((q : Node) × In q c.nodes × ((born above attached id event client key).head ≡ q.head)
-      × ((born above attached id event client key).allocated ≡ q.allocated))
-  head_kind (Root none) before attached client event key = inl refl
-  head_kind (Child up n is own here) before true client event key = inl refl
-  head_kind (Child up n is own here) before false client event key =
-      inr (n, (In-find _ _ n (found_child before up n is own)).0, refl, refl)
+  -- by cases: a root comes first, and a child is of the unit of the one above or heads one
+  birth_is : {id : ℕ} {parent : Option NodeKey} {above : Option Node} → Above t ss id parent above → IsBefore t ss id c →
+      (attached : Bool) (client event : ℕ) (key : NodeKey) → IsBirth t c id (born above attached id event client key)
+  birth_is (Root none) before attached client event key = record {
+    of = refl;
+    heads = same_key-equal key _ refl;
+    kind = inr (before.nodes ∙ rw none refl);
+    left = refl;
+    shares = λ q on. refl;
+    unit = inl refl;
+    given = λ now bears. bears.gives.given key ∙ or_left _ _ (same_key-refl key);
+    above = λ p up. absurd (cc);
+  }
+  birth_is (Child up n is own here) before true client event key = record {
+    of = own;
+    heads = same_key-equal key _ refl;
+    kind = inl refl;
+    left = left_in _ n (In-find _ _ n (found_child before up n is own)).0 here;
+    shares = λ q on. refl;
+    unit = inl refl;
+    given = λ now bears. bears.gives.given key ∙ or_left _ _ (same_key-refl key);
+    above = λ p high. (n, ap (node_at t) (sym (some-injective n.key p high) ∙ ok.named up n is) ∙ is, refl);
+  }
+  birth_is (Child up n is own here) before false client event key =
+      let on : In n c.nodes = (In-find (is_of up) c.nodes n (found_child before up n is own)).0 in
+      record {
+        of = own;
+        heads = refl;
+        kind = inl refl;
+        left = left_in _ n on here;
+        shares = λ q there. elim (either_way (same_key q.key n.key)) [
+          | inl e ↦
+              let same : q ≡ n = distinct_one _ before.whole.sound.distinct q n there on (same_key-true _ _ e) in
+              or_right _ _ (ap (λ (x : Node). same_key x.head n.head) same ∙ same_key-refl n.head)
+          | inr e ↦ rw e refl
+        ];
+        unit = inr (n, on, refl, refl);
+        given = λ now bears. bears.gives.given n.head ∙ or_right _ _ (ok.heads up n is);
+        above = λ p high. (n, ap (node_at t) (sym (some-injective n.key p high) ∙ ok.named up n is) ∙ is, refl);
+      }
 
 -- a node that is born is not gone
 pub born_here : (above : Option Node) (attached : Bool) (id event client : ℕ) (key : NodeKey) →
@@ -195,30 +179,11 @@ pub born_here : (above : Option Node) (attached : Bool) (id event client : ℕ) 
 born_here None attached id event client key = refl
 born_here (Some above) attached id event client key = refl
 
--- its head was given
-head_given : {t : Table Node} {ss : List Shelf} {id : ℕ} {parent : Option NodeKey} {above : Option Node} → IsStored t ss →
-    Above t ss id parent above → (now : Table Node) (attached : Bool) (client event : ℕ) (key : NodeKey) →
-    Bears t now (born above attached id event client key) → was_given now (born above attached id event client key).head ≡ true
-head_given ok (Root none) now attached client event key bears = bears.gives.given key ∙ or_left _ _ (same_key-refl key)
-head_given ok (Child up n is own here) now true client event key bears =
-    bears.gives.given key ∙ or_left _ _ (same_key-refl key)
-head_given ok (Child up n is own here) now false client event key bears =
-    bears.gives.given n.head ∙ or_right _ _ (ok.heads up n is)
-
 -- it has the key that is named
 pub above_key : (t : Table Node) (ss : List Shelf) → IsStored t ss → (id : ℕ) (parent : Option NodeKey) (above : Option Node) →
     Above t ss id parent above → option_map (λ (n : Node). n.key) above ≡ parent
 above_key t ss ok id _ _ (Root none) = refl
 above_key t ss ok id _ _ (Child up n is own here) = ap Some (ok.named up n is)
-
--- its parent is there, and of its collection
-parent_there : {t : Table Node} {ss : List Shelf} {id : ℕ} {parent : Option NodeKey} {above : Option Node} → IsStored t ss →
-    Above t ss id parent above → (attached : Bool) (client event : ℕ) (key p : NodeKey) →
-    (born above attached id event client key).parent ≡ Some p →
-    (q : Node) × (node_at t p ≡ Some q) × (q.collection ≡ (born above attached id event client key).collection)
-parent_there ok (Root none) attached client event key p up = absurd (cc)
-parent_there {t = t} ok (Child mother n is own here) attached client event key p up =
-    (n, ap (node_at t) (sym (some-injective n.key p up) ∙ ok.named mother n is) ∙ is, refl)
 
 module _ (t now : Table Node) (ss : List Shelf) (ok : IsStored t ss) (id : ℕ) (parent : Option NodeKey) (attached : Bool) (client event : ℕ)
     (above : Option Node) (at : Above t ss id parent above) (key : NodeKey)
@@ -226,10 +191,6 @@ module _ (t now : Table Node) (ss : List Shelf) (ok : IsStored t ss) (id : ℕ) 
   -- the node
   abbrev node : Node
   node = born above attached id event client key
-
-  -- it is of the collection
-  born_of : node.collection ≡ id
-  born_of = of_above at attached event client key
 
   -- it has the key
   pub key_is : node.key ≡ key
@@ -243,6 +204,10 @@ module _ (t now : Table Node) (ss : List Shelf) (ok : IsStored t ss) (id : ℕ) 
   before : IsBefore t ss id c0
   before = before_is t _ ok id
 
+  -- what is known of the node
+  birth : IsBirth t c0 id node
+  birth = birth_is ok c0 at before attached client event key
+
   -- the collection then
   abbrev pub born_collection : Collection
   born_collection = grown c0 node
@@ -251,21 +216,6 @@ module _ (t now : Table Node) (ss : List Shelf) (ok : IsStored t ss) (id : ℕ) 
   pub born_fresh : list_any (is_of node.key) c0.nodes ≡ false
   born_fresh = lacks_key t _ ok.named _ _ _ before.nodes before.filed (none_there t now node bears _ _ before.filed)
 
-  -- it is sound
-  pub born_sound : IsSound born_collection
-  born_sound = sound-more _ _ before.whole.sound born_fresh
-      (born_heads above _ id event client key) (kind_of at attached event client key c0.nodes before.nodes)
-
-  -- its nodes hang on their parents
-  born_rooted : are_rooted (reverse born_collection.nodes) ≡ true
-  born_rooted =
-      (rooted_birth _ (whole_rooted _ before.whole) _ born_fresh
-      (above_left ok c0 at before attached client event key)).rooted
-
-  -- and are of their units
-  pub born_united : are_united (reverse born_collection.nodes) ≡ true
-  born_united = united_born _ _ (above_shares ok c0 at before attached client event key) before.whole.united
-
   -- a key that is given to it now was given to no other
   head_apart : (n : Node) → In n c0.nodes → n.head ≡ node.key → ⊥
   head_apart n on same =
@@ -273,18 +223,21 @@ module _ (t now : Table Node) (ss : List Shelf) (ok : IsStored t ss) (id : ℕ) 
       let at_n : node_at t n.key ≡ Some n = in_all _ _ (looked_there t ok.named _) n there in
       false≢true (sym bears.gives.fresh ∙ (ap (was_given t) (sym same) ∙ ok.heads n.key n at_n))
 
-  -- the new key was given to no node before
-  key_apart : (n : Node) → In n c0.nodes → n.key ≡ node.key → ⊥
-  key_apart n on same = both_ways _ (In-any _ _ n on (same_key-equal _ _ same)) born_fresh
-
-  -- its units go together
-  pub born_together : GoTogether born_collection.nodes
-  born_together = together_born _ _ (born_here above _ id event client key) key_apart head_apart
-      (head_kind ok c0 at before attached client event key) before.whole.together
-
-  -- the head of the node was given
-  born_head : was_given now node.head ≡ true
-  born_head = head_given ok at now attached client event key bears
+  -- it is whole: the node hangs on the one above, and is of its unit or heads one
+  born_whole : IsWhole born_collection
+  born_whole = record {
+    sound = record {
+      distinct = distinct-more c0.nodes node born_fresh before.whole.sound.distinct;
+      heads = all-append heads_itself c0.nodes (node ∷ []) before.whole.sound.heads (and_both _ _ birth.heads refl);
+      one_root = one_root-more c0.nodes node birth.kind before.whole.sound.one_root;
+      few = before.whole.sound.few;
+    };
+    rooted = (rooted_birth _ (whole_rooted _ before.whole) _ born_fresh birth.left).rooted;
+    united = united_born _ _ birth.shares before.whole.united;
+    together = together_born _ _ (born_here above _ id event client key)
+        (λ n on same. both_ways _ (In-any _ _ n on (same_key-equal _ _ same)) born_fresh) head_apart
+        birth.unit before.whole.together;
+  }
 
   -- its keys are those before, and that of the node
   born_keys : keys_in born_collection.nodes ≡ keys_before id ss ++ node.key ∷ []
@@ -304,9 +257,9 @@ module _ (t now : Table Node) (ss : List Shelf) (ok : IsStored t ss) (id : ℕ) 
   -- all that holds of forests holds
   pub born_kept : IsStored now (put_shelf (shelf_by born_collection) ss)
   born_kept = kept-born t _ _ bears _ _ ok (rw before.id_is born_keys) (rw before.id_is before.filed)
-      (born_of ∙ sym before.id_is) born_head (subst IsWhole (sym born_shown)
-      (record { sound = born_sound; rooted = born_rooted; united = born_united; together = born_together }))
-      (parent_there ok at attached client event key)
+      (birth.of ∙ sym before.id_is) (birth.given now bears)
+      (subst IsWhole (sym born_shown) born_whole)
+      birth.above
 
   -- the pages stay
   pub born_held : all_held (forest_of now (put_shelf (shelf_by born_collection) ss)) ≡ all_held (forest_of t ss)

@@ -1,6 +1,5 @@
 -- The members of a collection with one more node.
-use Rattle.forest_store.proofs.Common.{◌≡◌, refl, ap, sym, ◌∙◌, false, not, inl, inr, List, [], ◌∷◌, ◌++◌, map, reverse, Some, not-true, filter, list_any, NodeKey, same_key, In, In-map, both_ways, either_way, In-any, Node, is_of, members_of, map-append, reverse-append, filter-append, Member, In-filter, map-In, above_among, member_of}
-use Rattle.sm_names.proofs.SamenessLaws.{same_key-comm}
+use Rattle.forest_store.proofs.Common.{◌≡◌, refl, ap, sym, ◌∙◌, false, not, inl, inr, List, [], ◌∷◌, ◌++◌, map, reverse, Some, not-true, filter, list_any, NodeKey, same_key, In, In-map, both_ways, either_way, In-any, Node, is_of, members_of, map-append, reverse-append, filter-append, Member, In-filter, map-In, above_among, member_of, same_key-comm}
 
 -- no node that is not gone has the key as its parent
 abbrev pub HaveOthers : List Node → NodeKey → Type 0

@@ -38,13 +38,6 @@ module _ (t now : Table Node) (ss : List Shelf) (ok : IsStored t ss) (id : ℕ) 
     fresh : list_any (is_of key) c0.nodes ≡ false
     fresh = rw (← own) (born_fresh t now ss ok id parent _ client event above at key bears)
 
-    others : HaveOthers c0.nodes key
-    others = no_children _ _ (before_is t _ ok id).whole.rooted fresh
-
-    -- the collection is as calm as it was
-    pub calm_after : IsQuiescent (collection_or_new (forest_of t ss) id) → IsQuiescent after
-    calm_after calm = births_calm _ calm parent _ client event _ fresh others
-
     -- the shelf that showed the collection
     before_shelf : shelf_by c0 ≡ shelf_before id ss
     before_shelf =
@@ -95,7 +88,8 @@ module _ (t now : Table Node) (ss : List Shelf) (ok : IsStored t ss) (id : ℕ) 
         let shown : collection_in now (shelf_of e) ≡ born_collection t now ss ok id parent _ client event above at key bears =
         ap (collection_in now) (is ∙ shelf_is) ∙ born_shown t now ss ok id parent _ client event above at key bears in
         record {
-          calm = subst IsQuiescent (sym (shown ∙ sym grown_is)) (calm_after calm);
+          calm = subst IsQuiescent (sym (shown ∙ sym grown_is)) (births_calm _ calm parent _ client event _ fresh
+              (no_children _ _ (before_is t _ ok id).whole.rooted fresh));
           strong = strong ∙ ap (λ (n : ℕ). strong_count c0.nodes + n) (sym (strong_more above))
               ∙ sym (times-append is_strong c0.nodes (node ∷ [])) ∙ ap (λ (c : Collection). strong_count c.nodes) (sym shown);
           reserved = reserved ∙ reserved_more ∙ ap (λ (c : Collection). reserved_count c.nodes) (sym shown);

@@ -1,11 +1,11 @@
 -- The counts of units, once a node is born and counted.
-use Rattle.forest_store.proofs.Common.{◌≡◌, ◌≢◌, ℕ, ◌+◌, ◌<◌, ◌≤◌, Bool, true, false, if◌then◌else◌, List, [], ◌∷◌, ◌++◌, map, length, reverse, set, Option, Some, None, refl, sym, ap, subst, ◌∙◌, ◌⊎◌, inl, inr, arith, eqb-true, cons_option, list_all, list_any, NodeKey, same_key, times, In, In-find, both_ways, either_way, same_key-refl, In-any, Table, node_at, Node, Unit, AreUnits, lives_in, unit_at, waits_in, Collection, IsStored, IsWhole, Shelf, all_keys, collection_in, forest_of, is_filed, nodes_with, put_shelf, is_of, are_distinct, collection_or_new, put, are_rooted, get_or-set_other, get_or-set_same, length-append, length-set, unwrap_or, In-append, times-append, times-le-length, times-zero, table_len, AreUnitsExcept, HasUnit, HasUnits, head_above, heads_below, no_unit, reckoned, tallied, unit_of, collection_at, Bears, born, shelf_before, shelf_with}
+use Rattle.forest_store.proofs.Common.{In-behind, In-front, ◌≡◌, ◌≢◌, ℕ, ◌+◌, ◌<◌, ◌≤◌, Bool, true, false, if◌then◌else◌, List, [], ◌∷◌, ◌++◌, map, length, reverse, set, Option, Some, None, refl, sym, ap, subst, ◌∙◌, ◌⊎◌, inl, inr, arith, eqb-true, cons_option, list_all, list_any, NodeKey, same_key, times, In, In-find, both_ways, either_way, same_key-refl, In-any, Table, node_at, Node, Unit, AreUnits, lives_in, unit_at, waits_in, Collection, IsStored, IsWhole, Shelf, all_keys, collection_in, forest_of, is_filed, nodes_with, put_shelf, is_of, are_distinct, collection_or_new, put, are_rooted, get_or-set_other, get_or-set_same, length-append, length-set, unwrap_or, In-append, times-append, times-le-length, times-zero, table_len, AreUnitsExcept, HasUnit, HasUnits, head_above, heads_below, no_unit, reckoned, tallied, unit_of, collection_at, Bears, born, shelf_before, shelf_with}
 use Rattle.forest_store.proofs.newborns.Newborn.{Above, IsBefore, before_is, born_collection, born_fresh, born_here, born_shown, key_is}
 use Rattle.forest_store.proofs.newborns.Quiet.{behind_is, behind_shown, quiet_kept}
 use Rattle.forest_store.proofs.tallies.Slots.{Stays, all_at, but_put, one_slot, units_own}
-use Rattle.forest_store.proofs.Basics.{looked-of, shelf_by, all_in, in_all, looked_there, head_there, above_node, hung_hangs, hung_is, hung_long, hung_other, is_above, is_hung, lives_gone, lives_other, tallied_adds, tallied_long, tallied_other, waits_gone, waits_other, filed-length, times_same, all-In}
+use Rattle.forest_store.proofs.Basics.{looked-of, shelf_by, all_in, in_all, looked_there, head_there, above_node, hung_by, hung_hangs, hung_is, is_above, is_hung, other_slots, own_is, own_unit, same_long, tallied_by, lives_gone, lives_other, tallied_adds, waits_gone, waits_other, filed-length, times_same, all-In}
 
--- the table has the old nodes of the collection and the one that was born, and the others have their counts
+-- the table has the old nodes and the one that was born, and the others have their counts
 module _ (t : Table Node) (ss : List Shelf) (kept : IsStored t ss) (id : ℕ) (s : Shelf) (on : In s ss) (own : s.id ≡ id) (old : List Node)
     (node : Node)
     (grown : nodes_with t s.keys ≡ old ++ node ∷ []) (here : node.gone ≡ false) (fresh : list_any (is_of node.key) old ≡ false)
@@ -40,20 +40,11 @@ module _ (t : Table Node) (ss : List Shelf) (kept : IsStored t ss) (id : ℕ) (s
 
   -- the new node is the last
   born_on : In node nodes
-  born_on = subst (In node) (sym grown) (In-behind old)
-    where
-      In-behind : (ns : List Node) → In node (ns ++ node ∷ [])
-      In-behind [] = inl refl
-      In-behind (n ∷ ns) = inr (In-behind ns)
+  born_on = subst (In node) (sym grown) (In-behind old (node ∷ []) node (inl refl))
 
   -- the older nodes stand before it
   was_old : (n : Node) → In n old → In n nodes
-  was_old n there = subst (In n) (sym grown) (In-front _ there)
-    where
-      In-front : (ns : List Node) → In n ns → In n (ns ++ node ∷ [])
-      In-front [] there = absurd there
-      In-front (m ∷ ns) (inl is) = inl is
-      In-front (m ∷ ns) (inr there) = inr (In-front ns there)
+  was_old n there = subst (In n) (sym grown) (In-front old (node ∷ []) n there)
 
   -- the head of the new node's unit is there
   head : (h : Node) × In h nodes × (h.key ≡ node.head)
@@ -112,7 +103,7 @@ module _ (t : Table Node) (ss : List Shelf) (kept : IsStored t ss) (id : ℕ) (s
 
   -- counting keeps the length
   long : length new ≡ length us1
-  long = hung_long t (node ∷ []) own_new ∙ tallied_long (node ∷ []) us1
+  long = same_long (hung_by t) (node ∷ []) own_new ∙ same_long tallied_by (node ∷ []) us1
 
   -- the slot of each node's key is in the list
   slot_in : (n : Node) → In n nodes → n.key.slot < length us1
@@ -147,11 +138,11 @@ module _ (t : Table Node) (ss : List Shelf) (kept : IsStored t ss) (id : ℕ) (s
       let l0 : (unit_at us1 n.key.slot).live ≡ times (lives_in n.key) old = ap (λ (u : Unit). u.live) was in
       let w0 : (unit_at us1 n.key.slot).unready ≡ times (waits_in n.key) old = ap (λ (u : Unit). u.unready) was in
       let b0 : (unit_at us1 n.key.slot).below ≡ times (heads_below old n.key) old = ap (λ (u : Unit). u.below) was in
-      let own_long = tallied_long (node ∷ []) us1 in
+      let own_long = same_long tallied_by (node ∷ []) us1 in
       let l1 = times-le-length (lives_in n.key) old in
       let b1 = times-le-length (heads_below old n.key) old in
       let w1 = times-le-length (waits_in n.key) old in
-      let count : length nodes ≡ length old + 1 = ap length grown ∙ long_more old in
+      let count : length nodes ≡ length old + 1 = ap length grown ∙ length-append old (node ∷ []) in
       let adds = tallied_adds (node ∷ []) us1 n.key inside (head_of n there) (omega arith) (omega arith) in
       let hangs = hung_hangs t (node ∷ []) own_new n.key (omega arith) (above_at n there) (omega arith) in
       let e = hangs.live in
@@ -168,10 +159,6 @@ module _ (t : Table Node) (ss : List Shelf) (kept : IsStored t ss) (id : ℕ) (s
       let h : (unit_at new n.key.slot).below ≡ times (heads_below nodes n.key) nodes = omega arith in
       (rw long inside, λ i. record { live = l i; unready = w i; below = h i }))
     where
-      long_more : (ns : List Node) → length (ns ++ node ∷ []) ≡ length ns + 1
-      long_more [] = refl
-      long_more (n ∷ ns) = omega (arith, long_more ns)
-
       head_of : (n : Node) → In n nodes → (m : Node) → In m (node ∷ []) → m.gone ≡ false → m.head.slot ≡ n.key.slot → m.head ≡ n.key
       head_of n there m (inl is) stays slots =
           let one : node.head ≡ n.key =
@@ -191,7 +178,7 @@ module _ (t : Table Node) (ss : List Shelf) (kept : IsStored t ss) (id : ℕ) (s
   stays_new k n is differ within =
       let long_too : length us ≡ length new = sym (long ∙ long1) in (
         rw (← long_too) within,
-        hung_other t (node ∷ []) own_new _ aboves ∙ tallied_other (node ∷ []) us1 _ heads
+        other_slots (hung_by t) (node ∷ []) own_new _ aboves ∙ other_slots tallied_by (node ∷ []) us1 _ heads
             ∙ get_or-set_other us node.key.slot k.slot no_unit no_unit (apart _ _ (at _ born_on) (of node born_on)),
       )
     where
@@ -201,9 +188,10 @@ module _ (t : Table Node) (ss : List Shelf) (kept : IsStored t ss) (id : ℕ) (s
           let one : n ≡ m = cc in
           differ (ap (λ (y : Node). y.collection) one ∙ owned)
 
-      heads : (m : Node) → In m (node ∷ []) → m.gone ≡ false → m.head.slot ≢ k.slot
-      heads m (inl e) stays slots = apart _ _ head_at (of head.0 head.1) (sym slots ∙ ap (λ (y : Node). y.head.slot) e)
-      heads m (inr none) stays slots = absurd none
+      heads : (m : Node) → In m (node ∷ []) → (h : NodeKey) → own_unit m ≡ Some h → h.slot ≢ k.slot
+      heads m (inl e) h unit slots = apart _ _ head_at (of head.0 head.1)
+          (sym (ap (λ (j : NodeKey). j.slot) (own_is m h unit).1 ∙ slots) ∙ ap (λ (y : Node). y.head.slot) e)
+      heads m (inr none) h unit slots = absurd none
 
       aboves : (m : Node) → In m (node ∷ []) → (h : NodeKey) → head_above t m ≡ Some h → h.slot ≢ k.slot
       aboves m (inl e) h above slots =
@@ -260,18 +248,9 @@ module _ (t now : Table Node) (ss : List Shelf) (ok : IsStored t ss) (id : ℕ) 
   shelf_on = subst (In (shelf_by with_it)) (sym (behind_is t now _ ok _ parent _ client event above up _ bears
       _ placed)) (in_put_shelf _ ss)
 
-  -- the shelf shows the old nodes and the child
-  shown_nodes : nodes_with now (shelf_by with_it).keys ≡ c0.nodes ++ child ∷ []
-  shown_nodes = ap (λ (c : Collection). c.nodes) (born_shown t now ss ok id parent _ client event above up key bears)
-
   -- each key of each shelf is filed
   filed_keys : list_all (is_filed now (shelf_by with_it).id) (shelf_by with_it).keys ≡ true
   filed_keys = all-In _ _ _ shelf_on kept_now.filed
-
-  -- the new key has the new node
-  found_key : node_at now key ≡ Some child
-  found_key = bears.look key ∙ (rw (ap (λ (k : NodeKey). same_key k key) (key_is t now ss ok id parent _ client event above up key
-      bears) ∙ same_key-refl key) refl)
 
   -- the collection that is found has its counts; a new one has no node
   had : (us : List Unit) → AreUnits us (map (collection_in t) ss) → HasUnits us c0.nodes
@@ -282,12 +261,6 @@ module _ (t now : Table Node) (ss : List Shelf) (ok : IsStored t ss) (id : ℕ) 
       from None is = tt
       from (Some c) is = all_at _ _ all c (In-find _ _ c is).0
 
-  -- no list of keys is longer than the table
-  few_nodes : table_len now ≤ 18446744073709551615 → length (nodes_with now (shelf_by with_it).keys) ≤ 18446744073709551615
-  few_nodes few =
-      let a = filed-length now (shelf_by with_it).id (shelf_by with_it).keys filed_keys in
-      omega (arith, keys_fewer (shelf_by with_it) behind shelf_on, kept_now.counted)
-
   -- all have their counts, once the slot of the node is started and the node counted
   pub newborn_units : (us : List Unit) → AreUnits us (map (collection_in t) ss) → key.slot < length us →
       table_len now ≤ 18446744073709551615 →
@@ -295,18 +268,23 @@ module _ (t now : Table Node) (ss : List Shelf) (ok : IsStored t ss) (id : ℕ) 
   newborn_units us all inside few =
       let own : c0.id ≡ id = before_it.id_is in
       let named : child.key ≡ key = key_is t now ss ok id parent _ client event above up key bears in
+      let found_key : node_at now key ≡ Some child = bears.look key ∙ rw (ap (λ (k : NodeKey). same_key k key) named ∙ same_key-refl key) refl in
       let one : nodes_with now (key ∷ []) ≡ child ∷ [] = ap (λ (o : Option Node). cons_option o []) found_key in
+      let long = filed-length now (shelf_by with_it).id (shelf_by with_it).keys filed_keys in
+      let short : length (nodes_with now (shelf_by with_it).keys) ≤ 18446744073709551615 =
+      omega (arith, keys_fewer (shelf_by with_it) behind shelf_on, kept_now.counted) in
       let but : AreUnitsExcept us id (map (collection_in now) behind) =
       subst (AreUnitsExcept us id) (sym (behind_shown t now _ ok _ parent _ client event above up _ bears _ placed))
       (subst (λ (i : ℕ). AreUnitsExcept us i (put with_it (map (collection_in t) ss))) own (but_put _ with_it _
       all)) in
       let made : AreUnits (reckoned now (child ∷ []) (set us child.key.slot no_unit)) (map (collection_in now) behind) =
-      born_units _ _ kept_now _ _ shelf_on own _ _ shown_nodes (born_here above _ id event client key)
+      born_units _ _ kept_now _ _ shelf_on own _ _
+      (ap (λ (c : Collection). c.nodes) (born_shown t now ss ok id parent _ client event above up key bears)) (born_here above _ id event client key)
       (born_fresh t now ss ok id parent _ client event above up key bears)
       before_it.whole.sound.distinct before_it.whole.rooted
       (λ n on here. let h = head_there _ before_it.whole.sound.distinct before_it.whole.sound.heads before_it.whole.rooted
       before_it.whole.united n on here in (h.0, h.1, h.2))
       (λ n on. eqb-true n.collection (shelf_by with_it).id (all-In _
       _ n on (looked-of now (shelf_by with_it).id (shelf_by with_it).keys filed_keys)) ∙ own)
-      us (rw named inside) (had _ all) but (few_nodes few) in
+      us (rw named inside) (had _ all) but short in
       rw one (subst (λ (k : NodeKey). AreUnits (reckoned now (child ∷ []) (set us k.slot no_unit)) (map (collection_in now) behind)) named made)

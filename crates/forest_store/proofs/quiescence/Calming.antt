@@ -1,12 +1,14 @@
--- Where no step would be forced in a collection, were a strong handle open: then none is while a strong node lives.
-use Rattle.forest_store.proofs.Common.{◌≡◌, ℕ, ◌+◌, refl, ap, sym, ◌∙◌, Bool, true, false, not, ◌&&◌, ◌||◌, inl, inr, List, [], ◌∷◌, map, reverse, Option, Some, None, is_none, is_some, arith, not-true, list_any, list_all, find, filter, option_map_or, option_and_then, NodeKey, Buffers, Cause, same_key, when, times, In, both_ways, either_way, Node, strong_count, has_strong, waiting, Collection, with_nodes, IsWhole, members_of, node_of, is_deserted_node, is_live_node, is_next_node, is_ready_node, is_root_left, is_deserted, is_next_head, Member, is_ready, root_left, first_some, In-filter, In-filter-back, map-In, none_is, map-None, IsQuiescent, Decision, Ends, Loses, decided, first_step, later_step, above_among, member_of, is_allocated_node, is_below, lives_below, option_map}
-use Rattle.std.proofs.Math.Bool.{or-true}
-use Rattle.sm_names.proofs.ListLaws.{filter-swap, filter-all}
+-- A collection where no step would be forced with a strong handle open: none is while a strong
+-- node lives.
+use Rattle.forest_store.proofs.Common.{is_strong, ◌≡◌, ◌+◌, refl, ap, sym, ◌∙◌, Bool, true, false, not, ◌&&◌, ◌||◌, inl, inr, List, [], ◌∷◌, map, reverse, Option, Some, None, is_none, is_some, arith, not-true, list_any, list_all, find, filter, option_map_or, option_and_then, NodeKey, Buffers, Cause, same_key, when, times, In, both_ways, either_way, Node, strong_count, has_strong, waiting, Collection, with_nodes, IsWhole, members_of, node_of, is_deserted_node, is_live_node, is_next_node, is_ready_node, is_root_left, is_deserted, is_next_head, Member, is_ready, root_left, first_some, In-filter, In-filter-back, map-In, none_is, map-None, IsQuiescent, Decision, Ends, Loses, decided, first_step, later_step, above_among, member_of, is_allocated_node, is_below, lives_below, option_map, or-true, filter-swap, filter-all}
 use Rattle.forest_store.proofs.tables.Chains.{one_line}
 use Rattle.forest_store.proofs.quiescence.Forcing.{deserted_tie, next_tie, ready_tie, root_tie}
 use Rattle.forest_store.proofs.tables.KeptRoots.{map-reverse_aux, rooted_filter}
 use Rattle.forest_store.proofs.tables.Rooted.{IsRooted, left_in, line_of, whole_rooted}
 use Rattle.forest_store.proofs.quiescence.Steps.{found_by_key}
+use Rattle.forest_store.proofs.tallies.Amounts.{times_filter}
+pub use Rattle.forest_store.proofs.lists.Elements.{any_map, find_map, times_map}
+use Rattle.forest_store.proofs.lists.Elements.{all_map}
 
 -- ---- the steps
 
@@ -29,7 +31,7 @@ four_none None (Some m) c d h = cc
 four_none (Some m) b c d h = cc
 
 -- four decisions that are none have no first one
-none_four : (a b c d : Option Decision) → a ≡ None → b ≡ None → c ≡ None → d ≡ None → first_some (a ∷ b ∷ c ∷ d ∷ []) ≡ None
+pub none_four : (a b c d : Option Decision) → a ≡ None → b ≡ None → c ≡ None → d ≡ None → first_some (a ∷ b ∷ c ∷ d ∷ []) ≡ None
 none_four a b c d ha hb hc hd = rw (ha, hb, hc, hd) refl
 
 -- where nothing is decided, no step is left
@@ -178,13 +180,7 @@ module _ (c : Collection) (whole : IsWhole c) (p : Node → Bool) (over : (n : N
 -- and its count stays
 pub strong_filter : (p : Node → Bool) (ns : List Node) → ((n : Node) → In n ns → p n ≡ false → n.gone ≡ true) →
     strong_count (filter p ns) ≡ strong_count ns
-strong_filter p [] over = refl
-strong_filter p (n ∷ ns) over =
-    let rest = strong_filter p ns (λ m on. over m (inr on)) in
-    elim (either_way (p n)) [
-      | inl e ↦ rw (e, rest) refl
-      | inr e ↦ rw (e, over n (inl refl) e) rest
-    ]
+strong_filter p ns over = times_filter p is_strong ns (λ n on out. rw (over n on out) refl)
 
 -- ---- nodes of which a call changed something
 
@@ -198,33 +194,6 @@ pub record IsPlain (m n : Node) : Type 0 where
   pub gone : m.gone ≡ n.gone
   pub released : m.released ≡ n.released
   pub asks : is_some m.constraints ≡ is_some n.constraints
-
--- tests that agree
-pub any_map : {A : Type 0} (p q : A → Bool) (f : A → A) (xs : List A) → ((x : A) → p (f x) ≡ q x) → list_any p (map f xs) ≡ list_any q xs
-any_map p q f [] same = refl
-any_map p q f (x ∷ xs) same = λ i. same x i || any_map p q f xs same i
-
--- by induction: each element passes as it did before the map
-all_map : {A : Type 0} (p q : A → Bool) (f : A → A) (xs : List A) → ((x : A) → p (f x) ≡ q x) → list_all p (map f xs) ≡ list_all q xs
-all_map p q f [] same = refl
-all_map p q f (x ∷ xs) same = λ i. same x i && all_map p q f xs same i
-
--- the first element that passes is the image of the one that did
-pub find_map : {A : Type 0} (p q : A → Bool) (f : A → A) (xs : List A) → ((x : A) → p (f x) ≡ q x) →
-    find p (map f xs) ≡ option_map f (find q xs)
-find_map p q f [] same = refl
-find_map {A = A} p q f (x ∷ xs) same = elim (either_way (q x)) [
-  | inl e ↦ let h : p (f x) ≡ true = same x ∙ e in rw (h, e) refl
-  | inr e ↦ let h : p (f x) ≡ false = same x ∙ e in rw (h, e) (find_map p q f xs same)
-]
-
--- by induction: each element counts as it did before the map
-pub times_map : {A : Type 0} (p q : A → Bool) (f : A → A) (xs : List A) → ((x : A) → p (f x) ≡ q x) → times p (map f xs) ≡ times q xs
-times_map p q f [] same = refl
-times_map {A = A} p q f (x ∷ xs) same = elim (either_way (q x)) [
-  | inl e ↦ let h : p (f x) ≡ true = same x ∙ e in let rest = times_map p q f xs same in rw (h, e) (ap (λ (n : ℕ). n + 1) rest)
-  | inr e ↦ let h : p (f x) ≡ false = same x ∙ e in rw (h, e) (times_map p q f xs same)
-]
 
 module _ (nodes : List Node) (f : Node → Node) (plain : (n : Node) → IsPlain (f n) n) where
   abbrev now : List Node
@@ -274,7 +243,7 @@ module _ (nodes : List Node) (f : Node → Node) (plain : (n : Node) → IsPlain
   allocated_map key = any_map _ _ f nodes
       (λ n. λ i. not ((plain n).gone i) && ((plain n).allocated i && same_key ((plain n).key i) key))
 
-  -- whether a head is next is read from its flags, the parent's allocation and the unit's readiness, all kept
+  -- whether a head is next is read from its flags, its parent and its unit, which are kept
   next_map : (n : Node) → is_next_node now (f n) ≡ is_next_node nodes n
   next_map n =
       (λ i. (plain n).attached i && (not ((plain n).gone i) && (not ((plain n).allocated i)
@@ -286,7 +255,7 @@ module _ (nodes : List Node) (f : Node → Node) (plain : (n : Node) → IsPlain
   root_map : find is_root_left now ≡ option_map f (find is_root_left nodes)
   root_map = find_map _ _ f nodes (λ n. λ i. is_none ((plain n).parent i) && not ((plain n).gone i))
 
-  -- no root waits after the map where none did: the same root is found, and its unit is as ready as before
+  -- no root waits where none did: the same root is found, and its unit is as ready
   wait_map : (o : Option Node) →
       option_and_then (λ (root : Node). when (not root.allocated && list_all (is_ready_node root.key) nodes) root) o ≡ None →
       option_and_then (λ (root : Node). when (not root.allocated && list_all (is_ready_node root.key) now) root) (option_map f o) ≡ None

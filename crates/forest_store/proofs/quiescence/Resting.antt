@@ -1,9 +1,8 @@
--- A collection that rests, whether one of its strong nodes is live or not: nothing is forced in it, and no buffer goes home.
-use Rattle.forest_store.proofs.Common.{◌≡◌, ℕ, ◌==◌, ◌⊎◌, Bool, true, false, ◌&&◌, not, nat_lt, inl, inr, List, [], ◌∷◌, drop, Option, Some, None, option_map, is_none, is_some, refl, ap, ◌∙◌, cons_option, find, list_all, option_map_or, option_and_then, NodeKey, Buffers, Cause, when, and_both, and_left, and_right, either_way, or_cases, or_left, or_right, Table, node_at, Node, has_strong, Shelf, is_filed, nodes_with, is_root_left, Handles, In, first_some, Decision, Ends, Loses, decided, first_step}
+-- A collection that rests: nothing is forced in it, and no buffer's pages are given back.
+use Rattle.forest_store.proofs.Common.{arith, ◌≡◌, ℕ, ◌==◌, ◌⊎◌, Bool, true, false, ◌&&◌, not, nat_lt, inl, inr, List, [], ◌∷◌, drop, Option, Some, None, option_map, is_none, is_some, refl, ap, ◌∙◌, cons_option, find, list_all, option_map_or, option_and_then, NodeKey, Buffers, Cause, when, and_both, and_left, and_right, either_way, or_cases, or_left, or_right, Table, node_at, Node, has_strong, Shelf, is_filed, nodes_with, is_root_left, Handles, In, Ends, Loses, decided, first_step, is_held_strongly, is_out}
 use Rattle.forest_store.specs.Dropped.{has_given_root}
 use Rattle.forest_store.specs.Resting.{is_at_rest, is_kept_by}
-use Rattle.forest_store.specs.Scenes.{is_held_strongly, is_out}
-use Rattle.forest_store.proofs.quiescence.Calming.{AreNone, none_decided}
+use Rattle.forest_store.proofs.quiescence.Calming.{AreNone, none_decided, none_four}
 
 -- ---- what is forced
 
@@ -34,10 +33,6 @@ root_first t id (k ∷ ks) filed one none = from (node_at t k) (and_left _ _ fil
           rw e (ap (λ (o : Option Node). option_map_or (λ (root : Node). root.allocated) o false) (no_root (nodes_with t ks) one))
     ]
 
--- none of four
-none_four : (a b c d : Option Decision) → a ≡ None → b ≡ None → c ≡ None → d ≡ None → first_some (a ∷ b ∷ c ∷ d ∷ []) ≡ None
-none_four a b c d ha hb hc hd = rw (ha, hb, hc, hd) refl
-
 -- a root without buffers is not abandoned, nor is one of whose buffers a strong handle is open
 kept_root : (strong strong_open : Bool) (o : Option Node) →
     (option_map_or (λ (root : Node). root.allocated) o false && not strong_open) ≡ false →
@@ -46,10 +41,7 @@ kept_root strong strong_open None none = refl
 kept_root strong strong_open (Some root) none = from _ strong strong_open none
   where
     from : (a s h : Bool) → (a && not h) ≡ false → when (a && (not s && not h)) (Loses root.key Cause.NoStrong) ≡ None
-    from false s h none = refl
-    from true true h none = refl
-    from true false true none = refl
-    from true false false none = cc
+    from a s h none = grind arith
 
 -- so nothing is forced in a calm collection, where the root is not abandoned
 pub still_decided : (nodes : List Node) (buffers : Option Buffers) (strong_open : Bool) → AreNone nodes buffers →

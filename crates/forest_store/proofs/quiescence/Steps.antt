@@ -1,6 +1,5 @@
 -- A decision is on nodes that are there, and changes something.
-use Rattle.forest_store.proofs.Common.{ℕ, ◌≡◌, ◌≤◌, zero, suc, refl, ap, sym, ◌∙◌, subst, Bool, true, false, not, ◌&&◌, ◌||◌, ◌==◌, nat_lt, is_none, List, [], ◌∷◌, Option, Some, None, inl, inr, arith, not-true, list_any, list_all, find, option_map_or, option_and_then, NodeKey, Buffers, Cause, same_key, when, In, In-find, and_left, and_right, and_both, or_left, or_right, both_ways, false_if, same_key-true, same_key-refl, In-any, Node, has_strong, is_left_of, Collection, is_of, node_of, is_deserted_node, is_next_node, is_ready_node, is_root_left, are_distinct, ltb-false, Failure, first_some, MAX_BUFFERS, Allocates, Ends, Loses, Places, decided, early_failure, first_step, later_step, wanted_by, is_allocated_node, IsSound, is_root_of, option_map, IfSome}
-use Rattle.forest_store.specs.Decisions.{IsStep, has_waiting}
+use Rattle.forest_store.proofs.Common.{ℕ, ◌≡◌, ◌≤◌, zero, suc, refl, ap, sym, ◌∙◌, subst, Bool, true, false, not, ◌&&◌, ◌||◌, ◌==◌, nat_lt, is_none, List, [], ◌∷◌, Option, Some, None, inl, inr, arith, not-true, list_any, list_all, find, option_map_or, option_and_then, NodeKey, Buffers, Cause, same_key, when, In, In-find, and_left, and_right, and_both, or_left, or_right, both_ways, false_if, same_key-true, same_key-refl, In-any, Node, has_strong, is_left_of, Collection, is_of, node_of, is_deserted_node, is_next_node, is_ready_node, is_root_left, are_distinct, ltb-false, Failure, first_some, MAX_BUFFERS, Allocates, Ends, Loses, Places, decided, early_failure, first_step, later_step, wanted_by, is_allocated_node, IsSound, is_root_of, option_map, IfSome, IsStep, has_waiting}
 use Rattle.forest_store.proofs.quiescence.Forcing.{asked_tie}
 
 -- ---- nodes by their keys

@@ -1,54 +1,41 @@
 -- Entries that are counted stay so, where one is put among them.
-use Rattle.forest_store.proofs.Common.{◌≡◌, ℕ, zero, suc, ◌+◌, ◌<◌, ◌≤◌, ◌==◌, ◌&&◌, Bool, true, false, ◌⊎◌, inl, inr, List, [], ◌∷◌, map, length, get_or, set, if◌then◌else◌, cond, Option, Some, None, option_map, is_some, sym, ap, subst, ◌∙◌, refl, arith, AllByRecursion, cons_option, filter, list_all, list_any, eqb-true, eqb-false, NodeKey, same_key, In, In-map, and_left, and_right, both_ways, either_way, same_key-refl, same_key-true, some-injective, In-any, Table, node_at, Entry, Node, strong_count, over_except, Collection, AreRising, IsWhole, Shelf, are_filed, collection_in, is_filed, nodes_with, place_in, put_shelf, shelf_of, shelves_of, is_over, reserved_count, remove, ltb-true, times-le-length, AreCounted, IsQuiescent, IsCounted, put_in, IsNotedIn, IsNoting, IsThinned, is_found, left_at, unless_over, is_strong, is_spent, camped}
-use Rattle.sm_names.proofs.SamenessLaws.{none_or_some}
+use Rattle.forest_store.proofs.Common.{In-map-back, ◌≡◌, ℕ, zero, suc, ◌<◌, ◌≤◌, ◌==◌, ◌&&◌, Bool, true, false, ◌⊎◌, inl, inr, List, [], ◌∷◌, map, length, get_or, set, if◌then◌else◌, Option, Some, None, option_map, is_some, sym, ap, subst, ◌∙◌, refl, arith, AllByRecursion, cons_option, filter, list_all, list_any, eqb-true, eqb-false, NodeKey, same_key, In, In-map, and_left, both_ways, either_way, same_key-refl, same_key-true, In-any, Table, node_at, Entry, Node, strong_count, over_except, Collection, AreRising, IsWhole, Shelf, are_filed, collection_in, is_filed, nodes_with, place_in, put_shelf, shelf_of, shelves_of, is_over, reserved_count, remove, ltb-true, times-le-length, AreCounted, IsQuiescent, IsCounted, put_in, IsNotedIn, IsNoting, IsThinned, left_at, unless_over, is_strong, is_spent, camped, AreCountedExcept, with_end}
 use Rattle.forest_store.specs.declared.node.End.{End}
-use Rattle.forest_store.specs.Calm.{AreCountedExcept}
-use Rattle.forest_store.specs.Nodes.{with_end}
 use Rattle.forest_store.proofs.leaving.Thinning.{none-filter}
-use Rattle.forest_store.proofs.Basics.{looked-of, IsPlain, calm_filter, calm_map, strong_filter, times_map, in_all, looked_there, looked-map, fewer_over, more_noted, not_over_but, noted_not, cases_place, filed-length, all-In, reserved_filter, reserved_map}
+use Rattle.forest_store.proofs.Basics.{none_cases, place_cases, In-made, all_at, all_in, each_none, made-found, none_each, above-weaker, all_weaker, looked-of, IsPlain, calm_filter, calm_map, strong_filter, times_map, in_all, looked_there, looked-map, fewer_over, more_noted, not_over_but, noted_not, cases_place, filed-length, all-In, reserved_filter, reserved_map}
 
--- what is told of the collection of an entry by one table is told by another that shows the same
-pub moved : (t now : Table Node) (e : Entry) → collection_in now (shelf_of e) ≡ collection_in t (shelf_of e) → IsCounted t e →
-    IsCounted now e
-moved t now e same counted = record {
-  calm = subst IsQuiescent (sym same) counted.calm;
-  strong = counted.strong ∙ ap (λ (c : Collection). strong_count c.nodes) (sym same);
-  reserved = counted.reserved ∙ ap (λ (c : Collection). reserved_count c.nodes) (sym same);
-  garbage_known = λ h. ap (λ (c : Collection). list_any (over_except e.garbage.items) c.nodes) same ∙ counted.garbage_known h;
-}
-
--- an entry that shows the same with the same counts
-pub recounted : (t : Table Node) (e new : Entry) → collection_in t (shelf_of new) ≡ collection_in t (shelf_of e) → new.strong ≡ e.strong →
-    new.reserved ≡ e.reserved →
-    (new.garbage_known ≡ true → list_any (over_except new.garbage.items) (nodes_with t e.keys.items) ≡ false) → IsCounted t e → IsCounted t new
-recounted t e new same count sum garbage_known counted = record {
+-- what is told of the collection of an entry is told of an entry of which a table shows the same with the same counts
+pub counted_as : {t now : Table Node} {e new : Entry} → collection_in now (shelf_of new) ≡ collection_in t (shelf_of e) →
+    new.strong ≡ e.strong → new.reserved ≡ e.reserved →
+    (new.garbage_known ≡ true → list_any (over_except new.garbage.items) (nodes_with t e.keys.items) ≡ false) → IsCounted t e → IsCounted now new
+counted_as {new = new} same count sum garbage_known counted = record {
   calm = subst IsQuiescent (sym same) counted.calm;
   strong = count ∙ counted.strong ∙ ap (λ (c : Collection). strong_count c.nodes) (sym same);
   reserved = sum ∙ counted.reserved ∙ ap (λ (c : Collection). reserved_count c.nodes) (sym same);
   garbage_known = λ h. ap (λ (c : Collection). list_any (over_except new.garbage.items) c.nodes) same ∙ garbage_known h;
 }
 
+-- so by another table that shows the same
+pub moved : (t now : Table Node) (e : Entry) → collection_in now (shelf_of e) ≡ collection_in t (shelf_of e) → IsCounted t e →
+    IsCounted now e
+moved t now e same counted = counted_as same refl refl counted.garbage_known counted
+
+-- an entry that shows the same with the same counts
+pub recounted : (t : Table Node) (e new : Entry) → collection_in t (shelf_of new) ≡ collection_in t (shelf_of e) → new.strong ≡ e.strong →
+    new.reserved ≡ e.reserved →
+    (new.garbage_known ≡ true → list_any (over_except new.garbage.items) (nodes_with t e.keys.items) ≡ false) → IsCounted t e → IsCounted t new
+recounted t e new = counted_as
+
 -- so of all that show the same
 pub moved_all : (t now : Table Node) (es : List Entry) → are_filed t (shelves_of es) ≡ true →
     ((e : Entry) → list_all (is_filed t e.id) e.keys.items ≡ true → collection_in now (shelf_of e) ≡ collection_in t (shelf_of e)) →
     AreCounted t es → AreCounted now es
-moved_all t now [] filed same all = tt
-moved_all t now (e ∷ es) filed same all = (
-  moved t now e (same e (and_left (list_all (is_filed t e.id) e.keys.items) _ filed)) all.0,
-  moved_all t now es (and_right (list_all (is_filed t e.id) e.keys.items) _ filed) same all.1,
-)
+moved_all t now es filed same all = all_in _ es (λ e on.
+    moved t now e (same e (all-In (λ (s : Shelf). list_all (is_filed t s.id) s.keys) _ _ (In-map-back shelf_of es e on) filed)) (all_at _ es all e on))
 
 -- where all are counted, all but one are
 pub counted_but : (t : Table Node) (id : ℕ) (es : List Entry) → AreCounted t es → AreCountedExcept t id es
-counted_but t id [] all = tt
-counted_but t id (e ∷ es) all = (λ differ. all.0, counted_but t id es all.1)
-
--- ids above another are not it
-counted_above : (t : Table Node) (id low : ℕ) (es : List Entry) → id < low →
-    AllByRecursion (λ (later : Shelf). low < later.id) (shelves_of es) → AreCountedExcept t id es → AreCounted t es
-counted_above t id low [] less all but = tt
-counted_above t id low (e ∷ es) less all but =
-    (but.0 (λ same. omega (arith, all.0)), counted_above t id low es less all.1 but.1)
+counted_but t id es all = all_weaker _ _ es (λ e own differ. own) all
 
 -- by induction: no entry behind has the id
 counted_behind : (t : Table Node) (id : ℕ) (es : List Entry) →
@@ -69,7 +56,7 @@ counted_put t new (e ∷ es) rising but own = cases_place e.id new.id (AreCounte
       own,
       (
         but.0 (eqb-false e.id new.id other),
-        counted_above t new.id e.id es (ltb-true new.id e.id above) rising.0 but.1,
+        counted_behind t new.id es (above-weaker new.id e.id _ (ltb-true new.id e.id above) rising.0) but.1,
       ),
     ))
     (λ other below. rw (other, below) (but.0 (eqb-false e.id new.id other), counted_put t new es rising.1 but.1 own))
@@ -133,11 +120,11 @@ module _ (t now : Table Node) (named : (k : NodeKey) (n : Node) → node_at t k 
             ∙ none-filter stays _ _ (counted.garbage_known h);
       }
 
-  -- by induction over the entries
+  -- so each of the entries
   pub dropped_all : (es : List Entry) → AllByRecursion (λ (s : Shelf). IsWhole (collection_in t s)) (shelves_of es) → AreCounted t es →
       AreCounted now es
-  dropped_all [] whole all = tt
-  dropped_all (e ∷ es) whole all = (dropped e whole.0 all.0, dropped_all es whole.1 all.1)
+  dropped_all es whole all = all_in _ es (λ e on.
+      dropped e (all_at _ _ whole _ (In-map-back shelf_of es e on)) (all_at _ es all e on))
 
 -- ---- nodes that are changed
 
@@ -147,19 +134,16 @@ pub mapped_all : (t now : Table Node) (f : Node → Node) → ((n : Node) → Is
     ((key : NodeKey) → node_at now key ≡ option_map f (node_at t key)) → (es : List Entry) →
     AllByRecursion (λ (e : Entry). e.garbage_known ≡ true → list_any (over_except e.garbage.items) (map f (nodes_with t e.keys.items)) ≡ false) es →
     AreCounted t es → AreCounted now es
-mapped_all t now f plain strong camps look [] garbage_known all = tt
-mapped_all t now f plain strong camps look (e ∷ es) garbage_known all =
-    let nodes =
-    looked-map f (node_at t) (node_at now) look e.keys.items in (
-      record {
-        calm = subst IsQuiescent (λ i. record (collection_in t (shelf_of e)) { nodes = sym nodes i }) (calm_map (collection_in t (shelf_of e)) f
-            plain all.0.calm);
-        strong = all.0.strong ∙ sym (times_map is_strong is_strong f (nodes_with t e.keys.items) strong) ∙ ap strong_count (sym nodes);
-        reserved = all.0.reserved ∙ sym (reserved_map f camps (nodes_with t e.keys.items)) ∙ ap reserved_count (sym nodes);
-        garbage_known = λ h. ap (list_any (over_except e.garbage.items)) nodes ∙ garbage_known.0 h;
-      },
-      mapped_all t now f plain strong camps look es garbage_known.1 all.1,
-    )
+mapped_all t now f plain strong camps look es garbage_known all = all_in _ es (λ e on.
+    let nodes = looked-map f (node_at t) (node_at now) look e.keys.items in
+    let own = all_at _ es all e on in
+    record {
+      calm = subst IsQuiescent (λ i. record (collection_in t (shelf_of e)) { nodes = sym nodes i })
+          (calm_map (collection_in t (shelf_of e)) f plain own.calm);
+      strong = own.strong ∙ sym (times_map is_strong is_strong f (nodes_with t e.keys.items) strong) ∙ ap strong_count (sym nodes);
+      reserved = own.reserved ∙ sym (reserved_map f camps (nodes_with t e.keys.items)) ∙ ap reserved_count (sym nodes);
+      garbage_known = λ h. ap (list_any (over_except e.garbage.items)) nodes ∙ all_at _ es garbage_known e on h;
+    })
 
 -- ---- entries that are left out
 
@@ -177,19 +161,9 @@ counted_set t [] at new own all = tt
 counted_set t (e ∷ es) zero new own all = (own (omega arith) all.0, all.1)
 counted_set t (e ∷ es) (suc n) new own all = (all.0, counted_set t es n new (λ within. own (omega arith)) all.1)
 
--- ---- keys without a node
+-- ---- nodes that were dead
 
--- keys that find nothing are not missed
-pub found_nodes : (t : Table Node) (keys : List NodeKey) → nodes_with t (filter (is_found t) keys) ≡ nodes_with t keys
-found_nodes t [] = refl
-found_nodes t (k ∷ ks) = from (node_at t k) refl (found_nodes t ks)
-  where
-    from : (o : Option Node) → node_at t k ≡ o → nodes_with t (filter (is_found t) ks) ≡ nodes_with t ks →
-        nodes_with t (cond (is_some o) (k ∷ filter (is_found t) ks) (filter (is_found t) ks)) ≡ cons_option o (nodes_with t ks)
-    from None is on = on
-    from (Some n) is on = rw (is, on) refl
-
--- what is taken out of a table where it was over was gone
+-- what is taken out of a table where it was dead was gone
 pub drops_over : (t now : Table Node) (keys : List NodeKey) → ((k : NodeKey) → node_at now k ≡ left_at t keys k) → Drops t now
 drops_over t now keys look k = elim (either_way (list_any (same_key k) keys)) [
   | inl e ↦ by (node_at t k) (look k ∙ (rw e refl))
@@ -204,7 +178,7 @@ drops_over t now keys look k = elim (either_way (list_any (same_key k) keys)) [
       | inr e ↦ inl (is ∙ (rw e refl))
     ]
 
--- so of one node that was over
+-- so of one node that was dead
 pub drops_one : (t now : Table Node) (key : NodeKey) (node : Node) → node_at t key ≡ Some node → node.gone ≡ true →
     ((k : NodeKey) → node_at now k ≡ (if same_key key k then None else node_at t k)) → Drops t now
 drops_one t now key node was gone look k = elim (either_way (same_key key k)) [
@@ -218,19 +192,18 @@ drops_one t now key node was gone look k = elim (either_way (same_key key k)) [
   | inr e ↦ inl (look k ∙ (rw e refl))
 ]
 
--- no node with one of the keys is over, once those that were are taken out
+-- no node with one of the keys is dead, once those that were are taken out
 pub none_left : (t now : Table Node) (keys : List NodeKey) → ((k : NodeKey) → node_at now k ≡ left_at t keys k) → (ks : List NodeKey) →
     ((k : NodeKey) → In k ks → list_any (same_key k) keys ≡ true) → list_any is_over (nodes_with now ks) ≡ false
-none_left t now keys look [] within = refl
-none_left t now keys look (k ∷ ks) within =
-    from (node_at t k) (look k ∙ (rw (within k (inl refl)) refl)) (none_left t now keys look ks (λ j on. within j (inr on)))
+none_left t now keys look ks within = each_none _ _ (λ n on.
+    let x = In-made (node_at now) ks n on in
+    from n (node_at t x.0) (sym x.2 ∙ look x.0 ∙ rw (within x.0 x.1) refl))
   where
-    from : (o : Option Node) → node_at now k ≡ unless_over o → list_any is_over (nodes_with now ks) ≡ false →
-        list_any is_over (nodes_with now (k ∷ ks)) ≡ false
-    from None is rest = rw is rest
-    from (Some n) is rest = elim (either_way (is_over n)) [
-      | inl e ↦ let none : node_at now k ≡ None = is ∙ (rw e refl) in rw none rest
-      | inr e ↦ let some : node_at now k ≡ Some n = is ∙ (rw e refl) in rw (some, e) rest
+    from : (n : Node) (o : Option Node) → Some n ≡ unless_over o → is_over n ≡ false
+    from n None is = cc
+    from n (Some m) is = elim (either_way (is_over m)) [
+      | inl e ↦ let none : Some n ≡ None = is ∙ (rw e refl) in cc
+      | inr e ↦ let some : Some n ≡ Some m = is ∙ (rw e refl) in let one : n ≡ m = cc in rw one e
     ]
 
 -- a key is one of its own list
@@ -239,24 +212,12 @@ own_key ks k on = In-any _ _ k on (same_key-refl k)
 
 -- ---- ends that are put elsewhere
 
--- where none passes, this one fails
-pub none_each : {A : Type 0} (p : A → Bool) (xs : List A) → list_any p xs ≡ false → (x : A) → In x xs → p x ≡ false
-none_each p xs none x on = elim (either_way (p x)) [
-  | inl e ↦ both_ways (list_any p xs) (In-any p xs x on e) none
-  | inr e ↦ e
-]
-
--- and where each fails, none passes
-each_none : {A : Type 0} (p : A → Bool) (xs : List A) → ((x : A) → In x xs → p x ≡ false) → list_any p xs ≡ false
-each_none p [] each = refl
-each_none p (x ∷ xs) each = rw (each x (inl refl)) (each_none p xs (λ y on. each y (inr on)))
-
 module _ (t : Table Node) (named : (k : NodeKey) (n : Node) → node_at t k ≡ Some n → n.key ≡ k) (key : NodeKey) (end : End) (n : Node)
     (was : node_at t key ≡ Some n) where
   abbrev f : Node → Node
   f = with_end key end
 
-  -- one entry, where the node is noted if it is one of its own and is over then
+  -- one entry, where the node is noted if it is one of its own and is dead then
   end_tidy : (e : Entry) → list_all (is_filed t e.id) e.keys.items ≡ true →
       list_any (over_except e.garbage.items) (nodes_with t e.keys.items) ≡ false →
       (is_over (record n { end = end }) ≡ true → e.id ≡ n.collection → list_any (same_key key) e.garbage.items ≡ true) →
@@ -283,16 +244,13 @@ module _ (t : Table Node) (named : (k : NodeKey) (n : Node) → node_at t k ≡ 
             | inr not_over ↦ not_over_but e.garbage.items (f m) (is ∙ not_over)
           ]
 
-  -- by induction: the node is over only in its own collection, which notes it or is not tidy
+  -- the node is dead only in its own collection, which notes it or is not tidy
   pub ends_tidy : (es : List Entry) → are_filed t (shelves_of es) ≡ true → AreCounted t es →
       (is_over (record n { end = end }) ≡ true → AllByRecursion (λ (e : Entry). e.id ≡ n.collection → IsNotedIn e key) es) →
       AllByRecursion (λ (e : Entry). e.garbage_known ≡ true → list_any (over_except e.garbage.items) (map f (nodes_with t e.keys.items)) ≡ false) es
-  ends_tidy [] filed all garbage = tt
-  ends_tidy (e ∷ es) filed all garbage = (
-    λ garbage_known. end_tidy e (and_left (list_all (is_filed t e.id) e.keys.items) _ filed) (all.0.garbage_known garbage_known)
-        (λ over is. (garbage over).0 is garbage_known),
-    ends_tidy es (and_right (list_all (is_filed t e.id) e.keys.items) _ filed) all.1 (λ over. (garbage over).1),
-  )
+  ends_tidy es filed all garbage = all_in _ es (λ e on known.
+      end_tidy e (all-In (λ (s : Shelf). list_all (is_filed t s.id) s.keys) _ _ (In-map-back shelf_of es e on) filed)
+      ((all_at _ es all e on).garbage_known known) (λ over is. all_at _ es (garbage over) e on is known))
 
 -- an entry that notes more
 pub garbage : (t : Table Node) (es : List Entry) (at : ℕ) (new : Entry) → (at < length es → IsNoting (get_or es at new) new) →
@@ -300,7 +258,7 @@ pub garbage : (t : Table Node) (es : List Entry) (at : ℕ) (new : Entry) → (a
 garbage t es at new known all = counted_set t _ at new (λ within counted.
     let old : Entry = get_or es at new in
     let more = known within in
-    recounted t _ _ (ap (collection_in t) more.shelf) more.strong more.reserved
+    counted_as (ap (collection_in t) more.shelf) more.strong more.reserved
     (λ garbage_known. more_noted _ _ more.more (nodes_with t old.keys.items) (counted.garbage_known (more.garbage_known garbage_known)))
     counted) all
 
@@ -313,10 +271,10 @@ counted_thinned t now es at new thinned look all = counted_set _ _ at new (λ wi
     let is = thinned within in
     let keys : List NodeKey = (get_or es at new).keys.items in
     let none : list_any is_over (nodes_with now keys) ≡ false = none_left t now _ (look within) _ (own_key _) in
-    recounted _ _ _
+    counted_as
     (λ i. record {
       id = is.id i;
-      nodes = (ap (nodes_with now) is.keys ∙ found_nodes now keys) i;
+      nodes = (ap (nodes_with now) is.keys ∙ made-found (node_at now) keys) i;
       buffers = is.buffers i;
       held = (is.held i).items;
     }) is.strong is.reserved (λ garbage_known. fewer_over new.garbage.items (nodes_with now keys) none) counted) all
@@ -325,39 +283,24 @@ counted_thinned t now es at new thinned look all = counted_set _ _ at new (λ wi
 pub noted_set : (P : Entry → Type 0) (id : ℕ) (es : List Entry) (at : ℕ) (new : Entry) → AreRising (shelves_of es) →
     place_in id es ≡ Some at → P new → AllByRecursion (λ (e : Entry). e.id ≡ id → P e) (set es at new)
 noted_set P id [] at new rising told untidy = tt
-noted_set P id (e ∷ es) at new rising told untidy = elim (either_way (e.id == id)) [
-  | inl here ↦
-      let given = rw here at told in
-      let first : zero ≡ at = cc in
-      rw (← first) (
-        λ same. untidy,
-        above es (subst (λ (low : ℕ). AllByRecursion (λ (later : Shelf). low < later.id) (shelves_of es)) (eqb-true _ _ here) rising.0),
-      )
-  | inr other ↦ elim (none_or_some (place_in id es)) [
-    | inl none ↦ let given = rw (other, none) at told in absurd (cc)
-    | inr x ↦
-        let given = rw (other, x.1) at told in
-        let next : at ≡ suc x.0 = omega (arith, some-injective (x.0 + 1) at given) in
-        rw next (λ same. absurd (eqb-false _ _ other same), noted_set P id es x.0 new rising.1 x.1 untidy)
-  ]
-]
-  where
-    above : (xs : List Entry) → AllByRecursion (λ (later : Shelf). id < later.id) (shelves_of xs) →
-        AllByRecursion (λ (x : Entry). x.id ≡ id → P x) xs
-    above [] all = tt
-    above (x ∷ xs) all = (λ is. absurd (omega (arith, all.0)), above xs all.1)
+noted_set P id (e ∷ es) at new rising told untidy =
+    place_cases id e es at (λ at. AllByRecursion (λ (x : Entry). x.id ≡ id → P x) (set (e ∷ es) at new)) told
+    (λ here. (
+      λ same. untidy,
+      all_in _ es (λ x on is.
+          let less : e.id < x.id = all_at _ _ rising.0 (shelf_of x) (In-map-back shelf_of es x on) in
+          let own : e.id ≡ id = eqb-true e.id id here in
+          absurd (omega arith)),
+    ))
+    (λ n other behind. (λ same. absurd (eqb-false _ _ other same), noted_set P id es n new rising.1 behind untidy))
 
 -- where none has the id
 pub noted_none : (P : Entry → Type 0) (id : ℕ) (es : List Entry) → place_in id es ≡ None →
     AllByRecursion (λ (e : Entry). e.id ≡ id → P e) es
 noted_none P id [] told = tt
-noted_none P id (e ∷ es) told = elim (either_way (e.id == id)) [
-  | inl here ↦ let given = rw here at told in absurd (cc)
-  | inr other ↦ elim (none_or_some (place_in id es)) [
-    | inl none ↦ (λ same. absurd (eqb-false _ _ other same), noted_none P id es none)
-    | inr x ↦ let given = rw (other, x.1) at told in absurd (cc)
-  ]
-]
+noted_none P id (e ∷ es) told =
+    let x = none_cases id e es told in
+    (λ same. absurd (eqb-false _ _ x.0 same), noted_none P id es x.1)
 
 -- an entry that shows the same in the place of another
 pub set_shelves : (es : List Entry) (at : ℕ) (new : Entry) → (at < length es → shelf_of new ≡ shelf_of (get_or es at new)) →

@@ -1,7 +1,7 @@
 -- Entries of which one loses keys, or goes.
-use Rattle.forest_store.proofs.Common.{◌≡◌, ℕ, zero, suc, ◌+◌, ◌==◌, Bool, true, false, List, [], ◌∷◌, get_or, set, Option, Some, None, option_map, cond, refl, sym, ap, subst, ◌∙◌, arith, eq-eqb, find, some-injective, Table, Entry, Node, Shelf, AreRising, place_in, shelf_of, shelves_of, is_bare, thin_in, thinned, without_bare, remove}
+use Rattle.forest_store.proofs.Common.{◌≡◌, ℕ, ◌==◌, true, false, List, [], ◌∷◌, get_or, set, Some, None, option_map, sym, ap, ◌∙◌, eq-eqb, find, Table, Entry, Node, Shelf, AreRising, place_in, shelf_of, shelves_of, is_bare, thin_in, thinned, without_bare, remove}
 use Rattle.forest_store.proofs.leaving.Tidying.{above_other, bare_others, none_others, thin_others}
-use Rattle.forest_store.proofs.Basics.{none_in, shelf_found}
+use Rattle.forest_store.proofs.Basics.{none_in, place_cases, shelf_found}
 
 -- where no entry has the id no shelf has it
 pub no_shelf : (id : ℕ) (es : List Entry) → place_in id es ≡ None → find (λ (s : Shelf). s.id == id) (shelves_of es) ≡ None
@@ -10,18 +10,6 @@ no_shelf id es none = shelf_found id es ∙ ap (option_map shelf_of) (none_in id
 -- and nothing goes
 pub bare_none : (id : ℕ) (es : List Entry) → place_in id es ≡ None → shelves_of es ≡ without_bare id (shelves_of es)
 bare_none id es none = sym (bare_others _ _ (none_others _ _ (no_shelf id es none)))
-
--- what is told of the first place, or of one behind it
-place_cases : (id : ℕ) (x : Entry) (es : List Entry) (at : ℕ) (P : ℕ → Type 0) → place_in id (x ∷ es) ≡ Some at →
-    ((x.id == id) ≡ true → P zero) → ((n : ℕ) → (x.id == id) ≡ false → place_in id es ≡ Some n → P (suc n)) → P at
-place_cases id x es at P told first behind = by _ refl _ refl told
-  where
-    by : (b : Bool) → (x.id == id) ≡ b → (o : Option ℕ) → place_in id es ≡ o → cond b (Some 0) (option_map (λ n. n + 1) o) ≡ Some at → P at
-    by true same o is told = let start : zero ≡ at = cc in subst P start (first same)
-    by false other None is told = absurd (cc)
-    by false other (Some n) is told =
-        let next : suc n ≡ at = omega (arith, some-injective _ at told) in
-        subst P next (behind n other is)
 
 -- the entry at the place of the id keeps the keys that the table has
 pub set_thin : (t : Table Node) (id : ℕ) (es : List Entry) (at : ℕ) (e : Entry) → AreRising (shelves_of es) → place_in id es ≡ Some at →

@@ -57,17 +57,10 @@ keys-put one other (s ∷ ss) ids keys = cases_place s.id other.id (all_keys (pu
     (λ same. rw (ids, keys, same) refl) (λ differ above. rw (ids, keys, differ, above) refl)
     (λ differ below. rw (ids, differ, below) (ap (λ ks. s.keys ++ ks) (keys-put one other ss ids keys)))
 
--- what two tables that file the same say of keys
-filed-same-keys : (t now : Table Node) → ((id : ℕ) (key : NodeKey) → is_filed now id key ≡ is_filed t id key) →
-    (id : ℕ) (keys : List NodeKey) → list_all (is_filed now id) keys ≡ list_all (is_filed t id) keys
-filed-same-keys t now each id [] = refl
-filed-same-keys t now each id (k ∷ ks) = rw (each id k, filed-same-keys t now each id ks) refl
-
 -- what two tables that file the same say of all
 pub filed-same : (t now : Table Node) → ((id : ℕ) (key : NodeKey) → is_filed now id key ≡ is_filed t id key) → (ss : List Shelf) →
     are_filed now ss ≡ are_filed t ss
-filed-same t now each [] = refl
-filed-same t now each (s ∷ ss) = rw (filed-same-keys t now each s.id s.keys, filed-same t now each ss) refl
+filed-same t now each ss = λ i. list_all (λ (s : Shelf). list_all (λ key. each s.id key i) s.keys) ss
 
 -- two shelves of one id with the same keys are filed alike
 pub filed-put : (t : Table Node) (one other : Shelf) (ss : List Shelf) → one.id ≡ other.id → one.keys ≡ other.keys →

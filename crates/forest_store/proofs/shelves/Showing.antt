@@ -1,8 +1,7 @@
 -- What the forest that a table and entries make is read as.
-use Rattle.forest_store.proofs.Common.{◌≡◌, ◌≤◌, ℕ, ◌==◌, ◌+◌, true, false, not, List, [], ◌∷◌, ◌++◌, length, map, Option, Some, None, option_map, cond, if◌then◌else◌, refl, sym, ap, ◌∙◌, arith, filter, find, list_any, list_all, cons_option, option_map_or, Interval, NodeKey, Buffers, same_key, and_left, and_right, Table, node_at, Entry, Node, Collection, node_of, Shelf, shelf_of, shelves_of, nodes_with, collection_in, forest_of, all_keys, is_filed, are_filed, IsStored, IfSome, flat_map, leb-true, filter_map-append, MAX_BUFFERS, collection_at, pages_in, pages_held, length-append, In-find}
+use Rattle.forest_store.proofs.Common.{◌≡◌, ◌≤◌, ℕ, ◌==◌, ◌+◌, true, false, not, List, [], ◌∷◌, ◌++◌, length, map, Option, Some, None, option_map, cond, if◌then◌else◌, refl, sym, ap, ◌∙◌, arith, filter, find, list_any, list_all, cons_option, option_map_or, Interval, NodeKey, Buffers, same_key, and_left, and_right, Table, node_at, Entry, Node, Collection, node_of, Shelf, shelf_of, shelves_of, nodes_with, collection_in, forest_of, all_keys, is_filed, are_filed, IsStored, IfSome, flat_map, leb-true, filter_map-append, MAX_BUFFERS, collection_at, pages_in, pages_held, length-append, In-find, all_nodes, beside, forest_node, summary_of, given_few}
 use Rattle.forest_store.proofs.quiescence.Steps.{all-In}
-use Rattle.forest_store.specs.Forest.{all_nodes, beside, node_at as forest_node, summary_of}
-use Rattle.forest_store.specs.Scenes.{given_few}
+use Rattle.forest_store.proofs.lists.Elements.{find_made}
 use Rattle.forest_store.proofs.lists.Lookups.{nothing, node_of-looked}
 
 -- the nodes of all collections are those of all keys
@@ -69,12 +68,7 @@ all_filed-length t (e ∷ es) h =
 -- the collection with an id is that of the entry with it
 pub collection_is : (t : Table Node) (id : ℕ) (es : List Shelf) →
     collection_at (forest_of t es) id ≡ option_map (collection_in t) (find (λ (e : Shelf). e.id == id) es)
-collection_is t id [] = refl
-collection_is t id (e ∷ es) = elim (e.id == id) as (λ b. cond b (Some (collection_in t e)) (collection_at (forest_of t es) id) ≡ option_map
-    (collection_in t) (cond b (Some e) (find (λ (x : Shelf). x.id == id) es))) [
-      | true ↦ refl
-      | false ↦ collection_is t id es
-    ]
+collection_is t id es = find_made (λ (c : Collection). c.id == id) (λ (e : Shelf). e.id == id) (collection_in t) es (λ e. refl)
 
 -- the keys of an entry that is found are filed
 pub filed_found : (t : Table Node) (id : ℕ) (es : List Shelf) → are_filed t es ≡ true → (e : Shelf) →
@@ -85,13 +79,7 @@ filed_found t id es h e found =
 -- the shelf of an entry is found as it is
 pub shelf_found : (id : ℕ) (es : List Entry) → find (λ (s : Shelf). s.id == id) (shelves_of es) ≡ option_map shelf_of (find (λ (e : Entry).
     e.id == id) es)
-shelf_found id [] = refl
-shelf_found id (e ∷ es) =
-    elim (e.id == id) as (λ b. cond b (Some (shelf_of e)) (find (λ (s : Shelf). s.id == id) (shelves_of es)) ≡ option_map shelf_of
-    (cond b (Some e) (find (λ (x : Entry). x.id == id) es))) [
-      | true ↦ refl
-      | false ↦ shelf_found id es
-    ]
+shelf_found id es = find_made (λ (s : Shelf). s.id == id) (λ (e : Entry). e.id == id) shelf_of es (λ e. refl)
 
 -- the summary of a collection whose entry is found
 pub collection_some : (t : Table Node) (es : List Entry) → IsStored t (shelves_of es) → (id : ℕ) (e : Entry) →

@@ -1,8 +1,6 @@
 -- What a failure reaches, of the nodes whose lines up to a root are known.
-use Rattle.forest_store.proofs.Common.{◌≡◌, refl, ap, sym, ◌∙◌, Bool, true, false, ◌⊎◌, inl, inr, List, [], ◌∷◌, Option, Some, None, list_any, NodeKey, same_key, both_ways, either_way, or_right, same_key-true, IsChain}
-use Rattle.std.proofs.Common.{◌↔◌}
+use Rattle.forest_store.proofs.Common.{◌≡◌, refl, ap, sym, ◌∙◌, Bool, true, false, ◌⊎◌, inl, inr, List, [], ◌∷◌, Option, Some, None, list_any, NodeKey, same_key, both_ways, either_way, or_right, same_key-true, IsChain, ◌↔◌, climbs, descends, top_on}
 use Rattle.sm_names.specs.Losses.{Reach, Origin, Up, Down, top}
-use Rattle.sm_names.proofs.ReachLaws.{climbs, descends, top_on}
 
 module _ (parent : NodeKey → Option NodeKey) where
   -- a node has one line up to its root

@@ -1,25 +1,13 @@
--- Nodes that are left once a collection was changed were left before, on the parents that the table has.
-use Rattle.forest_store.proofs.Common.{◌≡◌, refl, ap, sym, ◌∙◌, subst, true, false, not, inl, inr, List, [], ◌∷◌, reverse, Option, Some, None, AllByRecursion, cons_option, NodeKey, In, same_key-true, Table, node_at, parent_at, Node, nodes_with, is_of, are_rooted}
-use Rattle.std.proofs.lemmas.Bool.{not-false}
-use Rattle.forest_store.specs.Shelves.{IsHung}
-use Rattle.forest_store.specs.Ties.{IsTied}
+-- The nodes that keys find, and the parents that the table has of them.
+use Rattle.forest_store.proofs.Common.{◌≡◌, ap, sym, ◌∙◌, true, false, not, List, reverse, Some, AllByRecursion, NodeKey, In, same_key-true, Table, node_at, parent_at, Node, nodes_with, is_of, are_rooted, not-false, IsHung, IsTied}
+pub use Rattle.forest_store.proofs.lists.Elements.{all_at, all_in}
+use Rattle.forest_store.proofs.lists.Elements.{In-made}
 
--- ---- what holds of all
+-- ---- nodes
 
--- what holds of all holds of each: the element is the first, or one of the others
-pub all_at : {A : Type 0} (P : A → Type 0) (xs : List A) → AllByRecursion P xs → (x : A) → In x xs → P x
-all_at P [] all x on = absurd on
-all_at P (y ∷ ys) all x (inl is) = subst P (sym is) all.0
-all_at P (y ∷ ys) all x (inr on) = all_at P ys all.1 x on
-
--- so of nodes
+-- what holds of all holds of each
 pub in_all : (P : Node → Type 0) (nodes : List Node) → AllByRecursion P nodes → (n : Node) → In n nodes → P n
 in_all P nodes = all_at P _
-
--- and what holds of each holds of all
-pub all_in : {A : Type 0} (P : A → Type 0) (xs : List A) → ((x : A) → In x xs → P x) → AllByRecursion P xs
-all_in P [] each = tt
-all_in P (x ∷ xs) each = (each x (inl refl), all_in P xs (λ y on. each y (inr on)))
 
 -- ---- links
 
@@ -28,12 +16,7 @@ module _ (t : Table Node) where
     -- what holds of each node of the table holds of those that keys find
     looked_each : (P : Node → Type 0) → ((key : NodeKey) (n : Node) → node_at t key ≡ Some n → P n) → (keys : List NodeKey) →
         AllByRecursion P (nodes_with t keys)
-    looked_each P each [] = tt
-    looked_each P each (k ∷ ks) = by _ refl (looked_each P each ks)
-      where
-        by : (o : Option Node) → node_at t k ≡ o → AllByRecursion P (nodes_with t ks) → AllByRecursion P (cons_option o (nodes_with t ks))
-        by None is rest = rest
-        by (Some n) is rest = (each k n is, rest)
+    looked_each P each keys = all_in P _ (λ n on. let x = In-made (node_at t) keys n on in each x.0 n x.2)
 
     -- each of them is found by its key
     pub looked_there : (keys : List NodeKey) → AllByRecursion (λ (n : Node). node_at t n.key ≡ Some n) (nodes_with t keys)

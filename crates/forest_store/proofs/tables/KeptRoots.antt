@@ -1,11 +1,8 @@
 -- The nodes of a collection stay on their parents, whatever is changed or forced.
-use Rattle.forest_store.proofs.Common.{◌≡◌, ℕ, refl, ap, sym, ◌∙◌, Bool, true, false, cond, ◌||◌, inl, inr, List, [], ◌∷◌, ◌++◌, map, reverse, Option, Some, None, is_some, filter, list_any, option_map_or, Interval, NodeKey, same_key, In, In-find, In-map, In-map-back, and_both, and_left, and_right, both_ways, either_way, or_right, same_key-refl, same_key-true, In-any, Change, Effect, Node, is_left_of, Collection, affected, is_of, members_of, node_of, Handles, Settles, are_rooted, reverse-append, Mark, Called, Loss, Allocated, Ended, is_under, In-append, In-filter, In-filter-back, In-reverse, In-reverse-back, IsChain, or_parts, above_among, after_allocation, after_effect, is_taken, member_of, new_child, Rests, Forces, changed, is_root_of, made, hangs_on}
+use Rattle.forest_store.proofs.Common.{◌≡◌, ℕ, refl, ap, sym, ◌∙◌, Bool, true, false, cond, ◌||◌, inl, inr, List, [], ◌∷◌, ◌++◌, map, reverse, Option, Some, None, is_some, filter, list_any, option_map_or, Interval, NodeKey, same_key, In, In-find, In-map, In-map-back, and_both, and_left, and_right, both_ways, either_way, or_right, same_key-refl, same_key-true, In-any, Change, Effect, Node, is_left_of, Collection, affected, is_of, members_of, node_of, Handles, Settles, are_rooted, reverse-append, Mark, Called, Loss, Allocated, Ended, is_under, In-append, In-filter, In-filter-back, In-reverse, In-reverse-back, IsChain, or_parts, above_among, after_allocation, after_effect, is_taken, member_of, new_child, Rests, Forces, changed, is_root_of, made, hangs_on, is_some-find, after_end, after_loss, FitsChange}
 use Rattle.sm_names.specs.declared.outcomes.Fault.{Fault}
 use Rattle.sm_names.specs.Changes.{highest}
-use Rattle.sm_names.proofs.ListLaws.{is_some-find}
-use Rattle.forest_store.specs.Nodes.{after_end, after_loss}
 use Rattle.forest_store.proofs.tables.Chains.{one_line}
-use Rattle.forest_store.specs.Ties.{FitsChange}
 use Rattle.forest_store.proofs.tables.Rooted.{AreOne, HasLine, IsRooted, left_in, left_node, left_within, line_of}
 use mathlib.Core.List.{reverse_aux}
 

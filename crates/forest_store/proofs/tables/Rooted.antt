@@ -1,6 +1,6 @@
--- The nodes of a collection hang on their parents: that of each node that is not gone stands before it, and is not gone.
-use Rattle.forest_store.proofs.Common.{◌≡◌, refl, ap, sym, ◌∙◌, subst, true, false, inl, inr, List, [], ◌∷◌, reverse, Option, Some, None, not-true, list_any, option_map_or, NodeKey, same_key, In, In-list_any, and_both, and_left, and_right, both_ways, either_way, or_right, same_key-refl, same_key-true, In-any, Node, is_left_of, Collection, IsWhole, is_of, are_distinct, are_rooted, In-reverse, In-reverse-back, IsChain, above_among, hangs_on}
-use Rattle.std.proofs.lemmas.Bool.{not_from_false}
+-- The nodes of a collection hang on their parents: a node that is not gone comes after its parent,
+-- which is not gone.
+use Rattle.forest_store.proofs.Common.{◌≡◌, refl, ap, sym, ◌∙◌, subst, true, false, inl, inr, List, [], ◌∷◌, reverse, Option, Some, None, not-true, list_any, option_map_or, NodeKey, same_key, In, In-list_any, and_both, and_left, and_right, both_ways, either_way, or_right, same_key-refl, same_key-true, In-any, Node, is_left_of, Collection, IsWhole, is_of, are_distinct, are_rooted, In-reverse, In-reverse-back, IsChain, above_among, hangs_on, not_from_false}
 
 -- nodes with one key are one node
 abbrev pub AreOne : List Node → Type 0

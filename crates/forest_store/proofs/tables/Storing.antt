@@ -3,14 +3,9 @@ use Rattle.forest_store.proofs.Common.{◌≡◌, Bool, true, false, List, [], �
 use Rattle.forest_store.proofs.lists.Lookups.{nothing}
 use Rattle.forest_store.proofs.tables.Writing.{look-written, parents-written}
 
--- by whether they have one key
-written-key-by : (m n : Node) (same : Bool) → same_key m.key n.key ≡ same → (cond same m n).key ≡ n.key
-written-key-by m n true same = same_key-true _ _ same
-written-key-by m n false same = refl
-
 -- a node that is written has the key of the other
 written-key : (m n : Node) → (written m n).key ≡ n.key
-written-key m n = written-key-by m n _ refl
+written-key m n = elim (either_way (same_key m.key n.key)) [ inl e ↦ rw e (same_key-true _ _ e) | inr e ↦ rw e refl ]
 
 -- so after all
 pub stored-key : (ms : List Node) (n : Node) → (stored ms n).key ≡ n.key
@@ -22,14 +17,13 @@ stored-push : (ms : List Node) (m n : Node) → stored (ms ++ m ∷ []) n ≡ wr
 stored-push [] m n = refl
 stored-push (x ∷ xs) m n = stored-push xs m (written x n)
 
--- by the row
-row_there-by : (o : Option (Row Node)) → is_some (option_map (λ (row : Row Node). row.node) o) ≡ true → IsSome o
-row_there-by None h = absurd (false≢true h)
-row_there-by (Some row) h = refl
-
 -- a row with a node is there
 pub row_there : (t : Table Node) (key : NodeKey) → is_some (node_at t key) ≡ true → IsSome (row_at t key)
-row_there t key h = row_there-by _ h
+row_there t key = by _
+  where
+    by : (o : Option (Row Node)) → is_some (option_map (λ (row : Row Node). row.node) o) ≡ true → IsSome o
+    by None h = absurd (false≢true h)
+    by (Some row) h = refl
 
 -- a node as it is stored is one of those, or as it was
 pub stored_one : (ns : List Node) (n : Node) → (stored ns n ≡ n) ⊎ In (stored ns n) ns

@@ -1,18 +1,11 @@
 -- A node that is taken out of the table, with its children cut.
-use Rattle.forest_store.proofs.Common.{◌≡◌, ◌≢◌, suc, ◌+◌, ◌<◌, nat_lt, Bool, true, false, not, List, [], ◌∷◌, length, Option, Some, None, option_map, cond, if◌then◌else◌, refl, sym, ap, subst, ◌∙◌, inl, inr, arith, NodeKey, same_key, some-injective, Table, node_at, parent_at, Node, Shelf, forest_of, slice_index_or, IsSome, get_or_past, Row, row_at, parent_in, children_at, table_len, SameKeys, at_parent, key_cases, same_key-equal, same_key-apart, TakesOut}
-use Rattle.std.proofs.Common.{Contains}
-use Rattle.std.specs.Option.{MatchOption}
-use Rattle.node_table.specs.Table.{children_in}
-use Rattle.node_table.specs.Changes.{Cuts, Removes, without_child, without_parent}
+use Rattle.forest_store.proofs.Common.{◌≡◌, ◌≢◌, suc, ◌+◌, ◌<◌, nat_lt, Bool, true, false, not, List, [], ◌∷◌, length, Option, Some, None, option_map, cond, if◌then◌else◌, refl, sym, ap, subst, ◌∙◌, inl, inr, arith, NodeKey, same_key, some-injective, Table, node_at, parent_at, Node, Shelf, forest_of, slice_index_or, IsSome, get_or_past, Row, row_at, parent_in, children_at, table_len, SameKeys, at_parent, key_cases, same_key-equal, same_key-apart, TakesOut, Contains, MatchOption, children_in, Cuts, Removes, without_child, without_parent, SameForest, IsChild, Unlinks, Leaves}
 use Rattle.node_table.specs.Forest.{IsForest, first_key}
 use Rattle.node_table.proofs.Lists.{without, without_lacks, Contains-head}
 use Rattle.node_table.proofs.Runs.{without-short}
-use Rattle.forest_store.specs.Forest.{SameKeys as SameForest}
-use Rattle.forest_store.specs.Garbage.{IsChild, Unlinks}
-use Rattle.forest_store.specs.Shelves.{TakesOut as Leaves}
 
 -- the node of a row
-abbrev node_in : Option (Row Node) → Option Node
+abbrev pub node_in : Option (Row Node) → Option Node
 node_in o = option_map (λ (row : Row Node). row.node) o
 
 -- tables that gave the same keys begin at the same generation
@@ -38,23 +31,23 @@ unparented : (o : Option (Row Node)) → node_in (option_map without_parent o) �
 unparented None = refl
 unparented (Some row) = refl
 
--- and where it loses a child
-still_node : (parent : Option NodeKey) (key other : NodeKey) (o : Option (Row Node)) →
-    node_in (option_map (at_parent parent (without_child key) other) o) ≡ node_in o
-still_node None key other None = refl
-still_node None key other (Some row) = refl
-still_node (Some above) key other None = refl
-still_node (Some above) key other (Some row) =
-    elim (same_key above other) as (λ b. Some (cond b (without_child key row) row).node ≡ Some row.node) [ true ↦ refl | false ↦ refl ]
+-- and where its parent's row changes
+pub still_node : (g : Row Node → Row Node) → ((row : Row Node) → (g row).node ≡ row.node) → (parent : Option NodeKey) (other : NodeKey)
+    (o : Option (Row Node)) → node_in (option_map (at_parent parent g other) o) ≡ node_in o
+still_node g same None other None = refl
+still_node g same None other (Some row) = refl
+still_node g same (Some above) other None = refl
+still_node g same (Some above) other (Some row) =
+    elim (same_key above other) as (λ b. Some (cond b (g row) row).node ≡ Some row.node) [ true ↦ ap Some (same row) | false ↦ refl ]
 
--- a row keeps its parent where it loses a child
-still_parent : (parent : Option NodeKey) (key other : NodeKey) (o : Option (Row Node)) →
-    parent_in (option_map (at_parent parent (without_child key) other) o) ≡ parent_in o
-still_parent None key other None = refl
-still_parent None key other (Some row) = refl
-still_parent (Some above) key other None = refl
-still_parent (Some above) key other (Some row) =
-    elim (same_key above other) as (λ b. (cond b (without_child key row) row).parent ≡ row.parent) [ true ↦ refl | false ↦ refl ]
+-- a row keeps its parent there too
+pub still_parent : (g : Row Node → Row Node) → ((row : Row Node) → (g row).parent ≡ row.parent) → (parent : Option NodeKey) (other : NodeKey)
+    (o : Option (Row Node)) → parent_in (option_map (at_parent parent g other) o) ≡ parent_in o
+still_parent g same None other None = refl
+still_parent g same None other (Some row) = refl
+still_parent g same (Some above) other None = refl
+still_parent g same (Some above) other (Some row) =
+    elim (same_key above other) as (λ b. (cond b (g row) row).parent ≡ row.parent) [ true ↦ same row | false ↦ refl ]
 
 -- a row whose parent is taken has none
 no_parent : (o : Option (Row Node)) → parent_in (option_map without_parent o) ≡ None
@@ -66,14 +59,14 @@ cut_parent : (t now : Table Node) (key : NodeKey) → Cuts t now key → (k p : 
 cut_parent t now key cuts k p up = elim (key_cases k key) [
   | inl same ↦
       let none : parent_at now k ≡ None = ap (parent_at now) same ∙ ap parent_in cuts.loose ∙ no_parent (row_at t key) in absurd (cc)
-  | inr other ↦ sym (ap parent_in (cuts.others k other) ∙ still_parent (parent_at t key) key k (row_at t k)) ∙ up
+  | inr other ↦ sym (ap parent_in (cuts.others k other) ∙ still_parent (without_child key) (λ row. refl) (parent_at t key) k (row_at t k)) ∙ up
 ]
 
 -- a cut changes no node
 pub cut_look : (t now : Table Node) (key : NodeKey) → Cuts t now key → (k : NodeKey) → node_at now k ≡ node_at t k
 cut_look t now key cuts k = elim (key_cases k key) [
   | inl same ↦ subst (λ (x : NodeKey). node_at now x ≡ node_at t x) (sym same) (ap node_in cuts.loose ∙ unparented (row_at t key))
-  | inr other ↦ ap node_in (cuts.others k other) ∙ still_node (parent_at t key) key k (row_at t k)
+  | inr other ↦ ap node_in (cuts.others k other) ∙ still_node (without_child key) (λ row. refl) (parent_at t key) k (row_at t k)
 ]
 
 -- a child that is listed is a child
@@ -148,7 +141,8 @@ CutsOff-more t u now key child off is cuts = record {
   look = λ k. cut_look u now child cuts k ∙ off.look k;
   parents = λ k other. elim (key_cases k child) [
     | inl same ↦ absurd (other (sym (off.parents k other) ∙ ap (parent_at u) same ∙ is.parent_is))
-    | inr differ ↦ ap parent_in (cuts.others k differ) ∙ still_parent (parent_at u child) child k (row_at u k) ∙ off.parents k other
+    | inr differ ↦ ap parent_in (cuts.others k differ)
+        ∙ still_parent (without_child child) (λ row. refl) (parent_at u child) k (row_at u k) ∙ off.parents k other
   ];
   fewer = λ k p up. off.fewer k p (cut_parent u now child cuts k p up);
   keys = SameKeys-trans t u now off.keys cuts.keys;
@@ -161,7 +155,7 @@ removed_look : (t now : Table Node) (key : NodeKey) (n : Node) → Removes t now
 removed_look t now key n removes k = elim (key_cases k key) [
   | inl same ↦ rw (same_key-equal key k (sym same)) (ap node_in (ap (row_at now) same ∙ removes.gone))
   | inr other ↦ rw (same_key-apart key k (λ same. other (sym same)))
-      (ap node_in (removes.others k other) ∙ still_node (parent_at t key) key k (row_at t k))
+      (ap node_in (removes.others k other) ∙ still_node (without_child key) (λ row. refl) (parent_at t key) k (row_at t k))
 ]
 
 -- a removal gives no parent
@@ -169,7 +163,7 @@ removed_parent : (t now : Table Node) (key : NodeKey) (n : Node) → Removes t n
     parent_at t k ≡ Some p
 removed_parent t now key n removes k p up = elim (key_cases k key) [
   | inl same ↦ let none : parent_at now k ≡ None = ap (parent_at now) same ∙ ap parent_in removes.gone in absurd (cc)
-  | inr other ↦ sym (ap parent_in (removes.others k other) ∙ still_parent (parent_at t key) key k (row_at t k)) ∙ up
+  | inr other ↦ sym (ap parent_in (removes.others k other) ∙ still_parent (without_child key) (λ row. refl) (parent_at t key) k (row_at t k)) ∙ up
 ]
 
 -- a node is taken out once it has no child
@@ -178,7 +172,7 @@ pub takes_out : (t u now : Table Node) (key : NodeKey) (n : Node) → IsSome (no
 takes_out t u now key n was un removes = record {
   was = was;
   look = λ k. removed_look u now key n removes k ∙ ap (λ (o : Option Node). if same_key key k then None else o) (un.look k);
-  parents = λ k differ other. ap parent_in (removes.others k differ) ∙ still_parent (parent_at u key) key k (row_at u k)
+  parents = λ k differ other. ap parent_in (removes.others k differ) ∙ still_parent (without_child key) (λ row. refl) (parent_at u key) k (row_at u k)
       ∙ un.parents k other;
   fewer = λ k p up. un.fewer k p (removed_parent u now key n removes k p up);
   keys = SameKeys-trans t u now un.keys removes.keys;

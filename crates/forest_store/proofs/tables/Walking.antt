@@ -1,5 +1,5 @@
--- The walk over the keys of a collection that takes out the nodes that are over.
-use Rattle.forest_store.proofs.Common.{◌≡◌, ◌≢◌, Bool, true, false, List, [], ◌∷◌, ◌++◌, map, Option, Some, None, cond, refl, sym, ap, subst, ◌∙◌, inl, inr, list_any, option_map_or, NodeKey, same_key, and_left, or_right, Table, node_at, Node, Shelf, IsStored, is_over, list_any-append, or_false, SameKeys, key_cases, same_key-equal, same_key-apart, TakesOut, left_at, thinned, unless_over}
+-- The walk over the keys of a collection that takes out the nodes that are dead.
+use Rattle.forest_store.proofs.Common.{◌≡◌, ◌≢◌, Bool, true, false, List, [], ◌∷◌, ◌++◌, map, Option, None, cond, refl, sym, ap, subst, ◌∙◌, inl, inr, list_any, option_map_or, NodeKey, same_key, and_left, or_right, Table, node_at, Node, Shelf, IsStored, is_over, list_any-append, or_false, SameKeys, key_cases, same_key-equal, same_key-apart, TakesOut, left_at, thinned, unless_over}
 use Rattle.forest_store.proofs.leaving.Thinning.{all_thinned-same, found_before, taken-kept, thinned-twice}
 use Rattle.forest_store.proofs.tables.TakingOut.{SameKeys-refl, SameKeys-trans}
 
@@ -39,33 +39,25 @@ left_last t older key k same =
     list_any-append (same_key k) older (key ∷ []) ∙ or_right (list_any (same_key k) older) _ (rw one refl) in
     rw any refl
 
--- by whether the last node is over
-unless-not : (o : Option Node) → option_map_or is_over o false ≡ false → unless_over o ≡ o
-unless-not o h = rw h refl
-
--- an over node is left out
-unless-over : (o : Option Node) → option_map_or is_over o false ≡ true → unless_over o ≡ None
-unless-over o h = rw h refl
-
--- a last node that is not over stays
+-- a last node that is not dead stays
 stays_look : (t : Table Node) (older : List NodeKey) (key : NodeKey) → option_map_or is_over (node_at t key) false ≡ false → (k : NodeKey) →
     left_at t older k ≡ left_at t (older ++ key ∷ []) k
 stays_look t older key not_over k = elim (key_cases key k) [
   | inl same ↦
       let own : unless_over (node_at t k) ≡ node_at t k =
-      unless-not (node_at t k) (ap (λ x. option_map_or is_over (node_at t x) false) (sym same) ∙ not_over) in
+      rw (ap (λ (x : NodeKey). option_map_or is_over (node_at t x) false) (sym same) ∙ not_over) refl in
       rw own (either_same (list_any (same_key k) older) (node_at t k)) ∙ sym (left_last t older key k same ∙ own)
   | inr differ ↦ left_before t older key k differ
 ]
 
--- and one that is over goes
+-- and one that is dead goes
 goes_look : (t now : Table Node) (older : List NodeKey) (key : NodeKey) → TakesOut t now key →
     option_map_or is_over (node_at t key) false ≡ true → (k : NodeKey) → left_at now older k ≡ left_at t (older ++ key ∷ []) k
 goes_look t now older key out over k = elim (key_cases key k) [
   | inl same ↦
       let gone : node_at now k ≡ None = out.look k ∙ (rw (same_key-equal key k same) refl) in
       let own : unless_over (node_at t k) ≡ None =
-      unless-over (node_at t k) (ap (λ x. option_map_or is_over (node_at t x) false) (sym same) ∙ over) in
+      rw (ap (λ (x : NodeKey). option_map_or is_over (node_at t x) false) (sym same) ∙ over) refl in
       rw gone (either_same (list_any (same_key k) older) None) ∙ sym (left_last t older key k same ∙ own)
   | inr differ ↦
       let there : node_at now k ≡ node_at t k = out.look k ∙ (rw (same_key-apart key k differ) refl) in
@@ -81,16 +73,12 @@ Walks-stays old t keys older key walks not_over = record {
   given = walks.given;
 }
 
--- what is over is gone
-over_gone : (o : Option Node) → option_map_or is_over o false ≡ true → (m : Node) → o ≡ Some m → m.gone ≡ true
-over_gone o over m is = and_left _ _ (rw is at over)
-
 -- or goes
 pub Walks-goes : (old t now : Table Node) (keys older : List NodeKey) (key : NodeKey) → Walks old t keys (older ++ key ∷ []) →
     TakesOut t now key → option_map_or is_over (node_at t key) false ≡ true → Walks old now keys older
 Walks-goes old t now keys older key walks out over = record {
   look = λ k. goes_look t now older key out over k ∙ walks.look k;
   kept = λ ss ok. subst (IsStored now) (thinned-twice t now (found_before t now key out) ss)
-      (taken-kept t now key out (over_gone (node_at t key) over) (map (thinned t) ss) (walks.kept ss ok));
+      (taken-kept t now key out (λ m is. and_left _ _ (rw is at over)) (map (thinned t) ss) (walks.kept ss ok));
   given = SameKeys-trans old t now walks.given out.keys;
 }

@@ -2,6 +2,7 @@
 use Rattle.forest_store.proofs.Common.{◌≡◌, ◌≢◌, ℕ, ◌==◌, nat_lt, false, ◌&&◌, List, [], ◌∷◌, map, drop, Option, Some, None, option_map, is_some, if◌then◌else◌, refl, sym, ap, subst, ◌∙◌, inl, inr, list_any, list_all, AllByRecursion, option_map_or, NodeKey, same_key, Table, node_at, parent_at, Node, Collection, with_nodes, Shelf, collection_in, is_filed, are_filed, IsStored, IsWhole, nodes_with, is_of, are_distinct, heads_itself, nat_le, slice_index_or, Row, row_at, parent_in, table_len, was_given, Writes, with_node, key_cases, same_key-equal, same_key-apart, IsSound, GoTogether}
 use Rattle.forest_store.proofs.tables.KeptRoots.{rooted_same}
 use Rattle.forest_store.proofs.tables.Kin.{kin_kept}
+use Rattle.forest_store.proofs.lists.Elements.{all_map, all_weaker, any_map}
 use Rattle.forest_store.proofs.lists.Lookups.{looked-map}
 use Rattle.forest_store.proofs.tables.Rooted.{whole_rooted}
 use Rattle.forest_store.proofs.quiescence.United.{united_mapped}
@@ -22,8 +23,7 @@ pub record IsSameNode (m n : Node) : Type 0 where
 module _ (f : Node → Node) (same : (n : Node) → IsSameNode (f n) n) where
   -- no other node has the key
   lacks-map : (key : NodeKey) (ns : List Node) → list_any (is_of key) (map f ns) ≡ list_any (is_of key) ns
-  lacks-map key [] = refl
-  lacks-map key (n ∷ ns) = rw ((same n).key, lacks-map key ns) refl
+  lacks-map key ns = any_map (is_of key) (is_of key) f ns (λ n. rw (same n).key refl)
 
   -- the keys stay distinct
   pub distinct-map : (ns : List Node) → are_distinct (map f ns) ≡ are_distinct ns
@@ -32,13 +32,11 @@ module _ (f : Node → Node) (same : (n : Node) → IsSameNode (f n) n) where
 
   -- the heads stay
   pub heads-map : (ns : List Node) → list_all heads_itself (map f ns) ≡ list_all heads_itself ns
-  heads-map [] = refl
-  heads-map (n ∷ ns) = rw ((same n).key, (same n).parent, (same n).attached, (same n).head, heads-map ns) refl
+  heads-map ns = all_map heads_itself heads_itself f ns (λ n. rw ((same n).key, (same n).parent, (same n).attached, (same n).head) refl)
 
   -- the parents stay
   parents-map : (ns : List Node) → list_all (λ (n : Node). is_some n.parent) (map f ns) ≡ list_all (λ (n : Node). is_some n.parent) ns
-  parents-map [] = refl
-  parents-map (n ∷ ns) = rw ((same n).parent, parents-map ns) refl
+  parents-map ns = all_map _ _ f ns (λ n. rw (same n).parent refl)
 
   -- behind the first too
   one_root-map : (ns : List Node) → list_all (λ (n : Node). is_some n.parent) (drop 1 (map f ns)) ≡ list_all (λ (n : Node).
@@ -72,21 +70,19 @@ module _ (f : Node → Node) (same : (n : Node) → IsSameNode (f n) n) where
   }
 
   -- a key is filed where it was
-  pub filed-map : (t now : Table Node) → ((key : NodeKey) → node_at now key ≡ option_map f (node_at t key)) → (id : ℕ)
-      (keys : List NodeKey) → list_all (is_filed now id) keys ≡ list_all (is_filed t id) keys
-  filed-map t now each id [] = refl
-  filed-map t now each id (k ∷ ks) = rw (each k, filed-map t now each id ks)
-      (elim (node_at t k) as (λ o. (option_map_or (λ (n : Node). n.collection == id) (option_map f o) false && list_all (is_filed t id)
-      ks) ≡ (option_map_or (λ (n : Node). n.collection == id) o false && list_all (is_filed t id) ks)) [
+  filed-map : (t now : Table Node) → ((key : NodeKey) → node_at now key ≡ option_map f (node_at t key)) → (id : ℕ) (key : NodeKey) →
+      is_filed now id key ≡ is_filed t id key
+  filed-map t now each id key = ap (λ o. option_map_or (λ (n : Node). n.collection == id) o false) (each key)
+      ∙ elim (node_at t key) as (λ o. option_map_or (λ (n : Node). n.collection == id) (option_map f o) false ≡ option_map_or (λ (n : Node).
+      n.collection == id) o false) [
         | None ↦ refl
         | Some n ↦ rw (same n).collection refl
-      ])
+      ]
 
   -- so in all entries
-  all_filed-map : (t now : Table Node) → ((key : NodeKey) → node_at now key ≡ option_map f (node_at t key)) → (es : List Shelf) →
+  pub all_filed-map : (t now : Table Node) → ((key : NodeKey) → node_at now key ≡ option_map f (node_at t key)) → (es : List Shelf) →
       are_filed now es ≡ are_filed t es
-  all_filed-map t now each [] = refl
-  all_filed-map t now each (e ∷ es) = rw (filed-map t now each e.id e.keys, all_filed-map t now each es) refl
+  all_filed-map t now each es = λ i. list_all (λ (s : Shelf). list_all (λ key. filed-map t now each s.id key i) s.keys) es
 
   -- the collections are as f makes their nodes
   pub collections-map : (t now : Table Node) → ((key : NodeKey) → node_at now key ≡ option_map f (node_at t key)) → (es : List Shelf) →
@@ -108,11 +104,9 @@ module _ (f : Node → Node) (same : (n : Node) → IsSameNode (f n) n) where
   whole-map : ((n : Node) → (f n).gone ≡ n.gone) → ((ns : List Node) → GoTogether ns → GoTogether (map f ns)) → (t now : Table Node) →
       ((key : NodeKey) → node_at now key ≡ option_map f (node_at t key)) → (es : List Shelf) →
       AllByRecursion (λ (e : Shelf). IsWhole (collection_in t e)) es → AllByRecursion (λ (e : Shelf). IsWhole (collection_in now e)) es
-  whole-map gone together t now each [] whole = tt
-  whole-map gone together t now each (e ∷ es) whole = (
-    rw (looked-map f (node_at t) (node_at now) each e.keys) (IsWhole-map gone (collection_in t e) (together (nodes_with t e.keys)) whole.0),
-    whole-map gone together t now each es whole.1,
-  )
+  whole-map gone together t now each es whole = all_weaker _ _ es (λ e formed.
+      rw (looked-map f (node_at t) (node_at now) each e.keys)
+      (IsWhole-map gone (collection_in t e) (together (nodes_with t e.keys)) formed)) whole
 
   -- all stays so, where no node comes back, and the collections stay whole
   pub kept-with : ((n : Node) → (f n).gone ≡ false → n.gone ≡ false) → (t now : Table Node) → now.first ≡ t.first →

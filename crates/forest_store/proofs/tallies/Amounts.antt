@@ -1,58 +1,139 @@
--- What a count is once one node changed: the count before, less what it counted of that node, and what it counts of it now.
-use Rattle.forest_store.proofs.Common.{◌≡◌, ℕ, ◌+◌, Bool, true, false, cond, inl, inr, List, [], ◌∷◌, map, refl, sym, ap, subst, ◌∙◌, arith, not-true, list_any, NodeKey, same_key, times, In, and_left, and_right, both_ways, either_way, same_key-refl, same_key-true, In-any, Node, is_of, are_distinct, bit}
+-- Sums over nodes, of numbers or of tests that pass: where one node changed, or without some.
+use Rattle.forest_store.proofs.Common.{◌≤◌, ◌≡◌, ◌≢◌, ℕ, zero, suc, ◌+◌, Bool, true, false, inl, inr, List, [], ◌∷◌, map, filter, Option, Some, None, if◌then◌else◌, refl, sym, ap, subst, ◌∙◌, arith, not-true, list_any, cons_option, NodeKey, same_key, times, In, and_left, and_right, both_ways, either_way, same_key-refl, same_key-true, In-any, AllPairs, Table, node_at, nodes_with, Node, is_of, are_distinct, bit}
+use Rattle.std.proofs.lemmas.Map.Views.{Contains-from_any}
+use Rattle.forest_store.proofs.lists.Lookups.{same_key-swap}
 
 -- how much of all
 abbrev pub amount_of : (Node → ℕ) → List Node → ℕ
 amount_of amount [] = 0
 amount_of amount (n ∷ ns) = amount n + amount_of amount ns
 
+-- one more in front
+pub times_more : (test : Node → Bool) (n : Node) (ns : List Node) → times test (n ∷ ns) ≡ bit (test n) + times test ns
+times_more test n ns = elim (either_way (test n)) [ inl e ↦ rw e (omega arith) | inr e ↦ rw e (omega arith) ]
+
+-- by cases
+pub bit_few : (b : Bool) → bit b ≤ 1
+bit_few b = grind arith
+
 -- how many pass is how much, where each that passes counts 1
-times_is : (test : Node → Bool) (ns : List Node) → times test ns ≡ amount_of (λ n. bit (test n)) ns
+pub times_is : (test : Node → Bool) (ns : List Node) → times test ns ≡ amount_of (λ n. bit (test n)) ns
 times_is test [] = refl
-times_is test (n ∷ ns) =
-    let rest = times_is test ns in
-    elim (test n) as (λ (b : Bool). cond b (times test ns + 1) (times test ns) ≡ bit b + amount_of (λ m. bit (test m)) ns) [
-      | true ↦ omega arith
-      | false ↦ omega arith
-    ]
+times_is test (n ∷ ns) = omega (arith, times_more test n ns, times_is test ns)
 
-module _ (amount : Node → ℕ) (f : Node → Node) where
-  -- where no node changed, as much as before
-  amount_same : (ns : List Node) → ((n : Node) → In n ns → amount (f n) ≡ amount n) → amount_of amount (map f ns) ≡ amount_of amount ns
-  amount_same [] same = refl
-  amount_same (n ∷ ns) same = omega (arith, same n (inl refl), amount_same ns (λ m on. same m (inr on)))
+-- by induction: each node counts as much
+pub amount_same : (p q : Node → ℕ) (ns : List Node) → ((n : Node) → In n ns → p n ≡ q n) → amount_of p ns ≡ amount_of q ns
+amount_same p q [] same = refl
+amount_same p q (n ∷ ns) same = omega (arith, same n (inl refl), amount_same p q ns (λ m on. same m (inr on)))
 
-  -- where one changed, the difference that it makes
-  pub amount_changed : (ns : List Node) (n : Node) → are_distinct ns ≡ true → In n ns →
-      ((m : Node) → In m ns → same_key n.key m.key ≡ false → amount (f m) ≡ amount m) →
-      amount_of amount (map f ns) + amount n ≡ amount_of amount ns + amount (f n)
-  amount_changed [] n distinct on same = absurd on
-  amount_changed (x ∷ xs) n distinct (inl is) same =
-      let none : list_any (is_of x.key) xs ≡ false = not-true (list_any (is_of x.key) xs) (and_left _ _ distinct) in
-      let rest = amount_same _ (λ m on. same m (inr on) (elim (either_way (same_key n.key m.key)) [
-        | inl e ↦ both_ways _
-            (In-any _ _ m on
-            (subst (λ (k : NodeKey). same_key m.key k ≡ true) (sym (same_key-true _ _ e)
-            ∙ ap (λ (y : Node). y.key) is) (same_key-refl m.key))) none
-        | inr e ↦ e
-      ])) in
-      let one = ap amount is in
-      let two = ap (λ (y : Node). amount (f y)) is in
-      omega arith
-  amount_changed (x ∷ xs) n distinct (inr on) same =
-      let none : list_any (is_of x.key) xs ≡ false = not-true (list_any (is_of x.key) xs) (and_left _ _ distinct) in
-      let other : same_key n.key x.key ≡ false = elim (either_way (same_key n.key x.key)) [
-        | inl e ↦ both_ways _ (In-any _ _ n on e) none
-        | inr e ↦ e
-      ] in
-      let rest = amount_changed xs n (and_right _ _ distinct) on (λ m there. same m (inr there)) in
-      omega (arith, same x (inl refl) other)
+-- how much of all that are changed
+pub amount_map : (amount : Node → ℕ) (f : Node → Node) (ns : List Node) → amount_of amount (map f ns) ≡ amount_of (λ n. amount (f n)) ns
+amount_map amount f [] = refl
+amount_map amount f (n ∷ ns) = omega (arith, amount_map amount f ns)
+
+-- those that are left out count for nothing
+pub amount_filter : (p : Node → Bool) (amount : Node → ℕ) (ns : List Node) → ((n : Node) → In n ns → p n ≡ false → amount n ≡ 0) →
+    amount_of amount (filter p ns) ≡ amount_of amount ns
+amount_filter p amount [] none = refl
+amount_filter p amount (n ∷ ns) none =
+    let rest = amount_filter p amount ns (λ m on. none m (inr on)) in
+    elim (either_way (p n)) [ inl e ↦ rw (e, rest) refl | inr e ↦ rw (e, none n (inl refl) e) (rest ∙ omega arith) ]
+
+-- the same of how many pass
+pub times_filter : (p test : Node → Bool) (ns : List Node) → ((n : Node) → In n ns → p n ≡ false → test n ≡ false) →
+    times test (filter p ns) ≡ times test ns
+times_filter p test ns none = times_is test _ ∙ amount_filter p _ ns (λ n on out. ap bit (none n on out)) ∙ sym (times_is test ns)
+
+-- ---- one node
+
+-- amounts that differ on one node alone
+amount_differ : (p q : Node → ℕ) (ns : List Node) (m : Node) → are_distinct ns ≡ true → In m ns →
+    ((n : Node) → In n ns → same_key m.key n.key ≡ false → p n ≡ q n) → amount_of p ns + q m ≡ amount_of q ns + p m
+amount_differ p q [] m distinct on same = absurd on
+amount_differ p q (x ∷ xs) m distinct (inl is) same =
+    let none : list_any (is_of x.key) xs ≡ false = not-true (list_any (is_of x.key) xs) (and_left _ _ distinct) in
+    let rest : amount_of p xs ≡ amount_of q xs = amount_same p q _ (λ n on. same n (inr on) (elim (either_way (same_key m.key n.key)) [
+      | inl e ↦ both_ways _
+          (In-any _ _ n on
+          (subst (λ (k : NodeKey). same_key n.key k ≡ true) (sym (same_key-true _ _ e)
+          ∙ ap (λ (y : Node). y.key) is) (same_key-refl n.key))) none
+      | inr e ↦ e
+    ])) in
+    let one : p m ≡ p x = ap p is in
+    let two : q m ≡ q x = ap q is in
+    omega arith
+amount_differ p q (x ∷ xs) m distinct (inr on) same =
+    let none : list_any (is_of x.key) xs ≡ false = not-true (list_any (is_of x.key) xs) (and_left _ _ distinct) in
+    let other : same_key m.key x.key ≡ false = elim (either_way (same_key m.key x.key)) [
+      | inl e ↦ both_ways _ (In-any _ _ m on e) none
+      | inr e ↦ e
+    ] in
+    let rest = amount_differ p q xs m (and_right _ _ distinct) on (λ n there. same n (inr there)) in
+    omega (arith, same x (inl refl) other)
+
+-- where one changed, the difference that it makes
+pub amount_changed : (amount : Node → ℕ) (f : Node → Node) (ns : List Node) (n : Node) → are_distinct ns ≡ true → In n ns →
+    ((m : Node) → In m ns → same_key n.key m.key ≡ false → f m ≡ m) →
+    amount_of amount (map f ns) + amount n ≡ amount_of amount ns + amount (f n)
+amount_changed amount f ns n distinct on alone =
+    let c = amount_differ (λ m. amount (f m)) amount ns n distinct on (λ m there other. ap amount (alone m there other)) in
+    omega (arith, amount_map amount f ns)
 
 -- so of how many pass
 pub times_changed : (test : Node → Bool) (f : Node → Node) (ns : List Node) (n : Node) → are_distinct ns ≡ true → In n ns →
     ((m : Node) → In m ns → same_key n.key m.key ≡ false → f m ≡ m) →
     times test (map f ns) + bit (test n) ≡ times test ns + bit (test (f n))
 times_changed test f ns n distinct on alone =
-    let c = amount_changed (λ m. bit (test m)) f ns n distinct on (λ m there other.
-    ap (λ (x : Node). bit (test x)) (alone m there other)) in
+    let c = amount_changed (λ m. bit (test m)) f ns n distinct on alone in
     omega (arith, times_is test (map f ns), times_is test ns)
+
+-- ---- nodes with and without those of some keys
+
+-- no key of these stands twice
+pub first_once : (k : NodeKey) (ks : List NodeKey) → AllPairs (λ (a b : NodeKey). a ≢ b) (k ∷ ks) → list_any (same_key k) ks ≡ false
+first_once k ks once = elim (either_way (list_any (same_key k) ks)) [
+  | inl e ↦
+      let x = Contains-from_any same_key-true k ks e in
+      absurd (once zero (suc x.0) k (omega arith) (omega (arith, x.1)) (sym x.2))
+  | inr e ↦ e
+]
+
+-- pairs further back are pairs of the whole list
+pub rest_once : (k : NodeKey) (ks : List NodeKey) → AllPairs (λ (a b : NodeKey). a ≢ b) (k ∷ ks) → AllPairs (λ (a b : NodeKey). a ≢ b) ks
+rest_once k ks once i j d lt within = once (suc i) (suc j) d (omega arith) (omega arith)
+
+-- how much of the node, unless its key is one of these
+abbrev pub amount_but : (Node → ℕ) → List NodeKey → Node → ℕ
+amount_but amount ks n = if list_any (same_key n.key) ks then 0 else amount n
+
+module _ (t : Table Node) (nodes : List Node) (distinct : are_distinct nodes ≡ true) (at_key : (n : Node) → In n nodes →
+    node_at t n.key ≡ Some n) (named : (key : NodeKey) (n : Node) → node_at t key ≡ Some n → n.key ≡ key) (amount : Node → ℕ) where
+  -- those with other keys, and those of these keys, are all
+  pub taken_amount : (ks : List NodeKey) → AllPairs (λ (a b : NodeKey). a ≢ b) ks → ((n : Node) → In n (nodes_with t ks) → In n nodes) →
+      amount_of (amount_but amount ks) nodes + amount_of amount (nodes_with t ks) ≡ amount_of amount nodes
+  taken_amount [] once within = omega arith
+  taken_amount (k ∷ ks) once within = by (λ fewer. taken_amount ks (rest_once k _ once) fewer) _ refl within
+    where
+      skip : (n : Node) → same_key n.key k ≡ false → amount_but amount (k ∷ ks) n ≡ amount_but amount ks n
+      skip n other = rw other refl
+
+      by : (((n : Node) → In n (nodes_with t ks) → In n nodes) →
+          amount_of (amount_but amount ks) nodes + amount_of amount (nodes_with t ks) ≡ amount_of amount nodes) →
+          (o : Option Node) → node_at t k ≡ o → ((n : Node) → In n (cons_option o (nodes_with t ks)) → In n nodes) →
+          amount_of (amount_but amount (k ∷ ks)) nodes + amount_of amount (cons_option o (nodes_with t ks)) ≡ amount_of amount nodes
+      by on None is fewer =
+          let a : amount_of (amount_but amount (k ∷ ks)) nodes ≡ amount_of (amount_but amount ks) nodes =
+          amount_same _ _ _ (λ n there. skip n (elim (either_way (same_key n.key k)) [
+            | inl e ↦ let both : Some n ≡ None = sym (at_key n there) ∙ (ap (node_at t) (same_key-true _ k e) ∙ is) in cc
+            | inr e ↦ e
+          ])) in
+          omega (arith, on fewer)
+      by on (Some m) is fewer =
+          let key : m.key ≡ k = named k m is in
+          let own : same_key m.key k ≡ true = ap (λ (j : NodeKey). same_key j k) key ∙ same_key-refl k in
+          let other : list_any (same_key m.key) ks ≡ false = ap (λ (j : NodeKey). list_any (same_key j) ks) key ∙ first_once k _ once in
+          let a = amount_differ _ _ _ m distinct (fewer m (inl refl))
+          (λ n there differ. skip n (same_key-swap n.key k ∙ (ap (λ (j : NodeKey). same_key j n.key) (sym key) ∙ differ))) in
+          let b : amount_but amount (k ∷ ks) m ≡ 0 = rw own refl in
+          let c : amount_but amount ks m ≡ amount m = rw other refl in
+          omega (arith, on (λ n there. fewer n (inr there)))

@@ -1,4 +1,4 @@
--- Nodes are counted no longer one after another, each for its unit and for the one right above that at once.
+-- Nodes are taken from the counts one after another, each from those of both units at once.
 use Rattle.forest_store.proofs.Common.{◌≡◌, ℕ, zero, suc, refl, ap, ◌∙◌, Bool, true, false, List, [], ◌∷◌, set, Option, Some, None, if◌then◌else◌, cons_option, NodeKey, Table, Node, Unit, unit_at, nodes_with, is_live_node, is_unready, lowered, unhung, unreckoned, untallied, without_below, without_node}
 
 -- two changes of counts that commute do so at any two slots

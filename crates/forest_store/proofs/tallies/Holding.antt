@@ -1,8 +1,6 @@
 -- Where something holds each unit, no node is deserted; and something does, where none is.
-use Rattle.forest_store.proofs.Common.{◌≡◌, ℕ, zero, suc, ◌+◌, ◌<◌, ◌≤◌, refl, ap, sym, ◌∙◌, subst, Bool, true, false, not, ◌&&◌, ◌||◌, ◌⊎◌, is_none, inl, inr, List, [], ◌∷◌, length, reverse, Option, Some, None, arith, not-true, list_any, list_all, option_map_or, NodeKey, same_key, In, In-list_any, and_both, and_left, and_right, both_ways, either_way, false_if, or_cases, or_left, or_right, same_key-refl, same_key-true, In-any, all_on, Node, is_left_of, is_of, node_of, is_deserted_node, is_live_node, are_distinct, heads_itself, are_rooted, is_head, In-reverse, In-reverse-back, IsChain, above_among, is_below, lives_below, hangs_on, are_united, shares_unit}
-use Rattle.std.proofs.lemmas.List.{length-reverse}
+use Rattle.forest_store.proofs.Common.{not-false, or_none_left, or_none_right, ◌++◌, length-append, list_any-append, ◌≡◌, ℕ, zero, suc, ◌+◌, ◌<◌, ◌≤◌, refl, ap, sym, ◌∙◌, subst, Bool, true, false, not, ◌&&◌, ◌||◌, is_none, inl, inr, List, [], ◌∷◌, length, reverse, Option, Some, None, arith, not-true, list_any, list_all, option_map_or, NodeKey, same_key, In, In-list_any, and_both, and_left, and_right, both_ways, either_way, false_if, or_cases, or_left, or_right, same_key-refl, same_key-true, In-any, all_on, Node, is_left_of, is_of, node_of, is_deserted_node, is_live_node, are_distinct, heads_itself, are_rooted, is_head, In-reverse, In-reverse-back, IsChain, above_among, is_below, lives_below, hangs_on, are_united, shares_unit, length-reverse, is_parent}
 pub use Rattle.forest_store.specs.Counts.{hangs_in}
-use Rattle.forest_store.specs.Units.{is_parent}
 use Rattle.forest_store.proofs.tables.Chains.{one_line}
 use Rattle.forest_store.proofs.tables.Rooted.{AreOne, distinct_one, left_in, left_node, left_parent, line_of}
 use Rattle.forest_store.proofs.quiescence.Steps.{all-In, found_by_key}
@@ -61,42 +59,31 @@ above_short (n ∷ older) key =
 -- ---- lines of keys
 
 module _ (up : NodeKey → Option NodeKey) where
-  -- of one key there is one line
-  at_same : (a b c : NodeKey) (low high : List NodeKey) → IsChain up c low → IsChain up b high → b ≡ c →
-      list_any (same_key a) (b ∷ high) ≡ true → list_any (same_key a) (c ∷ low) ≡ true
-  at_same a b c low high below above is k =
-      let lines : high ≡ low = one_line up b high low above (rw is below) in
-      rw (← is) (subst (λ (l : List NodeKey). list_any (same_key a) (b ∷ l) ≡ true) lines k)
+  -- a key on a line has what follows on it as its own line, as of one key there is one
+  on_line : (b c : NodeKey) (low high : List NodeKey) → IsChain up c low → IsChain up b high → list_any (same_key b) (c ∷ low) ≡ true →
+      (front : List NodeKey) × (c ∷ low ≡ front ++ b ∷ high)
+  on_line b c [] high below above h = elim (or_cases (same_key b c) false h) [
+    | inl e ↦ let is : b ≡ c = same_key-true b c e in ([], λ i. sym is i ∷ one_line up b [] high (rw is below) above i)
+    | inr e ↦ cc
+  ]
+  on_line b c (p ∷ low) high below above h = elim (or_cases (same_key b c) (list_any (same_key b) (p ∷ low)) h) [
+    | inl e ↦ let is : b ≡ c = same_key-true b c e in ([], λ i. sym is i ∷ one_line up b (p ∷ low) high (rw is below) above i)
+    | inr e ↦ let r = on_line b p low high below.1 above e in (c ∷ r.0, ap (λ (l : List NodeKey). c ∷ l) r.1)
+  ]
 
-  -- what lies above a key on a line lies on it
+  -- so what lies above it lies on the line
   pub through : (a b c : NodeKey) (low high : List NodeKey) → IsChain up c low → IsChain up b high →
       list_any (same_key b) (c ∷ low) ≡ true → list_any (same_key a) (b ∷ high) ≡ true → list_any (same_key a) (c ∷ low) ≡ true
-  through a b c [] high below above h k = elim (or_cases (same_key b c) false h) [
-    | inl e ↦ at_same a b c [] high below above (same_key-true b c e) k
-    | inr e ↦ cc
-  ]
-  through a b c (p ∷ low) high below above h k = elim (or_cases (same_key b c) (list_any (same_key b) (p ∷ low)) h) [
-    | inl e ↦ at_same a b c (p ∷ low) high below above (same_key-true b c e) k
-    | inr e ↦ or_right (same_key a c) (list_any (same_key a) (p ∷ low)) (through a b p low high below.1 above e k)
-  ]
+  through a b c low high below above h k =
+      let r = on_line b c low high below above h in
+      subst (λ (l : List NodeKey). list_any (same_key a) l ≡ true) (sym r.1) (list_any-append (same_key a) r.0 (b ∷ high) ∙ or_right _ _ k)
 
   -- and its line is no longer
-  same_long : (b c : NodeKey) (low high : List NodeKey) → IsChain up c low → IsChain up b high → b ≡ c → length high ≤ length low
-  same_long b c low high below above is =
-      let long : length high ≡ length low = ap length (one_line up b high low above (rw is below)) in
-      omega arith
-
-  -- by induction: from a key in the line the line goes on as above that key
   pub no_longer : (b c : NodeKey) (low high : List NodeKey) → IsChain up c low → IsChain up b high →
       list_any (same_key b) (c ∷ low) ≡ true → length high ≤ length low
-  no_longer b c [] high below above h = elim (or_cases (same_key b c) false h) [
-    | inl e ↦ same_long b c [] high below above (same_key-true b c e)
-    | inr e ↦ cc
-  ]
-  no_longer b c (p ∷ low) high below above h = elim (or_cases (same_key b c) (list_any (same_key b) (p ∷ low)) h) [
-    | inl e ↦ same_long b c (p ∷ low) high below above (same_key-true b c e)
-    | inr e ↦ let r = no_longer b p low high below.1 above e in omega arith
-  ]
+  no_longer b c low high below above h =
+      let r = on_line b c low high below above h in
+      omega (arith, ap length r.1, length-append r.0 (b ∷ high))
 
 module _ (nodes : List Node) (distinct : are_distinct nodes ≡ true) (heads : list_all heads_itself nodes ≡ true)
     (rooted : are_rooted (reverse nodes) ≡ true) (united : are_united (reverse nodes) ≡ true) where
@@ -169,7 +156,7 @@ module _ (nodes : List Node) (distinct : are_distinct nodes ≡ true) (heads : l
       let x = shared_among _ united rooted n (In-reverse-back _ n on) here h p is in
       (x.0, In-reverse _ _ x.1, x.2, x.3)
 
-  -- by induction on the line: what holds of each head, and of a node where it holds of its parent in the unit, holds of all
+  -- by induction on the line: what holds of heads, and passes from parents in the unit, holds of all
   climbed : (P : Node → Type 0) → ((n : Node) → In n nodes → n.gone ≡ false → is_head n ≡ true → P n) →
       ((n q : Node) → In n nodes → n.gone ≡ false → is_head n ≡ false → In q nodes → n.parent ≡ Some q.key →
       q.head ≡ n.head → P q → P n) → (fuel : ℕ) (n : Node) → In n nodes → n.gone ≡ false → length (line n.key) < fuel → P n
@@ -213,7 +200,7 @@ module _ (nodes : List Node) (distinct : are_distinct nodes ≡ true) (heads : l
     holder : (h : Node) → In h nodes → h.gone ≡ false → is_head h ≡ true → list_any (holds_unit nodes h.key) nodes ≡ true
     holder h on here head = rw (here, head) at (all-In _ _ h on held)
 
-    -- by induction on how much of the line is left: what holds the unit lives, or heads a unit that is held
+    -- by induction on the line: what holds the unit lives, or heads a unit that is held
     lives : (fuel : ℕ) (h : Node) → In h nodes → h.gone ≡ false → is_head h ≡ true → length nodes < fuel + length (line h.key) →
         list_any (lives_below nodes h.key) nodes ≡ true
     lives zero h on here head long =
@@ -277,7 +264,7 @@ module _ (nodes : List Node) (distinct : are_distinct nodes ≡ true) (heads : l
         let x = In-list_any _ _ e in
         both_ways _ x.2 (not_deserted _ x.1))
 
-  -- where no node of these units is live, and the units right below are of these too, their heads are deserted
+  -- where no node of these units is live, nor of those below, their heads are deserted
   module _ (dead : NodeKey → Bool)
       (still : (x : Node) → In x nodes → x.gone ≡ false → dead x.head ≡ true → x.released ≡ true)
       (under : (x : Node) → In x nodes → x.gone ≡ false → x.attached ≡ true → (p : NodeKey) → x.parent ≡ Some p →
@@ -336,23 +323,21 @@ module _ (nodes : List Node) (distinct : are_distinct nodes ≡ true) (heads : l
 
   -- where no node is deserted, something holds each unit
   pub held_where : list_any (is_deserted_node nodes) nodes ≡ false → are_held nodes ≡ true
-  held_where none = all_on _ _ (λ h on.
-      one_held h on (either_way h.gone) (either_way (is_head h)) (either_way (list_any (holds_unit nodes h.key) nodes)))
-    where
-      one_held : (h : Node) → In h nodes → (h.gone ≡ true) ⊎ (h.gone ≡ false) → (is_head h ≡ true) ⊎ (is_head h ≡ false) →
-          (list_any (holds_unit nodes h.key) nodes ≡ true) ⊎ (list_any (holds_unit nodes h.key) nodes ≡ false) → is_held nodes h ≡ true
-      one_held h on (inl e) b c = rw e refl
-      one_held h on (inr e) (inl a) (inl b) = rw (e, a, b) refl
-      one_held h on (inr e) (inr a) c = rw (e, a) refl
-      one_held h on (inr e) (inl a) (inr b) = both_ways _
-          (In-any _ _ h on
-          (dead_deserted _
-          (λ x there here dead. elim (either_way x.released) [
-            | inl r ↦ r
-            | inr r ↦ both_ways _ (In-any _ _ x there (rw (here, dead, r) refl)) b
-          ]) (λ x there here attached p up q in_nodes is dead.
-          let hangs : hangs_in nodes h.key x ≡ true =
-          ap (λ (o : Option NodeKey). option_map_or (λ k. list_any (λ (y : Node). is_of k y && same_key y.head h.key) nodes) o false) up
-          ∙ In-any _ _ q in_nodes (and_both _ _ (ap (λ (k : NodeKey). same_key k p) is ∙ same_key-refl p) dead) in
-          let holds = and_both _ _ (ap not here) (or_right _ _ (and_both _ _ attached hangs)) in
-          both_ways _ (In-any _ _ x there holds) b) h on e a (same_key-refl h.key))) none
+  held_where none = all_on _ _ (λ h on. elim (either_way (is_held nodes h)) [
+    | inl e ↦ e
+    | inr e ↦
+        let a : is_head h ≡ true = not-false (is_head h) (or_none_left _ _ (or_none_right h.gone _ e)) in
+        let b : list_any (holds_unit nodes h.key) nodes ≡ false = or_none_right (not (is_head h)) _ (or_none_right h.gone _ e) in
+        both_ways _
+        (In-any _ _ h on
+        (dead_deserted _
+        (λ x there here dead. elim (either_way x.released) [
+          | inl r ↦ r
+          | inr r ↦ both_ways _ (In-any _ _ x there (rw (here, dead, r) refl)) b
+        ]) (λ x there here attached p up q in_nodes is dead.
+        let hangs : hangs_in nodes h.key x ≡ true =
+        ap (λ (o : Option NodeKey). option_map_or (λ k. list_any (λ (y : Node). is_of k y && same_key y.head h.key) nodes) o false) up
+        ∙ In-any _ _ q in_nodes (and_both _ _ (ap (λ (k : NodeKey). same_key k p) is ∙ same_key-refl p) dead) in
+        let holds = and_both _ _ (ap not here) (or_right _ _ (and_both _ _ attached hangs)) in
+        both_ways _ (In-any _ _ x there holds) b) h on (or_none_left h.gone _ e) a (same_key-refl h.key))) none
+  ])

@@ -1,17 +1,12 @@
--- How many units hang right below one, as it is counted in the table and as it is said of a collection.
-use Rattle.forest_store.proofs.Common.{◌≡◌, ◌≢◌, ℕ, ◌+◌, ◌<◌, ◌≤◌, ◌==◌, nat_lt, refl, ap, sym, ◌∙◌, subst, Bool, true, false, not, ◌&&◌, ◌||◌, ◌⊎◌, inl, inr, if◌then◌else◌, List, [], ◌∷◌, map, reverse, length, set, Option, Some, None, option_map, arith, eqb-false, eqb-true, lt-ltb, list_any, option_map_or, NodeKey, same_key, times, In, In-list_any, and_both, and_left, and_right, both_ways, either_way, false_if, same_key-refl, same_key-true, some-injective, In-any, Table, node_at, Node, Unit, unit_at, is_of, are_distinct, are_rooted, get_or-set_other, get_or-set_same, length-set, hangs_in, head_above, heads_below, no_unit, lowered, unhung, without_below, bit}
-use Rattle.sm_names.proofs.ListLaws.{list_any-map}
-use Rattle.forest_store.specs.Counts.{head_of, hung, with_below}
-use Rattle.forest_store.proofs.quiescence.Calming.{times_map}
+-- How many units hang right below one, as counted in the table and as defined of a collection.
+use Rattle.forest_store.proofs.Common.{◌≡◌, ◌≢◌, ℕ, ◌+◌, ◌<◌, ◌≤◌, nat_lt, refl, ap, sym, ◌∙◌, Bool, true, false, not, ◌&&◌, ◌||◌, ◌⊎◌, inl, inr, if◌then◌else◌, List, [], ◌∷◌, map, reverse, length, Option, Some, None, option_map, arith, lt-ltb, list_any, option_map_or, NodeKey, same_key, times, In, In-list_any, and_both, and_left, and_right, both_ways, either_way, false_if, same_key-refl, same_key-true, some-injective, In-any, Table, node_at, Node, Unit, unit_at, is_of, are_distinct, are_rooted, hangs_in, head_above, heads_below, lowered, unhung, without_below, bit, list_any-map, head_of, hung, raised, with_below}
+use Rattle.forest_store.proofs.lists.Elements.{times_map}
 use Rattle.forest_store.proofs.tables.Rooted.{distinct_one, left_node, left_parent}
 use Rattle.forest_store.proofs.tables.Writing.{IsSameNode}
-use Rattle.forest_store.proofs.tallies.Reckoning.{bit_few, other_slot, times_more}
+use Rattle.forest_store.proofs.tallies.InTurn.{Changes, in_turn, is_above, other_slots, own_slot, put_at, same_long}
+use Rattle.forest_store.proofs.tallies.Amounts.{bit_few, times_more}
 
 -- ---- one node
-
--- the unit right above has this head
-abbrev pub is_above : NodeKey → Option NodeKey → Bool
-is_above k o = option_map_or (λ h. same_key h k) o false
 
 -- the node heads a unit right below the one with this head, by the table
 abbrev pub is_hung : Table Node → NodeKey → Node → Bool
@@ -29,162 +24,91 @@ pub record Drops (old new : Unit) (less : ℕ) : Type 0 where
   pub unready : new.unready ≡ old.unready
   pub below : new.below + less ≡ old.below
 
--- a count below the most can grow by one
-raised_true : (count : ℕ) → count < 18446744073709551615 →
-    (if nat_lt count 18446744073709551615 then count + 1 else count) ≡ count + 1
-raised_true count less = let room : nat_lt count 18446744073709551615 ≡ true = lt-ltb count 18446744073709551615 less in rw room refl
+-- one unit more hangs right below
+abbrev one_more : Node → Unit → Unit
+one_more n u = record { live = u.live; unready = u.unready; below = raised true u.below }
 
--- a count above 0 loses one
-lowered_true : (count : ℕ) → 0 < count → lowered true count + 1 ≡ count
-lowered_true count some = let e : nat_lt 0 count ≡ true = lt-ltb 0 count some in rw e (omega arith)
+-- one unit less does
+abbrev one_less : Node → Unit → Unit
+one_less n u = record { live = u.live; unready = u.unready; below = lowered true u.below }
 
--- the slot of the unit above gains one; no other slot changes
-with_hangs : (o : Option NodeKey) (us : List Unit) (k : NodeKey) → k.slot < length us →
-    ((h : NodeKey) → o ≡ Some h → h.slot ≡ k.slot → h ≡ k) → (unit_at us k.slot).below < 18446744073709551615 →
-    Hangs (unit_at us k.slot) (unit_at (with_below o us) k.slot) (bit (is_above k o))
-with_hangs None us k within one few = record { live = refl; unready = refl; below = omega arith }
-with_hangs (Some h) us k within one few = elim (either_way (h.slot == k.slot)) [
-  | inl e ↦
-      let is : h ≡ k = one h refl (eqb-true h.slot k.slot e) in
-      let own : bit (same_key h k) ≡ 1 = ap bit (ap (λ (j : NodeKey). same_key j k) is ∙ same_key-refl k) in
-      let at : unit_at (set us h.slot (more h)) k.slot ≡ more k =
-      subst (λ (j : NodeKey). unit_at (set us j.slot (more j)) k.slot ≡ more k) (sym is)
-      (get_or-set_same us k.slot (more k) no_unit within) in
-      let up : (more k).below ≡ (unit_at us k.slot).below + 1 = raised_true (unit_at us k.slot).below few in
-      record {
-        live = ap (λ (u : Unit). u.live) at;
-        unready = ap (λ (u : Unit). u.unready) at;
-        below = ap (λ (u : Unit). u.below) at ∙ up ∙ ap (λ (b : ℕ). (unit_at us k.slot).below + b) (sym own);
-      }
-  | inr e ↦
-      let differ : h.slot ≢ k.slot = eqb-false h.slot k.slot e in
-      let other : bit (same_key h k) ≡ 0 = ap bit (other_slot h k differ) in
-      let same : unit_at (set us h.slot (more h)) k.slot ≡ unit_at us k.slot =
-      get_or-set_other us h.slot k.slot (more h) no_unit (λ j. differ (sym j)) in
-      let below_same : (unit_at (set us h.slot (more h)) k.slot).below ≡ (unit_at us k.slot).below = ap (λ (u : Unit). u.below) same in
-      record { live = ap (λ (u : Unit). u.live) same; unready = ap (λ (u : Unit). u.unready) same; below = omega arith }
-]
-  where
-    more : NodeKey → Unit
-    more j = record {
-      live = (unit_at us j.slot).live;
-      unready = (unit_at us j.slot).unready;
-      below = if nat_lt (unit_at us j.slot).below 18446744073709551615 then (unit_at us j.slot).below + 1 else (unit_at us j.slot).below;
-    }
+-- by cases: one hangs there, or none; a count below the most can grow
+hangs_more : (n : Node) (u : Unit) (b : Bool) → u.below < 18446744073709551615 → Hangs u (if b then one_more n u else u) (bit b)
+hangs_more n u true few =
+    let room : nat_lt u.below 18446744073709551615 ≡ true = lt-ltb u.below 18446744073709551615 few in
+    record { live = refl; unready = refl; below = rw room refl }
+hangs_more n u false few = record { live = refl; unready = refl; below = omega arith }
 
--- the slot of the unit above loses one; no other slot changes
-without_drops : (o : Option NodeKey) (us : List Unit) (k : NodeKey) → k.slot < length us →
-    ((h : NodeKey) → o ≡ Some h → h.slot ≡ k.slot → h ≡ k) → bit (is_above k o) ≤ (unit_at us k.slot).below →
-    Drops (unit_at us k.slot) (unit_at (without_below o us) k.slot) (bit (is_above k o))
-without_drops None us k within one some = record { live = refl; unready = refl; below = omega arith }
-without_drops (Some h) us k within one some = elim (either_way (h.slot == k.slot)) [
-  | inl e ↦
-      let is : h ≡ k = one h refl (eqb-true h.slot k.slot e) in
-      let own : bit (same_key h k) ≡ 1 = ap bit (ap (λ (j : NodeKey). same_key j k) is ∙ same_key-refl k) in
-      let at : unit_at (set us h.slot (fewer h)) k.slot ≡ fewer k =
-      subst (λ (j : NodeKey). unit_at (set us j.slot (fewer j)) k.slot ≡ fewer k) (sym is)
-      (get_or-set_same us k.slot (fewer k) no_unit within) in
-      let down : (fewer k).below + 1 ≡ (unit_at us k.slot).below = lowered_true (unit_at us k.slot).below (omega (arith, own, some)) in
-      record {
-        live = ap (λ (u : Unit). u.live) at;
-        unready = ap (λ (u : Unit). u.unready) at;
-        below = (λ i. (at i).below + own i) ∙ down;
-      }
-  | inr e ↦
-      let differ : h.slot ≢ k.slot = eqb-false h.slot k.slot e in
-      let other : bit (same_key h k) ≡ 0 = ap bit (other_slot h k differ) in
-      let same : unit_at (set us h.slot (fewer h)) k.slot ≡ unit_at us k.slot =
-      get_or-set_other us h.slot k.slot (fewer h) no_unit (λ j. differ (sym j)) in
-      let below_same : (unit_at (set us h.slot (fewer h)) k.slot).below ≡ (unit_at us k.slot).below = ap (λ (u : Unit). u.below) same in
-      record { live = ap (λ (u : Unit). u.live) same; unready = ap (λ (u : Unit). u.unready) same; below = omega arith }
-]
-  where
-    fewer : NodeKey → Unit
-    fewer j = record {
-      live = (unit_at us j.slot).live;
-      unready = (unit_at us j.slot).unready;
-      below = lowered true (unit_at us j.slot).below;
-    }
-
--- setting one element keeps the length
-with_long : (o : Option NodeKey) (us : List Unit) → length (with_below o us) ≡ length us
-with_long None us = refl
-with_long (Some h) us = length-set us h.slot _
-
--- setting one element keeps the length
-without_long : (o : Option NodeKey) (us : List Unit) → length (without_below o us) ≡ length us
-without_long None us = refl
-without_long (Some h) us = length-set us h.slot _
-
--- another slot is set
-with_other : (o : Option NodeKey) (us : List Unit) (slot : ℕ) → ((h : NodeKey) → o ≡ Some h → h.slot ≢ slot) →
-    unit_at (with_below o us) slot ≡ unit_at us slot
-with_other None us slot differ = refl
-with_other (Some h) us slot differ = get_or-set_other us h.slot slot _ no_unit (λ e. differ h refl (sym e))
-
--- another slot is set
-without_other : (o : Option NodeKey) (us : List Unit) (slot : ℕ) → ((h : NodeKey) → o ≡ Some h → h.slot ≢ slot) →
-    unit_at (without_below o us) slot ≡ unit_at us slot
-without_other None us slot differ = refl
-without_other (Some h) us slot differ = get_or-set_other us h.slot slot _ no_unit (λ e. differ h refl (sym e))
+-- and a count above 0 can fall
+hangs_less : (n : Node) (u : Unit) (b : Bool) → bit b ≤ u.below → Drops u (if b then one_less n u else u) (bit b)
+hangs_less n u true some =
+    let e : nat_lt 0 u.below ≡ true = lt-ltb 0 u.below (omega arith) in
+    record { live = refl; unready = refl; below = rw e (omega arith) }
+hangs_less n u false some = record { live = refl; unready = refl; below = omega arith }
 
 -- ---- all nodes
 
 module _ (t : Table Node) where
-  -- by induction over the nodes
-  pub hung_long : (ns : List Node) (us : List Unit) → length (hung t ns us) ≡ length us
-  hung_long [] us = refl
-  hung_long (n ∷ ns) us = hung_long ns (with_below (head_above t n) us) ∙ with_long _ us
+  -- each node changes the slot of the unit right above
+  pub hung_by : Changes (hung t) (head_above t) one_more
+  hung_by = record {
+    none = λ us. refl;
+    next = λ n ns us. ap (hung t ns) (elim (head_above t n) as (λ o. with_below o us ≡ put_at o (one_more n) us) [ None ↦ refl | Some h ↦ refl ]);
+  }
 
-  -- by induction over the nodes
+  -- so where it hangs there no longer
+  pub unhung_by : Changes (unhung t) (head_above t) one_less
+  unhung_by = record {
+    none = λ us. refl;
+    next = λ n ns us. ap (unhung t ns)
+        (elim (head_above t n) as (λ o. without_below o us ≡ put_at o (one_less n) us) [ None ↦ refl | Some h ↦ refl ]);
+  }
+
+  -- setting elements keeps the length
   pub unhung_long : (ns : List Node) (us : List Unit) → length (unhung t ns us) ≡ length us
-  unhung_long [] us = refl
-  unhung_long (n ∷ ns) us = unhung_long ns (without_below (head_above t n) us) ∙ without_long _ us
+  unhung_long = same_long unhung_by
 
-  -- by induction: none of them hangs below that unit
-  pub hung_other : (ns : List Node) (us : List Unit) (slot : ℕ) →
-      ((n : Node) → In n ns → (h : NodeKey) → head_above t n ≡ Some h → h.slot ≢ slot) → unit_at (hung t ns us) slot ≡ unit_at us slot
-  hung_other [] us slot differ = refl
-  hung_other (n ∷ ns) us slot differ =
-      hung_other ns (with_below (head_above t n) us) slot (λ m on. differ m (inr on))
-      ∙ with_other _ us _ (differ n (inl refl))
-
-  -- by induction: none of them hangs below that unit
+  -- none of them hangs below that unit
   pub unhung_other : (ns : List Node) (us : List Unit) (slot : ℕ) →
       ((n : Node) → In n ns → (h : NodeKey) → head_above t n ≡ Some h → h.slot ≢ slot) → unit_at (unhung t ns us) slot ≡ unit_at us slot
-  unhung_other [] us slot differ = refl
-  unhung_other (n ∷ ns) us slot differ =
-      unhung_other ns (without_below (head_above t n) us) slot (λ m on. differ m (inr on))
-      ∙ without_other _ us _ (differ n (inl refl))
+  unhung_other = other_slots unhung_by
 
   -- by induction: each head right below adds one
-  pub hung_hangs : (ns : List Node) (us : List Unit) (k : NodeKey) → k.slot < length us →
-      ((n : Node) → In n ns → (h : NodeKey) → head_above t n ≡ Some h → h.slot ≡ k.slot → h ≡ k) →
-      (unit_at us k.slot).below + length ns ≤ 18446744073709551615 →
-      Hangs (unit_at us k.slot) (unit_at (hung t ns us) k.slot) (times (is_hung t k) ns)
-  hung_hangs [] us k within one few = record { live = refl; unready = refl; below = omega arith }
-  hung_hangs (n ∷ ns) us k within one few =
-      let long = with_long (head_above t n) us in
-      let first = with_hangs (head_above t n) us k within (one n (inl refl)) (omega arith) in
+  hangs_all : (k : NodeKey) (ns : List Node) (u : Unit) → u.below + length ns ≤ 18446744073709551615 →
+      Hangs u (in_turn (head_above t) one_more k ns u) (times (is_hung t k) ns)
+  hangs_all k [] u few = record { live = refl; unready = refl; below = omega arith }
+  hangs_all k (n ∷ ns) u few =
+      let first = hangs_more n u (is_hung t k n) (omega arith) in
       let a = first.below in
       let w = bit_few (is_hung t k n) in
-      let rest = hung_hangs ns (with_below (head_above t n) us) k (omega arith) (λ m on. one m (inr on)) (omega arith) in
+      let rest = hangs_all k ns (if is_hung t k n then one_more n u else u) (omega arith) in
       let b = rest.below in
       let more = times_more (is_hung t k) n ns in
       record { live = rest.live ∙ first.live; unready = rest.unready ∙ first.unready; below = omega arith }
 
+  -- so in the slot of the unit
+  pub hung_hangs : (ns : List Node) (us : List Unit) (k : NodeKey) → k.slot < length us →
+      ((n : Node) → In n ns → (h : NodeKey) → head_above t n ≡ Some h → h.slot ≡ k.slot → h ≡ k) →
+      (unit_at us k.slot).below + length ns ≤ 18446744073709551615 →
+      Hangs (unit_at us k.slot) (unit_at (hung t ns us) k.slot) (times (is_hung t k) ns)
+  hung_hangs ns us k within one few = rw (own_slot hung_by ns us k within one) (hangs_all k ns _ few)
+
   -- by induction: each head right below takes one
+  drops_all : (k : NodeKey) (ns : List Node) (u : Unit) → times (is_hung t k) ns ≤ u.below →
+      Drops u (in_turn (head_above t) one_less k ns u) (times (is_hung t k) ns)
+  drops_all k [] u some = record { live = refl; unready = refl; below = omega arith }
+  drops_all k (n ∷ ns) u some =
+      let more = times_more (is_hung t k) n ns in
+      let first = hangs_less n u (is_hung t k n) (omega arith) in
+      let rest = drops_all k ns (if is_hung t k n then one_less n u else u) (omega arith) in
+      record { live = rest.live ∙ first.live; unready = rest.unready ∙ first.unready; below = omega arith }
+
+  -- so in the slot of the unit
   pub unhung_drops : (ns : List Node) (us : List Unit) (k : NodeKey) → k.slot < length us →
       ((n : Node) → In n ns → (h : NodeKey) → head_above t n ≡ Some h → h.slot ≡ k.slot → h ≡ k) →
       times (is_hung t k) ns ≤ (unit_at us k.slot).below →
       Drops (unit_at us k.slot) (unit_at (unhung t ns us) k.slot) (times (is_hung t k) ns)
-  unhung_drops [] us k within one some = record { live = refl; unready = refl; below = omega arith }
-  unhung_drops (n ∷ ns) us k within one some =
-      let long = without_long (head_above t n) us in
-      let more = times_more (is_hung t k) n ns in
-      let first = without_drops (head_above t n) us k within (one n (inl refl)) (omega arith) in
-      let rest = unhung_drops ns (without_below (head_above t n) us) k (omega arith) (λ m on. one m (inr on)) (omega arith) in
-      record { live = rest.live ∙ first.live; unready = rest.unready ∙ first.unready; below = omega arith }
+  unhung_drops ns us k within one some = rw (own_slot unhung_by ns us k within one) (drops_all k ns _ some)
 
 -- ---- as it is said of the nodes
 

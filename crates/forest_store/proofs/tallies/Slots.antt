@@ -1,9 +1,7 @@
 -- The counts in the slots of keys: which stay where others change.
-use Rattle.forest_store.proofs.Common.{◌≡◌, ◌≢◌, ℕ, ◌+◌, ◌<◌, ◌≤◌, ◌==◌, nat_lt, refl, ap, sym, ◌∙◌, subst, Bool, true, false, ◌&&◌, ◌⊎◌, inl, inr, if◌then◌else◌, List, [], ◌∷◌, map, length, reverse, Option, Some, None, not, arith, eqb-false, eqb-true, AllByRecursion, find, list_all, list_any, option_map_or, Interval, NodeKey, same_key, times, In, In-find, In-list_any, In-map, In-map-back, and_left, and_right, both_ways, either_way, false_if, same_key-true, In-any, Table, node_at, Change, Node, Unit, AreUnits, lives_in, unit_at, waits_in, Collection, with_nodes, AreRising, IsStored, IsWhole, Shelf, are_filed, collection_in, is_filed, nodes_with, is_of, are_distinct, Handles, Settles, collection_or_new, put, are_rooted, unwrap_or, Mark, Called, Loss, Allocated, Ended, In-filter, In-filter-back, next_at, AreUnitsExcept, HasUnits, cleared, hangs_in, head_above, heads_below, no_unit, reckoned, tallied, unit_of, collection_at, tidied, without_over_in, Forces, Rests, changed, is_birth, is_root_of, made, filter}
+use Rattle.forest_store.proofs.Common.{◌≡◌, ◌≢◌, ℕ, ◌+◌, ◌<◌, ◌==◌, nat_lt, refl, ap, sym, ◌∙◌, subst, Bool, true, false, ◌&&◌, ◌⊎◌, inl, inr, if◌then◌else◌, List, [], ◌∷◌, map, length, reverse, Option, Some, None, not, arith, eqb-false, eqb-true, AllByRecursion, list_all, list_any, option_map_or, Interval, NodeKey, same_key, times, In, In-find, In-list_any, In-map, In-map-back, and_left, both_ways, either_way, false_if, same_key-true, In-any, Table, node_at, Change, Node, Unit, AreUnits, lives_in, unit_at, waits_in, Collection, with_nodes, AreRising, IsStored, IsWhole, Shelf, are_filed, collection_in, is_filed, nodes_with, is_of, are_distinct, Handles, Settles, collection_or_new, put, are_rooted, unwrap_or, Mark, Called, Loss, Allocated, Ended, In-filter, In-filter-back, next_at, AreUnitsExcept, HasUnits, hangs_in, heads_below, unit_of, collection_at, tidied, without_over_in, Forces, Rests, changed, is_birth, is_root_of, made, filter, Forest}
 pub use Rattle.forest_store.proofs.tables.Hanging.{all_at}
-use Rattle.forest_store.specs.Counts.{HaveSlots}
-use Rattle.forest_store.specs.Forest.{Forest}
-use Rattle.forest_store.proofs.Basics.{found_filed, found_id, found_whole, looked-of, times_map, looked-keys, all_in, in_all, looked_gone, looked_there, head_there, above_node, below_mapped, hung_hangs, hung_is, hung_long, hung_other, is_hung, cleared_long, cleared_other, cleared_own, tallied_adds, tallied_long, tallied_other, filed-length, all-In, distinct_one, left_node, left_parent, IsSameNode, times_same}
+use Rattle.forest_store.proofs.Basics.{all_mapped, all_filter, all_weaker, looked-of, times_map, all_in, in_all, looked_gone, looked_there, below_mapped, all-In, distinct_one, left_node, left_parent, IsSameNode, times_same, times_filter}
 
 -- ---- keys that have nodes
 
@@ -57,31 +55,24 @@ module _ (t : Table Node) (named : (key : NodeKey) (n : Node) → node_at t key 
       let s = stays n.key n (in_all _ _ (looked_there t named keys) n on) (λ h. differ (sym own ∙ h)) was.0 in
       (s.0, s.1 ∙ was.1))
 
-  -- by induction over the shelves
+  -- so do those of all shelves but one
   pub but_stays : (ss : List Shelf) → are_filed t ss ≡ true → AreUnitsExcept us id (map (collection_in t) ss) →
       AreUnitsExcept new id (map (collection_in t) ss)
-  but_stays [] filed all = tt
-  but_stays (s ∷ ss) filed all = (
-    λ differ. units_stay s.id differ s.keys (and_left (list_all (is_filed t s.id) s.keys) _ filed) (all.0 differ),
-    but_stays ss (and_right (list_all (is_filed t s.id) s.keys) _ filed) all.1,
-  )
+  but_stays ss filed all = all_mapped _ _ ss (all_in _ ss (λ s on differ.
+      units_stay s.id differ s.keys (all-In (λ (x : Shelf). list_all (is_filed t x.id) x.keys) ss s on filed)
+      (all_at _ _ all _ (In-map-back (collection_in t) ss s on) differ)))
 
 -- where all have their counts, all but one have
 pub but_all : (us : List Unit) (id : ℕ) (cs : List Collection) → AreUnits us cs → AreUnitsExcept us id cs
-but_all us id [] all = tt
-but_all us id (c ∷ cs) all = (λ differ. all.0, but_all us id cs all.1)
+but_all us id cs all = all_weaker _ _ cs (λ c has differ. has) all
 
 -- and with that one all have
 pub but_join : (us : List Unit) (id : ℕ) (cs : List Collection) → AreUnitsExcept us id cs → ((c : Collection) → In c cs → c.id ≡ id →
     HasUnits us c.nodes) → AreUnits us cs
-but_join us id [] but own = tt
-but_join us id (c ∷ cs) but own = (
-  elim (either_way (c.id == id)) [
-    | inl e ↦ own c (inl refl) (eqb-true c.id id e)
-    | inr e ↦ but.0 (eqb-false c.id id e)
-  ],
-  but_join us id cs but.1 (λ d on. own d (inr on)),
-)
+but_join us id cs but own = all_in _ cs (λ c on. elim (either_way (c.id == id)) [
+  | inl e ↦ own c on (eqb-true c.id id e)
+  | inr e ↦ all_at _ cs but c on (eqb-false c.id id e)
+])
 
 -- where the one has its counts and those of the others stay
 pub units_own : (t : Table Node) (ss : List Shelf) → IsStored t ss → (id : ℕ) (us new : List Unit) → Stays t id us new →
@@ -97,11 +88,9 @@ units_own t ss kept id us new stays but s on own has =
 pub but_moved : (t now : Table Node) (us : List Unit) (id : ℕ) (ss : List Shelf) → ((s : Shelf) → In s ss → s.id ≢ id →
     collection_in now s ≡ collection_in t s) →
     AreUnitsExcept us id (map (collection_in t) ss) → AreUnitsExcept us id (map (collection_in now) ss)
-but_moved t now us id [] same but = tt
-but_moved t now us id (s ∷ ss) same but = (
-  λ differ. subst (λ (c : Collection). HasUnits us c.nodes) (sym (same s (inl refl) differ)) (but.0 differ),
-  but_moved t now us id ss (λ x on. same x (inr on)) but.1,
-)
+but_moved t now us id ss same but = all_mapped _ _ ss (all_in _ ss (λ s on differ.
+    subst (λ (c : Collection). HasUnits us c.nodes) (sym (same s on differ))
+    (all_at _ _ but _ (In-map-back (collection_in t) ss s on) differ)))
 
 -- where the one is put among them
 pub but_put : (us : List Unit) (c : Collection) (cs : List Collection) → AreUnits us cs → AreUnitsExcept us c.id (put c cs)
@@ -159,17 +148,6 @@ units_mapped us f nodes keys same has = all_in _ _ (λ n on.
     let key : x.0.key ≡ n.key = sym (ap (λ (m : Node). m.key) x.2 ∙ keys x.0) in
     let had = in_all _ _ has _ x.1 in
     rw (← key) (had.0, had.1 ∙ sym (same x.0.key)))
-
--- by induction: a node that fails the test was not counted
-times_filter : (p test : Node → Bool) (ns : List Node) → ((n : Node) → In n ns → p n ≡ false → test n ≡ false) →
-    times test (filter p ns) ≡ times test ns
-times_filter p test [] none = refl
-times_filter p test (n ∷ ns) none =
-    let rest = times_filter p test ns (λ m on. none m (inr on)) in
-    elim (either_way (p n)) [
-      | inl e ↦ rw (e, rest) refl
-      | inr e ↦ rw (e, none n (inl refl) e) rest
-    ]
 
 -- whose unit is right above stays so where nodes that are gone are forgotten
 hangs_filter : (p : Node → Bool) (nodes : List Node) → are_distinct nodes ≡ true → are_rooted (reverse nodes) ≡ true →
@@ -234,122 +212,6 @@ units_filter us p nodes distinct rooted over has = all_in _ _ (λ n on.
         let w = times_filter p (waits_in k) nodes (λ n on out. rw (over n on out) refl) in
         λ i. record { live = l i; unready = w i; below = (below_filter p nodes distinct rooted over k) i }
 
--- ---- counting anew
-
-module _ (t : Table Node) (ss : List Shelf) (kept : IsStored t ss) (id : ℕ) (s : Shelf) (found : find (λ
-    (x : Shelf). x.id == id) ss ≡ Some s)
-    (us : List Unit) (few : length s.keys ≤ 18446744073709551615) (slots : HaveSlots us (map (collection_in t) ss)) where
-  abbrev nodes : List Node
-  nodes = nodes_with t s.keys
-
-  abbrev own : List Unit
-  own = tallied nodes (cleared s.keys us)
-
-  abbrev new : List Unit
-  new = reckoned t nodes (cleared s.keys us)
-
-  -- each collection is whole
-  whole : IsWhole (collection_in t s)
-  whole = found_whole t _ _ s kept.whole found
-
-  -- its keys are filed under it
-  filed : list_all (is_filed t s.id) s.keys ≡ true
-  filed = found_filed t id ss s kept.filed found
-
-  -- each node stands in the table under its key
-  at : (n : Node) → In n nodes → node_at t n.key ≡ Some n
-  at n on = in_all _ _ (looked_there t kept.named s.keys) n on
-
-  -- each node at its keys is of the collection
-  of : (n : Node) → In n nodes → n.collection ≡ id
-  of n on = eqb-true n.collection s.id (all-In _ _ n on (looked-of t _ _ filed))
-      ∙ found_id _ _ s found
-
-  -- counting and clearing keep the length
-  long : length new ≡ length us
-  long = hung_long t nodes _ ∙ tallied_long nodes _ ∙ cleared_long s.keys us
-
-  -- the head of the unit of a node that is not gone
-  head_of : (m : Node) → In m nodes → m.gone ≡ false → (h : Node) × In h nodes × (h.key ≡ m.head)
-  head_of m there here =
-      let h = head_there _ whole.sound.distinct whole.sound.heads whole.rooted whole.united m there here in (h.0, h.1, h.2)
-
-  -- and of the unit right above the one that it heads
-  above_of : (m : Node) → In m nodes → (h : NodeKey) → head_above t m ≡ Some h → (a : Node) × In a nodes × (a.key ≡ h)
-  above_of m there h is =
-      let x = above_node t _ whole.sound.distinct whole.rooted at m there h is in
-      let a = head_of _ x.1 x.2 in
-      (a.0, a.1, a.2 ∙ x.3)
-
-  -- the slot of each node's key is in the list
-  slot_in : (n : Node) → In n nodes → n.key.slot < length us
-  slot_in n on = in_all _ _ (all_at _ _ slots _ (In-map-back _ _ s (In-find _ _ s found).0)) n on
-
-  -- each node's key has its unit's counts
-  has : HasUnits new nodes
-  has = all_in _ _ (λ n on.
-      let inside = slot_in n on in
-      let key : In n.key s.keys =
-      subst (In n.key) (looked-keys t s.id kept.named s.keys filed) (In-map-back _ _ n on) in
-      let short = cleared_long s.keys us in
-      let same_long = long in
-      let own_long = tallied_long nodes (cleared s.keys us) in
-      let zero : unit_at (cleared s.keys us) n.key.slot ≡ no_unit = cleared_own s.keys us n.key key (omega arith) in
-      let l0 : (unit_at (cleared s.keys us) n.key.slot).live ≡ 0 = ap (λ (u : Unit). u.live) zero in
-      let u0 : (unit_at (cleared s.keys us) n.key.slot).unready ≡ 0 = ap (λ (u : Unit). u.unready) zero in
-      let b0 : (unit_at (cleared s.keys us) n.key.slot).below ≡ 0 = ap (λ (u : Unit). u.below) zero in
-      let count : length nodes ≡ length s.keys = filed-length t s.id s.keys filed in
-      let adds = tallied_adds nodes (cleared s.keys us) n.key (omega arith)
-      (λ m there here slots. let h = head_of m there here in
-      one_slot t m.head n.key h.0 n (ap (node_at t) (sym h.2) ∙ at h.0 h.1) (at n on) slots)
-      (omega arith) (omega arith) in
-      let a = adds.live in
-      let b = adds.unready in
-      let d = adds.below in
-      let hangs = hung_hangs t nodes own n.key (omega arith)
-      (λ m there h is slots. let x = above_of m there h is in
-      one_slot t h n.key x.0 n (ap (node_at t) (sym x.2) ∙ at x.0 x.1) (at n on) slots) (omega arith) in
-      let e = hangs.live in
-      let f = hangs.unready in
-      let g = hangs.below in
-      let told : times (is_hung t n.key) nodes ≡ times (heads_below nodes n.key) nodes =
-      times_same (is_hung t n.key) (heads_below nodes n.key) nodes (hung_is t nodes whole.sound.distinct whole.rooted at n.key) in
-      let l : (unit_at new n.key.slot).live ≡ times (lives_in n.key) nodes = omega arith in
-      let w : (unit_at new n.key.slot).unready ≡ times (waits_in n.key) nodes = omega arith in
-      let h : (unit_at new n.key.slot).below ≡ times (heads_below nodes n.key) nodes = omega arith in
-      (rw long inside, λ i. record { live = l i; unready = w i; below = h i }))
-
-  -- a filed key has a node of the collection
-  filed_at : (k : NodeKey) → In k s.keys → (m : Node) × (node_at t k ≡ Some m) × (m.collection ≡ id)
-  filed_at k on = from (node_at t k) refl (all-In _ _ k on filed)
-    where
-      from : (o : Option Node) → node_at t k ≡ o → option_map_or (λ (n : Node). n.collection == s.id) o false ≡ true →
-          (m : Node) × (node_at t k ≡ Some m) × (m.collection ≡ id)
-      from None is h = cc
-      from (Some m) is h = (m, is, eqb-true m.collection s.id h ∙ found_id _ _ s found)
-
-  -- a key of another collection has another slot
-  apart : (k j : NodeKey) (n m : Node) → node_at t k ≡ Some n → n.collection ≢ id → node_at t j ≡ Some m → m.collection ≡ id →
-      j.slot ≢ k.slot
-  apart k j n m is differ there own slots =
-      let same : j ≡ k = one_slot t j k m n there is slots in
-      let node : m ≡ n = cc in
-      differ (ap (λ (x : Node). x.collection) (sym node) ∙ own)
-
-  -- each slot that is written is that of a head of this collection
-  stays : Stays t id us new
-  stays k n is differ within =
-      let same_long = long in (
-        omega arith,
-        hung_other t _ own _ (λ m there j above.
-            let h = above_of m there j above in
-            apart k j n _ is differ (ap (node_at t) (sym h.2) ∙ at _ h.1) (of _ h.1))
-            ∙ tallied_other _ _ _ (λ m there here.
-            let h = head_of m there here in
-            apart k _ n _ is differ (ap (node_at t) (sym h.2) ∙ at _ h.1) (of _ h.1))
-            ∙ cleared_other _ us _ (λ j on. let x = filed_at j on in apart k j n _ is differ x.1 x.2),
-      )
-
 -- ---- forests whose nodes are changed or forgotten
 
 -- where each node is as f makes it, which keeps what is counted
@@ -357,29 +219,24 @@ pub units_with : (us : List Unit) (f : Node → Node) → ((n : Node) → IsSame
     ((k : NodeKey) (n : Node) → lives_in k (f n) ≡ lives_in k n) →
     ((k : NodeKey) (n : Node) → waits_in k (f n) ≡ waits_in k n) → (cs : List Collection) → AreUnits us cs →
     AreUnits us (map (with_nodes (map f)) cs)
-units_with us f same gone lives waits [] all = tt
-units_with us f same gone lives waits (c ∷ cs) all = (
-  units_mapped us f c.nodes (λ n. (same n).key) (λ k.
-      let l = times_map (lives_in k) (lives_in k) f c.nodes (lives k) in
-      let w = times_map (waits_in k) (waits_in k) f c.nodes (waits k) in
-      let b = below_mapped f same c.nodes gone k in
-      λ i. record { live = l i; unready = w i; below = b i }) all.0,
-  units_with us f same gone lives waits cs all.1,
-)
+units_with us f same gone lives waits cs all = all_mapped _ _ cs (all_weaker _ _ cs (λ c has.
+    units_mapped us f c.nodes (λ n. (same n).key) (λ k.
+    let l = times_map (lives_in k) (lives_in k) f c.nodes (lives k) in
+    let w = times_map (waits_in k) (waits_in k) f c.nodes (waits k) in
+    let b = below_mapped f same c.nodes gone k in
+    λ i. record { live = l i; unready = w i; below = b i }) has) all)
 
 -- where a node that is gone is forgotten
 pub units_without : (t : Table Node) (us : List Unit) (key : NodeKey) → ((k : NodeKey) (n : Node) → node_at t k ≡ Some n → n.key ≡ k) →
     ((m : Node) → node_at t key ≡ Some m → m.gone ≡ true) → (ss : List Shelf) →
     AllByRecursion (λ (s : Shelf). IsWhole (collection_in t s)) ss → AreUnits us (map (collection_in t) ss) →
     AreUnits us (map (with_nodes (filter (λ n. not (is_of key n)))) (map (collection_in t) ss))
-units_without t us key named goes [] formed all = tt
-units_without t us key named goes (s ∷ ss) formed all = (
-  units_filter us (λ n. not (is_of key n)) (nodes_with t s.keys) formed.0.sound.distinct formed.0.rooted
-      (looked_gone t named key goes s.keys) all.0,
-  units_without t us key named goes ss formed.1 all.1,
-)
+units_without t us key named goes ss formed all = all_mapped _ _ _ (all_mapped _ _ ss (all_in _ ss (λ s on.
+    let whole = all_at _ ss formed s on in
+    units_filter us (λ n. not (is_of key n)) (nodes_with t s.keys) whole.sound.distinct whole.rooted
+    (looked_gone t named key goes s.keys) (all_at _ _ all _ (In-map-back (collection_in t) ss s on)))))
 
--- where all of a collection that are over are
+-- where all of a collection that are dead are
 pub units_over : (us : List Unit) (id : ℕ) (cs : List Collection) → AllByRecursion IsWhole cs → AreUnits us cs →
     AreUnits us (without_over_in id cs)
 units_over us id [] formed all = tt
@@ -400,8 +257,4 @@ units_over us id (c ∷ cs) formed all = from _ _ (units_over us id cs formed.1 
 
 -- and where collections are
 pub units_some : (us : List Unit) (p : Collection → Bool) (cs : List Collection) → AreUnits us cs → AreUnits us (filter p cs)
-units_some us p [] all = tt
-units_some us p (c ∷ cs) all = elim (p c) as (λ (b : Bool). AreUnits us (if b then c ∷ filter p cs else filter p cs)) [
-  | true ↦ (all.0, units_some us p cs all.1)
-  | false ↦ units_some us p cs all.1
-]
+units_some us p cs all = all_filter _ _ _ all

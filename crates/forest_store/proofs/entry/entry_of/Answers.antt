@@ -1,7 +1,5 @@
 -- The entry is the one at its place.
-use Rattle.forest_store.proofs.Common.{◌≡◌, sym, ◌∙◌, arith, slice_get, common_steps}
-use Rattle.std.proofs.Common.{option_copied}
-use Rattle.std.proofs.lemmas.Option.{gets}
+use Rattle.forest_store.proofs.Common.{◌≡◌, sym, ◌∙◌, arith, slice_get, common_steps, option_copied, gets}
 use Rattle.forest_store.proofs.shelves.Entries.{none_in, placed}
 use Rattle.forest_store.proofs.entry.entry_of.Goals as goal
 

@@ -2,18 +2,14 @@
 use Rattle.forest_store.proofs.Common.{◌≡◌, true, false, get_or, sym, ◌∙◌, ap, arith, Entry, shelf_of, shelves_of, is_bare}
 use Rattle.forest_store.proofs.shelves.Counted.{counted_removed}
 use Rattle.forest_store.proofs.shelves.Dropping.{bare_none, keep_bare, remove_bare}
-use Rattle.forest_store.proofs.shelves.Entries.{place_is}
+use Rattle.forest_store.proofs.shelves.Entries.{place_within}
 use Rattle.forest_store.proofs.garbage.drop_bare.Goals as goal
 
 pub index-requires : goal.index-requires
-index-requires c =
-    let told = sym (rw c.deref.ensures.value at c.place_of.ensures) ∙ c.in-Some.is in
-    omega (arith, (place_is c.args.id c.args.entries.now.items c.in-Some.at told).within)
+index-requires c = omega (arith, place_within _ _ _ _ _ c.deref.ensures.value c.place_of.ensures c.in-Some.is)
 
 pub remove-requires : goal.remove-requires
-remove-requires c =
-    let told = sym (rw c.deref.ensures.value at c.place_of.ensures) ∙ c.in-Some.is in
-    omega (arith, (place_is c.args.id c.args.entries.now.items c.in-Some.at told).within)
+remove-requires c = omega (arith, place_within _ _ _ _ _ c.deref.ensures.value c.place_of.ensures c.in-Some.is)
 
 pub returns-then-is_bare-clause-shelves : goal.returns-then-is_bare-clause-shelves
 returns-then-is_bare-clause-shelves c =
@@ -32,8 +28,7 @@ returns-else-is_bare-clause-shelves c =
 
 pub returns-in_default-clause-shelves : goal.returns-in_default-clause-shelves
 returns-in_default-clause-shelves c =
-    let told = sym (rw c.deref.ensures.value at c.place_of.ensures) ∙ c.in_default.is in
-    bare_none _ _ told
+    bare_none _ _ (sym (rw c.deref.ensures.value at c.place_of.ensures) ∙ c.in_default.is)
 
 pub returns-then-is_bare-clause-counted : goal.returns-then-is_bare-clause-counted
 returns-then-is_bare-clause-counted c t all = rw c.remove.ensures.items (counted_removed t _ _ all)

@@ -1,6 +1,5 @@
 -- What stands at the place is the key, which stands once.
-use Rattle.forest_store.proofs.Common.{sym, ◌∙◌}
-use Rattle.forest_store.specs.Garbage.{IsPlace}
+use Rattle.forest_store.proofs.Common.{sym, ◌∙◌, IsPlace}
 use Rattle.forest_store.proofs.leaving.Places.{without_at}
 use Rattle.forest_store.proofs.garbage.drop_key.Goals as goal
 

@@ -1,4 +1,4 @@
--- The nodes that are over are taken out, with their keys; where none is, nothing changes.
+-- The nodes that are dead are taken out, with their keys; where none is, nothing changes.
 use Rattle.forest_store.proofs.Common.{◌≡◌, ℕ, ◌<◌, ◌==◌, true, false, List, length, get_or, Some, None, option_map, refl, sym, ◌∙◌, ap, subst, arith, find, list_any, NodeKey, same_key, Table, Entry, Node, over_except, IsStored, Shelf, nodes_with, place_in, shelf_of, shelves_of, is_over, get_or_default, AreCounted, IsForgettable, is_bare, left_at, thinned}
 use Rattle.forest_store.proofs.leaving.Forgotten.{thin_filed, tidy_left}
 use Rattle.forest_store.proofs.leaving.Places.{found_apart}
@@ -7,7 +7,7 @@ use Rattle.forest_store.proofs.allocation.Before.{key_listed}
 use Rattle.forest_store.proofs.shelves.Counted.{counted_thinned, dropped_all, drops_over}
 use Rattle.forest_store.proofs.shelves.Dropping.{bare_none, keep_bare, keep_set, no_shelf, set_thin}
 use Rattle.forest_store.proofs.tables.LeftParents.{in_shelf}
-use Rattle.forest_store.proofs.Basics.{found_counted, found_filed, none_noted, IsPlace, place_is, shelf_found}
+use Rattle.forest_store.proofs.Basics.{place_within, found_counted, found_filed, none_noted, IsPlace, place_is, shelf_found}
 use Rattle.forest_store.proofs.garbage.forget_nodes.Goals as goal
 
 -- ---- where there is no such collection
@@ -18,9 +18,8 @@ returns-in_default-clause-shelves c = sym (thin_filed c.args.table.now _ _ c.req
 pub returns-in_default-clause-left : goal.returns-in_default-clause-left
 returns-in_default-clause-left c = record {
   look = λ s found k.
-      let told : place_in c.args.id c.args.entries.now.items ≡ None =
-      sym (rw c.deref.ensures.value at c.place_of.ensures) ∙ c.in_default.is in
-      let no : None ≡ Some s = sym (no_shelf c.args.id c.args.entries.now.items told) ∙ found in
+      let no : None ≡ Some s = sym (no_shelf c.args.id c.args.entries.now.items
+      (sym (rw c.deref.ensures.value at c.place_of.ensures) ∙ c.in_default.is)) ∙ found in
       absurd (cc);
   none = λ is. refl;
 }
@@ -36,8 +35,8 @@ returns-in_default-clause-kept c =
 
 -- ---- the entry at its place
 
-module _ (t : Table Node) (es : List Entry) (kept : IsStored t (shelves_of es)) (counted : AreCounted t es) (id at : ℕ)
-    (told : place_in id es ≡ Some at) (old : Entry) (is : (d : Entry) → at < length es → old ≡ get_or es at d) where
+module _ {t : Table Node} (es : List Entry) (kept : IsStored t (shelves_of es)) (counted : AreCounted t es) (id : ℕ) {at : ℕ}
+    (told : place_in id es ≡ Some at) {old : Entry} (is : (d : Entry) → at < length es → old ≡ get_or es at d) where
   -- the entry is found at its place
   place : IsPlace id es at
   place = place_is _ _ at told
@@ -71,16 +70,12 @@ module _ (t : Table Node) (es : List Entry) (kept : IsStored t (shelves_of es)) 
   }
 
 pub index-requires : goal.index-requires
-index-requires c =
-    let told = sym (rw c.deref.ensures.value at c.place_of.ensures) ∙ c.in-Some.is in
-    omega (arith, (place_is c.args.id c.args.entries.now.items c.in-Some.at told).within)
+index-requires c = omega (arith, place_within _ _ _ _ _ c.deref.ensures.value c.place_of.ensures c.in-Some.is)
 
 pub index_mut-entry-requires : goal.index_mut-entry-requires
-index_mut-entry-requires c =
-    let told = sym (rw c.deref.ensures.value at c.place_of.ensures) ∙ c.in-Some.is in
-    omega (arith, (place_is c.args.id c.args.entries.now.items c.in-Some.at told).within)
+index_mut-entry-requires c = omega (arith, place_within _ _ _ _ _ c.deref.ensures.value c.place_of.ensures c.in-Some.is)
 
--- ---- where it is known that none is over
+-- ---- where it is known that none is dead
 
 pub returns-then-is_garbage_known-clause-shelves : goal.returns-then-is_garbage_known-clause-shelves
 returns-then-is_garbage_known-clause-shelves c = sym (thin_filed c.args.table.now _ _ c.requires.kept.filed)
@@ -94,21 +89,17 @@ returns-then-is_garbage_known-clause-left c = record {
       let told : place_in c.args.id es ≡ Some c.in-Some.at = sym (rw c.deref.ensures.value at c.place_of.ensures) ∙ c.in-Some.is in
       let is : (d : Entry) → c.in-Some.at < length es → old ≡ get_or es c.in-Some.at d =
       λ d within. c.index.ensures ∙ get_or_default es c.in-Some.at old d within in
-      let there : Some (shelf_of old) ≡ Some s =
-      sym (shelf t es c.requires.kept c.requires.counted c.args.id c.in-Some.at told old is) ∙ known in
+      let there : Some (shelf_of old) ≡ Some s = sym (shelf _ c.requires.kept c.requires.counted _ told is) ∙ known in
       let one : shelf_of old ≡ s = cc in
       let tidied = c.is_garbage_known.ensures c.if-is_garbage_known.true in
-      let none : list_any is_over (nodes_with t old.keys.items) ≡ false = none_noted (nodes_with t old.keys.items)
+      tidy_left t s.keys (ap (λ (x : Shelf). list_any is_over (nodes_with t x.keys)) (sym one) ∙ none_noted (nodes_with t old.keys.items)
       (ap (λ (ks : List NodeKey). list_any (over_except ks) (nodes_with t old.keys.items)) (sym tidied.1)
-      ∙ garbage_known t es c.requires.kept c.requires.counted c.args.id c.in-Some.at told old is tidied.0) in
-      tidy_left t s.keys (ap (λ (x : Shelf). list_any is_over (nodes_with t x.keys)) (sym one) ∙ none) k;
+      ∙ garbage_known _ c.requires.kept c.requires.counted _ told is tidied.0)) k;
   none = λ is. refl;
 }
 
 pub index-requires-then-is_garbage_known : goal.index-requires-then-is_garbage_known
-index-requires-then-is_garbage_known c =
-    let told = sym (rw c.deref.ensures.value at c.place_of.ensures) ∙ c.in-Some.is in
-    omega (arith, (place_is c.args.id c.args.entries.now.items c.in-Some.at told).within)
+index-requires-then-is_garbage_known c = omega (arith, place_within _ _ _ _ _ c.deref.ensures.value c.place_of.ensures c.in-Some.is)
 
 pub returns-then-is_garbage_known-clause-full : goal.returns-then-is_garbage_known-clause-full
 returns-then-is_garbage_known-clause-full c left =
@@ -128,7 +119,7 @@ pub forget_of-requires : goal.forget_of-requires
 forget_of-requires c =
     let es = c.args.entries.now.items in
     let told : place_in c.args.id es ≡ Some c.in-Some.at = sym (rw c.deref.ensures.value at c.place_of.ensures) ∙ c.in-Some.is in
-    forgettable _ _ c.requires.kept c.requires.counted _ _ told _
+    forgettable _ c.requires.kept c.requires.counted _ told
     (λ d within. c.index_mut-entry.ensures.value ∙ get_or_default _ _ _ d within)
 
 module _ (c : goal.After-entries-1) where
@@ -155,6 +146,10 @@ module _ (c : goal.After-entries-1) where
   is : (d : Entry) → c.in-Some.at < length es → old ≡ get_or es c.in-Some.at d
   is d within = c.index_mut-entry.ensures.value ∙ get_or_default _ _ old d within
 
+  -- the shelf that is found
+  there : find (λ (x : Shelf). x.id == c.args.id) (shelves_of es) ≡ Some (shelf_of old)
+  there = shelf _ c.requires.kept c.requires.counted _ told is
+
   -- the keys of the nodes that were taken out are dropped, and the rest stays
   thin_shelf : shelf_of new ≡ thinned now (shelf_of old)
   thin_shelf = λ i. record {
@@ -173,13 +168,11 @@ returns-clause-shelves c =
 pub returns-clause-left : goal.returns-clause-left
 returns-clause-left c = record {
   look = λ s known k.
-      let there : Some (shelf_of (old c)) ≡ Some s =
-      sym (shelf (t c) (es c) c.requires.kept c.requires.counted c.args.id c.in-Some.at (told c) (old c) (is c)) ∙ known in
+      let same : Some (shelf_of (old c)) ≡ Some s = sym (there c) ∙ known in
       let one : shelf_of (old c) ≡ s = cc in
       c.forget_of.ensures.look k ∙ ap (λ (x : Shelf). left_at (t c) x.keys k) one;
   none = λ none.
-      let no : None ≡ Some (shelf_of (old c)) =
-      sym none ∙ shelf (t c) (es c) c.requires.kept c.requires.counted c.args.id c.in-Some.at (told c) (old c) (is c) in
+      let no : None ≡ Some (shelf_of (old c)) = sym none ∙ there c in
       absurd (cc);
 }
 
@@ -192,5 +185,5 @@ returns-clause-counted c = counted_thinned (t c) _ _ _ _
 
 pub returns-clause-full : goal.returns-clause-full
 returns-clause-full c left = keep_set _ _ _ _ c.requires.kept.rising (told c)
-    (c.forget_of.ensures.entry.id ∙ own (t c) _ c.requires.kept c.requires.counted _ _ (told c) _ (is c))
+    (c.forget_of.ensures.entry.id ∙ own _ c.requires.kept c.requires.counted _ (told c) (is c))
     (sym c.is_bare-2.ensures ∙ left)

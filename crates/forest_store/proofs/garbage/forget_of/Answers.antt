@@ -1,4 +1,4 @@
--- The nodes that are over are taken out, and their keys.
+-- The nodes that are dead are taken out, and their keys.
 use Rattle.forest_store.proofs.Common.{◌≡◌, ◌∙◌, sym, true, false≢true, list_all, is_own_if_over}
 use Rattle.forest_store.proofs.leaving.OnlyNoted.{noted_found, noted_left}
 use Rattle.forest_store.proofs.garbage.forget_of.Goals.{then-entry, else-entry}

@@ -1,13 +1,11 @@
 -- Only the entry of the collection is noted.
 use Rattle.forest_store.proofs.Common.{sym, ◌∙◌, ap, arith, Entry, shelf_of, get_or_default}
 use Rattle.forest_store.proofs.shelves.Counted.{garbage, noted_none, noted_set, set_shelves}
-use Rattle.forest_store.proofs.shelves.Entries.{place_is}
+use Rattle.forest_store.proofs.shelves.Entries.{place_within}
 use Rattle.forest_store.proofs.garbage.list_garbage.Goals as goal
 
 pub index_mut-requires : goal.index_mut-requires
-index_mut-requires c =
-    let told = sym (rw c.deref.ensures.value at c.place_of.ensures) ∙ c.in-Some.is in
-    omega (arith, (place_is c.args.id c.args.entries.now.items c.in-Some.at told).within)
+index_mut-requires c = omega (arith, place_within _ _ _ _ _ c.deref.ensures.value c.place_of.ensures c.in-Some.is)
 
 pub returns-in-Some-clause-shelves : goal.returns-in-Some-clause-shelves
 returns-in-Some-clause-shelves c =
@@ -30,5 +28,4 @@ returns-in-Some-clause-garbage c over =
 
 pub returns-in_default-clause-garbage : goal.returns-in_default-clause-garbage
 returns-in_default-clause-garbage c over =
-    let told = sym (rw c.deref.ensures.value at c.place_of.ensures) ∙ c.in_default.is in
-    noted_none _ _ _ told
+    noted_none _ _ _ (sym (rw c.deref.ensures.value at c.place_of.ensures) ∙ c.in_default.is)

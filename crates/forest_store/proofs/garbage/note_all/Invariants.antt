@@ -1,7 +1,7 @@
 use Rattle.forest_store.proofs.Common.{◌≡◌, length, true, false, List, list_any, NodeKey, over_except, nodes_with, AreMore, IsNoting}
 use Rattle.forest_store.proofs.garbage.note_all.Given as goal
 
--- once those of the rest that are over are noted, those of all are
+-- once those of the rest that are dead are noted, those of all are
 abbrev pub invariant-noting : goal.invariant-noting
 invariant-noting l = record {
   entry : IsNoting l.initial.entry l.entry;

@@ -1,4 +1,4 @@
--- Where none of those that went is over, none is but those that are noted.
+-- Where none of those that went is dead, none is but those that are noted.
 use Rattle.forest_store.proofs.Common.{◌∙◌, sym, nodes_with}
 use Rattle.forest_store.proofs.leaving.Noted.{fewer_over}
 use Rattle.forest_store.proofs.garbage.note_gone.Goals as goal

@@ -1,28 +1,24 @@
 -- The node is born among those of its collection, or is its first.
-use Rattle.forest_store.proofs.Common.{◌≡◌, ℕ, Bool, List, Option, Some, None, option_map, sym, ◌∙◌, ap, arith, option_and_then, NodeKey, Table, node_at, Change, Entry, Node, IsStored, Shelf, forest_of, place_in, shelf_of, shelves_of, born, MayChange, no_key}
+use Rattle.forest_store.proofs.Common.{IfSome, IsSome, row_at, ◌≡◌, ℕ, Bool, List, Option, Some, None, option_map, sym, ◌∙◌, ap, arith, option_and_then, NodeKey, Table, node_at, Change, Entry, Node, IsStored, Shelf, forest_of, place_in, shelf_of, shelves_of, born, MayChange, no_key}
 use Rattle.forest_store.proofs.newborns.Entries.{among_counted, among_shelves, by_both, first_counted, first_shelves, refused_counted, refused_shelves, refused_two}
 use Rattle.forest_store.proofs.shelves.Counted.{count_few}
 use Rattle.forest_store.proofs.newborns.Newborn.{above_is, above_key, above_there}
-use Rattle.forest_store.proofs.Basics.{born_parent, born_weak, named_bears, none_in, place_is, filed_found, shelf_found, found_counted}
+use Rattle.forest_store.proofs.Basics.{place_within, born_parent, born_weak, named_bears, none_in, place_is, filed_found, shelf_found, found_counted}
 use Rattle.forest_store.proofs.insertion.insert_uncounted.Goals as goal
 
--- the draft has the one above as its parent
+-- the draft has the one above as its parent, which has a row
 up : (t : Table Node) (ss : List Shelf) → IsStored t ss → (id : ℕ) (parent : Option NodeKey) (attached : Bool) (client event : ℕ) →
-    MayChange (forest_of t ss) id (Change.Birth parent attached client event) →
-    (born (option_and_then (node_at t) parent) attached id event client no_key).parent ≡ parent
-up t ss kept id parent attached client event may = born_parent _ _ id event client no_key
-    ∙ above_key t _ kept _ _ _ (above_is t _ kept _ _ _ _ _ may)
+    MayChange (forest_of t ss) id (Change.Birth parent attached client event) → (draft : Node) →
+    draft ≡ born (option_and_then (node_at t) parent) attached id event client no_key → IfSome draft.parent (λ p. IsSome (row_at t p))
+up t ss kept id parent attached client event may draft is =
+    let over = above_is t ss kept id parent attached client event may in
+    rw (ap (λ (n : Node). n.parent) is ∙ (born_parent _ _ id event client no_key ∙ above_key t _ kept _ _ _ over)) (above_there _ _ _ _ _ over)
 
 pub index_mut-requires : goal.index_mut-requires
-index_mut-requires c =
-    let told = sym (rw c.deref.ensures.value at c.place_of.ensures) ∙ c.in-Some.is in
-    omega (arith, (place_is c.args.id c.args.store.now.entries.items c.in-Some.at told).within)
+index_mut-requires c = omega (arith, place_within _ _ _ _ _ c.deref.ensures.value c.place_of.ensures c.in-Some.is)
 
 pub insert_child-requires-clause-parent : goal.insert_child-requires-clause-parent
-insert_child-requires-clause-parent c =
-    rw (ap (λ (n : Node). n.parent)
-    c.drafted-draft.ensures ∙ up _ _ c.requires.forest.kept _ _ _ _ _ c.requires.change)
-    (above_there _ _ _ _ _ (above_is _ _ c.requires.forest.kept _ _ _ _ _ c.requires.change))
+insert_child-requires-clause-parent c = up _ _ c.requires.forest.kept _ _ _ _ _ c.requires.change _ c.drafted-draft.ensures
 
 pub insert_child-requires-clause-few : goal.insert_child-requires-clause-few
 insert_child-requires-clause-few c =
@@ -35,10 +31,7 @@ insert_child-requires-clause-few c =
     (found_counted _ _ _ _ c.requires.forest.counted found)
 
 pub insert_root-requires-clause-parent : goal.insert_root-requires-clause-parent
-insert_root-requires-clause-parent c =
-    rw (ap (λ (n : Node). n.parent)
-    c.drafted-draft.ensures ∙ up _ _ c.requires.forest.kept _ _ _ _ _ c.requires.change)
-    (above_there _ _ _ _ _ (above_is _ _ c.requires.forest.kept _ _ _ _ _ c.requires.change))
+insert_root-requires-clause-parent c = up _ _ c.requires.forest.kept _ _ _ _ _ c.requires.change _ c.drafted-draft.ensures
 
 -- the node is inserted among those of the collection
 pub returns-in-Some-clause-ok : goal.returns-in-Some-clause-ok

@@ -1,6 +1,5 @@
 -- One node after another, each at once.
-use Rattle.forest_store.proofs.Common.{List, ap, drop, ◌+◌, sym, ◌∙◌, NodeKey, nodes_with, unreckoned}
-use Rattle.std.proofs.lemmas.List.{drop_more}
+use Rattle.forest_store.proofs.Common.{List, ap, drop, ◌+◌, sym, ◌∙◌, NodeKey, nodes_with, unreckoned, drop_more}
 use Rattle.forest_store.proofs.tallies.AtOnce.{unreckoned_on}
 use Rattle.forest_store.proofs.removed_nodes.decrement_all.Goals as goal
 

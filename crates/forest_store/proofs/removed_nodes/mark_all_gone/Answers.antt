@@ -1,6 +1,5 @@
 -- One node after another.
-use Rattle.forest_store.proofs.Common.{◌≡◌, ◌||◌, Bool, ap, ◌∙◌, sym, NodeKey}
-use Rattle.std.proofs.lemmas.List.{take_more}
+use Rattle.forest_store.proofs.Common.{◌≡◌, ◌||◌, Bool, ap, ◌∙◌, sym, NodeKey, take_more}
 use Rattle.forest_store.proofs.failures.Written.{once_before, over_more, went_more}
 use Rattle.forest_store.proofs.removed_nodes.mark_all_gone.Goals.{then-over, else-over}
 use Rattle.forest_store.proofs.removed_nodes.mark_all_gone.Goals as goal

@@ -1,6 +1,5 @@
 -- What is reserved is a sum over the nodes.
-use Rattle.forest_store.proofs.Common.{◌≡◌, List, drop, sym, ◌∙◌, ap, arith, NodeKey, nodes_with, camped}
-use Rattle.std.proofs.lemmas.List.{drop_all}
+use Rattle.forest_store.proofs.Common.{◌≡◌, List, drop, sym, ◌∙◌, ap, arith, NodeKey, nodes_with, camped, drop_all}
 use Rattle.forest_store.proofs.Basics.{amount_of, reserved_is}
 use Rattle.forest_store.proofs.removed_nodes.recount.Goals as goal
 

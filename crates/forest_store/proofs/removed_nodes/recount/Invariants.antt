@@ -1,5 +1,4 @@
-use Rattle.forest_store.proofs.Common.{◌≡◌, ◌≤◌, ◌+◌, drop, strong_count, nodes_with, camped}
-use Rattle.std.proofs.Common.{◌*◌}
+use Rattle.forest_store.proofs.Common.{◌≡◌, ◌≤◌, ◌+◌, drop, strong_count, nodes_with, camped, ◌*◌}
 use Rattle.forest_store.proofs.tallies.Amounts.{amount_of}
 use Rattle.forest_store.proofs.removed_nodes.recount.Given as goal
 

@@ -1,13 +1,11 @@
 -- The entry takes its place.
 use Rattle.forest_store.proofs.Common.{◌≡◌, sym, ◌∙◌, ap, arith, shelves_of, rules, insert}
 use Rattle.forest_store.proofs.shelves.Counted.{shelves_put}
-use Rattle.forest_store.proofs.shelves.Entries.{place_is, before, before_within, set_put, insert_put}
+use Rattle.forest_store.proofs.shelves.Entries.{place_within, before, before_within, set_put, insert_put}
 use Rattle.forest_store.proofs.store.put_entry.Goals as goal
 
 pub index_mut-requires : goal.index_mut-requires
-index_mut-requires c =
-    let told = sym (rw c.deref.ensures.value at c.place_of.ensures) ∙ c.in-Some.is in
-    omega (arith, (place_is c.args.entry.id c.args.entries.now.items c.in-Some.at told).within)
+index_mut-requires c = omega (arith, place_within _ _ _ _ _ c.deref.ensures.value c.place_of.ensures c.in-Some.is)
 
 pub insert-requires : goal.insert-requires
 insert-requires c =

@@ -1,6 +1,4 @@
-use Rattle.forest_store.proofs.Common.{◌+◌, ◌-◌}
-use Rattle.std.proofs.Common.{vec_len}
-use Rattle.forest_store.specs.Counts.{Extends}
+use Rattle.forest_store.proofs.Common.{◌+◌, ◌-◌, vec_len, Extends}
 use Rattle.forest_store.proofs.unit_counts.reach.Given as goal
 
 -- the list is as long at least, and counts what it did
