@@ -5,7 +5,5 @@ pub mod failures
 pub mod intervals
 pub mod lists
 pub mod mid_event
-pub mod quiescence
 pub mod tables
-pub mod tallies
 pub mod turns

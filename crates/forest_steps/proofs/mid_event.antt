@@ -1,18 +1,14 @@
 -- Forced steps that are made in their places, one after another.
 pub mod Affecting
 pub mod Changing
-pub mod Climbs
 pub mod Closing
 pub mod Counted
 pub mod Crossed
-pub mod Deciding
-pub mod Emptied
 pub mod EndAbove
 pub mod Ending
 pub mod Fallen
 pub mod Felled
 pub mod Fewer
-pub mod Given
 pub mod GivenKept
 pub mod Inside
 pub mod Joining
@@ -21,12 +17,8 @@ pub mod Listed
 pub mod Listing
 pub mod NextThere
 pub mod Owned
-pub mod Places
 pub mod Playing
-pub mod Premises
 pub mod Ready
-pub mod Refused
-pub mod RootAsks
 pub mod RootGiven
 pub mod RootLost
 pub mod RootMade
@@ -34,7 +26,6 @@ pub mod RootOutcome
 pub mod RootReady
 pub mod Roots
 pub mod Stepping
-pub mod Taking
 pub mod Tops
 pub mod Turns
 pub mod UnitGiven

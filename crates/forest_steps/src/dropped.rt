@@ -1,6 +1,6 @@
 //! A handle that is dropped: no other buffer can be home by that, and no step is forced by it but
 //! that the buffers are abandoned.
-ghost use Rattle.std.specs.Prelude.{◌≡◌, ◌&&◌, ◌++◌, List, nat_lt, not, true, false};
+ghost use Rattle.std.specs.Prelude.{◌≡◌, ◌&&◌, ◌||◌, ◌++◌, ℕ, List, Some, get_or, nat_lt, not, true, false};
 ghost use Rattle.std.specs.List.{filter, list_any};
 ghost use Rattle.std.specs.Option.{option_map_or};
 ghost use Rattle.sm_names.specs.declared.keys.Interval.{Interval};
@@ -8,12 +8,13 @@ ghost use Rattle.sm_names.specs.declared.keys.Strength.{Strength as Grade};
 ghost use Rattle.sm_names.specs.Handles.{is_home, names};
 ghost use Rattle.buffer_holds.specs.Counts.{total};
 ghost use Rattle.forest_store.specs.declared.change.Change.{Change as Changed};
+ghost use Rattle.forest_store.specs.declared.entry.Entry.{Entry as EntryValue};
 ghost use Rattle.forest_store.specs.declared.unit_counts.Unit.{Unit as Counts};
 ghost use Rattle.forest_store.specs.Calm.{AreCounted};
 ghost use Rattle.forest_store.specs.Counts.{HaveUnits};
 ghost use Rattle.forest_store.specs.Dropped.{are_others_out, are_rest_out, has_given_root, is_given_root};
 ghost use Rattle.forest_store.specs.Forest.{IsPoolOf, collection_at};
-ghost use Rattle.forest_store.specs.Shelves.{IsStored, forest_of, shelves_of};
+ghost use Rattle.forest_store.specs.Shelves.{IsStored, forest_of, place_in, shelves_of};
 ghost use Rattle.forest_store.specs.Outcomes.{IsOutcomeIn};
 ghost use Rattle.forest_store.specs.Scenes.{by_page, given_few, is_held_strongly, is_out, name_of, pages_held};
 
@@ -106,8 +107,9 @@ fn free_if_home(
 }
 
 /// What comes of a handle of the buffer that was dropped, if no step is forced by that: the buffer
-/// gives its pages back, if it is home. Answers whether none is; if one is, nothing changed. It takes
-/// no memory.
+/// gives its pages back, if it is home. Answers whether no step is forced; else nothing changed. No step
+/// is forced where the collection is there, and a strong node of it is live, or its root is gone or has
+/// no buffers, or a strong handle is open on one of its buffers. It takes no memory.
 pub fn drop_in_place(
     table: &NodeTable<Node>,
     entries: &mut Vec<Entry>,
@@ -125,6 +127,10 @@ pub fn drop_in_place(
         entries.old.items entries.new.items buffer.collection Changed.Nothing }
     ensures units { (us : List Counts) → HaveUnits us table.now entries.old.items →
         HaveUnits us table.now entries.new.items }
+    ensures made { (at : ℕ) (e : EntryValue) →
+        place_in buffer.collection entries.old.items ≡ Some at → e ≡ get_or entries.old.items at e →
+        (nat_lt 0 e.strong || not (has_given_root table.now e.keys.items
+        && not (is_held_strongly (total holds.now) e.id e.buffers))) ≡ true → result ≡ true }
 {
     let Some(at) = place_of(entries, buffer.collection) else {
         return false;

@@ -1,4 +1,4 @@
-//! What comes last of an event: buffers that are abandoned, and pages that go back.
+//! The last steps of an event: abandoned buffers are lost, and home buffers return their pages.
 ghost use Rattle.std.specs.Prelude.{◌≡◌, ◌≤◌, ◌⊎◌, [], List, ℕ, Some, true, get_or, vec_capacity};
 ghost use Rattle.sm_names.specs.declared.keys.NodeKey.{NodeKey as Key};
 ghost use Rattle.buffer_holds.specs.Counts.{total};
@@ -41,10 +41,10 @@ pub fn is_finished(store: &Store, at: usize, pool: &Pool, holds: &Holds) -> bool
     is_kept_by(&store.nodes.table, entry, holds, entry.strong)
 }
 
-/// Where no strong node is live and the buffers of the collection at this place are abandoned, its root
-/// is lost, and all that is left of it; then the pages of the buffers that are home go back. Nothing is
-/// forced any more then. It costs a look at the handles of each buffer where no strong node is live,
-/// what goes, and what the return of the pages costs, and takes no memory.
+/// Where no strong node is live and the buffers of the collection at this place are abandoned, the loss
+/// of its root removes all its nodes; then the home buffers return their pages. No step is forced after
+/// that. It costs O(1), a look at the handles of each buffer where no strong node is live, O(1) for each
+/// node that is removed, and the cost of `free_home_buffers`. It takes no memory.
 pub fn finish_event(
     store: &mut Store,
     at: usize,
@@ -70,8 +70,9 @@ pub fn finish_event(
     assert_disjoint(pool);
 }
 
-/// Where the buffers of the collection are abandoned, of which no strong node is live, its root is lost,
-/// and all that is left of it. It costs a look at the strong handles of its buffers, and what goes.
+/// Where the buffers of the collection are abandoned, of which no strong node is live, the loss of its
+/// root removes all its nodes. It costs a look at the strong handles of its buffers, and O(1) for each
+/// node that is removed.
 fn fail_if_abandoned(
     nodes: &mut NodeStore,
     entry: &mut Entry,
@@ -92,7 +93,7 @@ fn fail_if_abandoned(
     }
 }
 
-/// The root of the collection is lost for want of a strong node, and all that is left of it.
+/// Loses the root of the collection for want of a strong node, which removes all its nodes.
 fn lose_root(nodes: &mut NodeStore, entry: &mut Entry, keys: &mut Vec<NodeKey>)
     requires given { has_given_root nodes.old.table entry.old.keys.items ≡ true }
     requires named { AreNamed nodes.old.table }

@@ -1,4 +1,4 @@
-//! The first allocation of a collection, whatever it comes to, made in its place.
+//! The first allocation of a collection, which succeeds or fails.
 ghost use Rattle.std.specs.List.{sum_by};
 ghost use Rattle.std.specs.Prelude.{◌≡◌, ◌≤◌, ◌+◌, ◌==◌, nat_lt, List, [], ◌∷◌, Ok, None, Some, true, false, IfOk, IfSome, IsSome, OnErr, if◌then◌else◌, vec_capacity};
 ghost use Rattle.sm_names.specs.Demands.{Demand};
@@ -372,8 +372,8 @@ fn settle_first(
     }
 }
 
-/// Makes an effect in its place by which the root's unit becomes ready, while something holds it and it
-/// has no buffers, with all that is forced: the unit is allocated, and the attached units below that
+/// Makes an effect by which the root's unit becomes ready, while something holds it and it has no
+/// buffers, with all that is forced: the unit is allocated, and the attached units below that
 /// are ready have their turns, by birth, each of which is allocated or refused; or the root is lost, where
 /// no strong node is live then, no buffers are wanted or too many, or the pool is full. Answers whether
 /// it did; if not, the root's unit does not wait for its buffers after the effect, or nothing holds it
@@ -381,9 +381,9 @@ fn settle_first(
 ///
 /// It costs a constant. Where the unit is ready, it costs besides a few reads of each
 /// node of the unit and of each attached node right below it, a write of each node of the unit, what the
-/// places of the buffers cost, and what the turns cost, or, where the root is lost, what goes; and at last
-/// what `finish_event` costs. `NoMemory` where the room is refused for what is held, or by the pool: then nothing
-/// changed.
+/// places of the buffers cost, and what the turns cost, or, where the root is lost, O(1) for each node of
+/// the collection; and at last what `finish_event` costs. `NoMemory` where the room for the held buffers
+/// is refused, or the pool's: then nothing changed.
 pub fn allocate_root(
     store: &mut Store,
     at: usize,

@@ -88,8 +88,8 @@ pub(crate) fn is_next(table: &NodeTable<Node>, units: &[Unit], head: NodeKey) ->
 
 /// The unit with this head has its turn, if it is next: it is allocated, or refused, where the buffers
 /// are not enough for it, and fails; where nothing holds the unit above it then, that ends, or the
-/// highest above it that nothing holds. It costs the nodes of the unit and the heads right below it, and
-/// what goes. It takes no memory.
+/// highest above it that nothing holds. It costs O(1) for each node of the unit, for each head right below
+/// it, and for each node that is removed. It takes no memory.
 pub(crate) fn allocate_pending(
     nodes: &mut NodeStore,
     entry: &mut Entry,

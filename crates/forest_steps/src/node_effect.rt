@@ -1,6 +1,6 @@
-//! An effect on one node: worked out once, and made in its place.
+//! An effect on one node: its counts are worked out once, and then written.
 ghost use Rattle.std.specs.Option.{option_map_or};
-ghost use Rattle.std.specs.Prelude.{◌≡◌, ◌+◌, ◌&&◌, ◌==◌, ℕ, List, Some, true, false, IfSome, IsSome};
+ghost use Rattle.std.specs.Prelude.{◌≡◌, ◌+◌, ◌&&◌, ◌==◌, ◌<◌, ◌^◌, ◌↔◌, ℕ, List, Some, true, false, IfSome, IsSome};
 ghost use Rattle.sm_names.specs.declared.keys.NodeKey.{NodeKey as Key};
 ghost use Rattle.node_table.specs.Changes.{Writes};
 ghost use Rattle.node_table.specs.Lending.{table_with_node};
@@ -194,7 +194,8 @@ fn unit_after(units: &[Unit], node: &Node, key: NodeKey, effect: &Effect) -> Uni
 }
 
 /// What is counted of this node's unit and of its collection, once the effect is made on the one with
-/// this key. It reads the unit once, and where that becomes ready, its head and the node above.
+/// this key. It reads the unit once, and where that becomes ready, its head and the node above. What is
+/// reserved is `None` only where the sum on the way takes more than 128 bits.
 #[inline(always)]
 fn counts_after(
     nodes: &NodeStore,
@@ -213,6 +214,8 @@ fn counts_after(
     ensures reserved { IfSome result.reserved (λ now. (real : ℕ) →
         real + camped node.now ≡ entry.now.reserved + camped (affected key effect.now node.now) →
         now ≡ real) }
+    ensures fits { IsSome result.reserved
+        ↔ (entry.now.reserved + camped (affected key effect.now node.now) < 2 ^ 128) }
 {
     let unit = unit_after(&nodes.units, node, key, effect);
     EffectCounts {
@@ -252,7 +255,7 @@ pub fn work_out(nodes: &NodeStore, entry: &Entry, key: NodeKey, effect: Effect) 
     }
 }
 
-/// Makes the effect on the node with this key, in its place.
+/// Makes the effect on the node with this key.
 fn affect_at(table: &mut NodeTable<Node>, key: NodeKey, effect: &Effect)
     requires { (n : NodeValue) → node_at table.old key ≡ Some n →
         has_tracker_room key effect.now n ≡ true }

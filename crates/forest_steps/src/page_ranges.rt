@@ -1,4 +1,4 @@
-//! Buffers of as many pages each that lie side by side, and go back together.
+//! Buffers of as many pages each that lie side by side, and return their pages together.
 ghost use Rattle.std.specs.Prelude.{◌≡◌, true, Contains};
 ghost use Rattle.buffer_pool.specs.Holdings.{in_run, without, IsSound as IsSoundPool};
 ghost use Rattle.forest_steps.specs.Runs.{rest_of, HoldsRun};
@@ -35,7 +35,7 @@ fn is_next(run: PageRange, next: Interval) -> bool
     next.pages == run.pages && u64::from(next.start) == end
 }
 
-/// The intervals of the run go back.
+/// Returns the intervals of the run to the pool.
 pub(crate) fn return_range(pool: &mut Pool, run: PageRange)
     requires sound { IsSoundPool pool.old }
     requires run { HoldsRun run pool.old.held }
@@ -48,8 +48,8 @@ pub(crate) fn return_range(pool: &mut Pool, run: PageRange)
     }
 }
 
-/// The interval is to go back with the run, if it is the next of it. Else the run goes back, and
-/// another begins with the interval.
+/// Adds the interval to the run, if it is the next of it. Else it returns the run to the pool, and
+/// begins another with the interval.
 pub(crate) fn extend_range(pool: &mut Pool, run: PageRange, next: Interval) -> PageRange
     requires sound { IsSoundPool pool.old }
     requires run { HoldsRun run pool.old.held }

@@ -1,4 +1,4 @@
-//! Losses and effects that are made in their places with all that they force, but for the first allocation.
+//! Losses and effects, each with all the steps that it forces but the first allocation.
 ghost use Rattle.std.specs.Prelude.{◌≡◌, ◌≤◌, [], ◌∷◌, List, Some, true, false, IsSome, vec_capacity};
 ghost use Rattle.std.specs.List.{list_any};
 ghost use Rattle.buffer_holds.specs.Counts.{total};
@@ -23,8 +23,8 @@ use forest_store::entry::Entry;
 use forest_store::store::NodeStore;
 use sm_names::{Buffers, Fault, NodeKey};
 
-/// Makes a loss in its place, and the end of the units above that nothing holds any more by it. It
-/// costs what the failure climbs, and what goes, and takes no memory.
+/// Makes a loss, and ends the units above that nothing holds after it. It costs O(1) for each node that
+/// the failure climbs over, and for each that is removed. It takes no memory.
 pub fn apply_loss(
     nodes: &mut NodeStore,
     entry: &mut Entry,
@@ -87,10 +87,10 @@ fn allocate_ready(
     }
 }
 
-/// Makes an effect in its place, and what it forces: the end of the unit of its node and of those above
-/// it, where nothing holds them any more, and the turns of that unit and of those that follow, where it
-/// is ready and attached. The unit of the root does not wait for its first buffers then. It costs a
-/// constant, and what ends, or what the turns cost, and takes no memory.
+/// Makes an effect, and what it forces: the end of the unit of its node and of those above it, where
+/// nothing holds them then, and the turns of that unit and of those that follow, where it is ready and
+/// attached. The unit of the root must not wait for its first buffers then. It costs O(1), and O(1) for
+/// each node that ends, or the cost of the turns. It takes no memory.
 pub fn apply_effect(
     nodes: &mut NodeStore,
     entry: &mut Entry,

@@ -1,4 +1,4 @@
-//! What is lost or ends with a node goes in its place.
+//! The removal of all that is lost or ends with a node.
 ghost use Rattle.std.specs.Prelude.{◌≡◌, ◌≤◌, List, Some, IsSome, vec_capacity};
 ghost use Rattle.sm_names.specs.declared.keys.NodeKey.{NodeKey as Key};
 ghost use Rattle.node_table.specs.Table.{row_at, table_len};
@@ -31,11 +31,12 @@ fn head_over(table: &NodeTable<Node>, keys: &[NodeKey]) -> Option<NodeKey>
     Some(above.head)
 }
 
-/// What a failure of this node takes goes so, each in its place. Its units and its collection count it no
-/// longer, and what is over then is noted. Answers the head of the unit right above what went, if there
-/// is one.
+/// Removes each node that a failure of this node takes, and subtracts it from the counts of its unit and
+/// its collection; a node that may be forgotten then is noted. Answers the head of the unit right above
+/// the removed nodes, if there is one.
 ///
-/// It costs what the failure climbs, and what goes, and takes no memory.
+/// It costs O(1) for each node that the failure climbs over, and for each that is removed. It takes no
+/// memory.
 fn remove_taken(
     nodes: &mut NodeStore,
     entry: &mut Entry,
@@ -62,13 +63,13 @@ fn remove_taken(
     above
 }
 
-/// What a failure of this node takes goes by the fault, or what lies at and below it leaves where there
-/// is none: each in its place. Its units and its collection count it no longer, and what is over then is
-/// noted. Answers the head of the unit right above what went, which may be held by nothing more, if
-/// there is one.
+/// Removes each node that a failure of this node takes, by the fault, or, where there is none, each node
+/// at and below it. It subtracts them from the counts of their units and of their collection, and notes
+/// those that may be forgotten then. Answers the head of the unit right above the removed nodes, if there
+/// is one: perhaps nothing holds that unit then.
 ///
-/// It costs what the failure climbs, and each node at and below the highest, also one that was gone
-/// before, and takes no memory.
+/// It costs O(1) for each node that the failure climbs over, and for each node at and below the highest,
+/// also one that was gone before. It takes no memory.
 pub(crate) fn remove_subtree(
     nodes: &mut NodeStore,
     entry: &mut Entry,

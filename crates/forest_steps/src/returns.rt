@@ -1,4 +1,4 @@
-//! Pages that go back to the pool.
+//! Pages that buffers return to the pool.
 ghost use Rattle.std.specs.Prelude.{◌≡◌, ◌++◌, List, Contains, if◌then◌else◌, length};
 ghost use Rattle.std.specs.List.{filter};
 ghost use Rattle.sm_names.specs.declared.keys.Interval.{Interval};
@@ -13,8 +13,8 @@ use buffer_pool::Pool;
 use sm_names::HeldBuffer;
 
 /// The buffers that are home give their pages back, and are not held any longer. It takes no memory,
-/// and costs a look at the handles of each buffer, two where some stay held and others go, with a shift
-/// for each that goes, and what the pool takes.
+/// and costs a look at the handles of each buffer, two where some stay held and others do not, with a
+/// shift for each that does not, and the cost of `Pool::give_back`.
 pub(crate) fn free_home_buffers(
     held: &mut Vec<HeldBuffer>,
     pool: &mut Pool,

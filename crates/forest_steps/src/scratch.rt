@@ -1,15 +1,15 @@
-//! Room for what goes, and for the units that have their turns.
+//! Room for removed nodes, and for the units that have their turns.
 ghost use Rattle.std.specs.Prelude.{◌≡◌, ◌≤◌, [], OnOk, true, vec_capacity};
 
 use crate::pending_units::PendingUnit;
 use sm_names::{NoMemory, NodeKey};
 use std::alloc::Global;
 
-/// Lists with room for as many as there are nodes: births make it, so that what goes or has its turn takes
-/// no memory.
+/// Lists with room for as many as there are nodes: births make it, so that removals and turns take no
+/// memory.
 #[derive(Drop)]
 pub struct Scratch {
-    /// What goes, or the nodes of the units that have their turns.
+    /// The removed nodes, or the nodes of the units that have their turns.
     pub removed: Vec<NodeKey>,
     /// The nodes of the root's unit.
     pub unit: Vec<NodeKey>,

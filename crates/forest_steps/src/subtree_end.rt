@@ -1,4 +1,4 @@
-//! Units that nothing holds any more end, also once a fault took what held them.
+//! The end of units that nothing holds, also after a fault took what held them.
 ghost use Rattle.std.specs.Prelude.{◌≡◌, ◌≤◌, ◌∷◌, [], List, Some, true, IfSome, IsSome, vec_capacity};
 ghost use Rattle.sm_names.specs.declared.keys.NodeKey.{NodeKey as Key};
 ghost use Rattle.node_table.specs.Table.{row_at, table_len};
@@ -52,8 +52,8 @@ fn highest(table: &NodeTable<Node>, units: &[Unit], head: NodeKey) -> NodeKey
 }
 
 /// Where nothing holds the unit with this head, the highest of the units above one another from it on
-/// that nothing holds but the one below ends, and all below it. It costs the climb over those units
-/// and what ends, and takes no memory.
+/// that nothing holds but the one below ends, and all below it. It costs O(1) for each of those units and
+/// for each node that ends. It takes no memory.
 pub(crate) fn end_above(
     nodes: &mut NodeStore,
     entry: &mut Entry,
@@ -83,8 +83,9 @@ pub(crate) fn end_above(
     remove_subtree(nodes, entry, top, None, keys);
 }
 
-/// What the fault takes goes; where nothing holds the unit above it then, that ends, or the highest
-/// above it that nothing holds. It costs what the failure climbs, and what goes, and takes no memory.
+/// Removes each node that the fault takes; where nothing holds the unit above them then, that unit ends,
+/// or the highest above it that nothing holds. It costs O(1) for each node that the failure climbs over,
+/// and for each that is removed. It takes no memory.
 pub(crate) fn fall_by(
     nodes: &mut NodeStore,
     entry: &mut Entry,

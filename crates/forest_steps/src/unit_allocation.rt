@@ -1,5 +1,5 @@
-//! Units that are allocated in their places: whether one has its turn, what its nodes ask for, and how
-//! they are given their buffers.
+//! The allocation of units: whether one has its turn, what its nodes ask for, and how their nodes are
+//! marked as allocated.
 ghost use Rattle.std.specs.List.Sorted.{IsSorted};
 ghost use Rattle.std.specs.Prelude.{◌≡◌, if◌then◌else◌, ◌∷◌, [], None, Some, true, false};
 ghost use Rattle.node_table.specs.Changes.{Writes};

@@ -1,6 +1,5 @@
 -- Nodes of units that are given their buffers, one after another.
-use Rattle.forest_steps.proofs.Common.{◌≡◌, refl, ap, sym, ◌∙◌, Bool, true, false, ◌||◌, if◌then◌else◌, List, [], ◌∷◌, ◌++◌, Option, Some, None, option_map, list_any, NodeKey, same_key, false_if, same_key-refl, same_key-true, Table, node_at, Node, list_any-append, Writes, table_with_node, given_all, IsGivenAt, given_at, IsSameNode, arith}
-use Rattle.forest_store.proofs.tables.Writing.{look-changed, parents-written}
+use Rattle.forest_steps.proofs.Common.{◌≡◌, refl, ap, sym, ◌∙◌, Bool, true, false, ◌||◌, if◌then◌else◌, List, [], ◌∷◌, ◌++◌, Option, Some, None, option_map, list_any, NodeKey, same_key, false_if, same_key-refl, same_key-true, Table, node_at, Node, list_any-append, Writes, table_with_node, given_all, IsGivenAt, given_at, IsSameNode, arith, look-changed, parents-written}
 use Rattle.forest_steps.proofs.tables.Rows.{same_on}
 
 -- each node is as it was otherwise

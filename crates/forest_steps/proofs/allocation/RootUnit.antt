@@ -1,7 +1,6 @@
 -- The unit of a root that is allocated, with those that follow: what is forced besides stays as it was, and no attached unit is next.
-use Rattle.forest_steps.proofs.Common.{◌≡◌, refl, ap, sym, ◌∙◌, true, not, ◌&&◌, ◌||◌, inl, inr, is_none, is_some, drop, List, [], ◌∷◌, Option, Some, None, list_all, list_any, find, option_and_then, NodeKey, same_key, when, In, and_left, Node, waiting, Collection, is_ready_node, is_root_left, given_all, IsSound, all-In, after_all}
+use Rattle.forest_steps.proofs.Common.{◌≡◌, refl, ap, sym, ◌∙◌, true, not, ◌&&◌, ◌||◌, inl, inr, is_none, is_some, drop, List, [], ◌∷◌, Option, Some, None, list_all, list_any, find, option_and_then, NodeKey, same_key, when, In, and_left, Node, waiting, Collection, is_ready_node, is_root_left, given_all, IsSound, all-In, after_all, find_map}
 use Rattle.std.specs.Option.{option_map}
-use Rattle.forest_store.proofs.quiescence.Calming.{find_map}
 
 -- only the first node may be a root
 pub root_found : (ns : List Node) → list_all (λ (n : Node). is_some n.parent) (drop 1 ns) ≡ true → (r : Node) → In r ns →

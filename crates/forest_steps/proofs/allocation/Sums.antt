@@ -1,6 +1,7 @@
 -- What units ask for that are to be allocated, and what is reserved besides.
-use Rattle.forest_steps.proofs.Common.{◌≡◌, ℕ, refl, ap, sym, ◌∙◌, Bool, true, false, not, ◌&&◌, if◌then◌else◌, ◌⊎◌, inl, inr, List, [], ◌∷◌, map, Option, Some, None, nat_lt, cons_option, option_and_then, NodeKey, Demand, In, In-list_any, both_ways, either_way, false_if, In-any, Table, node_at, Node, nodes_with, filter_map, greatest, written, demands_of, has_buffers, asked_with, is_in_some, arith}
+use Rattle.forest_steps.proofs.Common.{◌≡◌, ℕ, refl, ap, sym, ◌∙◌, Bool, true, false, not, ◌&&◌, if◌then◌else◌, ◌⊎◌, inl, inr, List, [], ◌∷◌, map, Option, Some, None, nat_lt, cons_option, option_and_then, NodeKey, Demand, In, In-list_any, both_ways, either_way, false_if, In-any, Table, node_at, Node, nodes_with, filter_map, greatest, written, demands_of, has_buffers, asked_with, is_in_some, arith, le-ltb, ltb-false, ◌≤◌, ◌+◌, ◌||◌, list_any, sum_by, option_map_or, same_key, reserved_count, given_all, camped, after_all, camped_sum, amount_map}
 use Rattle.forest_store.proofs.lists.Filters.{above_greatest}
+use Rattle.forest_store.proofs.tallies.Reserved.{camped_if, amount_both, reserved_is}
 
 -- ---- what is found by keys, one after another
 
@@ -62,11 +63,21 @@ asks_passes true o h = refl
 asks_passes false o h = cc
 
 -- where each that is asked for by the first is by the others, no greater number is asked for
-pub greatest_fewer : (f : Demand → ℕ) (b : ℕ) (xs ys : List Demand) → ((d : Demand) → In d xs → In d ys) →
+greatest_fewer : (f : Demand → ℕ) (b : ℕ) (xs ys : List Demand) → ((d : Demand) → In d xs → In d ys) →
     nat_lt b (greatest f ys) ≡ false → nat_lt b (greatest f xs) ≡ false
 greatest_fewer f b xs ys fewer h = false_if _ (λ e.
     let x = In-list_any _ xs (above_greatest f b xs ∙ e) in
     both_ways _ (In-any _ ys x.0 (fewer x.0 x.1) x.2) (above_greatest f b ys ∙ h))
+
+-- where each that is asked for by the one is by the others, and the other way round, the same is asked for at most
+pub greatest_same : (g : Demand → ℕ) (xs ys : List Demand) → ((d : Demand) → In d xs → In d ys) → ((d : Demand) → In d ys → In d xs) →
+    greatest g xs ≡ greatest g ys
+greatest_same g xs ys fewer more =
+    let one : greatest g xs ≤ greatest g ys = ltb-false (greatest g ys) (greatest g xs)
+    (greatest_fewer g _ xs ys fewer (le-ltb (greatest g ys) (greatest g ys) (omega arith))) in
+    let two : greatest g ys ≤ greatest g xs = ltb-false (greatest g xs) (greatest g ys)
+    (greatest_fewer g _ ys xs more (le-ltb (greatest g xs) (greatest g xs) (omega arith))) in
+    omega arith
 
 -- ---- what is reserved
 
@@ -87,3 +98,28 @@ reserved_same f nodes gone given asks =
     by : (n : Node) → (n.allocated ≡ true) ⊎ (n.allocated ≡ false) → (n.allocated ≡ true → (f n).constraints ≡ n.constraints) →
         (if not n.gone && n.allocated then (f n).constraints else None) ≡ (if not n.gone && n.allocated then n.constraints else None)
     by n h k = grind arith
+
+-- how much is camped on, if at all
+abbrev camps : Bool → Option Demand → ℕ
+camps b o = option_map_or (λ (d : Demand). d.camping) (if b then o else None) 0
+
+-- with the others it is all
+weigh_all : (g a all : Bool) (o : Option Demand) → (all ≡ true → a ≡ false) →
+    camps (not g && (all || a)) o ≡ camps (not g && a) o + camps (not g && all) o
+weigh_all true a all o s = omega arith
+weigh_all false a true o s = let none = s refl in rw none (omega arith)
+weigh_all false a false o s = omega arith
+
+module _ (nodes : List Node) (hs : List NodeKey) (unitwide : (m : Node) → In m nodes → list_any (same_key m.head) hs ≡ true →
+    m.allocated ≡ false) where
+  -- what is reserved once all are allocated
+  pub reserved_all : reserved_count (after_all hs nodes)
+      ≡ reserved_count nodes + sum_by (λ (d : Demand). d.camping) (demands_of (is_in_some hs) nodes)
+  reserved_all =
+      let a = reserved_is (after_all hs nodes) in
+      let b = amount_map camped (given_all hs) nodes in
+      let c = amount_both camped (camped_if (is_in_some hs)) (λ m. camped (given_all hs m)) nodes
+      (λ m on. weigh_all m.gone _ _ m.constraints (unitwide m on)) in
+      let d = reserved_is nodes in
+      let e = camped_sum (is_in_some hs) nodes in
+      omega (arith, a, b, c, d, e)

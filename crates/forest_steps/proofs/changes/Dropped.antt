@@ -1,15 +1,35 @@
 -- A collection of which a handle was dropped: nothing is forced in it, and only one buffer goes home.
-use Rattle.forest_steps.proofs.Common.{◌≡◌, ℕ, ◌<◌, ◌==◌, zero, suc, Bool, true, false, ◌&&◌, not, nat_lt, List, [], ◌∷◌, ◌++◌, map, length, get_or, set, Option, Some, None, option_map, refl, sym, ap, subst, ◌∙◌, ◌⊎◌, inl, inr, arith, find, filter, AllByRecursion, option_map_or, Interval, HeldBuffer, either_way, Table, node_at, Entry, Node, Unit, has_strong, Collection, IsStored, IsWhole, Shelf, collection_in, forest_of, nodes_with, place_in, put_shelf, shelf_of, shelves_of, members_of, is_root_left, Handles, collection_or_new, put, get_or_default, unwrap_or, BufferName, Strength, is_home, sorted_by, AreCounted, IsCounted, HaveUnits, decided, mark_of, are_rest_out, has_given_root, all_held, beside, collection_at, pages_in, Finishes, Stores, stored, starts_differ, by_page, given_few, is_held_strongly, is_out, pages_held, given_back, none_calm, forced_made, root_first, still_decided, strong_lives, found_filed, found_put, found_whole, start_of, shelves_put, IsPlace, place_is, set_put, put-map, collection_is, shelf_found}
-use Rattle.std.proofs.Math.Bool.{and-false}
-use Rattle.sm_names.specs.Members.{some_strong_live}
-use Rattle.sm_names.proofs.HandleLaws.{same_buffer-true}
-use Rattle.sm_names.proofs.ListLaws.{filter-list_all}
+use Rattle.forest_steps.proofs.Common.{◌≡◌, ℕ, ◌<◌, ◌==◌, zero, suc, Bool, true, false, ◌&&◌, not, nat_lt, List, [], ◌∷◌, ◌++◌, map, length, get_or, set, Option, Some, None, option_map, refl, sym, ap, subst, ◌∙◌, ◌⊎◌, inl, inr, arith, find, filter, AllByRecursion, option_map_or, Interval, HeldBuffer, either_way, Table, node_at, Entry, Node, Unit, has_strong, Collection, IsStored, IsWhole, Shelf, collection_in, forest_of, nodes_with, place_in, put_shelf, shelf_of, shelves_of, members_of, is_root_left, Handles, collection_or_new, put, get_or_default, unwrap_or, BufferName, Strength, is_home, sorted_by, AreCounted, IsCounted, HaveUnits, decided, mark_of, are_rest_out, has_given_root, all_held, beside, collection_at, pages_in, Finishes, Stores, stored, starts_differ, by_page, given_few, is_held_strongly, is_out, pages_held, given_back, none_calm, forced_made, still_decided, found_filed, found_put, found_whole, start_of, shelves_put, IsPlace, place_is, set_put, put-map, collection_is, shelf_found, and-false, same_buffer-true, filter-list_all, Rests, found_counted, strong_told, kept-put, list_all, is_filed, strong_count, ◌||◌, list_any, Member, is_strong, member_of}
+use Rattle.sm_names.specs.Members.{some_strong_live, is_live as lives}
+use Rattle.forest_store.proofs.quiescence.Resting.{root_first}
+use Rattle.forest_store.proofs.quiescence.Watched.{strong_lives}
 use Rattle.forest_store.specs.Dropped.{are_others_out}
-use Rattle.forest_store.specs.Settling.{Rests}
-use Rattle.forest_store.proofs.quiescence.Watched.{found_counted, strong_told}
-use Rattle.forest_store.proofs.changes.Finishing.{kept-put, whole-map, whole-put, whole-unmap}
+use Rattle.forest_store.proofs.changes.Finishing.{whole-map, whole-put, whole-unmap}
 use Rattle.forest_steps.proofs.intervals.Pools.{pool_back, pool_beside}
-use Rattle.forest_steps.proofs.tallies.Strong.{strong_members}
+
+-- by whether the first node is gone
+strong-by : (all : List Node) (n : Node) (ns : List Node) (gone : Bool) → n.gone ≡ gone →
+    list_any (λ (m : Member). lives m && not m.weak) (map (member_of all) (filter (λ (x : Node). not x.gone) ns)) ≡ list_any is_strong ns →
+    list_any (λ (m : Member). lives m && not m.weak) (map (member_of all) (filter (λ (x : Node). not x.gone) (n ∷ ns))) ≡ list_any
+    is_strong (n ∷ ns)
+strong-by all n ns true gone on = rw gone on
+strong-by all n ns false gone on = rw gone (ap (λ b. (not n.released && not n.weak) || b) on)
+
+-- a node that is gone is not live
+strong-any : (all ns : List Node) →
+    list_any (λ (m : Member). lives m && not m.weak) (map (member_of all) (filter (λ (n : Node). not n.gone) ns)) ≡ list_any is_strong ns
+strong-any all [] = refl
+strong-any all (n ∷ ns) = strong-by all n ns _ refl (strong-any all ns)
+
+-- so it is by the nodes
+pub strong_members : (ns : List Node) → some_strong_live (members_of ns) ≡ list_any is_strong ns
+strong_members ns = strong-any ns ns
+
+-- the collection of an entry that is found
+pub strong_found : (t : Table Node) (es : List Entry) (id : ℕ) {e : Entry} → find (λ (x : Entry). x.id == id) es ≡ Some e →
+    option_map_or (λ (c : Collection). some_strong_live (members_of c.nodes)) (collection_at (forest_of t (shelves_of es)) id)
+    false ≡ list_any is_strong (nodes_with t e.keys.items)
+strong_found t es id {e} found = grind (arith, collection_is, shelf_found, strong_members)
 
 -- ---- the buffers
 
@@ -54,6 +74,20 @@ nothing_stored t = record {
 -- what is read twice at a place
 pub one_entry : (es : List Entry) (id : ℕ) {at : ℕ} (x y : Entry) → place_in id es ≡ Some at → x ≡ get_or es at x → y ≡ get_or es at y → x ≡ y
 one_entry es id {at} x y told is also = is ∙ get_or_default es at x y (place_is id es at told).within ∙ sym also
+
+-- a strong node is live by the count, the root has no buffers, or a strong handle is open on these
+pub kept_root : (t : Table Node) (e : Entry) (strong_open : Bool) → list_all (is_filed t e.id) e.keys.items ≡ true →
+    IsWhole (collection_in t (shelf_of e)) → e.strong ≡ strong_count (nodes_with t e.keys.items) →
+    (nat_lt 0 e.strong ≡ true) ⊎ ((has_given_root t e.keys.items && not strong_open) ≡ false) → (has_strong (nodes_with t e.keys.items) ≡ true)
+    ⊎ ((option_map_or (λ (root : Node). root.allocated) (find is_root_left (nodes_with t e.keys.items)) false && not strong_open) ≡ false)
+kept_root t e strong_open filed whole counts (inl some) = inl (strong_lives (nodes_with t e.keys.items) e.strong some counts)
+kept_root t e strong_open filed whole counts (inr none) = inr (elim (either_way (has_given_root t e.keys.items)) [
+  | inl is ↦ let opened : not strong_open ≡ false = rw is at none in rw opened (and-false _)
+  | inr is ↦
+      let bare : option_map_or (λ (root : Node). root.allocated) (find is_root_left (nodes_with t e.keys.items)) false ≡ false =
+      root_first t _ _ filed whole.sound.one_root is in
+      rw bare refl
+])
 
 module _ (handles : Handles) {t : Table Node} (es : List Entry) (id : ℕ) {at : ℕ} (old : Entry) (told : place_in id es ≡ Some at)
     (is : old ≡ get_or es at old) (kept : IsStored t (shelves_of es)) (all : AreCounted t es) where
@@ -112,22 +146,8 @@ module _ (handles : Handles) {t : Table Node} (es : List Entry) (id : ℕ) {at :
   pub decides_none : (nat_lt 0 old.strong ≡ true)
       ⊎ ((has_given_root t old.keys.items && not (is_held_strongly handles old.id old.buffers)) ≡ false) →
       decided (nodes_with t old.keys.items) old.buffers (is_held_strongly handles old.id old.buffers) ≡ None
-  decides_none why = still_decided _ _ _ (none_calm c counted.calm) (from why)
-    where
-      from : (nat_lt 0 old.strong ≡ true)
-          ⊎ ((has_given_root t old.keys.items && not (is_held_strongly handles old.id old.buffers)) ≡ false) → (has_strong c.nodes ≡ true)
-          ⊎ ((option_map_or (λ (root : Node). root.allocated) (find is_root_left c.nodes) false
-          && not (is_held_strongly handles old.id old.buffers)) ≡ false)
-      from (inl strong) = inl (strong_lives c.nodes old.strong strong counted.strong)
-      from (inr none) = inr (elim (either_way (has_given_root t old.keys.items)) [
-        | inl e ↦
-            let opened : not (is_held_strongly handles old.id old.buffers) ≡ false = rw e at none in
-            rw opened (and-false _)
-        | inr e ↦
-            let no : option_map_or (λ (root : Node). root.allocated) (find is_root_left c.nodes) false ≡ false =
-            root_first t _ _ (found_filed t id ss _ kept.filed shelf_is) whole.sound.one_root e in
-            rw no refl
-      ])
+  decides_none why = still_decided _ _ _ (none_calm c counted.calm)
+      (kept_root t old _ (found_filed t id ss _ kept.filed shelf_is) whole counted.strong why)
 
   -- the same with the entry's own id
   own_found : find (λ (x : Shelf). x.id == old.id) (shelves_of es) ≡ Some (shelf_of old)

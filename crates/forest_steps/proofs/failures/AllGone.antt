@@ -1,5 +1,5 @@
 -- What takes the root takes all that is left of a collection, and nothing is forced in one that is gone.
-use Rattle.forest_steps.proofs.Common.{◌≡◌, refl, ap, sym, ◌∙◌, Bool, true, false, inl, inr, List, [], ◌∷◌, drop, Option, Some, None, is_some, find, list_all, list_any, option_map_or, NodeKey, Buffers, In, and_left, and_right, both_ways, Node, strong_count, is_left_of, are_rooted, decided, hangs_on, all-In, still_decided, left_node, arith}
+use Rattle.forest_steps.proofs.Common.{◌≡◌, refl, ap, sym, ◌∙◌, Bool, true, false, inl, inr, List, [], ◌∷◌, drop, Option, Some, None, is_some, find, list_all, list_any, option_map_or, NodeKey, Buffers, In, and_left, and_right, both_ways, Node, strong_count, is_left_of, are_rooted, decided, hangs_on, all-In, still_decided, left_node, arith, all_on, or_right, same_key, is_held, is_next_except, waits_among, are_held_except}
 use Rattle.forest_store.proofs.failures.GoneNodes.{strong_gone}
 
 -- ---- nodes that are all gone
@@ -29,6 +29,19 @@ none_strong (n ∷ ns) gone = rw (strong_gone n (gone n (inl refl))) (none_stron
 -- no step is decided
 pub none_decides : (ns : List Node) (buffers : Option Buffers) (strong_open : Bool) → AreGone ns → decided ns buffers strong_open ≡ None
 none_decides ns buffers strong_open gone = grind (arith, none_found, still_decided)
+
+-- a gone head counts as held
+pub held_gone : (unheld : List NodeKey) (ns : List Node) → AreGone ns → are_held_except unheld ns ≡ true
+held_gone unheld ns gone = all_on _ ns (λ n on.
+    or_right (list_any (same_key n.key) unheld) (is_held ns n) (rw (gone n on) refl))
+
+-- a gone head is not next
+pub next_gone : (pending : List NodeKey) (ns : List Node) → AreGone ns → list_any (is_next_except pending ns) ns ≡ false
+next_gone pending ns gone = grind (arith, none_passes)
+
+-- no root is left
+pub root_gone : (pending : List NodeKey) (ns : List Node) → AreGone ns → waits_among pending ns ≡ true
+root_gone pending ns gone = grind (arith, none_found)
 
 -- ---- what a failure of the root takes
 

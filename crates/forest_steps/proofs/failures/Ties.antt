@@ -1,15 +1,14 @@
 -- What a failure takes of a table of nodes is what a loss takes of their collection.
-use Rattle.forest_steps.proofs.Common.{◌≡◌, refl, ap, sym, ◌∙◌, subst, Bool, true, false, ◌&&◌, inl, inr, List, [], ◌∷◌, map, reverse, Option, Some, None, is_some, list_any, option_map_or, NodeKey, same_key, In, In-find, In-list_any, In-map, In-map-back, same_key-refl, same_key-true, In-any, Table, node_at, parent_at, Node, is_left_of, is_of, members_of, node_of, same_key-equal, Contains-from_any, list_any-from_Contains, Fault, blocks, Member, is_under, map-In, IsChain, same_key-comm, blocked_at, above_among, after_loss, is_taken, lost, member_of, IsTied, is_blocking, is_below, in_all, AreOne, IsLeft, left_in, left_node, arith}
-use Rattle.std.proofs.Common.{◌↔◌}
+use Rattle.forest_steps.proofs.Common.{◌≡◌, refl, ap, sym, ◌∙◌, subst, Bool, true, false, ◌&&◌, inl, inr, List, [], ◌∷◌, map, reverse, Option, Some, None, is_some, list_any, option_map_or, NodeKey, same_key, In, In-find, In-list_any, In-map, In-map-back, same_key-refl, same_key-true, In-any, Table, node_at, parent_at, Node, is_left_of, is_of, members_of, node_of, same_key-equal, Contains-from_any, list_any-from_Contains, Fault, blocks, Member, is_under, map-In, IsChain, same_key-comm, blocked_at, above_among, after_loss, is_taken, lost, member_of, IsTied, is_blocking, is_below, in_all, AreOne, IsLeft, left_in, left_node, arith, ◌↔◌, Reach, In-filter, In-filter-back}
+use Rattle.forest_store.proofs.tables.Rooted.{line_of, HasLine}
 use Rattle.std.specs.Cmp.{IsEquivalence}
 use Rattle.sm_names.specs.Changes.{highest}
-use Rattle.sm_names.specs.Losses.{Reach, top}
-use Rattle.sm_names.proofs.ListLaws.{In-filter, In-filter-back, is_some-find}
+use Rattle.sm_names.specs.Losses.{top}
+use Rattle.sm_names.proofs.ListLaws.{is_some-find}
 use Rattle.sm_names.proofs.ReachLaws.{top_on}
 use Rattle.sm_names.proofs.StandingLaws.{both_tests, top-same}
 use Rattle.forest_store.proofs.tables.Chains.{reached_by_line}
 use Rattle.forest_store.specs.Ties.{IsFall}
-use Rattle.forest_store.proofs.tables.Rooted.{HasLine, line_of}
 
 -- keys are told apart by their test
 pub key_equivalence : IsEquivalence same_key

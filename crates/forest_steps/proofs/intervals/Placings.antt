@@ -1,12 +1,9 @@
 -- What the allocation of a root unit makes of a collection and of the pool.
-use Rattle.forest_steps.proofs.Common.{ℕ, ◌+◌, ◌≡◌, refl, ap, sym, ◌∙◌, subst, Bool, if◌then◌else◌, List, [], ◌∷◌, ◌++◌, map, length, Option, Some, option_map_or, Interval, NodeKey, Buffers, HeldBuffer, Collection, with_nodes, range_with_len, names, Mark, places, pages_of, with_buffers, Places, mark_of, pages_in, after_allocation, by_page, laid, name_of, made, arith}
-use Rattle.std.proofs.Common.{append_assoc}
+use Rattle.forest_steps.proofs.Common.{ℕ, ◌+◌, ◌≡◌, refl, ap, sym, ◌∙◌, subst, Bool, if◌then◌else◌, List, [], ◌∷◌, ◌++◌, map, length, Option, Some, option_map_or, Interval, NodeKey, Buffers, HeldBuffer, Collection, with_nodes, range_with_len, names, Mark, places, pages_of, with_buffers, Places, mark_of, pages_in, after_allocation, by_page, laid, name_of, made, arith, append_assoc, laid_out, IsPlacing, any_sorted}
 use Rattle.std.proofs.lemmas.List.{map-append}
 use Rattle.sm_names.specs.Apart.{at_pages}
-use Rattle.sm_names.specs.Timelines.{laid_out}
 use Rattle.sm_names.proofs.PlaceLaws.{places_same}
-use Rattle.forest_store.specs.Decisions.{IsPlacing}
-use Rattle.forest_store.proofs.lists.ByPage.{any_sorted, with_buffers_sorted}
+use Rattle.forest_store.proofs.lists.ByPage.{with_buffers_sorted}
 
 -- ---- buffers at their starts
 

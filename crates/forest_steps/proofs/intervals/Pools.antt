@@ -1,6 +1,5 @@
 -- The pages of the pool, of one collection and of those beside it.
-use Rattle.forest_steps.proofs.Common.{◌≡◌, true, List, [], ◌∷◌, ◌++◌, map, refl, sym, ap, ◌∙◌, Interval, HeldBuffer, Table, Node, Collection, Shelf, AreRising, put_shelf, collection_in, forest_of, put, flat_map, sorted_by, all_held, pages_in, beside, starts_differ, start_of, put-map}
-use Rattle.forest_store.proofs.lists.SameIntervals.{parted-sorted}
+use Rattle.forest_steps.proofs.Common.{◌≡◌, true, List, [], ◌∷◌, ◌++◌, map, refl, sym, ap, ◌∙◌, Interval, HeldBuffer, Table, Node, Collection, Shelf, AreRising, put_shelf, collection_in, forest_of, put, flat_map, sorted_by, all_held, pages_in, beside, starts_differ, start_of, put-map, parted-sorted}
 use Rattle.forest_store.proofs.shelves.Putting.{pages_held, pages-put}
 
 -- the pool of a forest holds the pages of a collection and those beside it

@@ -1,16 +1,14 @@
 -- A binary search of keys in order finds each key that is there.
-use Rattle.forest_steps.proofs.Common.{◌≡◌, ℕ, suc, ◌<◌, inl, inr, refl, ap, sym, ◌∙◌, subst, List, [], ◌∷◌, length, get_or, arith, list_any, NodeKey, same_key, In, In-list_any, false_if, same_key-refl, same_key-true, In-any}
-use Rattle.std.proofs.Common.{Result, Ok, Err, is_ok}
+use Rattle.forest_steps.proofs.Common.{◌≡◌, ℕ, suc, ◌<◌, inl, inr, refl, ap, sym, ◌∙◌, subst, List, [], ◌∷◌, length, get_or, arith, list_any, NodeKey, same_key, In, In-list_any, false_if, same_key-refl, same_key-true, In-any, Result, Ok, Err, In-get_or}
+use Rattle.std.proofs.Common.{is_ok}
 use Rattle.std.specs.List.Sorted.{IsBinarySearchResult, IsSearchInRange, IsSorted}
 use Rattle.std.specs.Ordering.{nat_cmp, ordering_then}
 use Rattle.std.specs.declared.cmp.Ordering.{Ordering}
 use Rattle.std.specs.declared.cmp.Ordering.TheVariants.{Less, Equal, Greater}
-use Rattle.std.specs.Cmp.{tied_itself}
-use Rattle.std.specs.Cmp.{ranks}
+use Rattle.std.specs.Cmp.{tied_itself, ranks}
 use Rattle.std.proofs.lemmas.Bool.{cases_order}
 use Rattle.std.proofs.lemmas.List.Sorted.{searchable_from_sorted}
 use Rattle.sm_names.specs.contracts.keys.NodeKeyOrd.TheImpl.Laws.{total-law}
-use Rattle.sm_names.proofs.ListLaws.{In-get_or}
 use Rattle.forest_store.specs.LossMarks.{key_order}
 
 -- by cases on the first order

@@ -1,8 +1,80 @@
--- One node of a calm collection changes: only its own unit may be held by nothing then, or come to its turn.
-use Rattle.forest_steps.proofs.Common.{◌≡◌, refl, ap, sym, ◌∙◌, true, false, not, ◌&&◌, ◌||◌, ◌⊎◌, inl, inr, is_none, List, [], ◌∷◌, map, Option, Some, None, not-true, list_any, list_all, find, option_map_or, option_and_then, NodeKey, same_key, when, In, In-list_any, In-map, In-map-back, and_both, and_left, and_right, both_ways, either_way, false_if, or_left, or_right, same_key-refl, same_key-true, all_on, In-any, Node, is_of, is_next_node, is_ready_node, is_root_left, is_head, or-true, list_any-map, hangs_in, is_allocated_node, any_map, all-In, IsSameNode, arith}
+-- One node of a calm collection changes by an effect: only its own unit may be held by nothing then, or come to its turn, and by the counts
+-- perhaps none.
+use Rattle.forest_steps.proofs.Common.{◌≡◌, refl, ap, sym, ◌∙◌, true, false, not, ◌&&◌, ◌||◌, ◌⊎◌, inl, inr, is_none, List, [], ◌∷◌, map, Option, Some, None, not-true, list_any, list_all, find, option_map_or, option_and_then, NodeKey, same_key, when, In, In-list_any, In-map, In-map-back, and_both, and_left, and_right, both_ways, either_way, false_if, or_left, or_right, same_key-refl, same_key-true, all_on, In-any, Node, is_of, is_next_node, is_ready_node, is_root_left, is_head, or-true, list_any-map, hangs_in, is_allocated_node, any_map, all-In, IsSameNode, arith, are_held_except, holds_unit, is_held, is_next_except, waits_among, find_map, ◌<◌, ◌==◌, subst, times, Table, node_at, Effect, Entry, Unit, strong_count, unit_at, waits_in, Shelf, collection_in, nodes_with, shelf_of, affected, Writes, table_with_node, is_unready, is_strong, has_buffers, same_affected, remains_affected, in_shelf, distinct_one, EffectMade, AfterEffect, MidEvent, alone_affected, head, plain_affected, Bool, eqb-false, parent_at, waiting, Handles, Settles, or_none_left, or_none_right, heads_below, is_held_by, unit_of, is_kept_by, times_map, or_first, EffectCounts, after_effect, PropagatedFrom, AreCounts, AreCountsThen, KeepsCounts, below_held, either_holds, lives_held, below_mapped, may_force, strong_then}
 use Rattle.std.specs.Option.{option_map}
-use Rattle.forest_steps.specs.MidEvent.{are_held_except, holds_unit, is_held, is_next_except, waits_among}
-use Rattle.forest_store.proofs.quiescence.Calming.{find_map}
+use Rattle.forest_store.proofs.quiescence.Keeping.{some_pass}
+use Rattle.forest_store.specs.Due.{has_buffers_at, is_due_at}
+use Rattle.forest_store.proofs.quiescence.Resting.{rests_on, roots_stay}
+use Rattle.forest_steps.proofs.mid_event.Affecting.{live_next, unready_next, below_next, strong_next, look_here}
+use Rattle.forest_steps.proofs.mid_event.Ready.{under_with, unit_told, whole_under}
+use Rattle.forest_steps.proofs.mid_event.RootLost.{IsReadyRoot, ready_root}
+use Rattle.forest_steps.proofs.mid_event.RootMade.{under_held}
+use Rattle.forest_steps.proofs.tables.OfShelf.{at_key, linked}
+use Rattle.forest_steps.proofs.tables.Upward.{head_there}
+
+-- one of three is not so where not all are
+one_not : (a b d : Bool) → (a && (b && d)) ≡ false → (a ≡ false) ⊎ ((b ≡ false) ⊎ (d ≡ false))
+one_not a b d h = grind arith
+
+-- by cases
+not_not : (b : Bool) → not b ≡ false → b ≡ true
+not_not b h = grind arith
+
+-- by cases
+ready_if : (x r a s : Bool) → (not x && (not r && not a)) ≡ false → (x || (not s || (r || a))) ≡ true
+ready_if x r a s h = grind arith
+
+-- ---- a unit that is not due
+
+-- the unit with this head is not due, where no node with that key heads it while it is ready for its buffers
+module _ {t : Table Node} {us : List Unit} {ss : List Shelf} {e : Entry} {k : NodeKey} (under : MidEvent t us ss e [] (k ∷ []))
+    (none : (x : Node) → In x (nodes_with t e.keys.items) → x.key ≡ k → x.gone ≡ false → x.allocated ≡ false →
+    option_map_or (λ p. list_any (is_allocated_node p) (nodes_with t e.keys.items)) x.parent true ≡ true →
+    list_all (is_ready_node k) (nodes_with t e.keys.items) ≡ true → ⊥) where
+  abbrev ms : List Node
+  ms = nodes_with t e.keys.items
+
+  -- a parent with buffers is one, where there must be one
+  turn : (o : Option NodeKey) → option_map_or (λ p. list_any (is_allocated_node p) ms) o false ≡ true →
+      option_map_or (λ p. list_any (is_allocated_node p) ms) o true ≡ true
+  turn None h = refl
+  turn (Some p) h = h
+
+  -- no attached unit is next: no other was, and this one would be ready
+  no_next : list_any (is_next_except [] ms) ms ≡ false
+  no_next = false_if (list_any (is_next_except [] ms) ms) (λ h.
+      let x = In-list_any _ ms h in
+      let next : is_next_node ms x.0 ≡ true = and_left _ _ x.2 in
+      elim (either_way (same_key x.0.key k)) [
+        | inl own ↦
+            let is : x.0.key ≡ k = same_key-true _ k own in
+            let a = and_right _ _ next in
+            let b = and_right _ _ a in
+            let d = and_right _ _ b in
+            none x.0 x.1 is (not-true _ (and_left _ _ a)) (not-true _ (and_left _ _ b)) (turn _ (and_left _ _ d))
+            (subst (λ j. list_all (is_ready_node j) ms ≡ true) is (and_right _ _ d))
+        | inr other ↦
+            both_ways _ (In-any _ ms x.0 x.1 (and_both _ _ next (rw other refl))) under.next
+      ])
+
+  -- nor does the root wait for its buffers
+  no_wait : waits_among [] ms ≡ true
+  no_wait = from (waiting ms) refl under.root
+    where
+      from : (o : Option Node) → waiting ms ≡ o → option_map_or (λ (m : Node). list_any (same_key m.key) (k ∷ [])) o true ≡ true →
+          option_map_or (λ (m : Node). list_any (same_key m.key) []) o true ≡ true
+      from None is h = refl
+      from (Some r) is h =
+          let root : IsReadyRoot ms r = ready_root ms is in
+          let own : r.key ≡ k = same_key-true _ k (or_first _ _ h refl) in
+          absurd (none r root.on own root.here root.bare
+          (ap (λ o. option_map_or (λ p. list_any (is_allocated_node p) ms) o true) root.top) (rw own at root.ready))
+
+  -- so nothing is due
+  pub not_due : MidEvent t us ss e [] []
+  not_due = under_with under under.held no_next no_wait
+
+-- ---- one node of a list that changes
 
 module _ (nodes : List Node) (f : Node → Node) (same : (n : Node) → IsSameNode (f n) n) (gone : (n : Node) → (f n).gone ≡ n.gone)
     (alloc : (n : Node) → (f n).allocated ≡ n.allocated) (n : Node)
@@ -36,7 +108,7 @@ module _ (nodes : List Node) (f : Node → Node) (same : (n : Node) → IsSameNo
   same_for head other m there = grind (arith, hangs_same)
 
   -- only the unit of the node that changed can have lost what held it
-  pub held_but : are_held_except [] nodes ≡ true → are_held_except own now ≡ true
+  held_but : are_held_except [] nodes ≡ true → are_held_except own now ≡ true
   held_but held = all_on _ now (λ m there.
       let x = In-map f _ m there in
       ap (λ (y : Node). list_any (same_key y.key) own || is_held now y) x.2 ∙ still x.0 x.1 (either_way (same_key n.head x.0.key)))
@@ -57,7 +129,7 @@ module _ (nodes : List Node) (f : Node → Node) (same : (n : Node) → IsSameNo
   released_same stays m there = grind arith
 
   -- so what held a unit holds it
-  pub held_still : (f n).released ≡ n.released → are_held_except [] nodes ≡ true → are_held_except [] now ≡ true
+  held_still : (f n).released ≡ n.released → are_held_except [] nodes ≡ true → are_held_except [] now ≡ true
   held_still stays held = all_on _ now (λ m there.
       let x = In-map f _ m there in
       ap (λ (y : Node). list_any (same_key y.key) [] || is_held now y) x.2 ∙ still x.0 x.1)
@@ -115,7 +187,7 @@ module _ (nodes : List Node) (f : Node → Node) (same : (n : Node) → IsSameNo
       ∙ turn_same _) ∙ turn) (ready (ap (λ j. list_all (is_ready_node j) now) (sym (same x).key) ∙ all)))))
 
   -- only the unit of the node that changed can have become ready
-  pub next_but : list_any (is_next_except [] nodes) nodes ≡ false → list_any (is_next_except own now) now ≡ false
+  next_but : list_any (is_next_except [] nodes) nodes ≡ false → list_any (is_next_except own now) now ≡ false
   next_but none = false_if (list_any (is_next_except own now) now) (λ e.
       let x = In-list_any _ now e in
       let y = In-map f _ x.0 x.1 in
@@ -128,7 +200,7 @@ module _ (nodes : List Node) (f : Node → Node) (same : (n : Node) → IsSameNo
       ])
 
   -- where the node was ready for each unit that it is ready for, no unit becomes so
-  pub next_still : ((h : NodeKey) → is_ready_node h (f n) ≡ true → is_ready_node h n ≡ true) →
+  next_still : ((h : NodeKey) → is_ready_node h (f n) ≡ true → is_ready_node h n ≡ true) →
       list_any (is_next_except [] nodes) nodes ≡ false → list_any (is_next_except [] now) now ≡ false
   next_still back none = false_if _ (λ e.
       let x = In-list_any _ now e in
@@ -159,10 +231,213 @@ module _ (nodes : List Node) (f : Node → Node) (same : (n : Node) → IsSameNo
   root_same more = grind (arith, find_map)
 
   -- only the unit of the node that changed can wait for its buffers alone
-  pub waits_but : waits_among [] nodes ≡ true → waits_among own now ≡ true
+  waits_but : waits_among [] nodes ≡ true → waits_among own now ≡ true
   waits_but none = grind (arith, among, ready_other, root_by, root_same)
 
   -- and none does, where the node was ready for each unit that it is ready for
-  pub waits_still : ((h : NodeKey) → is_ready_node h (f n) ≡ true → is_ready_node h n ≡ true) → waits_among [] nodes ≡ true →
+  waits_still : ((h : NodeKey) → is_ready_node h (f n) ≡ true → is_ready_node h n ≡ true) → waits_among [] nodes ≡ true →
       waits_among [] now ≡ true
   waits_still back none = grind (arith, ready_was, root_by, root_same)
+
+-- ---- by an effect
+
+module _ {t now : Table Node} {us after : List Unit} {ss : List Shelf} {e new : Entry} {key : NodeKey} {effect : Effect} {n : Node}
+    (was : node_at t key ≡ Some n) (own : n.collection ≡ e.id) (under : MidEvent t us ss e [] [])
+    (made : EffectMade t now after ss e new key effect n.head) where
+  abbrev nodes : List Node
+  nodes = nodes_with t e.keys.items
+
+  abbrev f : Node → Node
+  f = affected key effect
+
+  -- the node has the key that it is stored under
+  own_key : n.key ≡ key
+  own_key = under.store.kept.named key n was
+
+  -- the table has it, and it is of the collection
+  on_nodes : In n nodes
+  on_nodes = in_shelf t ss under.store.kept _ _ under.store.found _ n (ap (node_at t) own_key ∙ was) own
+
+  -- an effect keeps the node's place
+  same : (m : Node) → IsSameNode (f m) m
+  same = same_affected key effect
+
+  -- no other node changes
+  alone : (m : Node) → In m nodes → same_key n.key m.key ≡ false → f m ≡ m
+  alone m there other = alone_affected key _ m (rw own_key at other)
+
+  -- no two nodes have one key
+  one : (m : Node) → In m nodes → same_key n.key m.key ≡ true → m ≡ n
+  one m there h = distinct_one nodes (whole_under under).sound.distinct m n there on_nodes (sym (same_key-true _ _ h))
+
+  -- no effect ends a node
+  gone : (m : Node) → (f m).gone ≡ m.gone
+  gone m = (remains_affected key _ m).gone
+
+  -- no effect allocates a unit
+  alloc : (m : Node) → (f m).allocated ≡ m.allocated
+  alloc m = (remains_affected key _ m).allocated
+
+  -- the same nodes, by the same keys
+  nodes_are : nodes_with now new.keys.items ≡ map f nodes
+  nodes_are = ap (λ (x : Shelf). nodes_with now x.keys) made.shelf ∙ made.nodes
+
+  abbrev then : List Node
+  then = map f nodes
+
+  -- only the unit of the node may be held by nothing then, or come to its turn: of the others no node changed
+  pub affected_on : AfterEffect t now after ss e new key effect n.head
+  affected_on = record {
+    under = record {
+      store = made.store;
+      bare = λ none. ap (list_any has_buffers) nodes_are
+          ∙ (any_map has_buffers _ f nodes (λ m. λ i. not (gone m i) && alloc m i)
+          ∙ under.bare (sym (ap (λ (x : Shelf). x.buffers) made.shelf) ∙ none));
+      held = ap (are_held_except (n.head ∷ [])) nodes_are
+          ∙ held_but _ f same gone alloc n alone one under.held;
+      next = ap (λ ns. list_any (is_next_except (n.head ∷ []) ns) ns) nodes_are
+          ∙ next_but _ f same gone alloc n alone one under.next;
+      root = ap (waits_among (n.head ∷ [])) nodes_are
+          ∙ waits_but _ f same gone alloc n alone one under.root;
+    };
+    shelf = made.shelf;
+    nodes = made.nodes;
+    left = made.left;
+    beside = made.beside;
+  }
+
+  -- ---- where nothing is forced
+
+  module _ (here : n.gone ≡ false) (becomes : now ≡ table_with_node t key (affected key effect n))
+      (writes : Writes t now key (affected key effect n)) where
+    -- where the node was ready for each unit that it is ready for, no unit becomes ready
+    ready_under : are_held_except [] (nodes_with now new.keys.items) ≡ true →
+        ((h : NodeKey) → is_ready_node h (affected key effect n) ≡ true → is_ready_node h n ≡ true) → MidEvent now after ss new [] []
+    ready_under held back = under_with affected_on.under held
+        (ap (λ ns. list_any (is_next_except [] ns) ns) nodes_are ∙ next_still _ f same gone alloc n alone one back under.next)
+        (ap (waits_among []) nodes_are ∙ waits_still _ f same gone alloc n alone one back under.root)
+
+    -- an effect that changes no count changes nothing of what holds units, or makes them ready
+    plain_under : KeepsCounts effect → MidEvent now after ss new [] []
+    plain_under keeps =
+        let p = plain_affected key effect keeps.plain n in
+        ready_under
+        (ap (are_held_except []) nodes_are
+        ∙ held_still _ f same gone alloc n alone one p.released under.held)
+        (λ h ready. sym (λ i. p.gone i || (not (same_key (p.head i) h) || (p.released i || p.asks i))) ∙ ready)
+
+    -- an effect that changes counts
+    module _ {c : EffectCounts} (counts : AreCounts t us e key effect n c) (held : is_held_by c.unit ≡ true) where
+      -- the units that hang right below the node's are those that hung there
+      below_is : c.unit.below ≡ times (heads_below then n.head) then
+      below_is =
+          let h = head_there (whole_under under) n on_nodes here in
+          let slot : unit_at us n.head.slot ≡ unit_of nodes n.head = rw h.2 at (unit_told under h.0 h.1) in
+          below_next under.store key _ was here own becomes writes counts
+          ∙ (ap (λ (u : Unit). u.below) slot ∙ sym (below_mapped f (same_affected key effect) _ gone _))
+
+      -- something holds the unit
+      holds : list_any (holds_unit (nodes_with now new.keys.items) n.head) (nodes_with now new.keys.items) ≡ true
+      holds = subst (λ ns. list_any (holds_unit ns n.head) ns ≡ true) (sym nodes_are)
+          (elim (either_holds c.unit.live c.unit.below held) [
+            | inl live ↦ lives_held then n.head
+                (omega (arith, live, live_next under.store key effect was here own becomes writes counts))
+            | inr below ↦ below_held then n.head (omega (arith, below, below_is))
+          ])
+
+      -- so only the unit may be due
+      held_under : MidEvent now after ss new [] (n.head ∷ [])
+      held_under = under_held [] holds affected_on.under
+
+      -- it waits for a node still
+      waits_more : 0 < c.unit.unready → list_all (is_ready_node n.head) (nodes_with now new.keys.items) ≡ true → ⊥
+      waits_more some ready =
+          let all : list_all (is_ready_node n.head) then ≡ true = ap (list_all (is_ready_node n.head)) (sym nodes_are) ∙ ready in
+          let x = In-list_any (waits_in n.head) then (some_pass (waits_in n.head) then
+          (omega (arith, some, unready_next under.store key _ was here own becomes writes counts))) in
+          both_ways _ (all-In (is_ready_node n.head) then x.0 x.1 all) (not-true _ x.2)
+
+      -- or it is not to get its buffers next
+      idle_more : is_due_at t n.head ≡ false → (x : Node) → In x (nodes_with now new.keys.items) → x.key ≡ n.head → x.gone ≡ false →
+          x.allocated ≡ false → option_map_or (λ p. list_any (is_allocated_node p) (nodes_with now new.keys.items)) x.parent true ≡ true → ⊥
+      idle_more idle x on is left bare turned =
+          let y = In-map f _ x (rw nodes_are at on) in
+          let same = same_affected key _ y.0 in
+          let key_is : y.0.key ≡ n.head = sym same.key ∙ (ap (λ (m : Node). m.key) (sym y.2) ∙ is) in
+          let at : node_at t n.head ≡ Some y.0 = ap (node_at t) (sym key_is) ∙ at_key under.store.kept under.store.found y.0 y.1 in
+          let no_buffers : has_buffers_at t n.head ≡ false =
+          ap (λ o. option_map_or (λ (m : Node). m.allocated) o false) at
+          ∙ (sym (alloc y.0) ∙ (ap (λ (m : Node). m.allocated) (sym y.2) ∙ bare)) in
+          let up : parent_at t n.head ≡ y.0.parent = ap (parent_at t) (sym key_is)
+          ∙ linked under.store.kept under.store.found y.0 y.1 (sym (gone y.0) ∙ (ap (λ (m : Node). m.gone) (sym y.2) ∙ left)) in
+          let due : is_due_at t n.head ≡ true = and_both _ _ (ap not no_buffers)
+          (ap (λ o. option_map_or (has_buffers_at t) o true) up ∙ over y.0.parent
+          (rw nodes_are at
+          (ap (λ o. option_map_or (λ p. list_any (is_allocated_node p) (nodes_with now new.keys.items)) o true)
+          (sym same.parent ∙ ap (λ (m : Node). m.parent) (sym y.2)) ∙ turned))) in
+          both_ways _ due idle
+        where
+          over : (o : Option NodeKey) → option_map_or (λ p. list_any (is_allocated_node p) then) o true ≡ true →
+              option_map_or (has_buffers_at t) o true ≡ true
+          over None h = refl
+          over (Some p) h =
+              let z = In-list_any _ _ h in
+              let w = In-map f _ z.0 z.1 in
+              let rest : (z.0.allocated && same_key z.0.key p) ≡ true = and_right _ _ z.2 in
+              let at : node_at t p ≡ Some w.0 =
+              ap (node_at t) (sym (sym (same_affected key _ w.0).key ∙ (ap (λ (m : Node). m.key) (sym w.2)
+              ∙ same_key-true _ p (and_right _ _ rest)))) ∙ at_key under.store.kept under.store.found w.0 w.1 in
+              ap (λ o. option_map_or (λ (m : Node). m.allocated) o false) at
+              ∙ (sym (alloc w.0) ∙ (ap (λ (m : Node). m.allocated) (sym w.2) ∙ and_left _ _ rest))
+
+      -- a node that its unit did not wait for was ready for each
+      ready_of : is_unready n ≡ false → (h : NodeKey) → is_ready_node h n ≡ true
+      ready_of ready h = ready_if n.gone n.released _ (same_key n.head h) ready
+
+      -- so nothing is due, where the counts tell so
+      counted_under_by : (is_unready n ≡ false) ⊎ (((c.unit.unready == 0) ≡ false) ⊎ (is_due_at t n.head ≡ false)) →
+          MidEvent now after ss new [] []
+      counted_under_by (inl ready) = ready_under held_under.held (λ h made_ready. ready_of ready h)
+      counted_under_by (inr (inl more)) =
+          not_due held_under
+          (λ x on is left bare turned all. waits_more (omega (arith, eqb-false c.unit.unready 0 more)) all)
+      counted_under_by (inr (inr idle)) =
+          not_due held_under (λ x on is left bare turned all. idle_more idle x on is left bare turned)
+
+    -- so nothing is loose in it, and nothing due
+    pub still_under : (counts : Option EffectCounts) → AreCountsThen t us e key effect counts → may_force counts ≡ false →
+        MidEvent now after ss new [] []
+    still_under None keeps out = plain_under keeps
+    still_under (Some c) worked out =
+        counted_under_by (worked n was) (not_not _ (or_none_right _ _ out))
+        (one_not _ _ _ (sym (worked n was).due ∙ or_none_left _ _ out))
+
+    -- and the effect is all that was made
+    pub still_played : (handles : Handles) (counts : Option EffectCounts) → AreCountsThen t us e key effect counts →
+        may_force counts ≡ false → PropagatedFrom handles (after_effect key effect (nodes_with t e.keys.items)) t now after ss e new
+    still_played handles counts worked out = record {
+      pending = [];
+      under = still_under counts worked out;
+      shelf = made.shelf;
+      leads = λ pool others last settles.
+          subst (λ c. Settles pool handles others c last) (λ i. record (collection_in t (shelf_of e)) { nodes = made.nodes i }) settles;
+      beside = made.beside;
+      out = inl refl;
+    }
+
+    -- so many strong nodes are live then as were worked out
+    strong_told : (counts : Option EffectCounts) → AreCountsThen t us e key effect counts →
+        strong_then e counts ≡ strong_count (map (affected key effect) (nodes_with t e.keys.items))
+    strong_told None keeps = under.store.strong ∙ sym (times_map is_strong _ f nodes (keeps.strong key))
+    strong_told (Some c) worked = strong_next under.store key _ was here own becomes writes (worked n was)
+
+    -- and the collection is kept by these, or rests without, where it was and did
+    pub still_kept : (handles : Handles) (counts : Option EffectCounts) → AreCountsThen t us e key effect counts →
+        is_kept_by handles t (shelf_of e) (strong_then e counts) ≡ true → is_kept_by handles now (shelf_of new) new.strong ≡ true
+    still_kept handles counts worked kept =
+        let count : new.strong ≡ strong_then e counts = made.store.strong ∙ (ap strong_count nodes_are ∙ sym (strong_told _ worked)) in
+        let same = same_affected key effect in
+        (λ i. is_kept_by handles now (made.shelf i) (count i)) ∙ rests_on handles t now (shelf_of e) _
+        (roots_stay t now f (look_here _ was under.store.kept.named writes) (shelf_of e).keys (λ m there none.
+        (λ i. (is_none ((same m).parent i) && not ((remains_affected key effect m).gone i)) && (remains_affected key effect m).allocated i)
+        ∙ none)) kept

@@ -1,18 +1,11 @@
 -- The last steps: the root of buffers that are abandoned is lost, and the pages of buffers that are home go back.
-use Rattle.forest_steps.proofs.Common.{◌≡◌, ◌<◌, ℕ, ◌⊎◌, inl, inr, refl, ap, sym, ◌∙◌, subst, Bool, true, false, not, nat_lt, ◌&&◌, ◌++◌, List, [], ◌∷◌, map, get_or, set, Option, Some, None, option_map, arith, eqb-true, lt-ltb, not-true, filter, find, list_all, option_map_or, HeldBuffer, Interval, NodeKey, Cause, forced, and_both, and_left, and_right, both_ways, either_way, or_cases, some-injective, Table, Change, Entry, Node, Unit, has_strong, Collection, with_nodes, IsStored, IsWhole, Shelf, collection_in, forest_of, nodes_with, place_in, shelf_of, shelves_of, is_root_left, Handles, Settles, standing, le-ltb, get_or-set_same, get_or_default, Fault, Loss, sorted_by, Holdings, AreCounted, IsCounted, HaveUnits, decided, mark_of, has_given_root, all_held, beside, pages_in, after_loss, IsSettledIn, is_kept_by, starts_differ, by_page, is_held_strongly, is_out, pages_held, Forces, forced_made, root_first, still_decided, strong_lives, found_filed, start_of, place_is, set_put, left_in}
-use Rattle.std.proofs.Math.Bool.{and-false}
-use Rattle.std.proofs.Common.{slice_get}
+use Rattle.forest_steps.proofs.Common.{◌≡◌, ◌<◌, ℕ, ◌⊎◌, inl, inr, refl, ap, sym, ◌∙◌, subst, Bool, true, false, not, nat_lt, ◌&&◌, ◌++◌, List, [], ◌∷◌, map, get_or, set, Option, Some, None, option_map, arith, eqb-true, lt-ltb, not-true, filter, list_all, HeldBuffer, Interval, NodeKey, Cause, forced, and_both, and_left, and_right, both_ways, either_way, some-injective, Table, Change, Entry, Node, Unit, has_strong, Collection, with_nodes, IsStored, IsWhole, Shelf, collection_in, forest_of, nodes_with, place_in, shelf_of, shelves_of, Handles, Settles, standing, le-ltb, get_or-set_same, get_or_default, Fault, Loss, sorted_by, Holdings, AreCounted, IsCounted, HaveUnits, decided, mark_of, has_given_root, all_held, beside, pages_in, after_loss, IsSettledIn, is_kept_by, starts_differ, by_page, is_held_strongly, is_out, pages_held, Forces, forced_made, still_decided, found_filed, start_of, place_is, set_put, left_in, slice_get, set-set, filter-list_all, Closes, IsClosed, MayClose, IsBeside, MidEvent, AfterRemoval, Reaches, MayGo, is_abandoned_in, strong_told, counted_set}
 use Rattle.std.proofs.lemmas.Bool.{ltb-true}
-use Rattle.std.proofs.lemmas.List.{set-set}
-use Rattle.sm_names.proofs.ListLaws.{filter-list_all}
-use Rattle.forest_steps.specs.EventEnd.{Closes, IsClosed, MayClose}
 use Rattle.forest_store.specs.Resting.{is_at_rest}
-use Rattle.forest_steps.specs.MidEvent.{IsBeside, MidEvent, AfterRemoval, Reaches, MayGo, is_abandoned_in}
-use Rattle.forest_store.proofs.quiescence.Watched.{strong_told}
-use Rattle.forest_steps.proofs.changes.Dropped.{IsReturned, finishes_so, one_entry, pool_at, pool_so, stored_so, strong_keeps, units_so}
+use Rattle.forest_steps.proofs.changes.Dropped.{IsReturned, finishes_so, one_entry, pool_at, pool_so, stored_so, strong_keeps, units_so, kept_root}
 use Rattle.forest_steps.proofs.failures.AllGone.{AreGone, none_decides, none_strong}
 use Rattle.forest_steps.proofs.intervals.Pools.{pool_stays}
-use Rattle.forest_store.proofs.shelves.Counted.{counted_put, counted_set}
+use Rattle.forest_store.proofs.shelves.Counted.{counted_put}
 use Rattle.forest_steps.proofs.mid_event.Joining.{but_beside, here_is, place_set, settled_on, shelves_stay}
 use Rattle.forest_steps.proofs.mid_event.Ready.{counted_under, no_end_under, none_under, whole_under}
 use Rattle.forest_steps.proofs.mid_event.Roots.{IsGivenRoot, all_lost, given_root, root_decided, root_here, root_on, root_top}
@@ -20,27 +13,6 @@ use Rattle.forest_steps.proofs.mid_event.Roots.{IsGivenRoot, all_lost, given_roo
 -- ---- where the buffers are kept
 
 module _ (handles : Handles) {t : Table Node} {us : List Unit} {ss : List Shelf} {e : Entry} (under : MidEvent t us ss e [] []) where
-  abbrev nodes : List Node
-  nodes = nodes_with t e.keys.items
-
-  abbrev is_open : Bool
-  is_open = is_held_strongly handles e.id e.buffers
-
-  -- a strong node lives by the count, or the root without its buffers is not lost
-  kept_root : (nat_lt 0 e.strong ≡ true) ⊎ ((has_given_root t e.keys.items && not is_open) ≡ false) → (has_strong nodes ≡ true)
-      ⊎ ((option_map_or (λ (root : Node). root.allocated) (find is_root_left nodes) false && not is_open) ≡ false)
-  kept_root (inl strong) = inl (strong_lives nodes _ strong under.store.strong)
-  kept_root (inr none) = inr (elim (either_way (has_given_root t e.keys.items)) [
-    | inl is ↦
-        let opened : not is_open ≡ false = rw is at none in
-        rw opened (and-false _)
-    | inr is ↦
-        let bare : option_map_or (λ (root : Node). root.allocated) (find is_root_left nodes) false ≡ false =
-        root_first t _ _ (found_filed t _ ss _ under.store.kept.filed under.store.found)
-        (whole_under under).sound.one_root is in
-        rw bare refl
-  ])
-
   -- a strong node lives, the root has no buffers, or a strong handle is open
   pub closed_still : (nat_lt 0 e.strong ≡ true)
       ⊎ ((has_given_root t e.keys.items && not (is_held_strongly handles e.id e.buffers)) ≡ false) → IsClosed handles t t us ss e e
@@ -50,7 +22,8 @@ module _ (handles : Handles) {t : Table Node} {us : List Unit} {ss : List Shelf}
     counted = counted_under under;
     shelf = refl;
     fewer = omega arith;
-    none = still_decided _ _ _ (none_under under) (kept_root why);
+    none = still_decided _ _ _ (none_under under)
+        (kept_root t e _ (found_filed t _ ss _ under.store.kept.filed under.store.found) (whole_under under) under.store.strong why);
     leads = λ pool others after settles. settles;
     beside = record { same = record { first = refl; nexts = refl; limit = refl; len = refl }; others = λ x on differ. refl };
   }
@@ -305,9 +278,6 @@ module _ {handles : Handles} {t : Table Node} {us : List Unit} {es : List Entry}
       (sym (filter-list_all _ _
       (ap (λ b. list_all (is_out handles b) old.held.items) weak ∙ and_right _ _ rests))) _ _ parted
       (pages_mid closed _ parted of)
-    where
-      left : Bool
-      left = has_given_root t old.keys.items && not (is_held_strongly handles old.id old.buffers)
 
   -- so where one of the two holds
   pub closes_kept : is_kept_by handles t (shelf_of old) old.strong ≡ true → (pool : Holdings) → starts_differ pool.held ≡ true →
@@ -315,10 +285,7 @@ module _ {handles : Handles} {t : Table Node} {us : List Unit} {es : List Entry}
       Closes handles pool pool t t es (set es at old) us id
   closes_kept kept pool parted of = elim (either_way (nat_lt 0 old.strong)) [
     | inl live ↦ closes_strong (ltb-true 0 old.strong live) _ parted of
-    | inr weak ↦ elim (or_cases _ _ kept) [
-      | inl live ↦ closes_strong (ltb-true 0 old.strong live) _ parted of
-      | inr rests ↦ closes_resting weak rests _ parted of
-    ]
+    | inr weak ↦ closes_resting weak (rw weak at kept) _ parted of
   ]
 
   -- where none does, those that are home go back

@@ -1,14 +1,39 @@
 -- Where nothing holds a unit, the counts tell how far up nothing but the unit below holds one, and the highest of those ends.
-use Rattle.forest_steps.proofs.Common.{◌≡◌, ℕ, zero, suc, ◌≤◌, refl, ap, sym, ◌∙◌, subst, Bool, true, false, ◌||◌, ◌==◌, is_some, inl, inr, List, [], ◌∷◌, ◌++◌, length, reverse, Option, Some, None, option_map, arith, eq-eqb, eqb-true, not-true, cons_option, find, list_any, option_and_then, Interval, NodeKey, forced, same_key, times, when, In, In-find, In-list_any, In-map-back, and_both, and_left, and_right, either_way, or_right, same_key-true, all_on, Table, node_at, parent_at, Entry, Node, Unit, lives_in, unit_at, Collection, IsWhole, Shelf, all_keys, collection_in, nodes_with, shelf_of, is_deserted_node, Handles, Settles, standing, is_head, ltb-false, or_none_left, or_none_right, table_len, HasUnits, heads_below, is_held_by, unit_of, Ends, decided, mark_of, pages_in, after_end, is_below, Forces, forced_made, all-In, found_whole, in_all, looked_there, distinct_one, left_in, left_node, left_parent, all_at}
+use Rattle.forest_steps.proofs.Common.{◌≡◌, ℕ, zero, suc, ◌≤◌, refl, ap, sym, ◌∙◌, subst, Bool, true, false, ◌||◌, ◌==◌, is_some, inl, inr, List, [], ◌∷◌, ◌++◌, length, reverse, Option, Some, None, option_map, arith, eq-eqb, eqb-true, not-true, cons_option, find, list_any, option_and_then, Interval, NodeKey, forced, same_key, times, when, In, In-find, In-list_any, and_both, and_left, and_right, either_way, or_right, same_key-true, all_on, Table, node_at, Entry, Node, Unit, lives_in, unit_at, Collection, Shelf, all_keys, collection_in, nodes_with, shelf_of, is_deserted_node, Handles, Settles, standing, is_head, ltb-false, or_none_left, or_none_right, table_len, heads_below, is_held_by, unit_of, Ends, decided, mark_of, pages_in, after_end, is_below, Forces, forced_made, all-In, in_all, looked_there, distinct_one, left_in, left_node, left_parent, length-reverse, Ended, climbed, AfterSteps, MidEvent, AfterRemoval, MayGo, are_held_except, holds_unit, is_head_left, is_held, below_held, either_holds, lives_held, above_short, when-Some, ◌+◌, ◌⊎◌, option_map_or, ◌-◌}
+use Rattle.forest_steps.specs.Climbing.{unit_over, is_held_once}
 use Rattle.forest_steps.proofs.tables.Upward.{line, step, shorter, in_unit_below, head_there}
-use Rattle.std.proofs.lemmas.List.{length-append, length-reverse}
-use Rattle.sm_names.specs.Marks.{Ended}
-use Rattle.forest_steps.specs.Climbing.{climbed, is_held_once, unit_over}
-use Rattle.forest_steps.specs.MidEvent.{AfterSteps, MidEvent, AfterRemoval, MayGo, are_held_except, holds_unit, is_head_left, is_held}
-use Rattle.forest_store.proofs.quiescence.Keeping.{below_held, either_holds, lives_held}
-use Rattle.forest_store.proofs.tallies.Holding.{above_short}
-use Rattle.forest_steps.proofs.mid_event.Climbs.{goes_on, stays}
+use Rattle.std.proofs.lemmas.List.{length-append}
 use Rattle.forest_steps.proofs.mid_event.Ending.{AreLoose, begins, climbs, first_deserted, held_now, is_one}
+use Rattle.forest_steps.proofs.mid_event.Ready.{under_with, whole_under, unit_told}
+use Rattle.forest_steps.proofs.mid_event.Leading.{led_none}
+use Rattle.forest_steps.proofs.tables.OfShelf.{linked}
+
+module _ (t : Table Node) (us : List Unit) where
+  -- it ends where there is no next one
+  pub stays : (n : ℕ) (head : NodeKey) → unit_over t us head ≡ None → climbed n t us head ≡ head
+  stays zero head none = refl
+  stays (suc n) head none = ap (λ o. option_map_or (climbed n t us) o head) none
+
+  -- and goes on there where there is
+  pub goes_on : (n : ℕ) (head : NodeKey) {over : NodeKey} → unit_over t us head ≡ Some over → climbed (suc n) t us head ≡ climbed n t us over
+  goes_on n head is = ap (λ o. option_map_or (climbed n t us) o head) is
+
+  -- one step more was made
+  pub one_more : (i : ℕ) (top : NodeKey) {over : NodeKey} (head : NodeKey) → ((n : ℕ) → climbed n t us top ≡ climbed (i + n) t us head) →
+      unit_over t us top ≡ Some over → (n : ℕ) → climbed n t us over ≡ climbed (i + 1 + n) t us head
+  one_more i top head so_far is n =
+      let more : i + suc n ≡ i + 1 + n = omega arith in
+      sym (goes_on n top is) ∙ so_far (suc n) ∙ ap (λ k. climbed k t us head) more
+
+  -- where no step is left, or none of those that are left can be made
+  pub all_made : (i all : ℕ) (top head : NodeKey) → ((n : ℕ) → climbed n t us top ≡ climbed (i + n) t us head) → i ≤ all →
+      (unit_over t us top ≡ None) ⊎ (i ≡ all) → top ≡ climbed all t us head
+  all_made i all top head so_far few (inl none) =
+      let rest : i + (all - i) ≡ all = omega arith in
+      sym (stays _ top none) ∙ so_far (all - i) ∙ ap (λ k. climbed k t us head) rest
+  all_made i all top head so_far few (inr is) =
+      let rest : i + 0 ≡ all = omega arith in
+      so_far 0 ∙ ap (λ k. climbed k t us head) rest
 
 -- ---- lengths
 
@@ -31,24 +56,6 @@ few_nodes t (k ∷ ks) = from (node_at t k) (few_nodes t ks)
     from None few = omega arith
     from (Some n) few = omega arith
 
--- ---- options
-
--- by cases
-when_some : {A : Type 0} (b : Bool) (x : A) {y : A} → when b x ≡ Some y → (b ≡ true) × (x ≡ y)
-when_some true x h = (refl, cc)
-when_some false x h = cc
-
--- the state does not change where other units are held
-pub with_held : {t : Table Node} {us : List Unit} {ss : List Shelf} {e : Entry} {unheld : List NodeKey} (other : List NodeKey) {pending : List NodeKey} →
-    MidEvent t us ss e unheld pending → are_held_except other (nodes_with t e.keys.items) ≡ true → MidEvent t us ss e other pending
-with_held other ok held = record {
-  store = ok.store;
-  bare = ok.bare;
-  held = held;
-  next = ok.next;
-  root = ok.root;
-}
-
 -- a head that is not gone
 pub record IsHeadLeft (nodes : List Node) (key : NodeKey) : Type 0 where
   pub node : Node
@@ -58,7 +65,7 @@ pub record IsHeadLeft (nodes : List Node) (key : NodeKey) : Type 0 where
   pub head : is_head node ≡ true
 
 -- a node with the key passes the test, and has each of its parts
-head_left : (nodes : List Node) (key : NodeKey) → is_head_left nodes key ≡ true → IsHeadLeft nodes key
+pub head_left : (nodes : List Node) (key : NodeKey) → is_head_left nodes key ≡ true → IsHeadLeft nodes key
 head_left nodes key h =
     let x = In-list_any _ _ h in
     let rest = and_right _ _ x.2 in
@@ -102,32 +109,16 @@ module _ {t : Table Node} {us : List Unit} {ss : List Shelf} {e : Entry} {first 
   abbrev c : Collection
   c = collection_in t (shelf_of e)
 
-  -- each collection is whole
-  whole : IsWhole c
-  whole = found_whole t _ ss _ ok.store.kept.whole ok.store.found
-
   -- the shelf is found among them
   on_shelf : In (shelf_of e) ss
   on_shelf = (In-find _ ss _ ok.store.found).0
 
   abbrev above : NodeKey → List NodeKey
-  above = line whole
+  above = line (whole_under ok)
 
   -- each node stands in the table under its key
   at : (m : Node) → In m nodes → node_at t m.key ≡ Some m
   at m on = in_all _ _ (looked_there t ok.store.kept.named _) m on
-
-  -- the counts of each collection's units are right
-  counted : HasUnits us nodes
-  counted = all_at _ _ ok.store.units c (In-map-back _ ss _ on_shelf)
-
-  -- the counts tell of each head's unit
-  told : (m : Node) → In m nodes → unit_at us m.key.slot ≡ unit_of nodes m.key
-  told m on = (in_all _ _ counted m on).1
-
-  -- the table links each node that is not gone to its parent
-  linked : (h : Node) → In h nodes → h.gone ≡ false → parent_at t h.key ≡ h.parent
-  linked h on here = ok.store.kept.linked h.key h (at h on) here
 
   -- the line above a key is no longer than the collection, nor that than the table
   short : (key : NodeKey) → length (above key) ≤ table_len t
@@ -147,7 +138,7 @@ module _ {t : Table Node} {us : List Unit} {ss : List Shelf} {e : Entry} {first 
   -- the parent in the table is the one of the node
   over_by : (h : Node) → In h nodes → h.gone ≡ false →
       unit_over t us h.key ≡ option_and_then (λ p. over_at (node_at t p)) h.parent
-  over_by h on here = ap (λ o. option_and_then (λ p. over_at (node_at t p)) o) (linked h on here)
+  over_by h on here = ap (λ o. option_and_then (λ p. over_at (node_at t p)) o) (linked ok.store.kept ok.store.found h on here)
 
   -- the climb leads to a unit that is there
   opened : (h : Node) → In h nodes → h.gone ≡ false → {over : NodeKey} → unit_over t us h.key ≡ Some over → IsAbove nodes h over
@@ -156,11 +147,11 @@ module _ {t : Table Node} {us : List Unit} {ss : List Shelf} {e : Entry} {first 
       from : (o : Option NodeKey) → h.parent ≡ o → option_and_then (λ p. over_at (node_at t p)) o ≡ Some over → IsAbove nodes h over
       from None none h = cc
       from (Some p) hung h =
-          let x = left_node _ p (left_parent _ whole.rooted _ p on here hung) in
-          let w = when_some _ _ (sym (ap over_at (ap (node_at t) (sym x.is) ∙ at _ x.on)) ∙ h) in
+          let x = left_node _ p (left_parent _ (whole_under ok).rooted _ p on here hung) in
+          let w = when-Some _ _ _ (sym (ap over_at (ap (node_at t) (sym x.is) ∙ at _ x.on)) ∙ h) in
           let once = and_right _ _ w.0 in
-          let r = head_there whole _ x.on x.here in
-          let known = told r.0 r.1 in
+          let r = head_there (whole_under ok) _ x.on x.here in
+          let known = unit_told ok r.0 r.1 in
           record {
             above = x.node;
             above_on = x.on;
@@ -183,7 +174,7 @@ module _ {t : Table Node} {us : List Unit} {ss : List Shelf} {e : Entry} {first 
       top.parent ≡ Some q.key → q.head ≡ y.key → times (lives_in y.key) nodes ≡ 0 → times (heads_below nodes y.key) nodes ≡ 1 → ⊥
   closed top on here last y q y_on q_on hung unit live below =
       let there : is_some (node_at t q.head) ≡ true = ap is_some (ap (node_at t) unit ∙ at y y_on) in
-      let counts : unit_at us q.head.slot ≡ unit_of nodes y.key = ap (λ (k : NodeKey). unit_at us k.slot) unit ∙ told y y_on in
+      let counts : unit_at us q.head.slot ≡ unit_of nodes y.key = ap (λ (k : NodeKey). unit_at us k.slot) unit ∙ unit_told ok y y_on in
       let none_live : ((unit_at us q.head.slot).live == 0) ≡ true =
       eq-eqb _ 0 (ap (λ (u : Unit). u.live) counts ∙ live) in
       let one_below : ((unit_at us q.head.slot).below == 1) ≡ true =
@@ -213,7 +204,7 @@ module _ {t : Table Node} {us : List Unit} {ss : List Shelf} {e : Entry} {first 
       from None is = refl
       from (Some p) is =
           let long : length (above h.key) ≡ length (p ∷ above p) =
-          ap length (step whole h unheld.on unheld.here is) in
+          ap length (step (whole_under ok) h unheld.on unheld.here is) in
           absurd (omega (arith, few, long))
   reach (suc n) {h} {keys} unheld own few = from (unit_over t us h.key) refl (λ o ks l w f. reach n l w f)
     where
@@ -233,13 +224,13 @@ module _ {t : Table Node} {us : List Unit} {ss : List Shelf} {e : Entry} {first 
           let x = opened h unheld.on unheld.here is in
           let high : is_below nodes x.node.key x.above.key ≡ true =
           subst (λ k. is_below nodes k x.above.key ≡ true) (sym x.of)
-          (in_unit_below whole x.above x.above_on x.above_here) in
+          (in_unit_below (whole_under ok) x.above x.above_on x.above_here) in
           let shorter : length (above x.node.key) ≤ length (above x.above.key) =
-          shorter whole _ _ (left_in _ x.node x.on x.here) (left_in _ x.above x.above_on x.above_here) high in
+          shorter (whole_under ok) _ _ (left_in _ x.node x.on x.here) (left_in _ x.above x.above_on x.above_here) high in
           let long : length (above h.key) ≡ length (x.above.key ∷ above x.above.key) =
-          ap length (step whole h unheld.on unheld.here x.up) in
+          ap length (step (whole_under ok) h unheld.on unheld.here x.up) in
           let next = on x.node (x.node.key ∷ keys)
-          (climbs whole unheld x.above x.above_on x.up x.node x.on
+          (climbs (whole_under ok) unheld x.above x.above_on x.up x.node x.on
           x.here x.head x.of x.live x.below)
           (or_right (same_key first x.node.key) (is_one keys first) own) (omega (arith, few, long, shorter)) in
           record {
@@ -260,7 +251,7 @@ module _ {t : Table Node} {us : List Unit} {ss : List Shelf} {e : Entry} {first 
 
     -- the slot of the head has the counts of its unit
     first_told : unit_at us first.slot ≡ unit_of nodes first
-    first_told = rw head.is at (told _ head.on)
+    first_told = rw head.is at (unit_told ok _ head.on)
 
     module _ (some : is_held_by (unit_at us first.slot) ≡ true) where
       -- a live node holds it, or a head right below
@@ -282,15 +273,7 @@ module _ {t : Table Node} {us : List Unit} {ss : List Shelf} {e : Entry} {first 
 
       -- nothing changes
       pub held_led : (handles : Handles) → AfterSteps handles t t us ss e e [] pending
-      held_led handles = record {
-        under = with_held [] ok all_held;
-        shelf = refl;
-        leads = λ pool others after settles. settles;
-        beside = record {
-          same = record { first = refl; nexts = refl; limit = refl; len = refl };
-          others = λ x there other. refl;
-        };
-      }
+      held_led handles = led_none _ (under_with ok all_held ok.next ok.root)
 
     -- ---- where nothing does
 
@@ -299,14 +282,14 @@ module _ {t : Table Node} {us : List Unit} {ss : List Shelf} {e : Entry} {first 
       begun : AreLoose nodes head.node (head.node.key ∷ [])
       begun =
           let is : is_held_by (unit_of nodes head.node.key) ≡ false =
-          ap is_held_by (sym (told _ head.on)) ∙ (ap (λ (k : NodeKey). is_held_by (unit_at us k.slot)) head.is ∙ none) in
+          ap is_held_by (sym (unit_told ok _ head.on)) ∙ (ap (λ (k : NodeKey). is_held_by (unit_at us k.slot)) head.is ∙ none) in
           let live : times (lives_in head.node.key) nodes ≤ 0 =
           ltb-false 0 (times (lives_in head.node.key) nodes)
           (or_none_left _ _ is) in
           let below : times (heads_below nodes head.node.key) nodes ≤ 0 =
           ltb-false 0 (times (heads_below nodes head.node.key) nodes)
           (or_none_right _ _ is) in
-          begins whole _ head.on head.here head.head
+          begins (whole_under ok) _ head.on head.here head.head
           (omega arith) (omega arith)
 
       -- the climb goes up while the counts allow, so it ends at the top of what is loose
@@ -322,18 +305,18 @@ module _ {t : Table Node} {us : List Unit} {ss : List Shelf} {e : Entry} {first 
 
       -- the top is left, and heads its unit
       pub may_end : (key : NodeKey) → key ≡ climbed (table_len t) t us first → MayGo nodes key None
-      may_end key is = grind (arith, at, distinct_one, head, left_in, made_top, top_is, whole)
+      may_end key is = grind (arith, at, distinct_one, head, left_in, made_top, top_is, (whole_under ok))
 
       -- the top is the first head below which nothing lives
       first_is : find (is_deserted_node nodes) nodes ≡ Some top
       first_is =
-          first_deserted whole made_top.unheld _
+          first_deserted (whole_under ok) made_top.unheld _
           made_top.own ok.held (closed top made_top.unheld.on made_top.unheld.here made_top.last)
 
       -- what held each other unit is not below the top
       held_then : are_held_except [] (after_end top.key nodes) ≡ true
       held_then =
-          held_now whole made_top.unheld _
+          held_now (whole_under ok) made_top.unheld _
           made_top.own ok.held (closed top made_top.unheld.on made_top.unheld.here made_top.last)
 
       -- a deserted unit is decided first
@@ -350,9 +333,8 @@ module _ {t : Table Node} {us : List Unit} {ss : List Shelf} {e : Entry} {first 
           {new : Entry} {over : Option NodeKey} → AfterRemoval t now after ss e new key None over (first ∷ []) pending →
           AfterSteps handles t now after ss e new [] pending
       ended_led handles {key} is {now} went = record {
-        under = with_held [] went.under
-            (subst (λ ns. are_held_except [] ns ≡ true)
-            (sym (ap (λ (s : Shelf). nodes_with now s.keys) went.shelf ∙ went_is)) held_then);
+        under = under_with went.under (subst (λ ns. are_held_except [] ns ≡ true)
+            (sym (ap (λ (s : Shelf). nodes_with now s.keys) went.shelf ∙ went_is)) held_then) went.under.next went.under.root;
         shelf = went.shelf;
         leads = λ pool others last settles. Forces c last (Ended top.key) (forced_is pool handles others)
             (subst (λ d. Settles pool handles others d last) (λ i. record c { nodes = went_is i }) settles);

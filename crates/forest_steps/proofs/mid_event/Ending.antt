@@ -1,13 +1,12 @@
 -- Units one above another that nothing holds but the one below: their heads alone are deserted, and the highest is the first. Once it
 -- ended with all below it, something holds each unit.
-use Rattle.forest_steps.proofs.Common.{◌≡◌, ℕ, zero, suc, ◌+◌, ◌<◌, ◌≤◌, refl, ap, sym, ◌∙◌, subst, Bool, true, false, not, ◌&&◌, ◌||◌, ◌⊎◌, inl, inr, List, [], ◌∷◌, length, reverse, Option, Some, arith, not-true, find, list_any, option_map_or, NodeKey, same_key, times, In, In-list_any, In-map, In-map-back, and_both, and_left, and_right, both_ways, either_way, false_if, or_cases, or_left, or_right, same_key-refl, same_key-true, some-injective, all_on, In-any, Node, lives_in, is_left_of, is_of, is_deserted_node, is_live_node, are_distinct, is_head, same_key-equal, list_any-map, hangs_in, heads_below, after_end, ended, is_below, count_none, all-In, AreOne, distinct_one, left_in, left_parent, Collection, IsWhole}
-use Rattle.forest_steps.proofs.tables.Upward.{line, step, shorter, in_unit_below, below_through, below_self, below_parent, still_here}
-use Rattle.std.proofs.lemmas.List.{length-reverse}
+use Rattle.forest_steps.proofs.Common.{◌≡◌, ℕ, zero, suc, ◌+◌, ◌<◌, ◌≤◌, refl, ap, sym, ◌∙◌, subst, Bool, true, false, not, ◌&&◌, ◌||◌, ◌⊎◌, inl, inr, List, [], ◌∷◌, length, reverse, Option, Some, arith, not-true, find, list_any, option_map_or, NodeKey, same_key, times, In, In-list_any, In-map, In-map-back, and_both, and_left, and_right, both_ways, either_way, false_if, or_cases, or_left, or_right, same_key-refl, same_key-true, some-injective, all_on, In-any, Node, lives_in, is_left_of, is_of, is_deserted_node, is_live_node, are_distinct, is_head, same_key-equal, list_any-map, hangs_in, heads_below, after_end, ended, is_below, count_none, all-In, AreOne, distinct_one, left_in, left_parent, Collection, IsWhole, length-reverse, are_held_except, holds_unit, is_held, above_short, ◌++◌, if◌then◌else◌, None, are_rooted, In-reverse, In-reverse-back, or_none_left, or_none_right, same_key-comm, above_among, hangs_on, left_node, found_by_key, reverse-append, one_line}
+use Rattle.forest_steps.proofs.tables.Upward.{line, step, shorter, in_unit_below, below_through, below_self, below_parent, still_here, up, chain}
 use Rattle.sm_names.proofs.ListLaws.{times-zero}
 use Rattle.forest_store.specs.Questions.{lives_below}
-use Rattle.forest_steps.specs.MidEvent.{are_held_except, holds_unit, is_held}
-use Rattle.forest_steps.proofs.quiescence.Topmost.{find_top}
-use Rattle.forest_store.proofs.tallies.Holding.{above_short, dead_deserted}
+use Rattle.forest_store.proofs.tallies.Holding.{dead_deserted}
+use Rattle.sm_names.specs.Words.{last_match}
+use Rattle.forest_store.proofs.tables.Rooted.{line_among}
 
 -- ---- counts
 
@@ -68,6 +67,33 @@ other_counts p ns distinct a on h more =
       ])))
     ]
 
+-- ---- the first that passes
+
+-- by induction: no element passes, so none is the last that does
+no_match : {A : Type 0} (p : A → Bool) (xs : List A) → list_any p xs ≡ false → last_match p xs ≡ None
+no_match p [] none = refl
+no_match p (x ∷ xs) none =
+    let here : p x ≡ false = or_none_left _ _ none in
+    let rest : last_match p xs ≡ None = no_match p xs (or_none_right _ _ none) in
+    rw (rest, here) refl
+
+-- the element that is appended is the last that passes, if it does
+match-append : {A : Type 0} (p : A → Bool) (ys : List A) (x : A) → last_match p (ys ++ x ∷ []) ≡ (if p x then Some x else last_match p ys)
+match-append p [] x = refl
+match-append p (y ∷ ys) x = rw (match-append p ys x) (from (p x))
+  where
+    from : (b : Bool) → option_map_or Some (if b then Some x else last_match p ys) (if p y then Some y else None)
+        ≡ (if b then Some x else option_map_or Some (last_match p ys) (if p y then Some y else None))
+    from true = refl
+    from false = refl
+
+-- the first of a list is the last of it turned round
+find_last : {A : Type 0} (p : A → Bool) (xs : List A) → find p xs ≡ last_match p (reverse xs)
+find_last p [] = refl
+find_last p (x ∷ xs) =
+    ap (λ o. if p x then Some x else o) (find_last p xs)
+    ∙ sym (ap (last_match p) (reverse-append (x ∷ []) xs) ∙ match-append p (reverse xs) x)
+
 -- ---- units that nothing holds
 
 -- the key is one of these
@@ -110,6 +136,57 @@ module _ {c : Collection} (whole : IsWhole c) where
   -- no two nodes of the list have one key
   one : AreOne nodes
   one = distinct_one _ whole.sound.distinct
+
+  -- a node that is not gone is found by its key, so its parent is found
+  linked : (n : Node) → In n nodes → n.gone ≡ false → up whole n.key ≡ n.parent
+  linked n on here = ap (λ o. option_map_or (λ (m : Node). m.parent) o None) (found_by_key _ n whole.sound.distinct on)
+
+  -- where all that pass lie at or below one that passes, that one is found: nodes stand behind those above them
+  module _ (p : Node → Bool) (top : Node) (on_top : In top nodes) (passes : p top ≡ true)
+      (below : (y : Node) → In y nodes → p y ≡ true → (y.gone ≡ false) × (is_below nodes top.key y.key ≡ true)) where
+    -- by induction from the back: each other node that passes lies behind the top one
+    last_is : (ns : List Node) → ((n : Node) → In n ns → In n nodes) → are_rooted ns ≡ true → In top ns → last_match p ns ≡ Some top
+    last_is [] within rooted' there = absurd there
+    last_is (n ∷ older) within rooted' there = elim (either_way (list_any (is_of top.key) older)) [
+      | inl e ↦
+          let x = In-list_any (is_of top.key) older e in
+          let is : x.0 ≡ top = one x.0 top (within x.0 (inr x.1)) on_top (same_key-true x.0.key top.key x.2) in
+          let rest : last_match p older ≡ Some top =
+          last_is older (λ m on. within m (inr on)) (and_right (hangs_on older n) (are_rooted older) rooted') (subst (λ m.
+          In m older) is x.1) in
+          rw rest refl
+      | inr e ↦ from there e
+    ]
+      where
+        from : In top (n ∷ older) → list_any (is_of top.key) older ≡ false →
+            option_map_or Some (last_match p older) (if p n then Some n else None) ≡ Some top
+        from (inr on) e = both_ways (list_any (is_of top.key) older) (In-any (is_of top.key) older top on (same_key-refl top.key)) e
+        from (inl is) e =
+            let none : last_match p older ≡ None = no_match p older (false_if (list_any p older) (λ d.
+            let y = In-list_any p older d in
+            let here = below y.0 (within y.0 (inr y.1)) y.2 in
+            let short = line_among older (up whole) (λ m k om ok same. one m k (within m (inr om)) (within k (inr ok)) same)
+            (λ m om hm. linked m (within m (inr om)) hm) older (λ m om. om) (and_right (hangs_on older n) (are_rooted older) rooted')
+            y.0.key (left_in older y.0 y.1 here.0) in
+            let lines : line whole y.0.key ≡ above_among older y.0.key =
+            one_line (up whole) y.0.key (line whole y.0.key) (above_among older y.0.key) (chain whole y.0.key (left_in nodes y.0 (within y.0 (inr y.1)) here.0))
+            short.chain in
+            elim (or_cases (same_key top.key y.0.key) (list_any (same_key top.key) (line whole y.0.key)) here.1) [
+              | inl same ↦
+                  both_ways (list_any (is_of top.key) older) (In-any (is_of top.key) older y.0 y.1 (same_key-comm top.key y.0.key same)) e
+              | inr on_line ↦
+                  let k = In-list_any (same_key top.key) (above_among older y.0.key) (sym (ap (list_any (same_key top.key)) lines)
+                  ∙ on_line) in
+                  let x = left_node older k.0 (short.left k.0 k.1) in
+                  both_ways (list_any (is_of top.key) older)
+                  (In-any (is_of top.key) older x.node x.on (ap (λ (j : NodeKey). same_key j top.key) x.is ∙ same_key-comm top.key k.0 k.2))
+                  e
+            ])) in
+            rw (none, ap p (sym is) ∙ passes) (ap Some (sym is))
+
+    -- the first that passes is the last of the list turned round, which is the top one
+    find_top : find p nodes ≡ Some top
+    find_top = find_last p _ ∙ last_is _ (λ n on. In-reverse _ n on) whole.rooted (In-reverse-back _ top on_top)
 
   -- ---- what hangs in a unit
 
@@ -370,7 +447,7 @@ module _ {c : Collection} (whole : IsWhole c) where
 
     -- all other deserted heads lie below the top
     pub first_deserted : find (is_deserted_node nodes) nodes ≡ Some top
-    first_deserted = find_top _ whole.sound.distinct whole.rooted _ top unheld.on deserted low
+    first_deserted = find_top _ top unheld.on deserted low
 
     -- ---- once it ended
 

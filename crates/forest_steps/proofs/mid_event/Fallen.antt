@@ -1,24 +1,29 @@
 -- Nodes that went in their places while forced steps are made, and the counts of those that are left.
-use Rattle.forest_steps.proofs.Common.{◌≡◌, ◌≢◌, ◌+◌, ◌<◌, ◌==◌, refl, ap, sym, ◌∙◌, subst, Bool, true, false, not, ◌&&◌, ◌||◌, inl, inr, List, map, reverse, length, Option, Some, None, option_map, arith, eqb-false, eqb-true, AllByRecursion, find, list_all, list_any, option_map_or, NodeKey, same_key, times, In, In-find, In-list_any, In-map, In-map-back, both_ways, either_way, false_if, same_key-true, In-any, Table, node_at, parent_at, Node, Unit, over_except, strong_count, AreUnits, lives_in, unit_at, waits_in, Collection, with_nodes, IsStored, IsWhole, Shelf, collection_in, is_filed, nodes_with, shelf_of, reserved_count, are_rooted, is_head, Entry, Contains-from_any, list_any-from_Contains, and-false, blocked_at, Going, HasUnit, HasUnits, hangs_in, heads_below, unit_of, IsTaken, gone_by, Stores, all_of, stored, is_blocking, GoTogether, found_filed, found_whole, looked-of, times_map, in_looked, in_all, looked_there, in_shelf, all_at, all-In, IsSameNode, Up, StoreAgrees, or_none_right}
+use Rattle.forest_steps.proofs.Common.{◌≡◌, ◌≢◌, ◌+◌, ◌<◌, ◌==◌, refl, ap, sym, ◌∙◌, subst, Bool, true, false, not, ◌&&◌, ◌||◌, inl, inr, List, map, reverse, length, Option, Some, None, option_map, arith, eqb-false, eqb-true, AllByRecursion, find, list_all, list_any, option_map_or, NodeKey, same_key, times, In, In-find, In-list_any, In-map, In-map-back, both_ways, either_way, false_if, same_key-true, In-any, Table, node_at, parent_at, Node, Unit, over_except, strong_count, AreUnits, lives_in, unit_at, waits_in, Collection, with_nodes, IsStored, IsWhole, Shelf, collection_in, is_filed, nodes_with, shelf_of, reserved_count, are_rooted, is_head, Entry, Contains-from_any, list_any-from_Contains, and-false, blocked_at, Going, HasUnits, hangs_in, heads_below, unit_of, IsTaken, gone_by, Stores, all_of, stored, is_blocking, GoTogether, found_whole, times_map, in_looked, in_all, looked_there, in_shelf, all_at, all-In, IsSameNode, Up, StoreAgrees, or_none_right, unreckoned, given_of, goes_in, goes_not, goes_of, gone_of, same_of, all_in, hangs_mapped, looked-map, one_shelf, IsSound-map, kept-with, IsGoneSo, went_now}
+use Rattle.forest_store.specs.Counts.{HasUnit, AreUnitsExcept, head_above}
 use Rattle.forest_steps.proofs.tables.Upward.{head_there}
-use Rattle.forest_store.specs.Counts.{AreUnitsExcept, head_above}
-use Rattle.forest_store.specs.LossMarks.{unreckoned, untallied}
+use Rattle.forest_store.specs.LossMarks.{untallied}
 use Rattle.forest_steps.proofs.failures.Ties.{key_equivalence}
 use Rattle.forest_store.proofs.changes.Finishing.{collection-beside, keys_in}
-use Rattle.forest_store.proofs.failures.GoneNodes.{camped_of, filed_fallen, given_of, goes_in, goes_not, goes_of, gone_of, lives_but, same_of, stored_goes, strong_but, waits_but}
-use Rattle.forest_store.proofs.tables.Hanging.{all_in}
-use Rattle.forest_store.proofs.tallies.Hung.{above_node, hangs_mapped, hung_is, is_hung, unhung_drops, unhung_long, unhung_other}
-use Rattle.forest_store.proofs.lists.Lookups.{looked-map}
+use Rattle.forest_store.proofs.failures.GoneNodes.{camped_of, filed_fallen, lives_but, stored_goes, strong_but, waits_but}
+use Rattle.forest_store.proofs.tallies.Hung.{above_node, hung_is, is_hung, unhung_drops, unhung_long, unhung_other}
 use Rattle.forest_store.proofs.tallies.Reserved.{reserved_left}
-use Rattle.forest_store.proofs.tallies.Slots.{Stays, but_all, but_join, but_moved, but_stays, one_shelf, one_slot}
-use Rattle.forest_steps.proofs.quiescence.Lasting.{whole_formed}
-use Rattle.forest_store.proofs.quiescence.Together.{StepsUp, goes_up, together_taken}
+use Rattle.forest_store.proofs.tallies.Slots.{Stays, but_all, but_join, but_moved, but_stays, one_slot}
+use Rattle.forest_store.proofs.quiescence.Together.{StepsUp, goes_up, together_taken, AreFormed}
 use Rattle.forest_store.proofs.quiescence.United.{united_mapped}
 use Rattle.forest_store.proofs.tallies.Untold.{but, taken_count, times_same, untallied_long, untallied_other, untallied_takes}
-use Rattle.forest_store.proofs.tables.Writing.{IsSound-map, kept-with}
-use Rattle.forest_steps.specs.Removal.{IsGoneSo}
-use Rattle.forest_store.proofs.failures.Written.{went_now}
 use Rattle.forest_store.proofs.leaving.Noted.{more_noted}
+use Rattle.forest_steps.proofs.tables.OfShelf.{of_it, linked}
+
+-- the nodes of a whole collection are formed so
+whole_formed : {c : Collection} → IsWhole c → AreFormed c.nodes
+whole_formed whole = record {
+  distinct = whole.sound.distinct;
+  heads = whole.sound.heads;
+  rooted = whole.rooted;
+  united = whole.united;
+  together = whole.together;
+}
 
 -- the constructor is injective
 one_option : (n : Node) {m : Node} → Some n ≡ Some m → n ≡ m
@@ -54,21 +59,9 @@ module _ {t : Table Node} {us : List Unit} {ss : List Shelf} {old : Entry} (stor
   pub whole : IsWhole (collection_in t s)
   whole = found_whole t _ ss s store.kept.whole store.found
 
-  -- the keys of each shelf are filed
-  own_filed : list_all (is_filed t s.id) s.keys ≡ true
-  own_filed = found_filed t _ ss s store.kept.filed store.found
-
   -- each node stands in the table under its key
   pub at_key : (m : Node) → In m nodes → node_at t m.key ≡ Some m
   at_key m there = in_all _ _ (looked_there t store.kept.named _) m there
-
-  -- each of its nodes is of the collection
-  of_it : (m : Node) → In m nodes → m.collection ≡ s.id
-  of_it m there = eqb-true _ _ (all-In _ _ m there (looked-of t _ _ own_filed))
-
-  -- the table links each node that is not gone to its parent
-  pub linked : (x : Node) → In x nodes → x.gone ≡ false → parent_at t x.key ≡ x.parent
-  linked x on here = store.kept.linked x.key x (at_key x on) here
 
   -- what falls is of the collection
   pub within : (n : Node) → In n fallen → In n nodes
@@ -180,13 +173,13 @@ module _ {t : Table Node} {us : List Unit} {ss : List Shelf} {old : Entry} (stor
         let at : node_at t j ≡ Some h.0 = ap (node_at t) (sym h.2) ∙ at_key h.0 h.1 in
         let one : j ≡ k = one_slot t j k h.0 n at is slots in
         let node : n ≡ h.0 = one_option n (sym is ∙ (ap (node_at t) (sym one) ∙ at)) in
-        differ (ap (λ (x : Node). x.collection) node ∙ of_it h.0 h.1))
+        differ (ap (λ (x : Node). x.collection) node ∙ of_it store.kept store.found h.0 h.1))
         ∙ untallied_other _ us _ (λ m there here slots.
         let h = head_of m there here in
         let at : node_at t m.head ≡ Some h.0 = ap (node_at t) (sym h.2) ∙ at_key h.0 h.1 in
         let one : m.head ≡ k = one_slot t _ k h.0 n at is slots in
         let node : n ≡ h.0 = one_option n (sym is ∙ (ap (node_at t) (sym one) ∙ at)) in
-        differ (ap (λ (x : Node). x.collection) node ∙ of_it h.0 h.1)),
+        differ (ap (λ (x : Node). x.collection) node ∙ of_it store.kept store.found h.0 h.1)),
   )
 
   -- the other collections have their counts in any case
@@ -199,7 +192,7 @@ module _ {t : Table Node} {us : List Unit} {ss : List Shelf} {old : Entry} (stor
       let at_n : node_at t n.key ≡ Some n = at_key n on in
       let free : blocked_at is_blocking t n.key ≡ false =
       ap (λ o. option_map_or is_blocking o false) at_n ∙ rw (unheld, bare) (and-false n.dispensable) in
-      let up : parent_at t n.key ≡ Some q.key = linked n on here ∙ (is ∙ ap Some (sym key)) in
+      let up : parent_at t n.key ≡ Some q.key = linked store.kept store.found n on here ∙ (is ∙ ap Some (sym key)) in
       list_any-from_Contains key_equivalence q.key keys
       ((taken.fall q.key).1 (Up n.key q.key ((taken.fall n.key).0 (Contains-from_any same_key-true _ _ e)) free up))
 

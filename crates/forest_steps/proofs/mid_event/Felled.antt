@@ -1,19 +1,15 @@
 -- What a fault takes goes in its place, and what nothing holds then ends.
-use Rattle.forest_steps.proofs.Common.{◌≡◌, ap, sym, ◌∙◌, subst, true, false, not, ◌&&◌, inl, is_some, List, [], Option, Some, None, NodeKey, In-list_any, and_left, same_key-true, Table, node_at, Entry, Node, Unit, with_nodes, Shelf, collection_in, nodes_with, shelf_of, is_of, Handles, Settles, is_head, Fault, after_loss, in_all, looked_there}
-use Rattle.std.proofs.Common.{option_copied, Bor}
+use Rattle.forest_steps.proofs.Common.{◌≡◌, ap, sym, ◌∙◌, subst, true, false, inl, is_some, List, [], Option, Some, None, NodeKey, Table, node_at, Entry, Node, Unit, with_nodes, Shelf, collection_in, nodes_with, shelf_of, Handles, Settles, Fault, after_loss, in_all, looked_there, option_copied, AreOrEnd, AfterLoss, AfterSteps, AfterRemoval, Reaches, is_head_left}
+use Rattle.std.proofs.Common.{Bor}
 use Rattle.forest_steps.proofs.tables.Rows.{same_on}
-use Rattle.forest_steps.specs.MidEvent.{AreOrEnd, AfterLoss, AfterSteps, AfterRemoval, Reaches, is_head_left}
+use Rattle.forest_steps.proofs.mid_event.EndAbove.{head_left}
 
 -- a head that is left is there
 pub head_row : (t : Table Node) → ((key : NodeKey) (n : Node) → node_at t key ≡ Some n → n.key ≡ key) → (keys : List NodeKey)
     (head : NodeKey) → is_head_left (nodes_with t keys) head ≡ true → (n : Node) × (node_at t head ≡ Some n)
 head_row t named keys head left =
-    let x = In-list_any (λ (n : Node). is_of head n && (not n.gone && is_head n)) (nodes_with t keys) left in
-    let key : x.0.key ≡ head = same_key-true _ _ (and_left (is_of head x.0) _ x.2) in (
-      x.0,
-      ap (node_at t) (sym key)
-          ∙ in_all (λ (m : Node). node_at t m.key ≡ Some m) (nodes_with t keys) (looked_there t named keys) x.0 x.1,
-    )
+    let h = head_left _ head left in
+    (h.node, ap (node_at t) (sym h.is) ∙ in_all _ (nodes_with t keys) (looked_there t named keys) h.node h.on)
 
 -- what is lent is there
 pub lent_there : (o : Option (Bor Node)) {n : Node} → option_copied o ≡ Some n → is_some o ≡ false → ⊥

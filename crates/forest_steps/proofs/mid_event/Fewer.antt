@@ -1,14 +1,11 @@
 -- Nodes of which some went: none may come to its turn that might not before.
-use Rattle.forest_steps.proofs.Common.{◌≡◌, refl, ap, sym, ◌∙◌, subst, Bool, true, false, not, ◌&&◌, ◌||◌, ◌⊎◌, inl, inr, is_none, is_some, List, [], ◌∷◌, drop, map, Option, Some, None, not-true, find, list_all, list_any, option_and_then, NodeKey, same_key, when, In, In-find, In-map, In-map-back, and_both, and_left, and_right, both_ways, either_way, false_if, same_key-true, all_on, Node, waiting, Collection, is_ready_node, is_root_left, heads_itself, or-true, Fault, is_under, list_any-map, after_loss, ended, is_taken, lost, member_of, IsSound, GoTogether, all-In, head_own, arith}
+use Rattle.forest_steps.proofs.Common.{◌≡◌, refl, ap, sym, ◌∙◌, subst, Bool, true, false, not, ◌||◌, ◌⊎◌, inl, inr, is_none, is_some, List, map, Option, Some, None, not-true, list_all, list_any, NodeKey, same_key, In, In-map, In-map-back, and_both, and_left, and_right, both_ways, either_way, false_if, same_key-true, all_on, Node, waiting, Collection, is_ready_node, heads_itself, or-true, Fault, is_under, list_any-map, after_loss, ended, is_taken, lost, member_of, IsSound, GoTogether, all-In, head_own, arith, AreClosed, AreOrEnd, hangs_in_some, is_coming, IsSameNode, is_of, option_map_or, ◌&&◌}
 use Rattle.sm_names.proofs.ListLaws.{map-map}
-use Rattle.forest_steps.specs.MidEvent.{AreClosed, AreOrEnd, hangs_in_some, is_coming}
+use Rattle.forest_steps.proofs.mid_event.RootLost.{waits_was}
 
 -- some go, and nothing else is asked of them changes
 pub record OnlyGo (f : Node → Node) : Type 0 where
-  pub key : (n : Node) → (f n).key ≡ n.key
-  pub parent : (n : Node) → (f n).parent ≡ n.parent
-  pub attached : (n : Node) → (f n).attached ≡ n.attached
-  pub head : (n : Node) → (f n).head ≡ n.head
+  pub same : (n : Node) → IsSameNode (f n) n
   pub allocated : (n : Node) → (f n).allocated ≡ n.allocated
   pub released : (n : Node) → (f n).released ≡ n.released
   pub constraints : (n : Node) → (f n).constraints ≡ n.constraints
@@ -17,10 +14,7 @@ pub record OnlyGo (f : Node → Node) : Type 0 where
 -- a loss writes the fault and the mark alone
 only_lost : (taken : Node → Bool) (fault : Fault) → OnlyGo (lost taken fault)
 only_lost taken fault = record {
-  key = λ n. refl;
-  parent = λ n. refl;
-  attached = λ n. refl;
-  head = λ n. refl;
+  same = λ n. record { key = refl; parent = refl; attached = refl; collection = refl; head = refl };
   allocated = λ n. refl;
   released = λ n. refl;
   constraints = λ n. refl;
@@ -30,10 +24,7 @@ only_lost taken fault = record {
 -- an end writes the mark alone
 pub only_ended : (ns : List Node) (top : NodeKey) → OnlyGo (ended ns top)
 only_ended ns top = record {
-  key = λ n. refl;
-  parent = λ n. refl;
-  attached = λ n. refl;
-  head = λ n. refl;
+  same = λ n. record { key = refl; parent = refl; attached = refl; collection = refl; head = refl };
   allocated = λ n. refl;
   released = λ n. refl;
   constraints = λ n. refl;
@@ -43,10 +34,7 @@ only_ended ns top = record {
 -- one after the other
 only_both : (taken : Node → Bool) (fault : Fault) (ns : List Node) (top : NodeKey) → OnlyGo (λ n. ended ns top (lost taken fault n))
 only_both taken fault ns top = record {
-  key = λ n. refl;
-  parent = λ n. refl;
-  attached = λ n. refl;
-  head = λ n. refl;
+  same = λ n. record { key = refl; parent = refl; attached = refl; collection = refl; head = refl };
   allocated = λ n. refl;
   released = λ n. refl;
   constraints = λ n. refl;
@@ -76,35 +64,6 @@ have_gone fault nodes now (inr ends) = record {
       (ap (λ b. b || n.gone) h);
 }
 
--- the only one that passes is found
-find_one : (p : Node → Bool) (ns : List Node) (n : Node) → In n ns → p n ≡ true → ((m : Node) → In m ns → p m ≡ true → m ≡ n) →
-    find p ns ≡ Some n
-find_one p [] n on is one = absurd on
-find_one p (m ∷ ms) n on is one = elim (either_way (p m)) [
-  | inl e ↦ rw e (ap Some (one m (inl refl) e))
-  | inr e ↦ rw e (find_one p ms n (behind e on) is (λ x there h. one x (inr there) h))
-]
-  where
-    behind : p m ≡ false → In n (m ∷ ms) → In n ms
-    behind out (inl same) = absurd (both_ways _ (ap p (sym same) ∙ is) out)
-    behind out (inr there) = there
-
--- one node alone is a root
-root_one : (ns : List Node) → list_all (λ (n : Node). is_some n.parent) (drop 1 ns) ≡ true → (m n : Node) → In m ns → In n ns →
-    is_none m.parent ≡ true → is_none n.parent ≡ true → m ≡ n
-root_one [] one m n on there a b = absurd on
-root_one (x ∷ xs) one m n (inl is) (inl too) a b = is ∙ sym too
-root_one (x ∷ xs) one m n (inr on) there a b = absurd (child m.parent (all-In _ xs m on one) a)
-  where
-    child : (o : Option NodeKey) → is_some o ≡ true → is_none o ≡ true → ⊥
-    child None h g = cc
-    child (Some p) h g = cc
-root_one (x ∷ xs) one m n (inl is) (inr there) a b = absurd (child n.parent (all-In _ xs n there one) b)
-  where
-    child : (o : Option NodeKey) → is_some o ≡ true → is_none o ≡ true → ⊥
-    child None h g = cc
-    child (Some p) h g = cc
-
 module _ {c : Collection} (sound : IsSound c) {f : Node → Node} (only : OnlyGo f) (together : GoTogether (map f c.nodes)) where
   abbrev nodes : List Node
   nodes = c.nodes
@@ -130,72 +89,54 @@ module _ {c : Collection} (sound : IsSound c) {f : Node → Node} (only : OnlyGo
           let unit : m.head ≡ h.key = same_key-true _ _ same in
           let stays : (f m).gone ≡ false =
           together.spared (f m) (f h) (In-map-back f _ m there) (In-map-back f _ h on)
-          (only.head m ∙ (unit ∙ sym (only.key h))) (only.head h ∙ (own ∙ sym (only.key h))) here (only.allocated h ∙ waits) in
-          (λ i. (here_was m stays ∙ sym stays) i || (not (same_key (sym (only.head m) i) h.key)
+          ((only.same m).head ∙ (unit ∙ sym (only.same h).key)) ((only.same h).head ∙ (own ∙ sym (only.same h).key)) here (only.allocated h ∙ waits) in
+          (λ i. (here_was m stays ∙ sym stays) i || (not (same_key (sym (only.same m).head i) h.key)
           || (sym (only.released m) i || is_some (sym (only.constraints m) i))))
           ∙ all-In _ now _ (In-map-back f _ m there) all
 
   -- one that may come to its turn might before
   coming_was : (n : Node) → In n nodes → is_coming now (f n) ≡ true → is_coming nodes n ≡ true
   coming_was n on h =
-      let attached : n.attached ≡ true = sym (only.attached n) ∙ and_left _ _ h in
+      let attached : n.attached ≡ true = sym (only.same n).attached ∙ and_left _ _ h in
       let a = and_right _ _ h in
       let b = and_right _ _ a in
       let here : (f n).gone ≡ false = not-true _ (and_left _ _ a) in
       let waits : n.allocated ≡ false = sym (only.allocated n) ∙ not-true _ (and_left _ _ b) in
       let all : list_all (is_ready_node n.key) now ≡ true =
-      subst (λ j. list_all (is_ready_node j) now ≡ true) (only.key n) (and_right _ _ b) in
+      subst (λ j. list_all (is_ready_node j) now ≡ true) (only.same n).key (and_right _ _ b) in
       and_both _ _ attached (and_both _ _ (ap not (here_was n here)) (and_both _ _ (ap not waits)
       (ready_was n on here waits (head_own c sound n on attached) all)))
 
   -- keys and heads are kept
   hangs_same : (hs : List NodeKey) (n : Node) → hangs_in_some now hs (f n) ≡ hangs_in_some nodes hs n
-  hangs_same hs n = grind (arith, list_any-map)
+  hangs_same hs n = λ i. option_map_or (λ p. list_any-map (λ (q : Node). is_of p q && list_any (same_key q.head) hs)
+      (λ (q : Node). is_of p q && list_any (same_key q.head) hs) f nodes
+      (λ q there. λ j. same_key ((only.same q).key j) p && list_any (same_key ((only.same q).head j)) hs) i) ((only.same n).parent i) false
 
   -- a unit that is coming after was coming before, and hangs as it did
   pub closed_on : (hs : List NodeKey) → AreClosed nodes hs → AreClosed now hs
   closed_on hs closed m there coming hangs =
       let x = In-map f _ m there in
       ap (λ (n : Node). list_any (same_key n.key) hs) x.2
-      ∙ (ap (λ j. list_any (same_key j) hs) (only.key x.0)
+      ∙ (ap (λ j. list_any (same_key j) hs) (only.same x.0).key
       ∙ closed x.0 x.1 (coming_was x.0 x.1 (ap (is_coming now) (sym x.2) ∙ coming))
       (sym (hangs_same hs x.0) ∙ (ap (hangs_in_some now hs) (sym x.2) ∙ hangs)))
 
   -- the root waits where it did, if it is there still
   pub waits_on : waiting nodes ≡ None → waiting now ≡ None
-  waits_on none = from (find is_root_left now) refl
+  waits_on none = from (waiting now) refl
     where
-      from : (o : Option Node) → find is_root_left now ≡ o →
-          option_and_then (λ (root : Node). when (not root.allocated && list_all (is_ready_node root.key) now) root) o ≡ None
+      from : (o : Option Node) → waiting now ≡ o → o ≡ None
       from None is = refl
-      from (Some r) is = by (either_way (not r.allocated && list_all (is_ready_node r.key) now))
-        where
-          x : In r now × (is_root_left r ≡ true)
-          x = let y = In-find _ now r is in (y.0, y.1)
-
-          by : ((not r.allocated && list_all (is_ready_node r.key) now) ≡ true)
-              ⊎ ((not r.allocated && list_all (is_ready_node r.key) now) ≡ false) →
-              when (not r.allocated && list_all (is_ready_node r.key) now) r ≡ None
-          by (inr out) = ap (λ b. when b r) out
-          by (inl h) =
-              let y = In-map f _ r x.0 in
-              let m : Node = y.0 in
-              let root : is_none m.parent ≡ true =
-              ap is_none (sym (only.parent m) ∙ ap (λ (n : Node). n.parent) (sym y.2)) ∙ and_left _ _ x.1 in
-              let here : (f m).gone ≡ false =
-              ap (λ (n : Node). n.gone) (sym y.2) ∙ not-true _ (and_right _ _ x.1) in
-              let waits : m.allocated ≡ false =
-              sym (only.allocated m) ∙ (ap (λ (n : Node). n.allocated) (sym y.2) ∙ not-true _ (and_left _ _ h)) in
-              let key : r.key ≡ m.key = ap (λ (n : Node). n.key) y.2 ∙ only.key m in
-              let mine : heads_itself m ≡ true = all-In _ _ m y.1 sound.heads in
-              let own : m.head ≡ m.key = same_key-true _ _ (rw root at mine) in
-              let ready : list_all (is_ready_node m.key) nodes ≡ true = ready_was m y.1 here waits own
-              (subst (λ j. list_all (is_ready_node j) now ≡ true) key (and_right _ _ h)) in
-              let left : is_root_left m ≡ true = and_both _ _ root (ap not (here_was m here)) in
-              let first : find is_root_left nodes ≡ Some m = find_one _ _ m y.1 left (λ n there h.
-              root_one _ sound.one_root n m there y.1 (and_left _ _ h) root) in
-              let some : waiting nodes ≡ Some m =
-              ap (option_and_then (λ (root : Node). when (not root.allocated && list_all (is_ready_node root.key) nodes) root)) first
-              ∙ ap (λ b. when b m) (and_both _ _ (ap not waits) ready) in
-              let no : Some m ≡ None = sym some ∙ none in
-              cc
+      from (Some r) is =
+          let x = waits_was f nodes sound.one_root is (λ m on same root.
+          let top : is_none m.parent ≡ true = ap is_none (sym (only.same m).parent ∙ root.top) in
+          let waits : m.allocated ≡ false = sym (only.allocated m) ∙ root.bare in
+          let mine : heads_itself m ≡ true = all-In _ _ m on sound.heads in
+          let own : m.head ≡ m.key = same_key-true _ _ (rw top at mine) in (
+            and_both _ _ top (ap not (here_was m root.here)),
+            waits,
+            ready_was m on root.here waits own (subst (λ j. list_all (is_ready_node j) now ≡ true) (only.same m).key root.ready),
+          )) in
+          let no : Some x.0 ≡ None = sym x.3 ∙ none in
+          absurd (cc)

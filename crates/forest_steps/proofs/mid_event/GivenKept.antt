@@ -1,19 +1,16 @@
 -- A node has buffers only where its collection was given some: so it is after each step and each change.
-use Rattle.forest_steps.proofs.Common.{◌≡◌, ◌==◌, if◌then◌else◌, ℕ, refl, ap, sym, ◌∙◌, subst, Bool, true, false, not, ◌&&◌, ◌||◌, inl, inr, List, [], ◌∷◌, ◌++◌, map, Option, Some, None, option_map, is_none, filter, find, list_all, list_any, option_and_then, option_map_or, Interval, NodeKey, Buffers, Cause, forced, when, In, In-find, In-list_any, In-map, both_ways, either_way, false_if, In-any, Table, Change, Effect, Entry, Node, Unit, has_strong, Collection, with_nodes, IsStored, Shelf, collection_in, forest_of, affected, are_distinct, is_deserted_node, is_next_node, is_ready_node, is_root_left, Handles, Settles, collection_or_new, put, standing, list_any-append, unwrap_or, Failure, Fault, outcome, Mark, Loss, places, pages_of, Holdings, HaveUnits, Decision, Ends, Loses, Places, decided, first_step, later_step, mark_of, wanted_by, collection_at, pages_in, Finishes, IsOutcomeIn, ended, given_buffers, is_taken, lost, has_buffers, Forces, changed, is_birth, is_root_of, made, no_key, forced_made, found_by_key, all_at, arith}
+use Rattle.forest_steps.proofs.Common.{◌≡◌, ◌==◌, if◌then◌else◌, ℕ, refl, ap, sym, ◌∙◌, subst, Bool, true, false, not, ◌&&◌, ◌||◌, inl, inr, List, [], ◌∷◌, ◌++◌, map, Option, Some, None, option_map, is_none, filter, find, list_any, option_map_or, Interval, NodeKey, Cause, forced, when, In, In-find, In-list_any, In-map, both_ways, either_way, false_if, In-any, Table, Change, Effect, Entry, Node, Unit, has_strong, Collection, with_nodes, IsStored, Shelf, collection_in, forest_of, affected, are_distinct, is_deserted_node, is_root_left, Handles, Settles, collection_or_new, put, standing, list_any-append, unwrap_or, Failure, Fault, outcome, Mark, Loss, places, pages_of, Holdings, HaveUnits, Decision, Ends, Loses, Places, decided, first_step, mark_of, wanted_by, collection_at, pages_in, Finishes, IsOutcomeIn, ended, given_buffers, is_taken, lost, has_buffers, Forces, changed, is_birth, is_root_of, made, no_key, forced_made, found_by_key, all_at, arith, Allocated, Ended, IsServedByGiven, Rests, cases_place, losing, first_some, remains_affected, waiting, Buffers, or_both}
 use Rattle.std.proofs.Common.{IfSome}
-use Rattle.sm_names.specs.Marks.{Called, Allocated, Ended}
-use Rattle.sm_names.proofs.SamenessLaws.{or_both}
+use Rattle.sm_names.specs.Marks.{Called}
 use Rattle.forest_store.specs.Calm.{IsForest}
 use Rattle.forest_store.specs.Forest.{is_left, tidied, without_over_in}
-use Rattle.forest_store.specs.Given.{AreServedByGiven, IsServedByGiven}
+use Rattle.forest_store.specs.Given.{AreServedByGiven}
 use Rattle.forest_store.specs.Shelves.{born}
-use Rattle.forest_store.specs.Settling.{Rests}
-use Rattle.forest_store.proofs.quiescence.Steps.{first_has}
 use Rattle.forest_store.proofs.changes.Altering.{change_makes}
 use Rattle.forest_store.proofs.leaving.Thinning.{none-filter}
 use Rattle.forest_store.proofs.newborns.Newborn.{before_is}
-use Rattle.forest_store.proofs.shelves.Putting.{cases_place}
 use Rattle.forest_store.proofs.tables.Writing.{distinct-map}
+use Rattle.forest_steps.proofs.mid_event.RootLost.{ready_root}
 
 -- ---- nodes that change
 
@@ -35,14 +32,7 @@ served_lost taken fault n = was_there (taken n) n.gone n.allocated
 
 -- no effect allocates a unit
 pub served_effect : (key : NodeKey) (effect : Effect) (n : Node) → has_buffers (affected key effect n) ≡ true → has_buffers n ≡ true
-served_effect key Effect.Bound n h = h
-served_effect key Effect.Dispensable n h = h
-served_effect key Effect.Weak n h = h
-served_effect key (Effect.WeakOk children) n h = h
-served_effect key (Effect.Constrained demand) n h = h
-served_effect key Effect.Taken n h = h
-served_effect key Effect.Released n h = h
-served_effect key Effect.Tracked n h = h
+served_effect key effect n h = let same = remains_affected key effect n in sym (λ i. not (same.gone i) && same.allocated i) ∙ h
 
 -- ---- a forced step
 
@@ -56,23 +46,6 @@ module _ (pool : ℕ) (others : List Interval) (c : Collection) (distinct : are_
   root_is {root} found same = grind (arith, In-find, found_by_key)
 
   module _ (held : List Interval) where
-    -- an end allocates nothing
-    ends_if : (o : Option Node) → IfSome (option_map (λ (n : Node). Ends n.key) o) (IsRootIf held)
-    ends_if None = tt
-    ends_if (Some n) = λ is. cc
-
-    -- a loss allocates nothing
-    loses_if : (strong_open : Bool) (o : Option Node) →
-        IfSome (option_and_then (λ (root : Node). when (root.allocated && (not (has_strong c.nodes) && not strong_open))
-        (Loses root.key Cause.NoStrong)) o) (IsRootIf held)
-    loses_if strong_open None = tt
-    loses_if strong_open (Some n) =
-        elim (n.allocated && (not (has_strong c.nodes) && not strong_open)) as
-        (λ b. IfSome (when b (Loses n.key Cause.NoStrong)) (IsRootIf held)) [
-          | true ↦ λ is. cc
-          | false ↦ tt
-        ]
-
     -- only the root's own unit is allocated first
     placed_if : {root : Node} → find is_root_left c.nodes ≡ Some root → (o : Option Failure) → outcome root.key o ≡ Allocated head →
         is_root_of c head ≡ true
@@ -87,35 +60,32 @@ module _ (pool : ℕ) (others : List Interval) (c : Collection) (distinct : are_
         held)) Failure.PoolFull)
     step_if found (Some why) = λ is. cc
 
-    -- the same, where some root waits
-    places_if : (o : Option Node) → find is_root_left c.nodes ≡ o →
-        IfSome (option_map (λ (n : Node). first_step c.nodes n.key)
-        (option_and_then (λ (root : Node). when (not root.allocated && list_all (is_ready_node root.key) c.nodes) root) o)) (IsRootIf held)
-    places_if None e = tt
-    places_if (Some n) e = from (not n.allocated && list_all (is_ready_node n.key) c.nodes)
-      where
-        from : (b : Bool) → IfSome (option_map (λ (n : Node). first_step c.nodes n.key) (when b n)) (IsRootIf held)
-        from false = tt
-        from true = step_if e _
+    -- the root that waits comes to its allocation
+    waits_if : (w : Option Node) → waiting c.nodes ≡ w →
+        IfSome (first_some (option_map (λ (n : Node). first_step c.nodes n.key) w ∷ None ∷ [])) (IsRootIf held)
+    waits_if None is = tt
+    waits_if (Some n) is = step_if (ready_root c.nodes is).found _
 
-    -- without buffers no attached unit is allocated
-    allocates_if : (o : Option Buffers) → o ≡ None →
-        IfSome (option_and_then (λ b. option_map (λ (n : Node). later_step c.nodes b n.key) (find (is_next_node c.nodes) c.nodes)) o)
-        (IsRootIf held)
-    allocates_if None none = tt
-    allocates_if (Some b) none = cc
-
-    -- one of the four steps
-    decided_if : c.buffers ≡ None → (strong_open : Bool) → IfSome (decided c.nodes c.buffers strong_open) (IsRootIf held)
-    decided_if none strong_open =
-        first_has (IsRootIf held) _ _ _ _ (ends_if (find (is_deserted_node c.nodes) c.nodes))
-        (loses_if strong_open (find is_root_left c.nodes)) (places_if _ refl) (allocates_if _ none)
+    -- or a unit ends, or the root is lost: without buffers no attached unit comes to its allocation
+    decided_if : (a r w : Option Node) → waiting c.nodes ≡ w → (strong_open : Bool) →
+        IfSome (first_some (option_map (λ (n : Node). Ends n.key) a ∷ losing c.nodes strong_open r
+        ∷ option_map (λ (n : Node). first_step c.nodes n.key) w ∷ None ∷ [])) (IsRootIf held)
+    decided_if (Some n) r w is strong_open = λ told. cc
+    decided_if None (Some root) w is strong_open = elim (root.allocated && (not (has_strong c.nodes) && not strong_open)) as
+        (λ b. IfSome (first_some (when b (Loses root.key Cause.NoStrong)
+        ∷ option_map (λ (n : Node). first_step c.nodes n.key) w ∷ None ∷ [])) (IsRootIf held)) [
+          | true ↦ λ told. cc
+          | false ↦ waits_if w is
+        ]
+    decided_if None None w is strong_open = waits_if w is
 
   -- the forced step is the decided one
   pub root_allocated : (handles : Handles) → c.buffers ≡ None → forced pool (standing handles others c) ≡ Some (Allocated head) →
       is_root_of c head ≡ true
   root_allocated handles none forces =
-      by (decided c.nodes c.buffers (standing handles others c).strong_open) (decided_if _ none _)
+      by (decided c.nodes c.buffers (standing handles others c).strong_open)
+      (subst (λ (o : Option Buffers). IfSome (decided c.nodes o (standing handles others c).strong_open) (IsRootIf (pages_in c ++ others)))
+      (sym none) (decided_if _ (find (is_deserted_node c.nodes) c.nodes) (find is_root_left c.nodes) _ refl _))
       (sym (forced_made handles _ others c) ∙ forces)
     where
       by : (o : Option Decision) → IfSome o (IsRootIf (pages_in c ++ others)) →

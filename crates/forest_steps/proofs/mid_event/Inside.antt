@@ -1,11 +1,10 @@
 -- What a walk within units finds that come to their turn together: each of their nodes, and the heads right below them.
-use Rattle.forest_steps.proofs.Common.{◌≡◌, ℕ, zero, suc, ◌<◌, ◌==◌, ap, sym, ◌∙◌, subst, Bool, true, false, not, ◌&&◌, ◌||◌, ◌⊎◌, inl, inr, length, List, [], ◌∷◌, Some, arith, not-true, find, list_any, option_map_or, NodeKey, same_key, In, In-list_any, and_left, and_right, either_way, or_left, same_key-refl, same_key-true, In-any, Table, node_at, parent_at, Node, Unit, is_left_of, IsStored, IsWhole, Shelf, collection_in, nodes_with, is_head, same_key-equal, Contains-from_any, list_any-from_Contains, Below, Top, Within, stopped_at, HasUnits, is_head_at, is_outside, at_key, node_there, whole_before, head_own, left_node, left_parent}
-use Rattle.forest_steps.proofs.tables.Upward.{line, own_head, shared, step, still_here}
-use Rattle.sm_names.proofs.ListLaws.{In-filter, In-filter-back}
-use Rattle.forest_store.specs.UnitAllocation.{AreHeads, IsGathered, hangs_below, is_ready_head}
+use Rattle.forest_steps.proofs.Common.{◌≡◌, ◌==◌, ap, sym, ◌∙◌, subst, Bool, true, false, not, ◌&&◌, ◌||◌, ◌⊎◌, inl, inr, List, [], ◌∷◌, Some, arith, not-true, find, list_any, option_map_or, NodeKey, same_key, In, In-list_any, and_left, and_right, either_way, or_left, same_key-refl, same_key-true, In-any, Table, node_at, parent_at, Node, Unit, IsStored, Shelf, nodes_with, same_key-equal, Contains-from_any, list_any-from_Contains, Below, Top, Within, stopped_at, HasUnits, is_head_at, node_there, head_own, left_node, left_parent, In-filter, In-filter-back, AreHeads, IsGathered, hangs_below, is_ready_head}
+use Rattle.forest_store.specs.UnitAllocation.{is_outside}
+use Rattle.forest_steps.proofs.tables.Upward.{own_head, by_unit}
 use Rattle.forest_steps.proofs.failures.Ties.{key_equivalence}
 use Rattle.forest_store.proofs.allocation.Before.{some_there}
-use Rattle.forest_store.proofs.tallies.Holding.{has_parent}
+use Rattle.forest_steps.proofs.tables.OfShelf.{whole, at_key}
 
 module _ {t : Table Node} {ss : List Shelf} (kept : IsStored t ss) {s : Shelf} (found : find (λ (x : Shelf). x.id == s.id) ss ≡ Some s)
     {us : List Unit} (counts : HasUnits us (nodes_with t s.keys)) {k : NodeKey}
@@ -13,22 +12,11 @@ module _ {t : Table Node} {ss : List Shelf} (kept : IsStored t ss) {s : Shelf} (
   abbrev nodes : List Node
   nodes = nodes_with t s.keys
 
-  -- each collection is whole
-  pub whole : IsWhole (collection_in t s)
-  whole = whole_before t ss kept s found k
-
-  -- each node stands in the table under its key
-  pub at : (m : Node) → In m nodes → node_at t m.key ≡ Some m
-  at m on = at_key t ss kept s found k m on
-
   abbrev pub stopped : NodeKey → Bool
   stopped = stopped_at (is_outside us s.id) t k
 
   abbrev pub Inside : NodeKey → Type 0
   Inside key = Within (parent_at t) stopped k key
-
-  abbrev above : NodeKey → List NodeKey
-  above = line whole
 
   -- ---- keys
 
@@ -85,7 +73,7 @@ module _ {t : Table Node} {ss : List Shelf} (kept : IsStored t ss) {s : Shelf} (
   -- a node of one of the units doesn't stop the walk
   goes_on : (n : Node) → In n nodes → list_any (same_key n.head) hs ≡ true → stopped n.key ≡ false
   goes_on n on own =
-      ap (λ o. not (same_key n.key k) && option_map_or (is_outside us s.id) o false) (at n on)
+      ap (λ o. not (same_key n.key k) && option_map_or (is_outside us s.id) o false) (at_key kept found n on)
       ∙ from (either_way n.attached)
     where
       out : (same attached ready : Bool) → (same || ready) ≡ true → (not same && (attached && not ready)) ≡ false
@@ -98,9 +86,9 @@ module _ {t : Table Node} {ss : List Shelf} (kept : IsStored t ss) {s : Shelf} (
           (not (same_key n.key k) && (n.attached && not (is_ready_head us s.id n))) ≡ false
       from (inl e) =
           let head : list_any (same_key n.key) hs ≡ true =
-          ap (λ j. list_any (same_key j) hs) (sym (head_own _ whole.sound n on e)) ∙ own in
+          ap (λ j. list_any (same_key j) hs) (sym (head_own _ (whole kept found).sound n on e)) ∙ own in
           out (same_key n.key k) n.attached (is_ready_head us s.id n)
-          (ap (λ o. same_key n.key k || option_map_or (is_ready_head us s.id) o false) (sym (at n on))
+          (ap (λ o. same_key n.key k || option_map_or (is_ready_head us s.id) o false) (sym (at_key kept found n on))
           ∙ (head_from _ head).1)
       from (inr e) = none (same_key n.key k) n.attached (is_ready_head us s.id n) e
 
@@ -108,33 +96,16 @@ module _ {t : Table Node} {ss : List Shelf} (kept : IsStored t ss) {s : Shelf} (
   child_in : (n x : Node) → In n nodes → n.gone ≡ false → In x nodes → list_any (same_key x.head) hs ≡ true → n.parent ≡ Some x.key →
       list_any (same_key x.key) ks ≡ true → list_any (same_key n.key) ks ≡ true
   child_in n x on here there own is listed =
-      inside_key _ (Below x.key n.key (key_inside _ listed) (goes_on x there own) (kept.linked n.key n (at n on) here ∙ is))
+      inside_key _ (Below x.key n.key (key_inside _ listed) (goes_on x there own) (kept.linked n.key n (at_key kept found n on) here ∙ is))
 
   -- so each of them is
-  unit_from : (fuel : ℕ) (n : Node) → In n nodes → n.gone ≡ false → list_any (same_key n.head) hs ≡ true → length (above n.key) < fuel →
-      list_any (same_key n.key) ks ≡ true
-  unit_from zero n on here own few = absurd (omega arith)
-  unit_from (suc fuel) n on here own few = elim (either_way (is_head n)) [
-    | inl e ↦
-        (head_from n.key (ap (λ (j : NodeKey). list_any (same_key j) hs)
-        (sym (own_head whole n on e)) ∙ own)).0
-    | inr e ↦
-        let up' = has_parent nodes whole.sound.distinct whole.sound.heads whole.rooted whole.united n e in
-        let x = shared whole n on here e up'.1 in
-        let left : is_left_of nodes x.0.key ≡ true =
-        subst (λ (j : NodeKey). is_left_of nodes j ≡ true) (sym x.2) (left_parent nodes whole.rooted n up'.0 on here up'.1) in
-        let long : length (above n.key) ≡ length (up'.0 ∷ above up'.0) =
-        ap length (step whole n on here up'.1) in
-        let same : length (above x.0.key) ≡ length (above up'.0) = ap (λ (j : NodeKey). length (above j)) x.2 in
-        let too : list_any (same_key x.0.head) hs ≡ true = ap (λ (j : NodeKey). list_any (same_key j) hs) x.3 ∙ own in
-        child_in n x.0 on here x.1 too (up'.1 ∙ ap Some (sym x.2))
-        (unit_from fuel x.0 x.1
-        (still_here whole x.0 x.1 left) too (omega arith))
-  ]
-
-  -- by induction on the line above the node
   pub of_unit : (n : Node) → In n nodes → n.gone ≡ false → list_any (same_key n.head) hs ≡ true → list_any (same_key n.key) ks ≡ true
-  of_unit n on here own = unit_from (suc (length (above n.key))) n on here own (omega arith)
+  of_unit = by_unit (whole kept found) (λ n. list_any (same_key n.head) hs ≡ true → list_any (same_key n.key) ks ≡ true)
+      (λ n on here head own. (head_from n.key (ap (λ (j : NodeKey). list_any (same_key j) hs)
+      (sym (own_head (whole kept found) n on head)) ∙ own)).0)
+      (λ n x on here inner there up same listed own.
+      let too : list_any (same_key x.head) hs ≡ true = ap (λ (j : NodeKey). list_any (same_key j) hs) same ∙ own in
+      child_in n x on here there too up (listed too))
 
   -- and a head right below one of the units
   pub hangs_inside : (m : Node) → In m nodes → hangs_below t us hs m ≡ true → list_any (same_key m.key) ks ≡ true
@@ -142,7 +113,7 @@ module _ {t : Table Node} {ss : List Shelf} (kept : IsStored t ss) {s : Shelf} (
       let here : m.gone ≡ false = not-true _ (and_left _ _ (and_right _ _ (and_left _ _ h))) in
       let p = some_there _ _ (and_right _ _ (and_right _ _ h)) in
       let q = node_there _ _ p.2 in
-      let x = left_node _ p.0 (left_parent _ whole.rooted m p.0 on here p.1) in
-      let same : q.0 ≡ x.node = one_node q.0 (sym q.1 ∙ (ap (node_at t) (sym x.is) ∙ at _ x.on)) in
+      let x = left_node _ p.0 (left_parent _ (whole kept found).rooted m p.0 on here p.1) in
+      let same : q.0 ≡ x.node = one_node q.0 (sym q.1 ∙ (ap (node_at t) (sym x.is) ∙ at_key kept found _ x.on)) in
       let own : list_any (same_key x.node.head) hs ≡ true = ap (λ (y : Node). list_any (same_key y.head) hs) (sym same) ∙ q.2 in
       child_in m _ on here x.on own (p.1 ∙ ap Some (sym x.is)) (of_unit _ x.on x.here own)

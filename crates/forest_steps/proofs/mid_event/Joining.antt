@@ -1,12 +1,9 @@
 -- Steps that were made one after another, joined: what the later ones finish, the earlier ones did.
-use Rattle.forest_steps.proofs.Common.{◌≡◌, ◌≢◌, ℕ, zero, suc, ◌+◌, ◌==◌, ◌⊎◌, arith, inl, inr, nat_lt, refl, ap, sym, ◌∙◌, subst, true, false, not, List, [], ◌∷◌, map, get_or, set, Option, Some, None, option_map, eq-eqb, filter, find, NodeKey, In, either_way, some-injective, Table, Change, Entry, Node, Unit, Collection, IsStored, Shelf, collection_in, forest_of, place_in, put_shelf, shelf_of, shelves_of, Handles, collection_or_new, put, get_or-set_same, get_or_default, flat_map, Holdings, AreCountedExcept, beside, pages_in, Finishes, IsOutcomeIn, IsSettledIn, changed_in, given_back, is_birth, shelves_put, place_is, set_put, put-map, collection_is, shelf_found}
-use Rattle.forest_steps.specs.EventEnd.{Closes, MayClose}
-use Rattle.forest_steps.specs.MidEvent.{IsBeside, MidEvent, Reaches, is_abandoned_in}
-use Rattle.forest_steps.proofs.allocation.Among.{put_among}
+use Rattle.forest_steps.proofs.Common.{◌≡◌, ◌≢◌, ℕ, zero, suc, ◌+◌, ◌==◌, ◌⊎◌, arith, inl, inr, nat_lt, refl, ap, sym, ◌∙◌, subst, true, false, not, List, [], ◌∷◌, map, get_or, set, Option, Some, None, option_map, eq-eqb, filter, find, NodeKey, In, either_way, some-injective, Table, Change, Entry, Node, Unit, Collection, IsStored, Shelf, collection_in, forest_of, place_in, put_shelf, shelf_of, shelves_of, Handles, collection_or_new, put, get_or-set_same, get_or_default, flat_map, Holdings, AreCountedExcept, beside, pages_in, Finishes, IsOutcomeIn, IsSettledIn, changed_in, given_back, is_birth, shelves_put, place_is, set_put, collection_is, shelf_found, Closes, MayClose, IsBeside, MidEvent, Reaches, is_abandoned_in, cases_place}
 use Rattle.forest_store.proofs.shelves.Counted.{moved, set_shelves}
-use Rattle.forest_store.proofs.shelves.Putting.{cases_place}
 use Rattle.forest_store.proofs.tallies.Slots.{changed_id, or_new_id, settles_id}
 use Rattle.forest_steps.proofs.tables.Rows.{same_on}
+use Rattle.forest_steps.proofs.changes.FirstAllocated.{put_there}
 
 -- ---- collections by id
 
@@ -137,10 +134,9 @@ module _ (handles : Handles) {t mid : Table Node} (es : List Entry) {id at : ℕ
       let there : find (λ (x : Shelf). x.id == old.id) (shelves_of es) ≡ Some (shelf_of old) =
       subst (λ i. find (λ (x : Shelf). x.id == i) (shelves_of es) ≡ Some (shelf_of old)) (sym old_id)
       (shelf_found id es ∙ ap (option_map shelf_of) (place.found new)) in
-      ap (map (collection_in mid)) put_in_place ∙ put-map mid (shelf_of new) ss
-      ∙ ap (put (collection_in mid (shelf_of new)))
-      (put_among t mid ss kept.rising there (λ x on differ. by.others x on (λ same. differ (same ∙ sym old_id))))
-      ∙ put_twice _ _ (map (collection_in t) ss) (old_id ∙ sym own)
+      ap (map (collection_in mid)) put_in_place
+      ∙ put_there (shelf_of old) (shelf_of new) (own ∙ sym old_id) t mid ss kept.rising there
+      (λ x on differ. by.others x on (λ same. differ (same ∙ sym old_id)))
 
   -- it is found at its place
   mid_is : collection_or_new (forest_of mid (shelves_of (set es at new))) id ≡ collection_in mid (shelf_of new)

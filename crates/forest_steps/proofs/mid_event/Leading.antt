@@ -1,8 +1,6 @@
 -- Forced steps one after another, and the units that had their turn so far.
-use Rattle.forest_steps.proofs.Common.{◌≡◌, ℕ, ◌∙◌, ap, subst, refl, true, false, List, [], ◌∷◌, Some, NodeKey, Buffers, Table, Entry, Node, Unit, Shelf, collection_in, nodes_with, Handles}
-use Rattle.forest_steps.specs.declared.pending_units.PendingUnit.{PendingUnit}
+use Rattle.forest_steps.proofs.Common.{◌≡◌, ℕ, ◌∙◌, ap, subst, refl, true, false, List, [], ◌∷◌, Some, NodeKey, Buffers, Table, Entry, Node, Unit, Shelf, collection_in, nodes_with, Handles, PendingUnit, AreTurns, IsBeside, AfterSteps, MidEvent, Reaches, is_abandoned_in, turn_heads, waits_among}
 use Rattle.forest_steps.proofs.tables.Rows.{same_on}
-use Rattle.forest_steps.specs.MidEvent.{AreTurns, IsBeside, AfterSteps, MidEvent, Reaches, is_abandoned_in, turn_heads, waits_among}
 
 -- ---- steps one after another
 

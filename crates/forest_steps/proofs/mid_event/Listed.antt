@@ -1,58 +1,23 @@
 -- What a walk over one unit finds: each of its nodes, so that what these ask for is what the unit asks for.
-use Rattle.forest_steps.proofs.Common.{◌≡◌, ℕ, zero, suc, ◌<◌, ◌≤◌, ◌==◌, refl, ap, sym, ◌∙◌, subst, Bool, true, false, not, ◌&&◌, inl, inr, length, List, [], ◌∷◌, Option, Some, None, arith, eqb-true, not-true, cons_option, find, list_any, sum_by, option_and_then, option_map_or, NodeKey, Buffers, Demand, same_key, In, and_left, and_right, both_ways, either_way, false_if, same_key-true, Table, node_at, parent_at, Effect, Node, affected, is_left_of, IsStored, IsWhole, Shelf, collection_in, nodes_with, reserved_count, is_head, same_key-equal, le-ltb, ltb-false, Contains-from_any, list_any-from_Contains, filter_map, greatest, Writes, Row, Below, Top, Within, stopped_at, Going, late_failure, demands_of, is_in_unit, all-In, found_filed, looked-of, same_affected, in_looked, IsBareHead, at_key, key_listed, whole_before, head_own, in_all, looked_there, in_shelf, left_parent, camped_sum}
-use Rattle.forest_steps.proofs.tables.Upward.{line, own_head, shared, step, still_here}
-use Rattle.std.proofs.Math.Bool.{and-false}
+use Rattle.forest_steps.proofs.Common.{◌≡◌, ℕ, ◌==◌, refl, ap, sym, ◌∙◌, subst, Bool, true, false, not, ◌&&◌, inl, inr, List, Option, Some, None, arith, not-true, find, list_any, sum_by, option_map_or, NodeKey, Buffers, Demand, same_key, In, and_left, and_right, both_ways, either_way, false_if, same_key-true, Table, node_at, parent_at, Effect, Node, affected, IsStored, Shelf, nodes_with, reserved_count, same_key-equal, Contains-from_any, list_any-from_Contains, filter_map, greatest, Writes, Below, Top, Within, stopped_at, Going, late_failure, demands_of, is_in_unit, same_affected, in_looked, IsBareHead, key_listed, head_own, in_all, looked_there, in_shelf, camped_sum, and-false, ◌↔◌, Contains, refusal, IsUnitListed, asked_there, parents-written, amount_within}
+use Rattle.forest_steps.proofs.tables.Upward.{own_head, by_unit}
 use Rattle.std.specs.Option.{option_map}
-use Rattle.std.proofs.Common.{◌↔◌, Contains}
-use Rattle.node_table.specs.Table.{parent_in}
-use Rattle.forest_steps.specs.Refusing.{refusal}
-use Rattle.forest_steps.specs.LogicalAllocation.{IsUnitListed, asked_there}
 use Rattle.forest_steps.proofs.failures.Ties.{key_equivalence}
-use Rattle.forest_steps.proofs.allocation.Sums.{asked_back, asked_of, asks_passes, greatest_fewer}
-use Rattle.forest_store.proofs.tables.Writing.{parents-written}
-use Rattle.forest_store.proofs.tallies.Holding.{has_parent}
-use Rattle.forest_store.proofs.tallies.Reserved.{amount_within}
+use Rattle.forest_steps.proofs.allocation.Sums.{asked_back, asked_of, asks_passes, joined, greatest_same}
 use Rattle.forest_steps.proofs.mid_event.Affecting.{look_here}
-
--- what is made of what the keys find
-joined : (look : NodeKey → Option Node) (f : Node → Option Demand) (keys : List NodeKey) →
-    filter_map (λ key. option_and_then f (look key)) keys ≡ filter_map f (filter_map look keys)
-joined look f [] = refl
-joined look f (k ∷ ks) = ap (cons_option (option_and_then f (look k))) (joined _ f ks) ∙ by (look k)
-  where
-    by : (o : Option Node) → cons_option (option_and_then f o) (filter_map f (filter_map look ks))
-        ≡ filter_map f (cons_option o (filter_map look ks))
-    by None = refl
-    by (Some n) = refl
-
--- a row that has a parent has a node
-row_there : (o : Option (Row Node)) {p : NodeKey} → parent_in o ≡ Some p → (n : Node) × (option_map (λ (r : Row Node). r.node) o ≡ Some n)
-row_there None h = cc
-row_there (Some r) h = (r.node, refl)
+use Rattle.forest_steps.proofs.tables.Rows.{child_node}
+use Rattle.forest_steps.proofs.tables.OfShelf.{whole, linked, at_key, of_it}
 
 module _ {t : Table Node} {ss : List Shelf} (kept : IsStored t ss) {s : Shelf} (found : find (λ (x : Shelf). x.id == s.id) ss ≡ Some s)
-    (kin : (key p : NodeKey) (n q : Node) → node_at t key ≡ Some n → parent_at t key ≡ Some p → node_at t p ≡ Some q →
-    q.collection ≡ n.collection)
     {k : NodeKey} (top : IsBareHead (nodes_with t s.keys) k) {ks : List NodeKey} (listed : IsUnitListed t k ks) where
   abbrev nodes : List Node
   nodes = nodes_with t s.keys
-
-  -- each collection is whole
-  whole : IsWhole (collection_in t s)
-  whole = whole_before t ss kept s found k
-
-  -- each node stands in the table under its key
-  at : (m : Node) → In m nodes → node_at t m.key ≡ Some m
-  at m on = at_key t ss kept s found k m on
 
   abbrev stopped : NodeKey → Bool
   stopped = stopped_at (λ (n : Node). n.attached) t k
 
   abbrev Inside : NodeKey → Type 0
   Inside key = Within (parent_at t) stopped k key
-
-  abbrev above : NodeKey → List NodeKey
-  above = line whole
 
   inside_key : (key : NodeKey) → Inside key → list_any (same_key key) ks ≡ true
   inside_key key reach = list_any-from_Contains key_equivalence key ks ((listed.within key).1 reach)
@@ -66,41 +31,20 @@ module _ {t : Table Node} {ss : List Shelf} (kept : IsStored t ss) {s : Shelf} (
   -- a node of the unit doesn't stop the walk
   goes_on : (n : Node) → In n nodes → n.head ≡ k → stopped n.key ≡ false
   goes_on n on own =
-      ap (λ o. not (same_key n.key k) && option_map_or (λ (m : Node). m.attached) o false) (at n on)
+      ap (λ o. not (same_key n.key k) && option_map_or (λ (m : Node). m.attached) o false) (at_key kept found n on)
       ∙ elim (either_way n.attached) [
         | inl e ↦
-            let same : same_key n.key k ≡ true = same_key-equal _ _ (sym (head_own _ whole.sound n on e) ∙ own) in
+            let same : same_key n.key k ≡ true = same_key-equal _ _ (sym (head_own _ (whole kept found).sound n on e) ∙ own) in
             rw same refl
         | inr e ↦ rw e (and-false _)
       ]
 
-  -- by induction on the line above: the walk goes down from the head within the unit
-  unit_from : (fuel : ℕ) (n : Node) → In n nodes → n.gone ≡ false → n.head ≡ k → length (above n.key) < fuel →
-      list_any (same_key n.key) ks ≡ true
-  unit_from zero n on here own few = absurd (omega arith)
-  unit_from (suc fuel) n on here own few = elim (either_way (is_head n)) [
-    | inl e ↦
-        let key : n.key ≡ k =
-        sym (own_head whole n on e) ∙ own in
-        subst (λ j. list_any (same_key j) ks ≡ true) (sym key) (inside_key k Top)
-    | inr e ↦
-        let up' = has_parent nodes whole.sound.distinct whole.sound.heads whole.rooted whole.united n e in
-        let x = shared whole n on here e up'.1 in
-        let left : is_left_of nodes x.0.key ≡ true =
-        subst (λ (j : NodeKey). is_left_of nodes j ≡ true) (sym x.2) (left_parent nodes whole.rooted n up'.0 on here up'.1) in
-        let long : length (above n.key) ≡ length (up'.0 ∷ above up'.0) =
-        ap length (step whole n on here up'.1) in
-        let same : length (above x.0.key) ≡ length (above up'.0) = ap (λ (j : NodeKey). length (above j)) x.2 in
-        let too : x.0.head ≡ k = x.3 ∙ own in
-        inside_key n.key (Below x.0.key n.key
-        (key_inside x.0.key (unit_from fuel x.0 x.1
-        (still_here whole x.0 x.1 left) too (omega arith)))
-        (goes_on x.0 x.1 too) (kept.linked n.key n (at n on) here ∙ (up'.1 ∙ ap Some (sym x.2))))
-  ]
-
-  -- so it lists each node of the unit
+  -- so it lists each node of the unit: it goes down from the head within it
   pub of_unit : (n : Node) → In n nodes → n.gone ≡ false → n.head ≡ k → list_any (same_key n.key) ks ≡ true
-  of_unit n on here own = unit_from (suc (length (above n.key))) n on here own (omega arith)
+  of_unit = by_unit (whole kept found) (λ n. n.head ≡ k → list_any (same_key n.key) ks ≡ true)
+      (λ n on here head own. rw (sym (own_head (whole kept found) n on head) ∙ own) (inside_key k Top))
+      (λ n x on here inner there up same listed own. inside_key n.key (Below x.key n.key (key_inside x.key (listed (same ∙ own)))
+      (goes_on x there (same ∙ own)) (linked kept found n on here ∙ up)))
 
   -- what it does not list is not of the unit
   outside : (n : Node) → In n nodes → list_any (same_key n.key) ks ≡ false → is_in_unit k n ≡ false
@@ -112,13 +56,13 @@ module _ {t : Table Node} {ss : List Shelf} (kept : IsStored t ss) {s : Shelf} (
   inside_node : (key : NodeKey) → Inside key → (n : Node) × (node_at t key ≡ Some n) × (n.collection ≡ s.id)
   inside_node _ Top = (
     top.head,
-    ap (node_at t) (sym top.key) ∙ at _ top.on,
-    eqb-true _ _ (all-In _ _ _ top.on (looked-of t _ _ (found_filed t _ ss s kept.filed found))),
+    ap (node_at t) (sym top.key) ∙ at_key kept found _ top.on,
+    of_it kept found _ top.on,
   )
   inside_node _ (Below over child reach open_above up) =
       let q = inside_node _ reach in
-      let n = row_there _ up in
-      (n.0, n.1, sym (kin child over n.0 q.0 n.1 up q.1) ∙ q.2)
+      let n = child_node t _ up in
+      (n.0, n.1, sym (kept.kin child over n.0 q.0 n.1 up q.1) ∙ q.2)
 
   -- what it lists is of the collection
   within : (n : Node) → In n (nodes_with t ks) → In n nodes
@@ -144,7 +88,7 @@ module _ {t : Table Node} {ss : List Shelf} (kept : IsStored t ss) {s : Shelf} (
 
   -- only nodes of the unit are added, and these are all listed
   pub sum_is : sum_by (λ (d : Demand). d.camping) asked ≡ sum_by (λ (d : Demand). d.camping) (demands_of (is_in_unit k) nodes)
-  sum_is = grind (arith, amount_within, at, below_asks, camped_sum, outside, whole, within)
+  sum_is = grind (arith, amount_within, at_key kept found, below_asks, camped_sum, outside, (whole kept found).sound.distinct, within)
 
   -- each demand of the unit is that of a listed node
   fewer : (d : Demand) → In d (demands_of (is_in_unit k) nodes) → In d asked
@@ -154,7 +98,7 @@ module _ {t : Table Node} {ss : List Shelf} (kept : IsStored t ss) {s : Shelf} (
         | inl e ↦ e
         | inr e ↦ both_ways _ (asks_passes _ _ x.2) (outside x.0 x.1 e)
       ] in
-      rw below_asks (asked_back _ _ x.0 (in_looked t kept.named Going.Leaves ks x.0 (at x.0 x.1) listed_there) x.2)
+      rw below_asks (asked_back _ _ x.0 (in_looked t kept.named Going.Leaves ks x.0 (at_key kept found x.0 x.1) listed_there) x.2)
 
   -- each listed demand is that of a node of the unit
   more : (d : Demand) → In d asked → In d (demands_of (is_in_unit k) nodes)
@@ -164,13 +108,7 @@ module _ {t : Table Node} {ss : List Shelf} (kept : IsStored t ss) {s : Shelf} (
 
   -- each list has what the other has, so the greatest is one
   pub greatest_is : (f : Demand → ℕ) → greatest f asked ≡ greatest f (demands_of (is_in_unit k) nodes)
-  greatest_is f =
-      let below = greatest f asked in
-      let all = greatest f (demands_of (is_in_unit k) nodes) in
-      let one : below ≤ all = ltb-false all below (greatest_fewer f all _ _ more (le-ltb all all (omega arith))) in
-      let two : all ≤ below = ltb-false below all (greatest_fewer f _ _ _ fewer
-      (le-ltb below below (omega arith))) in
-      omega arith
+  greatest_is f = greatest_same f _ _ more fewer
 
   -- so these tell why the buffers are not enough for the unit
   pub refusal_is : (b : Buffers) (reserved camping at_least size : ℕ) → reserved ≡ reserved_count nodes →

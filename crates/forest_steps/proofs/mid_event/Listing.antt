@@ -1,20 +1,20 @@
 -- The units that may come to their turn by one, in a list: from what a walk finds to the order of their places.
-use Rattle.forest_steps.proofs.Common.{◌≡◌, ℕ, suc, ◌<◌, ◌≤◌, ◌==◌, nat_lt, refl, ap, sym, ◌∙◌, subst, Bool, true, false, not, ◌⊎◌, inl, inr, get_or, length, List, [], ◌∷◌, ◌++◌, map, Some, None, arith, eqb-true, lt-ltb, not-true, find, list_any, option_map_or, NodeKey, same_key, In-list_any, In-map, In-map-back, and_both, and_left, and_right, both_ways, either_way, false_if, or_cases, or_right, same_key-refl, same_key-true, some-injective, In-any, Table, node_at, parent_at, Entry, Node, Unit, AreUnits, unit_at, IsStored, Shelf, collection_in, nodes_with, shelf_of, Below, Top, Within, Going, HasUnits, Hangs, Roots, is_head_at, is_waiting_head, all-In, found_filed, in_looked, at_key, key_listed, node_there, in_shelf}
-use Rattle.std.proofs.Common.{filter, slice_get}
+use Rattle.forest_steps.proofs.Common.{◌≡◌, ℕ, suc, ◌<◌, ◌≤◌, ◌==◌, nat_lt, refl, ap, sym, ◌∙◌, subst, Bool, true, false, not, ◌⊎◌, inl, inr, get_or, length, List, [], ◌∷◌, ◌++◌, map, Some, None, arith, eqb-true, lt-ltb, not-true, find, list_any, option_map_or, NodeKey, same_key, In-list_any, In-map, In-map-back, and_both, and_left, and_right, both_ways, either_way, false_if, or_cases, or_right, same_key-refl, same_key-true, some-injective, In-any, Table, node_at, parent_at, Entry, Node, Unit, AreUnits, unit_at, IsStored, Shelf, collection_in, nodes_with, shelf_of, Below, Top, Within, Going, HasUnits, Hangs, Roots, is_head_at, is_waiting_head, all-In, found_filed, in_looked, key_listed, node_there, in_shelf, slice_get, In-get_or, PendingUnit, AreHeads, IsGathered, hangs_below, is_ready_head, AreClosed, ArePlacedIfThere, AreTurns, MidEvent, is_head_left, turn_heads}
+use Rattle.forest_store.proofs.changes.Altering.{Some-shelf}
+use Rattle.forest_store.proofs.allocation.Before.{at_key, closed_below}
+use Rattle.std.proofs.Common.{filter}
 use Rattle.std.proofs.lemmas.List.Sorted.{All-permutation, IsPermutation-map, list_any-IsPermutation}
 use Rattle.std.proofs.lemmas.Option.{slice_get_read}
 use Rattle.std.specs.List.Sorted.{IsNonDecreasingBy, IsPermutation}
 use Rattle.sm_names.specs.Elements.{In}
-use Rattle.sm_names.proofs.ListLaws.{In-append, In-get_or}
-use Rattle.forest_steps.specs.declared.pending_units.PendingUnit.{PendingUnit}
+use Rattle.sm_names.proofs.ListLaws.{In-append}
 use Rattle.forest_store.specs.Garbage.{IsPlace}
-use Rattle.forest_store.specs.UnitAllocation.{AreHeads, IsGathered, IsWalked, hangs_below, is_ready_head, left_out_at}
-use Rattle.forest_steps.specs.MidEvent.{AreClosed, AreInTurn, ArePlacedIfThere, AreTurns, MidEvent, is_head_left, turn_heads}
-use Rattle.forest_store.proofs.changes.Altering.{Some-shelf}
+use Rattle.forest_store.specs.UnitAllocation.{IsWalked, left_out_at}
+use Rattle.forest_steps.specs.MidEvent.{AreInTurn}
 use Rattle.forest_steps.proofs.lists.ByKey.{place_of}
-use Rattle.forest_store.proofs.allocation.Before.{closed_below}
-use Rattle.forest_steps.proofs.mid_event.Inside as inside
 use Rattle.forest_steps.proofs.turns.Places.{grown, key_node, node_key, one_place}
+use Rattle.forest_steps.proofs.mid_event.EndAbove.{head_left}
+use Rattle.forest_steps.proofs.mid_event.Inside as inside
 
 -- ---- lists of turns
 
@@ -168,19 +168,9 @@ module _ {t : Table Node} {ss : List Shelf} (kept : IsStored t ss) {s : Shelf} (
           ],
         )
 
-    -- the head that is left has the key
-    first_there : (m : Node) × In m nodes × (m.key ≡ k) × (m.gone ≡ false)
-    first_there =
-        let x = In-list_any _ _ left in (
-          x.0,
-          x.1,
-          same_key-true _ k (and_left _ _ x.2),
-          not-true _ (and_left _ _ (and_right _ _ x.2)),
-        )
-
-    -- its key is one of the shelf's
+    -- the key of the head that is left is one of the shelf's
     first_listed : list_any (same_key k) s.keys ≡ true
-    first_listed = rw first_there.2 at (key_listed t kept.named _ _ first_there.1)
+    first_listed = let h = head_left nodes k left in rw h.is at (key_listed t kept.named _ h.node h.on)
 
     -- the place was looked up for a listed key
     stands : (w : PendingUnit) → In w vs → IsPlace s.keys w.head w.place

@@ -1,13 +1,9 @@
 -- Whether an attached unit is next, which its head, the node above it and the counts tell, while forced steps are being made.
-use Rattle.forest_steps.proofs.Common.{◌≡◌, ℕ, refl, ap, sym, ◌∙◌, subst, Bool, true, false, not, ◌||◌, inl, inr, List, [], ◌∷◌, Option, Some, None, eq-eqb, not-true, list_all, list_any, option_map_or, NodeKey, same_key, times, In, In-find, In-list_any, In-map-back, and_both, and_left, and_right, both_ways, either_way, false_if, same_key-true, all_on, In-any, Table, node_at, parent_at, Entry, Node, Unit, unit_at, waits_in, waiting, Shelf, nodes_with, shelf_of, is_next_node, is_ready_node, same_key-equal, row_at, HasUnits, unit_of, is_allocated_node, is_waiting_head, count_none, at_key, in_all, all_at, arith}
-use Rattle.sm_names.proofs.SamenessLaws.{or_first}
-use Rattle.std.proofs.Common.{IsSome}
-use Rattle.forest_steps.specs.declared.pending_units.PendingUnit.{PendingUnit}
-use Rattle.forest_store.specs.UnitAllocation.{has_turn_at, has_buffers_there}
-use Rattle.forest_steps.specs.LogicalAllocation.{is_next_there}
-use Rattle.forest_steps.specs.MidEvent.{MidEvent, is_head_left, is_next_except, turn_heads, waits_among}
+use Rattle.forest_steps.proofs.Common.{◌≡◌, ℕ, refl, ap, sym, ◌∙◌, subst, Bool, true, false, not, ◌||◌, inl, inr, List, [], ◌∷◌, Option, Some, None, eq-eqb, not-true, list_all, list_any, option_map_or, NodeKey, same_key, times, In, In-list_any, and_both, and_left, and_right, both_ways, either_way, false_if, same_key-true, all_on, In-any, Table, node_at, parent_at, Entry, Node, Unit, unit_at, waits_in, waiting, Shelf, nodes_with, shelf_of, is_next_node, is_ready_node, same_key-equal, row_at, unit_of, is_allocated_node, is_waiting_head, count_none, arith, or_first, IsSome, PendingUnit, has_turn_at, is_next_there, MidEvent, is_head_left, is_next_except, turn_heads, waits_among}
+use Rattle.forest_store.specs.UnitAllocation.{has_buffers_there}
 use Rattle.forest_steps.proofs.turns.Gifts.{not_this}
-use Rattle.forest_steps.proofs.mid_event.Ready.{none_next}
+use Rattle.forest_steps.proofs.mid_event.Ready.{none_next, under_with, unit_told}
+use Rattle.forest_steps.proofs.tables.OfShelf.{at_key}
 
 -- ---- which are due
 
@@ -18,19 +14,6 @@ wait_among nodes pending none = ap (λ o. option_map_or (λ (n : Node). list_any
 -- none waits, since none is due
 pub none_waits : (nodes : List Node) → waits_among [] nodes ≡ true → waiting nodes ≡ None
 none_waits nodes h = grind arith
-
--- the state does not change where other units are due
-pub with_due : {t : Table Node} {us : List Unit} {ss : List Shelf} {e : Entry} {unheld pending : List NodeKey} (other : List NodeKey) →
-    MidEvent t us ss e unheld pending →
-    list_any (is_next_except other (nodes_with t e.keys.items)) (nodes_with t e.keys.items) ≡ false →
-    waits_among other (nodes_with t e.keys.items) ≡ true → MidEvent t us ss e unheld other
-with_due other under next root = record {
-  store = under.store;
-  bare = under.bare;
-  held = under.held;
-  next = next;
-  root = root;
-}
 
 -- only these are next, where only these were but for some that are not
 pub next_fewer : (nodes : List Node) (pending few : List NodeKey) → list_any (is_next_except pending nodes) nodes ≡ false →
@@ -54,21 +37,13 @@ module _ {t : Table Node} {us : List Unit} {ss : List Shelf} {e : Entry} {unheld
   abbrev nodes : List Node
   nodes = nodes_with t e.keys.items
 
-  -- each node stands in the table under its key
-  at : (m : Node) → In m nodes → node_at t m.key ≡ Some m
-  at m on = at_key t ss u.store.kept s u.store.found k m on
-
   -- the head stands in the table under its key
   pub head_is : node_at t k ≡ Some head
-  head_is = ap (node_at t) (sym head_key) ∙ at _ head_on
-
-  -- the counts of each collection's units are right
-  counted : HasUnits us nodes
-  counted = all_at _ _ u.store.units _ (In-map-back _ ss s (In-find _ ss s u.store.found).0)
+  head_is = ap (node_at t) (sym head_key) ∙ at_key u.store.kept u.store.found _ head_on
 
   -- the slot of the head has the counts of its unit
   unit_is : unit_at us k.slot ≡ unit_of nodes k
-  unit_is = rw head_key at (in_all _ _ counted _ head_on).1
+  unit_is = rw head_key at (unit_told u _ head_on)
 
   -- the counts tell whether it is ready
   pub ready_by : (unit_at us k.slot).unready ≡ 0 → list_all (is_ready_node k) nodes ≡ true
@@ -98,7 +73,7 @@ module _ {t : Table Node} {us : List Unit} {ss : List Shelf} {e : Entry} {unheld
     where
       served : (o : Option NodeKey) → option_map_or (λ p. list_any (is_allocated_node p) nodes) o false ≡ true →
           option_map_or (has_buffers_there t) o false ≡ true
-      served o h = grind (arith, In-list_any, at, same_key-true)
+      served o h = grind (arith, In-list_any, at_key u.store.kept u.store.found, same_key-true)
 
       none : (ns : List Node) → list_all (is_ready_node k) ns ≡ true → times (waits_in k) ns ≡ 0
       none [] all = refl
@@ -109,6 +84,11 @@ module _ {t : Table Node} {us : List Unit} {ss : List Shelf} {e : Entry} {unheld
   -- where it is found to be, its head is left
   pub told_left : is_next_there t us k ≡ true → is_head_left nodes k ≡ true
   told_left told = grind (arith, In-any, head_is, same_key-equal)
+
+-- the counts that were read are those that are kept
+pub next_by : (t : Table Node) (k : NodeKey) (read us : List Unit) (r b : Bool) → r ≡ is_next_there t read k → read ≡ us → r ≡ b →
+    is_next_there t us k ≡ b
+next_by t k read us r b told same is = ap (λ xs. is_next_there t xs k) (sym same) ∙ (sym told ∙ is)
 
 -- ---- one unit
 
@@ -123,17 +103,17 @@ module _ {t : Table Node} {us : List Unit} {ss : List Shelf} {e : Entry} {k : No
 
   -- where it is not found to be next, none is due
   pub none_due : is_next_there t us k ≡ false → MidEvent t us ss e [] []
-  none_due out = with_due [] u (next_fewer _ (k ∷ []) [] u.next (λ n on next pending.
+  none_due out = under_with u u.held (next_fewer _ (k ∷ []) [] u.next (λ n on next pending.
       both_ways _ (next_told u k n on (same_key-true _ k (or_first _ _ pending refl)) next) out)) no_wait
 
   -- nor where no buffers were given
   pub none_bare : e.buffers ≡ None → MidEvent t us ss e [] []
-  none_bare none = with_due [] u (next_fewer nodes_one (k ∷ []) [] u.next (λ n on next pending.
+  none_bare none = under_with u u.held (next_fewer nodes_one (k ∷ []) [] u.next (λ n on next pending.
       absurd (not_this (is_next_node nodes_one) nodes_one n (none_next nodes_one (u.bare none)) on next))) no_wait
 
   -- more may be due
   pub more_due : (pending : List NodeKey) → MidEvent t us ss e [] (k ∷ pending)
-  more_due pending = with_due _ u
+  more_due pending = under_with u u.held
       (next_fewer nodes_one (k ∷ []) (k ∷ pending) u.next (λ n on next one. more (same_key n.key k) (list_any (same_key n.key) pending) one))
       (wait_among nodes_one (k ∷ pending) (none_waits nodes_one no_wait))
     where

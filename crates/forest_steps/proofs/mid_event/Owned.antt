@@ -1,17 +1,24 @@
 -- What a failure takes of a table is of one collection, where parents are.
-use Rattle.forest_steps.proofs.Common.{◌≡◌, ℕ, refl, sym, ◌∙◌, true, List, Option, Some, None, option_map, NodeKey, same_key-true, Table, node_at, parent_at, Node, nodes_with, Contains-from_any, Up, IsForest, Row, row_at, blocked_at, IsTaken, all_of, is_blocking, arith}
-use Rattle.sm_names.specs.Losses.{Down, Origin, Reach}
-use Rattle.node_table.specs.Table.{parent_in}
-use Rattle.forest_steps.proofs.tables.Links.{own_all, own_at}
-use Rattle.forest_steps.proofs.tables.Rows.{row_node}
+use Rattle.forest_steps.proofs.Common.{◌≡◌, ℕ, sym, ◌∙◌, true, List, Some, NodeKey, same_key-true, Table, node_at, parent_at, Node, nodes_with, Contains-from_any, Up, IsForest, blocked_at, IsTaken, all_of, is_blocking, arith, Reach, ◌==◌, refl, ap, Bool, ◌||◌, [], ◌∷◌, Option, None, cons_option, list_any, option_map_or, same_key, and_both, or_right, same_key-refl}
+use Rattle.sm_names.specs.Losses.{Down, Origin}
+use Rattle.forest_steps.proofs.tables.Rows.{row_node, child_node}
 
--- a key that has a parent has a node
-child_node : (t : Table Node) (key : NodeKey) {p : NodeKey} → parent_at t key ≡ Some p → (n : Node) × (node_at t key ≡ Some n)
-child_node t key {p} up = from (row_at t key) up
+-- the node with this key is of this collection, if there is one
+abbrev own_at : Table Node → ℕ → NodeKey → Bool
+own_at t id key = option_map_or (λ (n : Node). n.collection == id) (node_at t key) true
+
+-- by induction over the keys
+own_all : (t : Table Node) (id : ℕ) (keys : List NodeKey) →
+    ((key : NodeKey) → list_any (same_key key) keys ≡ true → own_at t id key ≡ true) → all_of id (nodes_with t keys) ≡ true
+own_all t id [] each = refl
+own_all t id (k ∷ ks) each =
+    by (own_all t id ks (λ key on. each key (or_right _ _ on))) (node_at t k)
+    (each k (ap (λ b. b || list_any (same_key k) ks) (same_key-refl k)))
   where
-    from : (o : Option (Row Node)) → parent_in o ≡ Some p → (n : Node) × (option_map (λ (row : Row Node). row.node) o ≡ Some n)
-    from None up = cc
-    from (Some row) up = (row.node, refl)
+    by : all_of id (nodes_with t ks) ≡ true → (o : Option Node) → option_map_or (λ (n : Node). n.collection == id) o true ≡ true →
+        all_of id (cons_option o (nodes_with t ks)) ≡ true
+    by rest None own = rest
+    by rest (Some n) own = and_both _ _ own rest
 
 module _ {t : Table Node} (forest : IsForest t)
     (kin : (key p : NodeKey) (n q : Node) → node_at t key ≡ Some n → parent_at t key ≡ Some p → node_at t p ≡ Some q →

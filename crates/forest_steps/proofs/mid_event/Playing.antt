@@ -1,12 +1,9 @@
 -- A loss or an effect that is made in its place, with all that it forces.
-use Rattle.forest_steps.proofs.Common.{◌≡◌, refl, ap, sym, ◌∙◌, subst, Bool, true, false, not, ◌&&◌, ◌||◌, ◌⊎◌, inl, inr, List, [], ◌∷◌, Option, Some, None, not-true, find, list_all, list_any, option_and_then, option_map_or, NodeKey, same_key, when, In, In-find, In-list_any, In-map, In-map-back, and_both, and_left, and_right, either_way, same_key-true, all_on, In-any, Table, Effect, Entry, Node, Unit, waiting, Collection, IsWhole, Shelf, collection_in, nodes_with, shelf_of, is_of, is_ready_node, is_root_left, Handles, Settles, is_head, arith, Fault, or_none_right, after_end, after_loss, ended, all-In, found_whole, distinct_one, IsSameNode}
-use Rattle.sm_names.proofs.SamenessLaws.{or_first}
-use Rattle.forest_store.specs.Nodes.{after_effect}
-use Rattle.forest_steps.specs.MidEvent.{AreOrEnd, AfterEffect, IsBeside, AfterLoss, AfterSteps, PropagatedFrom, AfterPropagation, MidEvent, Reaches, are_held_except, holds_unit, is_head_left, is_held, waits_among}
-use Rattle.forest_store.proofs.tallies.Hung.{hangs_mapped}
+use Rattle.forest_steps.proofs.Common.{◌≡◌, refl, ap, sym, ◌∙◌, subst, Bool, true, false, not, ◌&&◌, ◌||◌, ◌⊎◌, inl, inr, List, [], ◌∷◌, Option, Some, None, not-true, list_any, option_map_or, NodeKey, same_key, In, In-list_any, In-map, In-map-back, and_both, and_left, and_right, either_way, same_key-true, all_on, In-any, Table, Effect, Entry, Node, Unit, waiting, Collection, IsWhole, Shelf, collection_in, nodes_with, shelf_of, is_of, Handles, Settles, is_head, arith, Fault, or_none_right, after_end, after_loss, ended, all-In, found_whole, distinct_one, IsSameNode, or_first, after_effect, AreOrEnd, AfterEffect, IsBeside, AfterLoss, AfterSteps, PropagatedFrom, AfterPropagation, MidEvent, Reaches, are_held_except, holds_unit, is_head_left, is_held, waits_among, hangs_mapped}
 use Rattle.forest_steps.proofs.mid_event.Fewer.{only_ended, waits_on}
 use Rattle.forest_steps.proofs.mid_event.Leading.{beside_on, led_none, led_on}
 use Rattle.forest_steps.proofs.mid_event.NextThere.{wait_among}
+use Rattle.forest_steps.proofs.mid_event.RootLost.{ready_root}
 
 -- ---- a loss
 
@@ -67,25 +64,14 @@ record IsWaiting (ns : List Node) (key : NodeKey) : Type 0 where
 
 -- none waits, or the one with this key
 waiting_is : (ns : List Node) (key : NodeKey) → waits_among (key ∷ []) ns ≡ true → (waiting ns ≡ None) ⊎ IsWaiting ns key
-waiting_is ns key root = from (find is_root_left ns) refl root
+waiting_is ns key root = from (waiting ns) refl root
   where
-    from : (o : Option Node) → find is_root_left ns ≡ o →
-        option_map_or (λ (n : Node). list_any (same_key n.key) (key ∷ []))
-        (option_and_then (λ (r : Node). when (not r.allocated && list_all (is_ready_node r.key) ns) r) o) true ≡ true →
-        (option_and_then (λ (r : Node). when (not r.allocated && list_all (is_ready_node r.key) ns) r) o ≡ None) ⊎ IsWaiting ns key
+    from : (o : Option Node) → waiting ns ≡ o → option_map_or (λ (n : Node). list_any (same_key n.key) (key ∷ [])) o true ≡ true →
+        (o ≡ None) ⊎ IsWaiting ns key
     from None is h = inl refl
-    from (Some r) is h = elim (either_way (not r.allocated && list_all (is_ready_node r.key) ns)) [
-      | inr out ↦ inl (ap (λ b. when b r) out)
-      | inl some ↦
-          let x = In-find _ ns r is in
-          inr (record {
-            node = r;
-            on = x.0;
-            is = same_key-true _ key (or_first _ _
-                (sym (ap (λ b. option_map_or (λ (n : Node). list_any (same_key n.key) (key ∷ [])) (when b r) true) some) ∙ h) refl);
-            here = not-true _ (and_right _ _ x.1);
-          })
-    ]
+    from (Some r) is h =
+        let x = ready_root ns is in
+        inr (record { node = r; on = x.on; is = same_key-true _ key (or_first _ _ h refl); here = x.here })
 
 module _ {c d : Collection} (whole : IsWhole c) (whole_then : IsWhole d) (head : NodeKey)
     (held : are_held_except (head ∷ []) c.nodes ≡ true) (left : is_head_left c.nodes head ≡ true) (ends : AreOrEnd c.nodes d.nodes)

@@ -1,12 +1,9 @@
 -- A collection that is under way with no unit loose or due is calm, and a calm one is such.
-use Rattle.forest_steps.proofs.Common.{◌≡◌, ◌<◌, ℕ, ◌==◌, refl, ap, sym, ◌∙◌, subst, true, false, inl, List, [], map, length, get_or, Option, Some, None, find, list_any, option_map_or, NodeKey, Buffers, same_key, In-list_any, In-any, Table, node_at, Entry, Node, Unit, AreUnits, waiting, IsStored, IsWhole, Shelf, collection_in, nodes_with, place_in, shelf_of, shelves_of, is_deserted_node, is_next_node, Handles, AreCounted, IsCounted, HaveUnits, has_buffers, later, none_calm, found_whole, counted_but, place_is, arith}
+use Rattle.forest_steps.proofs.Common.{◌≡◌, ◌<◌, ℕ, ◌==◌, refl, ap, sym, ◌∙◌, subst, true, false, inl, List, [], map, length, get_or, Option, Some, None, find, list_any, option_map_or, NodeKey, Buffers, same_key, In-list_any, In-any, Table, node_at, Entry, Node, Unit, AreUnits, waiting, IsStored, IsWhole, Shelf, collection_in, nodes_with, place_in, shelf_of, shelves_of, is_deserted_node, is_next_node, Handles, AreCounted, IsCounted, HaveUnits, has_buffers, none_calm, found_whole, counted_but, place_is, arith, MayClose, MidEvent, is_next_except, found_counted, are_held_except, waits_among, unit_at, unit_of, In, in_all, all_at, In-map-back, In-find}
+use Rattle.forest_store.proofs.quiescence.Calming.{later, AreNone, calm_none}
 use Rattle.std.proofs.Math.Bool.{and-true}
 use Rattle.sm_names.proofs.ListLaws.{find-none, none-find}
 use Rattle.sm_names.proofs.PlaceLaws.{map-None}
-use Rattle.forest_steps.specs.EventEnd.{MayClose}
-use Rattle.forest_steps.specs.MidEvent.{MidEvent, is_next_except}
-use Rattle.forest_store.proofs.quiescence.Calming.{AreNone, calm_none}
-use Rattle.forest_store.proofs.quiescence.Watched.{found_counted}
 use Rattle.forest_store.proofs.tallies.Holding.{held_where, none_deserted}
 use Rattle.forest_steps.proofs.mid_event.Joining.{shelf_here}
 
@@ -25,6 +22,20 @@ waits_none (Some n) h = let no : false ≡ true = h in absurd (cc)
 pub whole_under : {t : Table Node} {us : List Unit} {ss : List Shelf} {e : Entry} {unheld pending : List NodeKey} →
     MidEvent t us ss e unheld pending → IsWhole (collection_in t (shelf_of e))
 whole_under {t} {ss} under = found_whole t _ ss _ under.store.kept.whole under.store.found
+
+-- the slot of each node's key has the counts of the unit that it would head
+pub unit_told : {t : Table Node} {us : List Unit} {ss : List Shelf} {e : Entry} {unheld pending : List NodeKey} →
+    MidEvent t us ss e unheld pending → (m : Node) → In m (nodes_with t e.keys.items) →
+    unit_at us m.key.slot ≡ unit_of (nodes_with t e.keys.items) m.key
+unit_told {t} {ss} {e} u m on = (in_all _ _ (all_at _ _ u.store.units (collection_in t (shelf_of e))
+    (In-map-back _ ss _ (In-find _ ss _ u.store.found).0)) m on).1
+
+-- what is loose and what is due may be told otherwise, of the same store
+pub under_with : {t : Table Node} {us : List Unit} {ss : List Shelf} {e : Entry} {unheld pending loose due : List NodeKey} →
+    MidEvent t us ss e unheld pending → are_held_except loose (nodes_with t e.keys.items) ≡ true →
+    list_any (is_next_except due (nodes_with t e.keys.items)) (nodes_with t e.keys.items) ≡ false →
+    waits_among due (nodes_with t e.keys.items) ≡ true → MidEvent t us ss e loose due
+under_with under held next root = record { store = under.store; bare = under.bare; held = held; next = next; root = root }
 
 -- no node is deserted where no unit is loose
 pub no_end_under : {t : Table Node} {us : List Unit} {ss : List Shelf} {e : Entry} {pending : List NodeKey} → MidEvent t us ss e [] pending →

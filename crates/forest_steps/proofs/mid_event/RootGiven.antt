@@ -1,21 +1,14 @@
 -- The root's unit is allocated with its buffers, and the attached units that follow have their turns.
-use Rattle.forest_steps.proofs.Common.{◌≡◌, ◌≢◌, ℕ, ◌==◌, nat_lt, refl, ap, sym, ◌∙◌, subst, Bool, true, false, not, ◌&&◌, ◌||◌, is_none, inl, inr, List, [], ◌∷◌, map, Option, Some, None, eqb-true, find, list_any, option_map_or, HeldBuffer, NodeKey, Buffers, same_key, In, and_both, either_way, or_left, same_key-refl, same_key-true, In-any, Table, Entry, Node, Unit, over_except, strong_count, AreUnits, waiting, Collection, IsStored, IsWhole, Shelf, collection_in, nodes_with, put_shelf, shelf_of, is_of, reserved_count, heads_itself, Handles, Settles, is_head, same_key-equal, is_strong, after_allocation, given_few, IsGivenAt, given_at, any_map, times_map, all-In, found_put, IsBareHead, in_all, looked_there, arith}
-use Rattle.sm_names.proofs.SamenessLaws.{or_false}
-use Rattle.forest_steps.specs.declared.initial_allocation.AllocationOutcome.{AllocationOutcome}
-use Rattle.forest_steps.specs.declared.pending_units.PendingUnit.{PendingUnit}
-use Rattle.forest_steps.specs.InitialAllocation.{IsComing, IsRooted, first_made, shelf_then}
-use Rattle.forest_steps.specs.LogicalAllocation.{IsUnitListed}
-use Rattle.forest_steps.specs.MidEvent.{AreTurns, AfterPropagation, MidEvent, are_held_except, is_head_left, is_next_except, turn_heads, waits_among}
+use Rattle.forest_steps.proofs.Common.{◌≡◌, ◌≢◌, ℕ, ◌==◌, nat_lt, refl, ap, sym, ◌∙◌, subst, Bool, true, false, not, ◌&&◌, ◌||◌, is_none, inl, inr, List, [], ◌∷◌, map, Option, Some, None, eqb-true, find, list_any, option_map_or, HeldBuffer, NodeKey, Buffers, same_key, In, and_both, either_way, or_left, same_key-refl, same_key-true, In-any, Table, Entry, Node, Unit, over_except, strong_count, AreUnits, waiting, Collection, IsStored, IsWhole, Shelf, collection_in, nodes_with, put_shelf, shelf_of, is_of, reserved_count, heads_itself, Handles, Settles, is_head, same_key-equal, is_strong, after_allocation, given_few, IsGivenAt, given_at, any_map, times_map, all-In, found_put, IsBareHead, in_all, looked_there, arith, or_false, AllocationOutcome, PendingUnit, IsComing, IsRooted, first_made, shelf_then, IsUnitListed, AreTurns, AfterPropagation, MidEvent, are_held_except, is_head_left, is_next_except, turn_heads, waits_among, kept-put}
 use Rattle.forest_steps.proofs.changes.Dropped.{nothing_stored}
-use Rattle.forest_store.proofs.changes.Finishing.{kept-put}
 use Rattle.forest_steps.proofs.changes.FirstAllocated.{all_there, found_there, units_there}
 use Rattle.forest_steps.proofs.allocation.RootUnit.{waits_none}
 use Rattle.forest_steps.proofs.mid_event.Listing.{units_found}
-use Rattle.forest_steps.proofs.mid_event.NextThere.{next_fewer, wait_among, with_due}
-use Rattle.forest_steps.proofs.mid_event.Ready.{whole_under}
+use Rattle.forest_steps.proofs.mid_event.NextThere.{next_fewer, wait_among}
+use Rattle.forest_steps.proofs.mid_event.Ready.{whole_under, under_with}
 use Rattle.forest_steps.proofs.mid_event.RootLost.{IsReadyRoot, ready_root}
 use Rattle.forest_steps.proofs.mid_event.Turns.{hangs_more, turns_behind}
-use Rattle.forest_steps.proofs.mid_event.UnitGiven.{IsUnitGiven, closed_on, f, given_is, held_then, next_parts, next_then, served, unit_given, was_there}
+use Rattle.forest_steps.proofs.mid_event.UnitGiven.{IsUnitGiven, closed_given, f, given_is, held_then, next_parts, next_then, served, unit_given, was_there}
 use Rattle.forest_steps.proofs.tables.Rows.{same_on}
 
 -- another shelf stays where one is put
@@ -42,7 +35,7 @@ pub under_due : {t : Table Node} {us : List Unit} {ss : List Shelf} {e : Entry} 
     ((k : NodeKey) → list_any (same_key k) few ≡ true → list_any (same_key k) more ≡ true) →
     MidEvent t us ss e unheld few → MidEvent t us ss e unheld more
 under_due {t} {e} {few} more all under =
-    with_due _ under (next_fewer (nodes_with t e.keys.items) few _ under.next (λ n on is h. all n.key h))
+    under_with under under.held (next_fewer (nodes_with t e.keys.items) few _ under.next (λ n on is h. all n.key h))
     (from (waiting (nodes_with t e.keys.items)) under.root)
   where
     from : (o : Option Node) → option_map_or (λ (n : Node). list_any (same_key n.key) few) o true ≡ true →
@@ -184,7 +177,7 @@ module _ {t now : Table Node} {us : List Unit} {ss : List Shelf} {e : Entry} {k 
           placed = behind.placed;
           in_turn = behind.in_turn;
           closed = rw unit.nodes
-              (closed_on k _ _ behind.closed);
+              (closed_given k _ _ behind.closed);
         }
 
     -- what is next after hangs on the root's unit, and was listed, and nothing was next before

@@ -1,11 +1,9 @@
 -- A root whose unit comes to its allocation, and is lost instead.
-use Rattle.forest_steps.proofs.Common.{◌≡◌, refl, ap, sym, ◌∙◌, subst, Bool, true, false, not, ◌&&◌, is_none, inl, List, [], ◌∷◌, Option, Some, None, not-true, find, list_all, list_any, option_and_then, option_map_or, NodeKey, Cause, same_key, when, In, In-find, and_left, and_right, all_on, Table, Entry, Node, Unit, waiting, with_nodes, Shelf, collection_in, nodes_with, put_shelf, shelf_of, is_ready_node, is_root_left, Handles, Failure, Fault, after_loss, found_put, left_in, arith}
-use Rattle.forest_steps.specs.declared.initial_allocation.AllocationOutcome.{AllocationOutcome}
-use Rattle.forest_steps.specs.InitialAllocation.{IsComing, IsRooted}
-use Rattle.forest_steps.specs.MidEvent.{MidEvent, AfterRemoval, MayGo, are_held_except, is_next_except, waits_among}
-use Rattle.forest_steps.proofs.failures.AllGone.{AreGone, none_passes}
-use Rattle.forest_steps.proofs.mid_event.Ready.{whole_under}
+use Rattle.forest_steps.proofs.Common.{◌≡◌, refl, ap, sym, ◌∙◌, subst, true, false, not, ◌&&◌, inl, List, [], ◌∷◌, Option, Some, None, not-true, find, list_all, option_and_then, NodeKey, Cause, when, In, In-find, and_left, and_right, Table, Entry, Node, Unit, waiting, with_nodes, Shelf, collection_in, nodes_with, put_shelf, shelf_of, is_ready_node, is_root_left, Handles, Failure, after_loss, found_put, left_in, arith, AllocationOutcome, IsComing, IsRooted, MidEvent, AfterRemoval, MayGo, when-Some, none_if, map, and_both, In-map, is_some, drop}
+use Rattle.forest_steps.proofs.failures.AllGone.{AreGone, held_gone, next_gone, root_gone}
+use Rattle.forest_steps.proofs.mid_event.Ready.{whole_under, under_with}
 use Rattle.forest_steps.proofs.mid_event.Roots.{all_lost}
+use Rattle.forest_steps.proofs.allocation.RootUnit.{root_found}
 
 -- ---- the root that waits
 
@@ -22,26 +20,18 @@ pub record IsReadyRoot (nodes : List Node) (root : Node) : Type 0 where
 pub ready_root : (nodes : List Node) {root : Node} → waiting nodes ≡ Some root → IsReadyRoot nodes root
 ready_root nodes {root} waits = from (find is_root_left nodes) refl waits
   where
-    none_is : (o : Option NodeKey) → is_none o ≡ true → o ≡ None
-    none_is None h = refl
-    none_is (Some p) h = let no : false ≡ true = h in absurd (cc)
-
-    when_some : (b : Bool) (r : Node) → when b r ≡ Some root → (b ≡ true) × (r ≡ root)
-    when_some true r h = (refl, cc)
-    when_some false r h = cc
-
     from : (o : Option Node) → find is_root_left nodes ≡ o →
         option_and_then (λ (r : Node). when (not r.allocated && list_all (is_ready_node r.key) nodes) r) o ≡ Some root →
         IsReadyRoot nodes root
     from None is h = let no : None ≡ Some root = h in absurd (cc)
     from (Some r) is h =
-        let both = when_some (not r.allocated && list_all (is_ready_node r.key) nodes) r h in
+        let both = when-Some (not r.allocated && list_all (is_ready_node r.key) nodes) r root h in
         let found : find is_root_left nodes ≡ Some root = is ∙ ap Some both.1 in
         let x = In-find _ _ _ found in
         record {
           found = found;
           on = x.0;
-          top = none_is root.parent (and_left _ _ x.1);
+          top = none_if root.parent (and_left _ _ x.1);
           here = not-true _ (and_right _ _ x.1);
           bare = ap (λ (m : Node). m.allocated) (sym both.1)
               ∙ not-true _ (and_left _ _ both.0);
@@ -49,50 +39,32 @@ ready_root nodes {root} waits = from (find is_root_left nodes) refl waits
               ∙ and_right _ _ both.0;
         }
 
--- ---- nodes that are all gone
-
--- no unit of them is loose or due
-module _ (nodes : List Node) (gone : AreGone nodes) where
-  -- a gone head counts as held
-  pub gone_held : are_held_except [] nodes ≡ true
-  gone_held = all_on _ _ (λ n on. rw (gone n on) refl)
-
-  -- a gone head is not next
-  pub gone_next : (pending : List NodeKey) → list_any (is_next_except pending nodes) nodes ≡ false
-  gone_next pending = grind (arith, gone, none_passes)
-
-  -- a gone root does not wait
-  pub gone_waits : (pending : List NodeKey) → waits_among pending nodes ≡ true
-  gone_waits pending = from (waiting nodes) refl
-    where
-      from : (o : Option Node) → waiting nodes ≡ o → option_map_or (λ (n : Node). list_any (same_key n.key) pending) o true ≡ true
-      from None is = refl
-      from (Some r) is =
-          let root = ready_root _ is in
-          let no : true ≡ false = sym (gone r root.on) ∙ root.here in
-          absurd (cc)
+-- a root that waits once nodes changed waited before, where the node that it was passed each of the tests
+pub waits_was : (f : Node → Node) (nodes : List Node) → list_all (λ (n : Node). is_some n.parent) (drop 1 nodes) ≡ true → {r : Node} →
+    waiting (map f nodes) ≡ Some r →
+    ((m : Node) → In m nodes → r ≡ f m → IsReadyRoot (map f nodes) (f m) →
+    (is_root_left m ≡ true) × (m.allocated ≡ false) × (list_all (is_ready_node m.key) nodes ≡ true)) →
+    (m : Node) × In m nodes × (r ≡ f m) × (waiting nodes ≡ Some m)
+waits_was f nodes one {r} waits each =
+    let root = ready_root _ waits in
+    let y = In-map f _ r root.on in
+    let was = each y.0 y.1 y.2 (subst (IsReadyRoot (map f nodes)) y.2 root) in (
+      y.0,
+      y.1,
+      y.2,
+      ap (option_and_then (λ (m : Node). when (not m.allocated && list_all (is_ready_node m.key) nodes) m))
+          (root_found _ one y.0 y.1 was.0) ∙ ap (λ b. when b y.0) (and_both _ _ (ap not was.1) was.2),
+    )
 
 -- in a collection that is gone nothing is loose and nothing is due
 pub all_gone_under : {t : Table Node} {us : List Unit} {ss : List Shelf} {e : Entry} {unheld pending : List NodeKey} →
     AreGone (nodes_with t e.keys.items) → MidEvent t us ss e unheld pending → MidEvent t us ss e [] []
-all_gone_under gone under = record {
-  store = under.store;
-  bare = under.bare;
-  held = gone_held _ gone;
-  next = gone_next _ gone [];
-  root = gone_waits _ gone [];
-}
+all_gone_under gone under = under_with under (held_gone [] _ gone) (next_gone [] _ gone) (root_gone [] _ gone)
 
 -- ---- the loss
 
 module _ {t : Table Node} {us : List Unit} {ss : List Shelf} {e : Entry} {head : NodeKey} (why : Failure)
     (under : MidEvent t us ss e [] (head ∷ [])) (coming : IsComing (nodes_with t e.keys.items) head) where
-  abbrev nodes : List Node
-  nodes = nodes_with t e.keys.items
-
-  abbrev fault : Fault
-  fault = record { cause = Cause.Failed why; origin = head }
-
   -- the root that waits is left
   root : IsReadyRoot (nodes_with t e.keys.items) coming.root
   root = ready_root _ coming.waits

@@ -1,17 +1,11 @@
 -- The root's unit comes to its allocation by an effect: what is forced then.
-use Rattle.forest_steps.proofs.Common.{◌≡◌, ℕ, refl, ap, sym, ◌∙◌, subst, Bool, true, false, not, ◌||◌, inl, inr, is_none, ◌⊎◌, if◌then◌else◌, List, [], ◌∷◌, ◌++◌, map, Option, Some, None, find, list_any, sum_by, HeldBuffer, Interval, NodeKey, Buffers, Cause, Demand, same_key, when, either_way, same_key-true, all_on, Table, node_at, Change, Effect, Entry, Node, Unit, has_strong, Collection, Shelf, nodes_with, affected, is_deserted_node, reserved_count, Failure, outcome, names, Mark, places, pages_of, first_some, map-In, Holdings, with_buffers, Decision, Loses, Places, decided, first_step, mark_of, wanted_by, pages_in, IsOpen, written, after_allocation, given_buffers, demands_of, has_buffers, IsSound, by_page, made, all-In, same_affected, arith}
-use Rattle.std.proofs.Common.{Result, Ok, Err}
+use Rattle.forest_steps.proofs.Common.{◌≡◌, ℕ, refl, ap, sym, ◌∙◌, subst, Bool, true, false, not, ◌||◌, inl, inr, is_none, ◌⊎◌, List, [], ◌∷◌, ◌++◌, map, Option, Some, None, find, list_any, HeldBuffer, Interval, NodeKey, Buffers, Cause, same_key, when, either_way, same_key-true, all_on, Table, Entry, Node, Unit, has_strong, Collection, Shelf, nodes_with, is_deserted_node, Failure, outcome, names, Mark, places, pages_of, first_some, Holdings, with_buffers, Decision, Loses, Places, decided, first_step, mark_of, wanted_by, pages_in, after_allocation, IsSound, by_page, made, all-In, arith, Result, Ok, Err, laid_out, AllocationOutcome, IsPlacing, IsComing, IsAllocationOutcome, first_made, wants_of, MidEvent, holds_unit, is_held}
 use Rattle.std.specs.Option.{IfSome}
-use Rattle.sm_names.specs.Timelines.{laid_out}
-use Rattle.forest_steps.specs.declared.initial_allocation.AllocationOutcome.{AllocationOutcome}
-use Rattle.forest_store.specs.Decisions.{IsPlacing, IsStep}
-use Rattle.forest_steps.specs.InitialAllocation.{IsComing, IsAllocationOutcome, first_made, has_buffers_then, allocated_with, wants_of}
-use Rattle.forest_steps.specs.MidEvent.{MidEvent, holds_unit, is_held}
+use Rattle.forest_store.specs.Decisions.{IsStep}
 use Rattle.forest_store.proofs.quiescence.Steps.{decided_steps}
 use Rattle.forest_steps.proofs.intervals.Placings.{placed_made, places_sorted, pool_laid, scene_laid}
-use Rattle.forest_steps.proofs.allocation.Between.{StandsIn, stands_in}
-use Rattle.forest_steps.proofs.allocation.Sums.{joined, mapped}
 use Rattle.forest_steps.proofs.mid_event.RootLost.{ready_root}
+use Rattle.forest_steps.proofs.mid_event.Ready.{under_with}
 
 -- where something holds the unit with this head, it is not loose
 module _ {t : Table Node} {us : List Unit} {ss : List Shelf} {e : Entry} {head : NodeKey} (unheld : List NodeKey) {pending : List NodeKey}
@@ -35,47 +29,8 @@ module _ {t : Table Node} {us : List Unit} {ss : List Shelf} {e : Entry} {head :
 
   -- one unit less is loose
   pub under_held : MidEvent t us ss e unheld pending
-  under_held = record {
-    store = under.store;
-    bare = under.bare;
-    held = all_on _ ns (λ n on. by n (either_way (same_key n.key head)) (all-In _ ns n on under.held));
-    next = under.next;
-    root = under.root;
-  }
-
--- ---- the nodes with the effect
-
-module _ {t : Table Node} {us : List Unit} (key : NodeKey) (effect : Effect) {n : Node} (was : node_at t key ≡ Some n)
-    {ss : List Shelf} {s : Shelf} {strong : ℕ} (opens : IsOpen t us ss s (Change.Effect key effect) strong) where
-  abbrev f : Node → Node
-  f = affected key effect
-
-  abbrev nodes : List Node
-  nodes = nodes_with t s.keys
-
-  -- the node and its head stand in the collection
-  place : StandsIn t us s key effect n
-  place = stands_in key _ was opens
-
-  -- the effect concerns the one node with its key
-  written_is : map (written (affected key effect n)) (nodes_with t s.keys) ≡ map (affected key effect) (nodes_with t s.keys)
-  written_is = map-In _ f _ (λ m there.
-      let swap : same_key (f n).key m.key ≡ same_key n.key m.key =
-      ap (λ j. same_key j m.key) (same_affected key _ n).key in
-      elim (either_way (same_key n.key m.key)) [
-        | inl e ↦ (λ i. if (swap ∙ e) i then f n else m) ∙ ap f (sym (place.one m there e))
-        | inr e ↦ (λ i. if (swap ∙ e) i then f n else m) ∙ sym (place.alone m e)
-      ])
-
-  -- what is reserved once the unit is allocated
-  pub reserved_then : sum_by (λ (d : Demand). d.camping) (allocated_with t s.keys n.head (affected key effect n))
-      ≡ reserved_count (after_allocation n.head (map (affected key effect) (nodes_with t s.keys)))
-  reserved_then = ap (sum_by (λ (d : Demand). d.camping)) (
-      joined (node_at t)
-      (λ m. if has_buffers_then n.head (written (f n) m) then (written (f n) m).constraints else None) s.keys
-      ∙ (mapped (written (f n)) (λ (m : Node). if has_buffers_then n.head m then m.constraints else None) nodes
-      ∙ (ap (demands_of (has_buffers_then n.head)) written_is
-      ∙ mapped (given_buffers n.head) (λ (m : Node). if has_buffers m then m.constraints else None) (map f nodes))))
+  under_held = under_with under (all_on _ ns (λ n on. by n (either_way (same_key n.key head)) (all-In _ ns n on under.held)))
+      under.next under.root
 
 -- ---- what is forced
 

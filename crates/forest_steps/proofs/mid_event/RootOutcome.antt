@@ -1,23 +1,18 @@
 -- The root's unit comes to its allocation by an effect, and all that follows is made: the forest then.
-use Rattle.forest_steps.proofs.Common.{◌≡◌, ℕ, refl, ap, sym, ◌∙◌, subst, true, false, inl, inr, List, [], ◌∷◌, ◌++◌, map, get_or, set, Some, None, option_map, find, list_any, sum_by, HeldBuffer, Interval, NodeKey, Demand, forced, In, Table, Change, Effect, Entry, Node, Unit, has_strong, waiting, Collection, with_nodes, Shelf, collection_in, forest_of, nodes_with, place_in, put_shelf, shelf_of, shelves_of, affected, is_deserted_node, reserved_count, Handles, collection_or_new, put, standing, get_or-set_same, Mark, sorted_by, Holdings, first_step, mark_of, wanted_by, IsPoolOf, all_held, beside, pages_in, IsOpen, Finishes, after_allocation, IsOutcomeIn, IsReady, IsSettledIn, changed_in, starts_differ, by_page, asked_with, Forces, changed, made, no_key, forced_made, start_of, counted_but, shelves_put, IsPlace, place_is, set_put, arith}
+use Rattle.forest_steps.proofs.Common.{◌≡◌, ℕ, refl, ap, sym, ◌∙◌, subst, true, false, inl, inr, List, [], ◌∷◌, ◌++◌, map, get_or, set, Some, None, option_map, find, list_any, sum_by, HeldBuffer, Interval, NodeKey, Demand, forced, Table, Change, Effect, Entry, Node, Unit, has_strong, waiting, Collection, with_nodes, Shelf, collection_in, forest_of, nodes_with, place_in, put_shelf, shelf_of, shelves_of, affected, is_deserted_node, reserved_count, Handles, collection_or_new, put, standing, get_or-set_same, Mark, sorted_by, Holdings, first_step, mark_of, wanted_by, IsPoolOf, all_held, beside, pages_in, IsOpen, Finishes, after_allocation, IsOutcomeIn, IsReady, IsSettledIn, changed_in, starts_differ, by_page, asked_with, Forces, changed, made, no_key, forced_made, start_of, counted_but, shelves_put, IsPlace, place_is, set_put, arith, AllocationOutcome, Closes, MayClose, IsComing, IsPlanned, IsRooted, IsAllocationOutcome, comes_first, first_made, shelf_then, wants_of, AfterEffect, IsBeside, MidEvent, Reaches, are_held_except, holds_unit}
 use Rattle.forest_steps.specs.declared.initial_allocation.Plan.{Plan}
-use Rattle.forest_steps.specs.declared.initial_allocation.AllocationOutcome.{AllocationOutcome}
 use Rattle.forest_store.specs.Calm.{put_in}
-use Rattle.forest_steps.specs.EventEnd.{Closes, MayClose}
-use Rattle.forest_steps.specs.InitialAllocation.{IsComing, IsPlanned, IsReservedThen, IsRooted, IsAllocationOutcome, comes_first, first_made, shelf_then, wants_of}
-use Rattle.forest_steps.specs.MidEvent.{AfterEffect, IsBeside, MidEvent, Reaches, are_held_except, holds_unit}
+use Rattle.forest_steps.specs.InitialAllocation.{IsReservedThen}
 use Rattle.forest_store.proofs.changes.Opening.{opens_at}
 use Rattle.forest_steps.proofs.changes.Dropped.{pool_at}
 use Rattle.forest_steps.proofs.changes.FirstAllocated.{put_there}
 use Rattle.forest_steps.proofs.intervals.Pools.{pool_back}
 use Rattle.forest_steps.proofs.tables.Rows.{same_on}
-use Rattle.forest_steps.proofs.allocation.Between.{StandsIn, stands_in}
 use Rattle.forest_steps.proofs.mid_event.Joining.{but_beside, but_set, here_is, joined, place_set}
 use Rattle.forest_steps.proofs.mid_event.Ready.{no_end_under}
-use Rattle.forest_steps.proofs.mid_event.RootAsks.{reserved_alone, wanted_then}
-use Rattle.forest_steps.proofs.mid_event.RootMade.{coming_decided, reserved_then, step_made, under_held}
+use Rattle.forest_steps.proofs.mid_event.RootMade.{coming_decided, step_made, under_held}
 use Rattle.forest_steps.proofs.mid_event.Stepping.{node_there}
-use Rattle.forest_steps.proofs.mid_event.RootReady.{comes_bare, comes_coming, comes_held, none_waits_held, strong_then}
+use Rattle.forest_steps.proofs.mid_event.RootReady.{comes_coming, comes_held, none_waits_held, strong_then, sound_then, reserved_alone, wanted_then, reserved_then}
 
 -- the shelf's id and keys stay
 then_id : (v : AllocationOutcome) (s : Shelf) → (shelf_then v s).id ≡ s.id
@@ -72,10 +67,6 @@ module _ (handles : Handles) {t : Table Node} {es : List Entry} {id at : ℕ} {o
   opens : IsOpen t us (shelves_of es) (shelf_of old) (Change.Effect key effect) old.strong
   opens = opens_at t es id at old place is ready.kept ready.counted us ready.units _ ready.change
 
-  -- the node and its head stand in the collection
-  stands : StandsIn t us (shelf_of old) key effect planned.node
-  stands = stands_in key _ planned.was opens
-
   -- the same nodes, by the same keys
   nodes_mid : nodes_with now mid.keys.items ≡ map (affected key effect) (nodes_with t old.keys.items)
   nodes_mid = ap (λ (s : Shelf). nodes_with now s.keys) affects.shelf ∙ affects.nodes
@@ -87,10 +78,6 @@ module _ (handles : Handles) {t : Table Node} {es : List Entry} {id at : ℕ} {o
   -- the plan comes only where something holds the unit
   held1 : list_any (holds_unit nodes1 n.head) nodes1 ≡ true
   held1 = comes_held key _ planned.was opens comes
-
-  -- the plan comes only where the head has no buffers
-  bare1 : (h : Node) → In h (nodes_with t old.keys.items) → h.key ≡ planned.node.head → h.allocated ≡ false
-  bare1 = comes_bare key _ planned.was opens comes
 
   -- the plan comes only where the unit waits for no node
   coming1 : IsComing (map (affected key effect) (nodes_with t old.keys.items)) planned.node.head
@@ -117,7 +104,7 @@ module _ (handles : Handles) {t : Table Node} {es : List Entry} {id at : ℕ} {o
           (sum_by (λ (d : Demand). d.camping) (asked_with t planned.keys (n.head ∷ []) (affected key effect n))) plan.reserved →
           plan.reserved ≡ reserved_count (after_allocation planned.node.head nodes1)
       from (inl alone) =
-          alone.1 ∙ reserved_alone key effect planned.was opens under.store.kept.kin bare1 planned.listed
+          alone.1 ∙ reserved_alone key effect planned.was opens comes planned.listed
           (sym under.store.reserved ∙ alone.0)
       from (inr all) = all ∙ reserved_then key effect planned.was opens
 
@@ -134,7 +121,7 @@ module _ (handles : Handles) {t : Table Node} {es : List Entry} {id at : ℕ} {o
   wants_are =
       planned.wants_is
       ∙ ((λ i. wants_of (strong_then key effect planned.was opens i)
-      (wanted_then key effect planned.was opens under.store.kept.kin bare1 planned.listed i)))
+      (wanted_then key effect planned.was opens comes planned.listed i)))
 
   module _ (before between : Holdings) (verdict : AllocationOutcome) (found : IsAllocationOutcome before between id old.held.items plan.wants verdict) where
     module _ (parted : starts_differ before.held ≡ true)
@@ -157,7 +144,7 @@ module _ (handles : Handles) {t : Table Node} {es : List Entry} {id at : ℕ} {o
       -- the verdict is what the step makes
       step : (made before.size others mark c1 ≡ first_made n.head verdict c1)
           × (between.held ≡ by_page (pages_in (first_made n.head verdict c1) ++ others))
-      step = step_made stands.sound coming1 no_end1 before between others beside_is plan.wants wants_are verdict
+      step = step_made (sound_then key effect planned.was opens) coming1 no_end1 before between others beside_is plan.wants wants_are verdict
           (subst (λ i. IsAllocationOutcome before between i old.held.items plan.wants verdict) (sym own_id) found)
 
       -- what is decided is what is forced

@@ -1,8 +1,7 @@
 -- The root of a collection: what its loss takes, and that it is lost where the buffers are abandoned.
-use Rattle.forest_steps.proofs.Common.{◌≡◌, refl, ap, sym, ◌∙◌, subst, Bool, true, false, ◌&&◌, inl, inr, List, [], ◌∷◌, reverse, Option, Some, None, not-true, find, option_map_or, NodeKey, Buffers, Cause, In, In-map, and_left, and_right, either_way, or_left, or_right, Table, node_at, Node, has_strong, Collection, IsWhole, nodes_with, is_deserted_node, is_root_left, Fault, In-reverse, In-reverse-back, Loses, decided, has_given_root, above_among, after_loss, is_taken, is_below, found_by_key, left_in, arith}
+use Rattle.forest_steps.proofs.Common.{◌≡◌, refl, ap, sym, ◌∙◌, subst, Bool, true, false, ◌&&◌, inl, inr, List, [], ◌∷◌, reverse, Option, Some, None, not-true, find, option_map_or, NodeKey, Buffers, Cause, In, In-map, and_left, and_right, either_way, or_left, or_right, Table, node_at, Node, has_strong, Collection, IsWhole, nodes_with, is_deserted_node, is_root_left, Fault, In-reverse, In-reverse-back, Loses, decided, has_given_root, above_among, after_loss, is_taken, is_below, found_by_key, left_in, arith, one_line}
 use Rattle.forest_steps.proofs.tables.Upward.{below_parent, below_self, chain, up}
 use Rattle.forest_steps.proofs.failures.AllGone.{AreGone, all_hang, one_root}
-use Rattle.forest_store.proofs.tables.Chains.{one_line}
 
 -- ---- what its loss takes
 
@@ -19,7 +18,7 @@ module _ {c : Collection} (whole : IsWhole c) (r : Node) (on : In r c.nodes) (he
   taken_below n = grind (arith, found_by_key, no_line)
 
   -- all that is left lies below it
-  below_root : (n : Node) → In n c.nodes → n.gone ≡ false → is_below c.nodes r.key n.key ≡ true
+  pub below_root : (n : Node) → In n c.nodes → n.gone ≡ false → is_below c.nodes r.key n.key ≡ true
   below_root n there stays =
       all_hang _ c.nodes
       (λ x in_nodes left none. subst (λ (y : Node). is_below c.nodes r.key y.key ≡ true)

@@ -1,16 +1,10 @@
 -- Steps that were made from a collection to which a change was made, joined to the whole event.
-use Rattle.forest_steps.proofs.Common.{◌≡◌, ℕ, zero, suc, ◌<◌, length, arith, true, false, refl, ap, subst, ◌∙◌, List, [], ◌∷◌, ◌++◌, map, set, get_or, Option, Some, None, HeldBuffer, NodeKey, Interval, Table, node_at, Change, Entry, Node, Unit, IsStored, Shelf, collection_in, forest_of, place_in, shelf_of, shelves_of, Handles, sorted_by, Holdings, row_at, AreCountedExcept, IsPoolOf, all_held, beside, IsOutcomeIn, IsReady, changed_in, given_few, changed, is_birth, no_key, found_whole, counted_but, place_is, shelf_found}
-use Rattle.std.proofs.Common.{IsSome}
-use Rattle.forest_steps.specs.EventEnd.{Closes, MayClose}
-use Rattle.forest_store.specs.Given.{IsServedByGiven}
+use Rattle.forest_steps.proofs.Common.{◌≡◌, ℕ, zero, suc, ◌<◌, length, arith, true, false, refl, ap, subst, ◌∙◌, List, [], ◌∷◌, ◌++◌, map, set, get_or, Option, Some, None, HeldBuffer, NodeKey, Interval, Table, node_at, Change, Entry, Node, Unit, IsStored, Shelf, collection_in, forest_of, place_in, shelf_of, shelves_of, Handles, sorted_by, Holdings, row_at, AreCountedExcept, IsPoolOf, all_held, beside, IsOutcomeIn, IsReady, changed_in, given_few, changed, is_birth, no_key, found_whole, counted_but, place_is, shelf_found, IsSome, Closes, MayClose, IsServedByGiven, PropagatedFrom, MidEvent, Reaches, node_is, inl, inr, sym, cons_option, list_any, same_key, In, or_cases, same_key-true, AreUnits, all_keys, nodes_with, list_any-append, in_all, HaveUnits, IsOutcomeAt, IsReadyAt}
 use Rattle.forest_store.specs.Settling.{is_there as is_there_in}
-use Rattle.forest_steps.specs.MidEvent.{PropagatedFrom, MidEvent, Reaches}
 use Rattle.forest_store.proofs.changes.Altering.{change_kept}
 use Rattle.forest_store.proofs.shelves.Entries.{none_in}
-use Rattle.forest_store.proofs.shelves.Showing.{node_is}
 use Rattle.forest_steps.proofs.mid_event.GivenKept.{given_at}
 use Rattle.forest_steps.proofs.mid_event.Joining.{here_is, may_close, outcome_on, place_set, shelves_stay}
-use Rattle.forest_steps.proofs.mid_event.Premises.{inside_of}
 use Rattle.forest_steps.proofs.mid_event.Ready.{ready_close, ready_under}
 
 -- the pages of the same shelves are the same, whatever the nodes
@@ -22,6 +16,31 @@ held_same t now (s ∷ ss) = ap (λ hs. s.held ++ hs) (held_same t now ss)
 pub pool_same : (pool : Holdings) (t now : Table Node) (ss : List Shelf) → IsPoolOf pool (forest_of t ss) → IsPoolOf pool (forest_of now ss)
 pool_same pool t now ss of =
     of ∙ ap (λ hs. sorted_by (λ (i : Interval). i.start) (map (λ (h : HeldBuffer). h.pages) hs)) (held_same t now ss)
+
+-- each slot is in the list
+pub inside_of : {t : Table Node} (us : List Unit) (es : List Entry) → IsStored t (shelves_of es) → HaveUnits us t es →
+    (key : NodeKey) {n : Node} → node_at t key ≡ Some n → key.slot < length us
+inside_of {t} us es kept units key {n} is = from (shelves_of es) units (kept.there key n is)
+  where
+    from : (ss : List Shelf) → AreUnits us (map (collection_in t) ss) → list_any (same_key key) (all_keys ss) ≡ true →
+        key.slot < length us
+    from [] all h = let no : false ≡ true = h in absurd (cc)
+    from (s ∷ ss) all h = elim (or_cases _ _ (sym (list_any-append (same_key key) s.keys (all_keys ss)) ∙ h)) [
+      | inl here ↦
+          rw (kept.named key n is) at (in_all _ _ all.0 n (on_keys s.keys here)).0
+      | inr behind ↦ from ss all.1 behind
+    ]
+      where
+        further : (o : Option Node) (ns : List Node) → In n ns → In n (cons_option o ns)
+        further None ns on = on
+        further (Some m) ns on = inr on
+
+        on_keys : (ks : List NodeKey) → list_any (same_key key) ks ≡ true → In n (nodes_with t ks)
+        on_keys [] h = let no : false ≡ true = h in absurd (cc)
+        on_keys (k ∷ ks) h = elim (or_cases _ _ h) [
+          | inl here ↦ rw (ap (node_at t) (sym (same_key-true key k here)) ∙ is) (inl refl)
+          | inr behind ↦ further (node_at t k) (nodes_with t ks) (on_keys ks behind)
+        ]
 
 -- the collection of a change that is no birth is there
 pub is_there : {t : Table Node} {us : List Unit} {es : List Entry} {id : ℕ} {change : Change} → is_birth change ≡ false →
@@ -125,3 +144,42 @@ module _ (handles : Handles) {t : Table Node} {us : List Unit} {es : List Entry}
     same = closes.same;
     size = size;
   }
+
+-- the ids of one place are one
+pub one_id : (es : List Entry) {at : ℕ} (i j : ℕ) → place_in i es ≡ Some at → place_in j es ≡ Some at → i ≡ j
+one_id es {at} i j told other =
+    let e = (entry_there es at (place_is i es at told).within).0 in
+    sym ((place_is i es at told).id_is e) ∙ (place_is j es at other).id_is e
+
+-- so the change may be made to the collection with any id that is found there
+pub ready_at : {t : Table Node} {es : List Entry} {us : List Unit} {at : ℕ} {change : Change} → IsReadyAt t es us at change → (id : ℕ) →
+    place_in id es ≡ Some at → IsReady t es us id change
+ready_at {es} {at} may id told = rw (one_id es _ id may.place told) at may.ready
+
+module _ (handles : Handles) {t : Table Node} {us : List Unit} {es : List Entry} {at : ℕ} (e : Entry) (is : e ≡ get_or es at e)
+    {change : Change} (may : IsReadyAt t es us at change) (birth : is_birth change ≡ false) where
+  -- the collection is under way, with nothing loose and nothing due
+  pub begins_at : MidEvent t us (shelves_of es) e [] []
+  begins_at = begins handles e may.place is may.ready birth
+
+  module _ {between : List Node} (made : changed change no_key (collection_in t (shelf_of e)) ≡ record (collection_in t (shelf_of e)) { nodes = between })
+      {mid : Table Node} {after : List Unit} {new : Entry} (played : PropagatedFrom handles between t mid after (shelves_of es) e new) where
+    -- what is due is what is abandoned, or nothing
+    pub may_finish : MayClose handles mid after (set es at new) at
+    may_finish = may_play _ e may.place is may.ready birth made played
+
+    -- the held buffers stay
+    pub pool_there : (pool : Holdings) → IsPoolOf pool (forest_of t (shelves_of es)) → IsPoolOf pool (forest_of mid (shelves_of (set es at new)))
+    pool_there = pool_played _ e may.place is may.ready birth made played
+
+    -- once what comes last is made, all is
+    pub outcome_there : (pool left : Holdings) (now : Table Node) (behind : List Entry) (last : List Unit) →
+        ((id : ℕ) → place_in id (set es at new) ≡ Some at → Closes handles pool left mid now (set es at new) behind last id) →
+        left.size ≡ pool.size → IsOutcomeAt true handles pool left t now es behind last at change
+    outcome_there pool left now behind last closes size = record {
+      outcome = λ id told.
+          let ready = ready_at may id told in
+          outcome_played _ e told is ready birth made played
+          (closes id (placed_played _ e told is ready birth made played)) size;
+      units = (closes may.id (placed_played _ e may.place is may.ready birth made played)).units;
+    }

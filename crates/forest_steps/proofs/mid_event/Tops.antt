@@ -1,5 +1,5 @@
 -- The highest node that a failure takes stands first of what it takes, and its parent stays.
-use Rattle.forest_steps.proofs.Common.{◌≡◌, ◌==◌, refl, ap, sym, ◌∙◌, subst, Bool, true, false, ◌⊎◌, inl, inr, List, [], ◌∷◌, length, Some, arith, find, list_any, option_map_or, NodeKey, same_key, In, both_ways, either_way, false_if, same_key-true, Table, parent_at, Node, is_left_of, IsStored, IsWhole, Shelf, collection_in, nodes_with, Contains-from_any, list_any-from_Contains, flat_map, Up, IsForest, blocked_at, IsTaken, is_below, IsTied, is_blocking, IsLeft, left_in, left_node, left_parent}
+use Rattle.forest_steps.proofs.Common.{◌≡◌, ◌==◌, refl, ap, sym, ◌∙◌, subst, Bool, true, false, ◌⊎◌, inl, inr, List, [], ◌∷◌, length, Some, arith, find, list_any, option_map_or, NodeKey, same_key, In, both_ways, either_way, false_if, same_key-true, Table, parent_at, Node, is_left_of, IsStored, Shelf, nodes_with, Contains-from_any, list_any-from_Contains, flat_map, Up, IsForest, blocked_at, IsTaken, is_below, is_blocking, IsLeft, left_in, left_node, left_parent}
 use Rattle.forest_steps.proofs.tables.Upward.{below_self, line, step, shorter, in_unit_below, below_through}
 use Rattle.std.specs.List.{Contains}
 use Rattle.node_table.specs.Table.{children_at}
@@ -17,17 +17,9 @@ module _ {t : Table Node} {ss : List Shelf} {s : Shelf} (kept : IsStored t ss)
   abbrev falls : NodeKey → Bool
   falls k = list_any (same_key k) keys
 
-  -- each collection is whole
-  pub entire : IsWhole (collection_in t s)
-  entire = whole kept found
-
-  -- the nodes are linked as the table links them
-  pub on_ties : IsTied t nodes
-  on_ties = tied kept found
-
   -- the highest node
-  pub highest : IsLeft nodes (highest_at on_ties origin)
-  highest = left_node _ _ (highest_left on_ties _ left)
+  pub highest : IsLeft nodes (highest_at (tied kept found) origin)
+  highest = left_node _ _ (highest_left (tied kept found) _ left)
 
   abbrev pub top : Node
   top = highest.node
@@ -43,19 +35,19 @@ module _ {t : Table Node} {ss : List Shelf} {s : Shelf} (kept : IsStored t ss)
   -- what falls lies at or below it
   pub takes_below : (n : Node) → In n nodes → n.gone ≡ false → falls n.key ≡ is_below nodes top.key n.key
   takes_below n on here =
-      fall_line on_ties _ left _ taken.fall n on here ∙ ap (λ k. is_below nodes k n.key) (sym highest.is)
+      fall_line (tied kept found) _ left _ taken.fall n on here ∙ ap (λ k. is_below nodes k n.key) (sym highest.is)
 
   -- the top lies below itself
   top_falls : falls top.key ≡ true
   top_falls =
       takes_below top top_on top_here
-      ∙ below_self entire top.key
+      ∙ below_self (whole kept found) top.key
 
   -- its parent does not
   module _ {p : NodeKey} (up : top.parent ≡ Some p) where
     -- the parent of a node that is left is left
     parent_left : is_left_of nodes p ≡ true
-    parent_left = left_parent _ entire.rooted top p top_on top_here up
+    parent_left = left_parent _ (whole kept found).rooted top p top_on top_here up
 
     -- so it stands in the collection
     pub parent : IsLeft nodes p
@@ -64,8 +56,9 @@ module _ {t : Table Node} {ss : List Shelf} {s : Shelf} (kept : IsStored t ss)
     -- the line above the parent is shorter than that above the top
     parent_over : is_below nodes top.key p ≡ false
     parent_over = false_if (is_below nodes top.key p) (λ e.
-        let short = shorter entire top.key p (left_in nodes top top_on top_here) parent_left e in
-        let long : length (line entire top.key) ≡ length (p ∷ line entire p) = ap length (step entire top top_on top_here up) in
+        let short = shorter (whole kept found) top.key p (left_in nodes top top_on top_here) parent_left e in
+        let long : length (line (whole kept found) top.key) ≡ length (p ∷ line (whole kept found) p) =
+        ap length (step (whole kept found) top top_on top_here up) in
         absurd (omega arith))
 
     -- so the failure does not take it
@@ -77,9 +70,9 @@ module _ {t : Table Node} {ss : List Shelf} {s : Shelf} (kept : IsStored t ss)
     head_out h on here is = false_if (falls h.key) (λ e.
         let over : is_below nodes h.key parent.node.key ≡ true =
         subst (λ k. is_below nodes k parent.node.key ≡ true) (sym is)
-        (in_unit_below entire parent.node parent.on parent.here) in
+        (in_unit_below (whole kept found) parent.node parent.on parent.here) in
         let under : is_below nodes top.key parent.node.key ≡ true =
-        below_through entire top.key h.key parent.node.key (left_in nodes parent.node parent.on parent.here)
+        below_through (whole kept found) top.key h.key parent.node.key (left_in nodes parent.node parent.on parent.here)
         (left_in nodes h on here) over (sym (takes_below h on here) ∙ e) in
         both_ways (is_below nodes top.key parent.node.key) under
         (ap (λ (k : NodeKey). is_below nodes top.key k) parent.is ∙ parent_over))

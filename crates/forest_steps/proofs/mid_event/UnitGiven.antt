@@ -1,16 +1,13 @@
 -- A unit is allocated: its nodes have their buffers then, and no other node changes.
-use Rattle.forest_steps.proofs.Common.{◌≡◌, ◌≢◌, ◌==◌, refl, ap, sym, ◌∙◌, subst, Bool, true, false, not, ◌&&◌, ◌||◌, ◌⊎◌, inl, inr, List, [], ◌∷◌, map, Option, Some, None, option_map, eqb-false, eqb-true, not-true, AllByRecursion, list_all, list_any, option_map_or, NodeKey, Buffers, same_key, In, In-find, In-list_any, In-map, and_both, and_left, and_right, both_ways, either_way, false_if, or_cases, same_key-true, In-any, Table, node_at, Entry, Node, Unit, AreUnits, lives_in, waits_in, with_nodes, IsStored, IsWhole, Shelf, collection_in, is_filed, nodes_with, shelf_of, is_of, is_next_node, is_head, find, HeldBuffer, map-In, hangs_in, given_all, after_allocation, is_allocated_node, IsGivenAt, given_at, GoTogether, any_map, all-In, found_filed, looked-of, after_all, IsBareHead, in_all, looked_there, IsSameNode, all_at, arith}
-use Rattle.sm_names.proofs.SamenessLaws.{or_false}
-use Rattle.forest_steps.specs.LogicalAllocation.{IsUnitListed}
-use Rattle.forest_steps.specs.MidEvent.{AreClosed, are_held_except, hangs_in_some, holds_unit, is_coming, is_held, is_next_except}
+use Rattle.forest_steps.proofs.Common.{◌≡◌, ◌≢◌, ◌==◌, refl, ap, sym, ◌∙◌, subst, Bool, true, false, not, ◌&&◌, ◌||◌, ◌⊎◌, inl, inr, List, [], ◌∷◌, map, Option, Some, None, option_map, eqb-false, eqb-true, not-true, AllByRecursion, list_all, list_any, option_map_or, NodeKey, Buffers, same_key, In, In-find, In-list_any, In-map, and_both, and_left, and_right, both_ways, either_way, false_if, or_cases, same_key-true, In-any, Table, node_at, Entry, Node, Unit, AreUnits, lives_in, waits_in, with_nodes, IsStored, IsWhole, Shelf, collection_in, is_filed, nodes_with, shelf_of, is_of, is_next_node, is_head, find, HeldBuffer, map-In, hangs_in, given_all, after_allocation, is_allocated_node, IsGivenAt, given_at, GoTogether, any_map, all-In, looked-of, after_all, IsBareHead, in_all, looked_there, IsSameNode, all_at, arith, or_false, IsUnitListed, AreClosed, are_held_except, hangs_in_some, holds_unit, is_coming, is_held, is_next_except, looked-map, all_in, kept-with, one_shelf}
 use Rattle.forest_store.proofs.quiescence.Together.{together_given}
-use Rattle.forest_store.proofs.lists.Lookups.{looked-map, same_key-swap}
+use Rattle.forest_store.proofs.lists.Lookups.{same_key-swap}
 use Rattle.forest_steps.proofs.allocation.Giving.{given_in, given_other, given_out, kept_given, same_given}
-use Rattle.forest_store.proofs.tables.Hanging.{all_in}
-use Rattle.forest_store.proofs.tables.Writing.{IsWhole-map, collections-map, kept-with}
-use Rattle.forest_store.proofs.tallies.Slots.{one_shelf, units_with}
+use Rattle.forest_store.proofs.tables.Writing.{IsWhole-map, collections-map}
+use Rattle.forest_store.proofs.tallies.Slots.{units_with}
 use Rattle.forest_steps.proofs.turns.Gifts.{ready_same}
 use Rattle.forest_steps.proofs.mid_event.Listed.{key_within, of_unit}
+use Rattle.forest_steps.proofs.tables.OfShelf.{of_it}
 
 -- ---- lists
 
@@ -77,8 +74,8 @@ pub coming_was : (k : NodeKey) (nodes : List Node) (n : Node) → is_coming (ser
 coming_was k nodes n h = grind (arith, ready_same)
 
 -- a unit that is coming after was coming before, and hangs as it did
-pub closed_on : (k : NodeKey) (nodes : List Node) (hs : List NodeKey) → AreClosed nodes hs → AreClosed (served k nodes) hs
-closed_on k nodes hs closed m there is hangs =
+pub closed_given : (k : NodeKey) (nodes : List Node) (hs : List NodeKey) → AreClosed nodes hs → AreClosed (served k nodes) hs
+closed_given k nodes hs closed m there is hangs =
     let x = In-map _ _ m there in
     ap (λ (n : Node). list_any (same_key n.key) hs) x.2
     ∙ closed x.0 x.1 (coming_was k nodes x.0 (ap (is_coming (served k nodes)) (sym x.2) ∙ is))
@@ -179,7 +176,7 @@ module _ {t now : Table Node} {ss : List Shelf} (e : Entry) {k : NodeKey} (kept 
       | inl h ↦ given_in hs ks m h
       | inr out ↦ given_out hs ks m out ∙ given_other hs m (false_if _ (λ h.
           let own : m.head ≡ k = same_key-true _ k (sym (or_false _) ∙ h) in
-          both_ways _ (of_unit kept found kept.kin top listed m on (unit_bare m on own).1 own) out))
+          both_ways _ (of_unit kept found top listed m on (unit_bare m on own).1 own) out))
     ]
 
     -- the keys are looked up one by one
@@ -193,10 +190,8 @@ module _ {t now : Table Node} {ss : List Shelf} (e : Entry) {k : NodeKey} (kept 
         apart : (m : Node) → In m (nodes_with t x.keys) → g m ≡ m
         apart m there = given_out hs ks m (false_if _ (λ h.
             let is : node_at t m.key ≡ Some m = in_all _ _ (looked_there t kept.named _) m there in
-            let own : In m nodes = key_within kept found kept.kin top listed is h in
-            let mine : (m.collection == e.id) ≡ true = all-In _ _ m own
-            (looked-of t _ _ (found_filed t _ ss s kept.filed found)) in
-            differ (sym (eqb-true _ _ (all-In _ _ m there (looked-of t _ _ filed))) ∙ eqb-true _ _ mine)))
+            let own : In m nodes = key_within kept found top listed is h in
+            differ (sym (eqb-true _ _ (all-In _ _ m there (looked-of t _ _ filed))) ∙ of_it kept found m own)))
 
         stay : nodes_with now x.keys ≡ nodes_with t x.keys
         stay = looked-map g _ _ given.look _ ∙ still_map g _ apart

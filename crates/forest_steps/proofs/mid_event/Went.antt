@@ -1,21 +1,19 @@
 -- What is lost or ends with a node is gone, and the collection is still under way.
-use Rattle.forest_steps.proofs.Common.{◌≡◌, ◌==◌, refl, ap, sym, ◌∙◌, Bool, true, false, not, ◌&&◌, ◌||◌, ◌⊎◌, inl, inr, is_none, List, map, reverse, Option, Some, None, option_map, list_any, option_map_or, NodeKey, same_key, In, In-list_any, In-map, In-map-back, and_both, both_ways, either_way, false_if, or_cases, or_left, or_right, In-any, Table, node_at, parent_at, Entry, Node, Unit, is_left_of, IsWhole, Shelf, collection_in, nodes_with, shelf_of, is_of, are_rooted, is_head, arith, same_key-equal, Fault, map-In, Going, gone_by, all_of, after_end, after_loss, ended, lost, is_below, has_buffers, is_blocking, found_filed, looked-of, all-In, IsLeft, distinct_one, left_node}
+use Rattle.forest_steps.proofs.Common.{◌≡◌, ◌==◌, refl, ap, sym, ◌∙◌, Bool, true, false, not, ◌&&◌, ◌||◌, ◌⊎◌, inl, inr, is_none, List, map, reverse, Option, Some, None, option_map, list_any, option_map_or, NodeKey, same_key, In, In-list_any, In-map, In-map-back, and_both, both_ways, either_way, false_if, or_cases, or_left, or_right, In-any, Table, node_at, parent_at, Entry, Node, Unit, is_left_of, Shelf, collection_in, nodes_with, shelf_of, is_of, are_rooted, is_head, arith, same_key-equal, Fault, map-In, Going, gone_by, all_of, after_end, after_loss, ended, lost, is_below, has_buffers, is_blocking, found_filed, looked-of, all-In, IsLeft, distinct_one, left_node, IsGoneSo, head_over, IsBeside, MidEvent, AfterRemoval, are_held_except, is_head_left, is_next_except, waits_among, given_of, goes_in, goes_not, goes_of, gone_of, same_of, none_if}
 use Rattle.forest_steps.proofs.tables.Upward.{head_there, own_head, shared}
 use Rattle.sm_names.proofs.SamenessLaws.{none_or_some}
 use Rattle.forest_store.specs.Counts.{head_of}
-use Rattle.forest_steps.specs.Removal.{IsGoneSo, head_over}
-use Rattle.forest_steps.specs.MidEvent.{IsBeside, MidEvent, AfterRemoval, and_loose, are_held_except, gone_down, is_head_left, is_next_except, waits_among}
-use Rattle.forest_steps.proofs.failures.AllGone.{AreGone}
-use Rattle.forest_store.proofs.failures.GoneNodes.{given_of, goes_in, goes_not, goes_of, gone_of, same_of}
-use Rattle.forest_steps.proofs.failures.Crossing.{AreFalling, IsMarked}
+use Rattle.forest_steps.specs.MidEvent.{and_loose, gone_down}
+use Rattle.forest_steps.proofs.failures.AllGone.{AreGone, held_gone, next_gone, root_gone}
+use Rattle.forest_steps.proofs.mid_event.Crossed.{AreFalling, IsMarked, held_but, next_but, root_but}
 use Rattle.forest_steps.proofs.failures.Ties.{fall_below, fall_root, losses_by_fall}
 use Rattle.forest_store.proofs.tables.KeptRoots.{rooted_end, rooted_loss}
-use Rattle.forest_steps.proofs.mid_event.Crossed.{held_but, next_but, root_but}
-use Rattle.forest_steps.proofs.mid_event.Emptied.{all_taken, held_gone, next_gone, root_gone}
 use Rattle.forest_steps.proofs.mid_event.Fallen.{beside_same, nodes_then, store_now}
 use Rattle.forest_steps.proofs.mid_event.Owned.{own_taken}
-use Rattle.forest_steps.proofs.mid_event.Tops.{blocks, entire, head_out, on_ties, parent, stands_first, top, top_here, top_on, up_falls}
-use Rattle.forest_steps.proofs.tables.OfShelf.{at_key, linked}
+use Rattle.forest_steps.proofs.mid_event.Tops.{blocks, head_out, parent, stands_first, top, top_here, top_on, up_falls, takes_below}
+use Rattle.forest_steps.proofs.tables.OfShelf.{at_key, linked, tied}
+use Rattle.forest_steps.proofs.mid_event.Roots.{below_root}
+use Rattle.forest_steps.proofs.mid_event.Ready.{whole_under}
 
 module _ {t : Table Node} {us : List Unit} {ss : List Shelf} {old : Entry} {unheld pending : List NodeKey}
     (opens : MidEvent t us ss old unheld pending) {now : Table Node} {after : List Unit} {new : Entry} {going : Going}
@@ -33,20 +31,12 @@ module _ {t : Table Node} {us : List Unit} {ss : List Shelf} {old : Entry} {unhe
   abbrev pub goes : Node → Node
   goes = goes_of going keys
 
-  -- each collection is whole
-  whole : IsWhole (collection_in t s)
-  whole = entire opens.store.kept opens.store.found gone.forest left gone.taken
-
-  -- each node stands in the table under its key
-  at : (n : Node) → In n nodes → node_at t n.key ≡ Some n
-  at = at_key opens.store.kept opens.store.found
-
   -- what goes is of the collection
   own : all_of old.id (nodes_with t keys) ≡ true
   own =
       let x = left_node _ _ left in
       own_taken gone.forest opens.store.kept.kin _ _
-      (ap (λ o. option_map_or (λ (n : Node). n.collection == old.id) o true) (ap (node_at t) (sym x.is) ∙ at _ x.on)
+      (ap (λ o. option_map_or (λ (n : Node). n.collection == old.id) o true) (ap (node_at t) (sym x.is) ∙ at_key opens.store.kept opens.store.found _ x.on)
       ∙ all-In _ _ _ x.on
       (looked-of t _ _ (found_filed t _ ss s opens.store.kept.filed opens.store.found))) gone.taken
 
@@ -125,7 +115,8 @@ module _ {t : Table Node} {us : List Unit} {ss : List Shelf} {old : Entry} {unhe
         let x = In-map _ _ n on in
         ap (λ (m : Node). m.gone) x.2 ∙ (gone_of _ _ x.0 ∙ elim (either_way x.0.gone) [
           | inl e ↦ or_right _ _ e
-          | inr e ↦ or_left _ _ (all_taken _ _ _ _ _ none x.0 x.1 e)
+          | inr e ↦ or_left _ _ (takes_below opens.store.kept opens.store.found gone.forest left gone.taken x.0 x.1 e
+              ∙ below_root (whole_under opens) highest highest_on highest_here none x.0 x.1 e)
         ]) in
         went_so _ (held_gone _ _ all) (next_gone _ _ all) (root_gone _ _ all) refl
 
@@ -148,7 +139,7 @@ module _ {t : Table Node} {us : List Unit} {ss : List Shelf} {old : Entry} {unhe
 
       -- no two nodes have one key
       over_one : (q : Node) → In q nodes → q.key ≡ over.key → q ≡ over
-      over_one q on is = distinct_one nodes whole.sound.distinct q over on over_on is
+      over_one q on is = distinct_one nodes (whole_under opens).sound.distinct q over on over_on is
 
       -- the top names its key
       up_over : highest.parent ≡ Some over.key
@@ -157,7 +148,7 @@ module _ {t : Table Node} {us : List Unit} {ss : List Shelf} {old : Entry} {unhe
       -- what falls is the top, or hangs on something that falls
       ups : (x : Node) → In x nodes → x.gone ≡ false → falls x.key ≡ true → (x ≡ highest) ⊎ ((q : NodeKey) × (x.parent ≡ Some q) ×
           (falls q ≡ true))
-      ups x on here h = grind (arith, distinct_one, highest_on, up_falls, whole)
+      ups x on here h = grind (arith, distinct_one, highest_on, up_falls, (whole_under opens))
 
       -- it is attached, or dispensable in a unit that has its buffers
       guard : (highest.attached ≡ true) ⊎ ((h : Node) → In h nodes → h.key ≡ over.head → h.allocated ≡ true)
@@ -168,15 +159,15 @@ module _ {t : Table Node} {us : List Unit} {ss : List Shelf} {old : Entry} {unhe
             blocks opens.store.kept opens.store.found gone.forest left gone.taken up in
             let given : highest.allocated ≡ true = allocated_by highest.attached highest.dispensable highest.allocated e block in
             let no_head : is_head highest ≡ false = (λ i. is_none (up i) || highest.attached) ∙ e in
-            let q = shared whole _ highest_on highest_here no_head up_over in
+            let q = shared (whole_under opens) _ highest_on highest_here no_head up_over in
             let unit : highest.head ≡ h.key =
             sym q.3 ∙ (ap (λ (n : Node). n.head) (over_one q.0 q.1 q.2) ∙ sym is) in
-            let x = head_there whole _ over_on over_here in
-            let same : x.0 ≡ h = distinct_one nodes whole.sound.distinct x.0 h x.1 on (x.2 ∙ sym is) in
+            let x = head_there (whole_under opens) _ over_on over_here in
+            let same : x.0 ≡ h = distinct_one nodes (whole_under opens).sound.distinct x.0 h x.1 on (x.2 ∙ sym is) in
             let head : is_head h ≡ true = ap is_head (sym same) ∙ x.4 in
             let here : h.gone ≡ false = ap (λ (n : Node). n.gone) (sym same) ∙ x.3 in
-            sym (whole.together.alike highest h highest_on on unit
-            (own_head whole h on head) here) ∙ given)
+            sym ((whole_under opens).together.alike highest h highest_on on unit
+            (own_head (whole_under opens) h on head) here) ∙ given)
       ]
         where
           allocated_by : (a d b : Bool) → a ≡ false → (a || (d && b)) ≡ true → b ≡ true
@@ -185,7 +176,7 @@ module _ {t : Table Node} {us : List Unit} {ss : List Shelf} {old : Entry} {unhe
       -- the head of the unit above is left
       head_left : is_head_left (map goes nodes) over.head ≡ true
       head_left =
-          let x = head_there whole _ over_on over_here in
+          let x = head_there (whole_under opens) _ over_on over_here in
           let out : falls x.0.key ≡ false =
           head_out opens.store.kept opens.store.found gone.forest left gone.taken up x.0 x.1 x.3 x.2 in
           In-any _ _ _ (In-map-back _ _ x.0 x.1)
@@ -194,7 +185,7 @@ module _ {t : Table Node} {us : List Unit} {ss : List Shelf} {old : Entry} {unhe
 
       -- all but the top hang on what falls
       way : AreFalling (collection_in t s) falls highest over
-      way = record { whole = whole; up = ups; top_up = λ on here. up_over; above_one = over_one }
+      way = record { whole = whole_under opens; up = ups; top_up = λ on here. up_over; above_one = over_one }
 
       -- what falls is marked as gone
       made : IsMarked falls goes
@@ -216,7 +207,7 @@ module _ {t : Table Node} {us : List Unit} {ss : List Shelf} {old : Entry} {unhe
       -- the parent stands in the table
       over_found : option_map_or (head_of t) highest.parent None ≡ Some over.head
       over_found =
-          ap (λ o. option_map_or (head_of t) o None) up_over ∙ ap (option_map (λ (n : Node). n.head)) (at _ over_on)
+          ap (λ o. option_map_or (head_of t) o None) up_over ∙ ap (option_map (λ (n : Node). n.head)) (at_key opens.store.kept opens.store.found _ over_on)
 
     -- by cases on whether the top has a parent
     pub went : AfterRemoval t now after ss old new origin fault (head_over t keys) unheld pending
@@ -239,13 +230,10 @@ module _ {t : Table Node} {us : List Unit} {ss : List Shelf} {old : Entry} {unhe
   went_lost fault gone left is =
       went opens gone left (Some fault) becomes
       (ap (λ (ns : List Node). are_rooted (reverse ns)) becomes
-      ∙ (rooted_loss nodes_were (record { one = distinct_one nodes_were all.sound.distinct; rooted = all.rooted }) fault).rooted)
+      ∙ (rooted_loss nodes_were (record { one = distinct_one _ (whole_under opens).sound.distinct; rooted = (whole_under opens).rooted }) fault).rooted)
     where
       nodes_were : List Node
       nodes_were = nodes_with t old.keys.items
-
-      all : IsWhole (collection_in t (shelf_of old))
-      all = entire opens.store.kept opens.store.found gone.forest left gone.taken
 
       one_fails : (n : Node) → goes_of (Going.Fails fault) keys n ≡ lost (λ m. list_any (same_key m.key) keys) fault n
       one_fails n = grind (arith, goes_in, goes_not)
@@ -253,7 +241,7 @@ module _ {t : Table Node} {us : List Unit} {ss : List Shelf} {old : Entry} {unhe
       becomes : map (goes_of (Going.Fails fault) keys) nodes_were ≡ after_loss fault nodes_were
       becomes =
           map-In _ _ _ (λ n on. one_fails n)
-          ∙ losses_by_fall (on_ties opens.store.kept opens.store.found gone.forest left gone.taken) _
+          ∙ losses_by_fall (tied opens.store.kept opens.store.found) _
           (ap (is_left_of nodes_were) is ∙ left) _ (rw is gone.taken.fall)
 
   -- ---- without one
@@ -266,13 +254,10 @@ module _ {t : Table Node} {us : List Unit} {ss : List Shelf} {old : Entry} {unhe
   went_ended {going} leaves gone left heads =
       went opens gone left None becomes
       (ap (λ (ns : List Node). are_rooted (reverse ns)) becomes
-      ∙ (rooted_end nodes_were (record { one = distinct_one nodes_were all.sound.distinct; rooted = all.rooted }) origin).rooted)
+      ∙ (rooted_end nodes_were (record { one = distinct_one _ (whole_under opens).sound.distinct; rooted = (whole_under opens).rooted }) origin).rooted)
     where
       nodes_were : List Node
       nodes_were = nodes_with t old.keys.items
-
-      all : IsWhole (collection_in t (shelf_of old))
-      all = entire opens.store.kept opens.store.found gone.forest left gone.taken
 
       one_leaves : (n : Node) → goes_of going keys n ≡ record n { gone = list_any (same_key n.key) keys || n.gone }
       one_leaves n = elim (either_way (list_any (same_key n.key) keys)) [
@@ -284,25 +269,21 @@ module _ {t : Table Node} {us : List Unit} {ss : List Shelf} {old : Entry} {unhe
       o : IsLeft nodes_were origin
       o = left_node _ _ left
 
-      takes_below : (n : Node) → In n nodes_were → n.gone ≡ false → list_any (same_key n.key) keys ≡ is_below nodes_were origin n.key
-      takes_below =
-          let ties = on_ties opens.store.kept opens.store.found gone.forest left gone.taken in
+      ends_below : (n : Node) → In n nodes_were → n.gone ≡ false → list_any (same_key n.key) keys ≡ is_below nodes_were origin n.key
+      ends_below =
+          let ties = tied opens.store.kept opens.store.found in
           let at_o : node_at t origin ≡ Some o.node =
           ap (node_at t) (sym o.is) ∙ at_key opens.store.kept opens.store.found _ o.on in
           elim (or_cases _ _ (heads o.node o.on o.is)) [
             | inl none ↦
                 fall_root ties _ left
                 (ap (parent_at t) (sym o.is)
-                ∙ (linked opens.store.kept opens.store.found _ o.on o.here ∙ no_parent o.node.parent none)) _ gone.taken.fall
+                ∙ (linked opens.store.kept opens.store.found _ o.on o.here ∙ none_if o.node.parent none)) _ gone.taken.fall
             | inr attached ↦
                 fall_below ties _ left
                 (ap (λ x. option_map_or is_blocking x false) at_o
                 ∙ ap (λ b. b || (o.node.dispensable && o.node.allocated)) attached) _ gone.taken.fall
           ]
-        where
-          no_parent : (x : Option NodeKey) → is_none x ≡ true → x ≡ None
-          no_parent None h = refl
-          no_parent (Some p) h = cc
 
       becomes : map (goes_of going keys) nodes_were ≡ after_end origin nodes_were
       becomes = map-In _ _ _ (λ n on. one_leaves n ∙ by n on (either_way n.gone))
@@ -313,4 +294,4 @@ module _ {t : Table Node} {us : List Unit} {ss : List Shelf} {old : Entry} {unhe
               let both : (list_any (same_key n.key) keys || n.gone) ≡ (is_below nodes_were origin n.key || n.gone) =
               or_right _ _ e ∙ sym (or_right _ _ e) in
               λ i. record n { gone = both i }
-          by n on (inr e) = λ i. record n { gone = takes_below n on e i || n.gone }
+          by n on (inr e) = λ i. record n { gone = ends_below n on e i || n.gone }

@@ -1,5 +1,5 @@
 -- The nodes of a collection that is kept, in the table.
-use Rattle.forest_steps.proofs.Common.{◌≡◌, ◌==◌, false, List, Some, find, In, Table, node_at, parent_at, Node, IsStored, IsWhole, Shelf, collection_in, nodes_with, IsTied, found_whole, in_all, looked_there}
+use Rattle.forest_steps.proofs.Common.{◌≡◌, ◌==◌, false, List, Some, find, In, Table, node_at, parent_at, Node, IsStored, IsWhole, Shelf, collection_in, nodes_with, IsTied, found_whole, in_all, looked_there, list_all, is_filed, found_filed, eqb-true, all-In, looked-of, true}
 use Rattle.forest_store.proofs.tables.Hanging.{looked_hung, looked_tied}
 
 module _ {t : Table Node} {ss : List Shelf} {s : Shelf} (kept : IsStored t ss)
@@ -10,6 +10,10 @@ module _ {t : Table Node} {ss : List Shelf} {s : Shelf} (kept : IsStored t ss)
   -- each collection is whole
   pub whole : IsWhole (collection_in t s)
   whole = found_whole t _ ss s kept.whole found
+
+  -- its keys are filed
+  pub filed : list_all (is_filed t s.id) s.keys ≡ true
+  filed = found_filed t _ ss s kept.filed found
 
   -- the nodes are linked as the table links them
   pub tied : IsTied t nodes
@@ -22,3 +26,7 @@ module _ {t : Table Node} {ss : List Shelf} {s : Shelf} (kept : IsStored t ss)
   -- the table links each node that is not gone to its parent
   pub linked : (n : Node) → In n nodes → n.gone ≡ false → parent_at t n.key ≡ n.parent
   linked n on here = kept.linked n.key n (at_key n on) here
+
+  -- each node is of the collection
+  pub of_it : (n : Node) → In n nodes → n.collection ≡ s.id
+  of_it n on = eqb-true _ _ (all-In _ _ n on (looked-of t _ _ filed))

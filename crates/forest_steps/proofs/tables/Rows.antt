@@ -1,7 +1,8 @@
 -- The row of a key, and the node in it.
-use Rattle.forest_steps.proofs.Common.{◌≡◌, ◌∙◌, refl, Option, None, Some, option_map, NodeKey, Table, node_at, Node, Row, row_at}
-use Rattle.std.proofs.Common.{IsSome}
+use Rattle.forest_steps.proofs.Common.{◌≡◌, ◌∙◌, refl, Option, None, Some, option_map, NodeKey, Table, node_at, Node, Row, row_at, IsSome, parent_at, List, Stores, arith}
 use Rattle.forest_store.specs.Shelves.{SameTable}
+use Rattle.node_table.specs.Table.{parent_in}
+use Rattle.forest_store.proofs.tables.Storing.{stored-key}
 
 -- a key with a row has a node
 pub row_node : (t : Table Node) (key : NodeKey) → IsSome (row_at t key) → (n : Node) × (node_at t key ≡ Some n)
@@ -11,6 +12,14 @@ row_node t key some = from (row_at t key) some
     from None some = cc
     from (Some r) some = (r.node, refl)
 
+-- a key that has a parent has a node
+pub child_node : (t : Table Node) (key : NodeKey) {p : NodeKey} → parent_at t key ≡ Some p → (n : Node) × (node_at t key ≡ Some n)
+child_node t key {p} up = from (row_at t key) up
+  where
+    from : (o : Option (Row Node)) → parent_in o ≡ Some p → (n : Node) × (option_map (λ (row : Row Node). row.node) o ≡ Some n)
+    from None up = cc
+    from (Some row) up = (row.node, refl)
+
 -- tables that are the same in all but their nodes, one after the other
 pub same_on : {t u now : Table Node} → SameTable t u → SameTable u now → SameTable t now
 same_on one two = record {
@@ -19,3 +28,8 @@ same_on one two = record {
   limit = two.limit ∙ one.limit;
   len = two.len ∙ one.len;
 }
+
+-- each node has its key still
+pub still_named : {t now : Table Node} {ns : List Node} → ((key : NodeKey) (n : Node) → node_at t key ≡ Some n → n.key ≡ key) →
+    Stores t now ns → (key : NodeKey) {n : Node} → node_at now key ≡ Some n → n.key ≡ key
+still_named {t} {ns} named stores key {n} is = grind (arith, stored-key)

@@ -1,8 +1,6 @@
 -- Lines of parents, and heads of units, in a collection that is whole.
-use Rattle.forest_steps.proofs.Common.{◌≡◌, ◌≤◌, true, false, List, ◌∷◌, length, reverse, Option, Some, NodeKey, In, Node, is_left_of, Collection, IsWhole, is_head}
-use Rattle.sm_names.proofs.ReachLaws.{IsChain}
-use Rattle.forest_store.specs.Nodes.{above_among}
-use Rattle.forest_store.specs.Questions.{is_below}
+use Rattle.forest_steps.proofs.Common.{◌≡◌, ◌≤◌, true, false, List, ◌∷◌, length, reverse, Option, Some, NodeKey, In, Node, is_left_of, Collection, IsWhole, is_head, IsChain, above_among, is_below, zero, suc, ◌<◌, arith, either_way, left_parent, ap, sym, ◌∙◌, inl, inr, ℕ}
+use Rattle.forest_store.proofs.tallies.Holding.{has_parent}
 use Rattle.forest_store.proofs.tallies.Holding
 
 module _ {c : Collection} (whole : IsWhole c) where
@@ -63,3 +61,22 @@ module _ {c : Collection} (whole : IsWhole c) where
   pub head_there : (n : Node) → In n c.nodes → n.gone ≡ false →
       (h : Node) × In h c.nodes × (h.key ≡ n.head) × (h.gone ≡ false) × (is_head h ≡ true)
   head_there = Holding.head_there c.nodes whole.sound.distinct whole.sound.heads whole.rooted whole.united
+
+  -- by induction on the line above the node: what holds of each head, and of a node where it holds of its parent, holds of each
+  pub by_unit : (P : Node → Type 0) → ((n : Node) → In n c.nodes → n.gone ≡ false → is_head n ≡ true → P n) →
+      ((n x : Node) → In n c.nodes → n.gone ≡ false → is_head n ≡ false → In x c.nodes → n.parent ≡ Some x.key → x.head ≡ n.head → P x → P n) →
+      (n : Node) → In n c.nodes → n.gone ≡ false → P n
+  by_unit P head child n on here = from (suc (length (line n.key))) n on here (omega arith)
+    where
+      from : (fuel : ℕ) (m : Node) → In m c.nodes → m.gone ≡ false → length (line m.key) < fuel → P m
+      from zero m on here few = absurd (omega arith)
+      from (suc fuel) m on here few = elim (either_way (is_head m)) [
+        | inl e ↦ head m on here e
+        | inr e ↦
+            let p = has_parent c.nodes whole.sound.distinct whole.sound.heads whole.rooted whole.united m e in
+            let x = shared m on here e p.1 in
+            let above : m.parent ≡ Some x.0.key = p.1 ∙ ap Some (sym x.2) in
+            let left : is_left_of c.nodes x.0.key ≡ true = left_parent _ whole.rooted m _ on here above in
+            let long : length (line m.key) ≡ length (x.0.key ∷ line x.0.key) = ap length (step m on here above) in
+            child m x.0 on here e x.1 above x.3 (from fuel x.0 x.1 (still_here x.0 x.1 left) (omega arith))
+      ]

@@ -1,10 +1,15 @@
 -- Each node of a collection that is not gone stands behind its parent, and is of its unit unless it is attached.
-use Rattle.forest_steps.proofs.Common.{ℕ, zero, suc, ◌<◌, ◌≡◌, refl, ap, sym, ◌∙◌, Bool, true, false, not, ◌||◌, is_none, List, [], ◌∷◌, ◌++◌, take, drop, reverse, Option, Some, None, inl, inr, arith, list_all, option_map_or, NodeKey, same_key, In, and_left, and_right, Node, is_left_of, are_rooted, same_key-equal, In-reverse, same_key-comm, Hangs, Roots, hangs_on, all-In, left_node}
-use Rattle.std.proofs.lemmas.List.{append_assoc, reverse-append}
-use Rattle.std.specs.List.{slice_get}
-use Rattle.forest_store.specs.Falls.{AreGrown, IsPlaced}
+use Rattle.forest_steps.proofs.Common.{ℕ, zero, suc, ◌<◌, ◌≡◌, refl, ap, sym, ◌∙◌, Bool, true, false, not, ◌||◌, is_none, List, [], ◌∷◌, ◌++◌, take, drop, reverse, Option, Some, None, inl, inr, arith, list_all, option_map_or, NodeKey, same_key, In, and_left, and_right, Node, is_left_of, are_rooted, same_key-equal, In-reverse, same_key-comm, Hangs, Roots, hangs_on, all-In, left_node, reverse-append, AreGrown, slice_get}
+use Rattle.std.proofs.lemmas.List.{append_assoc}
+use Rattle.forest_store.specs.Falls.{IsPlaced}
 use Rattle.forest_store.specs.Units.{are_united, is_parent, shares_unit}
-use Rattle.forest_steps.proofs.quiescence.Lines.{parted_at}
+use Rattle.std.proofs.lemmas.Option.{same_Some}
+
+-- what stands at a place parts the list
+parted_at : {A : Type 0} (xs : List A) (at : ℕ) {x : A} → slice_get xs at ≡ Some x → xs ≡ take at xs ++ x ∷ drop (suc at) xs
+parted_at [] at is = cc
+parted_at (y ∷ xs) zero {x} is = let same : y ≡ x = same_Some y x is in ap (λ z. z ∷ xs) same
+parted_at (y ∷ xs) (suc at) is = ap (λ rest. y ∷ rest) (parted_at xs at is)
 
 -- where one of the first stands
 front_place : (ns : List Node) (at : ℕ) (m : Node) → In m (take at ns) → (i : ℕ) × (slice_get ns i ≡ Some m) × (i < at)

@@ -1,9 +1,10 @@
 -- The nodes of a collection stand as its keys do, each behind its parent and the head of its parent's unit.
-use Rattle.forest_steps.proofs.Common.{◌≡◌, ℕ, zero, suc, ◌<◌, ◌==◌, refl, ap, sym, ◌∙◌, true, false, ◌||◌, inl, inr, is_none, List, [], ◌∷◌, Option, Some, None, option_map, arith, cons_option, find, list_all, option_map_or, NodeKey, same_key, and_left, and_right, either_way, or_left, or_right, same_key-true, some-injective, same_key-refl, Table, node_at, Node, IsStored, IsWhole, Shelf, collection_in, is_filed, nodes_with, are_distinct, heads_itself, In, In-any, Hangs, Roots, all-In, found_filed, found_whole, node_there}
+use Rattle.forest_steps.proofs.Common.{◌≡◌, ℕ, zero, suc, ◌<◌, ◌==◌, refl, ap, sym, ◌∙◌, true, false, ◌||◌, inl, inr, is_none, List, [], ◌∷◌, Option, Some, None, option_map, arith, cons_option, find, list_all, option_map_or, NodeKey, same_key, and_left, and_right, either_way, or_left, or_right, same_key-true, some-injective, same_key-refl, Table, node_at, Node, IsStored, Shelf, is_filed, nodes_with, are_distinct, heads_itself, In, In-any, Hangs, Roots, all-In, node_there, AreGrown}
 use Rattle.std.specs.List.{slice_get}
-use Rattle.forest_store.specs.Falls.{AreGrown, IsHanging}
+use Rattle.forest_store.specs.Falls.{IsHanging}
 use Rattle.forest_steps.specs.InTurn.{IsKeyAt}
 use Rattle.forest_steps.proofs.turns.Grown.{grown_by}
+use Rattle.forest_steps.proofs.tables.OfShelf.{whole, filed}
 
 -- ---- places in lists
 
@@ -116,32 +117,24 @@ module _ {t : Table Node} {ss : List Shelf} (kept : IsStored t ss) {s : Shelf}
   abbrev nodes : List Node
   nodes = nodes_with t s.keys
 
-  -- the keys of each shelf are filed
-  filed : list_all (is_filed t s.id) s.keys ≡ true
-  filed = found_filed t _ ss s kept.filed found
-
-  -- each collection is whole
-  whole : IsWhole (collection_in t s)
-  whole = found_whole t _ ss s kept.whole found
-
   -- the node of a key stands where the key does
   pub key_node : (i : ℕ) {j : NodeKey} → slice_get s.keys i ≡ Some j →
       (m : Node) × (slice_get nodes i ≡ Some m) × (node_at t j ≡ Some m) × (m.key ≡ j)
   key_node i {j} on =
-      let r = node_from t _ kept.named _ filed i on in
+      let r = node_from t _ kept.named _ (filed kept found) i on in
       (r.0, r.1, r.2, kept.named j r.0 r.2)
 
   -- and the key where the node does
   pub node_key : (i : ℕ) {m : Node} → slice_get nodes i ≡ Some m → slice_get s.keys i ≡ Some m.key
-  node_key i on = key_from t _ kept.named _ filed i on
+  node_key i on = key_from t _ kept.named _ (filed kept found) i on
 
   -- a key stands once
   pub one_place : (i l : ℕ) {j : NodeKey} → slice_get s.keys i ≡ Some j → slice_get s.keys l ≡ Some j → i ≡ l
-  one_place i l on there = grind (arith, at_one_place, key_node, whole)
+  one_place i l on there = grind (arith, at_one_place, key_node, (whole kept found).sound.distinct)
 
   -- each stands behind its parent
   pub grown : AreGrown nodes
-  grown = grown_by _ whole.rooted whole.united
+  grown = grown_by _ (whole kept found).rooted (whole kept found).united
 
   -- and behind the head of its parent's unit
   pub above_first : (i h : ℕ) {j p : NodeKey} {x a : Node} → slice_get s.keys i ≡ Some j → node_at t j ≡ Some x → x.gone ≡ false →
@@ -153,7 +146,7 @@ module _ {t : Table Node} {ss : List Shelf} (kept : IsStored t ss) {s : Shelf}
       elim (grown i x at here) [
         | Roots none ↦ let both : None ≡ Some p = sym none ∙ up in cc
         | Hangs g ↦
-            let r = above_place _ whole.sound.distinct whole.sound.heads grown at g in
+            let r = above_place _ (whole kept found).sound.distinct (whole kept found).sound.heads grown at g in
             let parent : g.above.key ≡ p = some-injective _ p (sym g.parent ∙ up) in
             let y = key_node _ (node_key _ g.found) in
             let one : g.above ≡ y.0 = some-injective _ y.0 (sym g.found ∙ y.1) in

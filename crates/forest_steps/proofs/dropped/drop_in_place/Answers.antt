@@ -1,39 +1,33 @@
 -- The buffer of the collection goes home, and nothing is forced in it.
-use Rattle.forest_steps.proofs.Common.{◌≡◌, ◌∙◌, ◌&&◌, ◌⊎◌, ◌++◌, ℕ, List, nat_lt, not, true, false, None, Some, inl, inr, refl, set, subst, sym, ap, arith, lt-ltb, filter, total, Entry, forest_of, nodes_with, place_in, shelves_of, get_or_default, AreCounted, IsCounted, decided, are_rest_out, has_given_root, beside, by_page, is_held_strongly, is_out, pages_held, place_is}
+use Rattle.forest_steps.proofs.Common.{◌≡◌, ◌∙◌, ◌&&◌, ◌⊎◌, ◌++◌, ℕ, List, nat_lt, not, true, false, None, Some, inl, inr, refl, set, subst, sym, ap, arith, lt-ltb, filter, total, Entry, forest_of, nodes_with, place_in, shelves_of, get_or_default, AreCounted, IsCounted, decided, are_rest_out, has_given_root, beside, by_page, is_held_strongly, is_out, pages_held, place_is, counted_set, get_or, some-injective, both_ways, ◌||◌, le-ltb, or_both}
 use Rattle.forest_steps.proofs.changes.Dropped.{IsReturned, decides_none, few_at, finishes_so, one_entry, pool_at, pool_so, rest_at, stored_so, units_so}
-use Rattle.forest_store.proofs.shelves.Counted.{counted_set}
 use Rattle.forest_steps.proofs.dropped.drop_in_place.Goals.{else-not-strong_live-via-then-not-strong_live+else-is_abandoned, else-not-strong_live-via-else-not-strong_live}
 use Rattle.forest_steps.proofs.dropped.drop_in_place.Goals as goal
 
 pub index-requires : goal.index-requires
 index-requires c =
-    let told : place_in c.args.buffer.collection c.args.entries.now.items ≡ Some c.in-Some.at =
-    sym (rw c.deref.ensures.value at c.place_of.ensures) ∙ c.in-Some.is in
+    let told = sym (rw c.deref.ensures.value at c.place_of.ensures) ∙ c.in-Some.is in
     omega (arith, (place_is c.args.buffer.collection c.args.entries.now.items c.in-Some.at told).within)
 
 pub index-requires-then-not-strong_live : goal.index-requires-then-not-strong_live
 index-requires-then-not-strong_live c =
-    let told : place_in c.args.buffer.collection c.args.entries.now.items ≡ Some c.in-Some.at =
-    sym (rw c.deref.ensures.value at c.place_of.ensures) ∙ c.in-Some.is in
+    let told = sym (rw c.deref.ensures.value at c.place_of.ensures) ∙ c.in-Some.is in
     omega (arith, (place_is c.args.buffer.collection c.args.entries.now.items c.in-Some.at told).within)
 
 pub index_mut-requires : goal.index_mut-requires
 index_mut-requires c =
-    let told : place_in c.args.buffer.collection c.args.entries.now.items ≡ Some c.in-Some.at =
-    sym (rw c.deref.ensures.value at c.place_of.ensures) ∙ c.in-Some.is in
+    let told = sym (rw c.deref.ensures.value at c.place_of.ensures) ∙ c.in-Some.is in
     omega (arith, (place_is c.args.buffer.collection c.args.entries.now.items c.in-Some.at told).within)
 
 pub is_abandoned-requires : goal.is_abandoned-requires
 is_abandoned-requires c =
-    let told : place_in c.args.buffer.collection c.args.entries.now.items ≡ Some c.in-Some.at =
-    sym (rw c.deref.ensures.value at c.place_of.ensures) ∙ c.in-Some.is in
+    let told = sym (rw c.deref.ensures.value at c.place_of.ensures) ∙ c.in-Some.is in
     few_at (total c.args.holds.now) _ _
     _ told c.index-then-not-strong_live.ensures c.requires.kept c.requires.counted
 
 pub free_if_home-requires-clause-pool : goal.free_if_home-requires-clause-pool
 free_if_home-requires-clause-pool c =
-    let told : place_in c.args.buffer.collection c.args.entries.now.items ≡ Some c.in-Some.at =
-    sym (rw c.deref.ensures.value at c.place_of.ensures) ∙ c.in-Some.is in (
+    let told = sym (rw c.deref.ensures.value at c.place_of.ensures) ∙ c.in-Some.is in (
       beside (forest_of c.args.table.now (shelves_of c.args.entries.now.items)) c.index_mut.result.now.id,
       pool_at (total c.args.holds.now) _ _
           _ told c.index_mut.ensures.value c.requires.kept c.requires.counted _ c.assert_disjoint.ensures
@@ -42,8 +36,7 @@ free_if_home-requires-clause-pool c =
 
 pub free_if_home-requires-clause-others : goal.free_if_home-requires-clause-others
 free_if_home-requires-clause-others c =
-    let told : place_in c.args.buffer.collection c.args.entries.now.items ≡ Some c.in-Some.at =
-    sym (rw c.deref.ensures.value at c.place_of.ensures) ∙ c.in-Some.is in
+    let told = sym (rw c.deref.ensures.value at c.place_of.ensures) ∙ c.in-Some.is in
     let read : c.index.result.now ≡ c.index_mut.result.now = one_entry _ _ _ _ told c.index.ensures
     c.index_mut.ensures.value in
     ap (λ (e : Entry). are_rest_out (total c.args.holds.now) c.args.buffer (nat_lt 0 e.strong) c.index_mut.result.now.held.items) read
@@ -147,3 +140,14 @@ returns-clause-outcome c =
 pub returns-clause-units : goal.returns-clause-units
 returns-clause-units c =
     units_so _ _ _ _ (told c) c.index_mut.ensures.value c.requires.kept c.requires.counted (returned c)
+
+-- the collection is the one that was read, whose buffers are abandoned
+pub returns-then-is_abandoned-clause-made : goal.returns-then-is_abandoned-clause-made
+returns-then-is_abandoned-clause-made c at e place is live =
+    let found = sym (rw c.deref.ensures.value at c.place_of.ensures) ∙ c.in-Some.is in
+    let here = subst (λ k. e ≡ get_or c.args.entries.now.items k e) (some-injective at _ (sym place ∙ found)) is in
+    let counted = one_entry c.args.entries.now.items _ e _ found here c.index.ensures in
+    let same = one_entry c.args.entries.now.items _ e _ found here c.index-then-not-strong_live.ensures in
+    both_ways _ live ((λ i. nat_lt 0 (counted i).strong || not (has_given_root c.args.table.now (same i).keys.items
+    && not (is_held_strongly (total c.args.holds.now) (same i).id (same i).buffers)))
+    ∙ or_both _ _ (le-ltb 0 _ c.if-not-strong_live.true) (ap not (sym c.is_abandoned.ensures ∙ c.if-is_abandoned.true)))

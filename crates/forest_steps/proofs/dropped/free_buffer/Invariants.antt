@@ -1,5 +1,4 @@
-use Rattle.forest_steps.proofs.Common.{◌≡◌, ◌≤◌, ◌++◌, false, true, List, length, take, filter, Interval, total, are_rest_out, by_page, is_out, pages_held}
-use Rattle.std.proofs.Common.{◌-◌}
+use Rattle.forest_steps.proofs.Common.{◌≡◌, ◌≤◌, ◌++◌, false, true, List, length, take, filter, Interval, total, are_rest_out, by_page, is_out, pages_held, ◌-◌}
 use Rattle.buffer_pool.specs.Holdings.{IsSound}
 use Rattle.forest_steps.proofs.dropped.free_buffer.Given as goal
 

@@ -1,7 +1,6 @@
 -- Where the buffer is not home, none is.
 use Rattle.forest_steps.proofs.Common.{arith}
 use Rattle.forest_steps.proofs.changes.Dropped.{none_goes, strong_keeps}
-use Rattle.forest_steps.proofs.dropped.free_if_home.Goals.{else-not-strong_live-via-then-not-strong_live+else-home, else-not-strong_live-via-else-not-strong_live}
 use Rattle.forest_steps.proofs.dropped.free_if_home.Goals as goal
 
 pub returns-else-not-strong_live-clause-held : goal.returns-else-not-strong_live-clause-held

@@ -1,5 +1,4 @@
-use Rattle.forest_steps.proofs.Common.{◌≡◌, map, nat_lt, list_any, total, range_with_len, BufferName, Strength, names, name_of}
-use Rattle.std.proofs.Common.{◌-◌}
+use Rattle.forest_steps.proofs.Common.{◌≡◌, map, nat_lt, list_any, total, range_with_len, BufferName, Strength, names, name_of, ◌-◌}
 use Rattle.forest_steps.proofs.dropped.is_any_open.Given as goal
 
 -- one that is open is still to come

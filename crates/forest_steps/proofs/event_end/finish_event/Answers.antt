@@ -1,6 +1,5 @@
 -- What is left to be done is done at the place of the collection.
-use Rattle.forest_steps.proofs.Common.{◌≡◌, refl, arith, set, total, Entry, forest_of, shelves_of, beside, place_is}
-use Rattle.forest_steps.specs.EventEnd.{IsClosed}
+use Rattle.forest_steps.proofs.Common.{◌≡◌, refl, arith, set, total, Entry, forest_of, shelves_of, beside, place_is, IsClosed}
 use Rattle.forest_steps.proofs.mid_event.Closing.{closes_strong, closes_weak, out_is, pages_mid, under_is}
 use Rattle.forest_steps.proofs.mid_event.Ready.{whole_under}
 use Rattle.forest_steps.proofs.event_end.finish_event.Goals as goal

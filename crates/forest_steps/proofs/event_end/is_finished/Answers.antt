@@ -1,7 +1,5 @@
 -- Nothing is left to be done where the collection is kept, or rests.
-use Rattle.forest_steps.proofs.Common.{◌∙◌, ap, arith, set, subst, sym, total, place_is}
-use Rattle.std.proofs.lemmas.List.{set-get_or}
-use Rattle.forest_steps.specs.EventEnd.{Closes}
+use Rattle.forest_steps.proofs.Common.{◌∙◌, ap, arith, set, subst, sym, total, place_is, set-get_or, Closes}
 use Rattle.forest_steps.proofs.changes.Dropped.{one_entry}
 use Rattle.forest_steps.proofs.mid_event.Closing.{closes_kept, under_is}
 use Rattle.forest_steps.proofs.mid_event.Ready.{whole_under}

@@ -1,17 +1,9 @@
 -- The root's unit comes to its allocation, and what is forced is made in its place.
-use Rattle.forest_steps.proofs.Common.{◌≡◌, ◌∙◌, true, false, List, [], Option, None, Some, refl, set, sym, ap, subst, arith, total, NodeKey, not, ◌&&◌, and_left, option_map, option_map_or, affected, is_root_left, node_at, Table, Change, Effect, Entry, Node, Unit, place_in, shelves_of, get_or_default, Row, row_at, Holdings, IsOutcomeIn, StoreAgrees, IsPlace, place_is}
-use Rattle.std.proofs.Common.{IsSome}
-use Rattle.forest_store.specs.Counts.{unit_then}
-use Rattle.forest_steps.specs.EventEnd.{Closes}
-use Rattle.forest_steps.specs.InitialAllocation.{IsPlanned, IsRooted, IsAllocationOutcome, comes_first, is_bare_root, is_held_ready}
-use Rattle.forest_steps.specs.MidEvent.{EffectMade, AfterEffect, MidEvent}
-use Rattle.forest_steps.specs.NodeEffects.{KeepsCounts}
-use Rattle.forest_store.proofs.changes.Altering.{tracker_room}
-use Rattle.forest_steps.proofs.mid_event.Affecting.{affected_on}
+use Rattle.forest_steps.proofs.Common.{◌≡◌, ◌∙◌, true, false, List, [], Option, None, Some, refl, set, sym, ap, subst, arith, total, NodeKey, not, ◌&&◌, and_left, option_map, option_map_or, affected, is_root_left, node_at, Table, Change, Effect, Entry, Node, Unit, place_in, shelves_of, get_or_default, Row, row_at, Holdings, IsOutcomeIn, StoreAgrees, IsPlace, place_is, IsSome, unit_then, Closes, IsPlanned, IsRooted, IsAllocationOutcome, comes_first, is_bare_root, is_held_ready, EffectMade, AfterEffect, MidEvent, KeepsCounts, tracker_room}
+use Rattle.forest_steps.proofs.mid_event.Changing.{affected_on}
 use Rattle.forest_steps.proofs.mid_event.Counted.{may_make, waits_plain}
 use Rattle.forest_steps.proofs.mid_event.Listed.{listed_written}
-use Rattle.forest_steps.proofs.mid_event.Places.{begins_at, one_id}
-use Rattle.forest_steps.proofs.mid_event.Stepping.{node_there}
+use Rattle.forest_steps.proofs.mid_event.Stepping.{begins_at, one_id, node_there}
 use Rattle.forest_steps.proofs.mid_event.RootOutcome.{coming_mid, may_close, outcome_root, pool_then, reserved_mid, told_new, under_mid, waits_not}
 use Rattle.forest_steps.proofs.initial_allocation.allocate_root.Goals as goal
 

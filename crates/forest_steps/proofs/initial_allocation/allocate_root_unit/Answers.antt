@@ -1,9 +1,5 @@
 -- The root's unit has its buffers, and those that follow it had their turns.
-use Rattle.forest_steps.proofs.Common.{◌≡◌, ℕ, ◌+◌, ◌∷◌, [], List, Some, length, refl, ap, sym, subst, ◌∙◌, arith, HeldBuffer, total, Entry, Shelf, nodes_with, put_shelf, shelf_of, reserved_count, after_allocation, IsGivenAt}
-use Rattle.forest_steps.specs.declared.initial_allocation.AllocationOutcome.{AllocationOutcome}
-use Rattle.forest_steps.specs.declared.pending_units.PendingUnit.{PendingUnit}
-use Rattle.forest_steps.specs.InitialAllocation.{IsComing, IsRooted}
-use Rattle.forest_steps.specs.MidEvent.{AreTurns, MidEvent}
+use Rattle.forest_steps.proofs.Common.{◌≡◌, ℕ, ◌+◌, ◌∷◌, [], List, Some, length, refl, ap, sym, subst, ◌∙◌, arith, HeldBuffer, total, Entry, Shelf, nodes_with, put_shelf, shelf_of, reserved_count, after_allocation, IsGivenAt, AllocationOutcome, PendingUnit, IsComing, IsRooted, AreTurns, MidEvent}
 use Rattle.forest_steps.proofs.mid_event.RootGiven.{root_left, rooted_given, turns_then, under_then, waits_no_more}
 use Rattle.forest_steps.proofs.initial_allocation.allocate_root_unit.Goals as goal
 

@@ -1,6 +1,4 @@
-use Rattle.forest_steps.proofs.Common.{◌≡◌, ◌≤◌, ◌+◌, drop, sum_by, Demand, filter_map, fold}
-use Rattle.std.proofs.Common.{◌*◌}
-use Rattle.sm_names.specs.declared.rules.TheConstants.{MAX_CAMPING}
+use Rattle.forest_steps.proofs.Common.{◌≡◌, ◌≤◌, ◌+◌, drop, sum_by, Demand, filter_map, fold, ◌*◌, MAX_CAMPING}
 use Rattle.forest_steps.specs.InitialAllocation.{allocated_at}
 use Rattle.forest_steps.proofs.initial_allocation.reserved_then.Given as goal
 

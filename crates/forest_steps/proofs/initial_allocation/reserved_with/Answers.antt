@@ -1,5 +1,4 @@
-use Rattle.forest_steps.proofs.Common.{◌≡◌, inr, sum_by, Demand}
-use Rattle.forest_steps.specs.InitialAllocation.{allocated_with}
+use Rattle.forest_steps.proofs.Common.{◌≡◌, inr, sum_by, Demand, allocated_with}
 use Rattle.forest_steps.proofs.initial_allocation.reserved_with.Goals as goal
 
 pub returns-else-entry-eq0 : goal.returns-else-entry-eq0

@@ -1,6 +1,5 @@
-use Rattle.forest_steps.proofs.Common.{◌≡◌, ◌≤◌, ◌+◌, drop, sum_by, Demand, filter_map, fold, greatest}
-use Rattle.std.proofs.Common.{◌*◌, max}
-use Rattle.sm_names.specs.declared.rules.TheConstants.{MAX_CAMPING, MAX_SIZE}
+use Rattle.forest_steps.proofs.Common.{◌≡◌, ◌≤◌, ◌+◌, drop, sum_by, Demand, filter_map, fold, greatest, ◌*◌, max, MAX_CAMPING}
+use Rattle.sm_names.specs.declared.rules.TheConstants.{MAX_SIZE}
 use Rattle.forest_store.specs.UnitAllocation.{asked_at}
 use Rattle.forest_steps.proofs.initial_allocation.root_total.Given as goal
 

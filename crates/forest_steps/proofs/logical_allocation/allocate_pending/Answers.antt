@@ -1,24 +1,17 @@
 -- The unit is next or not; if it is, it is allocated, or refused and fails.
-use Rattle.forest_steps.proofs.Common.{◌≡◌, ap, sym, ◌∙◌, Bool, false, List, NodeKey, Table, Node, Unit}
-use Rattle.forest_steps.specs.declared.demand.TotalDemand.{TotalDemand}
-use Rattle.forest_steps.specs.LogicalAllocation.{is_next_there}
-use Rattle.forest_steps.proofs.mid_event.Taking.{AreAsked, allocated_by, given_named, refused_by}
-use Rattle.forest_steps.proofs.mid_event.Turns.{left, still_led}
+use Rattle.forest_steps.proofs.Common.{◌≡◌, sym, ◌∙◌, false, List, NodeKey, Table, Node, TotalDemand}
+use Rattle.forest_steps.proofs.mid_event.Turns.{AreAsked, allocated_by, given_named, refused_by, left, still_led}
+use Rattle.forest_steps.proofs.mid_event.NextThere.{next_by}
 use Rattle.forest_steps.proofs.logical_allocation.allocate_pending.Goals as goal
 
 -- what the keys that were read ask for is what those that were listed do
 asked_by : (t : Table Node) (k : NodeKey) (read ks : List NodeKey) (asks : TotalDemand) → read ≡ ks → AreAsked t k read asks → AreAsked t k ks asks
 asked_by t k read ks asks same told = rw same at told
 
--- the counts that were read are those that are kept
-told_by : (t : Table Node) (k : NodeKey) (read us : List Unit) (r b : Bool) → r ≡ is_next_there t read k → read ≡ us → r ≡ b →
-    is_next_there t us k ≡ b
-told_by t k read us r b told same is = ap (λ xs. is_next_there t xs k) (sym same) ∙ (sym told ∙ is)
-
 pub returns-then-not-is_next-clause-taken : goal.returns-then-not-is_next-clause-taken
 returns-then-not-is_next-clause-taken c handles ss place ws u turns no_wait has stays =
     still_led place ws u turns handles no_wait
-    (told_by c.args.nodes.now.table c.args.head _ _ _ false c.is_next.ensures c.deref.ensures.value c.if-not-is_next.true)
+    (next_by c.args.nodes.now.table c.args.head _ _ _ false c.is_next.ensures c.deref.ensures.value c.if-not-is_next.true)
 
 pub returns-in-None-clause-taken : goal.returns-in-None-clause-taken
 returns-in-None-clause-taken c handles ss place ws u turns no_wait has stays =
@@ -26,7 +19,7 @@ returns-in-None-clause-taken c handles ss place ws u turns no_wait has stays =
     let k = c.args.head in
     let ks = c.list_unit.new.keys.items in
     let told = c.unit_total-asks.ensures in
-    let next = told_by t k _ _ _ _ c.is_next.ensures c.deref.ensures.value c.if-not-is_next.false in
+    let next = next_by t k _ _ _ _ c.is_next.ensures c.deref.ensures.value c.if-not-is_next.false in
     allocated_by _ ws u turns next no_wait c.list_unit.ensures.listed
     (asked_by t k _ ks _ c.deref-2.ensures.value (record { camping = told.camping; at_least = told.at_least; size = told.size }))
     _ has stays (rw c.deref-in-None.ensures.value at c.mark_allocated.ensures)
@@ -41,7 +34,7 @@ returns-in-Some-clause-taken c handles ss place ws u turns no_wait has stays =
     let k = c.args.head in
     let ks = c.list_unit.new.keys.items in
     let told = c.unit_total-asks.ensures in
-    let next = told_by t k _ _ _ _ c.is_next.ensures c.deref.ensures.value c.if-not-is_next.false in
+    let next = next_by t k _ _ _ _ c.is_next.ensures c.deref.ensures.value c.if-not-is_next.false in
     refused_by _ ws u turns next no_wait c.list_unit.ensures.listed
     (asked_by t k _ ks _ c.deref-2.ensures.value (record { camping = told.camping; at_least = told.at_least; size = told.size }))
     _ has stays (c.fall_by.ensures.felled handles ss _ u (left _ ws u turns next))

@@ -1,7 +1,4 @@
-use Rattle.forest_steps.proofs.Common.{◌≡◌, ◌≤◌, ◌+◌, drop, sum_by, Demand, filter_map, fold, greatest}
-use Rattle.std.proofs.Common.{◌*◌, max}
-use Rattle.sm_names.specs.declared.rules.TheConstants.{MAX_CAMPING}
-use Rattle.forest_steps.specs.LogicalAllocation.{asked_there}
+use Rattle.forest_steps.proofs.Common.{◌≡◌, ◌≤◌, ◌+◌, drop, sum_by, Demand, filter_map, fold, greatest, ◌*◌, max, MAX_CAMPING, asked_there}
 use Rattle.forest_steps.proofs.logical_allocation.unit_total.Given as goal
 
 -- with those that are still to come it is what all ask for

@@ -1,8 +1,6 @@
 -- The node is written, and what is counted of its unit and of its collection.
-use Rattle.forest_steps.proofs.Common.{◌≡◌, ◌∙◌, map, refl, ap, Entry, nodes_with, affected, reserved_count}
-use Rattle.forest_steps.specs.NodeEffects.{AreCounts, KeepsCounts}
-use Rattle.forest_steps.proofs.mid_event.Affecting.{becomes_there, named_here, nodes_here, plain_here, there_here, writes_there}
-use Rattle.forest_steps.proofs.mid_event.Counted.{counted_here, reserved_next}
+use Rattle.forest_steps.proofs.Common.{◌≡◌, ◌∙◌, map, refl, ap, Entry, nodes_with, affected, reserved_count, AreCounts, KeepsCounts}
+use Rattle.forest_steps.proofs.mid_event.Affecting.{named_here, nodes_here, plain_here, there_here, counted_here, reserved_next}
 use Rattle.forest_steps.proofs.tables.Rows.{row_node}
 use Rattle.forest_steps.proofs.node_effect.make_effect.Goals.{in-Some-reserved, in-None}
 use Rattle.forest_steps.proofs.node_effect.make_effect.Goals as goal
@@ -16,8 +14,7 @@ returns-in_default-clause-affected c ss n was here own store =
     let effect = c.args.made.now.effect in
     let keeps : KeepsCounts effect = rw c.in_default.is at c.requires.may.worked in
     plain_here store key _ was here own
-    (becomes_there t _ key _ was c.requires.named (c.affect_at.ensures.becomes n was))
-    (writes_there t _ key _ was c.requires.named (c.affect_at.ensures.writes n was)) keeps.plain
+    (c.affect_at.ensures.becomes n was) (c.affect_at.ensures.writes n was) keeps.plain
     (keeps.strong key n)
 
 pub returns-in_default-clause-named : goal.returns-in_default-clause-named
@@ -46,8 +43,8 @@ returns-clause-affected c ss n was here own store =
     let effect = c.args.made.now.effect in
     let now = c.affect_at.new.table in
     let counts = c.in-Some.counts in
-    let becomes = becomes_there t now key _ was c.requires.named (c.affect_at.ensures.becomes n was) in
-    let writes = writes_there t now key _ was c.requires.named (c.affect_at.ensures.writes n was) in
+    let becomes = c.affect_at.ensures.becomes n was in
+    let writes = c.affect_at.ensures.writes n was in
     let worked : AreCounts t us e key effect n counts = (rw c.in-Some.is at c.requires.may.worked) n was in
     let nodes : nodes_with now e.keys.items ≡ map (affected key effect) (nodes_with t e.keys.items) =
     nodes_here store key _ was here own becomes writes in

@@ -1,7 +1,5 @@
 -- The node is there, and is counted as it is after the effect.
-use Rattle.forest_steps.proofs.Common.{◌≡◌, ◌∙◌, Some, ap, sym, subst, some-injective, node_at, arith}
-use Rattle.std.proofs.Common.{option_copied}
-use Rattle.forest_steps.specs.NodeEffects.{AreCounts}
+use Rattle.forest_steps.proofs.Common.{◌≡◌, ◌∙◌, Some, ap, sym, subst, some-injective, node_at, arith, option_copied, AreCounts}
 use Rattle.forest_steps.proofs.tables.Rows.{row_node}
 use Rattle.forest_steps.proofs.node_effect.work_out.Goals as goal
 

@@ -1,5 +1,4 @@
-use Rattle.forest_steps.proofs.Common.{subst, arith}
-use Rattle.std.proofs.Common.{Contains}
+use Rattle.forest_steps.proofs.Common.{subst, arith, Contains}
 use Rattle.buffer_pool.proofs.Runs.{HasRun-more, run-few, without_run-had}
 use Rattle.forest_steps.proofs.page_ranges.extend_range.Goals as goal
 

@@ -1,7 +1,6 @@
 -- One unit after another.
-use Rattle.forest_steps.proofs.Common.{◌≡◌, ◌+◌, ◌<◌, ◌∷◌, drop, get_or, length, sym, ◌∙◌, arith, total}
+use Rattle.forest_steps.proofs.Common.{◌≡◌, ◌+◌, ◌<◌, ◌∷◌, drop, get_or, length, sym, ◌∙◌, arith, total, PendingUnit}
 use Rattle.std.proofs.lemmas.List.{drop_more}
-use Rattle.forest_steps.specs.declared.pending_units.PendingUnit.{PendingUnit}
 use Rattle.forest_steps.proofs.mid_event.Leading.{HaveTurns, turns_more, turns_none}
 use Rattle.forest_steps.proofs.pending_units.allocate_all_pending.Goals as goal
 

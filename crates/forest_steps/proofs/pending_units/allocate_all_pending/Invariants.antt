@@ -1,5 +1,4 @@
-use Rattle.forest_steps.proofs.Common.{◌≡◌, ◌≤◌, drop, Some, total, NodeKey, node_at, Node, table_len}
-use Rattle.std.proofs.Common.{vec_capacity}
+use Rattle.forest_steps.proofs.Common.{◌≡◌, ◌≤◌, drop, Some, total, NodeKey, node_at, Node, table_len, vec_capacity}
 use Rattle.forest_steps.proofs.mid_event.Leading.{HaveTurns}
 use Rattle.forest_steps.proofs.pending_units.allocate_all_pending.Given as goal
 

@@ -1,6 +1,5 @@
-use Rattle.forest_steps.proofs.Common.{◌≡◌, ◌≤◌, length, take, is_head_at}
-use Rattle.std.proofs.Common.{filter, vec_capacity}
-use Rattle.forest_steps.specs.MidEvent.{ArePlacedIfThere, turn_heads}
+use Rattle.forest_steps.proofs.Common.{◌≡◌, ◌≤◌, length, take, is_head_at, vec_capacity, ArePlacedIfThere, turn_heads}
+use Rattle.std.proofs.Common.{filter}
 use Rattle.forest_steps.proofs.pending_units.list_heads.Given as goal
 
 -- so far the heads among these keys are listed

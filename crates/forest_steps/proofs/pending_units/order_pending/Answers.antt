@@ -1,7 +1,6 @@
 -- No one stands before one that it is behind.
-use Rattle.std.proofs.Common.{rules}
+use Rattle.forest_steps.proofs.Common.{rules, PendingUnit}
 use Rattle.std.proofs.lemmas.List.Sorted.{IsNonDecreasingBy-from_sort, answers_always}
-use Rattle.forest_steps.specs.declared.pending_units.PendingUnit.{PendingUnit}
 use Rattle.forest_steps.proofs.pending_units.order_pending.Goals as goal
 
 pub returns-clause-rising : goal.returns-clause-rising

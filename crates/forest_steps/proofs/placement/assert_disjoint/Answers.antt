@@ -1,4 +1,4 @@
-use Rattle.forest_store.proofs.lists.SameIntervals.{parted-in_order}
+use Rattle.forest_steps.proofs.Common.{parted-in_order}
 use Rattle.forest_steps.proofs.placement.assert_disjoint.Goals as goal
 
 pub returns : goal.returns

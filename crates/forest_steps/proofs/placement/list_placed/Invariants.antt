@@ -1,5 +1,4 @@
-use Rattle.forest_steps.proofs.Common.{◌≡◌, ◌≤◌, ◌+◌, ◌++◌, length, take, drop, laid}
-use Rattle.std.proofs.Common.{vec_capacity}
+use Rattle.forest_steps.proofs.Common.{◌≡◌, ◌≤◌, ◌+◌, ◌++◌, length, take, drop, laid, vec_capacity}
 use Rattle.forest_steps.proofs.placement.list_placed.Given as goal
 
 -- those so far and those still to come make the whole

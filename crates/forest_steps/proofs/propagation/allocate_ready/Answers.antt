@@ -1,26 +1,20 @@
 -- The units are listed and have their turns, or nothing is due.
-use Rattle.forest_steps.proofs.Common.{◌≡◌, ◌∙◌, sym, ap, Bool, List, [], ◌∷◌, In-list_any, same_key-true, NodeKey, Table, Node, Unit, arith}
-use Rattle.forest_steps.specs.LogicalAllocation.{is_next_there}
-use Rattle.forest_steps.proofs.mid_event.NextThere.{listed_due, none_due, told_left, told_there}
+use Rattle.forest_steps.proofs.Common.{◌≡◌, [], ◌∷◌, In-list_any, same_key-true, arith}
+use Rattle.forest_steps.proofs.mid_event.NextThere.{listed_due, none_due, told_left, told_there, next_by}
 use Rattle.forest_steps.proofs.mid_event.Playing.{played_none}
 use Rattle.forest_steps.proofs.propagation.allocate_ready.Goals as goal
-
--- the counts that were read are those that are kept
-told_by : (t : Table Node) (k : NodeKey) (read us : List Unit) (r b : Bool) → r ≡ is_next_there t read k → read ≡ us → r ≡ b →
-    is_next_there t us k ≡ b
-told_by t k read us r b told same is = ap (λ xs. is_next_there t xs k) (sym same) ∙ (sym told ∙ is)
 
 pub list_pending-requires-clause-there : goal.list_pending-requires-clause-there
 list_pending-requires-clause-there c =
     told_there c.args.nodes.now.table c.args.nodes.now.units.items c.args.head
-    (told_by c.args.nodes.now.table c.args.head _ _ _ _ c.is_next.ensures c.deref.ensures.value c.if-is_next.true)
+    (next_by c.args.nodes.now.table c.args.head _ _ _ _ c.is_next.ensures c.deref.ensures.value c.if-is_next.true)
 
 pub returns-then-is_next-clause-out : goal.returns-then-is_next-clause-out
 returns-then-is_next-clause-out c ss u there no_wait given =
     let t = c.args.nodes.now.table in
     let us = c.args.nodes.now.units.items in
     let k = c.args.head in
-    let next = told_by t k _ us _ _ c.is_next.ensures c.deref.ensures.value c.if-is_next.true in
+    let next = next_by t k _ us _ _ c.is_next.ensures c.deref.ensures.value c.if-is_next.true in
     let x = In-list_any _ _ there in
     let left = told_left u k x.0 x.1 (same_key-true _ k x.2) next in
     let listed = c.list_pending.ensures.listed ss [] (k ∷ []) (rw c.deref-then-is_next.ensures.value u) left in
@@ -29,4 +23,4 @@ returns-then-is_next-clause-out c ss u there no_wait given =
     (rw same (listed_due u no_wait _ _ _ listed.1.2)) (rw same listed.0) no_wait given
 
 pub returns-else-is_next-clause-out : goal.returns-else-is_next-clause-out
-returns-else-is_next-clause-out c ss u there no_wait given = grind (arith, none_due, played_none, told_by)
+returns-else-is_next-clause-out c ss u there no_wait given = grind (arith, none_due, played_none, next_by)

@@ -1,10 +1,6 @@
 -- The effect is made, what nothing holds then ends, and what is due has its turn.
-use Rattle.forest_steps.proofs.Common.{◌≡◌, ◌∙◌, sym, ap, subst, not, refl, List, [], ◌∷◌, Option, Some, None, NodeKey, total, Table, node_at, Effect, Entry, Node, Unit, Shelf}
-use Rattle.forest_steps.specs.declared.node_effect.EffectCounts.{EffectCounts}
-use Rattle.forest_steps.specs.MidEvent.{AfterEffect, EffectMade, MidEvent}
-use Rattle.forest_steps.specs.NodeEffects.{AreCountsThen, KeepsCounts}
-use Rattle.forest_steps.proofs.mid_event.Affecting.{affected_on, becomes_there, writes_there}
-use Rattle.forest_steps.proofs.mid_event.Counted.{still_played}
+use Rattle.forest_steps.proofs.Common.{◌≡◌, ◌∙◌, sym, ap, subst, not, refl, List, [], ◌∷◌, Option, Some, None, NodeKey, total, Table, node_at, Effect, Entry, Node, Unit, Shelf, EffectCounts, AfterEffect, EffectMade, MidEvent, AreCountsThen, KeepsCounts}
+use Rattle.forest_steps.proofs.mid_event.Changing.{affected_on, still_played}
 use Rattle.forest_steps.proofs.mid_event.Felled.{head_row, lent_there}
 use Rattle.forest_steps.proofs.mid_event.NextThere.{none_bare}
 use Rattle.forest_steps.proofs.mid_event.Playing.{played_affected, played_none, still_left}
@@ -18,10 +14,8 @@ returns-in_default-clause-out c ss n at here own under waits =
     let key = c.args.made.now.key in
     let effect = c.args.made.now.effect in
     let keeps : KeepsCounts effect = rw c.in_default.is at c.requires.may.worked in
-    still_played under at here own
-    (becomes_there t now key effect at c.requires.named (c.make_effect.ensures.becomes n at))
-    (writes_there t now key effect at c.requires.named (c.make_effect.ensures.writes n at))
-    (c.make_effect.ensures.affected ss n at here own under.store) (total c.args.holds.now) None keeps refl
+    still_played at own under (c.make_effect.ensures.affected ss n at here own under.store) here (c.make_effect.ensures.becomes n at)
+    (c.make_effect.ensures.writes n at) (total c.args.holds.now) None keeps refl
 
 -- the effect was made on the node of the unit that was counted
 counted_on : (t mid : Table Node) (us after : List Unit) (ss : List Shelf) (e e1 : Entry) (key : NodeKey) (effect : Effect)

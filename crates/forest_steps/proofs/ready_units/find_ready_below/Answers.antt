@@ -1,6 +1,6 @@
 -- No key stands twice, so there are no more than there are nodes.
-use Rattle.forest_steps.proofs.Common.{get_or, NodeKey, Table, parent_at, Node, row_at, Below, Top, Within}
-use Rattle.std.proofs.Common.{Result, Ok, Err, OnOk, IsOk, IsSome}
+use Rattle.forest_steps.proofs.Common.{get_or, NodeKey, Table, parent_at, Node, row_at, Below, Top, Within, Result, Ok, Err, IsSome}
+use Rattle.std.proofs.Common.{OnOk, IsOk}
 use Rattle.std.proofs.lemmas.List.Elements.{Contains-get_or}
 use Rattle.node_table.proofs.Depths.{there-above}
 use Rattle.failure_domains.proofs.Rooms.{keys_fit}

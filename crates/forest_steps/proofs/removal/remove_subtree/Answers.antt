@@ -1,8 +1,7 @@
 -- What goes down is what is lost or ends.
-use Rattle.forest_steps.proofs.Common.{Some, None, refl, nodes_with, Fault}
-use Rattle.forest_steps.specs.MidEvent.{MayGo}
+use Rattle.forest_steps.proofs.Common.{Some, None, refl, nodes_with, Fault, MayGo}
 use Rattle.forest_steps.proofs.mid_event.Went.{went_ended, went_lost}
-use Rattle.forest_steps.proofs.tables.Links.{still_named}
+use Rattle.forest_steps.proofs.tables.Rows.{still_named}
 use Rattle.forest_steps.proofs.removal.remove_subtree.Goals as goal
 
 pub returns-in-Some-clause-went : goal.returns-in-Some-clause-went

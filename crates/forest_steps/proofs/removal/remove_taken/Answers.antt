@@ -1,10 +1,6 @@
 -- What a failure takes is written as it goes, and neither the units nor the entry count it any more.
-use Rattle.forest_steps.proofs.Common.{◌+◌, sym, ◌∙◌, ap, list_any, over_except, strong_count, nodes_with, reserved_count, arith}
-use Rattle.std.proofs.Common.{◌-◌, rules}
-use Rattle.forest_store.specs.LossMarks.{unreckoned}
-use Rattle.forest_steps.specs.Removal.{head_over}
-use Rattle.forest_store.proofs.failures.Written.{went_now}
-use Rattle.forest_steps.proofs.tables.Links.{still_named}
+use Rattle.forest_steps.proofs.Common.{◌+◌, sym, ◌∙◌, ap, list_any, over_except, strong_count, nodes_with, reserved_count, arith, ◌-◌, rules, unreckoned, head_over, went_now}
+use Rattle.forest_steps.proofs.tables.Rows.{still_named}
 use Rattle.forest_steps.proofs.removal.remove_taken.Goals as goal
 
 pub note_gone-requires-clause-named : goal.note_gone-requires-clause-named

@@ -1,5 +1,4 @@
-use Rattle.forest_steps.proofs.Common.{◌≡◌, ◌≤◌, length, take, filter, total, is_out}
-use Rattle.std.proofs.Common.{◌-◌}
+use Rattle.forest_steps.proofs.Common.{◌≡◌, ◌≤◌, length, take, filter, total, is_out, ◌-◌}
 use Rattle.forest_steps.proofs.returns.keep_held.Given as goal
 
 -- those before the place stay, and those that are to stay are the same

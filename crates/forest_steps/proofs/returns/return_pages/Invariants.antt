@@ -1,6 +1,6 @@
-use Rattle.forest_steps.proofs.Common.{◌≡◌, ◌≤◌, ◌++◌, List, length, take, drop, filter, Interval, total, by_page, is_out, pages_held}
+use Rattle.forest_steps.proofs.Common.{◌≡◌, ◌≤◌, ◌++◌, List, length, take, drop, filter, Interval, total, by_page, is_out, pages_held, rest_of}
 use Rattle.buffer_pool.specs.Holdings.{IsSound}
-use Rattle.forest_steps.specs.Runs.{HoldsRun, rest_of}
+use Rattle.forest_steps.specs.Runs.{HoldsRun}
 use Rattle.forest_steps.proofs.returns.return_pages.Given as goal
 
 -- those so far that are home gave their pages back, but for those of the run, which are to

@@ -1,6 +1,5 @@
 -- What fell is gone, and what nothing holds then ended.
-use Rattle.forest_steps.proofs.Common.{◌≡◌, refl, sym, ◌∙◌, subst, true, Shelf, nodes_with}
-use Rattle.forest_steps.specs.MidEvent.{is_head_left}
+use Rattle.forest_steps.proofs.Common.{◌≡◌, refl, sym, ◌∙◌, subst, true, Shelf, nodes_with, is_head_left}
 use Rattle.forest_steps.proofs.mid_event.Felled.{felled_alone, felled_on, head_row, lent_there}
 use Rattle.forest_steps.proofs.subtree_end.fall_by.Goals as goal
 

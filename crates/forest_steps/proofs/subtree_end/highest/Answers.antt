@@ -1,6 +1,6 @@
 -- The climb ends where it would with as many steps as there are nodes.
 use Rattle.forest_steps.proofs.Common.{sym, ◌∙◌, inl, inr, arith}
-use Rattle.forest_steps.proofs.mid_event.Climbs.{all_made, one_more}
+use Rattle.forest_steps.proofs.mid_event.EndAbove.{all_made, one_more}
 use Rattle.forest_steps.proofs.subtree_end.highest.Goals as goal
 
 pub returns-in-None-clause-climbed : goal.returns-in-None-clause-climbed

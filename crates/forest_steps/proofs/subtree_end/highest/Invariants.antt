@@ -1,6 +1,4 @@
-use Rattle.forest_steps.proofs.Common.{◌≡◌, ◌+◌, ℕ, row_at}
-use Rattle.std.proofs.Common.{IsSome}
-use Rattle.forest_steps.specs.Climbing.{climbed}
+use Rattle.forest_steps.proofs.Common.{◌≡◌, ◌+◌, ℕ, row_at, IsSome, climbed}
 use Rattle.forest_steps.proofs.subtree_end.highest.Given as goal
 
 -- the climb came so far, and to a unit that is there

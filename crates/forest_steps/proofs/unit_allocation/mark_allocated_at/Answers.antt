@@ -1,6 +1,5 @@
 -- The node is written as one of an allocated unit.
-use Rattle.forest_steps.proofs.Common.{◌≡◌, Some, true, ◌||◌, sym, ◌∙◌, list_any, same_key, node_at, Node, given_all}
-use Rattle.std.proofs.Common.{rules}
+use Rattle.forest_steps.proofs.Common.{◌≡◌, Some, true, ◌||◌, sym, ◌∙◌, list_any, same_key, node_at, Node, given_all, rules}
 use Rattle.forest_steps.proofs.allocation.Giving.{given_written}
 use Rattle.forest_steps.proofs.unit_allocation.mark_allocated_at.Goals as goal
 

@@ -1,2 +1,0 @@
--- The counts of units, and what they tell.
-pub mod Strong
