@@ -62,11 +62,9 @@ def short(name):
     return "::".join([words[0], *words[-2:]]) if len(words) > 2 and words[-2][0].isupper() else name
 
 
-def function_of(crate, path, text, old):
-    """The name of the function that holds the text, short, and whether it stands in the body, or in the contract of a law,
+def function_of(crate, path, lines, at):
+    """The name of the function that holds this line, short, and whether it stands in the body, or in the contract of a law,
     whose body is empty. None where it does neither."""
-    at = text.count("\n", 0, text.index(old) + len(old) - len(old.lstrip()))
-    lines = text.split("\n")
     line = next((it for it in range(at, -1, -1) if FUNCTION.match(lines[it])), None)
     if line is None:
         return None
@@ -151,13 +149,15 @@ class Crate:
 
     def functions_of(self, edit):
         """The functions that this edit changes, and whether it changes a "body" or a "law"; none where it does more."""
-        found, path = set(), ""
-        for line in edit.read_text(encoding="utf-8").split("\n"):
-            if line.startswith("file: "):
-                path = line[len("file: "):].strip()
-            elif line.startswith("old: "):
-                text = (self.folder / path).read_text(encoding="utf-8") if path.startswith("src/") else ""
-                found.add(function_of(self.name, path, text, line[5:]) if line[5:] in text else None)
+        found = set()
+        try:
+            texts = edited(self.folder, edit)
+        except DoesNotApply:
+            return set(), "other"
+        for path, text in texts.items():
+            lines = (self.folder / path).read_text(encoding="utf-8").split("\n")
+            changed = [at for at, (old, new) in enumerate(zip(lines, text.split("\n"))) if old != new]
+            found |= {function_of(self.name, path, lines, at) if path.startswith("src/") else None for at in changed}
         if None in found or len({kind for _, kind in found}) != 1:
             return set(), "other"
         return {name for name, _ in found}, found.pop()[1]
