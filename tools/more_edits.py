@@ -4,13 +4,19 @@
   tools/more_edits.py [-j LANES] [NAME | NAME/EDIT.edit ..]
 
 With no NAME it tries those of every crate; NAME/EDIT.edit is one edit, of more-edits/ or of must-fail/. LANES (2) copies
-of the repository take a crate each. A crate is proved first, over what stands in its out/. Then one check makes many
-edits at once, at most one of each function: an edit is refused if its own function is not proved, and calls none that is
-not. No other function's proof sees that body. What is left is tried in further checks without those decided, and at last
-alone, in 10 to 40 seconds, as is each edit of a contract or a definition. The last line counts; the status is 1 if an edit
-is not refused.
+of the repository take a crate each, in the order of the NAMEs. A crate is proved first, unless out/ has its library,
+built of the same sources. The last line counts; the status is 1 if an edit is not refused.
 
-In the environment, RT names another command than rt, and EDITS_ROOM the folder that the copies are made in.
+One check makes many edits at once, at most one of each function, and proves those functions and what they call, no
+others. No other function's proof sees the body of a function, so an edit is refused if a goal or an answer of its own
+function is not proved, and let through if its function is proved. A function that has no such fault, and is not proved
+since it calls one that is not, tells nothing: its edit is tried again without the edits of what it calls. If a function
+with no edit has a fault of its own, then the check decides only the edits of functions that call none that is unproved.
+The contract of a law, a function with no body, is tried so too, in checks of laws alone, where no proof file of one cites
+another. An edit of any other contract or of a definition is tried alone, in a check of the whole crate.
+
+In the environment, RT names another command than rt, EDITS_ROOM the folder that the copies are made in, and
+EDITS_SAID a folder for what each check says.
 """
 import os
 import pathlib
@@ -27,28 +33,82 @@ from edits_apply import CRATES, DoesNotApply, edited, named
 
 ROOT = CRATES.parent
 RT = os.environ.get("RT", "rt")
+SAID = os.environ.get("EDITS_SAID")
 FUNCTION = re.compile(r"^(\s*)(?:pub(?:\([^)]*\))?\s+)?(?:const\s+)?(?:unsafe\s+)?(?:extern\s+\"C\"\s+)?fn\s+(\w+)")
-NOT_PROVED = re.compile(r"^fn (\S+): (?:not proved|no proof)(?!.*\bit calls\b)", re.M)
+HEAD = re.compile(r"^(?:unsafe )?impl\b|^(?:pub(?:\([^)]*\))? )?trait\b")
+PROVED = re.compile(r"^fn (\S+): proved", re.M)
+NOT_PROVED = re.compile(r"^fn (\S+): (?:not proved|no proof)(.*)$", re.M)
+CALLED = re.compile(r"`((?:\w+::)+\w+)`")
+ERROR = re.compile(r"^(?:\./)?proofs/(\S+)/\w+\.antt:\d+:\d+: error: (.*)$", re.M)
+ELSEWHERE = re.compile(r"rejected|not checked|not admitted|not in scope|no module|cannot be imported")
+REACHED = re.compile(r"^(?:logic=not-proved|only=)", re.M)
 
 
-def function_of(path, text, old):
-    """The module path and the name of the function whose body holds the text, or None where it is no body's."""
-    at = text.count("\n", 0, text.index(old) + len(old) - len(old.lstrip()))
-    lines = text.split("\n")
-    for line in range(at, -1, -1):
-        found = FUNCTION.match(lines[line])
-        if found:
-            break
-    else:
+def owner_of(lines, line, indent):
+    """The name of the impl or the trait that this function stands in, as a check prints it, with :: behind it."""
+    at = next((it for it in range(line - 1, -1, -1) if HEAD.match(lines[it])), None) if indent else None
+    if at is None:
+        return ""
+    head = HEAD.sub("", " ".join(lines[at:line]).partition("{")[0].partition(" where ")[0], count=1)
+    head = re.sub(r"^<(?:[^<>]|<[^<>]*>)*>", "", head.strip())
+    trait, _, owner = head.rpartition(" for ")
+    words = re.findall(r"\w+", owner.partition("<")[0])[-1:] + re.findall(r"(\w+)(?!\w|::)", trait)
+    return "".join(words) + "::"
+
+
+def short(name):
+    """The name of a function without the modules of the type that it is a method of, whose impl may stand in any."""
+    words = name.split("::")
+    return "::".join([words[0], *words[-2:]]) if len(words) > 2 and words[-2][0].isupper() else name
+
+
+def function_of(crate, path, lines, at):
+    """The name of the function that holds this line, short, and whether it stands in the body, or in the contract of a law,
+    whose body is empty. None where it does neither."""
+    line = next((it for it in range(at, -1, -1) if FUNCTION.match(lines[it])), None)
+    if line is None:
         return None
-    indent = found[1]
+    indent, name = FUNCTION.match(lines[line]).groups()
+    module = [it for it in path.removeprefix("src/").removesuffix(".rt").split("/") if it not in ("lib", "main", "mod")]
+    name = short("::".join([crate, *module, owner_of(lines, line, indent) + name]))
+    body = next((it for it in range(line, len(lines)) if lines[it].strip() in ("{", "{}")), len(lines))
+    if at < body < len(lines) and lines[body] == indent + "{}":
+        return name, "law"
     starts = next((it for it in range(line, len(lines)) if lines[it] == indent + "{" or lines[it].endswith(" {") and
                    not lines[it].lstrip().startswith(("requires", "ensures", "ghost")) and it <= at), None)
     ends = next((it for it in range(line, len(lines)) if lines[it] == indent + "}"), len(lines))
-    if starts is None or not starts < at < ends:
-        return None
-    module = [it for it in path.removeprefix("src/").removesuffix(".rt").split("/") if it not in ("lib", "main", "mod")]
-    return "::".join(module), found[2]
+    return (name, "body") if starts is not None and starts < at < ends else None
+
+
+class Answer:
+    """What a check says of the functions that it proves."""
+
+    def __init__(self, said):
+        self.reached = bool(REACHED.search(said))
+        self.proved, self.faults, self.calls = {short(it) for it in PROVED.findall(said)}, set(), {}
+        errors = [(place, bool(ELSEWHERE.search(text))) for place, text in ERROR.findall(said)]
+        for name, why in NOT_PROVED.findall(said):
+            goals, _, calls = why.partition("it calls ")
+            self.calls[short(name)] = {short(it) for it in CALLED.findall(calls)}
+            own = {is_elsewhere for place, is_elsewhere in errors if place == "/".join(name.split("::")[1:])}
+            if "did not prove" in goals or False in own or not calls and not own:
+                self.faults.add(short(name))
+
+    def decided(self, changed):
+        """Of these functions with edits: those whose edits are refused, and those whose edits are let through."""
+        refused = self.faults & changed
+        if self.faults - changed:
+            refused = {it for it in refused if not self.calls[it]}
+        return refused, self.proved & changed
+
+    def below(self, name):
+        """The functions that are not proved among those that this one calls, and that they call."""
+        found, left = set(), [name]
+        while left:
+            new = self.calls.get(left.pop(), set()) - found
+            found |= new
+            left += new
+        return found
 
 
 class Crate:
@@ -56,112 +116,134 @@ class Crate:
 
     def __init__(self, lane, name, edits):
         self.name, self.edits, self.folder = name, edits, lane / "crates" / name
-        self.functions = set()
+        self.checks = 0
 
-    def check(self, texts, jobs="1"):
-        """What a check says of the crate with these texts in the place of its own."""
+    def rt(self, *words):
+        ran = subprocess.run([RT, *words], cwd=self.folder, stdin=subprocess.DEVNULL,
+                             stdout=subprocess.PIPE, stderr=subprocess.STDOUT, text=True, errors="replace")
+        if SAID:
+            self.checks += 1
+            pathlib.Path(SAID, f"{self.name}-{self.checks}").write_text(" ".join(words) + "\n" + ran.stdout, encoding="utf-8")
+        return ran.returncode, ran.stdout
+
+    def with_texts(self, texts, call):
+        """What the call gives while these texts stand in the place of the crate's own."""
         kept = {path: (self.folder / path).read_text(encoding="utf-8") for path in texts}
         for path, text in texts.items():
             write(self.folder / path, text)
         try:
-            ran = subprocess.run([RT, "check", "--jobs", jobs], cwd=self.folder, stdin=subprocess.DEVNULL,
-                                 stdout=subprocess.PIPE, stderr=subprocess.STDOUT, text=True, errors="replace")
+            return call()
         finally:
             for path, text in kept.items():
                 write(self.folder / path, text)
-        return ran.returncode, ran.stdout
 
-    def names_of(self, edit):
-        """The functions of the crate that this edit changes alone, if that can be told."""
-        found, path = set(), None
-        texts = {}
-        for line in edit.read_text(encoding="utf-8").split("\n"):
-            if line.startswith("file: "):
-                path = line[len("file: "):].strip()
-                texts.setdefault(path, (self.folder / path).read_text(encoding="utf-8"))
-            elif line.startswith("old: "):
-                where = path.startswith("src/") and line[5:] in texts[path] and function_of(path, texts[path], line[5:])
-                if not where:
-                    return None
-                module, name = where
-                prefix = f"{self.name}::{module}::" if module else f"{self.name}::"
-                full = {it for it in self.functions if it.startswith(prefix) and it.rsplit("::", 1)[-1] == name}
-                if len(full) != 1:
-                    return None
-                found |= full
-        return found
+    def check(self, texts, functions):
+        """What a check of these functions, or of the whole crate if there are none, says with these texts."""
+        only = [word for it in sorted(functions) for word in ("--only", it.removeprefix(f"{self.name}::"))]
+        return self.with_texts(texts, lambda: self.rt("check", "--jobs", "1", *only))
 
-    def alone(self, edit):
+    def unproved(self):
+        """Proves the crate, unless its library is there; gives what was said if it is not proved."""
+        status, said = self.rt("lib" if (self.folder / "out/rlib").is_dir() else "check", "--jobs", "2")
+        return " ".join(said.splitlines()[-3:])[:300] + f" (status {status})" if status else ""
+
+    def functions_of(self, edit):
+        """The functions that this edit changes, and whether it changes a "body" or a "law"; none where it does more."""
+        found = set()
         try:
-            status, said = self.check(edited(self.folder, edit))
+            texts = edited(self.folder, edit)
+        except DoesNotApply:
+            return set(), "other"
+        for path, text in texts.items():
+            lines = (self.folder / path).read_text(encoding="utf-8").split("\n")
+            changed = [at for at, (old, new) in enumerate(zip(lines, text.split("\n"))) if old != new]
+            found |= {function_of(self.name, path, lines, at) if path.startswith("src/") else None for at in changed}
+        if None in found or len({kind for _, kind in found}) != 1:
+            return set(), "other"
+        return {name for name, _ in found}, found.pop()[1]
+
+    def cites(self, name, other):
+        """Whether the proof files of a law name another one."""
+        files = (self.folder / "proofs").joinpath(*name.split("::")[1:]).glob("*.antt")
+        return any(re.search(rf"\b{other.rsplit('::', 1)[-1]}\b", it.read_text(encoding="utf-8")) for it in files)
+
+    def alone(self, edit, functions):
+        """Tries one edit in a check of these functions, or of the whole crate if there are none."""
+        try:
+            status, said = self.check(edited(self.folder, edit), functions)
         except DoesNotApply as fault:
             return f"BAD EDIT: {fault}"
         if status == 0:
             return "NOT REFUSED"
-        if not re.search(r"^logic=not-proved", said, re.M):
+        if not REACHED.search(said):
             return f"BAD EDIT: it did not reach the prover: {' '.join(said.splitlines()[:3])[:300]}"
         first = next((it for it in said.splitlines() if ": error" in it or "not proved" in it), "")
-        return f"refused: {first[:150]}"
+        is_named = functions and not functions & Answer(said).faults
+        return f"refused{', but only by a proof file that names what is gone' if is_named else ''}: {first[:150]}"
 
     def together(self, chosen):
-        """Tries edits of different functions in one check; gives what it decides."""
+        """Tries edits of different functions in one check. Gives what it says of each edit that it decides, and of each
+        function of the others which functions below it are not proved."""
         texts, made = {}, []
         for edit, names in chosen:
             try:
-                texts = {**texts, **self.over(texts, edit)}
+                texts = {**texts, **self.with_texts(texts, lambda: edited(self.folder, edit))}
                 made.append((edit, names))
             except DoesNotApply:
                 pass
-        _, said = self.check(texts)
-        if not re.search(r"^logic=not-proved", said, re.M):
-            if len(made) < 3:
-                return {}
-            half = len(made) // 2
-            return {**self.together(made[:half]), **self.together(made[half:])}
-        wrong = set(NOT_PROVED.findall(said))
-        return {edit: f"refused: {min(names & wrong)} is not proved" for edit, names in made if names & wrong}
+        changed = set().union(*(names for _, names in made))
+        answer = Answer(self.check(texts, changed)[1])
+        if not answer.reached and len(made) > 1:
+            some, others = self.together(made[::2]), self.together(made[1::2])
+            return {**some[0], **others[0]}, {**some[1], **others[1]}
+        refused, passed = answer.decided(changed)
+        said = {edit: f"refused: {min(names & refused)} is not proved" for edit, names in made if names & refused}
+        said.update({edit: "NOT REFUSED" for edit, names in made if names <= passed})
+        return said, {it: answer.below(it) & changed - {it} for it in changed - refused}
 
-    def over(self, texts, edit):
-        """The texts that the edit makes of those that other edits made."""
-        kept = {path: (self.folder / path).read_text(encoding="utf-8") for path in texts}
-        for path, text in texts.items():
-            write(self.folder / path, text)
-        try:
-            return edited(self.folder, edit)
-        finally:
-            for path, text in kept.items():
-                write(self.folder / path, text)
+    def many(self, left, apart, say):
+        """Tries edits, many in a check, but no two of functions that are apart; gives those that are to be tried alone."""
+        singly = []
+        while left:
+            chosen = chosen_of(left, apart)
+            said, below = self.together(chosen)
+            later = []
+            for edit, names in chosen:
+                new = {(it, other) for it in names for other in below.get(it, ())} - apart
+                if edit in said:
+                    say(self.name, edit, said[edit])
+                elif new:
+                    apart |= new
+                    later.append((edit, names))
+                else:
+                    singly.append((edit, names))
+            left = later + [it for it in left if it not in chosen]
+        return singly
 
     def run(self, say):
-        status, said = self.check({}, "2")
-        if status:
+        fault = self.unproved()
+        if fault:
             for edit in self.edits:
-                say(self.name, edit, "NOT TRIED: the crate is not proved as it stands: " + " ".join(said.splitlines()[-3:])[:300])
+                say(self.name, edit, f"NOT TRIED: the crate is not proved as it stands: {fault}")
             return
-        self.functions = set(re.findall(r"^fn (\S+): proved", said, re.M))
-        left, rounds = [(edit, self.names_of(edit)) for edit in self.edits], []
-        for edit, names in left:
-            if names:
-                for chosen, taken in rounds:
-                    if not names & taken:
-                        chosen.append((edit, names))
-                        taken |= names
-                        break
-                else:
-                    rounds.append(([(edit, names)], set(names)))
-        decided = {}
-        for chosen, _ in rounds:
-            while len(chosen) > 1:
-                now = self.together(chosen)
-                for edit, text in now.items():
-                    say(self.name, edit, text)
-                decided.update(now)
-                chosen = [it for it in chosen if it[0] not in decided]
-                if not now:
-                    break
-        for edit in self.edits:
-            if edit not in decided:
-                say(self.name, edit, self.alone(edit))
+        edits = [(edit, *self.functions_of(edit)) for edit in self.edits]
+        singly = [(edit, names) for edit, names, kind in edits if kind == "other"]
+        singly += self.many([(edit, names) for edit, names, kind in edits if kind == "body"], set(), say)
+        laws = [(edit, names) for edit, names, kind in edits if kind == "law"]
+        changed = set().union(*(names for _, names in laws))
+        singly += self.many(laws, {(one, other) for one in changed for other in changed if self.cites(one, other)}, say)
+        for edit, names in singly:
+            say(self.name, edit, self.alone(edit, names))
+
+
+def chosen_of(left, apart):
+    """The first edits of these, at most one of each function, with no two of functions that one check must keep apart."""
+    chosen, taken = [], set()
+    for edit, names in left:
+        if not any(it == other or (it, other) in apart or (other, it) in apart for it in names for other in taken):
+            chosen.append((edit, names))
+            taken |= names
+    return chosen
 
 
 def write(file, text):
@@ -179,7 +261,7 @@ def main(words):
         for edit in named(what):
             if "/" in what or edit.parent.name == "more-edits":
                 edits.setdefault(edit.parent.parent.name, []).append(edit)
-    left = sorted(edits, key=lambda it: -len(edits[it]))
+    left = list(edits) if words else sorted(edits, key=lambda it: -len(edits[it]))
     counts, lock = {"refused": 0, "not": 0}, threading.Lock()
 
     def say(name, edit, text):
