@@ -1,6 +1,6 @@
 -- What an answer tells where a change was made.
-use Rattle.alloc_event.proofs.Common.{◌≡◌, true, refl}
-use Rattle.std.proofs.Common.{Result, Ok, Err, OnOk, is_ok}
+use Rattle.alloc_event.proofs.Common.{◌≡◌, true, refl, Result, Ok, Err}
+use Rattle.std.proofs.Common.{OnOk, is_ok}
 
 -- what an answer tells where it was made
 pub on_ok : {T E : Type 0} {P : Type 0} (r : Result T E) → (is_ok r ≡ true → P) → OnOk r P

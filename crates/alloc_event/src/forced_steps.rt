@@ -1,4 +1,4 @@
-//! Changes that are made in their places by one forced step after another.
+//! Changes to a collection at its place, with the steps that they force, one after another.
 ghost use Rattle.std.specs.Prelude.{◌≡◌, ◌≤◌, OnOk, is_ok, true, vec_capacity};
 ghost use Rattle.buffer_holds.specs.Counts.{total};
 ghost use Rattle.node_table.specs.Table.{table_len};
@@ -20,7 +20,7 @@ use forest_store::change::Effect;
 use forest_store::store::Store;
 use sm_names::{Fault, NoMemory, NodeKey};
 
-/// Makes room for as many as there are nodes, in each list of what goes or has its turn.
+/// Makes room for as many as there are nodes, in each list for removals and turns.
 fn reserve(store: &Store, room: &mut Scratch) -> Result<(), NoMemory>
     ensures removed { OnOk result
         (table_len store.now.nodes.table ≤ vec_capacity room.new.removed) }
@@ -31,8 +31,8 @@ fn reserve(store: &Store, room: &mut Scratch) -> Result<(), NoMemory>
     room.reserve(store.nodes.table.len())
 }
 
-/// Makes a loss in its place, with all that it forces. `NoMemory` where the room is refused for what
-/// goes: then nothing changed.
+/// Makes a loss, with all that it forces. `NoMemory` where the room for removed nodes is refused: then
+/// nothing changed.
 #[inline(never)]
 pub(crate) fn settle_loss(
     store: &mut Store,
@@ -55,7 +55,7 @@ pub(crate) fn settle_loss(
 }
 
 /// Makes what is forced in a collection without a change: its buffers may be abandoned, or home.
-/// `NoMemory` where the room is refused for what goes: then nothing changed.
+/// `NoMemory` where the room for removed nodes is refused: then nothing changed.
 #[inline(never)]
 pub(crate) fn settle_nothing(
     store: &mut Store,
@@ -77,8 +77,8 @@ pub(crate) fn settle_nothing(
     Ok(())
 }
 
-/// Makes an effect in its place, with all that it forces, where the root's unit does not wait for its
-/// first buffers then. It takes no memory.
+/// Makes an effect, with all that it forces, where the root's unit does not wait for its first buffers
+/// then. It takes no memory.
 fn settle_applied(
     store: &mut Store,
     at: usize,
@@ -100,8 +100,8 @@ fn settle_applied(
     finish_event(store, at, pool, holds, &mut room.removed);
 }
 
-/// Makes an effect that was worked out in its place, with all that it forces. `NoMemory` where the room
-/// is refused for what goes or has its turn, for what is held, or by the pool: then nothing changed.
+/// Makes an effect that was worked out, with all that it forces. `NoMemory` where the room for removals
+/// and turns, for held buffers, or the pool's is refused: then nothing changed.
 #[inline(never)]
 fn settle_forced(
     store: &mut Store,
@@ -145,9 +145,9 @@ fn settle_copied(
     settle_forced(store, at, pool, holds, *made, room)
 }
 
-/// Makes an effect that was worked out in its place, with all that it forces: at once where what is
-/// counted then tells that this is nothing, and else one step after another. `NoMemory` where the room is
-/// refused for what goes or has its turn, for what is held, or by the pool: then nothing changed.
+/// Makes an effect that was worked out, with all that it forces: at once where the counts tell that this
+/// is nothing, and else one step after another. `NoMemory` where the room for removals and turns, for held
+/// buffers, or the pool's is refused: then nothing changed.
 #[inline(always)]
 fn settle_worked_out(
     store: &mut Store,
@@ -171,7 +171,7 @@ fn settle_worked_out(
     settle_copied(store, at, pool, holds, made, room)
 }
 
-/// Makes an effect that changes no count in its place, with all that it forces, as `settle_effect` does.
+/// Makes an effect that changes no count, with all that it forces, as `settle_effect` does.
 #[inline(never)]
 fn settle_uncounted(
     store: &mut Store,
@@ -196,8 +196,7 @@ fn settle_uncounted(
     settle_worked_out(store, at, pool, holds, &made, room)
 }
 
-/// Makes an effect in its place, with all that it forces, as `settle_effect` does: it works out what is
-/// counted then.
+/// Makes an effect, with all that it forces, as `settle_effect` does: it works out the counts after it.
 #[inline(never)]
 fn settle_counted(
     store: &mut Store,
@@ -217,9 +216,8 @@ fn settle_counted(
     settle_worked_out(store, at, pool, holds, &made, room)
 }
 
-/// Makes an effect in its place, with all that it forces. It is worked out once. `NoMemory` where the
-/// room is refused for what goes or has its turn, for what is held, or by the pool: then nothing
-/// changed.
+/// Makes an effect, with all that it forces. The effect is worked out once. `NoMemory` where the room for
+/// removals and turns, for held buffers, or the pool's is refused: then nothing changed.
 #[inline(always)]
 pub(crate) fn settle_effect(
     store: &mut Store,

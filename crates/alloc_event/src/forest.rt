@@ -73,22 +73,22 @@ impl Forest {
 
     /// Makes the change to the collection and then the steps that it forces, one after another,
     /// until none applies, and gives back the pages of buffers that are home. A birth answers the
-    /// key of the new node, which no node had before. Each step is made in its place, and counts
-    /// that are kept of the collection and of each unit tell which one is next.
+    /// key of the new node, which no node had before. Each step writes the nodes that it concerns,
+    /// and counts that are kept of the collection and of each unit tell which step is next.
     ///
     /// `NoMemory` where a growth is refused, or no slot has a number left. The forest and the pool
     /// are then as they were.
     ///
-    /// Each change costs a binary search and a constant, and what it touches by what it forces. The
+    /// Each change costs O(log n) for n collections, and the cost of the steps that it forces. The
     /// growth of a birth is spread over the births, and that of a root shifts the collections behind
     /// its own.
     ///
-    /// A loss costs what `fall` costs: some reads of each node that goes, and a write. Where nothing
-    /// holds a unit any more, no live node of it and no unit that hangs right below, after a
-    /// release, a loss or a refusal, the highest of the units above one another ends that nothing
-    /// holds but the one below: that costs the climb over these units, and the same for each node at
-    /// and below the highest, also for one that is gone and still kept. Where the root goes by a
-    /// loss or ends so, that is each node of the collection.
+    /// A loss costs what `fall` costs: some reads and a write of each node that is removed. Where
+    /// nothing holds a unit after a release, a loss or a refusal, neither a live node of it nor a
+    /// unit that hangs right below, the highest of the units above one another ends that nothing
+    /// holds but the one below: that costs O(1) for each of these units, and the same reads and
+    /// writes for each node at and below the highest, also for one that is gone and still kept. Where
+    /// the root is lost or ends so, that is each node of the collection.
     ///
     /// An effect by which an attached unit becomes ready, below one that has its buffers, gives it
     /// its turn, and then, by birth, each attached unit below it that is ready, as far as one hangs
@@ -103,17 +103,16 @@ impl Forest {
     /// buffers, is the first allocation: that costs some reads of each node of the unit and of each
     /// attached node right below it, a write of each node of the unit, what the places in the pool
     /// cost, and the turns of the attached units that are ready below it, as above. Where it fails,
-    /// all of the collection goes.
+    /// each node of the collection is removed.
     ///
     /// Where no strong node of the collection is live after the change, it costs some looks at the
-    /// handles of each buffer besides, of which there are at most `MAX_BUFFERS`, and
-    /// one for each turn, what goes where the buffers are abandoned, and the return of the buffers
-    /// that are home: for each a shift of those behind it where some stay held, and what the pool
-    /// takes.
+    /// handles of each buffer besides, of which there are at most `MAX_BUFFERS`, and one for each
+    /// turn, a removal of each node where the buffers are abandoned, and the return of the home
+    /// buffers: for each a shift of those behind it where some stay held, and the pool's cost.
     ///
-    /// Of all these only a birth and the first allocation take memory: the one for its node, the
-    /// counts of its unit, and room in which what goes, what has its turn and what is over is
-    /// listed, the other for what is held.
+    /// Of all these only a birth and the first allocation take memory: the birth for its node, the
+    /// counts of its unit, and the lists of removed nodes, of turns and of nodes that may be
+    /// forgotten, the first allocation for the list of held buffers.
     #[inline(always)]
     pub fn settle(
         &mut self,
@@ -168,7 +167,7 @@ impl Forest {
     /// and what the pool takes. Where the root is not gone and has its buffers, it costs besides a
     /// look at the strong handles of each buffer up to the first one of which one is open. None of
     /// these takes memory. Where no strong handle of any is open then, the root is lost, and it costs
-    /// what `settle` does: all that is left of the collection goes.
+    /// what `settle` does: each node of the collection is removed.
     pub fn settle_drop(
         &mut self,
         pool: &mut Pool,
@@ -359,11 +358,12 @@ impl Forest {
         }
     }
 
-    /// Forgets the nodes of the collection that are over, and the collection where nothing is left
-    /// of it. Without such a collection nothing changes. It takes no memory, and costs a binary
-    /// search. Each node that is forgotten costs a binary search among the collection's nodes and a
-    /// move of the keys on its shorter side besides. Where more than 64 were found to be over since
-    /// the last call, one that is found twice counted twice, it costs a pass over its nodes.
+    /// Forgets each node of the collection that is gone and whose end is spent, and the collection
+    /// where it has no node and holds no page then. Without such a collection nothing changes. It
+    /// takes no memory, and costs a binary search. Each node that is forgotten costs a binary search
+    /// among the collection's nodes and a move of the keys on its shorter side besides. Where more
+    /// than 64 such nodes were found since the last call, one that is found twice counted
+    /// twice, it costs a pass over its nodes.
     pub fn forget_over(&mut self, id: CollectionId)
         ensures collections { self.new.collections ≡ without_over_in id self.old.collections }
         ensures keys { SameKeys self.old self.new }

@@ -24,7 +24,7 @@ use forest_store::store::Store;
 use forest_store::unit_counts::{bound, reach};
 use sm_names::{BufferName, CollectionId, Fault, NoMemory, NodeKey};
 
-/// Makes a change that is no birth to a collection that is there, and all that it forces, in its place.
+/// Makes a change that is no birth to a collection that is there, and all that it forces.
 /// `NoMemory` leaves the table, the entries and the pool as they were. The collection is looked up once,
 /// by a binary search.
 #[inline(always)]

@@ -1,13 +1,13 @@
 -- What was finished of one collection, told of the forest.
-use Rattle.alloc_event.proofs.Common.{◌≡◌, ℕ, Bool, true, false, ◌||◌, nat_lt, List, [], ◌∷◌, ◌++◌, Option, Some, None, refl, sym, ap, subst, ◌∙◌, arith, option_map_or, NodeKey, forced, same_key, Table, Change, Node, Collection, Shelf, IsStored, forest_of, Handles, Settles, collection_or_new, standing, Settled}
+use Rattle.alloc_event.proofs.Common.{◌≡◌, ℕ, Bool, true, false, ◌||◌, nat_lt, List, [], ◌∷◌, ◌++◌, Option, Some, None, refl, sym, ap, subst, ◌∙◌, arith, option_map_or, NodeKey, same_key, Table, Change, Node, Collection, Shelf, IsStored, forest_of, Handles, collection_or_new, Settled, Finishes, Gives, with_birth, before_is}
+use Rattle.forest_store.specs.Shelves.{SameTable}
+use Rattle.sm_names.specs.Forced.{forced}
+use Rattle.forest_store.specs.Settling.{Settles, standing, changed, given_back, is_birth, no_key}
 use Rattle.std.proofs.Common.{nat_le, slice_index_or}
 use Rattle.std.proofs.lemmas.Bool.{le-leb}
 use Rattle.node_table.specs.Table.{was_given}
 use Rattle.forest_store.specs.Forest.{given, beside}
-use Rattle.forest_store.specs.Shelves.{Finishes, Gives, SameTable}
 use Rattle.forest_store.specs.Nodes.{new_child}
-use Rattle.forest_store.specs.Settling.{changed, given_back, is_birth, no_key, with_birth}
-use Rattle.forest_store.proofs.newborns.Newborn.{before_is}
 
 -- a key was given by the forest where the table gave it
 pub given_is : (t : Table Node) (ss : List Shelf) (key : NodeKey) → t.first ≡ 0 → given (forest_of t ss) key ≡ was_given t key

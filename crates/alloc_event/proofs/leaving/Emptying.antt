@@ -1,9 +1,9 @@
 -- What stays true of a forest without a collection that has no node.
-use Rattle.alloc_event.proofs.Common.{◌≡◌, ℕ, zero, suc, ◌+◌, ◌<◌, ◌==◌, Bool, true, false, not, List, [], ◌∷◌, ◌++◌, map, length, Option, Some, None, option_map, cond, refl, sym, ap, ◌∙◌, arith, list_all, filter, find, AllByRecursion, option_map_or, eqb-true, NodeKey, and_left, and_right, some-injective, Table, Entry, Node, Collection, Shelf, shelf_of, shelves_of, place_in, AreRising, IsStored, collection_in, nodes_with, forest_of, all_keys, are_filed, is_filed}
+use Rattle.alloc_event.proofs.Common.{◌≡◌, ℕ, zero, suc, ◌+◌, ◌<◌, ◌==◌, Bool, true, false, not, List, [], ◌∷◌, ◌++◌, map, length, Option, Some, None, option_map, cond, refl, sym, ap, ◌∙◌, arith, filter, find, AllByRecursion, option_map_or, eqb-true, NodeKey, and_left, some-injective, Table, Entry, Node, Collection, Shelf, shelf_of, shelves_of, place_in, AreRising, IsStored, collection_in, nodes_with, forest_of, all_keys, are_filed, collection_at, is_left, collection_is}
 use Rattle.std.specs.List.{remove}
 use Rattle.std.proofs.lemmas.Bool.{ne_eqb}
-use Rattle.forest_store.specs.Forest.{collection_at, is_left}
-use Rattle.forest_store.proofs.shelves.Showing.{filed-length, filed_found, collection_is}
+use Rattle.forest_store.proofs.shelves.Showing.{filed-length, filed_found}
+use Rattle.sm_names.proofs.ListLaws.{list_all-filter}
 
 -- of another collection
 abbrev pub is_beside : ℕ → Shelf → Bool
@@ -67,16 +67,6 @@ rising-beside id (s ∷ ss) rising =
       | false ↦ (all-beside _ id ss rising.0, rising-beside id ss rising.1)
     ]
 
--- the others are filed
-filed-beside : (t : Table Node) (id : ℕ) (ss : List Shelf) → are_filed t ss ≡ true → are_filed t (filter (is_beside id) ss) ≡ true
-filed-beside t id [] filed = refl
-filed-beside t id (s ∷ ss) filed =
-    elim (s.id == id) as (λ b. are_filed t (cond (not b) (s ∷ filter (is_beside id) ss) (filter (is_beside id) ss)) ≡ true) [
-      | true ↦ filed-beside t id ss (and_right _ _ filed)
-      | false ↦ let first : list_all (is_filed t s.id) s.keys ≡ true =
-          and_left _ _ filed in rw first (filed-beside t id ss (and_right _ _ filed))
-    ]
-
 -- by whether the first shelf is left out
 keys-beside-by : (id : ℕ) (s : Shelf) (ss : List Shelf) (here : Bool) → (s.id == id) ≡ here → AreRising (s ∷ ss) →
     option_map_or (λ (x : Shelf). x.keys) (cond here (Some s) (find (λ (x : Shelf). x.id == id) ss)) [] ≡ [] →
@@ -104,7 +94,7 @@ kept-beside {t} id {ss} ok none =
       rising = rising-beside id ss ok.rising;
       apart = rw keys ok.apart;
       named = ok.named;
-      filed = filed-beside t id ss ok.filed;
+      filed = list_all-filter _ (is_beside id) ss ok.filed;
       there = λ key n is. rw keys (ok.there key n is);
       counted = rw keys ok.counted;
       linked = ok.linked;

@@ -1,11 +1,7 @@
 -- What stays true of a forest where the end of a node is put elsewhere.
-use Rattle.alloc_event.proofs.Common.{◌≡◌, ◌≢◌, map, Some, option_map, refl, sym, ap, subst, List, NodeKey, Table, node_at, Node, with_nodes, Shelf, forest_of, IsStored}
-use Rattle.node_table.specs.Changes.{Writes}
-use Rattle.node_table.specs.Lending.{table_with_node}
-use Rattle.node_table.proofs.Keys.{same_key-equal, same_key-apart}
+use Rattle.alloc_event.proofs.Common.{◌≡◌, ◌≢◌, map, Some, option_map, refl, sym, ap, subst, List, NodeKey, Table, node_at, Node, with_nodes, Shelf, forest_of, IsStored, Writes, table_with_node, same_key-equal, on_collections, with_end}
+use Rattle.node_table.proofs.Keys.{same_key-apart}
 use Rattle.forest_store.specs.declared.node.End.{End}
-use Rattle.forest_store.specs.Forest.{on_collections}
-use Rattle.forest_store.specs.Nodes.{with_end}
 use Rattle.forest_store.proofs.quiescence.Together.{together_same}
 use Rattle.forest_store.proofs.tables.Writing.{IsSameNode, look-changed, kept-map, collections-map, parents-written}
 

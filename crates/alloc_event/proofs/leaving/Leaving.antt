@@ -1,13 +1,17 @@
 -- What stays true of a forest without one node.
-use Rattle.alloc_event.proofs.Common.{◌≡◌, ◌≢◌, ℕ, zero, suc, ◌+◌, ◌<◌, ◌==◌, Bool, true, false, ◌||◌, not, List, [], ◌∷◌, ◌++◌, map, length, set, get_or, Option, Some, None, option_map, is_some, cond, refl, sym, ap, subst, ◌∙◌, inl, inr, arith, list_any, list_all, filter, AllByRecursion, option_map_or, eqb-true, eqb-false, false≢true, NodeKey, same_key, and_left, and_right, either_way, same_key-true, some-injective, Table, node_at, parent_at, Entry, Node, with_nodes, Shelf, shelf_of, shelves_of, place_in, AreRising, IsStored, IsWhole, collection_in, all_keys, are_filed, is_filed, is_of, none_in, shelf_found}
+use Rattle.alloc_event.proofs.Common.{◌≡◌, ◌≢◌, ℕ, zero, suc, ◌+◌, ◌<◌, ◌==◌, Bool, true, false, ◌||◌, not, List, [], ◌∷◌, ◌++◌, map, length, get_or, Option, Some, None, option_map, is_some, cond, refl, sym, ap, subst, ◌∙◌, arith, filter, AllByRecursion, option_map_or, eqb-true, false≢true, NodeKey, same_key, and_left, some-injective, Table, node_at, Entry, Node, with_nodes, Shelf, shelf_of, shelves_of, place_in, AreRising, IsStored, collection_in, all_keys, are_filed, is_of, none_in, shelf_found, same_key-equal, looked-kept, get_or_default, place_is}
+use Rattle.std.specs.List.{list_all, list_any}
+use Rattle.sm_names.proofs.SamenessLaws.{and_right, either_way, same_key-true}
+use Rattle.forest_store.specs.Shelves.{is_filed, IsWhole, TakesOut}
+use Rattle.std.proofs.Common.{set, inl, inr}
+use Rattle.std.proofs.lemmas.Bool.{eqb-false}
+use Rattle.node_table.specs.Table.{parent_at}
 use Rattle.std.proofs.lemmas.List.Elements.{filter-append}
-use Rattle.node_table.proofs.Keys.{same_key-equal}
-use Rattle.forest_store.specs.Shelves.{TakesOut}
 use Rattle.forest_store.proofs.changes.Altering.{filed_at, kept_of}
 use Rattle.forest_store.proofs.tables.Hanging.{looked_gone}
 use Rattle.forest_store.proofs.tables.Kin.{kin_kept}
 use Rattle.forest_store.proofs.tables.LeftParents.{childless}
-use Rattle.forest_store.proofs.lists.Lookups.{looked-without, looked-kept}
+use Rattle.forest_store.proofs.lists.Lookups.{looked-without}
 use Rattle.forest_store.proofs.leaving.Thinning.{IsWhole-filter, apart-filter, lacks-filter, one_less}
 
 -- another key
@@ -188,7 +192,7 @@ set_without-by t key {node} new x es {at} was filed rising is false other (Some 
     rw next (λ i. sym first i ∷ rest i)
 
 -- one entry without the key is all shelves without it
-pub set_without : (t : Table Node) (key : NodeKey) {node : Node} (new : Entry) (es : List Entry) {at : ℕ} → node_at t key ≡ Some node →
+set_without : (t : Table Node) (key : NodeKey) {node : Node} (new : Entry) (es : List Entry) {at : ℕ} → node_at t key ≡ Some node →
     are_filed t (shelves_of es) ≡ true → AreRising (shelves_of es) → place_in node.collection es ≡ Some at →
     shelf_of new ≡ shelf_without key (shelf_of (get_or es at new)) →
     shelves_of (set es at new) ≡ map (shelf_without key) (shelves_of es)
@@ -196,6 +200,13 @@ set_without t key new [] was filed rising told is = absurd (cc)
 set_without t key {node} new (x ∷ es) was filed rising told is =
     set_without-by t key new x es was filed rising is _ refl _
     (λ n on own. set_without t key new es was (and_right _ _ filed) rising.1 on own) told
+
+-- so where the entry at the place lost the key
+pub set_forgotten : (t : Table Node) (key : NodeKey) {node : Node} (old new : Entry) (es : List Entry) {at : ℕ} → node_at t key ≡ Some node →
+    IsStored t (shelves_of es) → place_in node.collection es ≡ Some at → old ≡ get_or es at old →
+    shelf_of new ≡ shelf_without key (shelf_of old) → shelves_of (set es at new) ≡ map (shelf_without key) (shelves_of es)
+set_forgotten t key old new es {at} was kept told is own = set_without t key new es was kept.filed kept.rising told
+    (own ∙ ap (λ (x : Entry). shelf_without key (shelf_of x)) (is ∙ get_or_default es at old new (place_is _ es at told).within))
 
 -- the collection of a node has its entry
 pub never_none : {t : Table Node} (es : List Entry) (key : NodeKey) {node : Node} → IsStored t (shelves_of es) → node_at t key ≡ Some node →

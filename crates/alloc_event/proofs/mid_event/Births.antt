@@ -1,24 +1,25 @@
 -- A birth, after which what is left to be done is done at the place of the collection.
-use Rattle.alloc_event.proofs.Common.{◌≡◌, ℕ, ◌==◌, refl, ap, sym, ◌∙◌, subst, Bool, true, false, List, [], ◌∷◌, map, get_or, Option, Some, None, option_map, eq-eqb, find, HeldBuffer, NodeKey, In, In-find, Table, Change, Entry, Node, Unit, Collection, IsStored, Shelf, collection_in, forest_of, nodes_with, place_in, put_shelf, shelf_of, shelves_of, is_of, node_of, Handles, collection_or_new, put, Holdings, MayClose, IsPoolOf, AreServedByGiven, none_in, place_is, shelf_found}
-use Rattle.std.proofs.lemmas.List.{get_or_default}
-use Rattle.std.specs.Option.{unwrap_or}
-use Rattle.sm_names.specs.Words.{sorted_by}
+use Rattle.alloc_event.proofs.Common.{◌≡◌, ℕ, ◌==◌, refl, ap, sym, ◌∙◌, subst, true, false, List, [], ◌∷◌, map, get_or, Option, Some, None, find, HeldBuffer, NodeKey, Table, Change, Entry, Node, Unit, Collection, IsStored, Shelf, collection_in, forest_of, nodes_with, place_in, shelves_of, is_of, Handles, collection_or_new, Holdings, MayClose, AreServedByGiven, none_in, place_is, get_or_default, sorted_by, Finishes, Gives, with_birth, before_is, IsForest, Closes, is_some, false≢true, node_at, collection_at, collection_none}
+use Rattle.forest_store.specs.Forest.{IsPoolOf}
+use Rattle.std.proofs.lemmas.Bool.{eq-eqb}
+use Rattle.sm_names.proofs.ListLaws.{In, In-find}
+use Rattle.forest_store.specs.Nodes.{node_of}
+use Rattle.forest_store.specs.Settling.{put, MayChange}
+use Rattle.std.specs.Option.{unwrap_or, option_and_then}
 use Rattle.forest_store.specs.Calm.{AreCounted}
 use Rattle.forest_store.specs.Counts.{HaveUnits}
 use Rattle.forest_store.specs.Given.{HaveGiven, IsServedByGiven}
-use Rattle.forest_store.specs.Shelves.{Bears, Finishes, Gives, SameTable, born}
-use Rattle.forest_store.specs.Settling.{with_birth}
-use Rattle.forest_store.specs.Still.{shelf_before, shelf_with}
-use Rattle.forest_store.proofs.changes.Altering.{shelf_by}
 use Rattle.forest_store.proofs.lists.SameIntervals.{start_of}
-use Rattle.forest_store.proofs.newborns.Newborn.{Above, Root, Child, Gives-same, before_is, born_collection, found_above, key_is}
+use Rattle.forest_store.proofs.newborns.Newborn.{Above, Root, Child, Gives-same, born_collection, found_above, key_is, above_is}
 use Rattle.forest_store.proofs.newborns.Forest.{keys_before}
-use Rattle.forest_store.proofs.newborns.Quiet.{behind_is, behind_shown, grown_is, quiet_held, quiet_kept}
+use Rattle.forest_store.proofs.newborns.Quiet.{behind_shown, grown_is, quiet_held, quiet_kept}
 use Rattle.forest_store.proofs.shelves.Putting.{cases_place}
-use Rattle.forest_steps.proofs.mid_event.Premises.{inside_of}
+use Rattle.forest_steps.proofs.mid_event.Stepping.{inside_of}
 use Rattle.forest_steps.proofs.mid_event.GivenKept.{given_at, given_born, given_change, given_put}
 use Rattle.forest_steps.proofs.mid_event.Joining.{here_is, joined}
 use Rattle.forest_steps.proofs.mid_event.Ready.{ready_close, ready_under}
+use Rattle.forest_store.specs.Insertion.{IsBorn, IsInserted, birth_change}
+use Rattle.forest_store.specs.declared.insertion.Birth.{Birth}
 
 -- ---- what is put among others is found
 
@@ -33,30 +34,19 @@ found_put new id (c ∷ cs) own =
     let differs : (c.id == id) ≡ false = ap (λ (i : ℕ). c.id == i) (sym own) ∙ other in
     rw (other, below, differs) (found_put new id cs own))
 
--- by induction: it is found at the place where it was put
-shelf_put : (new : Shelf) (id : ℕ) (ss : List Shelf) → new.id ≡ id → find (λ (s : Shelf). s.id == id) (put_shelf new ss) ≡ Some new
-shelf_put new id [] own = let here : (new.id == id) ≡ true = eq-eqb new.id id own in rw here refl
-shelf_put new id (s ∷ ss) own =
-    let here : (new.id == id) ≡ true = eq-eqb new.id id own in
-    cases_place s.id new.id (find (λ (x : Shelf). x.id == id) (put_shelf new (s ∷ ss)) ≡ Some new)
-    (λ same. rw (same, here) refl) (λ other above. rw (other, above, here) refl) (λ other below.
-    let differs : (s.id == id) ≡ false = ap (λ (i : ℕ). s.id == i) (sym own) ∙ other in
-    rw (other, below, differs) (shelf_put new id ss own))
-
--- an entry whose shelf is found has a place
-placed_there : (id : ℕ) (es : List Entry) {s : Shelf} → find (λ (x : Shelf). x.id == id) (shelves_of es) ≡ Some s →
+-- an entry whose collection is found has a place
+placed_there : (t : Table Node) (id : ℕ) (es : List Entry) → is_some (collection_at (forest_of t (shelves_of es)) id) ≡ true →
     (at : ℕ) × (place_in id es ≡ Some at)
-placed_there id es {s} found = from (place_in id es) refl
+placed_there t id es there = from (place_in id es) refl
   where
     from : (o : Option ℕ) → place_in id es ≡ o → (at : ℕ) × (place_in id es ≡ Some at)
     from (Some at) is = (at, is)
-    from None is =
-        let none : Some s ≡ None = sym found ∙ shelf_found id es ∙ ap (option_map shelf_of) (none_in id es is) in absurd (cc)
+    from None is = absurd (false≢true (sym (ap is_some (collection_none t es id (none_in id es is))) ∙ there))
 
 -- ---- a collection that is calm may be closed
 
 -- a calm collection is under way with nothing loose and nothing due
-pub calm_close : (handles : Handles) {t : Table Node} (us : List Unit) (es : List Entry) (id : ℕ) {at : ℕ} → place_in id es ≡ Some at →
+calm_close : (handles : Handles) {t : Table Node} (us : List Unit) (es : List Entry) (id : ℕ) {at : ℕ} → place_in id es ≡ Some at →
     IsStored t (shelves_of es) → AreCounted t es → HaveUnits us t es → HaveGiven t (shelves_of es) → MayClose handles t us es at
 calm_close handles us [] id told kept all units given = absurd (cc)
 calm_close handles {t} us (x ∷ xs) id {at} told kept all units given =
@@ -83,80 +73,88 @@ above_in {t = t} {ss = ss} {id = id} (Child k m there own here) kept n is =
       subst (λ (x : Node). In x c.nodes) same (In-find (is_of k) c.nodes m found).0,
     )
 
-module _ {t mid : Table Node} (es born_es : List Entry) (kept : IsStored t (shelves_of es)) {id : ℕ} {parent : Option NodeKey}
-    (attached : Bool) (client event : ℕ) {above : Option Node} (up : Above t (shelves_of es) id parent above) (key : NodeKey)
-    (bears : Bears t mid (born above attached id event client key))
-    (placed : shelves_of born_es ≡ put_shelf (shelf_with (shelf_before id (shelves_of es)) key) (shelves_of es)) where
+module _ {t mid : Table Node} {es born_es : List Entry} {us : List Unit} (forest : IsForest t es us) {id : ℕ} {b : Birth}
+    (may : MayChange (forest_of t (shelves_of es)) id (birth_change b)) {key : NodeKey} (ok : IsInserted t mid es born_es id b key) where
   abbrev ss : List Shelf
   ss = shelves_of es
 
+  abbrev over : Option Node
+  over = option_and_then (node_at t) b.parent
+
+  -- the node above is there, or the birth is of a root
+  up : Above t (shelves_of es) id b.parent over
+  up = above_is t ss forest.kept id b.parent b.attached b.client b.event may
+
   abbrev after : Collection
-  after = with_birth parent attached client event key (collection_or_new (forest_of t (shelves_of es)) id)
+  after = with_birth b.parent b.attached b.client b.event key (collection_or_new (forest_of t (shelves_of es)) id)
 
   abbrev child : Collection
-  child = born_collection t mid ss kept id parent attached client event above up key bears
+  child = born_collection t mid ss forest.kept id b.parent b.attached b.client b.event over up key ok.bears
 
   -- the collection before the birth has the id
   child_id : child.id ≡ id
-  child_id = (before_is t ss kept id).id_is
+  child_id = (before_is t ss forest.kept id).id_is
 
   -- the child is the last of its nodes
   after_is : after ≡ child
-  after_is = grown_is t mid ss kept id parent attached client event above up key bears
+  after_is = grown_is t mid ss forest.kept id b.parent b.attached b.client b.event over up key ok.bears
 
   -- the collection is put among the others, which stay
   shown : map (collection_in mid) (shelves_of born_es) ≡ put child (map (collection_in t) (shelves_of es))
-  shown = behind_shown t mid ss kept id parent attached client event above up key bears (shelves_of born_es) placed
+  shown = behind_shown t mid ss forest.kept id b.parent b.attached b.client b.event over up key ok.bears (shelves_of born_es) ok.entries
 
-  -- the collection is there then
+  -- the collection that was put is found
+  found : collection_at (forest_of mid (shelves_of born_es)) id ≡ Some child
+  found = ap (find (λ (c : Collection). c.id == id)) shown ∙ found_put child id (map (collection_in t) ss) child_id
+
+  -- so it is there then
   pub child_there : (at : ℕ) × (place_in id born_es ≡ Some at)
-  child_there =
-      placed_there id born_es
-      (ap (find (λ (x : Shelf). x.id == id))
-      (behind_is t mid ss kept id parent attached client event above up key bears (shelves_of born_es) placed)
-      ∙ shelf_put (shelf_by child) id ss child_id)
+  child_there = placed_there mid id born_es (ap is_some found)
 
   -- a birth of which nothing follows keeps the store
   pub kept_born : IsStored mid (shelves_of born_es)
-  kept_born = quiet_kept t mid ss kept id parent attached client event above up key bears (shelves_of born_es) placed
+  kept_born = quiet_kept t mid ss forest.kept id b.parent b.attached b.client b.event over up key ok.bears (shelves_of born_es) ok.entries
 
   -- the pages stay
   pub pool_born : (pool : Holdings) → IsPoolOf pool (forest_of t (shelves_of es)) → IsPoolOf pool (forest_of mid (shelves_of born_es))
   pool_born pool of =
       of ∙ ap (λ (hs : List HeldBuffer). sorted_by start_of (map (λ (h : HeldBuffer). h.pages) hs))
-      (sym (quiet_held t mid ss kept id parent attached client event above up key bears (shelves_of born_es) placed))
+      (sym (quiet_held t mid ss forest.kept id b.parent b.attached b.client b.event over up key ok.bears (shelves_of born_es) ok.entries))
 
-  -- the collection that was put is found
+  -- no new one is made
   begun_is : collection_or_new (forest_of mid (shelves_of born_es)) id ≡ child
-  begun_is =
-      ap (λ (o : Option Collection). unwrap_or o (record { id = id; nodes = []; buffers = None; held = [] }))
-      (ap (find (λ (c : Collection). c.id == id)) shown ∙ found_put child id (map (collection_in t) ss) child_id)
+  begun_is = ap (λ (o : Option Collection). unwrap_or o (record { id = id; nodes = []; buffers = None; held = [] })) found
 
   -- and a node has buffers only where some were given
-  pub given_born_all : HaveGiven t (shelves_of es) → HaveGiven mid (shelves_of born_es)
-  given_born_all given =
+  given_born_all : HaveGiven mid (shelves_of born_es)
+  given_born_all =
       subst AreServedByGiven (sym shown)
       (given_put child (map (collection_in t) ss)
-      (given_born above attached id event client key (collection_or_new (forest_of t ss) id)
-      (above_in up kept) (given_at t ss id given)) given)
+      (given_born over b.attached id b.event b.client key (collection_or_new (forest_of t ss) id)
+      (above_in up forest.kept) (given_at t ss id forest.given)) forest.given)
 
-  -- each step keeps that only collections with buffers have nodes with some
-  pub given_closed : {pool : ℕ} {handles : Handles} {now : Table Node} {behind : List Shelf} →
-      Finishes pool handles mid (shelves_of born_es) now behind (collection_or_new (forest_of mid (shelves_of born_es)) id) →
-      HaveGiven t (shelves_of es) → HaveGiven now behind
-  given_closed f given = given_change id Change.Nothing kept_born refl f (given_born_all given)
+  -- so nothing of the nodes is left to be done
+  pub born_close : (handles : Handles) (after : List Unit) → HaveUnits after mid born_es → {at : ℕ} → place_in id born_es ≡ Some at →
+      MayClose handles mid after born_es at
+  born_close handles after units told = calm_close handles after born_es id told kept_born ok.counted units given_born_all
 
-  -- what is finished then was finished from the birth on
-  pub finishes_born : {pool : ℕ} {handles : Handles} {now : Table Node} {behind : List Shelf} →
-      Finishes pool handles mid (shelves_of born_es) now behind (collection_or_new (forest_of mid (shelves_of born_es)) id) →
-      Finishes pool handles t (shelves_of es) now behind after
-  finishes_born {pool} {handles} {now} {behind} f =
-      joined t ss after refl
-      (shown ∙ ap (λ (c : Collection). put c (map (collection_in t) ss)) (sym after_is)) (λ c settles. settles)
-      (subst (λ (c : Collection). Finishes pool handles mid (shelves_of born_es) now behind c) (begun_is ∙ sym after_is) f)
-
-  -- closing gives no key, so the one of the birth is the only one
-  pub gives_born : {now : Table Node} → SameTable mid now → Gives t now key
-  gives_born {now} same =
-      Gives-same t mid now key
-      (subst (Gives t mid) (key_is t mid ss kept id parent attached client event above up key bears) bears.gives) same
+  -- once the last steps are made, the node is born with all that this forces
+  pub born_closed : {handles : Handles} {pool left : Holdings} {now : Table Node} {behind : List Entry} {last : List Unit} →
+      Closes handles pool left mid now born_es behind last id → left.size ≡ pool.size → IsBorn handles pool left t now es behind last id b key
+  born_closed {handles} {pool} {now} {behind} closed size = record {
+    finishes = joined t ss after refl
+        (shown ∙ ap (λ (c : Collection). put c (map (collection_in t) ss)) (sym after_is)) (λ c settles. settles)
+        (subst (λ (c : Collection). Finishes pool.size handles mid (shelves_of born_es) now (shelves_of behind) c) (begun_is ∙ sym after_is)
+        closed.settled.finishes);
+    gives = Gives-same t mid now key
+        (subst (Gives t mid) (key_is t mid ss forest.kept id b.parent b.attached b.client b.event over up key ok.bears) ok.bears.gives)
+        closed.same;
+    forest = record {
+      kept = closed.settled.kept;
+      counted = closed.settled.counted;
+      units = closed.units;
+      given = given_change id Change.Nothing kept_born refl closed.settled.finishes given_born_all;
+    };
+    holds = closed.settled.holds;
+    size = size;
+  }

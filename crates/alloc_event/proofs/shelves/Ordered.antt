@@ -1,10 +1,10 @@
 -- The live nodes and the buffers of a forest, in order, told by its table and its entries.
-use Rattle.alloc_event.proofs.Common.{ℕ, ◌≡◌, refl, ap, ◌∙◌, nat_lt, cond, true, false, List, [], ◌∷◌, ◌++◌, map, filter, Table, Entry, HeldBuffer, Node, Shelf, all_keys, forest_of, nodes_with, shelves_of, is_live_node}
+use Rattle.alloc_event.proofs.Common.{ℕ, ◌≡◌, refl, ap, ◌∙◌, nat_lt, cond, true, false, List, [], ◌∷◌, ◌++◌, map, filter, Table, Entry, HeldBuffer, Node, Shelf, all_keys, forest_of, nodes_with, shelves_of, sorted_by, nodes_of_all}
+use Rattle.forest_store.specs.Questions.{is_live_node}
 use Rattle.std.specs.List.{flat_map}
-use Rattle.sm_names.specs.Words.{insert_by, sorted_by}
+use Rattle.sm_names.specs.Words.{insert_by}
 use Rattle.forest_store.specs.Forest.{held_by_page, live_keys}
 use Rattle.forest_store.proofs.newborns.Forest.{helds_in}
-use Rattle.forest_store.proofs.shelves.Showing.{nodes_of_all}
 
 -- the live nodes by birth are those of all keys
 pub live_in_order : (t : Table Node) (ss : List Shelf) →

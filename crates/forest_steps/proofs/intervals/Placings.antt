@@ -1,5 +1,5 @@
 -- What the allocation of a root unit makes of a collection and of the pool.
-use Rattle.forest_steps.proofs.Common.{ℕ, ◌+◌, ◌≡◌, refl, ap, sym, ◌∙◌, subst, Bool, if◌then◌else◌, List, [], ◌∷◌, ◌++◌, map, length, Option, Some, option_map_or, Interval, NodeKey, Buffers, HeldBuffer, Collection, with_nodes, range_with_len, names, Mark, places, pages_of, with_buffers, Places, mark_of, pages_in, after_allocation, by_page, laid, name_of, made, arith, append_assoc, laid_out, IsPlacing, any_sorted}
+use Rattle.forest_steps.proofs.Common.{ℕ, ◌+◌, ◌≡◌, refl, ap, sym, ◌∙◌, subst, List, [], ◌∷◌, ◌++◌, map, length, Some, Interval, NodeKey, Buffers, HeldBuffer, Collection, range_with_len, names, Mark, places, pages_of, with_buffers, Places, mark_of, pages_in, after_allocation, by_page, laid, name_of, made, arith, append_assoc, laid_out, IsPlacing, any_sorted}
 use Rattle.std.proofs.lemmas.List.{map-append}
 use Rattle.sm_names.specs.Apart.{at_pages}
 use Rattle.sm_names.proofs.PlaceLaws.{places_same}
@@ -55,21 +55,6 @@ module _ (pool : ℕ) (others : List Interval) (c : Collection) (head : NodeKey)
   -- what the decision comes to
   abbrev step : Mark
   step = mark_of pool (pages_in c ++ others) (Places head wants)
-
-  -- the collection, once the root unit was given what it wants
-  abbrev given : Buffers → Option (List ℕ) → Collection
-  given w o = record {
-    id = c.id;
-    nodes = after_allocation head c.nodes;
-    buffers = Some w;
-    held = option_map_or (laid_out (pages_of w.size) (names c.id w.count)) o [] ++ c.held;
-  }
-
-  -- or an attached one, where the head is no root
-  abbrev first : Buffers → Bool → Collection
-  first w root =
-      if root then given w (places pool (pages_of w.size) w.count (pages_in c ++ others))
-      else with_nodes (after_allocation head) c
 
   -- with places the unit is allocated
   pub placed_made : {starts : List ℕ} → IsPlacing c head wants →

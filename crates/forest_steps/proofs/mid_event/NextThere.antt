@@ -1,5 +1,5 @@
 -- Whether an attached unit is next, which its head, the node above it and the counts tell, while forced steps are being made.
-use Rattle.forest_steps.proofs.Common.{◌≡◌, ℕ, refl, ap, sym, ◌∙◌, subst, Bool, true, false, not, ◌||◌, inl, inr, List, [], ◌∷◌, Option, Some, None, eq-eqb, not-true, list_all, list_any, option_map_or, NodeKey, same_key, times, In, In-list_any, and_both, and_left, and_right, both_ways, either_way, false_if, same_key-true, all_on, In-any, Table, node_at, parent_at, Entry, Node, Unit, unit_at, waits_in, waiting, Shelf, nodes_with, shelf_of, is_next_node, is_ready_node, same_key-equal, row_at, unit_of, is_allocated_node, is_waiting_head, count_none, arith, or_first, IsSome, PendingUnit, has_turn_at, is_next_there, MidEvent, is_head_left, is_next_except, turn_heads, waits_among}
+use Rattle.forest_steps.proofs.Common.{◌≡◌, ℕ, refl, ap, sym, ◌∙◌, subst, Bool, true, false, not, ◌||◌, inl, inr, List, [], ◌∷◌, Option, Some, None, eq-eqb, not-true, list_all, list_any, option_map_or, NodeKey, same_key, times, In, In-list_any, and_both, and_left, and_right, both_ways, either_way, false_if, same_key-true, all_on, In-any, Table, node_at, parent_at, Entry, Node, Unit, unit_at, waits_in, waiting, Shelf, nodes_with, is_next_node, is_ready_node, same_key-equal, row_at, unit_of, is_allocated_node, is_waiting_head, count_none, arith, or_first, IsSome, PendingUnit, has_turn_at, is_next_there, MidEvent, is_head_left, is_next_except, turn_heads, waits_among}
 use Rattle.forest_store.specs.UnitAllocation.{has_buffers_there}
 use Rattle.forest_steps.proofs.turns.Gifts.{not_this}
 use Rattle.forest_steps.proofs.mid_event.Ready.{none_next, under_with, unit_told}
@@ -31,9 +31,6 @@ next_fewer nodes pending few next each = false_if _ (λ h.
 module _ {t : Table Node} {us : List Unit} {ss : List Shelf} {e : Entry} {unheld pending : List NodeKey}
     (u : MidEvent t us ss e unheld pending) (k : NodeKey) (head : Node) (head_on : In head (nodes_with t e.keys.items))
     (head_key : head.key ≡ k) where
-  abbrev s : Shelf
-  s = shelf_of e
-
   abbrev nodes : List Node
   nodes = nodes_with t e.keys.items
 

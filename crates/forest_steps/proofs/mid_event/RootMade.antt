@@ -1,5 +1,5 @@
 -- The root's unit comes to its allocation by an effect: what is forced then.
-use Rattle.forest_steps.proofs.Common.{◌≡◌, ℕ, refl, ap, sym, ◌∙◌, subst, Bool, true, false, not, ◌||◌, inl, inr, is_none, ◌⊎◌, List, [], ◌∷◌, ◌++◌, map, Option, Some, None, find, list_any, HeldBuffer, Interval, NodeKey, Buffers, Cause, same_key, when, either_way, same_key-true, all_on, Table, Entry, Node, Unit, has_strong, Collection, Shelf, nodes_with, is_deserted_node, Failure, outcome, names, Mark, places, pages_of, first_some, Holdings, with_buffers, Decision, Loses, Places, decided, first_step, mark_of, wanted_by, pages_in, after_allocation, IsSound, by_page, made, all-In, arith, Result, Ok, Err, laid_out, AllocationOutcome, IsPlacing, IsComing, IsAllocationOutcome, first_made, wants_of, MidEvent, holds_unit, is_held}
+use Rattle.forest_steps.proofs.Common.{◌≡◌, ℕ, refl, ap, sym, ◌∙◌, subst, Bool, true, false, not, ◌||◌, inl, inr, is_none, ◌⊎◌, List, [], ◌∷◌, ◌++◌, map, Option, Some, None, find, list_any, HeldBuffer, Interval, NodeKey, Buffers, Cause, same_key, when, either_way, same_key-true, all_on, Table, Entry, Node, Unit, has_strong, Collection, Shelf, nodes_with, is_deserted_node, Failure, outcome, names, places, pages_of, first_some, Holdings, with_buffers, Decision, Loses, Places, decided, first_step, mark_of, wanted_by, pages_in, after_allocation, IsSound, by_page, made, all-In, arith, Result, Ok, Err, laid_out, AllocationOutcome, IsPlacing, IsComing, IsAllocationOutcome, first_made, wants_of, MidEvent, holds_unit, is_held}
 use Rattle.std.specs.Option.{IfSome}
 use Rattle.forest_store.specs.Decisions.{IsStep}
 use Rattle.forest_store.proofs.quiescence.Steps.{decided_steps}
@@ -49,9 +49,6 @@ module _ {c : Collection} (sound : IsSound c) {head : NodeKey} (coming : IsComin
     (beside_is : before.held ≡ by_page (pages_in c ++ others)) (wants : Result Buffers Failure)
     (wants_is : wants ≡ wants_of (has_strong c.nodes) (wanted_by head c.nodes)) (verdict : AllocationOutcome)
     (found : IsAllocationOutcome before after c.id c.held wants verdict) where
-  abbrev step : Mark
-  step = mark_of before.size (pages_in c ++ others) (first_step c.nodes head)
-
   abbrev want : Buffers
   want = wanted_by head c.nodes
 

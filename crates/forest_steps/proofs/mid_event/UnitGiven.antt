@@ -147,9 +147,6 @@ module _ {t now : Table Node} {ss : List Shelf} (e : Entry) {k : NodeKey} (kept 
     (found : find (λ (x : Shelf). x.id == e.id) ss ≡ Some (shelf_of e)) (formed : IsWhole (collection_in t (shelf_of e)))
     (top : IsBareHead (nodes_with t e.keys.items) k) {ks : List NodeKey} (listed : IsUnitListed t k ks) (given : IsGivenAt t now (k ∷ []) ks)
   where
-    abbrev s : Shelf
-    s = shelf_of e
-
     abbrev nodes : List Node
     nodes = nodes_with t e.keys.items
 

@@ -1,10 +1,8 @@
 -- The effect is made, and what is forced by it, and then the collection is closed.
-use Rattle.alloc_event.proofs.Common.{List, refl, sym, ◌∙◌, arith, total, Change, Entry, nodes_with, shelves_of, place_is}
+use Rattle.alloc_event.proofs.Common.{List, refl, sym, ◌∙◌, arith, total, Change, Entry, nodes_with, shelves_of, place_is, PropagatedFrom, begins_at, may_finish, outcome_there, pool_there, few_there}
 use Rattle.forest_store.specs.Nodes.{after_effect}
-use Rattle.forest_steps.specs.MidEvent.{PropagatedFrom}
 use Rattle.forest_steps.proofs.mid_event.Counted.{may_make}
-use Rattle.forest_steps.proofs.mid_event.Places.{begins_at, may_finish, outcome_there, pool_there}
-use Rattle.forest_steps.proofs.mid_event.Stepping.{few_there, node_there, own_id}
+use Rattle.forest_steps.proofs.mid_event.Stepping.{node_there, own_id}
 use Rattle.alloc_event.proofs.forced_steps.settle_applied.Goals.{After-apply_effect}
 use Rattle.alloc_event.proofs.forced_steps.settle_applied.Goals as goal
 

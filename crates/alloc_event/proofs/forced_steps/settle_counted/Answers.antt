@@ -1,7 +1,5 @@
 -- The effect is worked out of the entry at this place.
-use Rattle.alloc_event.proofs.Common.{arith, place_is}
-use Rattle.forest_steps.proofs.changes.Dropped.{one_entry}
-use Rattle.forest_steps.proofs.mid_event.Stepping.{row_there}
+use Rattle.alloc_event.proofs.Common.{arith, place_is, one_entry, row_there}
 use Rattle.alloc_event.proofs.forced_steps.settle_counted.Goals as goal
 
 pub index-requires : goal.index-requires

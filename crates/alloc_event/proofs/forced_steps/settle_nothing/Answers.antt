@@ -1,9 +1,6 @@
 -- Nothing is left to be done, or the collection is closed.
-use Rattle.alloc_event.proofs.Common.{◌≡◌, ℕ, true, List, get_or, Some, refl, place_in, Change, Entry, Table, Node, Unit, Handles, Holdings, MayClose, place_is}
-use Rattle.forest_steps.specs.EventEnd.{Closes}
-use Rattle.forest_steps.specs.StoreSteps.{IsOutcomeAt, IsReadyAt}
-use Rattle.forest_steps.proofs.mid_event.Places.{ready_at}
-use Rattle.forest_steps.proofs.mid_event.Stepping.{closes_now, entry_there, outcome_closed}
+use Rattle.alloc_event.proofs.Common.{◌≡◌, ℕ, true, List, get_or, Some, refl, place_in, Change, Entry, Table, Node, Unit, Handles, Holdings, MayClose, place_is, IsOutcomeAt, IsReadyAt, Closes}
+use Rattle.forest_steps.proofs.mid_event.Stepping.{ready_at, closes_now, entry_there, outcome_closed}
 use Rattle.alloc_event.proofs.forced_steps.settle_nothing.Goals as goal
 
 module _ (handles : Handles) {t : Table Node} {us : List Unit} {es : List Entry} {at : ℕ} (may : IsReadyAt t es us at Change.Nothing) where

@@ -1,7 +1,5 @@
 -- Nothing is forced by the effect, or what is forced is made.
-use Rattle.alloc_event.proofs.Common.{◌∙◌, sym, refl, arith, total, place_is}
-use Rattle.forest_steps.proofs.changes.Dropped.{one_entry}
-use Rattle.forest_steps.proofs.mid_event.Stepping.{few_there}
+use Rattle.alloc_event.proofs.Common.{◌∙◌, sym, refl, arith, total, place_is, one_entry, few_there}
 use Rattle.alloc_event.proofs.forced_steps.settle_worked_out.Goals as goal
 
 pub index-entry-requires : goal.index-entry-requires

@@ -1,7 +1,7 @@
 -- The collection is looked up, and the change is made at its place.
-use Rattle.alloc_event.proofs.Common.{◌≡◌, ◌∙◌, ℕ, Bool, List, Some, sym, Change, Entry, Table, Node, Unit, Handles, place_in, Holdings}
+use Rattle.alloc_event.proofs.Common.{◌≡◌, ◌∙◌, ℕ, Bool, List, Some, sym, Change, Entry, Table, Node, Unit, Handles, place_in, Holdings, IsOutcomeAt, IsReadyAt}
 use Rattle.forest_store.specs.Outcomes.{IsReady}
-use Rattle.forest_steps.specs.StoreSteps.{IsOutcomeAt, IsOutcomeOf, IsReadyAt}
+use Rattle.forest_steps.specs.StoreSteps.{IsOutcomeOf}
 use Rattle.forest_steps.proofs.mid_event.Stepping.{is_there}
 use Rattle.alloc_event.proofs.settle.settle_change.Goals as goal
 

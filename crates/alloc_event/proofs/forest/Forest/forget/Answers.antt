@@ -1,13 +1,12 @@
 -- The node leaves the table, and its key the entry of its collection.
-use Rattle.alloc_event.proofs.Common.{◌≡◌, not, map, true, false, Some, None, is_some, get_or, refl, sym, ◌∙◌, ap, subst, arith, option_map_or, and_left, same_key-refl, node_at, Entry, AreUnits, collection_in, nodes_with, place_in, shelf_of, shelves_of, is_of, is_over, Forest, AreServedByGiven, place_is, node_is}
-use Rattle.std.proofs.lemmas.List.{get_or_default}
+use Rattle.alloc_event.proofs.Common.{◌≡◌, not, map, true, false, None, is_some, refl, sym, ◌∙◌, ap, subst, arith, option_map_or, and_left, node_at, Entry, AreUnits, collection_in, nodes_with, shelf_of, shelves_of, is_of, is_over, Forest, AreServedByGiven, place_is, node_is, get_or_default, looked-kept, SameKeys-shown}
+use Rattle.sm_names.proofs.SamenessLaws.{same_key-refl}
 use Rattle.forest_store.specs.Forest.{node_at as forest_node}
 use Rattle.forest_store.specs.Calm.{IsCounted}
 use Rattle.forest_store.proofs.shelves.Counted.{counted_set, dropped_all, drops_one, recounted}
-use Rattle.alloc_event.proofs.leaving.Leaving.{goes, kept-without, collections-without, set_without, shelf_without, never_none}
-use Rattle.forest_store.proofs.lists.Lookups.{looked-kept}
+use Rattle.alloc_event.proofs.leaving.Leaving.{set_forgotten, goes, kept-without, collections-without, never_none}
 use Rattle.forest_store.proofs.tallies.Slots.{units_without}
-use Rattle.forest_store.proofs.tables.TakingOut.{SameKeys-shown, taken}
+use Rattle.forest_store.proofs.tables.TakingOut.{taken}
 use Rattle.forest_steps.proofs.mid_event.GivenKept.{given_filtered}
 use Rattle.alloc_event.proofs.forest.Forest.forget.Goals as goal
 
@@ -18,24 +17,16 @@ take_out-node-requires c =
 
 pub index_mut-requires : goal.index_mut-requires
 index_mut-requires c =
-    let told : place_in c.take_out-node.result.collection c.self.inside.store.entries.items ≡ Some c.in-Some.at =
-    sym (rw c.deref.ensures.value at c.place_of.ensures) ∙ c.in-Some.is in
+    let told = sym (rw c.deref.ensures.value at c.place_of.ensures) ∙ c.in-Some.is in
     omega (arith, (place_is c.take_out-node.result.collection c.self.inside.store.entries.items c.in-Some.at told).within)
 
 pub invariant_of-self : goal.invariant_of-self
 invariant_of-self c =
-    let told : place_in c.take_out-node.result.collection c.self.inside.store.entries.items ≡ Some c.in-Some.at =
-    sym (rw c.deref.ensures.value at c.place_of.ensures) ∙ c.in-Some.is in
+    let told = sym (rw c.deref.ensures.value at c.place_of.ensures) ∙ c.in-Some.is in
     let e : Entry = record (c.index_mut.result.now) { keys = c.forget.new.self } in
-    let within = (place_is c.take_out-node.result.collection c.self.inside.store.entries.items c.in-Some.at told).within in
-    let was : c.index_mut.result.now ≡ get_or c.self.inside.store.entries.items c.in-Some.at e =
-    c.index_mut.ensures.value ∙ get_or_default c.self.inside.store.entries.items c.in-Some.at c.index_mut.result.now e within in
-    let own : shelf_of e ≡ shelf_without c.args.key (shelf_of c.index_mut.result.now) =
-    λ i. record (shelf_of c.index_mut.result.now) { keys = c.forget.ensures i } in
-    let is : shelf_of e ≡ shelf_without c.args.key (shelf_of (get_or c.self.inside.store.entries.items c.in-Some.at e)) =
-    own ∙ ap (λ (x : Entry). shelf_without c.args.key (shelf_of x)) was in
-    let same = set_without c.self.inside.store.nodes.table c.args.key e c.self.inside.store.entries.items
-    c.take_out-node.ensures.was c.self.invariant.kept.filed c.self.invariant.kept.rising told is in
+    let same = set_forgotten c.self.inside.store.nodes.table c.args.key c.index_mut.result.now e c.self.inside.store.entries.items
+    c.take_out-node.ensures.was c.self.invariant.kept told c.index_mut.ensures.value
+    (λ i. record (shelf_of c.index_mut.result.now) { keys = c.forget.ensures i }) in
     let found = node_is c.self.inside.store.nodes.table (shelves_of c.self.inside.store.entries.items) c.self.invariant.kept c.args.key
     ∙ c.take_out-node.ensures.was in
     let over : is_over c.take_out-node.result ≡ true = ap (λ o. option_map_or is_over o false) (sym found)
@@ -58,7 +49,8 @@ invariant_of-self c =
           c.take_out-node.ensures.was) (and_left _ _ over) c.self.invariant.kept);
       counted = counted_set c.take_out-node.new.table c.self.inside.store.entries.items c.in-Some.at e
           (λ there counted. let own : IsCounted c.take_out-node.new.table old =
-          subst (IsCounted c.take_out-node.new.table) (sym was) counted in
+          subst (IsCounted c.take_out-node.new.table)
+          (get_or_default _ _ e old there ∙ sym c.index_mut.ensures.value) counted in
           recounted c.take_out-node.new.table old e shown refl refl own.garbage_known own)
           (dropped_all c.self.inside.store.nodes.table c.take_out-node.new.table c.self.invariant.kept.named drops c.self.inside.store.entries.items
           c.self.invariant.kept.whole c.self.invariant.counted);
@@ -80,18 +72,11 @@ invariant_of-self-in_default c =
 
 pub returns-in-Some-clause-nodes : goal.returns-in-Some-clause-nodes
 returns-in-Some-clause-nodes c =
-    let told : place_in c.take_out-node.result.collection c.self.inside.store.entries.items ≡ Some c.in-Some.at =
-    sym (rw c.deref.ensures.value at c.place_of.ensures) ∙ c.in-Some.is in
+    let told = sym (rw c.deref.ensures.value at c.place_of.ensures) ∙ c.in-Some.is in
     let e : Entry = record (c.index_mut.result.now) { keys = c.forget.new.self } in
-    let within = (place_is _ _ _ told).within in
-    let was : c.index_mut.result.now ≡ get_or c.self.inside.store.entries.items c.in-Some.at e =
-    c.index_mut.ensures.value ∙ get_or_default c.self.inside.store.entries.items c.in-Some.at c.index_mut.result.now e within in
-    let own : shelf_of e ≡ shelf_without c.args.key (shelf_of c.index_mut.result.now) =
-    λ i. record (shelf_of c.index_mut.result.now) { keys = c.forget.ensures i } in
-    let is : shelf_of e ≡ shelf_without c.args.key (shelf_of (get_or c.self.inside.store.entries.items c.in-Some.at e)) =
-    own ∙ ap (λ x. shelf_without c.args.key (shelf_of x)) was in
-    let same = set_without c.self.inside.store.nodes.table c.args.key e c.self.inside.store.entries.items
-    c.take_out-node.ensures.was c.self.invariant.kept.filed c.self.invariant.kept.rising told is in
+    let same = set_forgotten c.self.inside.store.nodes.table c.args.key c.index_mut.result.now e c.self.inside.store.entries.items
+    c.take_out-node.ensures.was c.self.invariant.kept told c.index_mut.ensures.value
+    (λ i. record (shelf_of c.index_mut.result.now) { keys = c.forget.ensures i }) in
     rw (same, ← c.self.view_is) (collections-without
     (taken _ _ _ _ c.take_out-node.ensures.out c.take_out-node.ensures.was) c.self.invariant.kept.named _)
 

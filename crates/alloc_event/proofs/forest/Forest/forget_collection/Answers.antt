@@ -1,6 +1,5 @@
 -- The entry has no node, and is removed.
-use Rattle.alloc_event.proofs.Common.{◌≡◌, ◌==◌, not, Some, false, sym, ◌∙◌, ap, subst, arith, option_map_or, false≢true, AreUnits, Collection, place_in, shelves_of, AreServedByGiven, place_is, none_in, collection_none}
-use Rattle.forest_store.specs.Forest.{collection_at, is_left}
+use Rattle.alloc_event.proofs.Common.{◌==◌, not, false, sym, ◌∙◌, ap, subst, arith, option_map_or, false≢true, AreUnits, Collection, shelves_of, AreServedByGiven, place_is, none_in, collection_none, collection_at, is_left}
 use Rattle.forest_store.proofs.shelves.Counted.{counted_removed}
 use Rattle.alloc_event.proofs.leaving.Emptying.{remove_shelf, collections_beside, kept-beside, left_none}
 use Rattle.forest_store.proofs.tallies.Slots.{units_some}
@@ -9,14 +8,12 @@ use Rattle.alloc_event.proofs.forest.Forest.forget_collection.Goals as goal
 
 pub remove-requires : goal.remove-requires
 remove-requires c =
-    let told : place_in c.args.id c.self.inside.store.entries.items ≡ Some c.in-Some.at =
-    sym (rw c.deref.ensures.value at c.place_of.ensures) ∙ c.in-Some.is in
+    let told = sym (rw c.deref.ensures.value at c.place_of.ensures) ∙ c.in-Some.is in
     omega (arith, (place_is c.args.id c.self.inside.store.entries.items c.in-Some.at told).within)
 
 pub invariant_of-self : goal.invariant_of-self
 invariant_of-self c =
-    let told : place_in c.args.id c.self.inside.store.entries.items ≡ Some c.in-Some.at =
-    sym (rw c.deref.ensures.value at c.place_of.ensures) ∙ c.in-Some.is in
+    let told = sym (rw c.deref.ensures.value at c.place_of.ensures) ∙ c.in-Some.is in
     let same = ap shelves_of c.remove.ensures.items ∙ remove_shelf _ _ c.self.invariant.kept.rising told in
     let left = ap (λ f. option_map_or is_left (collection_at f c.args.id) false) c.self.view_is ∙ c.requires in
     record {
@@ -34,8 +31,7 @@ invariant_of-self c =
 
 pub returns-in-Some-clause-collections : goal.returns-in-Some-clause-collections
 returns-in-Some-clause-collections c =
-    let told : place_in c.args.id c.self.inside.store.entries.items ≡ Some c.in-Some.at =
-    sym (rw c.deref.ensures.value at c.place_of.ensures) ∙ c.in-Some.is in
+    let told = sym (rw c.deref.ensures.value at c.place_of.ensures) ∙ c.in-Some.is in
     let same = ap shelves_of c.remove.ensures.items ∙ remove_shelf _ _ c.self.invariant.kept.rising told in
     rw (same, ← c.self.view_is) (collections_beside c.self.inside.store.nodes.table c.args.id (shelves_of c.self.inside.store.entries.items))
 

@@ -1,8 +1,7 @@
 -- The forest is what the table and the entries are then.
-use Rattle.alloc_event.proofs.Common.{subst, sym, AreUnits, shelves_of, AreServedByGiven}
+use Rattle.alloc_event.proofs.Common.{subst, sym, AreUnits, shelves_of, AreServedByGiven, SameKeys-shown}
 use Rattle.forest_store.proofs.changes.Finishing.{whole-map}
 use Rattle.forest_store.proofs.tallies.Slots.{units_over}
-use Rattle.forest_store.proofs.tables.TakingOut.{SameKeys-shown}
 use Rattle.forest_steps.proofs.mid_event.GivenKept.{given_over}
 use Rattle.alloc_event.proofs.forest.Forest.forget_over.Goals as goal
 

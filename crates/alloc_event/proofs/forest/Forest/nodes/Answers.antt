@@ -1,6 +1,5 @@
 -- The nodes of all collections are those of all keys.
-use Rattle.alloc_event.proofs.Common.{sym, ◌∙◌, shelves_of}
-use Rattle.forest_store.proofs.shelves.Showing.{nodes_of_all}
+use Rattle.alloc_event.proofs.Common.{sym, ◌∙◌, shelves_of, nodes_of_all}
 use Rattle.alloc_event.proofs.forest.Forest.nodes.Goals as goal
 
 pub returns-in-Ok : goal.returns-in-Ok

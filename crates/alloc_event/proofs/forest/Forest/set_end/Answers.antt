@@ -1,9 +1,6 @@
 -- One node is written, and the others stay.
-use Rattle.alloc_event.proofs.Common.{refl, sym, ◌∙◌, ◌≡◌, true, false, List, Some, is_some, map, ap, subst, false≢true, NodeKey, option_map_or, Table, node_at, Node, AreUnits, with_nodes, IsStored, Shelf, are_filed, forest_of, shelves_of, is_over, Forest, AreServedByGiven, node_is}
-use Rattle.node_table.specs.Changes.{Writes}
-use Rattle.node_table.specs.Lending.{table_with_node}
-use Rattle.forest_store.specs.Forest.{node_at as forest_node, on_collections}
-use Rattle.forest_store.specs.Nodes.{with_end}
+use Rattle.alloc_event.proofs.Common.{refl, sym, ◌∙◌, ◌≡◌, true, false, List, Some, is_some, map, ap, subst, false≢true, NodeKey, option_map_or, Table, node_at, Node, AreUnits, with_nodes, IsStored, Shelf, are_filed, forest_of, shelves_of, is_over, Forest, AreServedByGiven, node_is, Writes, table_with_node, on_collections, with_end}
+use Rattle.forest_store.specs.Forest.{node_at as forest_node}
 use Rattle.forest_store.proofs.shelves.Counted.{ends_tidy, mapped_all}
 use Rattle.alloc_event.proofs.leaving.Ends.{ends-kept, ends-look, ends-shown}
 use Rattle.forest_store.proofs.tallies.Slots.{units_with}

@@ -1,7 +1,5 @@
 -- The entry with the id is the collection.
-use Rattle.alloc_event.proofs.Common.{Some, sym, ◌∙◌, ap, option_map, collection_in, shelf_of, shelves_of, collection_none, shelf_found}
-use Rattle.forest_store.proofs.changes.Altering.{found_whole}
-use Rattle.forest_store.proofs.shelves.Showing.{collection_is}
+use Rattle.alloc_event.proofs.Common.{Some, sym, ◌∙◌, ap, option_map, collection_in, shelf_of, shelves_of, collection_none, shelf_found, found_whole, collection_is}
 use Rattle.alloc_event.proofs.forest.Forest.snapshot.Goals as goal
 
 pub returns-in_default-clause-value : goal.returns-in_default-clause-value

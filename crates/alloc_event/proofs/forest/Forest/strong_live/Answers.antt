@@ -1,7 +1,8 @@
 -- The count of the entry tells it.
-use Rattle.alloc_event.proofs.Common.{false, sym, ◌∙◌, ap, option_map_or, Collection, nodes_with, members_of, collection_none}
+use Rattle.alloc_event.proofs.Common.{false, sym, ◌∙◌, ap, option_map_or, Collection, nodes_with, collection_none}
+use Rattle.forest_store.specs.Nodes.{members_of}
 use Rattle.sm_names.specs.Members.{some_strong_live}
-use Rattle.forest_steps.proofs.tallies.Strong.{strong_found}
+use Rattle.forest_steps.proofs.changes.Dropped.{strong_found}
 use Rattle.forest_store.proofs.quiescence.Watched.{found_counted, strong_told}
 use Rattle.alloc_event.proofs.forest.Forest.strong_live.Goals as goal
 
