@@ -3,7 +3,6 @@ use Rattle.std.proofs.Common.{ℕ, zero, suc, ◌≡◌, ◌+◌, ◌-◌, ◌*�
 use Rattle.std.specs.Prelude.{All}
 use Rattle.std.specs.List.{prefix_len}
 use Rattle.std.specs.List.Sorted.{IsNonDecreasingBy}
-use Rattle.std.proofs.Math.Nat.{suc-mul}
 use Rattle.std.proofs.lemmas.List.{append-nil, length-append}
 use Rattle.sm_names.specs.declared.rules.TheConstants.{MAX_PAGES}
 use Rattle.sm_names.specs.declared.keys.Interval.{Interval}
@@ -14,7 +13,7 @@ use Rattle.buffer_pool.specs.Fitting.{FitsInFirst, too_small, rooms, first_fit, 
 use Rattle.buffer_pool.proofs.Fits.{fit_at}
 use Rattle.buffer_pool.proofs.Gaps.{holes-end, length-holes}
 use Rattle.buffer_pool.proofs.HeldRuns.{clear-closer, clear-holes}
-use Rattle.buffer_pool.proofs.Least.{Fit, fit_or_none}
+use Rattle.buffer_pool.proofs.Least.{fit_or_none}
 use Rattle.buffer_pool.proofs.Orders.{in_order-rises, length-with_interval}
 use Rattle.buffer_pool.proofs.Placing.{rooms-some, rooms-taken}
 use Rattle.buffer_pool.proofs.TakenRuns.{first_run}

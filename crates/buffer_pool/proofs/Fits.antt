@@ -1,13 +1,13 @@
 -- First fit on a list of holes.
-use Rattle.std.proofs.Common.{ℕ, suc, ◌≡◌, ◌+◌, ◌-◌, ◌/◌, ◌<◌, ◌≤◌, refl, ap, sym, subst, ◌∙◌, true, false, List, [], ◌∷◌, ◌++◌, length, get_or, set, take, drop, inl, inr, arith, ◌==◌, one-add}
+use Rattle.std.proofs.Common.{ℕ, ◌≡◌, ◌+◌, ◌-◌, ◌/◌, ◌<◌, ◌≤◌, refl, ap, sym, subst, ◌∙◌, true, List, [], ◌∷◌, ◌++◌, length, get_or, take, inl, inr, arith, one-add}
 use Rattle.std.specs.Prelude.{All}
-use Rattle.std.specs.List.{remove, prefix_len}
+use Rattle.std.specs.List.{prefix_len}
 use Rattle.std.proofs.Math.Nat.{div-eq_of_lt}
-use Rattle.std.proofs.lemmas.Bool.{cases_Bool, ltb-true, ltb-false, lt-ltb, eq-eqb, ne_eqb, cases_lt}
-use Rattle.std.proofs.lemmas.List.{set_split, get_or_default, get_or-take}
+use Rattle.std.proofs.lemmas.Bool.{cases_Bool, ltb-true, ltb-false, lt-ltb, cases_lt}
+use Rattle.std.proofs.lemmas.List.{get_or_default, get_or-take}
 use Rattle.std.proofs.lemmas.List.Sums.{prefix_len_is, prefix_len_passes, prefix_len_stops, prefix_len-le-length, sum_by-cons}
 use Rattle.sm_names.specs.declared.keys.Interval.{Interval}
-use Rattle.buffer_pool.specs.Fitting.{too_small, AreSmall, rooms, first_fit, shortened, taken}
+use Rattle.buffer_pool.specs.Fitting.{too_small, AreSmall, rooms, first_fit, taken}
 
 -- where the first hole that is not too small lies
 pub record IsFirstFit (pages : ℕ) (hs : List Interval) (hole : Interval) : Type 0 where

@@ -1,18 +1,13 @@
 -- What the fields of a pool give for buffers that are placed, and keep.
 use Rattle.std.proofs.Common.{ℕ, ◌≡◌, ◌+◌, ◌-◌, ◌*◌, ◌<◌, ◌≤◌, ap, sym, subst, ◌∙◌, List, length, arith, Some, None}
-use Rattle.std.specs.Prelude.{All}
-use Rattle.std.specs.List.Sorted.{IsNonDecreasingBy}
-use Rattle.sm_names.specs.declared.rules.TheConstants.{MAX_PAGES}
 use Rattle.sm_names.specs.declared.keys.Interval.{Interval}
 use Rattle.sm_names.specs.Pages.{places}
-use Rattle.buffer_pool.specs.Holes.{end_of, holes_of}
+use Rattle.buffer_pool.specs.Holes.{holes_of}
 use Rattle.buffer_pool.specs.Holdings.{AreGaps, IsPoolSound, with_buffers}
 use Rattle.buffer_pool.specs.Looks.{looks_for}
 use Rattle.buffer_pool.specs.Placing.{PlacesBuffers}
 use Rattle.buffer_pool.specs.Fitting.{rooms, starts_in, holes_after, looks_in}
-use Rattle.buffer_pool.proofs.Gaps.{holes-end, length-holes, spaced-holes}
-use Rattle.buffer_pool.proofs.Spaces.{spaced-begins}
-use Rattle.buffer_pool.proofs.Orders.{in_order-rises, pages_in-le}
+use Rattle.buffer_pool.proofs.Orders.{pages_in-le}
 use Rattle.buffer_pool.proofs.Placing.{Run, run_of, looks_in-bounds, places-none}
 
 -- the holes are the gaps

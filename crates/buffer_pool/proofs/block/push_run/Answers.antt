@@ -1,5 +1,5 @@
 -- The first of those still to come is pushed.
-use Rattle.std.proofs.Common.{◌+◌, ◌-◌, ◌*◌, ◌≡◌, ◌∙◌, ◌++◌, ◌∷◌, [], ap, arith, length}
+use Rattle.std.proofs.Common.{◌+◌, ◌-◌, ◌∙◌, ◌++◌, ◌∷◌, [], ap, arith, length}
 use Rattle.std.proofs.lemmas.List.{length-append}
 use Rattle.buffer_pool.specs.Holdings.{run_of}
 use Rattle.buffer_pool.proofs.HeldRuns.{one_more, run_pushed}

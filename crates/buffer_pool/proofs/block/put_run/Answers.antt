@@ -1,5 +1,5 @@
 -- They are pushed, and move before those behind the place.
-use Rattle.std.proofs.Common.{◌+◌, ◌≤◌, ◌∙◌, ap, arith, length}
+use Rattle.std.proofs.Common.{ap, arith, length}
 use Rattle.std.proofs.lemmas.List.{length-append}
 use Rattle.buffer_pool.specs.Holdings.{run_of}
 use Rattle.buffer_pool.proofs.HeldRuns.{length-run_of}

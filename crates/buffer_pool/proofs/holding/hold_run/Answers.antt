@@ -1,5 +1,5 @@
 -- The place is behind those that begin earlier, and none begins among these.
-use Rattle.std.proofs.Common.{ℕ, ◌≡◌, ◌+◌, ◌-◌, ◌*◌, ◌<◌, ◌≤◌, ◌∙◌, nat_lt, List, length, ap, sym, subst, arith, rules}
+use Rattle.std.proofs.Common.{ℕ, ◌≡◌, ◌-◌, ◌*◌, ◌≤◌, ◌∙◌, nat_lt, List, ap, sym, subst, arith}
 use Rattle.std.specs.List.{insert_slice, prefix_len}
 use Rattle.std.specs.List.Sorted.{IsNonDecreasingBy}
 use Rattle.std.proofs.Math.Nat.{mul-le-mul_right}

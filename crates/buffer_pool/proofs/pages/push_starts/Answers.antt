@@ -1,5 +1,5 @@
 -- The first of those still to come is pushed.
-use Rattle.std.proofs.Common.{◌+◌, ◌-◌, ◌*◌, ◌≡◌, ◌∙◌, ◌++◌, ◌∷◌, [], ap, arith, length}
+use Rattle.std.proofs.Common.{◌+◌, ◌-◌, ◌∙◌, ◌++◌, ◌∷◌, [], ap, arith, length}
 use Rattle.std.proofs.lemmas.List.{length-append}
 use Rattle.buffer_pool.specs.Fitting.{run_starts}
 use Rattle.buffer_pool.proofs.HeldRuns.{one_more, starts_pushed}

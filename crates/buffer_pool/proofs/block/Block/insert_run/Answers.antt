@@ -1,5 +1,5 @@
 -- No interval of the run has more pages than the greatest number then.
-use Rattle.std.proofs.Common.{◌+◌, ◌≡◌, ◌≤◌, ap, arith, length}
+use Rattle.std.proofs.Common.{ap, arith, length}
 use Rattle.buffer_pool.proofs.HeldRuns.{bound-with, length-with}
 use Rattle.buffer_pool.proofs.block.Block.insert_run.Goals as goal
 
