@@ -1,9 +1,10 @@
 -- What the sound fields say of counts and tallies.
-use Rattle.std.proofs.Common.{◌≡◌, ◌+◌, ◌≤◌, ◌<◌, refl, sym, ap, ◌∙◌, ℕ, Bool, true, false, cond, List, [], ◌∷◌, Option, Some, None, arith, sum_by, length, IsSome, is_some, if◌then◌else◌, unwrap_or}
+use Rattle.std.proofs.Common.{◌≡◌, ◌+◌, ◌≤◌, ◌<◌, refl, sym, ap, ◌∙◌, ℕ, Bool, true, false, cond, not, List, [], ◌∷◌, Option, Some, None, arith, sum_by, length, IsSome, is_some, if◌then◌else◌, unwrap_or}
 use Rattle.std.proofs.lemmas.List.Sums.{sum_by-cons}
 use Rattle.std.proofs.lemmas.Map.Made.{lookup-map_values}
 use Rattle.std.specs.Option.{option_map}
 use Rattle.std.specs.Map.{lookup}
+use Rattle.sm_names.specs.Handles.{is_home}
 use Rattle.sm_names.specs.declared.keys.BufferName.{BufferName}
 use Rattle.sm_names.specs.declared.keys.Strength.{Strength}
 use Rattle.buffer_holds.specs.declared.kinds.HandleKind.{HandleKind}
@@ -131,3 +132,8 @@ module _ (limit : ℕ) (rows : List (Hold × ℕ)) (tallies : List (HandleKind �
   -- no more clients are counted than there are rows
   pub clients-le-length : (tally_at tallies hold.kind).clients ≤ length rows
   clients-le-length = omega (arith, (sound.tallied hold.kind).clients, sum_by-one_of-le-length hold.kind rows)
+
+-- a buffer with no open handle is home where no strong node is live
+pub home_unopened : (strong_live : Bool) → not strong_live ≡ is_home 0 0 strong_live
+home_unopened true = refl
+home_unopened false = refl

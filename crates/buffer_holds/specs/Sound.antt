@@ -67,3 +67,7 @@ pub record HasPlaces (sent free : ℕ) (tallies : List (HandleKind × Tally)) : 
 -- no more than so many of one kind are open
 abbrev pub TotalsAreUpTo : ℕ → List (HandleKind × Tally) → Type 0
 TotalsAreUpTo most tallies = (kind : HandleKind) → (tally_at tallies kind).total ≤ most
+
+-- no handle is open on a buffer of a collection with a greater id
+abbrev pub NoneIsNewer : ℕ → List (HandleKind × Tally) → Type 0
+NoneIsNewer newest tallies = (kind : HandleKind) → newest < kind.buffer.collection → (tally_at tallies kind).total ≡ 0

@@ -15,7 +15,7 @@ use crate::rows::{Rows, count_of, forget, lower, raise};
 use crate::spot::{Last, Spot};
 use crate::tally::{Tallies, leave, open, tally_by_hash, tally_near, tally_of, tally_place};
 use indexmap::IndexMap;
-use sm_names::{BufferName, ClientId, NoMemory, Strength};
+use sm_names::{BufferName, ClientId, CollectionId, NoMemory, Strength};
 use std::alloc::Global;
 use std::marker::Model;
 
@@ -42,6 +42,8 @@ pub struct Holds {
     limit: u32,
     // No more than so many of one kind were ever open.
     most: u32,
+    // No handle was ever opened on a buffer of a collection with a greater id.
+    newest: CollectionId,
     // How many handles are in parcels. As many places are free among the rows.
     sent: u32,
     rows: Rows,
@@ -54,7 +56,7 @@ impl Model for Holds {
 
     ghost Value = { Counts };
 
-    ghost use Rattle.buffer_holds.specs.Sound.{TotalsAreUpTo, HasPlaces, CountsInvariant, parcels_in};
+    ghost use Rattle.buffer_holds.specs.Sound.{NoneIsNewer, TotalsAreUpTo, HasPlaces, CountsInvariant, parcels_in};
     ghost use Rattle.indexmap.specs.IndexMap.{spare};
 
     ghost view = { λ h. record {
@@ -65,7 +67,8 @@ impl Model for Holds {
 
     ghost invariant = { λ h. CountsInvariant h.limit h.rows.entries h.tallies.entries
         × TotalsAreUpTo h.most h.tallies.entries
-        × HasPlaces h.sent (spare h.rows) h.tallies.entries };
+        × HasPlaces h.sent (spare h.rows) h.tallies.entries
+        × NoneIsNewer h.newest h.tallies.entries };
 }
 
 impl Holds {
@@ -87,6 +90,7 @@ impl Holds {
         Holds {
             limit,
             most: 0,
+            newest: 0,
             sent: 0,
             rows: IndexMap::with_hasher(alloc, hash),
             tallies: IndexMap::with_hasher(alloc, hash),
@@ -159,6 +163,16 @@ impl Holds {
         self.most < self.limit
     }
 
+    // Whether it is known that no handle is open on this buffer: none was ever opened on one of its
+    // collection, nor of a collection with a greater id.
+    #[inline(always)]
+    fn is_unopened(&self, buffer: BufferName) -> bool
+        ensures { result ≡ true → (strength : Strength) →
+            total self.now buffer strength ≡ 0 }
+    {
+        self.newest < buffer.collection
+    }
+
     /// Whether nothing strong keeps this buffer of an allocated collection any longer: neither an
     /// open handle, be it in a parcel, nor a live node (`fuchsia.sysmem2.Node.SetWeak`).
     /// `strong_live` says whether a strong node of its collection is live. One look-up.
@@ -170,12 +184,16 @@ impl Holds {
     }
 
     /// Whether nothing at all keeps this buffer of an allocated collection, so that its pages go
-    /// back: it is doomed, and no weak handle is open, in a parcel or out of it. Two look-ups.
+    /// back: it is doomed, and no weak handle is open, in a parcel or out of it. Two look-ups; none
+    /// where no handle was ever opened on a buffer of its collection, nor of one with a greater id.
     #[inline(always)]
     pub fn home(&self, buffer: BufferName, strong_live: bool) -> bool
         ensures { result ≡ is_home (total self.now buffer Strength.Strong)
             (total self.now buffer Strength.Weak) strong_live }
     {
+        if self.is_unopened(buffer) {
+            return !strong_live;
+        }
         self.doomed(buffer, strong_live) && self.total(buffer, Strength::Weak) == 0
     }
 
@@ -184,6 +202,9 @@ impl Holds {
         ensures { result ≡ is_home (total self.now buffer Strength.Strong)
             (total self.now buffer Strength.Weak) strong_live }
     {
+        if self.is_unopened(buffer) {
+            return !strong_live;
+        }
         !strong_live
             && self.total_near(buffer, Strength::Strong, near) == 0
             && self.total_by_hash(buffer, Strength::Weak) == 0
@@ -230,6 +251,7 @@ impl Holds {
             IsOkUnless result HoldFault.TooMany }
         ensures err { OnErr result (self.new ≡ self.old) }
     {
+        self.newest = self.newest.max(buffer.collection);
         let kind = HandleKind { buffer, strength };
         let hold = Hold { client, kind };
         open(

@@ -11,7 +11,8 @@ use Rattle.buffer_pool.specs.Holes.{end_of, gap, holes_from, holes_of}
 use Rattle.buffer_pool.specs.Holdings.{HasRun, IsPoolSound, in_order, in_run, total_pages, without, without_run}
 use Rattle.buffer_pool.specs.Merging.{spaced, first_begins, with_merged, with_released}
 use Rattle.buffer_pool.proofs.Orders.{first_in_order, in_order-cons, in_order-wider, in_order-at, without-later}
-use Rattle.buffer_pool.proofs.Keeping.{lists_of}
+use Rattle.buffer_pool.proofs.Filling.{lists_of}
+use Rattle.buffer_pool.proofs.Keeping.{gaps_of}
 use Rattle.buffer_pool.proofs.Runs.{in_order-without_run, run-end, without_run-keeps}
 use Rattle.buffer_pool.proofs.Spaces.{first_spaced, joined_apart}
 use Rattle.buffer_pool.proofs.Gaps.{gap_some, gap_none, spaced-holes, length-holes}
@@ -282,7 +283,7 @@ keeps_more size free holes held capacity start pages n k run =
     let end : start + suc n * pages ≤ size = (run-end start pages n size held k.in_order run).1 in
     let released_is : with_released back holes ≡ holes_of size left = ap (with_released back) k.holes_are ∙ sym g.holes in
     let fewer = (length-holes 0 size left order).1 in
-    let lists = lists_of size free holes held capacity k in
+    let lists = lists_of size holes held (gaps_of size free holes held capacity k) in
     let small = k.sized.1 in
     record {
       up = in_order-wider 0 size 0 MAX_PAGES held (omega arith) small k.in_order;

@@ -1,20 +1,25 @@
 -- What stays true while buffers are placed one after another.
-use Rattle.std.proofs.Common.{ℕ, zero, suc, ◌≡◌, ◌+◌, ◌-◌, ◌*◌, ◌<◌, ◌≤◌, subst, ◌∙◌, List, [], ◌∷◌, ◌++◌, length, inl, inr, arith, ◌==◌, append_assoc}
+use Rattle.std.proofs.Common.{ℕ, zero, suc, ◌≡◌, ◌+◌, ◌-◌, ◌*◌, ◌<◌, ◌≤◌, refl, ap, sym, subst, ◌∙◌, List, [], ◌∷◌, ◌++◌, length, get_or, inl, inr, arith, append_assoc}
 use Rattle.std.specs.Prelude.{All}
 use Rattle.std.specs.List.{prefix_len}
 use Rattle.std.specs.List.Sorted.{IsNonDecreasingBy}
-use Rattle.std.proofs.lemmas.Bool.{cases_Bool, ltb-false}
-use Rattle.std.proofs.lemmas.List.{length-append}
+use Rattle.std.proofs.lemmas.List.{append-nil, length-append}
 use Rattle.sm_names.specs.declared.rules.TheConstants.{MAX_PAGES}
 use Rattle.sm_names.specs.declared.keys.Interval.{Interval}
-use Rattle.buffer_pool.specs.Holes.{end_of}
-use Rattle.buffer_pool.specs.Holdings.{with_interval, with_buffers}
-use Rattle.buffer_pool.proofs.Orders.{length-with_interval, with_interval-rises}
-use Rattle.buffer_pool.proofs.Placing.{length-taken, rooms-some, rooms-taken}
-use Rattle.buffer_pool.specs.Fitting.{too_small, rooms, first_fit, taken, starts_in, holes_after, looks_in}
+use Rattle.sm_names.specs.Apart.{at_pages}
+use Rattle.buffer_pool.specs.Holes.{end_of, holes_of}
+use Rattle.buffer_pool.specs.Holdings.{AreGaps, IsClear, with_interval, with_buffers}
+use Rattle.buffer_pool.specs.Fitting.{FitsInFirst, too_small, rooms, first_fit, taken, starts_in, holes_after, looks_in, run_starts}
+use Rattle.buffer_pool.proofs.Fits.{fit_at}
+use Rattle.buffer_pool.proofs.Gaps.{holes-end, length-holes}
+use Rattle.buffer_pool.proofs.HeldRuns.{clear-closer, clear-holes}
+use Rattle.buffer_pool.proofs.Least.{fit_or_none}
+use Rattle.buffer_pool.proofs.Orders.{in_order-rises, length-with_interval}
+use Rattle.buffer_pool.proofs.Placing.{rooms-some, rooms-taken}
+use Rattle.buffer_pool.proofs.TakenRuns.{first_run}
 
 -- so many buffers of the count are left, and what is so far makes with them what the whole makes
-pub record IsFilling (pages_each count left : ℕ) (holes0 held0 : List Interval) (looks : ℕ) (starts : List ℕ)
+pub record IsFilling (size pages_each count left : ℕ) (holes0 held0 : List Interval) (looks : ℕ) (starts : List ℕ)
     (holes held : List Interval) (capacity0 starts_capacity holes_capacity held_capacity : ℕ) : Type 0 where
   pub has_rooms : left ≤ rooms pages_each holes
   pub starts_are : starts ++ starts_in pages_each left holes ≡ starts_in pages_each count holes0
@@ -22,47 +27,48 @@ pub record IsFilling (pages_each count left : ℕ) (holes0 held0 : List Interval
   pub holes_are : holes_after pages_each left holes ≡ holes_after pages_each count holes0
   pub held_are : with_buffers pages_each (starts_in pages_each left holes) held ≡ with_buffers pages_each
       (starts_in pages_each count holes0) held0
-  pub fits : All (λ (h : Interval). end_of h < 4294967296) holes
-  pub few : length holes ≤ MAX_PAGES
+  pub gaps : AreGaps size holes held
   pub looks_fit : looks + left * MAX_PAGES ≤ count * MAX_PAGES
-  pub rises : IsNonDecreasingBy (λ (i : Interval). i.start) held
   pub starts_room : length starts + left ≤ starts_capacity
   pub held_room : length held + left ≤ held_capacity
   pub same_capacity : holes_capacity ≡ capacity0
 
--- no hole ends later
-pub ends-taken : (bound pages : ℕ) (hs : List Interval) → All (λ (h : Interval). end_of h < bound) hs →
-    All (λ (h : Interval). end_of h < bound) (taken pages hs)
-ends-taken bound pages [] all = all
-ends-taken bound pages (h ∷ hs) all =
-    let first : end_of h < bound = all 0 h (omega arith) in
-    let rest : All (λ (h : Interval). end_of h < bound) hs = λ k d lt. all (suc k) d (omega arith) in
-    elim (cases_Bool (too_small pages h)) [
-      | inl y ↦ rw y (behind h (taken pages hs) first (ends-taken bound pages hs rest))
-      | inr n ↦
-          let fits : pages ≤ h.pages = ltb-false _ _ n in
-          elim (cases_Bool (h.pages == pages)) [
-            | inl e ↦ rw (n, e) rest
-            | inr d ↦ rw (n, d) (behind (record { start = h.start + pages; pages = h.pages - pages }) hs (omega arith) rest)
-          ]
+-- what is so of the lists of a pool's gaps
+pub record Lists (holes held : List Interval) : Type 0 where
+  pub fits : All (λ (h : Interval). end_of h < 4294967296) holes
+  pub few : length holes ≤ MAX_PAGES
+  pub rises : IsNonDecreasingBy (λ (i : Interval). i.start) held
+
+pub lists_of : (size : ℕ) (holes held : List Interval) → AreGaps size holes held → Lists holes held
+lists_of size holes held g =
+    let small = g.sized in
+    record {
+      fits = subst (All (λ (h : Interval). end_of h < 4294967296)) (sym g.holes_are) (λ j d lt. let at =
+          holes-end 0 size held g.in_order j d lt in omega (arith, at));
+      few = subst (λ hs. length hs ≤ MAX_PAGES) (sym g.holes_are) (omega (arith, (length-holes 0 size held g.in_order).0));
+      rises = in_order-rises 0 size held g.in_order;
+    }
+
+-- one more is held, where the first hole lies that is long enough
+gaps_more : (size pages : ℕ) (holes held : List Interval) → 1 ≤ pages → 1 ≤ rooms pages holes → AreGaps size holes held →
+    AreGaps size (taken pages holes) (with_interval (record { start = first_fit pages holes; pages = pages }) held)
+gaps_more size pages holes held one some g =
+    elim (fit_or_none 0 size pages held one g.in_order) [
+      | inl f ↦
+          let whole : AreGaps size (taken pages (holes_of size held)) (with_interval (at_pages pages (first_fit pages (holes_of size held)))
+          held) = record { sized = g.sized; in_order = f.in_order; holes_are = sym f.holes } in
+          subst (λ hs. AreGaps size (taken pages hs) (with_interval (at_pages pages (first_fit pages hs)) held)) (sym g.holes_are) whole
+      | inr n ↦ absurd (omega (arith, n.rooms, ap (rooms pages) g.holes_are))
     ]
-  where
-    behind : (x : Interval) (xs : List Interval) → end_of x < bound → All (λ (h : Interval). end_of h < bound) xs →
-        All (λ (h : Interval). end_of h < bound) (x ∷ xs)
-    behind x xs here rest zero d lt = here
-    behind x xs here rest (suc k) d lt = rest k d (omega arith)
 
 -- one buffer is placed
-pub filling_more : (pages count left next : ℕ) (holes0 held0 : List Interval) (looks : ℕ) (starts : List ℕ) (holes held : List Interval)
-    (c0 cs ch cd at' cs' ch' cd' : ℕ) → 1 ≤ pages → left ≡ suc next → at' ≡ prefix_len (too_small pages) holes → cs ≤ cs' → ch' ≡ ch →
-    cd ≤ cd' → IsFilling pages count left holes0 held0 looks starts holes held c0 cs ch cd →
-    IsFilling pages count next holes0 held0 (looks + (at' + 1)) (starts ++ first_fit pages holes ∷ []) (taken pages holes)
-    (with_interval (record { start = first_fit pages holes; pages = pages }) held) c0 cs' ch' cd'
-filling_more pages count left next holes0 held0 looks starts holes held c0 cs ch cd at' cs' ch' cd' one is found more_s same_h more_d
-    f0 =
-    let f : IsFilling pages count (suc next) holes0 held0 looks starts holes held c0 cs ch cd =
-    subst (λ n. IsFilling pages count n holes0 held0 looks starts holes held c0 cs ch cd) is f0 in
+filling_more : (size pages count next : ℕ) (holes0 held0 : List Interval) (looks : ℕ) (starts : List ℕ) (holes held : List Interval)
+    (c0 cs ch cd : ℕ) → 1 ≤ pages → IsFilling size pages count (suc next) holes0 held0 looks starts holes held c0 cs ch cd →
+    IsFilling size pages count next holes0 held0 (looks + (prefix_len (too_small pages) holes + 1)) (starts ++ first_fit pages holes ∷ [])
+    (taken pages holes) (with_interval (record { start = first_fit pages holes; pages = pages }) held) c0 cs ch cd
+filling_more size pages count next holes0 held0 looks starts holes held c0 cs ch cd one f =
     let some : prefix_len (too_small pages) holes < length holes = rooms-some pages holes one (omega (arith, f.has_rooms)) in
+    let few : length holes ≤ MAX_PAGES = (lists_of size holes held f.gaps).few in
     let new : Interval = record { start = first_fit pages holes; pages = pages } in
     record {
       has_rooms = omega (arith, f.has_rooms, rooms-taken pages holes one some);
@@ -70,18 +76,103 @@ filling_more pages count left next holes0 held0 looks starts holes held c0 cs ch
       looks_are = omega (arith, f.looks_are);
       holes_are = f.holes_are;
       held_are = f.held_are;
-      fits = ends-taken 4294967296 pages holes f.fits;
-      few = omega (arith, length-taken pages holes, f.few);
-      looks_fit = omega (arith, f.looks_fit, f.few);
-      rises = with_interval-rises new held f.rises;
+      gaps = gaps_more size pages holes held one (omega (arith, f.has_rooms)) f.gaps;
+      looks_fit = omega (arith, f.looks_fit);
       starts_room = omega (arith, length-append starts (first_fit pages holes ∷ []), f.starts_room);
       held_room = omega (arith, length-with_interval new held, f.held_room);
-      same_capacity = same_h ∙ f.same_capacity;
+      same_capacity = f.same_capacity;
     }
 
--- some hole is long enough while a buffer is left, and its look fits
-pub filling_some : (pages count left : ℕ) (holes0 held0 : List Interval) (looks : ℕ) (starts : List ℕ) (holes held : List Interval)
-    (c0 cs ch cd : ℕ) → 1 ≤ pages → 0 < left → IsFilling pages count left holes0 held0 looks starts holes held c0 cs ch cd →
-    (prefix_len (too_small pages) holes < length holes) × (looks + MAX_PAGES ≤ count * MAX_PAGES)
-filling_some pages count left holes0 held0 looks starts holes held c0 cs ch cd one some f =
-    (rooms-some pages holes one (omega (arith, f.has_rooms)), omega (arith, f.looks_fit))
+-- so many buffers are placed
+filling_run : (size pages count n next left : ℕ) (holes0 held0 : List Interval) (looks : ℕ) (starts : List ℕ) (holes held : List Interval)
+    (c0 cs ch cd : ℕ) → 1 ≤ pages → left ≡ n + next →
+    IsFilling size pages count left holes0 held0 looks starts holes held c0 cs ch cd →
+    IsFilling size pages count next holes0 held0 (looks + looks_in pages n holes) (starts ++ starts_in pages n holes)
+    (holes_after pages n holes) (with_buffers pages (starts_in pages n holes) held) c0 cs ch cd
+filling_run size pages count zero next left holes0 held0 looks starts holes held c0 cs ch cd one is f =
+    let same : left ≡ next = omega arith in
+    let none : looks ≡ looks + 0 = omega arith in
+    subst (λ s. IsFilling size pages count next holes0 held0 (looks + 0) s holes held c0 cs ch cd) (sym (append-nil starts))
+    (subst (λ l. IsFilling size pages count next holes0 held0 l starts holes held c0 cs ch cd) none
+    (subst (λ n. IsFilling size pages count n holes0 held0 looks starts holes held c0 cs ch cd) same f))
+filling_run size pages count (suc n) next left holes0 held0 looks starts holes held c0 cs ch cd one is f =
+    let at : ℕ = prefix_len (too_small pages) holes in
+    let start : ℕ = first_fit pages holes in
+    let held' : List Interval = with_interval (record { start = start; pages = pages }) held in
+    let same : left ≡ suc (n + next) = omega arith in
+    let f' = filling_more size pages count (n + next) holes0 held0 looks starts holes held c0 cs ch cd one
+    (subst (λ n. IsFilling size pages count n holes0 held0 looks starts holes held c0 cs ch cd) same f) in
+    let r = filling_run size pages count n next (n + next) holes0 held0 (looks + (at + 1)) (starts ++ start ∷ []) (taken pages holes) held'
+    c0 cs ch cd one refl f' in
+    let sum : looks + (at + 1) + looks_in pages n (taken pages holes) ≡ looks + (at + 1 + looks_in pages n (taken pages holes)) =
+    omega arith in
+    let joined : (starts ++ start ∷ []) ++ starts_in pages n (taken pages holes) ≡ starts ++ (start ∷ starts_in pages n (taken pages holes)) =
+    append_assoc starts (start ∷ []) (starts_in pages n (taken pages holes)) in
+    subst (λ s. IsFilling size pages count next holes0 held0 (looks + (at + 1 + looks_in pages n (taken pages holes))) s
+    (holes_after pages n (taken pages holes)) (with_buffers pages (starts_in pages n (taken pages holes)) held') c0 cs ch cd) joined
+    (subst (λ l. IsFilling size pages count next holes0 held0 l ((starts ++ start ∷ []) ++ starts_in pages n (taken pages holes))
+    (holes_after pages n (taken pages holes)) (with_buffers pages (starts_in pages n (taken pages holes)) held') c0 cs ch cd) sum r)
+
+-- so many buffers that lie side by side in the first hole
+pub record IsNextRun (pages n start at : ℕ) (holes held : List Interval) : Type 0 where
+  pub starts : starts_in pages n holes ≡ run_starts start pages n
+  pub looks : looks_in pages n holes ≡ n * (at + 1)
+  pub ends : start + n * pages < 4294967296
+  pub clear : IsClear start (start + n * pages) held
+
+pub next_run : (size pages n start at : ℕ) (holes held : List Interval) → 1 ≤ pages → 1 ≤ n → start ≡ first_fit pages holes →
+    at ≡ prefix_len (too_small pages) holes → at < length holes → FitsInFirst pages n holes → AreGaps size holes held →
+    IsNextRun pages n start at holes held
+next_run size pages zero start at holes held one some is found lt fits g = absurd (omega arith)
+next_run size pages (suc n) start at holes held one some is found lt fits g =
+    let none : Interval = record { start = 0; pages = 0 } in
+    let P : ℕ = prefix_len (too_small pages) holes in
+    let within : P < length holes = subst (λ k. k < length holes) found lt in
+    let hole : Interval = get_or holes P none in
+    let long : suc n * pages ≤ hole.pages = fits none in
+    let r = first_run pages n holes none one within long in
+    let here : start ≡ hole.start = is ∙ (fit_at pages holes none within).start in
+    let ends : end_of hole < 4294967296 = (lists_of size holes held g).fits P none within in
+    let free : IsClear hole.start (end_of hole) held =
+    subst (λ (hs : List Interval). P < length hs → IsClear (get_or hs P none).start (end_of (get_or hs P none)) held) (sym g.holes_are)
+    (clear-holes 0 size held g.in_order P none) within in
+    record {
+      starts = r.starts ∙ ap (λ s. run_starts s pages (suc n)) (sym here);
+      looks = r.looks ∙ ap (λ k. suc n * (k + 1)) (sym found);
+      ends = omega arith;
+      clear = clear-closer hole.start (end_of hole) start (start + suc n * pages) held (omega arith) (omega arith) free;
+    }
+
+-- a hole's run is placed, while so many are left
+pub filling_next : (size pages count left n start at : ℕ) (holes0 held0 : List Interval) (looks : ℕ) (starts : List ℕ)
+    (holes held : List Interval) (c0 cs ch cd cs' ch' cd' : ℕ) → 1 ≤ pages → n ≤ left → IsNextRun pages n start at holes held →
+    cs' ≡ cs → ch' ≡ ch → cd' ≡ cd → IsFilling size pages count left holes0 held0 looks starts holes held c0 cs ch cd →
+    IsFilling size pages count (left - n) holes0 held0 (looks + n * (at + 1)) (starts ++ run_starts start pages n)
+    (holes_after pages n holes) (with_buffers pages (run_starts start pages n) held) c0 cs' ch' cd'
+filling_next size pages count left n start at holes0 held0 looks starts holes held c0 cs ch cd cs' ch' cd' one le r s h d f =
+    let k = filling_run size pages count n (left - n) left holes0 held0 looks starts holes held c0 cs ch cd one (omega arith) f in
+    let k' : IsFilling size pages count (left - n) holes0 held0 (looks + looks_in pages n holes) (starts ++ starts_in pages n holes)
+    (holes_after pages n holes) (with_buffers pages (starts_in pages n holes) held) c0 cs' ch' cd' =
+    record {
+      has_rooms = k.has_rooms;
+      starts_are = k.starts_are;
+      looks_are = k.looks_are;
+      holes_are = k.holes_are;
+      held_are = k.held_are;
+      gaps = k.gaps;
+      looks_fit = k.looks_fit;
+      starts_room = omega (arith, k.starts_room);
+      held_room = omega (arith, k.held_room);
+      same_capacity = h ∙ k.same_capacity;
+    } in
+    subst (λ l. IsFilling size pages count (left - n) holes0 held0 (looks + l) (starts ++ run_starts start pages n)
+    (holes_after pages n holes) (with_buffers pages (run_starts start pages n) held) c0 cs' ch' cd') r.looks
+    (subst (λ ss. IsFilling size pages count (left - n) holes0 held0 (looks + looks_in pages n holes) (starts ++ ss)
+    (holes_after pages n holes) (with_buffers pages ss held) c0 cs' ch' cd') r.starts k')
+
+-- some hole is long enough while a buffer is left
+pub filling_some : (size pages count left : ℕ) (holes0 held0 : List Interval) (looks : ℕ) (starts : List ℕ) (holes held : List Interval)
+    (c0 cs ch cd : ℕ) → 1 ≤ pages → 0 < left → IsFilling size pages count left holes0 held0 looks starts holes held c0 cs ch cd →
+    prefix_len (too_small pages) holes < length holes
+filling_some size pages count left holes0 held0 looks starts holes held c0 cs ch cd one some f =
+    rooms-some pages holes one (omega (arith, f.has_rooms))

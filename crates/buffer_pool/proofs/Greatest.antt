@@ -80,7 +80,7 @@ covered low size a (i ∷ is) h some from room =
     ]
 
 -- each hole is free
-room_in_gap : (low to : ℕ) (P : Interval → Type 0) (rest : List Interval) → (low < to → P (record { start = low; pages = to - low })) →
+pub room_in_gap : (low to : ℕ) (P : Interval → Type 0) (rest : List Interval) → (low < to → P (record { start = low; pages = to - low })) →
     ((k : ℕ) (d : Interval) → k < length rest → P (get_or rest k d)) → (k : ℕ) (d : Interval) → k < length (gap low to ++ rest) →
     P (get_or (gap low to ++ rest) k d)
 room_in_gap low to P rest here behind k d lt =

@@ -1,6 +1,6 @@
 -- Intervals in blocks, joined to one list.
 use Rattle.std.proofs.Common.{ℕ, zero, suc, ◌≡◌, ◌+◌, ◌-◌, ◌<◌, ◌≤◌, refl, ap, sym, subst, ◌∙◌, List, [], ◌∷◌, ◌++◌, length, get_or, set, take, drop, arith, add-one, append_assoc}
-use Rattle.std.specs.List.{insert, remove, remove_range}
+use Rattle.std.specs.List.{insert, insert_slice, remove, remove_range}
 use Rattle.std.proofs.Math.Seq.{take-append-add, drop-append-add}
 use Rattle.std.proofs.lemmas.List.{append-nil, take-append-drop, drop_more, set_split, take_more, take_more_set, take-set, drop-set-lt, drop_at, take-append-le, drop-append-le, take-take, length-take-le, length-append, length-set, set-append_left, set-append_right, get_or-set_same}
 use Rattle.std.proofs.lemmas.List.Edits.{insert-append_left, insert-append_right, length-insert, length-remove, get_or-insert_below, get_or-insert_at}
@@ -44,6 +44,20 @@ insert_in L b o x lt le =
     ∙ sym (ap (λ n. P ++ insert (B ++ S) n x) (none-left (length P) o))
     ∙ sym (insert-append_right P (B ++ S) (length P) (length P + o) x refl (omega arith))
     ∙ sym (ap (λ ys. insert ys (length P + o) x) (parts L b lt))
+
+pub insert_slice_in : (L : Lists) (b o : ℕ) (R : List Interval) → b < length L → o ≤ length (get_or L b []) →
+    all_in (set L b (insert_slice (get_or L b []) o R)) ≡ insert_slice (all_in L) (length (all_in (take b L)) + o) R
+insert_slice_in L b o R lt le =
+    let P : List Interval = all_in (take b L) in
+    let B : List Interval = get_or L b [] in
+    let S : List Interval = all_in (drop (b + 1) L) in
+    parts-set L b (insert_slice B o R) lt
+    ∙ ap (λ r. P ++ r) (append_assoc (take o B ++ R) (drop o B) S ∙ append_assoc (take o B) R (drop o B ++ S))
+    ∙ sym (append_assoc P (take o B) (R ++ (drop o B ++ S)))
+    ∙ sym (append_assoc (P ++ take o B) R (drop o B ++ S))
+    ∙ sym (λ i. ((P ++ take-append-le o B S le i) ++ R) ++ drop-append-le o B S le i)
+    ∙ sym (λ i. (take-append-add P (B ++ S) o i ++ R) ++ drop-append-add P (B ++ S) o i)
+    ∙ sym (ap (λ ys. insert_slice ys (length P + o) R) (parts L b lt))
 
 pub remove_range_in : (L : Lists) (b o n : ℕ) → b < length L → o + n ≤ length (get_or L b []) →
     all_in (set L b (remove_range (get_or L b []) o (o + n)))

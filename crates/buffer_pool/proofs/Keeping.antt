@@ -1,38 +1,19 @@
 -- What the fields of a pool give for buffers that are placed, and keep.
 use Rattle.std.proofs.Common.{ℕ, ◌≡◌, ◌+◌, ◌-◌, ◌*◌, ◌<◌, ◌≤◌, ap, sym, subst, ◌∙◌, List, length, arith, Some, None}
-use Rattle.std.specs.Prelude.{All}
-use Rattle.std.specs.List.Sorted.{IsNonDecreasingBy}
-use Rattle.sm_names.specs.declared.rules.TheConstants.{MAX_PAGES}
 use Rattle.sm_names.specs.declared.keys.Interval.{Interval}
 use Rattle.sm_names.specs.Pages.{places}
-use Rattle.buffer_pool.specs.Holes.{end_of, holes_of}
-use Rattle.buffer_pool.specs.Holdings.{IsPoolSound, with_buffers}
+use Rattle.buffer_pool.specs.Holes.{holes_of}
+use Rattle.buffer_pool.specs.Holdings.{AreGaps, IsPoolSound, with_buffers}
 use Rattle.buffer_pool.specs.Looks.{looks_for}
 use Rattle.buffer_pool.specs.Placing.{PlacesBuffers}
 use Rattle.buffer_pool.specs.Fitting.{rooms, starts_in, holes_after, looks_in}
-use Rattle.buffer_pool.proofs.Gaps.{holes-end, length-holes, spaced-holes}
-use Rattle.buffer_pool.proofs.Spaces.{spaced-begins}
-use Rattle.buffer_pool.proofs.Orders.{in_order-rises, pages_in-le}
+use Rattle.buffer_pool.proofs.Orders.{pages_in-le}
 use Rattle.buffer_pool.proofs.Placing.{Run, run_of, looks_in-bounds, places-none}
 
--- what is so of a pool's lists
-pub record Lists (holes held : List Interval) : Type 0 where
-  pub fits : All (λ (h : Interval). end_of h < 4294967296) holes
-  pub few : length holes ≤ MAX_PAGES
-  pub rises : IsNonDecreasingBy (λ (i : Interval). i.start) held
-  pub begins : IsNonDecreasingBy (λ (h : Interval). h.start) holes
-
-pub lists_of : (size free : ℕ) (holes held : List Interval) (capacity : ℕ) → IsPoolSound size free holes held capacity → Lists holes held
-lists_of size free holes held capacity k =
-    let small = k.sized.1 in
-    record {
-      fits = subst (All (λ (h : Interval). end_of h < 4294967296)) (sym k.holes_are) (λ j d lt. let at =
-          holes-end 0 size held k.in_order j d lt in omega (arith, at));
-      few = subst (λ hs. length hs ≤ MAX_PAGES) (sym k.holes_are) (omega (arith, (length-holes 0 size held k.in_order).0));
-      rises = in_order-rises 0 size held k.in_order;
-      begins = subst (IsNonDecreasingBy (λ (h : Interval). h.start)) (sym k.holes_are) (spaced-begins 0 (holes_of size held)
-          (spaced-holes 0 size held k.in_order));
-    }
+-- the holes are the gaps
+pub gaps_of : (size free : ℕ) (holes held : List Interval) (capacity : ℕ) → IsPoolSound size free holes held capacity →
+    AreGaps size holes held
+gaps_of size free holes held capacity k = record { sized = k.sized.1; in_order = k.in_order; holes_are = k.holes_are }
 
 -- what is so where all buffers have room
 pub record KeepsRun (size free count pages : ℕ) (holes held : List Interval) : Type 0 where

@@ -5,6 +5,7 @@ mod Finding
 mod Fits
 mod Gaps
 mod Greatest
+mod HeldRuns
 mod Joins
 mod Keeping
 pub mod Least
@@ -15,3 +16,4 @@ pub mod Runs
 mod Searches
 mod Sounds
 mod Spaces
+mod TakenRuns

@@ -7,10 +7,11 @@ use Rattle.std.proofs.lemmas.List.Concat.{flat_map-append}
 use Rattle.std.proofs.lemmas.List.Sums.{prefix_len-le-length, sum_by-append}
 use Rattle.sm_names.specs.declared.keys.Interval.{Interval}
 use Rattle.buffer_pool.specs.declared.blocks.Reach.{Reach}
-use Rattle.buffer_pool.specs.Fitting.{too_small, rooms, taken}
+use Rattle.buffer_pool.specs.Fitting.{too_small, rooms, holes_after}
 use Rattle.buffer_pool.specs.Rows.{all_in, IsPassed, IsInsertSpot}
-use Rattle.buffer_pool.proofs.Fits.{search_front, search_back, search_from_front, search_from_back, rooms-small, passed-front, prefix_len-taken}
+use Rattle.buffer_pool.proofs.Fits.{search_front, search_back, search_from_front, search_from_back, rooms-small, passed-front}
 use Rattle.buffer_pool.proofs.Joins.{parts, before-next}
+use Rattle.buffer_pool.proofs.TakenRuns.{prefix_len-after}
 
 abbrev reach : ℕ → ℕ → ℕ → Reach
 reach block offset before = record { spot = record { block = block; offset = offset }; before = before }
@@ -131,10 +132,10 @@ passed-kept pages b r L M zero le within same k =
     }
 
 -- where pages are taken from the first hole that is not too small
-pub passed-taken : (pages : ℕ) (r : Reach) (L M : List (List Interval)) → IsPassed pages r L → take r.spot.block M ≡ take r.spot.block L →
-    all_in M ≡ taken pages (all_in L) → IsInsertSpot M r.spot → IsPassed pages r M
-passed-taken pages r L M k front all within =
+pub passed-taken : (pages n : ℕ) (r : Reach) (L M : List (List Interval)) → IsPassed pages r L → take r.spot.block M ≡ take r.spot.block L →
+    all_in M ≡ holes_after pages n (all_in L) → IsInsertSpot M r.spot → IsPassed pages r M
+passed-taken pages n r L M k front all within =
     let first = ap (λ (x : List (List Interval)). length (all_in x)) front in
-    let more = prefix_len-taken pages (all_in L) in
+    let more = prefix_len-after pages n (all_in L) in
     let same = ap (prefix_len (too_small pages)) all in
     record { within = within; before = k.before ∙ sym first; passed = omega (arith, k.passed) }

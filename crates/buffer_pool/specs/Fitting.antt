@@ -1,5 +1,5 @@
 -- First fit on a list of holes.
-use Rattle.std.specs.Prelude.{ℕ, zero, suc, ◌+◌, ◌-◌, ◌/◌, ◌<◌, ◌≤◌, get_or, nat_lt, Bool, ◌==◌, List, [], ◌∷◌, if◌then◌else◌}
+use Rattle.std.specs.Prelude.{ℕ, zero, suc, ◌+◌, ◌-◌, ◌*◌, ◌/◌, ◌<◌, ◌≤◌, get_or, nat_lt, Bool, ◌==◌, List, [], ◌∷◌, if◌then◌else◌}
 use Rattle.std.specs.List.{prefix_len, sum_by}
 use Rattle.sm_names.specs.declared.keys.Interval.{Interval}
 
@@ -34,10 +34,19 @@ abbrev pub starts_in : ℕ → ℕ → List Interval → List ℕ
 starts_in pages zero holes = []
 starts_in pages (suc n) holes = first_fit pages holes ∷ starts_in pages n (taken pages holes)
 
+-- the starts of so many buffers of as many pages that lie side by side from this page on
+abbrev pub run_starts : ℕ → ℕ → ℕ → List ℕ
+run_starts start pages zero = []
+run_starts start pages (suc n) = start ∷ run_starts (start + pages) pages n
+
 -- the holes after so many buffers
 abbrev pub holes_after : ℕ → ℕ → List Interval → List Interval
 holes_after pages zero holes = holes
 holes_after pages (suc n) holes = holes_after pages n (taken pages holes)
+
+-- so many buffers have room side by side in the first hole that is not too small for one
+abbrev pub FitsInFirst : ℕ → ℕ → List Interval → Type 0
+FitsInFirst pages n holes = (d : Interval) → n * pages ≤ (get_or holes (prefix_len (too_small pages) holes) d).pages
 
 -- the holes that a search from the first looks at, buffer by buffer
 abbrev pub looks_in : ℕ → ℕ → List Interval → ℕ

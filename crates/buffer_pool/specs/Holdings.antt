@@ -1,5 +1,5 @@
 -- What callers see of a pool, and what placing and giving back make of it.
-use Rattle.std.specs.Prelude.{◌≡◌, ℕ, zero, suc, ◌+◌, ◌*◌, ◌<◌, ◌≤◌, nat_lt, nat_le, Bool, false, not, ◌&&◌, ◌==◌, List, [], ◌∷◌, if◌then◌else◌, IsTrue, All, AllPairs, Contains, length}
+use Rattle.std.specs.Prelude.{◌≡◌, ℕ, zero, suc, ◌+◌, ◌*◌, ◌<◌, ◌≤◌, ◌⊎◌, ⊤, nat_lt, nat_le, Bool, false, not, ◌&&◌, ◌==◌, List, [], ◌∷◌, if◌then◌else◌, IsTrue, All, AllPairs, Contains, length}
 use Rattle.std.specs.List.{filter, sum_by}
 use Rattle.sm_names.specs.declared.rules.TheConstants.{MAX_PAGES}
 use Rattle.sm_names.specs.declared.keys.Interval.{Interval}
@@ -45,6 +45,16 @@ without start held = filter (λ i. not (i.start == start)) held
 abbrev pub in_run : ℕ → ℕ → ℕ → Interval
 in_run start pages n = record { start = start + n * pages; pages = pages }
 
+-- so many intervals of as many pages that lie side by side from this page on
+abbrev pub run_of : ℕ → ℕ → ℕ → List Interval
+run_of start pages zero = []
+run_of start pages (suc n) = record { start = start; pages = pages } ∷ run_of (start + pages) pages n
+
+-- none of the intervals begins at one page or behind it and before another
+abbrev pub IsClear : ℕ → ℕ → List Interval → Type 0
+IsClear from to [] = ⊤
+IsClear from to (i ∷ is) = ((i.start < from) ⊎ (to ≤ i.start)) × IsClear from to is
+
 -- so many intervals of as many pages are held that lie side by side from this page on
 abbrev pub HasRun : ℕ → ℕ → ℕ → List Interval → Type 0
 HasRun start pages count held = (n : ℕ) → n < count → Contains held (in_run start pages n)
@@ -61,3 +71,9 @@ pub record IsPoolSound (size free : ℕ) (holes held : List Interval) (capacity 
   pub holes_are : holes ≡ holes_of size held
   pub free_are : free + total_pages held ≡ size
   pub has_capacity : length held ≤ capacity
+
+-- these are the holes of a pool of so many pages in which these are held
+pub record AreGaps (size : ℕ) (holes held : List Interval) : Type 0 where
+  pub sized : size ≤ MAX_PAGES
+  pub in_order : IsTrue (in_order 0 size held)
+  pub holes_are : holes ≡ holes_of size held

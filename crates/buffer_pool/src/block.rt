@@ -1,8 +1,10 @@
 //! A block of intervals: a short list, which a change does not copy.
-ghost use Rattle.std.specs.Prelude.{◌≡◌, false, ◌+◌, ◌-◌, ◌<◌, ◌≤◌, [], ◌++◌, length, take, drop, set, slice_index_or, nat_lt, IfOk};
-ghost use Rattle.std.specs.List.{insert, remove_range, prefix_len};
+ghost use Rattle.std.specs.Prelude.{List, ◌≡◌, false, ◌+◌, ◌-◌, ◌*◌, ◌<◌, ◌≤◌, ◌^◌, [], ◌++◌, length, take, drop, set, slice_index_or, nat_lt, vec_capacity, IfOk};
+ghost use Rattle.std.specs.List.{insert, insert_slice, remove_range, prefix_len};
 ghost use Rattle.std.specs.List.Sorted.{IsNonDecreasingBy};
+ghost use Rattle.sm_names.specs.declared.keys.Interval.{Interval};
 ghost use Rattle.buffer_pool.specs.Fitting.{too_small, AreSmall, rooms};
+ghost use Rattle.buffer_pool.specs.Holdings.{run_of};
 ghost use Rattle.buffer_pool.specs.Rows.{edge_of};
 
 use sm_names::Interval;
@@ -86,6 +88,18 @@ impl Block {
     {
         self.greatest = self.greatest.max(new.pages);
         self.cells.insert(at, new).unwrap();
+    }
+
+    /// Puts so many intervals of as many pages in before the one at this place, side by side, of which
+    /// this is the first. Those behind the place move once.
+    pub(crate) fn insert_run(&mut self, at: usize, first: Interval, count: usize)
+        requires within { at ≤ length self.old }
+        requires room { length self.old + count ≤ FULL }
+        requires fits { first.start + count * first.pages < 2 ^ 32 }
+        ensures { self.new ≡ insert_slice self.old at (run_of first.start first.pages count) }
+    {
+        self.greatest = self.greatest.max(first.pages);
+        put_run(&mut self.cells, at, first, count);
     }
 
     /// Takes so many intervals from this place on out.
@@ -180,6 +194,47 @@ impl Block {
             left = left.saturating_sub(self.cells[at].pages / pages_each);
         }
         left
+    }
+}
+
+// Puts so many intervals of as many pages in before the one at this place, side by side, of which this is
+// the first. There is room for them.
+fn put_run(cells: &mut Vec<Interval>, at: usize, first: Interval, count: usize)
+    requires within { at ≤ length cells.old.items }
+    requires room { length cells.old.items + count ≤ vec_capacity cells.old }
+    requires fits { first.start + count * first.pages < 2 ^ 32 }
+    ensures items { cells.new.items
+        ≡ insert_slice cells.old.items at (run_of first.start first.pages count) }
+    ensures capacity { vec_capacity cells.new ≡ vec_capacity cells.old }
+{
+    push_run(cells, first, count);
+    move_last(cells, at, count);
+}
+
+// Moves the last so many intervals before the one at this place.
+fn move_last(cells: &mut Vec<Interval>, at: usize, count: usize)
+    requires { at + count ≤ length cells.old.items }
+    ensures items { (front last : List Interval) → cells.old.items ≡ front ++ last →
+        length last ≡ count → cells.new.items ≡ insert_slice front at last }
+    ensures capacity { vec_capacity cells.new ≡ vec_capacity cells.old }
+{
+    cells[at..].rotate_right(count);
+}
+
+// Pushes so many intervals of as many pages, side by side, of which this is the first.
+fn push_run(cells: &mut Vec<Interval>, first: Interval, count: usize)
+    requires room { length cells.old.items + count ≤ vec_capacity cells.old }
+    requires fits { first.start + count * first.pages < 2 ^ 32 }
+    ensures items { cells.new.items
+        ≡ cells.old.items ++ run_of first.start first.pages count }
+    ensures capacity { vec_capacity cells.new ≡ vec_capacity cells.old }
+{
+    let mut next = first;
+    let mut left = count;
+    while left > 0 {
+        cells.push_reserved(next);
+        next.start += next.pages;
+        left -= 1;
     }
 }
 

@@ -1,9 +1,10 @@
 //! Intervals in blocks, so that a change moves no more than a block of them.
 ghost use Rattle.std.specs.Prelude.{◌≡◌, true, false, ◌+◌, ◌-◌, ◌*◌, ◌++◌, ◌∷◌, [], ◌<◌, ◌≤◌, ◌^◌, length, take, drop, set, get_or, slice_index_or, nat_lt, nat_le, All, IfOk, OnOk};
-ghost use Rattle.std.specs.List.{insert, remove, remove_range, prefix_len};
+ghost use Rattle.std.specs.List.{insert, insert_slice, remove, remove_range, prefix_len};
 ghost use Rattle.std.specs.List.Sorted.{IsNonDecreasingBy};
 ghost use Rattle.sm_names.specs.declared.keys.Interval.{Interval};
 ghost use Rattle.buffer_pool.specs.Fitting.{too_small, rooms};
+ghost use Rattle.buffer_pool.specs.Holdings.{run_of};
 ghost use Rattle.buffer_pool.specs.Rows.{capacity_of, all_in, spot_index, HasIntervalAt, IsInsertSpot, IsNextOrEnd, IsChanged, IsPassed, edge_of};
 
 use crate::block::{Block, FULL, HALF, edge, next_guess, place_to_look};
@@ -196,6 +197,30 @@ impl Blocks {
         }
     }
 
+    /// Puts intervals of as many pages in before a spot, side by side, of which this is the first: at
+    /// most so many, and no more than there is room for in one block. Answers how many.
+    pub(crate) fn insert_run(&mut self, spot: Spot, first: Interval, most: usize) -> usize
+        requires within { IsInsertSpot self.old.lists spot }
+        requires spare { 0 < self.old.spares }
+        requires some { 1 ≤ most }
+        requires fits { first.start + most * first.pages < 2 ^ 32 }
+        ensures count { (1 ≤ result) × (result ≤ most) }
+        ensures items { all_in self.new.lists
+            ≡ insert_slice (all_in self.old.lists) (spot_index self.old.lists spot)
+            (run_of first.start first.pages result) }
+        ensures capacity { capacity_of self.new ≡ capacity_of self.old }
+    {
+        if most > 1 {
+            let count = most.min(self.room_at(spot.block));
+            if count > 0 {
+                self.put_run(spot, first, count);
+                return count;
+            }
+        }
+        self.insert(spot, first);
+        1
+    }
+
     /// Takes the interval at a spot out.
     pub(crate) fn remove(&mut self, spot: Spot)
         requires { HasIntervalAt self.old.lists spot }
@@ -238,6 +263,37 @@ impl Blocks {
         self.near = Spot {
             block: spot.block,
             offset: spot.offset + 1,
+        };
+    }
+
+    // How many more intervals the block at this place can have, if there is one.
+    fn room_at(&self, at: usize) -> usize
+        ensures there { 0 < result → at < length self.now.lists }
+        ensures room { 0 < result →
+            length (get_or self.now.lists at []) + result ≤ FULL }
+    {
+        if at < self.used.len() {
+            FULL - self.used[at].len()
+        } else {
+            0
+        }
+    }
+
+    // Puts so many intervals side by side into a block that has room for them.
+    fn put_run(&mut self, spot: Spot, first: Interval, count: usize)
+        requires there { spot.block < length self.old.lists }
+        requires within { spot.offset ≤ length (get_or self.old.lists spot.block []) }
+        requires room { length (get_or self.old.lists spot.block []) + count ≤ FULL }
+        requires fits { first.start + count * first.pages < 2 ^ 32 }
+        ensures lists { self.new.lists ≡ set self.old.lists spot.block
+            (insert_slice (get_or self.old.lists spot.block []) spot.offset
+            (run_of first.start first.pages count)) }
+        ensures spares { self.new.spares ≡ self.old.spares }
+    {
+        self.used[spot.block].insert_run(spot.offset, first, count);
+        self.near = Spot {
+            block: spot.block,
+            offset: spot.offset + count,
         };
     }
 

@@ -3,7 +3,7 @@ ghost use Rattle.std.specs.Prelude.{ℕ, List, ◌≡◌, ◌+◌, ◌++◌, ◌
 ghost use Rattle.std.specs.List.{prefix_len};
 ghost use Rattle.sm_names.specs.declared.keys.Interval.{Interval};
 ghost use Rattle.buffer_pool.specs.Holes.{end_of};
-ghost use Rattle.buffer_pool.specs.Fitting.{too_small, rooms, first_fit, taken};
+ghost use Rattle.buffer_pool.specs.Fitting.{too_small, rooms, first_fit, holes_after, FitsInFirst};
 ghost use Rattle.buffer_pool.specs.Merging.{spaced, first_ends, first_begins, with_merged, with_released};
 ghost use Rattle.buffer_pool.specs.Rows.{all_in, spot_index, capacity_of, HasIntervalAt, IsInsertSpot, IsNextOrEnd, IsChanged, IsPassed};
 
@@ -42,11 +42,20 @@ impl Model for Holes {
     ghost invariant = { λ h. IsPassed h.pages h.reach h.blocks.lists };
 }
 
-/// A hole's first pages, and how many holes lie before it.
+/// Buffers side by side at the front of a hole: where the first begins, how many there are, and how many
+/// holes lie before this one.
 #[derive(Clone, Copy)]
 pub(crate) struct Taken {
     pub(crate) start: u32,
+    pub(crate) count: u32,
     pub(crate) before: usize,
+}
+
+// Where the first of buffers side by side begins, and how many there are.
+#[derive(Clone, Copy)]
+struct Front {
+    start: u32,
+    count: u32,
 }
 
 impl Holes {
@@ -86,23 +95,31 @@ impl Holes {
         self.blocks.has_rooms(found.spot, count, pages_each)
     }
 
-    /// Takes pages from the front of the first hole that is not too small.
-    pub(crate) fn take_front(&mut self, pages_each: u32) -> Taken
+    /// Takes pages from the front of the first hole that is not too small for one buffer: for as many
+    /// buffers as have room there, and at most so many.
+    pub(crate) fn take_front(&mut self, pages_each: u32, most: u32) -> Taken
         requires pages { 1 ≤ pages_each }
+        requires most { 1 ≤ most }
         requires few { length self.old.items ≤ MAX_PAGES }
         requires some { prefix_len (too_small pages_each) self.old.items < length self.old.items }
         requires fits { All (λ h. end_of h < 2 ^ 32) self.old.items }
         ensures start { result.start ≡ first_fit pages_each self.old.items }
         ensures before { result.before ≡ prefix_len (too_small pages_each) self.old.items }
-        ensures items { self.new.items ≡ taken pages_each self.old.items }
+        ensures count { (1 ≤ result.count) × (result.count ≤ most) }
+        ensures in_first { FitsInFirst pages_each result.count self.old.items }
+        ensures items { self.new.items ≡ holes_after pages_each result.count self.old.items }
         ensures capacity { self.new.capacity ≡ self.old.capacity }
     {
         let found = seek(&mut self.blocks, self.pages, self.reach, pages_each);
         self.pages = pages_each;
         self.reach = found;
-        let start = shorten(&mut self.blocks, found.spot, pages_each);
+        let front = shorten(&mut self.blocks, found.spot, pages_each, most);
         let before = found.before + found.spot.offset;
-        Taken { start, before }
+        Taken {
+            start: front.start,
+            count: front.count,
+            before,
+        }
     }
 
     /// Puts pages back that nobody holds, as one hole with those that they touch.
@@ -178,28 +195,38 @@ fn lowered(reach: Reach, spot: Spot) -> Reach
     }
 }
 
-// Takes pages from the front of the first hole that is not too small, and gives their start.
-fn shorten(blocks: &mut Blocks, spot: Spot, pages_each: u32) -> u32
+// Takes pages from the front of the first hole that is not too small for one buffer, for as many as have
+// room there and at most so many.
+fn shorten(blocks: &mut Blocks, spot: Spot, pages_each: u32, most: u32) -> Front
+    requires pages { 1 ≤ pages_each }
+    requires most { 1 ≤ most }
     requires first { spot_index blocks.old.lists spot
         ≡ prefix_len (too_small pages_each) (all_in blocks.old.lists) }
     requires some { HasIntervalAt blocks.old.lists spot }
     requires fits { All (λ h. end_of h < 2 ^ 32) (all_in blocks.old.lists) }
-    ensures start { result ≡ first_fit pages_each (all_in blocks.old.lists) }
+    ensures start { result.start ≡ first_fit pages_each (all_in blocks.old.lists) }
+    ensures count { (1 ≤ result.count) × (result.count ≤ most) }
+    ensures in_first { FitsInFirst pages_each result.count (all_in blocks.old.lists) }
     ensures changed { IsChanged blocks.old blocks.new spot
-        (taken pages_each (all_in blocks.old.lists)) }
+        (holes_after pages_each result.count (all_in blocks.old.lists)) }
     ensures within { IsInsertSpot blocks.new.lists spot }
 {
     let hole = blocks.get(spot);
-    if hole.pages == pages_each {
+    let count = most.min(hole.pages / pages_each);
+    let pages = count * pages_each;
+    if hole.pages == pages {
         blocks.remove(spot);
     } else {
         let rest = Interval {
-            start: hole.start + pages_each,
-            pages: hole.pages - pages_each,
+            start: hole.start + pages,
+            pages: hole.pages - pages,
         };
         blocks.set(spot, rest);
     }
-    hole.start
+    Front {
+        start: hole.start,
+        count,
+    }
 }
 
 // Whether there is a hole at this spot that ends at this page.

@@ -1,15 +1,13 @@
 //! The pool.
-ghost use Rattle.std.specs.Prelude.{◌≡◌, ◌+◌, ◌<◌, ◌≤◌, ◌↔◌, [], length, vec_capacity, ◌^◌, IfOk, OnErr, OnOk, None, Err, All, Contains};
-ghost use Rattle.std.specs.List.Sorted.{IsNonDecreasingBy};
+ghost use Rattle.std.specs.Prelude.{ℕ, ◌≡◌, ◌+◌, ◌*◌, ◌<◌, ◌≤◌, ◌++◌, ◌↔◌, [], length, vec_capacity, ◌^◌, IfOk, OnErr, OnOk, None, Err, Contains};
 ghost use Rattle.sm_names.specs.Pages.{places};
-ghost use Rattle.buffer_pool.specs.Fitting.{rooms, starts_in, holes_after, looks_in};
-ghost use Rattle.buffer_pool.specs.Holdings.{HasRun, IsSound, total_pages, with_buffers, without, without_run};
-ghost use Rattle.buffer_pool.specs.Holes.{end_of};
+ghost use Rattle.buffer_pool.specs.Fitting.{rooms, starts_in, holes_after, looks_in, run_starts};
+ghost use Rattle.buffer_pool.specs.Holdings.{AreGaps, HasRun, IsSound, total_pages, with_buffers, without, without_run};
 ghost use Rattle.buffer_pool.specs.Placing.{PlacesBuffers};
 ghost use Rattle.buffer_pool.specs.Rows.{all_in, capacity_of};
 
 use crate::blocks::Blocks;
-use crate::holding::{hold, let_go};
+use crate::holding::{hold_run, let_go};
 use crate::holes::Holes;
 use crate::placement::{Placed, PoolFault};
 use sm_names::{Interval, MAX_PAGES, NoMemory};
@@ -73,10 +71,12 @@ impl Pool {
     /// The holes and the held intervals lie in blocks of at most 128. It costs two walks over the
     /// blocks of holes, from where the last search ended if that was for as many pages or fewer and
     /// no pages came back before, up to the last start, or to the end where the pool is full: a block
-    /// whose greatest hole is too small is passed at once. For each buffer it costs two looks at the
-    /// held intervals where it lies next to the one before, and else two binary searches, one among
-    /// the blocks and one in a block. A change moves at most a block; where a block becomes full or
-    /// empty, also the part of the list of blocks behind it.
+    /// whose greatest hole is too small is passed at once. The buffers that lie in one hole leave it and
+    /// are held together: for each hole, and for each further block that they come into, it costs two
+    /// looks at the held intervals where they lie next to those before, and else two binary searches,
+    /// one among the blocks and one in a block, and a move of at most a block; where a block becomes
+    /// full or empty, also of the part of the list of blocks behind it. Each buffer costs a constant
+    /// besides.
     pub fn place(&mut self, count: u32, pages_each: u32) -> Result<Placed, PoolFault>
         requires { (1 ≤ count) × (1 ≤ pages_each) }
 
@@ -194,7 +194,8 @@ fn reserve(
 }
 
 // Places buffers that all have room, and counts the looks. As the buffers are of one size, a hole
-// that was too small for one is too small for those after it, so the search continues where it was.
+// that was too small for one is too small for those after it, so the search goes on where it was, and
+// those that have room in one hole lie side by side there.
 fn fill(
     holes: &mut Holes,
     held: &mut Blocks,
@@ -204,9 +205,7 @@ fn fill(
 ) -> Placed
     requires pages { 1 ≤ pages_each }
     requires rooms { count ≤ rooms pages_each holes.old.items }
-    requires fits { All (λ h. end_of h < 2 ^ 32) holes.old.items }
-    requires few { length holes.old.items ≤ MAX_PAGES }
-    requires up { IsNonDecreasingBy (λ i. i.start) (all_in held.old.lists) }
+    requires gaps { (size : ℕ) × AreGaps size holes.old.items (all_in held.old.lists) }
     requires held_room { length (all_in held.old.lists) + count ≤ capacity_of held.old }
     requires empty { starts.items ≡ [] }
     requires starts_room { count ≤ vec_capacity starts }
@@ -221,15 +220,32 @@ fn fill(
     let mut looks = 0;
     let mut left = count;
     while left > 0 {
-        let taken = holes.take_front(pages_each);
-        looks += taken.before as u64 + 1;
-        let new = Interval {
+        let taken = holes.take_front(pages_each, left);
+        let first = Interval {
             start: taken.start,
             pages: pages_each,
         };
-        hold(held, new);
-        starts.push(taken.start).unwrap();
-        left -= 1;
+        hold_run(held, first, taken.count);
+        push_starts(&mut starts, first, taken.count);
+        looks += taken.count as u64 * (taken.before as u64 + 1);
+        left -= taken.count;
     }
     Placed { starts, looks }
+}
+
+// Pushes the starts of so many buffers of as many pages, side by side, of which this is the first.
+fn push_starts(starts: &mut Vec<u32>, first: Interval, count: u32)
+    requires room { length starts.old.items + count ≤ vec_capacity starts.old }
+    requires fits { first.start + count * first.pages < 2 ^ 32 }
+    ensures items { starts.new.items
+        ≡ starts.old.items ++ run_starts first.start first.pages count }
+    ensures capacity { vec_capacity starts.new ≡ vec_capacity starts.old }
+{
+    let mut next = first.start;
+    let mut left = count;
+    while left > 0 {
+        starts.push_reserved(next);
+        next += first.pages;
+        left -= 1;
+    }
 }

@@ -1,4 +1,4 @@
-use Rattle.std.proofs.Common.{◌≡◌, ◌+◌, ◌∙◌, ap, subst, sym, unwrap_or, is_some, if◌then◌else◌, length, None, Some, IsOk, arith}
+use Rattle.std.proofs.Common.{◌≡◌, ◌+◌, ap, subst, sym, unwrap_or, is_some, if◌then◌else◌, length, None, Some, IsOk, arith}
 use Rattle.std.specs.HashMap.{Updates, get}
 use Rattle.indexmap.specs.IndexMap.{insert_entry}
 use Rattle.buffer_holds.specs.Kinds.{same_hold}

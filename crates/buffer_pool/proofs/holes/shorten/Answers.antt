@@ -1,73 +1,107 @@
--- The hole is the first that is not too small.
-use Rattle.std.proofs.Common.{◌∙◌, ◌<◌, ◌≤◌, ◌+◌, ◌-◌, arith, rules, sym, subst, ap, length, get_or, set, [], List, length-set}
+-- The hole is the first that is not too small, and they lie at its front.
+use Rattle.std.proofs.Common.{ℕ, ◌∙◌, ◌<◌, ◌≤◌, ◌+◌, ◌-◌, ◌*◌, arith, rules, sym, subst, ap, length, get_or, set, [], List, length-set}
+use Rattle.std.proofs.lemmas.List.{get_or_default}
 use Rattle.sm_names.specs.declared.keys.Interval.{Interval}
+use Rattle.buffer_pool.specs.Fitting.{FitsInFirst}
 use Rattle.buffer_pool.specs.Holes.{end_of}
 use Rattle.buffer_pool.specs.Rows.{all_in, spot_index}
-use Rattle.buffer_pool.proofs.Fits.{IsFirstFit, fit_is, taken_whole, taken_part}
+use Rattle.buffer_pool.proofs.Fits.{IsFirstFit, fit_is}
+use Rattle.buffer_pool.proofs.TakenRuns.{IsFirstRun, first_run_is, pages-fit, room_for_one, shortened_whole, shortened_part}
 use Rattle.buffer_pool.proofs.Joins.{place-within, same-size}
 use Rattle.buffer_pool.proofs.holes.shorten.Goals as goal
-use Rattle.buffer_pool.proofs.holes.shorten.Goals.{After-get-hole}
+use Rattle.buffer_pool.proofs.holes.shorten.Goals.{After-get-hole, After-min-count}
 
 some : (c : After-get-hole) → spot_index c.args.blocks.now.lists c.args.spot < length (all_in c.args.blocks.now.lists)
 some c = place-within c.args.blocks.now.lists c.args.spot.block c.args.spot.offset c.requires.some.0 c.requires.some.1
 
 -- the hole at the place
-the_fit : (c : After-get-hole) → IsFirstFit c.args.pages_each (all_in c.args.blocks.now.lists) (spot_index c.args.blocks.now.lists
-    c.args.spot)
-    c.get-hole.result
+the_fit : (c : After-get-hole) → IsFirstFit c.args.pages_each (all_in c.args.blocks.now.lists) c.get-hole.result
 the_fit c = fit_is c.args.pages_each (all_in c.args.blocks.now.lists) (spot_index c.args.blocks.now.lists c.args.spot) c.get-hole.result
     c.requires.first (some c) c.get-hole.ensures
 
+small : (c : After-get-hole) → end_of c.get-hole.result < 4294967296
+small c = subst (λ (h : Interval). end_of h < 4294967296) (sym c.get-hole.ensures)
+    (c.requires.fits (spot_index c.args.blocks.now.lists c.args.spot) c.get-hole.result (some c))
+
+-- how many have room in it
+count : (c : After-min-count) → (1 ≤ c.min-count.result) × (c.min-count.result ≤ c.args.most)
+    × (c.min-count.result * c.args.pages_each ≤ c.get-hole.result.pages)
+count c =
+    let m = (goal.at.After-min-count c).After-get-hole in
+    let one = room_for_one c.args.pages_each c.get-hole.result.pages c.requires.pages (the_fit m).has_pages in
+    (omega arith, omega arith, pages-fit c.min-count.result c.args.pages_each c.get-hole.result.pages (omega arith))
+
+the_run : (c : After-min-count) → IsFirstRun c.args.pages_each c.min-count.result (all_in c.args.blocks.now.lists)
+    (spot_index c.args.blocks.now.lists c.args.spot) c.get-hole.result
+the_run c =
+    let m = (goal.at.After-min-count c).After-get-hole in
+    first_run_is c.args.pages_each c.min-count.result (all_in c.args.blocks.now.lists)
+    (spot_index c.args.blocks.now.lists c.args.spot) c.get-hole.result c.requires.pages (count c).0 c.requires.first (some m)
+    c.get-hole.ensures (count c).2
+
+in_first : (c : After-min-count) → FitsInFirst c.args.pages_each c.min-count.result (all_in c.args.blocks.now.lists)
+in_first c d =
+    let m = (goal.at.After-min-count c).After-get-hole in
+    let all : List Interval = all_in c.args.blocks.now.lists in
+    let at = spot_index c.args.blocks.now.lists c.args.spot in
+    let there = c.get-hole.ensures ∙ get_or_default all at c.get-hole.result d (some m) ∙ ap (λ k. get_or all k d) c.requires.first in
+    subst (λ (h : Interval). c.min-count.result * c.args.pages_each ≤ h.pages) there (count c).2
+
+pub overflow_mul-pages : goal.overflow_mul-pages
+overflow_mul-pages c = let k = count (goal.at.overflow_mul-pages c).After-min-count in omega (arith, k.2)
+
 pub overflow_add-rest : goal.overflow_add-rest
 overflow_add-rest c =
-    let m = (goal.at.overflow_add-rest c).After-get-hole in
-    let f = the_fit m in
-    let small : end_of c.get-hole.result < 4294967296 =
-    subst (λ (h : Interval). end_of h < 4294967296) (sym c.get-hole.ensures) (c.requires.fits (spot_index c.args.blocks.now.lists c.args.spot)
-    c.get-hole.result (some m)) in
-    let has : c.args.pages_each ≤ c.get-hole.result.pages = f.has_pages in
+    let k = count (goal.at.overflow_add-rest c).After-min-count in
+    let s = small (goal.at.overflow_add-rest c).After-get-hole in
+    let has : c.min-count.result * c.args.pages_each ≤ c.get-hole.result.pages = k.2 in
     search rules
 
 pub overflow_sub-rest : goal.overflow_sub-rest
-overflow_sub-rest c = (the_fit (goal.at.overflow_sub-rest c).After-get-hole).has_pages
+overflow_sub-rest c = (count (goal.at.overflow_sub-rest c).After-min-count).2
 
-pub returns-then-hole-pages_each-clause-start : goal.returns-then-hole-pages_each-clause-start
-returns-then-hole-pages_each-clause-start c = sym (the_fit (goal.at.returns-then-hole-pages_each-clause-start c).After-get-hole).start
-
-pub returns-then-hole-pages_each-clause-changed : goal.returns-then-hole-pages_each-clause-changed
-returns-then-hole-pages_each-clause-changed c =
+pub returns-then-hole-pages : goal.returns-then-hole-pages
+returns-then-hole-pages c =
+    let m = (goal.at.returns-then-hole-pages c).After-min-count in
+    let k = count m in
     record {
-      items_are = c.remove.ensures.changed.items_are
-          ∙ taken_whole c.args.pages_each (all_in c.args.blocks.now.lists) (spot_index c.args.blocks.now.lists c.args.spot) c.get-hole.result
-          (the_fit (goal.at.returns-then-hole-pages_each-clause-changed c).After-get-hole) c.if-hole-pages_each.true;
-      front = c.remove.ensures.changed.front;
-      capacity = c.remove.ensures.changed.capacity;
+      start = sym (the_fit (goal.at.After-min-count m).After-get-hole).start;
+      count = (k.0, k.1);
+      in_first = in_first m;
+      changed = record {
+        items_are = c.remove.ensures.changed.items_are
+            ∙ shortened_whole (c.min-count.result * c.args.pages_each) (all_in c.args.blocks.now.lists)
+            (spot_index c.args.blocks.now.lists c.args.spot) c.get-hole.result c.if-hole-pages.true
+            ∙ sym (the_run m).holes;
+        front = c.remove.ensures.changed.front;
+        capacity = c.remove.ensures.changed.capacity;
+      };
+      within = c.remove.ensures.within;
     }
 
-pub returns-else-hole-pages_each-clause-start : goal.returns-else-hole-pages_each-clause-start
-returns-else-hole-pages_each-clause-start c = sym (the_fit (goal.at.returns-else-hole-pages_each-clause-start c).After-get-hole).start
-
-pub returns-else-hole-pages_each-clause-changed : goal.returns-else-hole-pages_each-clause-changed
-returns-else-hole-pages_each-clause-changed c =
-    let m = (goal.at.returns-else-hole-pages_each-clause-changed c).After-get-hole in
-    record {
-      items_are = c.set.ensures.changed.items_are
-          ∙ taken_part c.args.pages_each (all_in c.args.blocks.now.lists) (spot_index c.args.blocks.now.lists c.args.spot) c.get-hole.result
-          (the_fit m) c.if-hole-pages_each.false (some m);
-      front = c.set.ensures.changed.front;
-      capacity = c.set.ensures.changed.capacity;
-    }
-
-pub returns-else-hole-pages_each-clause-within : goal.returns-else-hole-pages_each-clause-within
-returns-else-hole-pages_each-clause-within c =
+pub returns-else-hole-pages : goal.returns-else-hole-pages
+returns-else-hole-pages c =
+    let m = (goal.at.returns-else-hole-pages c).After-min-count in
+    let h = (goal.at.After-min-count m).After-get-hole in
+    let k = count m in
     let B : List Interval = get_or c.args.blocks.now.lists c.args.spot.block [] in
-    let rest : Interval = record {
-      start = c.get-hole.result.start + c.args.pages_each;
-      pages = c.get-hole.result.pages -
-          c.args.pages_each;
-    } in
+    let all : ℕ = c.min-count.result * c.args.pages_each in
+    let rest : Interval = record { start = c.get-hole.result.start + all; pages = c.get-hole.result.pages - all } in
     let many = ap length c.set.ensures.lists ∙ length-set c.args.blocks.now.lists c.args.spot.block (set B c.args.spot.offset rest) in
     let size = ap (λ (L : List (List Interval)). length (get_or L c.args.spot.block [])) c.set.ensures.lists
     ∙ same-size c.args.blocks.now.lists c.args.spot.block c.args.spot.block (set B c.args.spot.offset rest) (length-set B
     c.args.spot.offset rest) in
-    (omega (arith, many, c.requires.some.0), omega (arith, size, c.requires.some.1))
+    record {
+      start = sym (the_fit h).start;
+      count = (k.0, k.1);
+      in_first = in_first m;
+      changed = record {
+        items_are = c.set.ensures.changed.items_are
+            ∙ shortened_part all (all_in c.args.blocks.now.lists) (spot_index c.args.blocks.now.lists c.args.spot) c.get-hole.result
+            c.if-hole-pages.false (some h)
+            ∙ sym (the_run m).holes;
+        front = c.set.ensures.changed.front;
+        capacity = c.set.ensures.changed.capacity;
+      };
+      within = (omega (arith, many, c.requires.some.0), omega (arith, size, c.requires.some.1));
+    }

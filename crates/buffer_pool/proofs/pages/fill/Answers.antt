@@ -1,38 +1,106 @@
--- Some hole is long enough while a buffer is left.
-use Rattle.std.proofs.Common.{◌≡◌, ◌+◌, ◌-◌, ◌≤◌, arith, rules, suc}
+-- Some hole is long enough while a buffer is left, and nothing begins in it.
+use Rattle.std.proofs.Common.{◌+◌, ◌*◌, ◌≤◌, arith, rules, refl}
 use Rattle.sm_names.specs.declared.rules.TheConstants.{MAX_PAGES}
-use Rattle.buffer_pool.proofs.Filling.{filling_more, filling_some}
+use Rattle.buffer_pool.specs.Rows.{all_in}
+use Rattle.buffer_pool.proofs.Filling.{IsNextRun, filling_next, filling_some, lists_of, next_run}
 use Rattle.buffer_pool.proofs.pages.fill.Goals as goal
+use Rattle.buffer_pool.proofs.pages.fill.Goals.{After-take_front-taken}
+
+pub loop-left-init : goal.loop-left-init
+loop-left-init c = (
+  c.requires.gaps.0,
+  record {
+    has_rooms = c.requires.rooms;
+    starts_are = rw c.requires.empty refl;
+    looks_are = omega arith;
+    holes_are = refl;
+    held_are = refl;
+    gaps = c.requires.gaps.1;
+    looks_fit = omega arith;
+    starts_room = rw c.requires.empty (omega (arith, c.requires.starts_room));
+    held_room = c.requires.held_room;
+    same_capacity = refl;
+  },
+)
+
+pub take_front-taken-requires-clause-few : goal.take_front-taken-requires-clause-few
+take_front-taken-requires-clause-few c =
+    (lists_of c.loop-left.invariant.0 c.loop-left.holes.items (all_in c.loop-left.held.lists) c.loop-left.invariant.1.gaps).few
+
+pub take_front-taken-requires-clause-fits : goal.take_front-taken-requires-clause-fits
+take_front-taken-requires-clause-fits c =
+    (lists_of c.loop-left.invariant.0 c.loop-left.holes.items (all_in c.loop-left.held.lists) c.loop-left.invariant.1.gaps).fits
 
 pub take_front-taken-requires-clause-some : goal.take_front-taken-requires-clause-some
 take_front-taken-requires-clause-some c =
-    (filling_some c.args.pages_each c.args.count c.loop-left.left _ _ _ _ _ _ _ _ _ _ c.requires.pages c.loop-left-test.true
-    c.loop-left.invariant).0
+    filling_some c.loop-left.invariant.0 c.args.pages_each c.args.count c.loop-left.left _ _ _ _ _ _ _ _ _ _ c.requires.pages
+    c.loop-left-test.true c.loop-left.invariant.1
+
+-- the buffers in the hole
+next : (c : After-take_front-taken) → IsNextRun c.args.pages_each c.take_front-taken.result.count c.take_front-taken.result.start
+    c.take_front-taken.result.before c.loop-left.holes.items (all_in c.loop-left.held.lists)
+next c =
+    let some = filling_some c.loop-left.invariant.0 c.args.pages_each c.args.count c.loop-left.left _ _ _ _ _ _ _ _ _ _ c.requires.pages
+    c.loop-left-test.true c.loop-left.invariant.1 in
+    next_run c.loop-left.invariant.0 c.args.pages_each c.take_front-taken.result.count c.take_front-taken.result.start
+    c.take_front-taken.result.before c.loop-left.holes.items (all_in c.loop-left.held.lists) c.requires.pages
+    c.take_front-taken.ensures.count.0 c.take_front-taken.ensures.start c.take_front-taken.ensures.before
+    (omega (arith, some, c.take_front-taken.ensures.before)) c.take_front-taken.ensures.in_first c.loop-left.invariant.1.gaps
+
+-- what is counted fits
+looks_fit : (c : After-take_front-taken) →
+    c.loop-left.looks + c.take_front-taken.result.count * (c.take_front-taken.result.before + 1) ≤ c.args.count * MAX_PAGES
+looks_fit c =
+    let k = filling_next c.loop-left.invariant.0 c.args.pages_each c.args.count c.loop-left.left c.take_front-taken.result.count
+    c.take_front-taken.result.start c.take_front-taken.result.before _ _ _ _ _ _ _ _ _ _ _ _ _ c.requires.pages
+    c.take_front-taken.ensures.count.1 (next c) refl refl refl c.loop-left.invariant.1 in
+    omega (arith, k.looks_fit)
 
 pub overflow_add-looks : goal.overflow_add-looks
 overflow_add-looks c =
-    let some = filling_some c.args.pages_each c.args.count c.loop-left.left _ _ _ _ _ _ _ _ _ _ c.requires.pages c.loop-left-test.true
-    c.loop-left.invariant in
-    let small : c.take_front-taken.result.before + 1 ≤ MAX_PAGES =
-    omega (arith, c.take_front-taken.ensures.before, some.0, c.loop-left.invariant.few) in
+    let m = (goal.at.overflow_add-looks c).After-take_front-taken in
+    let some = filling_some c.loop-left.invariant.0 c.args.pages_each c.args.count c.loop-left.left _ _ _ _ _ _ _ _ _ _ c.requires.pages
+    c.loop-left-test.true c.loop-left.invariant.1 in
+    let few = (lists_of c.loop-left.invariant.0 c.loop-left.holes.items (all_in c.loop-left.held.lists) c.loop-left.invariant.1.gaps).few in
+    let small : c.take_front-taken.result.before + 1 ≤ MAX_PAGES = omega (arith, c.take_front-taken.ensures.before, some) in
+    search rules
+
+pub overflow_mul-looks : goal.overflow_mul-looks
+overflow_mul-looks c =
+    let all = looks_fit (goal.at.overflow_mul-looks c).After-take_front-taken in
+    let few = c.ranges.count in
     search rules
 
 pub overflow_add-looks-in-loop-left : goal.overflow_add-looks-in-loop-left
 overflow_add-looks-in-loop-left c =
-    let some = filling_some c.args.pages_each c.args.count c.loop-left.left _ _ _ _ _ _ _ _ _ _ c.requires.pages c.loop-left-test.true
-    c.loop-left.invariant in
-    let small : c.take_front-taken.result.before + 1 ≤ MAX_PAGES =
-    omega (arith, c.take_front-taken.ensures.before, some.0, c.loop-left.invariant.few) in
+    let all = looks_fit (goal.at.overflow_add-looks-in-loop-left c).After-take_front-taken in
     let few = c.ranges.count in
-    let all = some.1 in
     search rules
+
+pub hold_run-requires : goal.hold_run-requires
+hold_run-requires c =
+    let n = next (goal.at.hold_run-requires c).After-take_front-taken in
+    let k = c.loop-left.invariant.1 in
+    record {
+      up = (lists_of c.loop-left.invariant.0 c.loop-left.holes.items (all_in c.loop-left.held.lists) k.gaps).rises;
+      some = c.requires.pages;
+      fits = n.ends;
+      clear = n.clear;
+      room = omega (arith, k.held_room, c.take_front-taken.ensures.count.1);
+    }
+
+pub push_starts-requires : goal.push_starts-requires
+push_starts-requires c =
+    let n = next (goal.at.push_starts-requires c).After-take_front-taken in
+    record { room = omega (arith, c.loop-left.invariant.1.starts_room, c.take_front-taken.ensures.count.1); fits = n.ends }
 
 pub loop-left-preserved : goal.loop-left-preserved
 loop-left-preserved c =
-    let pushed = rw c.unwrap.ensures at c.push.ensures.items in
-    let next : c.loop-left.left ≡ suc (c.loop-left.left - 1) = omega (arith, c.loop-left-test.true) in
-    rw (pushed, c.hold.ensures.items, c.take_front-taken.ensures.items, c.take_front-taken.ensures.start)
-    (filling_more c.args.pages_each c.args.count c.loop-left.left (c.loop-left.left - 1) _ _ _ _ _ _ _ _ _ _
-    c.take_front-taken.result.before _
-    _ _ c.requires.pages next c.take_front-taken.ensures.before c.push.ensures.capacity c.take_front-taken.ensures.capacity
-    (omega (arith, c.hold.ensures.capacity)) c.loop-left.invariant)
+    let n = next (goal.at.loop-left-preserved c).After-take_front-taken in (
+      c.loop-left.invariant.0,
+      rw (c.push_starts.ensures.items, c.hold_run.ensures.items, c.take_front-taken.ensures.items)
+          (filling_next c.loop-left.invariant.0 c.args.pages_each c.args.count c.loop-left.left c.take_front-taken.result.count
+          c.take_front-taken.result.start c.take_front-taken.result.before _ _ _ _ _ _ _ _ _ _ _ _ _ c.requires.pages
+          c.take_front-taken.ensures.count.1 n c.push_starts.ensures.capacity c.take_front-taken.ensures.capacity
+          c.hold_run.ensures.capacity c.loop-left.invariant.1),
+    )

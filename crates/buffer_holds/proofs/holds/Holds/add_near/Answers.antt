@@ -6,7 +6,7 @@ use Rattle.buffer_holds.specs.Rows.{Raises, row_at}
 use Rattle.indexmap.specs.IndexMap.{spare}
 use Rattle.buffer_holds.specs.Sound.{HasPlaces, CountsInvariant, no_tally, tally_at, tally_row}
 use Rattle.buffer_holds.specs.Stored.{OpensOne}
-use Rattle.buffer_holds.proofs.Most.{up_to_after}
+use Rattle.buffer_holds.proofs.Most.{newer_after, up_to_after}
 use Rattle.buffer_holds.proofs.Opening.{Step-opened}
 use Rattle.buffer_holds.proofs.Places.{places_after}
 use Rattle.buffer_holds.proofs.Outcomes.{by_outcome, at_ok, at_err, on_ok, ok-not-err}
@@ -78,6 +78,13 @@ invariant_of-self c =
             counted = c.self.invariant.2.counted;
             enough = c.open.ensures.places c.self.invariant.2.enough;
           })),
+      by_outcome c.open.result (λ ok.
+          newer_after inside.newest c.max-self-inside.result inside.tallies.entries c.open.new.tallies.entries hold.kind _ _
+          (at_ok (OpensOne inside.rows.entries rows' inside.tallies.entries c.open.new.tallies.entries hold.kind) c.open.result ok
+          c.open.ensures.tallied)
+          (omega arith) (λ later. absurd (omega arith)) c.self.invariant.3) (λ err. λ kind later.
+          ap (λ es. (tally_at es kind).total) (at_err (c.open.new.tallies.entries ≡ inside.tallies.entries) c.open.result err
+          c.open.ensures.err_tallies) ∙ c.self.invariant.3 kind (omega (arith, later))),
     )
 
 pub returns-clause-opened : goal.returns-clause-opened

@@ -2,7 +2,7 @@ use Rattle.std.proofs.Common.{◌-◌, ◌+◌, ◌<◌, refl, sym, ap, arith, S
 use Rattle.buffer_holds.specs.declared.tally.Tally.{Tally}
 use Rattle.buffer_holds.specs.Counts.{moving_count}
 use Rattle.buffer_holds.specs.Kinds.{kind_of, hold_of}
-use Rattle.buffer_holds.proofs.Most.{up_to_after}
+use Rattle.buffer_holds.proofs.Most.{newer_after, up_to_after}
 use Rattle.buffer_holds.proofs.Places.{moving-le-sent_in, places_after}
 use Rattle.buffer_holds.proofs.SoundLemmas.{moving_is, count_at-le-total, clients-le-length}
 use Rattle.buffer_holds.proofs.Steps.{Step-raised, sound_after, sets_by}
@@ -131,6 +131,8 @@ invariant_of-self c =
             c.self.invariant.2.counted,
           ))
           (c.raise.ensures.places (omega (arith, c.self.invariant.2.enough))) c.self.invariant.2,
+      newer_after inside.newest inside.newest inside.tallies.entries _ hold.kind _ (Some landed) after (omega arith)
+          (λ later. omega (arith, c.self.invariant.3 hold.kind later, ap (λ (t : Tally). t.total) kept)) c.self.invariant.3,
     )
 
 pub returns : goal.returns

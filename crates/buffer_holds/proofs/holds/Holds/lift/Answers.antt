@@ -2,7 +2,7 @@ use Rattle.std.proofs.Common.{◌-◌, ◌+◌, ◌<◌, refl, sym, ap, subst, a
 use Rattle.buffer_holds.specs.declared.tally.Tally.{Tally}
 use Rattle.buffer_holds.specs.Kinds.{hold_of, kind_of, same_hold}
 use Rattle.buffer_holds.specs.Rows.{Resets, count_at, row_at}
-use Rattle.buffer_holds.proofs.Most.{up_to_after}
+use Rattle.buffer_holds.proofs.Most.{newer_after, up_to_after}
 use Rattle.buffer_holds.proofs.Places.{places_after}
 use Rattle.buffer_holds.proofs.SoundLemmas.{one_row-some, count_at-le-total, one_row-le-clients}
 use Rattle.buffer_holds.proofs.Steps.{Step-lowered, sound_after, sets_by}
@@ -66,6 +66,8 @@ invariant_of-self-2 c =
       places_after inside.sent _ _ _ inside.tallies.entries _ hold.kind _ (Some left) after
           (omega (arith, ap (λ (t : Tally). t.moving) kept))
           (omega (arith, c.in-Ok.ensures.ok, c.if-not-lower.ensures.places)) c.self.invariant.2,
+      newer_after inside.newest inside.newest inside.tallies.entries _ hold.kind _ (Some left) after (omega arith)
+          (λ later. omega (arith, c.self.invariant.3 hold.kind later, ap (λ (t : Tally). t.total) kept)) c.self.invariant.3,
     )
 
 pub returns-clause-lifted : goal.returns-clause-lifted

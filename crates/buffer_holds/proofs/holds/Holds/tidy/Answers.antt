@@ -1,6 +1,6 @@
-use Rattle.std.proofs.Common.{refl, sym, ap, ◌+◌, arith}
+use Rattle.std.proofs.Common.{refl, arith}
 use Rattle.buffer_holds.specs.Kinds.{hold_of}
-use Rattle.buffer_holds.proofs.Most.{up_to_without}
+use Rattle.buffer_holds.proofs.Most.{newer_without, up_to_without}
 use Rattle.buffer_holds.proofs.Places.{places_after}
 use Rattle.buffer_holds.proofs.Steps.{Step-forgotten, forgotten_moving, forgotten_total, sound_after, tidies_after}
 use Rattle.buffer_holds.proofs.holds.Holds.tidy.Goals as goal
@@ -19,6 +19,7 @@ invariant_of-self c =
                 c.self.invariant.0 hold (c.if-forget.ensures.idle.0 refl) c.if-forget.ensures.forgotten c.leave.ensures,
           ))
           (omega (arith, c.self.invariant.2.enough, c.if-forget.ensures.places)) c.self.invariant.2,
+      newer_without inside.newest inside.tallies.entries c.leave.new.tallies.entries hold.kind c.leave.ensures c.self.invariant.3,
     )
 
 pub returns-then-forget : goal.returns-then-forget

@@ -6,7 +6,8 @@ use Rattle.buffer_pool.specs.Fitting.{rooms, starts_in}
 use Rattle.buffer_pool.specs.Holdings.{with_buffers}
 use Rattle.buffer_pool.specs.Rows.{BlockRows}
 use Rattle.buffer_pool.specs.Rows.{all_in}
-use Rattle.buffer_pool.proofs.Keeping.{KeepsRun, lists_of, keeps_run, places_buffers, not_full, is_full}
+use Rattle.buffer_pool.proofs.Filling.{lists_of}
+use Rattle.buffer_pool.proofs.Keeping.{KeepsRun, gaps_of, keeps_run, places_buffers, not_full, is_full}
 use Rattle.buffer_pool.proofs.Orders.{length-le}
 use Rattle.buffer_pool.proofs.Sounds.{sound_from}
 use Rattle.buffer_pool.proofs.pages.Pool.place.Goals as goal
@@ -36,20 +37,13 @@ all_fit c =
     c.self.inside.holes.capacity c.requires.1 c.self.invariant.1
     (leb-true _ _ (sym c.has_rooms.ensures.rooms ∙ c.if-not-has_rooms.false))
 
-pub fill-placed-requires-clause-fits : goal.fill-placed-requires-clause-fits
-fill-placed-requires-clause-fits c =
-    rw (c.reserve.ensures.holes, c.has_rooms.ensures.same) (lists_of c.self.inside.size c.self.inside.free c.self.inside.holes.items
-    (all_in c.self.inside.held.lists) c.self.inside.holes.capacity c.self.invariant.1).fits
-
-pub fill-placed-requires-clause-few : goal.fill-placed-requires-clause-few
-fill-placed-requires-clause-few c =
-    rw (c.reserve.ensures.holes, c.has_rooms.ensures.same) (lists_of c.self.inside.size c.self.inside.free c.self.inside.holes.items
-    (all_in c.self.inside.held.lists) c.self.inside.holes.capacity c.self.invariant.1).few
-
-pub fill-placed-requires-clause-up : goal.fill-placed-requires-clause-up
-fill-placed-requires-clause-up c =
-    rw c.reserve.ensures.held (lists_of c.self.inside.size c.self.inside.free c.self.inside.holes.items (all_in c.self.inside.held.lists)
-    c.self.inside.holes.capacity c.self.invariant.1).rises
+pub fill-placed-requires-clause-gaps : goal.fill-placed-requires-clause-gaps
+fill-placed-requires-clause-gaps c = (
+  c.self.inside.size,
+  rw (c.reserve.ensures.holes, c.has_rooms.ensures.same, c.reserve.ensures.held)
+      (gaps_of c.self.inside.size c.self.inside.free c.self.inside.holes.items (all_in c.self.inside.held.lists)
+      c.self.inside.holes.capacity c.self.invariant.1),
+)
 
 pub overflow_mul-self : goal.overflow_mul-self
 overflow_mul-self c = let small = (all_fit (goal.at.overflow_mul-self c).Else-not-has_rooms).small in search rules
@@ -59,8 +53,9 @@ overflow_sub-self c = (all_fit (goal.at.overflow_sub-self c).Else-not-has_rooms)
 
 pub has_rooms-requires-clause-few : goal.has_rooms-requires-clause-few
 has_rooms-requires-clause-few c =
-    (lists_of c.self.inside.size c.self.inside.free c.self.inside.holes.items (all_in c.self.inside.held.lists) c.self.inside.holes.capacity
-    c.self.invariant.1).few
+    (lists_of c.self.inside.size c.self.inside.holes.items (all_in c.self.inside.held.lists)
+    (gaps_of c.self.inside.size c.self.inside.free c.self.inside.holes.items (all_in c.self.inside.held.lists)
+    c.self.inside.holes.capacity c.self.invariant.1)).few
 
 pub overflow_add-self : goal.overflow_add-self
 overflow_add-self c =
