@@ -194,7 +194,7 @@ fn reserve(
 }
 
 // Places buffers that all have room, and counts the looks. As the buffers are of one size, a hole
-// that was too small for one is too small for those after it, so the search goes on where it was, and
+// that was too small for one is too small for those after it, so the search continues where it was, and
 // those that have room in one hole lie side by side there.
 fn fill(
     holes: &mut Holes,
