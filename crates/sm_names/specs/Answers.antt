@@ -121,8 +121,8 @@ set_of buffers = sum_by (λ (b : BufferName). 2 ^ b.index) buffers
 
 -- ---- the order of answers
 
--- a Join is made as client 0, and any other call by a client that joined. The receiver has joined
--- too
+-- NoSuchClient, unless a Join is made as client 0, or any other call by a client that joined and
+-- for a receiver that joined
 abbrev pub unknown_client : Readings → ℕ → Call → Option Reply
 unknown_client r client Call.Join = refused_if (not (client == 0)) Refusal.NoSuchClient
 unknown_client r client call =
@@ -131,7 +131,7 @@ unknown_client r client call =
     || option_map_or (λ to. not (r.has_joined to)) (receiver_of call) false)
     Refusal.NoSuchClient
 
--- nothing is given to a shut client, and it acquires nothing
+-- ClientShut: nothing is given to a shut client, and it acquires nothing
 abbrev pub shut_client : Readings → ℕ → Call → Option Reply
 shut_client r client call =
     refused_if
@@ -231,7 +231,7 @@ collected r (Parcel.Handle buffer strength ∷ more) = Reply.CollectedHandle buf
 collected r (Parcel.End key ∷ more) =
     option_map_or (λ e. Reply.Collected key e.kind e.collection) (r.end_of key) Reply.Empty
 
--- the reply that depends on the end with this key
+-- the reply that is made from the end with this key
 abbrev pub of_end : Readings → NodeKey → (OpenEnd → Reply) → Reply
 of_end r key answer = option_map_or answer (r.end_of key) (Reply.Refused Refusal.NoSuchEnd)
 

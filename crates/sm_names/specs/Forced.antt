@@ -85,7 +85,7 @@ is_next_head ms m =
     && (not m.gone
     && (not m.allocated && (option_map_or (is_allocated ms) m.parent false && is_ready m.key ms)))
 
--- of these heads, the unit of the one that was born first is allocated, or the head is lost
+-- of these nodes the one that was born first: its unit is allocated, or it is lost
 abbrev pub logical_allocation : Standing → Option Mark
 logical_allocation s = option_and_then
     (λ buffers. option_map

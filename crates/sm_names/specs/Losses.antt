@@ -58,7 +58,8 @@ top blocks node (parent ∷ above) =
     let on : NodeKey = top blocks parent above in
     if blocks node then node else on
 
--- a failure of the origin reaches the node: it propagates up to some node, and takes all below that
+-- a failure of the origin reaches the node: it propagates up to some node, and takes that one and
+-- all below it
 abbrev pub reaches : Timeline → NodeKey → NodeKey → Bool
 reaches marks origin node =
     is_at_or_below (births marks)

@@ -69,8 +69,8 @@ abbrev pub tracked : Timeline → List Tracked
 tracked [] = []
 tracked (mark ∷ before) = cons_option (tracked_at before mark) (tracked before)
 
--- the timelines as they were before each event, the latest first: these events and what they forced
--- had then ended
+-- the timeline as it was before each event, the latest first: all that earlier events forced has
+-- then happened
 abbrev pub earlier_moments : Timeline → List Timeline
 earlier_moments [] = []
 earlier_moments (mark ∷ before) =

@@ -56,8 +56,8 @@ pub enum Call {
     /// Makes a tracker that fires once the node is gone
     /// (`fuchsia.sysmem2.Node.AttachNodeTracking`).
     TrackNode(NodeKey),
-    /// Makes a tracker that fires once at most so many buffers of the allocated collection are not
-    /// home, or once the node is gone before its unit was allocated
+    /// Makes a tracker that fires once the node's unit is allocated and at most so many buffers of
+    /// its collection are not home, or once the node is gone and its unit was never allocated
     /// (`fuchsia.sysmem2.BufferCollection.AttachLifetimeTracking`).
     TrackLifetime(NodeKey, u32),
     /// Makes a tracker that fires once the buffer is doomed (the field `close_weak_asap` of
