@@ -55,7 +55,7 @@ module _ (pool : ℕ) (a b : Timeline) (collection : ℕ) (s : SameIn pool a b c
   names_same : buffer_names b collection ≡ buffer_names a collection
   names_same = ap (λ (o : Option Buffers). option_map_or (λ (g : Buffers). names collection g.count) o []) s.given
 
-  -- as many of them are left
+  -- as many of them are not home
   left_same : left b collection ≡ left a collection
   left_same =
       ap (count_by (λ x. not (home b x))) names_same
@@ -93,7 +93,7 @@ module _ (pool : ℕ) (a b : Timeline) (collection : ℕ) (s : SameIn pool a b c
             (In-filter-back (λ (y : Birth). y.collection == collection) (births a) x f.0 (eq-eqb x.collection collection t.2)),
       )
 
-  -- each of its nodes stands as it stood
+  -- each of its nodes is unchanged
   member_at : (x : Birth) → In x (births_in a collection) → member b x ≡ member a x
   member_at x on = map-at (member b) (member a) (births_in a collection) (ap (map (member b)) (sym s.born) ∙ s.nodes) x on
 
@@ -142,7 +142,7 @@ module _ (pool : ℕ) (a b : Timeline) (collection : ℕ) (s : SameIn pool a b c
         to_open = cond (m i).allocated (to_open i) [];
       }
 
-  -- its ends tell what they told, but for who holds them
+  -- its ends are unchanged, except who holds them
   ends_same : (node : NodeKey) → collection_in (births a) node ≡ Some collection →
       (readings b).end_of node ≡ option_map (λ (e : OpenEnd). record e { holder = holder b node; in_transit = in_transit b node })
       ((readings a).end_of node)

@@ -1,4 +1,4 @@
--- How a birth comes about: the end that a call names is there, and its collection is told.
+-- What holds at a birth: the end that the call names is there, and the reply has its collection.
 use Rattle.std.proofs.Common.{ℕ, ◌≡◌, ◌+◌, refl, ap, sym, ◌∙◌, subst, Bool, true, false, cond, not, ◌&&◌, ◌==◌, ◌⊎◌, inl, inr, List, Option, Some, None, is_some}
 use Rattle.std.specs.List.{cons_option}
 use Rattle.std.specs.Option.{option_map_or, option_map}
@@ -69,7 +69,7 @@ has_no_fault marks call key e is h =
     none_of None h = refl
     none_of (Some f) h = cc
 
--- ---- how a birth comes about
+-- ---- what holds at a birth
 
 pub record Comes (before : Timeline) (client : ℕ) (reply : Reply) (call : Call) (b : Birth) : Type 0 where
   pub told : reply ≡ Reply.Token b.node b.collection
@@ -84,7 +84,7 @@ pub record Comes (before : Timeline) (client : ℕ) (reply : Reply) (call : Call
 fresh_key : (marks : Timeline) (key : NodeKey) → is_some (birth_of marks key) ≡ false → was_born (births marks) key ≡ false
 fresh_key marks key h = sym (is_some-find (λ (b : Birth). same_key b.node key) (births marks)) ∙ h
 
--- what a call that took effect tells of the node that it names
+-- what holds of the node that a call names, if the call took effect
 pub record Named (marks : Timeline) (key : NodeKey) : Type 0 where
   pub birth : Birth
   pub there : In birth (births marks)
@@ -108,7 +108,7 @@ named limits marks client new call reply key t is =
       unfailed = has_no_fault marks call key e is t.not_gone;
     }
 
--- a child comes below a node that is there, and is told its collection
+-- the parent of a new node is there, and the reply has its collection
 child_of : (limits : Bound) (before : Timeline) (client : ℕ) (key parent : NodeKey) (collection : ℕ) (call : Call) →
     key_of call ≡ Some parent →
     TookEffect limits (readings before) client key call (Reply.Token key collection) →
@@ -121,7 +121,7 @@ child_of limits before client key parent collection call is t answered =
     let same : collection ≡ n.birth.collection = cc in
     (n.birth, n.there, ap Some (sym n.is), same, rw n.is n.unspent, rw n.is n.unfailed)
 
--- each birth comes about so
+-- this holds at each birth
 pub comes : (limits : Bound) (before : Timeline) (client event : ℕ) (reply : Reply) (call : Call) (b : Birth) →
     IsAnswer limits (readings before) client call reply → birth_at event (Called client reply call) ≡ Some b →
     Comes before client reply call b
@@ -172,7 +172,7 @@ comes limits before client event (Reply.Token key collection) (Call.AttachToken 
     })
 comes limits before client event reply call b answer h = cc
 
--- ---- what a birth leaves
+-- ---- what a birth leaves the same
 
 -- a birth changes the head of no older node
 pub head_old : (o : Option Birth) (bs : List Birth) (node : NodeKey) → was_born bs node ≡ true →

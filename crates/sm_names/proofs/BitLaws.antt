@@ -82,7 +82,7 @@ rest_of : (b : Bool) (m : ℕ) → (one b + 2 * m) % 2 ≡ one b
 rest_of true m = omega arith
 rest_of false m = omega arith
 
--- each bit tells of its number
+-- a bit is set exactly if its number passes
 bit_of : (p : ℕ → Bool) (a n j : ℕ) → bit_at (bits_from p a n) j ≡ one (nat_lt j n && p (a + j))
 bit_of p a zero j = let e : nat_lt j 0 ≡ false = none_below j in bit_at-zero j ∙ rw e refl
 bit_of p a (suc n) zero =
@@ -105,7 +105,7 @@ bit_of_set p collection n i =
     ap (λ s. bit_at s i) (scaled_bits p collection 0 n ∙ m)
     ∙ (bit_of (λ i. p (name i)) 0 n i ∙ ap (λ k. one (nat_lt i n && p (name k))) e)
 
--- the number of a truth value tells the value
+-- the number of a truth value is 1 exactly if it is true
 pub one_is : (b : Bool) → (one b == 1) ≡ b
 one_is true = refl
 one_is false = refl

@@ -85,7 +85,7 @@ module _ (limits : Bound) (before : Timeline) (client : ℕ) (key : NodeKey) (ca
   no_misuse None h = absurd (cc)
   no_misuse (Some e) h = absurd (cc)
 
-  -- so PeerClosed tells that the node is gone
+  -- so PeerClosed says that the node is gone
   peer_closed_gone : IsAnswer limits (readings before) client (Call.Release key) (Reply.PeerClosed cause origin) → gone before key ≡ true
   peer_closed_gone answer =
       let r : Readings = readings before in
@@ -125,7 +125,7 @@ module _ (limits : Bound) (before : Timeline) (client : ℕ) (key : NodeKey) (ca
 abbrev IsLeft : Timeline → NodeKey → Type 0
 IsLeft marks key = spent marks key ≡ true → (gone marks key || released marks key) ≡ true
 
--- what left stays so
+-- a node that is gone or released stays so
 left_stays : (mark : Mark) (marks : Timeline) (key : NodeKey) → (gone marks key || released marks key) ≡ true →
     (gone (mark ∷ marks) key || released (mark ∷ marks) key) ≡ true
 left_stays mark marks key h = elim (or_cases (gone marks key) (released marks key) h) [
@@ -238,7 +238,7 @@ pub spent_left : (pool : ℕ) (limits : Bound) (history : List Entry) → IsLega
     (gone (timeline pool history) key || released (timeline pool history) key) ≡ true
 spent_left pool limits history legal key = left_fold pool limits [] history key legal.answers (λ h. cc)
 
--- ---- nothing is left
+-- ---- nothing is kept
 
 -- neither gone nor released fails
 not_both : (g r : Bool) → (g || r) ≡ true → (not g && not r) ≡ false

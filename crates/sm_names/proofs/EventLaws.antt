@@ -1,4 +1,4 @@
--- An event of one collection leaves the others as they stood.
+-- An event of one collection changes nothing in the others.
 use Rattle.std.proofs.Common.{ℕ, zero, suc, ◌≡◌, ◌+◌, ◌*◌, ◌-◌, refl, ap, sym, ◌∙◌, subst, Bool, true, false, cond, not, ◌&&◌, ◌||◌, ◌==◌, ◌⊎◌, inl, inr, List, [], ◌∷◌, map, reverse, length, Option, Some, None, is_some}
 use Rattle.std.proofs.lemmas.Bool.{eqb-true}
 use Rattle.std.specs.List.{list_any, filter, cons_option}
@@ -43,7 +43,7 @@ use Rattle.sm_names.proofs.WholeLaws.{IsWhole}
 use Rattle.sm_names.proofs.BirthLaws.{HasEnd, birth_is, Comes, comes, ancestors_old, head_old}
 use Rattle.sm_names.proofs.RejectLaws.{not_refused_end}
 
--- what the end of a node tells, but for what its collection tells and who holds it
+-- what answers read of a node's end, except its collection and its holder
 pub record EndState : Type 0 where
   pub birth : Option Birth
   pub spent : Bool
@@ -65,7 +65,7 @@ end_state marks node = record {
   node_trackers = times (is_tracking node) marks;
 }
 
--- the collection stands in the later marks as it stood in the earlier
+-- the collection is the same after the later marks as after the earlier ones
 pub record SameIn (pool : ℕ) (earlier later : Timeline) (collection : ℕ) : Type 0 where
   pub born : births_in later collection ≡ births_in earlier collection
   pub nodes : members later collection ≡ members earlier collection
@@ -90,7 +90,7 @@ same_on pool a b c collection p q = record {
       q.ends node (ap (λ (e : EndState). option_map (λ (x : Birth). x.collection) e.birth) first ∙ here) ∙ first);
 }
 
--- it stands as it stands
+-- a collection is the same after the same marks
 same_here : (pool : ℕ) (a : Timeline) (collection : ℕ) → SameIn pool a a collection
 same_here pool a collection =
     record { born = refl; nodes = refl; given = refl; handles = λ buffer is strength. refl; places = refl; ends = λ node here. refl }
@@ -272,7 +272,7 @@ module _ (pool : ℕ) (limits : Bound) (before : Timeline) (client theirs : ℕ)
       e).fresh in
       rw n refl
 
-  -- so a node of theirs stands as it stood
+  -- so a node of theirs is unchanged
   member_same : (b : Birth) → In b (births before) → b.collection == theirs ≡ true → member called b ≡ member before b
   member_same b on h =
       let n : NodeKey = b.node in
@@ -306,7 +306,7 @@ module _ (pool : ℕ) (limits : Bound) (before : Timeline) (client theirs : ℕ)
         constraints = constrains i;
       }
 
-  -- and its end tells what it told
+  -- and so is its end
   end_same : (b : Birth) → In b (births before) → b.collection == theirs ≡ true → end_state called b.node ≡ end_state before b.node
   end_same b on h =
       let n : NodeKey = b.node in
@@ -381,7 +381,7 @@ module _ (pool : ℕ) (limits : Bound) (before : Timeline) (client theirs : ℕ)
           let e : (name.collection == buffer.collection) ≡ false = other name.collection refl in rw e refl
       from reply call other = refl
 
-  -- the call leaves them as they stood
+  -- the call does not change them
   same_called : SameIn pool before (Called client reply call ∷ before) theirs
   same_called = record {
     born = births_same;
@@ -475,7 +475,7 @@ module _ (pool : ℕ) (limits : Bound) (before : Timeline) (client theirs : ℕ)
       same_loss called b.collection (whole pool limits called grown) (not_theirs b.collection r.1) t.0 t.1 here in
       rw t.2 (same_on pool before called (Loss t.0 t.1 ∷ called) theirs same_called lost)
 
-  -- an event leaves each collection but its own as it stood
+  -- an event changes no collection but its own
   pub same_after : SameIn pool before (after pool before (client, call, reply)) theirs
   same_after = from (collection_of called call reply) not_theirs
     where

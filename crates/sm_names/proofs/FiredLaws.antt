@@ -1,4 +1,4 @@
--- A call that leaves what trackers look at as it was lets none of them fire.
+-- If a call changes nothing that the conditions of trackers depend on, no tracker fires.
 use Rattle.std.proofs.Common.{ℕ, ◌≡◌, ◌≤◌, ◌+◌, refl, ap, sym, ◌∙◌, Bool, true, false, cond, ◌&&◌, ◌==◌, inl, inr, List, [], ◌∷◌, ◌++◌, map, reverse, Option, Some, None, is_none, arith}
 use Rattle.std.proofs.lemmas.Bool.{eqb-true}
 use Rattle.std.proofs.lemmas.List.{reverse-append, append-nil}
@@ -71,7 +71,7 @@ fired_early marks t event h = from (last_match (fires_at t) (moments marks)) ref
           | inr there ↦ let less : events moment ≤ events marks = moment_early marks moment there in omega (arith, is, less)
         ]
 
--- where none passes, none is left
+-- if no element passes, the filtered list is empty
 filter_none : {A : Type 0} (test : A → Bool) (xs : List A) → ((x : A) → test x ≡ false) → filter test xs ≡ []
 filter_none test [] fails = refl
 filter_none test (x ∷ xs) fails = rw (fails x) (filter_none test xs fails)

@@ -1,4 +1,4 @@
--- The nodes that are gone tell the forced steps nothing.
+-- The forced steps do not depend on the nodes that are gone.
 use Rattle.std.proofs.Common.{ℕ, ◌≡◌, refl, ap, sym, ◌∙◌, Bool, true, false, cond, not, ◌&&◌, ◌||◌, inl, inr, List, [], ◌∷◌, Option, Some, None}
 use Rattle.std.specs.List.{list_any, list_all, find, filter, filter_map}
 use Rattle.std.specs.Option.{option_map_or, option_map, option_and_then}
@@ -19,7 +19,7 @@ use Rattle.sm_names.proofs.SettledLaws.{find_birth, member_birth}
 use Rattle.sm_names.specs.Words.{when}
 use Rattle.sm_names.specs.declared.outcomes.Buffers.{Buffers}
 
--- ---- lists of which some elements are left out
+-- ---- lists without some of their elements
 
 -- the first kept element to pass is the first of all to be kept and pass
 find-left : {A : Type 0} (p kept r : A → Bool) (xs : List A) → ((x : A) → In x xs → (kept x && p x) ≡ r x) →
@@ -55,7 +55,7 @@ any-asked p asked kept (x ∷ xs) less =
       | inr e ↦ elim (either_way (asked x)) [ inl f ↦ rw (e, f, less x e) on | inr f ↦ rw (e, f) on ]
     ]
 
--- where all that are left out pass, those asked for pass exactly if the kept ones of them do
+-- if each element that is not kept passes, all asked ones pass exactly if all kept asked ones do
 all-asked : {A : Type 0} (p asked kept : A → Bool) (xs : List A) → ((x : A) → kept x ≡ false → p x ≡ true) →
     list_all p (filter asked (filter kept xs)) ≡ list_all p (filter asked xs)
 all-asked p asked kept [] less = refl
@@ -66,7 +66,7 @@ all-asked p asked kept (x ∷ xs) less =
       | inr e ↦ elim (either_way (asked x)) [ inl f ↦ rw (e, f, less x e) on | inr f ↦ rw (e, f) on ]
     ]
 
--- where those left out give nothing, those asked for give the same without them
+-- if each element that is not kept maps to nothing, the asked ones give the same without these
 map-asked : {A B : Type 0} (f : A → Option B) (asked kept : A → Bool) (xs : List A) → ((x : A) → kept x ≡ false → f x ≡ None) →
     filter_map f (filter asked (filter kept xs)) ≡ filter_map f (filter asked xs)
 map-asked f asked kept [] less = refl
@@ -94,7 +94,7 @@ map-same {A = A} f g o p same is = ap (option_map f) is ∙ at p
     at None = refl
     at (Some x) = ap Some (same x)
 
--- ---- the nodes that are left
+-- ---- the nodes that are not gone
 
 -- the node is not gone
 abbrev pub is_left : Member → Bool
@@ -120,7 +120,7 @@ gone_settled m h = rw (not-false m.gone h) refl
 gone_asks_nothing : (m : Member) → is_left m ≡ false → cond m.gone None m.constraints ≡ None
 gone_asks_nothing m h = rw (not-false m.gone h) refl
 
--- so the nodes that are left tell whether some strong node is live
+-- so some strong node is live exactly if one of the nodes that are not gone is
 pub strong-left : (ms : List Member) → some_strong_live (left_of ms) ≡ some_strong_live ms
 strong-left ms = any-left (λ (m : Member). is_live m && not m.weak) is_left ms (λ m on. gone_not_strong m)
 
@@ -157,7 +157,7 @@ asked-left ms = ap (λ (o : Option Member). wanted (option_map_or (λ (root : Me
     of_root None = refl
     of_root (Some root) = rw (demands-left (λ (m : Member). same_key m.head root.key) ms) refl
 
--- no node whose parent is gone is left
+-- the parent of a node that is not gone is not gone
 abbrev pub AreClosed : List Member → Type 0
 AreClosed ms = (m n : Member) → In m ms → In n ms → m.gone ≡ false → m.parent ≡ Some n.key → n.gone ≡ false
 

@@ -34,7 +34,7 @@ pub data Grows (pool : ℕ) (limits : Bound) (start : Timeline) : Timeline → T
   Ends : (before : Timeline) (collection : ℕ) (top : NodeKey) → Grows pool limits start before →
       next_forced pool collection before ≡ Some (Ended top) → Grows pool limits start (Ended top ∷ before)
 
--- growth goes on
+-- two growths in turn are one
 pub grows_on : (pool : ℕ) (limits : Bound) (a b c : Timeline) → Grows pool limits a b → Grows pool limits b c → Grows pool limits a c
 grows_on pool limits a b _ g Stays = g
 grows_on pool limits a b _ g (Answers before client reply call h is) =
@@ -132,9 +132,9 @@ pub legal_grows : (pool : ℕ) (limits : Bound) (history : List Entry) → IsLeg
     Grows pool limits [] (timeline pool history)
 legal_grows pool limits history legal = grows_history pool limits [] [] history Stays legal.answers
 
--- ---- a history that goes on
+-- ---- a longer history
 
--- the answers of a history that goes on are those of its parts
+-- the answers of a longer history are those of its parts
 pub AreAnswers-append : (pool : ℕ) (limits : Bound) (marks : Timeline) (history more : List Entry) →
     AreAnswers pool limits marks (history ++ more) →
     AreAnswers pool limits marks history × AreAnswers pool limits (fold (after pool) marks history) more
@@ -147,7 +147,7 @@ pub record GrowsOn (pool : ℕ) (limits : Bound) (history more : List Entry) : T
   pub first : Grows pool limits [] (timeline pool history)
   pub then : Grows pool limits (timeline pool history) (timeline pool (history ++ more))
 
--- so does that of a legal history that goes on
+-- the timeline of a longer legal history grows by answers
 pub legal_grows_on : (pool : ℕ) (limits : Bound) (history more : List Entry) → IsLegal pool limits (history ++ more) →
     GrowsOn pool limits history more
 legal_grows_on pool limits history more legal =

@@ -136,7 +136,7 @@ given_root pool limits _ (Allocates before c top g e) b on root h =
 
 -- ---- what the allocation of a root unit lays out
 
--- where nothing stands against it, there is room
+-- if there is no reason against it, there is room
 room_by : (a b c d : Bool) (x y z w : Failure) → first_some (when a x ∷ when b y ∷ when c z ∷ when d w ∷ []) ≡ None → d ≡ false
 room_by true b c d x y z w h = cc
 room_by false true c d x y z w h = cc
@@ -333,7 +333,7 @@ are_held pool limits _ (Allocates before c head g e) =
     held_by pool limits before (Allocated head) g (Allocates before c head Stays e) (are_held pool limits before g)
     (allocation_lays pool limits before c g head (forced_why pool c before (Allocated head) e))
 
--- ---- what stands among the held ones
+-- ---- which buffers are among the held ones
 
 -- a collection has each of its buffers once
 names_once : (collection : ℕ) (x : BufferName) (o : Option Buffers) →
@@ -344,7 +344,7 @@ names_once collection x (Some b) =
     let n = times_below collection b.count x in
     n ∙ ap one (sym (any_one (λ b. same_buffer b x) (names collection b.count) (collection == x.collection && nat_lt x.index b.count) n))
 
--- a buffer stands among the held ones once if it was given and is not home, and else not at all
+-- a buffer is among the held ones once if it was given and is not home, and otherwise not at all
 pub times_held : (pool : ℕ) (limits : Bound) (marks : Timeline) → Grows pool limits [] marks → (x : BufferName) →
     times (λ (h : HeldBuffer). same_buffer h.buffer x) (held pool marks) ≡ one (list_any (λ b.
     same_buffer b x) (buffer_names marks x.collection) && not (home marks x))
@@ -362,7 +362,7 @@ times_held pool limits marks g x =
     both false true = refl
     both false false = refl
 
--- so it stands among them exactly if it was given and is not home
+-- so it is among them exactly if it was given and is not home
 pub stands_held : (pool : ℕ) (limits : Bound) (marks : Timeline) → Grows pool limits [] marks → (x : BufferName) →
     list_any (λ (h : HeldBuffer). same_buffer h.buffer x) (held pool marks) ≡ (list_any (λ b.
     same_buffer b x) (buffer_names marks x.collection) && not (home marks x))

@@ -1,4 +1,4 @@
--- What each mark keeps, an event keeps, and a history that goes on.
+-- A property that each mark preserves is preserved by an event and by a longer history.
 use Rattle.std.proofs.Common.{ℕ, zero, suc, ◌≡◌, ◌*◌, refl, sym, subst, false, inl, inr, List, [], ◌∷◌, ◌++◌, length, Option, Some, None}
 use Rattle.std.proofs.lemmas.List.Sums.{fold-append}
 use Rattle.std.specs.List.{fold, cons_option}
@@ -48,6 +48,6 @@ module _ (P : Timeline → Type 0) (each : (marks : Timeline) (mark : Mark) → 
       kept-fold (after pool marks entry) more (kept-after P (λ m mark _. each m mark) pool marks entry
       (each marks (Called entry.0 entry.2 entry.1) p))
 
-  -- a history that goes on
+  -- a longer history preserves it
   pub kept-on : (history more : List Entry) → P (timeline pool history) → P (timeline pool (history ++ more))
   kept-on history more p = subst P (sym (fold-append (after pool) [] history more)) (kept-fold (timeline pool history) more p)

@@ -88,9 +88,9 @@ parent_is marks w b on p up =
     let f = In-find (λ (x : Birth). same_key x.node p) bs t.0 t.1 in
     (t.0, f.0, same_key-true t.0.node p f.1, t.2)
 
--- ---- what stays so
+-- ---- what is preserved
 
--- a mark of a timeline that grows from nothing leaves it whole
+-- a timeline that grows from nothing is whole
 pub whole : (pool : ℕ) (limits : Bound) (marks : Timeline) → Grows pool limits [] marks → IsWhole marks
 whole pool limits _ Stays = whole_nothing
 whole pool limits _ (Answers before client reply call g answer) =
@@ -113,7 +113,7 @@ module _ (limits : Bound) (before : Timeline) (client : ℕ) (reply : Reply) (ca
   abbrev new : Option Birth
   new = birth_at (events before + 1) (Called client reply call)
 
-  -- how it comes about
+  -- what holds at the birth
   came : (b : Birth) → new ≡ Some b → Comes before client reply call b
   came b e = comes limits before client (events before + 1) reply call b answer e
 
@@ -206,7 +206,7 @@ pub record IsOrdered (marks : Timeline) : Type 0 where
   pub roots : (b c : Birth) → In b (births marks) → In c (births marks) → b.parent ≡ None → c.parent ≡ None → b.collection ≡ c.collection →
       b ≡ c
   pub gone_born : (k : NodeKey) → gone marks k ≡ true → was_born (births marks) k ≡ true
-  -- what goes takes all below it
+  -- a mark that takes a node takes all below it
   pub gone_down : (b : Birth) → In b (births marks) → (p : NodeKey) → b.parent ≡ Some p → gone marks p ≡ true → gone marks b.node ≡ true
   -- a node that went with no fault had its end spent
   pub ended_spent : (k : NodeKey) → gone marks k ≡ true → fault marks k ≡ None → spent marks k ≡ true

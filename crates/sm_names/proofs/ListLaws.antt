@@ -157,12 +157,12 @@ pub when-Some : {A : Type 0} (b : Bool) (x y : A) → when b x ≡ Some y → (b
 when-Some true x y h = (refl, cc)
 when-Some false x y h = cc
 
--- where none passes, none is left
+-- if no element passes, the filtered list is empty
 pub filter-none : {A : Type 0} (test : A → Bool) (xs : List A) → ((x : A) → In x xs → test x ≡ false) → filter test xs ≡ []
 filter-none test [] h = refl
 filter-none test (x ∷ xs) h = let e : test x ≡ false = h x (inl refl) in rw e (filter-none test xs (λ y on. h y (inr on)))
 
--- what all pass, all that are left pass
+-- if all elements pass, all elements of a filtered list pass
 pub list_all-filter : {A : Type 0} (test keep : A → Bool) (xs : List A) → list_all test xs ≡ true → list_all test (filter keep xs) ≡ true
 list_all-filter test keep [] all = refl
 list_all-filter test keep (x ∷ xs) all =
@@ -200,7 +200,7 @@ filter-all {A = A} test (x ∷ xs) all =
     let e : test x ≡ true = all x (inl refl) in
     rw e (ap (λ (ys : List A). x ∷ ys) (filter-all test xs (λ y on. all y (inr on))))
 
--- told by one test of all
+-- if all elements pass, filtering changes nothing
 pub filter-list_all : {A : Type 0} (test : A → Bool) (xs : List A) → list_all test xs ≡ true → filter test xs ≡ xs
 filter-list_all test [] all = refl
 filter-list_all {A = A} test (x ∷ xs) all =

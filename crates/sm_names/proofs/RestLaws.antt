@@ -68,7 +68,7 @@ none_forced pool s r = rw (r.none_ends, r.none_abandoned, from (root_left s.memb
     from None h = refl
     from (Some root) h = rw h refl
 
--- ---- a collection that stands as it stood rests as it rested
+-- ---- a collection that is unchanged is still at rest
 
 -- tests that agree on the collection's buffers
 any_same : (f g : BufferName → Bool) (collection : ℕ) (is : List ℕ) →

@@ -54,13 +54,13 @@ head_itself (c ∷ older) b sound (inr on) h =
       | inr e ↦ rw e (head_itself older b sound.2 on h)
     ]
 
--- ---- what is left to happen
+-- ---- how many marks can still be forced
 
 -- how many nodes are not gone, and how many are in units that are not allocated
 abbrev pub left_over : Timeline → ℕ
 left_over marks = times (λ b. not (gone marks b.node)) (births marks) + times (λ b. not (allocated marks b.node)) (births marks)
 
--- a mark of which a birth tells that it changes something: the birth's node goes, or its unit is allocated
+-- the mark changes the node of some birth: it takes the node, or it allocates the node's unit
 pub record Changes (marks : Timeline) (mark : Mark) : Type 0 where
   pub no_event : is_event mark ≡ false
   pub birth : Birth
@@ -86,7 +86,7 @@ allocated_next : (marks : Timeline) (mark : Mark) (node : NodeKey) → is_event 
 allocated_next marks mark node h =
     ap (λ (bs : List Birth). list_any (is_allocation (head bs node)) (mark ∷ marks)) (same_births marks mark h)
 
--- what is left gets less with each mark that changes something
+-- this number falls with each mark that changes a node
 lowers : (marks : Timeline) (mark : Mark) → Changes marks mark → left_over (mark ∷ marks) < left_over marks
 lowers marks mark c =
     let bs : List Birth = births marks in
@@ -142,7 +142,7 @@ has_parent : (ms : List Member) (o : Option NodeKey) → option_map_or (is_alloc
 has_parent ms None h = cc
 has_parent ms (Some p) h = refl
 
--- a mark that the collection forces, and what it tells
+-- a mark that the collection forces, and what holds then
 pub data Why (pool collection : ℕ) (marks : Timeline) : Mark → Type 0 where
   -- no node at or below it is live
   No_live : (b : Birth) → In b (births marks) → b.collection == collection ≡ true → gone marks b.node ≡ false →
@@ -161,7 +161,7 @@ pub data Why (pool collection : ℕ) (marks : Timeline) : Mark → Type 0 where
       gone marks b.node ≡ false → allocated marks b.node ≡ false → b.attached ≡ true →
       Why pool collection marks (Allocated b.node)
 
--- what the test of the next head tells of it
+-- what holds of a node that passes the test of the next head
 next_head_parts : (ms : List Member) (m : Member) → is_next_head ms m ≡ true →
     (m.attached ≡ true) × (m.gone ≡ false) × (m.allocated ≡ false) × (is_some m.parent ≡ true)
 next_head_parts ms m h =
@@ -199,7 +199,7 @@ module _ (pool collection : ℕ) (marks : Timeline) (mark : Mark) where
       not-true (some_live (subtree b.node ms)) (and_right (not (gone marks b.node)) (not (some_live (subtree b.node ms))) free) in
       subst (Why pool collection marks) t.2 (rw r.2 (No_live b r.1 r.3 here none))
 
-  -- the root that is left
+  -- the root that is not gone
   root_is : (m : Member) → root_left (members marks collection) ≡ Some m →
       (b : Birth) × In b (births marks) × (m ≡ member marks b) × (b.collection == collection ≡ true) × (b.parent ≡ None) ×
       (gone marks b.node ≡ false)
@@ -217,7 +217,7 @@ module _ (pool collection : ℕ) (marks : Timeline) (mark : Mark) where
         not-true (gone marks b.node) (and_right (is_none b.parent) (not (gone marks b.node)) left),
       )
 
-  -- why the root is lost, with nothing strong left
+  -- why the root is lost: nothing strong keeps the buffers
   abandoned_why : abandoned now ≡ Some mark → Why pool collection marks mark
   abandoned_why h =
       let t = and_then-Some _ (root_left now.members) mark h in

@@ -72,7 +72,7 @@ blocks_so marks collection sound node here =
     let is : r.0.node ≡ node = same_key-true r.0.node node (and_left (same_key r.0.node node) (blocks (member marks r.0)) test) in
     ap (blocked marks) (sym is) ∙ (member_blocks marks sound r.0 r.1 ∙ and_right (same_key r.0.node node) (blocks (member marks r.0)) test))
 
--- as the nodes stand they tell the highest one that a failure goes to
+-- the nodes as they stand determine the highest one that a failure propagates to
 pub highest-members : (marks : Timeline) (b : Birth) → AreSound (births marks) → AreTogether (births marks) →
     birth_of marks b.node ≡ Some b →
     top (blocked marks) b.node (ancestors (births marks) b.node) ≡ highest (members marks b.collection) (member marks b)
@@ -82,7 +82,7 @@ highest-members marks b sound together found =
     (In-any (same_key k) (b.node ∷ ancestors (births marks) b.node) k on (same_key-refl k)))
     ∙ ap (option_map (λ (x : Birth). x.collection)) found))
 
--- so they tell what a loss takes
+-- so they determine what a loss takes
 pub members-lost : (marks : Timeline) (b : Birth) (cause : Cause) → AreSound (births marks) → AreTogether (births marks) →
     birth_of marks b.node ≡ Some b →
     members (Loss b.node cause ∷ marks) b.collection ≡ map (after_end (highest (members marks b.collection) (member marks b)))
@@ -123,7 +123,7 @@ live_before : (taken g r w : Bool) → ((not (taken || g) && not r) && not w) �
 live_before true g r w h = cc
 live_before false g r w h = h
 
--- a buffer that is home stays so, where no strong node comes to live
+-- a buffer that is home stays so, if no further strong node becomes live
 home_still : (a b s t w : Bool) → (t ≡ true → s ≡ true) → ((a && (b && not s)) && w) ≡ true → ((a && (b && not t)) && w) ≡ true
 home_still false b s t w less h = cc
 home_still true false s t w less h = cc
@@ -173,7 +173,7 @@ held-ended pool marks head =
 
 -- ---- what the forced steps read of them
 
--- of a loss they read which nodes are gone and which pages are left
+-- a loss changes in it only which nodes are gone and which pages are held
 pub standing-lost : (pool collection : ℕ) (marks : Timeline) (origin : NodeKey) (cause : Cause) →
     standing pool (Loss origin cause ∷ marks) collection ≡
     record (standing pool marks collection) {
@@ -231,7 +231,7 @@ module _ (marks : Timeline) (head : NodeKey) (b : Birth) (parent : NodeKey) (fou
   home-attached : (buffer : BufferName) → home (Allocated head ∷ marks) buffer ≡ home marks buffer
   home-attached buffer = rw (buffers-attached buffer.collection, strong-allocated marks buffer.collection head) refl
 
-  -- no buffer is laid out, and none goes home
+  -- no buffer is laid out, and none becomes home
   pub held-attached : (pool : ℕ) → held pool (Allocated head ∷ marks) ≡ held pool marks
   held-attached pool =
       let none : placed pool (Allocated head ∷ marks) ≡ placed pool marks = rw (found, below) refl in

@@ -38,7 +38,7 @@ times_some p (x ∷ xs) h = elim (either_way (p x)) [
   | inr e ↦ rw e (times_some p xs (rw e at h))
 ]
 
--- where one passes or none does, the count tells which
+-- if the count is 1 or 0, some element passes exactly if it is 1
 pub any_one : {A : Type 0} (p : A → Bool) (xs : List A) (b : Bool) → times p xs ≡ one b → list_any p xs ≡ b
 any_one p xs true h = times_some p xs (omega (arith, h))
 any_one p xs false h = times_none p xs h

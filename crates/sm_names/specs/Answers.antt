@@ -1,4 +1,4 @@
--- The order of answers and the answer table, over what they read.
+-- The order of answers and the answer table, over all that an answer depends on.
 use Rattle.std.specs.Prelude.{ℕ, ◌+◌, ◌^◌, Bool, true, false, ◌||◌, ◌&&◌, ◌==◌, nat_le, not, if◌then◌else◌, List, [], ◌∷◌, length, Option, Some, None, ◌≡◌}
 use Rattle.std.specs.List.{list_any, sum_by}
 use Rattle.std.specs.Option.{option_map_or, option_map, option_and_then, unwrap_or}
@@ -30,7 +30,7 @@ pub record OpenEnd : Type 0 where
   pub constrained : Bool
   pub weak : Bool
   pub weak_ok : Bool
-  -- a Take on it answered Taken
+  -- whether a Take on it was answered Taken
   pub took : Bool
   pub node_trackers : ℕ
   -- what its unit was allocated against, and which of those buffers are not doomed
@@ -56,11 +56,11 @@ pub record Readings : Type 0 where
 
 -- ---- the words of the table
 
--- refused so, where the test holds
+-- this refusal, if the test holds
 abbrev pub refused_if : Bool → Refusal → Option Reply
 refused_if b refusal = when b (Reply.Refused refusal)
 
--- a misuse, where the test holds
+-- this misuse, if the test holds
 abbrev pub misused_if : Bool → Misuse → Option Reply
 misused_if b misuse = when b (Reply.Misused misuse)
 
@@ -70,7 +70,7 @@ receiver_of (Call.Give key to) = Some to
 receiver_of (Call.GiveHandle buffer strength to) = Some to
 receiver_of _ = None
 
--- the call makes an end or a tracker for its caller: every other call a shut client may still make
+-- the call makes an end or a tracker for its caller: a shut client may make any other call
 abbrev pub acquires : Call → Bool
 acquires Call.OpenRoot = true
 acquires (Call.Duplicate key) = true
@@ -80,7 +80,7 @@ acquires (Call.TrackLifetime key most) = true
 acquires (Call.TrackWeak buffer) = true
 acquires _ = false
 
--- the only kind of end on which the call is made: each other call on an end is made on either
+-- the only kind of end on which the call is made: any other call on an end is made on either kind
 abbrev pub kind_for : Call → Option Kind
 kind_for (Call.Duplicate key) = Some Kind.Token
 kind_for (Call.AttachToken key) = Some Kind.Collection
@@ -121,24 +121,28 @@ set_of buffers = sum_by (λ (b : BufferName). 2 ^ b.index) buffers
 
 -- ---- the order of answers
 
--- Join is made as nobody, and any other call by a client that joined; so is the receiver
+-- NoSuchClient, unless a Join is made as client 0, or any other call by a client that joined and
+-- for a receiver that joined
 abbrev pub unknown_client : Readings → ℕ → Call → Option Reply
 unknown_client r client Call.Join = refused_if (not (client == 0)) Refusal.NoSuchClient
 unknown_client r client call =
-    refused_if (not (r.has_joined client) || option_map_or (λ to. not (r.has_joined to)) (receiver_of call) false)
+    refused_if
+    (not (r.has_joined client)
+    || option_map_or (λ to. not (r.has_joined to)) (receiver_of call) false)
     Refusal.NoSuchClient
 
--- nothing is given to a shut client, and it acquires nothing
+-- ClientShut: nothing is given to a shut client, and it acquires nothing
 abbrev pub shut_client : Readings → ℕ → Call → Option Reply
 shut_client r client call =
-    refused_if ((acquires call && r.is_shut client) || option_map_or r.is_shut (receiver_of call) false)
+    refused_if
+    ((acquires call && r.is_shut client) || option_map_or r.is_shut (receiver_of call) false)
     Refusal.ClientShut
 
 -- another client holds the end, and it is in no parcel
 abbrev pub is_anothers : ℕ → OpenEnd → Bool
 is_anothers client e = not (e.holder == client) && not e.in_transit
 
--- the end is spent or never was, or it is another's
+-- no end has this key, or the end is spent, or another client holds it
 abbrev pub no_end : Readings → ℕ → Call → Option Reply
 no_end r client call = option_and_then
     (λ key. refused_if (option_map_or (is_anothers client) (r.end_of key) true) Refusal.NoSuchEnd)
@@ -150,14 +154,15 @@ end_named r call = option_and_then r.end_of (key_of call)
 
 -- the end is in a parcel, whoever asks
 abbrev pub end_in_transit : Readings → Call → Option Reply
-end_in_transit r call = option_and_then (λ e. refused_if e.in_transit Refusal.InTransit) (end_named r call)
+end_in_transit r call =
+    option_and_then (λ e. refused_if e.in_transit Refusal.InTransit) (end_named r call)
 
--- Close is answered Done, whether the node is gone or not; each other call goes on
+-- Close is answered Done, whether the node is gone or not
 abbrev pub closing : Call → Option Reply
 closing (Call.Close key) = Some Reply.Done
 closing _ = None
 
--- the node is gone, and the caller is told why and where it failed
+-- the node is gone: the reply says why and where it failed
 abbrev pub peer_closed : Readings → Call → Option Reply
 peer_closed r call = option_and_then
     (λ e. option_map (λ (f : Fault). Reply.PeerClosed f.cause f.origin) e.fault)
@@ -166,23 +171,25 @@ peer_closed r call = option_and_then
 -- the call is for an end of the other kind
 abbrev pub wrong_kind : Readings → Call → Option Reply
 wrong_kind r call = option_and_then
-    (λ e. refused_if (option_map_or (λ k. not (same_kind e.kind k)) (kind_for call) false) Refusal.WrongKind)
+    (λ e. refused_if
+    (option_map_or (λ k. not (same_kind e.kind k)) (kind_for call) false) Refusal.WrongKind)
     (end_named r call)
 
--- the misuse of the end that the call is: no other call can be one
+-- the misuse that the call is on this end: no other call can be one
 abbrev pub misuse_of : OpenEnd → Call → Option Reply
 misuse_of e (Call.SetConstraints key demand) = misused_if e.constrained Misuse.SecondConstraints
 misuse_of e (Call.SetWeak key) = misused_if e.constrained Misuse.LateWeak
 misuse_of e (Call.SetWeakOk key children) = misused_if e.took Misuse.LateWeakOk
 misuse_of e (Call.Take key) = misused_if (e.weak && not e.weak_ok) Misuse.WeakNotOk
-misuse_of e (Call.TrackNode key) = misused_if (nat_le MAX_NODE_TRACKERS e.node_trackers) Misuse.TooManyNodeTrackers
+misuse_of e (Call.TrackNode key) =
+    misused_if (nat_le MAX_NODE_TRACKERS e.node_trackers) Misuse.TooManyNodeTrackers
 misuse_of e _ = None
 
--- the misuse of its end that the call is
+-- the misuse that the call is on the end that it names
 abbrev pub misuse : Readings → Call → Option Reply
 misuse r call = option_and_then (λ e. misuse_of e call) (end_named r call)
 
--- refused, where so many handles are none
+-- refused, if the number of handles is 0
 abbrev pub has_none : ℕ → Option Reply
 has_none count = refused_if (count == 0) Refusal.NoSuchHandle
 
@@ -190,19 +197,21 @@ has_none count = refused_if (count == 0) Refusal.NoSuchHandle
 abbrev pub no_handle : Readings → ℕ → Call → Option Reply
 no_handle r client (Call.DupHandle buffer strength) = has_none (r.open_of client buffer strength)
 no_handle r client (Call.DropHandle buffer strength) = has_none (r.open_of client buffer strength)
-no_handle r client (Call.GiveHandle buffer strength to) = has_none (r.open_of client buffer strength)
+no_handle r client (Call.GiveHandle buffer strength to) =
+    has_none (r.open_of client buffer strength)
 no_handle r client (Call.TrackWeak buffer) = has_none (r.open_of client buffer Strength.Weak)
 no_handle r client _ = None
 
--- as many handles of the buffer and strength are open as may be
+-- the number of open handles of the buffer and strength is at its limit
 abbrev pub is_at_limit : Bound → Readings → Strength → BufferName → Bool
 is_at_limit limits r strength buffer = nat_le limits.handles (r.open_total buffer strength)
 
--- the handles that the call would open are too many: no other call opens any
+-- the call would open more handles than the limit allows: no other call opens any
 abbrev pub too_many_handles : Bound → Readings → Call → Bool
 too_many_handles limits r (Call.DupHandle buffer strength) = is_at_limit limits r strength buffer
 too_many_handles limits r (Call.Take key) =
-    option_map_or (λ e. list_any (is_at_limit limits r (strength_of e.weak)) e.to_open) (r.end_of key) false
+    option_map_or (λ e. list_any (is_at_limit limits r (strength_of e.weak)) e.to_open)
+    (r.end_of key) false
 too_many_handles limits r _ = false
 
 -- the limits, in the order of their numbers
@@ -215,19 +224,19 @@ limits_met limits r call =
     ∷ refused_if (too_many_handles limits r call) Refusal.TooManyHandles
     ∷ []
 
--- what the first parcel is answered as
+-- the reply that says what the first parcel has
 abbrev pub collected : Readings → List Parcel → Reply
 collected r [] = Reply.Empty
 collected r (Parcel.Handle buffer strength ∷ more) = Reply.CollectedHandle buffer strength
 collected r (Parcel.End key ∷ more) =
     option_map_or (λ e. Reply.Collected key e.kind e.collection) (r.end_of key) Reply.Empty
 
--- what is answered of the end that the call names
+-- the reply that is made from the end with this key
 abbrev pub of_end : Readings → NodeKey → (OpenEnd → Reply) → Reply
 of_end r key answer = option_map_or answer (r.end_of key) (Reply.Refused Refusal.NoSuchEnd)
 
--- the answer of a call that takes effect; a new node gets this key. The calls that are left tell nothing:
--- they set, give, bind, release, double or drop
+-- the answer of a call that takes effect. A new node gets this key. The calls that are not listed
+-- set, give, bind, release, duplicate, drop or sync, and are answered Done
 abbrev pub effect : Readings → ℕ → NodeKey → Call → Reply
 effect r client new Call.Join = Reply.Joined (r.events + 1)
 effect r client new Call.Shut = Reply.Shut (length (r.waiting client))
@@ -236,16 +245,18 @@ effect r client new (Call.Duplicate key) = of_end r key (λ e. Reply.Token new e
 effect r client new (Call.AttachToken key) = of_end r key (λ e. Reply.Token new e.collection)
 effect r client new Call.Collect = collected r (r.waiting client)
 effect r client new (Call.Check key) =
-    of_end r key (λ e. option_map_or (λ (b : Buffers). Reply.Allocated b.count b.size) e.buffers Reply.Pending)
+    of_end r key
+    (λ e. option_map_or (λ (b : Buffers). Reply.Allocated b.count b.size) e.buffers Reply.Pending)
 effect r client new (Call.Take key) =
     of_end r key (λ e.
-    option_map_or (λ b. Reply.Taken e.collection (strength_of e.weak) (set_of e.to_open)) e.buffers Reply.Pending)
+    option_map_or
+    (λ b. Reply.Taken e.collection (strength_of e.weak) (set_of e.to_open)) e.buffers Reply.Pending)
 effect r client new (Call.TrackNode key) = Reply.Tracker (r.events + 1)
 effect r client new (Call.TrackLifetime key most) = Reply.Tracker (r.events + 1)
 effect r client new (Call.TrackWeak buffer) = Reply.Tracker (r.events + 1)
 effect r client new _ = Reply.Done
 
--- the order of answers, before that of the effect
+-- the answers that come before that of the effect, in their order
 abbrev pub answers_first : Bound → Readings → ℕ → Call → List (Option Reply)
 answers_first limits r client call =
     unknown_client r client call
@@ -259,21 +270,22 @@ answers_first limits r client call =
     ∷ no_handle r client call
     ∷ limits_met limits r call
 
--- the answer: the first of those that there is, else that of the effect
+-- the answer: the first of those that applies, or else that of the effect
 abbrev pub answer : Bound → Readings → ℕ → NodeKey → Call → Reply
 answer limits r client new call =
     unwrap_or (first_some (answers_first limits r client call)) (effect r client new call)
 
--- the key of the node that the reply tells of, if it tells of a new one, as only Token does
+-- the key of the new node in the reply: only Token has one
 abbrev pub new_key : Reply → Option NodeKey
 new_key (Reply.Token key collection) = Some key
 new_key _ = None
 
--- the key of the reply, and any key where it tells of no new node
+-- the key of the new node in the reply, or some key if there is none
 abbrev pub key_told : Reply → NodeKey
 key_told reply = option_map_or (λ key. key) (new_key reply) (record { slot = 0; generation = 0 })
 
--- the reply is the answer, where a new node may have any key that was given to none before
-pub record IsAnswer (limits : Bound) (r : Readings) (client : ℕ) (call : Call) (reply : Reply) : Type 0 where
+-- the reply is the answer. A new node may have any key that no node had before
+pub record IsAnswer (limits : Bound) (r : Readings) (client : ℕ) (call : Call)
+    (reply : Reply) : Type 0 where
   pub told : reply ≡ answer limits r client (key_told reply) call
   pub is_new : option_map_or r.was_given (new_key reply) false ≡ false

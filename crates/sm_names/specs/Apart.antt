@@ -24,16 +24,18 @@ pub record IsFirst (pool pages : ℕ) (held : List Interval) (start : ℕ) : Typ
   pub fits : has_room pool held (at_pages pages start) ≡ true
   pub least : (earlier : ℕ) → earlier < start → has_room pool held (at_pages pages earlier) ≡ false
 
--- each start is the first one beside what is held and what was placed before it
+-- each start is the first one with room, beside the held pages and those that were placed before it
 abbrev pub AreFirst : ℕ → ℕ → List Interval → List ℕ → Type 0
 AreFirst pool pages held [] = ⊤
-AreFirst pool pages held (start ∷ starts) = IsFirst pool pages held start × AreFirst pool pages (at_pages pages start ∷ held) starts
+AreFirst pool pages held (start ∷ starts) =
+    IsFirst pool pages held start × AreFirst pool pages (at_pages pages start ∷ held) starts
 
 -- what is held once these are placed, one after another
 abbrev pub with_placed : ℕ → List ℕ → List Interval → List Interval
 with_placed pages [] held = held
 with_placed pages (start ∷ starts) held = with_placed pages starts (at_pages pages start ∷ held)
 
--- so many pages have room nowhere
+-- no start has room for so many pages
 abbrev pub IsFull : ℕ → ℕ → List Interval → Type 0
-IsFull pool pages held = (start : ℕ) → start < pool → has_room pool held (at_pages pages start) ≡ false
+IsFull pool pages held =
+    (start : ℕ) → start < pool → has_room pool held (at_pages pages start) ≡ false

@@ -1,6 +1,7 @@
--- Which nodes were born, and how they hang together.
+-- Which nodes were born, and which node is whose parent.
 -- `birth_at` restates `fuchsia.sysmem2.Allocator.AllocateSharedCollection`,
--- `fuchsia.sysmem2.BufferCollectionToken.Duplicate` and `fuchsia.sysmem2.BufferCollection.AttachToken`.
+-- `fuchsia.sysmem2.BufferCollectionToken.Duplicate` and
+-- `fuchsia.sysmem2.BufferCollection.AttachToken`.
 use Rattle.std.specs.Prelude.{ℕ, ◌+◌, Bool, true, false, if◌then◌else◌, List, [], ◌∷◌, Some, None, Option, ◌≡◌, ⊤, IfSome}
 use Rattle.std.specs.List.{cons_option, find, list_any}
 use Rattle.std.specs.Option.{option_map_or, option_map}
@@ -19,7 +20,8 @@ pub record Birth : Type 0 where
   pub event : ℕ
   pub client : ℕ
 
--- the birth at a mark of this event, if it is one: only these three calls make a node, answered Token
+-- the birth at the mark, which belongs to this event: only these three calls make a node, and only
+-- if they are answered Token
 abbrev pub birth_at : ℕ → Mark → Option Birth
 birth_at event (Called client (Reply.Token key collection) Call.OpenRoot) =
     Some (record {
@@ -85,7 +87,8 @@ was_born bs node = list_any (λ b. same_key b.node node) bs
 
 -- the collection into which the node was born
 abbrev pub collection_in : List Birth → NodeKey → Option ℕ
-collection_in bs node = option_map (λ (b : Birth). b.collection) (find (λ b. same_key b.node node) bs)
+collection_in bs node =
+    option_map (λ (b : Birth). b.collection) (find (λ b. same_key b.node node) bs)
 
 -- each child is in its parent's collection
 abbrev pub AreTogether : List Birth → Type 0
@@ -93,8 +96,9 @@ AreTogether [] = ⊤
 AreTogether (b ∷ older) =
     IfSome b.parent (λ parent. collection_in older parent ≡ Some b.collection) × AreTogether older
 
--- no node is born twice, and each after its parent
+-- no node is born twice, and each is born after its parent
 abbrev pub AreSound : List Birth → Type 0
 AreSound [] = ⊤
 AreSound (b ∷ older) =
-    (was_born older b.node ≡ false) × IfSome b.parent (λ parent. was_born older parent ≡ true) × AreSound older
+    (was_born older b.node ≡ false) × IfSome b.parent (λ parent. was_born older parent ≡ true)
+    × AreSound older

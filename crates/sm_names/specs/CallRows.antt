@@ -1,4 +1,5 @@
--- Each call taken apart, and the table of what is true of each kind of call: `row_of` and `word_of`.
+-- Each call taken apart, and the table of what is true of each kind of call: `row_of` and
+-- `word_of`.
 use Rattle.std.specs.Prelude.{ℕ, ◌≡◌, Bool, true, false, List, codes, slice_get, Option, Some, None}
 use Rattle.std.specs.List.{position}
 use Rattle.std.specs.Option.{option_and_then, option_map}
@@ -38,22 +39,29 @@ parts_of (Call.Sync key) = parts CallKind.Sync (Object.Node key) Argument.Nothin
 parts_of (Call.Give key to) = parts CallKind.Give (Object.Node key) (Argument.Client to)
 parts_of Call.Collect = parts CallKind.Collect Object.Nothing Argument.Nothing
 parts_of (Call.Bind key) = parts CallKind.Bind (Object.Node key) Argument.Nothing
-parts_of (Call.SetDispensable key) = parts CallKind.SetDispensable (Object.Node key) Argument.Nothing
+parts_of (Call.SetDispensable key) =
+    parts CallKind.SetDispensable (Object.Node key) Argument.Nothing
 parts_of (Call.SetWeak key) = parts CallKind.SetWeak (Object.Node key) Argument.Nothing
-parts_of (Call.SetWeakOk key children) = parts CallKind.SetWeakOk (Object.Node key) (Argument.Children children)
-parts_of (Call.SetConstraints key constraints) = parts CallKind.SetConstraints (Object.Node key) (Argument.Constraints constraints)
+parts_of (Call.SetWeakOk key children) =
+    parts CallKind.SetWeakOk (Object.Node key) (Argument.Children children)
+parts_of (Call.SetConstraints key constraints) =
+    parts CallKind.SetConstraints (Object.Node key) (Argument.Constraints constraints)
 parts_of (Call.Check key) = parts CallKind.Check (Object.Node key) Argument.Nothing
 parts_of (Call.Take key) = parts CallKind.Take (Object.Node key) Argument.Nothing
 parts_of (Call.Release key) = parts CallKind.Release (Object.Node key) Argument.Nothing
 parts_of (Call.Close key) = parts CallKind.Close (Object.Node key) Argument.Nothing
-parts_of (Call.DupHandle buffer strength) = parts CallKind.DupHandle (Object.Buffer buffer) (Argument.Strength strength)
-parts_of (Call.DropHandle buffer strength) = parts CallKind.DropHandle (Object.Buffer buffer) (Argument.Strength strength)
-parts_of (Call.GiveHandle buffer strength to) = parts CallKind.GiveHandle (Object.Buffer buffer) (Argument.Gift strength to)
+parts_of (Call.DupHandle buffer strength) =
+    parts CallKind.DupHandle (Object.Buffer buffer) (Argument.Strength strength)
+parts_of (Call.DropHandle buffer strength) =
+    parts CallKind.DropHandle (Object.Buffer buffer) (Argument.Strength strength)
+parts_of (Call.GiveHandle buffer strength to) =
+    parts CallKind.GiveHandle (Object.Buffer buffer) (Argument.Gift strength to)
 parts_of (Call.TrackNode key) = parts CallKind.TrackNode (Object.Node key) Argument.Nothing
-parts_of (Call.TrackLifetime key most) = parts CallKind.TrackLifetime (Object.Node key) (Argument.Most most)
+parts_of (Call.TrackLifetime key most) =
+    parts CallKind.TrackLifetime (Object.Node key) (Argument.Most most)
 parts_of (Call.TrackWeak buffer) = parts CallKind.TrackWeak (Object.Buffer buffer) Argument.Nothing
 
--- the call, where it is made on nothing and says nothing else
+-- this call, if there is neither an object nor an argument
 abbrev pub only : Object NodeKey BufferName → Argument ℕ → Call → Option Call
 only Object.Nothing Argument.Nothing call = Some call
 only _ _ call = None
@@ -68,12 +76,12 @@ abbrev pub object_buffer : {N B : Type 0} → Object N B → Option B
 object_buffer (Object.Buffer buffer) = Some buffer
 object_buffer _ = None
 
--- the node, where nothing else is said
+-- the node, if there is no argument
 abbrev pub plain_key : Object NodeKey BufferName → Argument ℕ → Option NodeKey
 plain_key object Argument.Nothing = object_key object
 plain_key object _ = None
 
--- the buffer, where nothing else is said
+-- the buffer, if there is no argument
 abbrev pub plain_buffer : Object NodeKey BufferName → Argument ℕ → Option BufferName
 plain_buffer object Argument.Nothing = object_buffer object
 plain_buffer object _ = None
@@ -114,32 +122,42 @@ call_made CallKind.Join object argument = only object argument Call.Join
 call_made CallKind.Shut object argument = only object argument Call.Shut
 call_made CallKind.OpenRoot object argument = only object argument Call.OpenRoot
 call_made CallKind.Duplicate object argument = option_map Call.Duplicate (plain_key object argument)
-call_made CallKind.AttachToken object argument = option_map Call.AttachToken (plain_key object argument)
+call_made CallKind.AttachToken object argument =
+    option_map Call.AttachToken (plain_key object argument)
 call_made CallKind.Sync object argument = option_map Call.Sync (plain_key object argument)
 call_made CallKind.Give object argument =
     option_and_then (λ key. option_map (Call.Give key) (client_in argument)) (object_key object)
 call_made CallKind.Collect object argument = only object argument Call.Collect
 call_made CallKind.Bind object argument = option_map Call.Bind (plain_key object argument)
-call_made CallKind.SetDispensable object argument = option_map Call.SetDispensable (plain_key object argument)
+call_made CallKind.SetDispensable object argument =
+    option_map Call.SetDispensable (plain_key object argument)
 call_made CallKind.SetWeak object argument = option_map Call.SetWeak (plain_key object argument)
 call_made CallKind.SetWeakOk object argument =
-    option_and_then (λ key. option_map (Call.SetWeakOk key) (children_in argument)) (object_key object)
+    option_and_then (λ key. option_map (Call.SetWeakOk key) (children_in argument))
+    (object_key object)
 call_made CallKind.SetConstraints object argument =
-    option_and_then (λ key. option_map (Call.SetConstraints key) (constraints_in argument)) (object_key object)
+    option_and_then (λ key. option_map (Call.SetConstraints key) (constraints_in argument))
+    (object_key object)
 call_made CallKind.Check object argument = option_map Call.Check (plain_key object argument)
 call_made CallKind.Take object argument = option_map Call.Take (plain_key object argument)
 call_made CallKind.Release object argument = option_map Call.Release (plain_key object argument)
 call_made CallKind.Close object argument = option_map Call.Close (plain_key object argument)
 call_made CallKind.DupHandle object argument =
-    option_and_then (λ buffer. option_map (Call.DupHandle buffer) (strength_in argument)) (object_buffer object)
+    option_and_then (λ buffer. option_map (Call.DupHandle buffer) (strength_in argument))
+    (object_buffer object)
 call_made CallKind.DropHandle object argument =
-    option_and_then (λ buffer. option_map (Call.DropHandle buffer) (strength_in argument)) (object_buffer object)
+    option_and_then (λ buffer. option_map (Call.DropHandle buffer) (strength_in argument))
+    (object_buffer object)
 call_made CallKind.GiveHandle object argument =
-    option_and_then (λ buffer. option_map (λ (g : Strength × ℕ). Call.GiveHandle buffer g.0 g.1) (gift_in argument)) (object_buffer object)
+    option_and_then
+    (λ buffer. option_map (λ (g : Strength × ℕ). Call.GiveHandle buffer g.0 g.1) (gift_in argument))
+    (object_buffer object)
 call_made CallKind.TrackNode object argument = option_map Call.TrackNode (plain_key object argument)
 call_made CallKind.TrackLifetime object argument =
-    option_and_then (λ key. option_map (Call.TrackLifetime key) (most_in argument)) (object_key object)
-call_made CallKind.TrackWeak object argument = option_map Call.TrackWeak (plain_buffer object argument)
+    option_and_then (λ key. option_map (Call.TrackLifetime key) (most_in argument))
+    (object_key object)
+call_made CallKind.TrackWeak object argument =
+    option_map Call.TrackWeak (plain_buffer object argument)
 
 -- the call of these parts
 abbrev pub call_of : CallParts → Option Call
@@ -147,34 +165,58 @@ call_of p = call_made p.kind p.object p.argument
 
 -- this row
 abbrev pub row : Target → ArgumentForm → Product → Spends → Answer → CallRow
-row on says brings spends answers = record { on = on; says = says; brings = brings; spends = spends; answers = answers }
+row on says brings spends answers =
+    record { on = on; says = says; brings = brings; spends = spends; answers = answers }
 
--- the table: what calls of the kind are made on, what they say, what they bring, when they spend what they are made on, and
--- what they are answered where they take effect
+-- the table: what calls of the kind are made on, what they say, what they bring, when they spend
+-- what they are made on, and what they are answered if they take effect
 abbrev pub row_of : CallKind → CallRow
-row_of CallKind.Join = row Target.Nothing ArgumentForm.Nothing Product.Client Spends.Never Answer.Joined
-row_of CallKind.Shut = row Target.Nothing ArgumentForm.Nothing Product.Nothing Spends.Never Answer.Shut
-row_of CallKind.OpenRoot = row Target.Nothing ArgumentForm.Nothing Product.Collection Spends.Never Answer.Token
-row_of CallKind.Duplicate = row Target.Token ArgumentForm.Nothing Product.Node Spends.Never Answer.Token
-row_of CallKind.AttachToken = row Target.Collection ArgumentForm.Nothing Product.Node Spends.Never Answer.Token
-row_of CallKind.Sync = row Target.End ArgumentForm.Nothing Product.Nothing Spends.Never Answer.Done
-row_of CallKind.Give = row Target.End ArgumentForm.Client Product.Nothing Spends.IfDone Answer.Done
-row_of CallKind.Collect = row Target.Nothing ArgumentForm.Nothing Product.Parcel Spends.Never Answer.Parcel
-row_of CallKind.Bind = row Target.Token ArgumentForm.Nothing Product.Nothing Spends.IfDone Answer.Done
-row_of CallKind.SetDispensable = row Target.Token ArgumentForm.Nothing Product.Nothing Spends.Never Answer.Done
-row_of CallKind.SetWeak = row Target.End ArgumentForm.Nothing Product.Nothing Spends.Never Answer.Done
-row_of CallKind.SetWeakOk = row Target.End ArgumentForm.Children Product.Nothing Spends.Never Answer.Done
-row_of CallKind.SetConstraints = row Target.Collection ArgumentForm.Constraints Product.Nothing Spends.Never Answer.Done
-row_of CallKind.Check = row Target.Collection ArgumentForm.Nothing Product.Nothing Spends.Never Answer.Allocated
-row_of CallKind.Take = row Target.Collection ArgumentForm.Nothing Product.Handles Spends.Never Answer.Taken
-row_of CallKind.Release = row Target.End ArgumentForm.Nothing Product.Nothing Spends.IfMet Answer.Done
-row_of CallKind.Close = row Target.End ArgumentForm.Nothing Product.Nothing Spends.IfDone Answer.Done
-row_of CallKind.DupHandle = row Target.Handle ArgumentForm.Strength Product.Handles Spends.Never Answer.Done
-row_of CallKind.DropHandle = row Target.Handle ArgumentForm.Strength Product.Nothing Spends.IfDone Answer.Done
-row_of CallKind.GiveHandle = row Target.Handle ArgumentForm.Gift Product.Nothing Spends.IfDone Answer.Done
-row_of CallKind.TrackNode = row Target.End ArgumentForm.Nothing Product.Tracker Spends.Never Answer.Tracker
-row_of CallKind.TrackLifetime = row Target.Collection ArgumentForm.Most Product.Tracker Spends.Never Answer.Tracker
-row_of CallKind.TrackWeak = row Target.Handle ArgumentForm.Nothing Product.Tracker Spends.Never Answer.Tracker
+row_of CallKind.Join =
+    row Target.Nothing ArgumentForm.Nothing Product.Client Spends.Never Answer.Joined
+row_of CallKind.Shut =
+    row Target.Nothing ArgumentForm.Nothing Product.Nothing Spends.Never Answer.Shut
+row_of CallKind.OpenRoot =
+    row Target.Nothing ArgumentForm.Nothing Product.Collection Spends.Never Answer.Token
+row_of CallKind.Duplicate =
+    row Target.Token ArgumentForm.Nothing Product.Node Spends.Never Answer.Token
+row_of CallKind.AttachToken =
+    row Target.Collection ArgumentForm.Nothing Product.Node Spends.Never Answer.Token
+row_of CallKind.Sync =
+    row Target.End ArgumentForm.Nothing Product.Nothing Spends.Never Answer.Done
+row_of CallKind.Give =
+    row Target.End ArgumentForm.Client Product.Nothing Spends.IfDone Answer.Done
+row_of CallKind.Collect =
+    row Target.Nothing ArgumentForm.Nothing Product.Parcel Spends.Never Answer.Parcel
+row_of CallKind.Bind =
+    row Target.Token ArgumentForm.Nothing Product.Nothing Spends.IfDone Answer.Done
+row_of CallKind.SetDispensable =
+    row Target.Token ArgumentForm.Nothing Product.Nothing Spends.Never Answer.Done
+row_of CallKind.SetWeak =
+    row Target.End ArgumentForm.Nothing Product.Nothing Spends.Never Answer.Done
+row_of CallKind.SetWeakOk =
+    row Target.End ArgumentForm.Children Product.Nothing Spends.Never Answer.Done
+row_of CallKind.SetConstraints =
+    row Target.Collection ArgumentForm.Constraints Product.Nothing Spends.Never Answer.Done
+row_of CallKind.Check =
+    row Target.Collection ArgumentForm.Nothing Product.Nothing Spends.Never Answer.Allocated
+row_of CallKind.Take =
+    row Target.Collection ArgumentForm.Nothing Product.Handles Spends.Never Answer.Taken
+row_of CallKind.Release =
+    row Target.End ArgumentForm.Nothing Product.Nothing Spends.IfMet Answer.Done
+row_of CallKind.Close =
+    row Target.End ArgumentForm.Nothing Product.Nothing Spends.IfDone Answer.Done
+row_of CallKind.DupHandle =
+    row Target.Handle ArgumentForm.Strength Product.Handles Spends.Never Answer.Done
+row_of CallKind.DropHandle =
+    row Target.Handle ArgumentForm.Strength Product.Nothing Spends.IfDone Answer.Done
+row_of CallKind.GiveHandle =
+    row Target.Handle ArgumentForm.Gift Product.Nothing Spends.IfDone Answer.Done
+row_of CallKind.TrackNode =
+    row Target.End ArgumentForm.Nothing Product.Tracker Spends.Never Answer.Tracker
+row_of CallKind.TrackLifetime =
+    row Target.Collection ArgumentForm.Most Product.Tracker Spends.Never Answer.Tracker
+row_of CallKind.TrackWeak =
+    row Target.Handle ArgumentForm.Nothing Product.Tracker Spends.Never Answer.Tracker
 
 -- the word for calls of the kind in a script
 abbrev pub word_of : CallKind → List ℕ
@@ -258,7 +300,8 @@ brings_end Product.Node = true
 brings_end Product.Parcel = true
 brings_end _ = false
 
--- the table says of the call what the definitions of the machine say, and its parts make the call again
+-- the table says of the call what the definitions of the machine say, and the parts of the call
+-- make that call
 pub record RowAgrees (call : Call) : Type 0 where
   pub whole : call_of (parts_of call) ≡ Some call
   pub key : object_key (parts_of call).object ≡ key_of call

@@ -9,11 +9,11 @@ use Rattle.sm_names.specs.Losses.{top}
 use Rattle.sm_names.specs.Members.{Member, is_under}
 use Rattle.sm_names.specs.Sameness.{same_key}
 
--- the node's failure does not go to its parent
+-- the node's failure does not propagate to its parent
 abbrev pub blocks : Member → Bool
 blocks m = m.attached || (m.dispensable && m.allocated)
 
--- the highest node that the node's failure goes to: it takes that one and all below it
+-- the highest node that the node's failure propagates to: it takes that one and all below it
 abbrev pub highest : List Member → Member → NodeKey
 highest ms m = top (λ key. list_any (λ n. same_key n.key key && blocks n) ms) m.key m.above
 
@@ -29,12 +29,12 @@ after_allocation head m = record m { allocated = same_key head m.head || m.alloc
 abbrev pub after_end : NodeKey → Member → Member
 after_end top m = record m { gone = is_under top m || m.gone }
 
--- without the nodes that are gone, as where they were forgotten
+-- without the nodes that are gone, as if they had been forgotten
 abbrev pub without_gone : Standing → Standing
 without_gone s = record s { members = filter (λ m. not m.gone) s.members }
 
--- a call that changes nothing, where it is answered so; a misuse makes a loss, which is a mark of its own.
--- Any other call and reply may change something
+-- a call with this reply changes nothing but the number of events. A misuse fails its node, but by
+-- a loss, which is a mark of its own. Any other call and reply may change something
 abbrev pub is_quiet : Call → Reply → Bool
 is_quiet call (Reply.Refused refusal) = true
 is_quiet call (Reply.Misused misuse) = true

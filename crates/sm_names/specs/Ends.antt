@@ -38,7 +38,8 @@ shuts client _ = false
 abbrev pub is_shut : Timeline → ℕ → Bool
 is_shut marks client = list_any (shuts client) marks
 
--- the mark spends the node's end: a Close that was answered Done, or a Release, also of a node that was gone
+-- the mark spends the node's end: a Close that was answered Done, or a Release that was answered
+-- Done or PeerClosed
 abbrev pub spends : NodeKey → Mark → Bool
 spends node (Called client Reply.Done (Call.Close key)) = same_key key node
 spends node (Called client Reply.Done (Call.Release key)) = same_key key node
@@ -58,7 +59,8 @@ binds node _ = false
 abbrev pub kind : Timeline → NodeKey → Kind
 kind marks node = if list_any (binds node) marks then Kind.Collection else Kind.Token
 
--- the parcel that the mark gives to the client: only these two calls give, and only where they took effect
+-- the parcel that the mark gives to the client: only these two calls give one, and only if they
+-- took effect
 abbrev pub given_at : ℕ → Mark → Option Parcel
 given_at client (Called giver Reply.Done (Call.Give key to)) =
     if to == client then Some (Parcel.End key) else None
@@ -66,15 +68,18 @@ given_at client (Called giver Reply.Done (Call.GiveHandle buffer strength to)) =
     if to == client then Some (Parcel.Handle buffer strength) else None
 given_at client _ = None
 
--- the mark is a Collect of the client that got it a parcel: one that was answered Empty did not
+-- the mark is a Collect by which the client took a parcel: one that was answered Empty took none
 abbrev pub collects : ℕ → Mark → Bool
-collects client (Called caller (Reply.Collected key kind collection) Call.Collect) = caller == client
-collects client (Called caller (Reply.CollectedHandle buffer strength) Call.Collect) = caller == client
+collects client (Called caller (Reply.Collected key kind collection) Call.Collect) =
+    caller == client
+collects client (Called caller (Reply.CollectedHandle buffer strength) Call.Collect) =
+    caller == client
 collects client _ = false
 
--- the parcels given to the client, in order, less as many first ones as it has collected
+-- the parcels given to the client, in order, without the first ones: it has collected these
 abbrev pub parcels : Timeline → ℕ → List Parcel
-parcels marks client = drop (times (collects client) marks) (reverse (filter_map (given_at client) marks))
+parcels marks client =
+    drop (times (collects client) marks) (reverse (filter_map (given_at client) marks))
 
 -- the parcel is the end of the node
 abbrev pub is_end_of : NodeKey → Parcel → Bool
@@ -83,25 +88,29 @@ is_end_of node (Parcel.Handle buffer strength) = false
 
 -- the parcel is a handle of this buffer and strength
 abbrev pub is_handle_of : BufferName → Strength → Parcel → Bool
-is_handle_of buffer strength (Parcel.Handle name given) = same_buffer name buffer && same_strength given strength
+is_handle_of buffer strength (Parcel.Handle name given) =
+    same_buffer name buffer && same_strength given strength
 is_handle_of buffer strength (Parcel.End key) = false
 
 -- the end is in a parcel
 abbrev pub in_transit : Timeline → NodeKey → Bool
-in_transit marks node = list_any (λ client. list_any (is_end_of node) (parcels marks client)) (clients marks)
+in_transit marks node =
+    list_any (λ client. list_any (is_end_of node) (parcels marks client)) (clients marks)
 
--- who collected the node's end at the mark: only a Collect takes an end out of a parcel
+-- the client that collected the node's end at the mark: only a Collect takes an end out of a parcel
 abbrev pub collector_at : NodeKey → Mark → Option ℕ
 collector_at node (Called caller (Reply.Collected key kind collection) Call.Collect) =
     if same_key key node then Some caller else None
 collector_at node _ = None
 
--- the last who did
+-- the client that collected the node's end last
 abbrev pub collector : Timeline → NodeKey → Option ℕ
 collector [] node = None
 collector (mark ∷ before) node = option_map_or Some (collector_at node mark) (collector before node)
 
--- the last who collected the end, else who was given it at birth
+-- the client that holds the node's end: the one that collected it last, or else the one that made
+-- the node
 abbrev pub holder : Timeline → NodeKey → ℕ
 holder marks node =
-    option_map_or (λ c. c) (collector marks node) (option_map_or (λ (b : Birth). b.client) (birth_of marks node) 0)
+    option_map_or (λ c. c) (collector marks node)
+    (option_map_or (λ (b : Birth). b.client) (birth_of marks node) 0)

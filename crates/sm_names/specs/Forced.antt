@@ -1,4 +1,4 @@
--- What a collection does of itself, once an event has changed it.
+-- The marks that an event forces in its collection.
 -- `abandoned` restates `fuchsia.sysmem2.Node.SetWeak`, `logical_allocation` restates
 -- `fuchsia.sysmem2.BufferCollection.AttachToken`.
 use Rattle.std.specs.Prelude.{ℕ, ◌+◌, Bool, false, ◌||◌, ◌&&◌, ◌==◌, nat_lt, not, List, [], ◌∷◌, Option, Some, None, is_none}
@@ -40,7 +40,8 @@ ending s = option_map (λ top. Ended top.key) (find (is_deserted s.members) s.me
 abbrev pub abandoned : Standing → Option Mark
 abandoned s = option_and_then
     (λ root.
-    when (root.allocated && (not (some_strong_live s.members) && not s.strong_open)) (Loss root.key Cause.NoStrong))
+    when (root.allocated && (not (some_strong_live s.members) && not s.strong_open))
+    (Loss root.key Cause.NoStrong))
     (root_left s.members)
 
 -- why the root unit can't be allocated
@@ -52,7 +53,7 @@ initial_failure pool s buffers = first_some (
     ∷ when (is_none (places pool (pages_of buffers.size) buffers.count s.held)) Failure.PoolFull
     ∷ [])
 
--- an allocation, or the loss of the head in its place
+-- the allocation of the unit with this head or, if the allocation failed, the loss of the head
 abbrev pub outcome : NodeKey → Option Failure → Mark
 outcome head None = Allocated head
 outcome head (Some failure) = Loss head (Cause.Failed failure)
@@ -76,21 +77,25 @@ logical_failure ds reserved buffers = first_some (
 abbrev pub is_allocated : List Member → NodeKey → Bool
 is_allocated ms key = list_any (λ m. m.allocated && same_key m.key key) ms
 
--- an attached unit that is ready, not allocated, with a head that is not gone, below an allocated unit
+-- the node heads an attached unit that is ready and not allocated, it is not gone, and the unit of
+-- its parent is allocated
 abbrev pub is_next_head : List Member → Member → Bool
 is_next_head ms m =
     m.attached
-    && (not m.gone && (not m.allocated && (option_map_or (is_allocated ms) m.parent false && is_ready m.key ms)))
+    && (not m.gone
+    && (not m.allocated && (option_map_or (is_allocated ms) m.parent false && is_ready m.key ms)))
 
--- of such units the one whose head was born first
+-- of these nodes the one that was born first: its unit is allocated, or it is lost
 abbrev pub logical_allocation : Standing → Option Mark
 logical_allocation s = option_and_then
     (λ buffers. option_map
     (λ head.
-    outcome head.key (logical_failure (demands (unit head.key s.members)) (reserved s.members) buffers))
+    outcome head.key
+    (logical_failure (demands (unit head.key s.members)) (reserved s.members) buffers))
     (find (is_next_head s.members) s.members))
     s.buffers
 
 -- the next mark that the collection forces, if any: the first of these that applies
 abbrev pub forced : ℕ → Standing → Option Mark
-forced pool s = first_some (ending s ∷ abandoned s ∷ initial_allocation pool s ∷ logical_allocation s ∷ [])
+forced pool s =
+    first_some (ending s ∷ abandoned s ∷ initial_allocation pool s ∷ logical_allocation s ∷ [])

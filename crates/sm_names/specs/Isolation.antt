@@ -1,4 +1,4 @@
--- What an event leaves as it was.
+-- What an event leaves the same in a collection that is not its own.
 use Rattle.std.specs.Prelude.{ℕ, true, ◌==◌, ◌∷◌, Option, Some, ◌≡◌}
 use Rattle.std.specs.List.{filter, list_any}
 use Rattle.std.specs.Option.{option_map}
@@ -20,10 +20,11 @@ use Rattle.sm_names.specs.Trackers.{Tracked, tracked, fired_at}
 abbrev pub collection_at : Timeline → Entry → Option ℕ
 collection_at before entry = collection_of (Called entry.0 entry.2 entry.1 ∷ before) entry.1 entry.2
 
--- what is waited for is of the collection
+-- the condition is on the collection
 abbrev pub IsOf : Timeline → ℕ → Condition → Type 0
 IsOf marks collection (Condition.Node key) = collection_in (births marks) key ≡ Some collection
-IsOf marks collection (Condition.Lifetime key its most) = (its ≡ collection) × (collection_in (births marks) key ≡ Some collection)
+IsOf marks collection (Condition.Lifetime key its most) =
+    (its ≡ collection) × (collection_in (births marks) key ≡ Some collection)
 IsOf marks collection (Condition.Weak buffer) = buffer.collection ≡ collection
 
 -- the collection is after the later marks as it was after the earlier ones
@@ -36,16 +37,20 @@ pub record IsAsBefore (pool : ℕ) (earlier later : Timeline) (collection : ℕ)
   pub handles : (buffer : BufferName) → buffer.collection ≡ collection → (strength : Strength) →
       open_total later buffer strength ≡ open_total earlier buffer strength
   -- which of its buffers are doomed, and which are home
-  pub dooms : (buffer : BufferName) → buffer.collection ≡ collection → doomed later buffer ≡ doomed earlier buffer
-  pub homes : (buffer : BufferName) → buffer.collection ≡ collection → home later buffer ≡ home earlier buffer
+  pub dooms : (buffer : BufferName) → buffer.collection ≡ collection →
+      doomed later buffer ≡ doomed earlier buffer
+  pub homes : (buffer : BufferName) → buffer.collection ≡ collection →
+      home later buffer ≡ home earlier buffer
   -- the pages that its buffers hold
   pub pages : filter (λ h. h.buffer.collection == collection) (held pool later)
       ≡ filter (λ h. h.buffer.collection == collection) (held pool earlier)
-  -- its ends, but for who holds them
+  -- its ends, except who holds them, and whether they are in a parcel
   pub ends : (node : NodeKey) → collection_in (births earlier) node ≡ Some collection →
       (readings later).end_of node
-      ≡ option_map (λ (e : OpenEnd). record e { holder = holder later node; in_transit = in_transit later node })
+      ≡ option_map
+      (λ (e : OpenEnd). record e { holder = holder later node; in_transit = in_transit later node })
       ((readings earlier).end_of node)
   -- when its trackers fired
-  pub trackers : (t : Tracked) → IsOf earlier collection t.condition → list_any (λ u. u.id == t.id) (tracked earlier) ≡ true →
+  pub trackers : (t : Tracked) → IsOf earlier collection t.condition →
+      list_any (λ u. u.id == t.id) (tracked earlier) ≡ true →
       fired_at later t ≡ fired_at earlier t

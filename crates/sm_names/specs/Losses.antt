@@ -1,7 +1,8 @@
 -- What a loss takes, and which nodes are gone.
 -- `blocked` restates `fuchsia.sysmem2.BufferCollectionToken.SetDispensable` and
--- `fuchsia.sysmem2.BufferCollection.AttachToken`, `released` restates `fuchsia.sysmem2.Node.Release`. That a failure takes
--- all below it, and passes through released nodes, is this profile's own.
+-- `fuchsia.sysmem2.BufferCollection.AttachToken`, `released` restates
+-- `fuchsia.sysmem2.Node.Release`. That a failure takes all nodes below, and passes through released
+-- nodes, is this profile's own.
 use Rattle.std.specs.Prelude.{Bool, false, ◌||◌, ◌&&◌, not, if◌then◌else◌, List, [], ◌∷◌, ◌≡◌, Option, Some, None, is_some}
 use Rattle.std.specs.List.{list_any}
 use Rattle.std.specs.Option.{option_map_or}
@@ -14,11 +15,13 @@ use Rattle.sm_names.specs.Marks.{Mark, Timeline, Called, Loss, Allocated, Ended}
 use Rattle.sm_names.specs.Sameness.{same_key}
 use Rattle.sm_names.specs.Words.{when}
 
--- the least set that has the origin, the parent of each member whose link to it is not blocked, and every child of
--- each member; a child is a node whose parent it is
-pub data Reach (parent : NodeKey → Option NodeKey) (blocks : NodeKey → Bool) (origin : NodeKey) : NodeKey → Type 0 where
+-- the least set that has the origin, the parent of each member whose link to it is not blocked, and
+-- every child of each member. A child of a member is a node whose parent is that member
+pub data Reach (parent : NodeKey → Option NodeKey) (blocks : NodeKey → Bool)
+    (origin : NodeKey) : NodeKey → Type 0 where
   Origin : Reach parent blocks origin origin
-  Up : (child above : NodeKey) → Reach parent blocks origin child → blocks child ≡ false → parent child ≡ Some above →
+  Up : (child above : NodeKey) → Reach parent blocks origin child → blocks child ≡ false →
+      parent child ≡ Some above →
       Reach parent blocks origin above
   Down : (above child : NodeKey) → Reach parent blocks origin above → parent child ≡ Some above →
       Reach parent blocks origin child
@@ -41,23 +44,26 @@ allocated marks node = list_any (is_allocation (head (births marks) node)) marks
 abbrev pub parent_of : Timeline → NodeKey → Option NodeKey
 parent_of marks node = option_map_or (λ (b : Birth). b.parent) (birth_of marks node) None
 
--- the node's failure does not go to its parent: it is attached, or dispensable in an allocated unit
+-- the node's failure does not propagate to its parent: the node is attached, or it is dispensable
+-- and its unit is allocated
 abbrev pub blocked : Timeline → NodeKey → Bool
 blocked marks node =
     option_map_or (λ (b : Birth). b.attached) (birth_of marks node) false
     || (list_any (is_dispensable node) marks && allocated marks node)
 
--- the highest node that a failure of the node goes to, of it and its ancestors
+-- the highest node that a failure of the node propagates to: the node itself or an ancestor
 abbrev pub top : (NodeKey → Bool) → NodeKey → List NodeKey → NodeKey
 top blocks node [] = node
 top blocks node (parent ∷ above) =
     let on : NodeKey = top blocks parent above in
     if blocks node then node else on
 
--- the node is in the reach of the origin: the failure goes up to a node that is the node or above it
+-- a failure of the origin reaches the node: it propagates up to some node, and takes that one and
+-- all below it
 abbrev pub reaches : Timeline → NodeKey → NodeKey → Bool
 reaches marks origin node =
-    is_at_or_below (births marks) (top (blocked marks) origin (ancestors (births marks) origin)) node
+    is_at_or_below (births marks)
+    (top (blocked marks) origin (ancestors (births marks) origin)) node
 
 -- the mark, coming after these, takes the node: neither a call nor an allocation takes any
 abbrev pub takes : Timeline → Mark → NodeKey → Bool
@@ -65,15 +71,17 @@ takes before (Loss origin cause) node = reaches before origin node
 takes before (Ended top) node = is_at_or_below (births before) top node
 takes before _ node = false
 
--- a failure took the node, or the end of its collection or of an attached subtree
+-- the node was taken by a failure, or by the end of its collection or of an attached subtree
 abbrev pub gone : Timeline → NodeKey → Bool
 gone [] node = false
 gone (mark ∷ before) node = takes before mark node || gone before node
 
--- the fault that the mark, coming after these, is to a node that was not gone before: only a loss is one
+-- the fault by which the node fails at the mark, coming after these: only a loss that reaches the
+-- node makes one, and only if the node was not gone before
 abbrev pub fault_at : Timeline → Mark → NodeKey → Option Fault
 fault_at before (Loss origin cause) node =
-    when (reaches before origin node && not (gone before node)) (record { cause = cause; origin = origin })
+    when (reaches before origin node && not (gone before node))
+    (record { cause = cause; origin = origin })
 fault_at before _ node = None
 
 -- the fault by which the node failed, if it did
@@ -92,4 +100,5 @@ released marks node = list_any (is_release node) marks
 
 -- born, neither gone nor released
 abbrev pub live : Timeline → NodeKey → Bool
-live marks node = is_some (birth_of marks node) && (not (gone marks node) && not (released marks node))
+live marks node =
+    is_some (birth_of marks node) && (not (gone marks node) && not (released marks node))

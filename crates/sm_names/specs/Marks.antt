@@ -18,7 +18,7 @@ pub data Mark : Type 0 where
   Loss : NodeKey → Cause → Mark
   -- the unit with this head was given its buffers
   Allocated : NodeKey → Mark
-  -- no node at or below this one was live any more, so it left, and all nodes below it
+  -- this node and all below it are gone, since none of them was live any more
   Ended : NodeKey → Mark
 
 -- the marks so far, the newest first
@@ -34,7 +34,7 @@ is_event _ = false
 abbrev pub events : Timeline → ℕ
 events marks = times is_event marks
 
--- whether a call that was answered so did what it says: with any other answer it did
+-- a call with this reply took effect: only a refusal, a misuse and PeerClosed say that it did not
 abbrev pub took_effect : Reply → Bool
 took_effect (Reply.Refused refusal) = false
 took_effect (Reply.Misused misuse) = false

@@ -33,13 +33,15 @@ pub record Member : Type 0 where
 
 -- the constraints that the mark sets on the node: only a SetConstraints that took effect sets any
 abbrev pub constraints_at : NodeKey → Mark → Option Demand
-constraints_at node (Called client Reply.Done (Call.SetConstraints key demand)) = when (same_key key node) demand
+constraints_at node (Called client Reply.Done (Call.SetConstraints key demand)) =
+    when (same_key key node) demand
 constraints_at node _ = None
 
 -- the constraints that were set on the node
 abbrev pub constraints : Timeline → NodeKey → Option Demand
 constraints [] node = None
-constraints (mark ∷ before) node = option_map_or Some (constraints_at node mark) (constraints before node)
+constraints (mark ∷ before) node =
+    option_map_or Some (constraints_at node mark) (constraints before node)
 
 -- the node as it stands after these marks
 abbrev pub member : Timeline → Birth → Member
@@ -122,7 +124,8 @@ greatest number ds = fold (λ n d. max n (number d)) 0 ds
 -- what a unit that is allocated first asks for
 abbrev pub wanted : List Member → Buffers
 wanted ms = record {
-  count = max (sum_by (λ (d : Demand). d.camping) (demands ms)) (greatest (λ d. d.at_least) (demands ms));
+  count = max (sum_by (λ (d : Demand). d.camping) (demands ms))
+      (greatest (λ d. d.at_least) (demands ms));
   size = greatest (λ d. d.size) (demands ms);
 }
 

@@ -1,4 +1,4 @@
--- What answers read of a timeline.
+-- What an answer depends on, read from a timeline.
 use Rattle.std.specs.Prelude.{not, Bool, false, if◌then◌else◌, [], None, is_some}
 use Rattle.std.specs.List.{list_any, filter}
 use Rattle.std.specs.Option.{option_map}
@@ -20,7 +20,8 @@ use Rattle.sm_names.specs.Words.{times}
 
 -- the mark takes handles through the node: only a Take that was answered Taken does
 abbrev pub is_taking : NodeKey → Mark → Bool
-is_taking node (Called client (Reply.Taken collection strength set) (Call.Take key)) = same_key key node
+is_taking node (Called client (Reply.Taken collection strength set) (Call.Take key)) =
+    same_key key node
 is_taking node _ = false
 
 -- the mark makes a tracker of the node: only a TrackNode that took effect does
@@ -28,7 +29,7 @@ abbrev pub is_tracking : NodeKey → Mark → Bool
 is_tracking node (Called client (Reply.Tracker id) (Call.TrackNode key)) = same_key key node
 is_tracking node _ = false
 
--- the end of a node that was born so
+-- the end of the node with this birth, unless the end is spent
 abbrev pub open_end : Timeline → Birth → OpenEnd
 open_end marks b = record {
   holder = holder marks b.node;
@@ -43,16 +44,18 @@ open_end marks b = record {
   node_trackers = times (is_tracking b.node) marks;
   buffers = if allocated marks b.node then buffers_of marks b.collection else None;
   to_open =
-      if allocated marks b.node then filter (λ name. not (doomed marks name)) (buffer_names marks b.collection) else [];
+      if allocated marks b.node
+      then filter (λ name. not (doomed marks name)) (buffer_names marks b.collection) else [];
 }
 
--- what answers read of a timeline
+-- all that an answer depends on, after these marks
 abbrev pub readings : Timeline → Readings
 readings marks = record {
   events = events marks;
   has_joined = has_joined marks;
   is_shut = is_shut marks;
-  end_of = λ node. if spent marks node then None else option_map (open_end marks) (birth_of marks node);
+  end_of = λ node.
+      if spent marks node then None else option_map (open_end marks) (birth_of marks node);
   waiting = parcels marks;
   open_of = open_of marks;
   open_total = open_total marks;

@@ -23,7 +23,8 @@ use Rattle.sm_names.specs.Words.{first_some, when}
 -- each buffer with its pages; there are as many starts as buffers
 abbrev pub laid_out : ℕ → List BufferName → List ℕ → List HeldBuffer
 laid_out pages (b ∷ bs) (start ∷ starts) =
-    record { buffer = b; pages = record { start = start; pages = pages } } ∷ laid_out pages bs starts
+    record { buffer = b; pages = record { start = start; pages = pages } }
+    ∷ laid_out pages bs starts
 laid_out pages _ _ = []
 
 -- the collection's buffers, laid out in the pool as its root unit asks for them
@@ -36,7 +37,8 @@ layout pool collection buffers held =
 abbrev pub layout_at : ℕ → Timeline → List Interval → Mark → List HeldBuffer
 layout_at pool before held (Allocated head) = option_map_or
     (λ (b : Birth).
-    if is_none b.parent then layout pool b.collection (asked (members before b.collection)) held else [])
+    if is_none b.parent
+    then layout pool b.collection (asked (members before b.collection)) held else [])
     (birth_of before head) []
 layout_at pool before held _ = []
 
@@ -48,7 +50,8 @@ still_out marks placed = filter (λ h. not (home marks h.buffer)) placed
 abbrev pub placed : ℕ → Timeline → List HeldBuffer
 placed pool [] = []
 placed pool (mark ∷ before) =
-    layout_at pool before (map (λ h. h.pages) (still_out before (placed pool before))) mark ++ placed pool before
+    layout_at pool before (map (λ h. h.pages) (still_out before (placed pool before))) mark
+    ++ placed pool before
 
 -- the pages of each buffer that is not home
 abbrev pub held : ℕ → Timeline → List HeldBuffer
@@ -59,7 +62,8 @@ abbrev pub standing : ℕ → Timeline → ℕ → Standing
 standing pool marks collection = record {
   members = members marks collection;
   buffers = buffers_of marks collection;
-  strong_open = list_any (λ b. nat_lt 0 (open_total marks b Strength.Strong)) (buffer_names marks collection);
+  strong_open =
+      list_any (λ b. nat_lt 0 (open_total marks b Strength.Strong)) (buffer_names marks collection);
   held = map (λ h. h.pages) (held pool marks);
 }
 
@@ -69,18 +73,20 @@ next_forced pool collection marks = forced pool (standing pool marks collection)
 
 -- the marks and then those that the collection forces, one after another, until it forces none
 pub data Settles (pool collection : ℕ) : Timeline → Timeline → Type 0 where
-  Rests : (marks : Timeline) → next_forced pool collection marks ≡ None → Settles pool collection marks marks
+  Rests : (marks : Timeline) → next_forced pool collection marks ≡ None →
+      Settles pool collection marks marks
   Forces : (marks after : Timeline) (mark : Mark) → next_forced pool collection marks ≡ Some mark →
       Settles pool collection (mark ∷ marks) after → Settles pool collection marks after
 
--- the same, at most so many
+-- the marks and then those that the collection forces, at most so many
 abbrev pub settled_within : ℕ → ℕ → ℕ → Timeline → Timeline
 settled_within pool collection zero marks = marks
 settled_within pool collection (suc most) marks =
     option_map_or (λ mark. settled_within pool collection most (mark ∷ marks))
     (next_forced pool collection marks) marks
 
--- the same: each node is lost, and heads a unit that is allocated, at most once
+-- the marks and then all that the collection forces. Each of these takes a node or allocates a
+-- unit, so there are at most two for each node
 abbrev pub settled : ℕ → ℕ → Timeline → Timeline
 settled pool collection marks = settled_within pool collection (2 * length (births marks)) marks
 
@@ -131,11 +137,12 @@ collection_of marks call reply = first_some (
     ∷ opened_by call reply
     ∷ [])
 
--- the loss that the call makes itself: a node that is not gone is closed, or misused; no other call and reply make
--- one
+-- the loss that the call itself makes: a Close of a node that is not gone, or a misuse. No other
+-- call and reply make one
 abbrev pub own_loss : Timeline → Call → Reply → Option Mark
 own_loss before (Call.Close key) Reply.Done = when (not (gone before key)) (Loss key Cause.Lost)
-own_loss before call (Reply.Misused misuse) = option_map (λ key. Loss key (Cause.Misused misuse)) (key_of call)
+own_loss before call (Reply.Misused misuse) =
+    option_map (λ key. Loss key (Cause.Misused misuse)) (key_of call)
 own_loss before call _ = None
 
 -- the marks after one more event
@@ -143,7 +150,8 @@ abbrev pub after : ℕ → Timeline → Entry → Timeline
 after pool before entry =
     let called : Timeline = Called entry.0 entry.2 entry.1 ∷ before in
     let lost : Timeline = cons_option (own_loss before entry.1 entry.2) called in
-    option_map_or (λ collection. settled pool collection lost) (collection_of called entry.1 entry.2) lost
+    option_map_or (λ collection. settled pool collection lost)
+    (collection_of called entry.1 entry.2) lost
 
 -- the marks of a history, whose events stand in order
 abbrev pub timeline : ℕ → List Entry → Timeline

@@ -1,5 +1,6 @@
 -- Which nodes are weak, and which may take weak handles.
--- `weak` restates `fuchsia.sysmem2.Node.SetWeak`, `weak_ok` restates `fuchsia.sysmem2.Node.SetWeakOk`.
+-- `weak` restates `fuchsia.sysmem2.Node.SetWeak`, `weak_ok` restates
+-- `fuchsia.sysmem2.Node.SetWeakOk`.
 use Rattle.std.specs.Prelude.{Bool, true, false, ◌||◌, if◌then◌else◌, [], ◌∷◌, Option, None}
 use Rattle.std.specs.List.{list_any}
 use Rattle.std.specs.Option.{option_map_or, option_and_then}
@@ -13,7 +14,8 @@ use Rattle.sm_names.specs.Sameness.{same_key}
 -- the parent of the node, if the mark is the node's birth
 abbrev pub born_to : NodeKey → Mark → Option NodeKey
 born_to node mark =
-    option_and_then (λ (b : Birth). if same_key b.node node then b.parent else None) (birth_at 0 mark)
+    option_and_then (λ (b : Birth). if same_key b.node node then b.parent else None)
+    (birth_at 0 mark)
 
 -- the mark is a SetWeak of the node that took effect, as no other mark is
 abbrev pub sets_weak : NodeKey → Mark → Bool
@@ -25,7 +27,7 @@ abbrev pub sets_weak_ok : NodeKey → Mark → Bool
 sets_weak_ok node (Called client Reply.Done (Call.SetWeakOk key children)) = same_key key node
 sets_weak_ok node _ = false
 
--- the mark is a SetWeakOk of the node that took effect, and asks it for children too
+-- the mark is a SetWeakOk of the node for children too, and took effect
 abbrev pub covers_children : NodeKey → Mark → Bool
 covers_children node (Called client Reply.Done (Call.SetWeakOk key true)) = same_key key node
 covers_children node _ = false
@@ -34,9 +36,10 @@ covers_children node _ = false
 abbrev pub weak : Timeline → NodeKey → Bool
 weak [] node = false
 weak (mark ∷ before) node =
-    sets_weak node mark || (option_map_or (weak before) (born_to node mark) false || weak before node)
+    sets_weak node mark
+    || (option_map_or (weak before) (born_to node mark) false || weak before node)
 
--- a node on the line above asked for children before the next one down the line was born
+-- an ancestor sent SetWeakOk for children before its child on the way down to the node was born
 abbrev pub covered : Timeline → NodeKey → Bool
 covered [] node = false
 covered (mark ∷ before) node =

@@ -2,7 +2,7 @@
 use Rattle.std.specs.Prelude.{ℕ, ◌+◌, Bool, nat_lt, if◌then◌else◌, List, [], ◌∷◌, Option, Some, None}
 use Rattle.std.specs.Option.{option_map_or}
 
--- how many pass the test; the last one is counted first, so that a list grows by one step
+-- how many elements pass the test. A new first element is one more step
 abbrev pub times : {A : Type 0} → (A → Bool) → List A → ℕ
 times test [] = 0
 times test (x ∷ xs) = if test x then times test xs + 1 else times test xs
@@ -21,12 +21,13 @@ abbrev pub last_match : {A : Type 0} → (A → Bool) → List A → Option A
 last_match test [] = None
 last_match test (x ∷ xs) = option_map_or Some (last_match test xs) (if test x then Some x else None)
 
--- the element in its place among those with a smaller number
+-- the list with the element before the first one whose number is no smaller
 abbrev pub insert_by : {A : Type 0} → (A → ℕ) → A → List A → List A
 insert_by number x [] = x ∷ []
-insert_by number x (y ∷ ys) = if nat_lt (number y) (number x) then y ∷ insert_by number x ys else x ∷ y ∷ ys
+insert_by number x (y ∷ ys) =
+    if nat_lt (number y) (number x) then y ∷ insert_by number x ys else x ∷ y ∷ ys
 
--- the elements by their numbers
+-- the elements, sorted by their numbers
 abbrev pub sorted_by : {A : Type 0} → (A → ℕ) → List A → List A
 sorted_by number [] = []
 sorted_by number (x ∷ xs) = insert_by number x (sorted_by number xs)

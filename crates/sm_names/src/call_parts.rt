@@ -60,7 +60,7 @@ pub enum ArgumentForm {
     Gift,
 }
 
-/// What calls of a kind make or bring, where they take effect.
+/// What calls of a kind make or bring, if they take effect.
 #[derive(Clone, Copy, Debug, PartialEq, Eq)]
 pub enum Product {
     Nothing,
@@ -100,7 +100,7 @@ pub enum Spends {
     IfMet,
 }
 
-/// What calls of a kind are answered, where they take effect.
+/// What calls of a kind are answered, if they take effect.
 #[derive(Clone, Copy, Debug, PartialEq, Eq)]
 pub enum Answer {
     Done,
@@ -116,8 +116,8 @@ pub enum Answer {
     Tracker,
 }
 
-/// What is true of each call of a kind. A kind that brings nothing, spends nothing and is answered Done or
-/// Allocated may be a query, which changes nothing.
+/// What is true of each call of a kind. A kind that brings nothing, spends nothing and is answered
+/// Done or Allocated may be a query, which changes nothing.
 #[derive(Clone, Copy, Debug, PartialEq, Eq)]
 pub struct CallRow {
     pub on: Target,

@@ -81,30 +81,50 @@ fn parts(
     }
 }
 
+// Parts of a call on nothing.
+fn bare(kind: CallKind) -> CallParts
+    ensures { result ≡ parts_told kind Object.Nothing Argument.Nothing }
+{
+    parts(kind, Object::Nothing, Argument::Nothing)
+}
+
+// Parts of a call on a node, without an argument.
+fn on_node(kind: CallKind, key: NodeKey) -> CallParts
+    ensures { result ≡ parts_told kind (Object.Node key) Argument.Nothing }
+{
+    parts(kind, Object::Node(key), Argument::Nothing)
+}
+
+// Parts of a call on handles of a buffer, with this argument.
+fn on_buffer(kind: CallKind, buffer: BufferName, argument: Argument<ClientId>) -> CallParts
+    ensures { result ≡ parts_told kind (Object.Buffer buffer) argument }
+{
+    parts(kind, Object::Buffer(buffer), argument)
+}
+
+// Parts of a call on a handle of this buffer and strength.
+fn on_handle(kind: CallKind, buffer: BufferName, strength: Strength) -> CallParts
+    ensures { result ≡ parts_told kind (Object.Buffer buffer) (Argument.Strength strength) }
+{
+    on_buffer(kind, buffer, Argument::Strength(strength))
+}
+
 /// The call, taken apart. Takes a constant time.
 pub fn parts_of(call: Call) -> CallParts
     ensures { result ≡ parts_made call }
 {
     match call {
-        Call::Join => parts(CallKind::Join, Object::Nothing, Argument::Nothing),
-        Call::Shut => parts(CallKind::Shut, Object::Nothing, Argument::Nothing),
-        Call::OpenRoot => parts(CallKind::OpenRoot, Object::Nothing, Argument::Nothing),
-        Call::Duplicate(key) => parts(CallKind::Duplicate, Object::Node(key), Argument::Nothing),
-        Call::AttachToken(key) => parts(
-            CallKind::AttachToken,
-            Object::Node(key),
-            Argument::Nothing,
-        ),
-        Call::Sync(key) => parts(CallKind::Sync, Object::Node(key), Argument::Nothing),
+        Call::Join => bare(CallKind::Join),
+        Call::Shut => bare(CallKind::Shut),
+        Call::OpenRoot => bare(CallKind::OpenRoot),
+        Call::Duplicate(key) => on_node(CallKind::Duplicate, key),
+        Call::AttachToken(key) => on_node(CallKind::AttachToken, key),
+        Call::Sync(key) => on_node(CallKind::Sync, key),
         Call::Give(key, to) => parts(CallKind::Give, Object::Node(key), Argument::Client(to)),
-        Call::Collect => parts(CallKind::Collect, Object::Nothing, Argument::Nothing),
-        Call::Bind(key) => parts(CallKind::Bind, Object::Node(key), Argument::Nothing),
-        Call::SetDispensable(key) => parts(
-            CallKind::SetDispensable,
-            Object::Node(key),
-            Argument::Nothing,
-        ),
-        Call::SetWeak(key) => parts(CallKind::SetWeak, Object::Node(key), Argument::Nothing),
+        Call::Collect => bare(CallKind::Collect),
+        Call::Bind(key) => on_node(CallKind::Bind, key),
+        Call::SetDispensable(key) => on_node(CallKind::SetDispensable, key),
+        Call::SetWeak(key) => on_node(CallKind::SetWeak, key),
         Call::SetWeakOk(key, children) => parts(
             CallKind::SetWeakOk,
             Object::Node(key),
@@ -115,40 +135,26 @@ pub fn parts_of(call: Call) -> CallParts
             Object::Node(key),
             Argument::Constraints(constraints),
         ),
-        Call::Check(key) => parts(CallKind::Check, Object::Node(key), Argument::Nothing),
-        Call::Take(key) => parts(CallKind::Take, Object::Node(key), Argument::Nothing),
-        Call::Release(key) => parts(CallKind::Release, Object::Node(key), Argument::Nothing),
-        Call::Close(key) => parts(CallKind::Close, Object::Node(key), Argument::Nothing),
-        Call::DupHandle(buffer, strength) => parts(
-            CallKind::DupHandle,
-            Object::Buffer(buffer),
-            Argument::Strength(strength),
-        ),
-        Call::DropHandle(buffer, strength) => parts(
-            CallKind::DropHandle,
-            Object::Buffer(buffer),
-            Argument::Strength(strength),
-        ),
-        Call::GiveHandle(buffer, strength, to) => parts(
-            CallKind::GiveHandle,
-            Object::Buffer(buffer),
-            Argument::Gift(strength, to),
-        ),
-        Call::TrackNode(key) => parts(CallKind::TrackNode, Object::Node(key), Argument::Nothing),
+        Call::Check(key) => on_node(CallKind::Check, key),
+        Call::Take(key) => on_node(CallKind::Take, key),
+        Call::Release(key) => on_node(CallKind::Release, key),
+        Call::Close(key) => on_node(CallKind::Close, key),
+        Call::DupHandle(buffer, strength) => on_handle(CallKind::DupHandle, buffer, strength),
+        Call::DropHandle(buffer, strength) => on_handle(CallKind::DropHandle, buffer, strength),
+        Call::GiveHandle(buffer, strength, to) => {
+            on_buffer(CallKind::GiveHandle, buffer, Argument::Gift(strength, to))
+        }
+        Call::TrackNode(key) => on_node(CallKind::TrackNode, key),
         Call::TrackLifetime(key, most) => parts(
             CallKind::TrackLifetime,
             Object::Node(key),
             Argument::Most(most),
         ),
-        Call::TrackWeak(buffer) => parts(
-            CallKind::TrackWeak,
-            Object::Buffer(buffer),
-            Argument::Nothing,
-        ),
+        Call::TrackWeak(buffer) => on_buffer(CallKind::TrackWeak, buffer, Argument::Nothing),
     }
 }
 
-// The call, where it is made on nothing and says nothing else.
+// This call, if there is neither an object nor an argument.
 fn only(
     object: Object<NodeKey, BufferName>,
     argument: Argument<ClientId>,
@@ -182,7 +188,7 @@ pub fn object_buffer(object: Object<NodeKey, BufferName>) -> Option<BufferName>
     }
 }
 
-// The node, where nothing else is said.
+// The node, if there is no argument.
 fn plain_key(object: Object<NodeKey, BufferName>, argument: Argument<ClientId>) -> Option<NodeKey>
     ensures { result ≡ plain_key_in object argument }
 {
@@ -192,7 +198,7 @@ fn plain_key(object: Object<NodeKey, BufferName>, argument: Argument<ClientId>) 
     }
 }
 
-// The buffer, where nothing else is said.
+// The buffer, if there is no argument.
 fn plain_buffer(
     object: Object<NodeKey, BufferName>,
     argument: Argument<ClientId>,
@@ -265,53 +271,44 @@ fn gift_in(argument: Argument<ClientId>) -> Option<(Strength, ClientId)>
     }
 }
 
-/// The call of these parts, or `None` where the object or the argument is not of the kind. Takes a constant
-/// time.
+/// The call of these parts, or `None` if the object or the argument does not fit the kind. Takes a
+/// constant time.
 pub fn call_of(parts: CallParts) -> Option<Call>
     ensures { result ≡ made_of parts }
 {
-    let object = parts.object;
-    let argument = parts.argument;
+    let on = parts.object;
+    let says = parts.argument;
     match parts.kind {
-        CallKind::Join => only(object, argument, Call::Join),
-        CallKind::Shut => only(object, argument, Call::Shut),
-        CallKind::OpenRoot => only(object, argument, Call::OpenRoot),
-        CallKind::Duplicate => Some(Call::Duplicate(plain_key(object, argument)?)),
-        CallKind::AttachToken => Some(Call::AttachToken(plain_key(object, argument)?)),
-        CallKind::Sync => Some(Call::Sync(plain_key(object, argument)?)),
-        CallKind::Give => Some(Call::Give(object_key(object)?, client_in(argument)?)),
-        CallKind::Collect => only(object, argument, Call::Collect),
-        CallKind::Bind => Some(Call::Bind(plain_key(object, argument)?)),
-        CallKind::SetDispensable => Some(Call::SetDispensable(plain_key(object, argument)?)),
-        CallKind::SetWeak => Some(Call::SetWeak(plain_key(object, argument)?)),
-        CallKind::SetWeakOk => Some(Call::SetWeakOk(object_key(object)?, children_in(argument)?)),
+        CallKind::Join => only(on, says, Call::Join),
+        CallKind::Shut => only(on, says, Call::Shut),
+        CallKind::OpenRoot => only(on, says, Call::OpenRoot),
+        CallKind::Duplicate => Some(Call::Duplicate(plain_key(on, says)?)),
+        CallKind::AttachToken => Some(Call::AttachToken(plain_key(on, says)?)),
+        CallKind::Sync => Some(Call::Sync(plain_key(on, says)?)),
+        CallKind::Give => Some(Call::Give(object_key(on)?, client_in(says)?)),
+        CallKind::Collect => only(on, says, Call::Collect),
+        CallKind::Bind => Some(Call::Bind(plain_key(on, says)?)),
+        CallKind::SetDispensable => Some(Call::SetDispensable(plain_key(on, says)?)),
+        CallKind::SetWeak => Some(Call::SetWeak(plain_key(on, says)?)),
+        CallKind::SetWeakOk => Some(Call::SetWeakOk(object_key(on)?, children_in(says)?)),
         CallKind::SetConstraints => Some(Call::SetConstraints(
-            object_key(object)?,
-            constraints_in(argument)?,
+            object_key(on)?,
+            constraints_in(says)?,
         )),
-        CallKind::Check => Some(Call::Check(plain_key(object, argument)?)),
-        CallKind::Take => Some(Call::Take(plain_key(object, argument)?)),
-        CallKind::Release => Some(Call::Release(plain_key(object, argument)?)),
-        CallKind::Close => Some(Call::Close(plain_key(object, argument)?)),
-        CallKind::DupHandle => Some(Call::DupHandle(
-            object_buffer(object)?,
-            strength_in(argument)?,
-        )),
-        CallKind::DropHandle => Some(Call::DropHandle(
-            object_buffer(object)?,
-            strength_in(argument)?,
-        )),
+        CallKind::Check => Some(Call::Check(plain_key(on, says)?)),
+        CallKind::Take => Some(Call::Take(plain_key(on, says)?)),
+        CallKind::Release => Some(Call::Release(plain_key(on, says)?)),
+        CallKind::Close => Some(Call::Close(plain_key(on, says)?)),
+        CallKind::DupHandle => Some(Call::DupHandle(object_buffer(on)?, strength_in(says)?)),
+        CallKind::DropHandle => Some(Call::DropHandle(object_buffer(on)?, strength_in(says)?)),
         CallKind::GiveHandle => {
-            let buffer = object_buffer(object)?;
-            let (strength, to) = gift_in(argument)?;
+            let buffer = object_buffer(on)?;
+            let (strength, to) = gift_in(says)?;
             Some(Call::GiveHandle(buffer, strength, to))
         }
-        CallKind::TrackNode => Some(Call::TrackNode(plain_key(object, argument)?)),
-        CallKind::TrackLifetime => Some(Call::TrackLifetime(
-            object_key(object)?,
-            most_in(argument)?,
-        )),
-        CallKind::TrackWeak => Some(Call::TrackWeak(plain_buffer(object, argument)?)),
+        CallKind::TrackNode => Some(Call::TrackNode(plain_key(on, says)?)),
+        CallKind::TrackLifetime => Some(Call::TrackLifetime(object_key(on)?, most_in(says)?)),
+        CallKind::TrackWeak => Some(Call::TrackWeak(plain_buffer(on, says)?)),
     }
 }
 
@@ -328,130 +325,69 @@ fn row(on: Target, says: ArgumentForm, brings: Product, spends: Spends, answers:
     }
 }
 
+// The row of a kind that says, brings and spends nothing.
+fn plain(on: Target, answers: Answer) -> CallRow
+    ensures { result ≡ row_told on ArgumentForm.Nothing Product.Nothing Spends.Never answers }
+{
+    row(
+        on,
+        ArgumentForm::Nothing,
+        Product::Nothing,
+        Spends::Never,
+        answers,
+    )
+}
+
+// The row of a kind that sets something and is answered Done.
+fn setter(on: Target, says: ArgumentForm) -> CallRow
+    ensures { result ≡ row_told on says Product.Nothing Spends.Never Answer.Done }
+{
+    row(on, says, Product::Nothing, Spends::Never, Answer::Done)
+}
+
+// The row of a kind that spends what it is made on and is answered Done.
+fn spender(on: Target, says: ArgumentForm, spends: Spends) -> CallRow
+    ensures { result ≡ row_told on says Product.Nothing spends Answer.Done }
+{
+    row(on, says, Product::Nothing, spends, Answer::Done)
+}
+
+// The row of a kind that makes or brings something and says nothing.
+fn maker(on: Target, brings: Product, answers: Answer) -> CallRow
+    ensures { result ≡ row_told on ArgumentForm.Nothing brings Spends.Never answers }
+{
+    row(on, ArgumentForm::Nothing, brings, Spends::Never, answers)
+}
+
+// The row of a kind that makes a tracker.
+fn tracker(on: Target, says: ArgumentForm) -> CallRow
+    ensures { result ≡ row_told on says Product.Tracker Spends.Never Answer.Tracker }
+{
+    row(on, says, Product::Tracker, Spends::Never, Answer::Tracker)
+}
+
 /// The row of the kind. Takes a constant time.
 pub fn row_of(kind: CallKind) -> CallRow
     ensures { result ≡ row_at kind }
 {
     match kind {
-        CallKind::Join => row(
-            Target::Nothing,
-            ArgumentForm::Nothing,
-            Product::Client,
-            Spends::Never,
-            Answer::Joined,
-        ),
-        CallKind::Shut => row(
-            Target::Nothing,
-            ArgumentForm::Nothing,
-            Product::Nothing,
-            Spends::Never,
-            Answer::Shut,
-        ),
-        CallKind::OpenRoot => row(
-            Target::Nothing,
-            ArgumentForm::Nothing,
-            Product::Collection,
-            Spends::Never,
-            Answer::Token,
-        ),
-        CallKind::Duplicate => row(
-            Target::Token,
-            ArgumentForm::Nothing,
-            Product::Node,
-            Spends::Never,
-            Answer::Token,
-        ),
-        CallKind::AttachToken => row(
-            Target::Collection,
-            ArgumentForm::Nothing,
-            Product::Node,
-            Spends::Never,
-            Answer::Token,
-        ),
-        CallKind::Sync => row(
-            Target::End,
-            ArgumentForm::Nothing,
-            Product::Nothing,
-            Spends::Never,
-            Answer::Done,
-        ),
-        CallKind::Give => row(
-            Target::End,
-            ArgumentForm::Client,
-            Product::Nothing,
-            Spends::IfDone,
-            Answer::Done,
-        ),
-        CallKind::Collect => row(
-            Target::Nothing,
-            ArgumentForm::Nothing,
-            Product::Parcel,
-            Spends::Never,
-            Answer::Parcel,
-        ),
-        CallKind::Bind => row(
-            Target::Token,
-            ArgumentForm::Nothing,
-            Product::Nothing,
-            Spends::IfDone,
-            Answer::Done,
-        ),
-        CallKind::SetDispensable => row(
-            Target::Token,
-            ArgumentForm::Nothing,
-            Product::Nothing,
-            Spends::Never,
-            Answer::Done,
-        ),
-        CallKind::SetWeak => row(
-            Target::End,
-            ArgumentForm::Nothing,
-            Product::Nothing,
-            Spends::Never,
-            Answer::Done,
-        ),
-        CallKind::SetWeakOk => row(
-            Target::End,
-            ArgumentForm::Children,
-            Product::Nothing,
-            Spends::Never,
-            Answer::Done,
-        ),
-        CallKind::SetConstraints => row(
-            Target::Collection,
-            ArgumentForm::Constraints,
-            Product::Nothing,
-            Spends::Never,
-            Answer::Done,
-        ),
-        CallKind::Check => row(
-            Target::Collection,
-            ArgumentForm::Nothing,
-            Product::Nothing,
-            Spends::Never,
-            Answer::Allocated,
-        ),
-        CallKind::Take => row(
-            Target::Collection,
-            ArgumentForm::Nothing,
-            Product::Handles,
-            Spends::Never,
-            Answer::Taken,
-        ),
-        CallKind::Release => row(
-            Target::End,
-            ArgumentForm::Nothing,
-            Product::Nothing,
-            Spends::IfMet,
-            Answer::Done,
-        ),
-        CallKind::Close => row(
-            Target::End,
-            ArgumentForm::Nothing,
-            Product::Nothing,
-            Spends::IfDone,
-            Answer::Done,
-        ),
+        CallKind::Join => maker(Target::Nothing, Product::Client, Answer::Joined),
+        CallKind::Shut => plain(Target::Nothing, Answer::Shut),
+        CallKind::OpenRoot => maker(Target::Nothing, Product::Collection, Answer::Token),
+        CallKind::Duplicate => maker(Target::Token, Product::Node, Answer::Token),
+        CallKind::AttachToken => maker(Target::Collection, Product::Node, Answer::Token),
+        CallKind::Sync => plain(Target::End, Answer::Done),
+        CallKind::Give => spender(Target::End, ArgumentForm::Client, Spends::IfDone),
+        CallKind::Collect => maker(Target::Nothing, Product::Parcel, Answer::Parcel),
+        CallKind::Bind => spender(Target::Token, ArgumentForm::Nothing, Spends::IfDone),
+        CallKind::SetDispensable => setter(Target::Token, ArgumentForm::Nothing),
+        CallKind::SetWeak => setter(Target::End, ArgumentForm::Nothing),
+        CallKind::SetWeakOk => setter(Target::End, ArgumentForm::Children),
+        CallKind::SetConstraints => setter(Target::Collection, ArgumentForm::Constraints),
+        CallKind::Check => plain(Target::Collection, Answer::Allocated),
+        CallKind::Take => maker(Target::Collection, Product::Handles, Answer::Taken),
+        CallKind::Release => spender(Target::End, ArgumentForm::Nothing, Spends::IfMet),
+        CallKind::Close => spender(Target::End, ArgumentForm::Nothing, Spends::IfDone),
         CallKind::DupHandle => row(
             Target::Handle,
             ArgumentForm::Strength,
@@ -459,41 +395,11 @@ pub fn row_of(kind: CallKind) -> CallRow
             Spends::Never,
             Answer::Done,
         ),
-        CallKind::DropHandle => row(
-            Target::Handle,
-            ArgumentForm::Strength,
-            Product::Nothing,
-            Spends::IfDone,
-            Answer::Done,
-        ),
-        CallKind::GiveHandle => row(
-            Target::Handle,
-            ArgumentForm::Gift,
-            Product::Nothing,
-            Spends::IfDone,
-            Answer::Done,
-        ),
-        CallKind::TrackNode => row(
-            Target::End,
-            ArgumentForm::Nothing,
-            Product::Tracker,
-            Spends::Never,
-            Answer::Tracker,
-        ),
-        CallKind::TrackLifetime => row(
-            Target::Collection,
-            ArgumentForm::Most,
-            Product::Tracker,
-            Spends::Never,
-            Answer::Tracker,
-        ),
-        CallKind::TrackWeak => row(
-            Target::Handle,
-            ArgumentForm::Nothing,
-            Product::Tracker,
-            Spends::Never,
-            Answer::Tracker,
-        ),
+        CallKind::DropHandle => spender(Target::Handle, ArgumentForm::Strength, Spends::IfDone),
+        CallKind::GiveHandle => spender(Target::Handle, ArgumentForm::Gift, Spends::IfDone),
+        CallKind::TrackNode => tracker(Target::End, ArgumentForm::Nothing),
+        CallKind::TrackLifetime => tracker(Target::Collection, ArgumentForm::Most),
+        CallKind::TrackWeak => tracker(Target::Handle, ArgumentForm::Nothing),
     }
 }
 
@@ -556,7 +462,8 @@ fn place_of(kinds: &[CallKind], word: &[u8]) -> Option<usize>
     kinds.iter().position(|kind| is_word(word, *kind))
 }
 
-/// The kind of this word, or `None` if there is none. Costs a comparison with the word of each kind.
+/// The kind of this word, or `None` if there is none. Costs a comparison with the word of each
+/// kind.
 pub fn kind_named(word: &[u8]) -> Option<CallKind>
     ensures { result ≡ kind_spelled word.now }
 {

@@ -9,8 +9,8 @@ pub type CollectionId = u64;
 /// The number of the event that made the tracker.
 pub type TrackerId = u64;
 
-/// A node of a collection's tree. A key is given to one node only, ever: a slot that comes back
-/// has another generation.
+/// A node of a collection's tree. A key is given to one node only, ever: a slot that is used
+/// again has another generation.
 #[derive(Clone, Copy, Debug, PartialEq, Eq, PartialOrd, Ord, Hash)]
 pub struct NodeKey {
     pub slot: u32,

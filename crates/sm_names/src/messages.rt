@@ -1,4 +1,4 @@
-//! What clients ask, what they are told, and what they give to each other.
+//! What clients ask, what they are answered, and what they give to each other.
 use crate::demands::Constraints;
 use crate::keys::{BufferName, ClientId, CollectionId, Kind, NodeKey, Strength, TrackerId};
 use crate::outcomes::{Cause, Misuse, Refusal};
@@ -10,11 +10,13 @@ pub enum Call {
     Join,
     /// Shuts the caller: it is given nothing more, and asks for no more ends or trackers.
     Shut,
-    /// Makes a collection and its root token (`fuchsia.sysmem2.Allocator.AllocateSharedCollection`).
+    /// Makes a collection and its root token
+    /// (`fuchsia.sysmem2.Allocator.AllocateSharedCollection`).
     OpenRoot,
     /// Makes a child token of a token (`fuchsia.sysmem2.BufferCollectionToken.Duplicate`).
     Duplicate(NodeKey),
-    /// Makes an attached child token of a collection (`fuchsia.sysmem2.BufferCollection.AttachToken`).
+    /// Makes an attached child token of a collection
+    /// (`fuchsia.sysmem2.BufferCollection.AttachToken`).
     AttachToken(NodeKey),
     /// Answers once the earlier calls were received (`fuchsia.sysmem2.Node.Sync`).
     Sync(NodeKey),
@@ -24,7 +26,7 @@ pub enum Call {
     Collect,
     /// Turns a token into a collection (`fuchsia.sysmem2.Allocator.BindSharedCollection`).
     Bind(NodeKey),
-    /// Once the node's unit is allocated, its failure goes no further up
+    /// Once the node's unit is allocated, the node's failure does not propagate to its parent
     /// (`fuchsia.sysmem2.BufferCollectionToken.SetDispensable`).
     SetDispensable(NodeKey),
     /// The node, and children made from now on, keep no buffer alive
@@ -41,7 +43,7 @@ pub enum Call {
     /// Opens a handle on each buffer that is not doomed
     /// (`fuchsia.sysmem2.BufferCollection.WaitForAllBuffersAllocated`, without the wait).
     Take(NodeKey),
-    /// Leaves without a failure, and spends the end (`fuchsia.sysmem2.Node.Release`).
+    /// Releases the node, which does not fail, and spends the end (`fuchsia.sysmem2.Node.Release`).
     Release(NodeKey),
     /// Closes the end: without a Release before it, the node fails.
     Close(NodeKey),
@@ -54,7 +56,8 @@ pub enum Call {
     /// Makes a tracker that fires once the node is gone
     /// (`fuchsia.sysmem2.Node.AttachNodeTracking`).
     TrackNode(NodeKey),
-    /// Makes a tracker that fires once at most so many buffers are left
+    /// Makes a tracker that fires once the node's unit is allocated and at most so many buffers of
+    /// its collection are not home, or once the node is gone and its unit was never allocated
     /// (`fuchsia.sysmem2.BufferCollection.AttachLifetimeTracking`).
     TrackLifetime(NodeKey, u32),
     /// Makes a tracker that fires once the buffer is doomed (the field `close_weak_asap` of
@@ -62,10 +65,10 @@ pub enum Call {
     TrackWeak(BufferName),
 }
 
-/// What a client is told.
+/// What a call is answered.
 #[derive(Clone, Copy, Debug, PartialEq, Eq)]
 pub enum Reply {
-    /// The call took effect, and there is nothing to tell.
+    /// The call took effect.
     Done,
     /// The new client.
     Joined(ClientId),

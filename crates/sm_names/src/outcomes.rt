@@ -1,4 +1,4 @@
-//! How calls, nodes and allocations come out.
+//! Why calls are refused, and why nodes and allocations fail.
 ghost use Rattle.std.specs.Prelude.{◌≡◌};
 ghost use Rattle.sm_names.specs.Numbers.{misuse_name, misuse_number, refusal_name, refusal_number};
 
@@ -74,7 +74,7 @@ pub enum Cause {
     Misused(Misuse),
     /// An allocation failed.
     Failed(Failure),
-    /// The buffers are there, and nothing strong keeps them any more.
+    /// The collection is allocated, and no strong node or handle keeps its buffers any more.
     NoStrong,
 }
 
@@ -105,20 +105,20 @@ pub enum Refusal {
     InTransit,
     /// The call is for an end of the other kind.
     WrongKind,
-    /// As many nodes are kept as may be.
+    /// The number of kept nodes is at its limit.
     TooManyNodes,
-    /// As many collections are kept as may be.
+    /// The number of kept collections is at its limit.
     TooManyCollections,
-    /// As many trackers wait as may.
+    /// The number of waiting trackers is at its limit.
     TrackersFull,
     /// The caller has no such handle open.
     NoSuchHandle,
-    /// As many handles of that buffer and strength are open as may be.
+    /// The number of open handles of a buffer and strength is at its limit.
     TooManyHandles,
 }
 
 impl Refusal {
-    /// The refusal's number, from 1, in the order in which refusals are looked at. Takes a
+    /// The refusal's number, from 1, in the order in which a call is checked for them. Takes a
     /// constant time.
     pub fn number(self) -> u8
         ensures { result ≡ refusal_number self }
@@ -159,7 +159,7 @@ impl Refusal {
 /// Why a step was not made. It is then no event, and nothing changed.
 #[derive(Clone, Copy, Debug, PartialEq, Eq)]
 pub enum StepFault {
-    /// As many events were made as may be.
+    /// The number of events is at its limit.
     HistoryFull,
     /// Memory was refused.
     NoMemory,

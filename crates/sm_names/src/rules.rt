@@ -3,8 +3,9 @@
 /// The greatest number of events that limits may allow. The number of an event has 32 bits.
 pub const MAX_EVENTS: u32 = u32::MAX;
 
-/// The greatest number of nodes that limits may allow: ends of `fuchsia.sysmem2.BufferCollectionToken`
-/// and `fuchsia.sysmem2.BufferCollection` that a service keeps at a time.
+/// The greatest number of nodes that limits may allow: ends of
+/// `fuchsia.sysmem2.BufferCollectionToken` and `fuchsia.sysmem2.BufferCollection` that a service
+/// keeps at a time.
 pub const MAX_NODES: u32 = 1024;
 
 /// The greatest number of collections that limits may allow: trees that

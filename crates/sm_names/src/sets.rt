@@ -1,10 +1,11 @@
-//! Sets of buffers of one collection, as a Take tells them.
+//! Sets of buffers of one collection, as in the reply to a Take.
 ghost use Rattle.std.specs.Prelude.{◌≡◌, ◌==◌, ◌<◌};
 ghost use Rattle.std.specs.Int.{bit_at};
 
 use crate::rules::MAX_BUFFERS;
 
-/// Whether the set has the buffer with this index: bit i stands for buffer i. Takes a constant time.
+/// Whether the set has the buffer with this index: bit i stands for buffer i. Takes a constant
+/// time.
 pub fn has_buffer(set: u64, index: u8) -> bool
     requires { index < MAX_BUFFERS }
     ensures { result ≡ (bit_at set index == 1) }

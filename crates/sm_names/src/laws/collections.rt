@@ -14,28 +14,34 @@ ghost use Rattle.sm_names.specs.Timelines.{timeline, next_forced};
 /// A loss takes nodes of its own collection alone, and no loss, allocation or end of one collection
 /// changes how the nodes of another stand.
 pub fn collections_are_apart()
-    ensures reach { (pool : ℕ) (limits : Bound) (history : List Entry) → IsLegal pool limits history →
+    ensures reach { (pool : ℕ) (limits : Bound) (history : List Entry) →
+        IsLegal pool limits history →
         (origin node : NodeKey) → reaches (timeline pool history) origin node ≡ true →
         collection_in (births (timeline pool history)) node
         ≡ collection_in (births (timeline pool history)) origin }
-    ensures loss { (pool : ℕ) (limits : Bound) (history : List Entry) → IsLegal pool limits history →
+    ensures loss { (pool : ℕ) (limits : Bound) (history : List Entry) →
+        IsLegal pool limits history →
         (ours theirs : ℕ) → (ours == theirs) ≡ false → (origin : NodeKey) (cause : Cause) →
         collection_in (births (timeline pool history)) origin ≡ Some ours →
-        members (Loss origin cause ∷ timeline pool history) theirs ≡ members (timeline pool history) theirs }
-    ensures allocation { (pool : ℕ) (limits : Bound) (history : List Entry) → IsLegal pool limits history →
+        members (Loss origin cause ∷ timeline pool history) theirs
+        ≡ members (timeline pool history) theirs }
+    ensures allocation { (pool : ℕ) (limits : Bound) (history : List Entry) →
+        IsLegal pool limits history →
         (ours theirs : ℕ) → (ours == theirs) ≡ false → (head : NodeKey) →
         collection_in (births (timeline pool history)) head ≡ Some ours →
-        members (Allocated head ∷ timeline pool history) theirs ≡ members (timeline pool history) theirs }
+        members (Allocated head ∷ timeline pool history) theirs
+        ≡ members (timeline pool history) theirs }
     ensures end { (pool : ℕ) (limits : Bound) (history : List Entry) → IsLegal pool limits history →
         (ours theirs : ℕ) → (ours == theirs) ≡ false → (top : NodeKey) →
         collection_in (births (timeline pool history)) top ≡ Some ours →
-        members (Ended top ∷ timeline pool history) theirs ≡ members (timeline pool history) theirs }
+        members (Ended top ∷ timeline pool history) theirs
+        ≡ members (timeline pool history) theirs }
 {}
 
-/// An event leaves each collection but its own as it was: how its nodes stand, what it was given,
+/// An event changes nothing in any collection but its own: how its nodes stand, what it was given,
 /// the handles on its buffers, which of them are doomed or home, the pages that they hold, what its
-/// ends answer, and when its trackers fired. An event that names no collection leaves all of them
-/// so. Only who holds an end may change.
+/// ends answer, and when its trackers fired. An event that names no collection changes nothing in
+/// any. Only who holds an end may change.
 pub fn events_stay_in_their_collection()
     ensures { (pool : ℕ) (limits : Bound) (history : List Entry) (entry : Entry) →
         IsLegal pool limits (history ++ entry ∷ []) → (collection : ℕ) →
@@ -43,8 +49,8 @@ pub fn events_stay_in_their_collection()
         IsAsBefore pool (timeline pool history) (timeline pool (history ++ entry ∷ [])) collection }
 {}
 
-/// In a legal history each collection is at rest between two events: whatever the events did, none
-/// of its forced steps applies.
+/// In a legal history each collection is at rest between two events: none of its forced steps
+/// applies.
 pub fn every_collection_rests()
     ensures { (pool : ℕ) (limits : Bound) (history : List Entry) → IsLegal pool limits history →
         (collection : ℕ) →

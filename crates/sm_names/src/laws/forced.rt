@@ -1,4 +1,4 @@
-//! What a loss takes, and that the forced steps come to one end.
+//! Which nodes a loss takes, and that the forced steps end, always at the same marks.
 ghost use Rattle.std.specs.Prelude.{◌≡◌, ◌↔◌, ℕ, None, true};
 ghost use Rattle.sm_names.specs.declared.keys.NodeKey.{NodeKey};
 ghost use Rattle.sm_names.specs.Births.{births, AreSound};
@@ -13,7 +13,7 @@ pub fn reach_is_least()
         (reaches marks origin node ≡ true) ↔ Reach (parent_of marks) (blocked marks) origin node }
 {}
 
-/// The forced steps come to an end, at the marks after which none applies.
+/// The forced steps end, at marks after which none applies, and these marks are always the same.
 pub fn forced_steps_end()
     ensures rest { (pool collection : ℕ) (marks : Timeline) → AreSound (births marks) →
         next_forced pool collection (settled pool collection marks) ≡ None }

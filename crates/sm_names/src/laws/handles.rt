@@ -18,24 +18,29 @@ ghost use Rattle.sm_names.specs.Words.{times};
 
 /// In a legal history the handles that are open are those of the clients and those in parcels, and
 /// those in parcels wait for clients. All clients together drop no more handles than they opened,
-/// and collect no more than were given, so no difference of the two is cut off.
+/// and collect no more than were given, so neither difference would be negative.
 pub fn handles_are_counted()
-    ensures total { (pool : ℕ) (limits : Bound) (history : List Entry) → IsLegal pool limits history →
+    ensures total { (pool : ℕ) (limits : Bound) (history : List Entry) →
+        IsLegal pool limits history →
         (buffer : BufferName) (strength : Strength) →
         open_total (timeline pool history) buffer strength
         ≡ sum_by (λ client. open_of (timeline pool history) client buffer strength)
         (clients (timeline pool history))
         + moving (timeline pool history) buffer strength }
-    ensures in_parcels { (pool : ℕ) (limits : Bound) (history : List Entry) → IsLegal pool limits history →
+    ensures in_parcels { (pool : ℕ) (limits : Bound) (history : List Entry) →
+        IsLegal pool limits history →
         (buffer : BufferName) (strength : Strength) →
         moving (timeline pool history) buffer strength
-        ≡ sum_by (λ client. times (is_handle_of buffer strength) (parcels (timeline pool history) client))
+        ≡ sum_by (λ client.
+        times (is_handle_of buffer strength) (parcels (timeline pool history) client))
         (clients (timeline pool history)) }
-    ensures dropped { (pool : ℕ) (limits : Bound) (history : List Entry) → IsLegal pool limits history →
+    ensures dropped { (pool : ℕ) (limits : Bound) (history : List Entry) →
+        IsLegal pool limits history →
         (buffer : BufferName) (strength : Strength) →
         times (drops (λ c. true) buffer strength) (timeline pool history)
         ≤ times (opens (λ c. true) buffer strength) (timeline pool history) }
-    ensures collected { (pool : ℕ) (limits : Bound) (history : List Entry) → IsLegal pool limits history →
+    ensures collected { (pool : ℕ) (limits : Bound) (history : List Entry) →
+        IsLegal pool limits history →
         (buffer : BufferName) (strength : Strength) →
         times (lands (λ c. true) buffer strength) (timeline pool history)
         ≤ times (lifts (λ c. true) buffer strength) (timeline pool history) }
@@ -55,10 +60,13 @@ pub fn doomed_is_for_good()
         (key : NodeKey) × (call ≡ Call.Take key) }
     ensures opened { (pool : ℕ) (limits : Bound) (history : List Entry) (client collection : ℕ)
         (strength : Strength) (set : ℕ) (key : NodeKey) →
-        IsLegal pool limits (history ++ (client, Call.Take key, Reply.Taken collection strength set) ∷ []) →
+        IsLegal pool limits
+        (history ++ (client, Call.Take key, Reply.Taken collection strength set) ∷ []) →
         (buffer : BufferName) →
-        opens (λ c. true) buffer strength (Called client (Reply.Taken collection strength set) (Call.Take key))
-        ≡ (list_any (λ name. same_buffer name buffer) (buffer_names (timeline pool history) collection)
+        opens (λ c. true) buffer strength
+        (Called client (Reply.Taken collection strength set) (Call.Take key))
+        ≡ (list_any (λ name. same_buffer name buffer)
+        (buffer_names (timeline pool history) collection)
         && not (doomed (timeline pool history) buffer)) }
     ensures doomed { (pool : ℕ) (limits : Bound) (history more : List Entry) →
         IsLegal pool limits (history ++ more) → (buffer : BufferName) →
@@ -66,5 +74,6 @@ pub fn doomed_is_for_good()
         doomed (timeline pool (history ++ more)) buffer ≡ true }
     ensures home { (pool : ℕ) (limits : Bound) (history more : List Entry) →
         IsLegal pool limits (history ++ more) → (buffer : BufferName) →
-        home (timeline pool history) buffer ≡ true → home (timeline pool (history ++ more)) buffer ≡ true }
+        home (timeline pool history) buffer ≡ true →
+        home (timeline pool (history ++ more)) buffer ≡ true }
 {}

@@ -1,4 +1,4 @@
-//! What holds of every legal history, and how it goes on.
+//! What holds of every legal history, and how it is extended.
 ghost use Rattle.std.specs.Prelude.{◌≡◌, ◌≤◌, ◌∷◌, ◌++◌, ◌↔◌, ◌<◌, ℕ, List, [], length, drop, Some, None, is_some, true, false, ◌+◌, ◌==◌};
 ghost use Rattle.sm_names.specs.declared.keys.BufferName.{BufferName};
 ghost use Rattle.sm_names.specs.declared.keys.NodeKey.{NodeKey};
@@ -17,7 +17,7 @@ ghost use Rattle.sm_names.specs.Timelines.{timeline, after};
 ghost use Rattle.sm_names.specs.Views.{Views};
 ghost use Rattle.sm_names.specs.Words.{times};
 
-/// A legal history goes on by one answer at a time.
+/// A legal history is extended by one answer at a time.
 pub fn histories_grow()
     ensures marks { (pool : ℕ) (history : List Entry) (entry : Entry) →
         timeline pool (history ++ entry ∷ []) ≡ after pool (timeline pool history) entry }
@@ -27,14 +27,17 @@ pub fn histories_grow()
         × IsAnswer limits (readings (timeline pool history)) entry.0 entry.1 entry.2) }
 {}
 
-/// Whoever reads and shows a legal history, and answers by the table, goes on legally.
+/// If what is read and seen is that of a legal history, one more answer by the table extends it to
+/// a legal history.
 pub fn answers_extend()
-    ensures { (pool : ℕ) (limits : Bound) (history : List Entry) (read : Readings) (seen : Views) (entry : Entry) →
-        IsLegal pool limits history → Tells pool history read seen → length history < limits.events →
+    ensures { (pool : ℕ) (limits : Bound) (history : List Entry) (read : Readings) (seen : Views)
+        (entry : Entry) →
+        IsLegal pool limits history → Tells pool history read seen →
+        length history < limits.events →
         IsAnswer limits read entry.0 entry.1 entry.2 → IsLegal pool limits (history ++ entry ∷ []) }
 {}
 
-/// In a legal history no node is born twice, and each child after its parent.
+/// In a legal history no node is born twice, and each child is born after its parent.
 pub fn births_are_sound()
     ensures { (pool : ℕ) (limits : Bound) (history : List Entry) → IsLegal pool limits history →
         AreSound (births (timeline pool history)) }
@@ -47,14 +50,15 @@ pub fn lines_hold_together()
         parent_of (timeline pool history) child ≡ Some parent →
         collection_in (births (timeline pool history)) child
         ≡ collection_in (births (timeline pool history)) parent }
-    ensures gone { (pool : ℕ) (limits : Bound) (history : List Entry) → IsLegal pool limits history →
+    ensures gone { (pool : ℕ) (limits : Bound) (history : List Entry) →
+        IsLegal pool limits history →
         (child parent : NodeKey) →
         parent_of (timeline pool history) child ≡ Some parent →
         gone (timeline pool history) parent ≡ true → gone (timeline pool history) child ≡ true }
 {}
 
-/// In a legal history a node that is gone while its end is not spent has failed: no call meets a
-/// node that left as its subtree ended.
+/// In a legal history a node that is gone while its end is not spent has failed: no open end names
+/// a node that is gone because its subtree ended.
 pub fn gone_ends_have_failed()
     ensures { (pool : ℕ) (limits : Bound) (history : List Entry) → IsLegal pool limits history →
         (node : NodeKey) →
@@ -62,9 +66,11 @@ pub fn gone_ends_have_failed()
         is_some (fault (timeline pool history) node) ≡ true }
 {}
 
-/// In a legal history what is given to a client waits last, and its Collect takes the first.
+/// In a legal history a parcel for a client waits behind its earlier ones, and the client's Collect
+/// takes the first.
 pub fn parcels_wait_in_order()
-    ensures given { (pool : ℕ) (limits : Bound) (history : List Entry) → IsLegal pool limits history →
+    ensures given { (pool : ℕ) (limits : Bound) (history : List Entry) →
+        IsLegal pool limits history →
         (mark : Mark) (client : ℕ) (parcel : Parcel) →
         collects client mark ≡ false → given_at client mark ≡ Some parcel →
         parcels (mark ∷ timeline pool history) client
@@ -74,7 +80,8 @@ pub fn parcels_wait_in_order()
         parcels (mark ∷ marks) client ≡ drop 1 (parcels marks client) }
 {}
 
-/// In a legal history no client drops or gives more handles than it took, doubled and collected.
+/// In a legal history no client drops and gives more handles than it took, duplicated and
+/// collected.
 pub fn handles_are_paid_for()
     ensures { (pool : ℕ) (limits : Bound) (history : List Entry) → IsLegal pool limits history →
         (client : ℕ) (buffer : BufferName) (strength : Strength) →

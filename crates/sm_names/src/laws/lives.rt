@@ -1,4 +1,5 @@
-//! What is for good: nodes that are gone, and trackers that fired. And that all goes in the end.
+//! Nodes that are gone stay so, as do trackers that fired, and once all ends are spent and all
+//! handles are dropped nothing is kept.
 ghost use Rattle.std.specs.Prelude.{◌≡◌, ◌++◌, ◌&&◌, ◌||◌, not, if◌then◌else◌, ℕ, List, [], Some, true, false};
 ghost use Rattle.std.specs.List.{list_any};
 ghost use Rattle.sm_names.specs.declared.keys.BufferName.{BufferName};
@@ -18,23 +19,27 @@ ghost use Rattle.sm_names.specs.Trackers.{Tracked, fired_at};
 ghost use Rattle.sm_names.specs.Views.{free_pages, live_nodes};
 ghost use Rattle.sm_names.specs.Words.{times};
 
-/// A node that is gone stays gone, with the fault by which it failed first, and is not live; and
-/// above a node that is not gone none is gone. A node that was born is live exactly if it is
-/// neither gone nor released, and the live nodes are exactly those that are live, each once.
+/// A node that is gone stays gone, with the fault by which it failed first, and is not live. No
+/// ancestor of a node that is not gone is gone. A node that was born is live exactly if it is
+/// neither gone nor released, and the list of live nodes has each of these once and no other.
 pub fn gone_is_for_good()
     ensures gone { (pool : ℕ) (history more : List Entry) (node : NodeKey) →
-        gone (timeline pool history) node ≡ true → gone (timeline pool (history ++ more)) node ≡ true }
+        gone (timeline pool history) node ≡ true →
+        gone (timeline pool (history ++ more)) node ≡ true }
     ensures fault { (pool : ℕ) (history more : List Entry) (node : NodeKey) (why : Fault) →
         fault (timeline pool history) node ≡ Some why →
         fault (timeline pool (history ++ more)) node ≡ Some why }
     ensures not_live { (marks : Timeline) (node : NodeKey) → gone marks node ≡ true →
         live marks node ≡ false }
-    ensures above { (pool : ℕ) (limits : Bound) (history : List Entry) → IsLegal pool limits history →
+    ensures above { (pool : ℕ) (limits : Bound) (history : List Entry) →
+        IsLegal pool limits history →
         (node : NodeKey) → gone (timeline pool history) node ≡ false →
-        list_any (gone (timeline pool history)) (ancestors (births (timeline pool history)) node) ≡ false }
+        list_any (gone (timeline pool history)) (ancestors (births (timeline pool history)) node)
+        ≡ false }
     ensures live { (marks : Timeline) (node : NodeKey) → was_born (births marks) node ≡ true →
         live marks node ≡ (not (gone marks node) && not (released marks node)) }
-    ensures listed { (pool : ℕ) (limits : Bound) (history : List Entry) → IsLegal pool limits history →
+    ensures listed { (pool : ℕ) (limits : Bound) (history : List Entry) →
+        IsLegal pool limits history →
         (node : NodeKey) → times (λ k. same_key k node) (live_nodes (timeline pool history))
         ≡ (if live (timeline pool history) node then 1 else 0) }
 {}
@@ -46,23 +51,27 @@ pub fn fired_is_for_good()
         fired_at (timeline pool (history ++ more)) t ≡ Some event }
 {}
 
-/// A node whose end is spent is gone or released. So once every end is spent and every handle
+/// A node whose end is spent is gone or released. So once every end is spent and every handle is
 /// dropped, no node is live, no page is held, and the whole pool is free.
 pub fn all_goes()
-    ensures spent { (pool : ℕ) (limits : Bound) (history : List Entry) → IsLegal pool limits history →
+    ensures spent { (pool : ℕ) (limits : Bound) (history : List Entry) →
+        IsLegal pool limits history →
         (node : NodeKey) → spent (timeline pool history) node ≡ true →
         (gone (timeline pool history) node || released (timeline pool history) node) ≡ true }
-    ensures live { (pool : ℕ) (limits : Bound) (history : List Entry) → IsLegal pool limits history →
+    ensures live { (pool : ℕ) (limits : Bound) (history : List Entry) →
+        IsLegal pool limits history →
         ((node : NodeKey) → was_born (births (timeline pool history)) node ≡ true →
         spent (timeline pool history) node ≡ true) →
         live_nodes (timeline pool history) ≡ [] }
-    ensures held { (pool : ℕ) (limits : Bound) (history : List Entry) → IsLegal pool limits history →
+    ensures held { (pool : ℕ) (limits : Bound) (history : List Entry) →
+        IsLegal pool limits history →
         ((node : NodeKey) → was_born (births (timeline pool history)) node ≡ true →
         spent (timeline pool history) node ≡ true) →
         ((buffer : BufferName) (strength : Strength) →
         open_total (timeline pool history) buffer strength ≡ 0) →
         held pool (timeline pool history) ≡ [] }
-    ensures free { (pool : ℕ) (limits : Bound) (history : List Entry) → IsLegal pool limits history →
+    ensures free { (pool : ℕ) (limits : Bound) (history : List Entry) →
+        IsLegal pool limits history →
         ((node : NodeKey) → was_born (births (timeline pool history)) node ≡ true →
         spent (timeline pool history) node ≡ true) →
         ((buffer : BufferName) (strength : Strength) →

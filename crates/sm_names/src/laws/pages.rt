@@ -40,27 +40,34 @@ pub fn places_are_apart()
         a.start ≤ page → page < a.start + a.pages → b.start ≤ page → page < b.start + b.pages → ⊥ }
 {}
 
-/// In a legal history no two held buffers overlap, a buffer is held exactly if it was allocated and
-/// is not home, and then once, with the pages that its collection's buffers take; and the free pages
-/// and the held ones are the pool.
+/// In a legal history no two held buffers overlap. A buffer is held exactly if it was allocated and
+/// is not home, and then once, with the pages that its collection's buffers take. The free pages
+/// and the held ones are together the pool.
 pub fn held_buffers_are_apart()
-    ensures apart { (pool : ℕ) (limits : Bound) (history : List Entry) → IsLegal pool limits history →
+    ensures apart { (pool : ℕ) (limits : Bound) (history : List Entry) →
+        IsLegal pool limits history →
         AreApart (map (λ h. h.pages) (held pool (timeline pool history))) }
-    ensures inside { (pool : ℕ) (limits : Bound) (history : List Entry) → IsLegal pool limits history →
+    ensures inside { (pool : ℕ) (limits : Bound) (history : List Entry) →
+        IsLegal pool limits history →
         are_in pool (map (λ h. h.pages) (held pool (timeline pool history))) ≡ true }
-    ensures stands { (pool : ℕ) (limits : Bound) (history : List Entry) → IsLegal pool limits history →
+    ensures stands { (pool : ℕ) (limits : Bound) (history : List Entry) →
+        IsLegal pool limits history →
         (buffer : BufferName) →
         list_any (λ h. same_buffer h.buffer buffer) (held pool (timeline pool history))
-        ≡ (list_any (λ name. same_buffer name buffer) (buffer_names (timeline pool history) buffer.collection)
+        ≡ (list_any (λ name. same_buffer name buffer)
+        (buffer_names (timeline pool history) buffer.collection)
         && not (home (timeline pool history) buffer)) }
-    ensures once { (pool : ℕ) (limits : Bound) (history : List Entry) → IsLegal pool limits history →
+    ensures once { (pool : ℕ) (limits : Bound) (history : List Entry) →
+        IsLegal pool limits history →
         (buffer : BufferName) →
         times (λ h. same_buffer h.buffer buffer) (held pool (timeline pool history)) ≤ 1 }
-    ensures sizes { (pool : ℕ) (limits : Bound) (history : List Entry) → IsLegal pool limits history →
+    ensures sizes { (pool : ℕ) (limits : Bound) (history : List Entry) →
+        IsLegal pool limits history →
         list_all (λ h. option_map_or (λ (b : Buffers). h.pages.pages == pages_of b.size)
         (buffers_of (timeline pool history) h.buffer.collection) false)
         (held pool (timeline pool history)) ≡ true }
-    ensures free { (pool : ℕ) (limits : Bound) (history : List Entry) → IsLegal pool limits history →
+    ensures free { (pool : ℕ) (limits : Bound) (history : List Entry) →
+        IsLegal pool limits history →
         free_pages pool (timeline pool history)
         + sum_by (λ h. h.pages.pages) (held pool (timeline pool history)) ≡ pool }
 {}
