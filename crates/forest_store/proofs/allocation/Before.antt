@@ -1,27 +1,21 @@
 -- A unit that is to be allocated, as the table tells before it is.
-use Rattle.forest_store.proofs.Common.{some-injective, In-any, ◌≡◌, refl, ap, sym, ◌∙◌, subst, Bool, true, false, not, ◌&&◌, ◌||◌, ◌==◌, inl, inr, is_none, List, Option, Some, None, eq-eqb, not-true, find, list_all, list_any, option_map_or, NodeKey, same_key, In, In-list_any, and_both, and_left, and_right, both_ways, either_way, same_key-refl, same_key-true, Table, node_at, parent_at, Node, Unit, unit_at, waits_in, Collection, IsStored, IsWhole, Shelf, collection_in, nodes_with, is_of, is_ready_node, times-zero, HasUnits, has_buffers, IsSound, is_root_of}
+use Rattle.forest_store.proofs.Common.{some-injective, In-any, ◌≡◌, refl, ap, sym, ◌∙◌, subst, Bool, true, false, not, ◌&&◌, ◌||◌, ◌==◌, inl, inr, is_none, List, Option, Some, None, eq-eqb, not-true, find, list_all, list_any, option_map_or, NodeKey, same_key, In, In-list_any, and_both, and_left, and_right, both_ways, either_way, same_key-refl, same_key-true, Table, node_at, parent_at, Node, Unit, unit_at, waits_in, Collection, IsStored, IsWhole, Shelf, collection_in, nodes_with, is_of, is_ready_node, times-zero, HasUnits, has_buffers, IsSound, is_root_of, arith}
 use Rattle.forest_store.specs.UnitAllocation.{hangs_below, has_turn_at, is_left_out, is_of_some, is_waiting_head, left_out_at}
 use Rattle.forest_store.proofs.Basics.{In-made, all-In, found_by_key, found_whole, hangs_in_some, in_all, looked_there, left_node, left_parent, head_there}
 
 -- a key that passes is one of those that pass
 pub any_key : (test : NodeKey → Bool) (keys : List NodeKey) (key : NodeKey) → list_any (same_key key) keys ≡ true → test key ≡ true →
     list_any test keys ≡ true
-any_key test keys key there h =
-    let x = In-list_any (same_key key) keys there in
-    In-any test keys x.0 x.1 (ap test (sym (same_key-true key x.0 x.2)) ∙ h)
+any_key test keys key there h = grind (arith, In-list_any, In-any, same_key-true)
 
 -- a node that is found by keys has one of them
 pub key_listed : (t : Table Node) → ((key : NodeKey) (n : Node) → node_at t key ≡ Some n → n.key ≡ key) → (keys : List NodeKey) (n : Node) →
     In n (nodes_with t keys) → list_any (same_key n.key) keys ≡ true
-key_listed t named keys n on =
-    let x = In-made (node_at t) keys n on in
-    In-any (same_key n.key) keys x.0 x.1 (ap (λ k. same_key k x.0) (named x.0 n x.2) ∙ same_key-refl x.0)
+key_listed t named keys n on = grind (arith, In-made, In-any, same_key-refl)
 
 -- a node with a parent is no root
 pub no_root : (c : Collection) → IsSound c → (h : Node) → In h c.nodes → (p : NodeKey) → h.parent ≡ Some p → is_root_of c h.key ≡ false
-no_root c sound h on p up =
-    ap (λ (o : Option Node). option_map_or (λ (m : Node). is_none m.parent) o false) (found_by_key _ h sound.distinct on)
-    ∙ ap is_none up
+no_root c sound h on p up = grind (arith, found_by_key)
 
 -- what is there
 pub some_there : (test : NodeKey → Bool) (o : Option NodeKey) → option_map_or test o false ≡ true →
@@ -78,9 +72,7 @@ module _ (t : Table Node) (ss : List Shelf) (kept : IsStored t ss) (s : Shelf) (
   -- an attached node heads its unit
   heads : (none attached own : Bool) → attached ≡ true → (not (none || attached) || own) ≡ true → (h : Node) → h.key ≡ k →
       own ≡ same_key h.head h.key → h.head ≡ k
-  heads true attached own e all h key is = same_key-true _ _ (sym is ∙ all) ∙ key
-  heads false true own e all h key is = same_key-true _ _ (sym is ∙ all) ∙ key
-  heads false false own e all h key is = cc
+  heads none attached own e all h key is = grind (arith, same_key-true)
 
   -- a unit that is ready waits for none
   waits_for_none : (us : List Unit) → HasUnits us nodes → (m : Node) → In m nodes → list_all (is_ready_node m.key) nodes ≡ true →

@@ -11,14 +11,7 @@ use Rattle.forest_store.proofs.tables.Writing.{IsSameNode}
 
 -- an effect keeps the key, the links, the collection and the unit
 pub same_affected : (key : NodeKey) (effect : Effect) (n : Node) → IsSameNode (affected key effect n) n
-same_affected key Effect.Bound n = record { key = refl; parent = refl; attached = refl; collection = refl; head = refl }
-same_affected key Effect.Dispensable n = record { key = refl; parent = refl; attached = refl; collection = refl; head = refl }
-same_affected key Effect.Weak n = record { key = refl; parent = refl; attached = refl; collection = refl; head = refl }
-same_affected key (Effect.WeakOk children) n = record { key = refl; parent = refl; attached = refl; collection = refl; head = refl }
-same_affected key (Effect.Constrained demand) n = record { key = refl; parent = refl; attached = refl; collection = refl; head = refl }
-same_affected key Effect.Taken n = record { key = refl; parent = refl; attached = refl; collection = refl; head = refl }
-same_affected key Effect.Released n = record { key = refl; parent = refl; attached = refl; collection = refl; head = refl }
-same_affected key Effect.Tracked n = record { key = refl; parent = refl; attached = refl; collection = refl; head = refl }
+same_affected key effect n = grind arith
 
 -- a change that is no birth makes each node another, with the same key, links, collection and unit
 pub record MakesNodes (c now : Collection) : Type 0 where
@@ -50,9 +43,7 @@ Some-shelf x s e = cc
 -- no shelf of a greater id is found
 pub none_above : (id : ℕ) (ss : List Shelf) → AllByRecursion (λ (later : Shelf). id < later.id) ss →
     find (λ (s : Shelf). s.id == id) ss ≡ None
-none_above id ss all = find-none _ ss (each_none _ ss (λ s on.
-    let less : id < s.id = all_at _ _ all s on in
-    ne_eqb s.id id (λ same. omega arith)))
+none_above id ss all = grind (arith, find-none, each_none, all_at, ne_eqb)
 
 -- a shelf that is found has the id
 pub found_id : (id : ℕ) (ss : List Shelf) (s : Shelf) → find (λ (x : Shelf). x.id == id) ss ≡ Some s → s.id ≡ id
@@ -71,16 +62,12 @@ found_put s (x ∷ xs) rising found = cases_place _ _ _
 -- the nodes of filed keys are of the collection
 pub looked-of : (t : Table Node) (id : ℕ) (keys : List NodeKey) → list_all (is_filed t id) keys ≡ true →
     all_of id (nodes_with t keys) ≡ true
-looked-of t id keys filed = all_on _ _ (λ n on.
-    let x = In-made (node_at t) keys n on in
-    rw x.2 at (all-In (is_filed t id) keys x.0 x.1 filed))
+looked-of t id keys filed = grind (arith, all_on, In-made, all-In)
 
 -- a key that is filed has a node of the collection
 pub filed_at : (t : Table Node) (id : ℕ) (keys : List NodeKey) (key : NodeKey) (n : Node) → list_all (is_filed t id) keys ≡ true →
     node_at t key ≡ Some n → list_any (same_key key) keys ≡ true → (n.collection == id) ≡ true
-filed_at t id keys key n filed is there =
-    let x = In-list_any (same_key key) keys there in
-    rw (ap (node_at t) (sym (same_key-true key x.0 x.2)) ∙ is) at (all-In (is_filed t id) keys x.0 x.1 filed)
+filed_at t id keys key n filed is there = grind (arith, In-list_any, same_key-true, all-In)
 
 -- a node that is there is of a collection that is there
 pub kept_of : (t : Table Node) (ss : List Shelf) (key : NodeKey) (n : Node) → are_filed t ss ≡ true → node_at t key ≡ Some n →
@@ -113,17 +100,12 @@ there_kept t ss ok id key there =
 -- a collection that is kept has a shelf
 collection_kept : (t : Table Node) (ss : List Shelf) (id : ℕ) → has_collection (forest_of t ss) id ≡ true →
     is_some (find (λ (s : Shelf). s.id == id) ss) ≡ true
-collection_kept t ss id fit = is_some-find _ ss
-    ∙ sym (list_any-map (λ (c : Collection). c.id == id) (λ (s : Shelf). s.id == id) (collection_in t) ss (λ s on. refl))
-    ∙ sym (is_some-find (λ (c : Collection). c.id == id) (map (collection_in t) ss)) ∙ fit
+collection_kept t ss id fit = grind (arith, is_some-find, list_any-map)
 
 -- a collection that is changed is there
 pub change_kept : (t : Table Node) (ss : List Shelf) → IsStored t ss → (id : ℕ) (change : Change) → is_birth change ≡ false →
     fits (forest_of t ss) id change ≡ true → is_some (find (λ (s : Shelf). s.id == id) ss) ≡ true
-change_kept t ss ok id (Change.Birth parent attached client event) h fit = absurd (false≢true (sym h))
-change_kept t ss ok id (Change.Effect key effect) h fit = there_kept t _ ok _ _ fit
-change_kept t ss ok id (Change.Loss origin cause) h fit = there_kept t _ ok _ _ fit
-change_kept t ss ok id Change.Nothing h fit = collection_kept t ss id fit
+change_kept t ss ok id change h fit = grind (arith, there_kept, collection_kept)
 
 -- the node of a tracker has room for it
 pub tracker_room : (t : Table Node) (ss : List Shelf) → IsStored t ss → (asked : NodeKey) (effect : Effect) →

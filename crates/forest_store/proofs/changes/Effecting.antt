@@ -1,5 +1,5 @@
 -- An effect that is made in its place, and what the count of strong live nodes becomes.
-use Rattle.forest_store.proofs.Common.{◌≡◌, ◌≢◌, ℕ, zero, suc, ◌+◌, ◌==◌, Bool, true, false, ◌||◌, ◌&&◌, not, if◌then◌else◌, is_some, ◌<◌, ◌⊎◌, inl, inr, List, map, length, set, Option, Some, option_map, refl, sym, ap, subst, ◌∙◌, arith, eqb-true, lt-ltb, not-true, list_all, option_map_or, NodeKey, Cause, same_key, times, In, In-find, In-map, In-map-back, and_both, and_left, and_right, both_ways, either_way, same_key-refl, same_key-true, Table, node_at, Change, Effect, Node, Unit, strong_count, AreUnits, lives_in, unit_at, waits_in, Collection, IsStored, IsWhole, Shelf, collection_in, is_filed, nodes_with, affected, is_over, is_live_node, is_head, get_or-set_other, get_or-set_same, length-set, and-false, or_none_right, Writes, table_with_node, HasUnit, HasUnits, heads_below, is_unready, no_unit, unit_of, bit, is_strong, decrement_if, MayAffect, is_plain}
+use Rattle.forest_store.proofs.Common.{◌≡◌, ◌≢◌, ℕ, ◌+◌, ◌==◌, Bool, true, false, not, if◌then◌else◌, is_some, ◌<◌, ◌⊎◌, inl, inr, List, map, length, set, Option, Some, option_map, refl, sym, ap, subst, ◌∙◌, arith, eqb-true, lt-ltb, not-true, list_all, NodeKey, Cause, same_key, times, In, In-find, In-map, In-map-back, and_both, and_left, and_right, both_ways, either_way, same_key-refl, same_key-true, Table, node_at, Change, Effect, Node, Unit, strong_count, AreUnits, lives_in, unit_at, waits_in, Collection, IsStored, IsWhole, Shelf, collection_in, is_filed, nodes_with, affected, is_over, is_live_node, is_head, get_or-set_other, get_or-set_same, length-set, and-false, or_none_right, Writes, table_with_node, HasUnit, HasUnits, heads_below, is_unready, no_unit, unit_of, bit, is_strong, decrement_if, MayAffect, is_plain}
 use Rattle.forest_store.proofs.tables.LeftParents.{loss_left}
 use Rattle.forest_store.proofs.tallies.Slots.{Stays, all_at, but_all, but_join, but_moved, but_stays, one_shelf, one_slot}
 use Rattle.forest_store.proofs.Basics.{together_effect, times_changed, found_filed, found_whole, looked-of, same_affected, IsPlain, collection-beside, all_in, in_all, looked_there, head_there, below_mapped, looked-map, lives_other, lives_own, waits_other, waits_own, IsLeft, left_node, node_is, all-In, Stores-more, Stores-none, IsSameNode, kept-map, look-changed, parents-written}
@@ -8,31 +8,11 @@ use Rattle.forest_store.proofs.Basics.{together_effect, times_changed, found_fil
 
 -- an effect that neither releases nor sets constraints keeps what the steps read but weakness
 pub plain_affected : (key : NodeKey) (effect : Effect) → is_plain effect ≡ true → (n : Node) → IsPlain (affected key effect n) n
-plain_affected key Effect.Bound is n =
-    record { key = refl; parent = refl; attached = refl; head = refl; allocated = refl; gone = refl; released = refl; asks = refl }
-plain_affected key Effect.Dispensable is n =
-    record { key = refl; parent = refl; attached = refl; head = refl; allocated = refl; gone = refl; released = refl; asks = refl }
-plain_affected key Effect.Weak is n =
-    record { key = refl; parent = refl; attached = refl; head = refl; allocated = refl; gone = refl; released = refl; asks = refl }
-plain_affected key (Effect.WeakOk children) is n =
-    record { key = refl; parent = refl; attached = refl; head = refl; allocated = refl; gone = refl; released = refl; asks = refl }
-plain_affected key (Effect.Constrained demand) is n = cc
-plain_affected key Effect.Taken is n =
-    record { key = refl; parent = refl; attached = refl; head = refl; allocated = refl; gone = refl; released = refl; asks = refl }
-plain_affected key Effect.Released is n = cc
-plain_affected key Effect.Tracked is n =
-    record { key = refl; parent = refl; attached = refl; head = refl; allocated = refl; gone = refl; released = refl; asks = refl }
+plain_affected key effect is n = grind arith
 
 -- a node of another key stays as it is
 pub alone_affected : (key : NodeKey) (effect : Effect) (m : Node) → same_key key m.key ≡ false → affected key effect m ≡ m
-alone_affected key Effect.Bound m other = rw other refl
-alone_affected key Effect.Dispensable m other = rw other refl
-alone_affected key Effect.Weak m other = rw other refl
-alone_affected key (Effect.WeakOk children) m other = rw other (λ i. record m { covers = and-false children i || m.covers })
-alone_affected key (Effect.Constrained demand) m other = rw other refl
-alone_affected key Effect.Taken m other = rw other refl
-alone_affected key Effect.Released m other = rw other refl
-alone_affected key Effect.Tracked m other = rw other refl
+alone_affected key effect m other = grind (arith, and-false)
 
 -- no effect changes whether a node is gone, allocated or dead; releases and demands stay
 pub record Remains (m n : Node) : Type 0 where
@@ -76,9 +56,7 @@ remains_affected key Effect.Tracked n =
 
 -- so what a count counts it counted before
 pub live_before : (key : NodeKey) (effect : Effect) (n : Node) → is_live_node (affected key effect n) ≡ true → is_live_node n ≡ true
-live_before key effect n h =
-    let r = remains_affected key effect n in
-    and_both _ _ (ap not (sym r.gone) ∙ and_left _ _ h) (ap not (r.released (not-true _ (and_right _ _ h))))
+live_before key effect n h = grind (arith, remains_affected)
 
 -- a node that is strong after the effect was strong before, since effects only take this away
 pub strong_before : (key : NodeKey) (effect : Effect) (n : Node) → is_strong (affected key effect n) ≡ true → is_strong n ≡ true
@@ -87,20 +65,12 @@ strong_before key effect n h = and_both _ _ (live_before key effect n (and_left 
 
 -- a node that is waited for after the effect was waited for before, since effects only end that
 pub unready_before : (key : NodeKey) (effect : Effect) (n : Node) → is_unready (affected key effect n) ≡ true → is_unready n ≡ true
-unready_before key effect n h =
-    let r = remains_affected key effect n in
-    let rest = and_right _ _ h in
-    and_both _ _ (ap not (sym r.gone) ∙ and_left _ _ h)
-    (and_both _ _ (ap not (r.released (not-true _ (and_left _ _ rest)))) (ap not (r.asks (not-true _ (and_right _ _ rest)))))
+unready_before key effect n h = grind (arith, remains_affected)
 
 -- what is one less, where it counted and counts no longer
 pub decremented : (count : ℕ) (was is : Bool) (real : ℕ) → (is ≡ true → was ≡ true) → real + bit was ≡ count + bit is →
     decrement_if count was is ≡ real
-decremented count true true real before e = omega arith
-decremented zero true false real before e = absurd (omega arith)
-decremented (suc n) true false real before e = rw (lt-ltb 0 (suc n) (omega arith)) (omega arith)
-decremented count false true real before e = let no : false ≡ true = before refl in absurd (cc)
-decremented count false false real before e = omega arith
+decremented count was is real before e = grind (arith, lt-ltb)
 
 -- ---- the effect
 
@@ -162,9 +132,7 @@ module _ (t now : Table Node) (us : List Unit) (key : NodeKey) (effect : Effect)
 
   -- both stand under the key
   is_left : n ≡ left.node
-  is_left =
-      let both : Some n ≡ Some left.node = sym was ∙ (ap (node_at t) (sym left.is) ∙ at_key _ left.on) in
-      cc
+  is_left = grind (arith, left, at_key)
 
   -- so it is among the nodes
   pub on : In n nodes
@@ -181,11 +149,7 @@ module _ (t now : Table Node) (us : List Unit) (key : NodeKey) (effect : Effect)
 
   -- its key is filed under its collection still
   pub filed : is_filed t s.id (f n).key ≡ true
-  filed =
-      ap (is_filed t s.id) own ∙ ap (λ (o : Option Node). option_map_or (λ (m : Node). m.collection == s.id) o false) was
-      ∙ and_left _ _
-      (ap (λ (o : Option Node). option_map_or (λ (m : Node). m.collection == s.id && not m.gone) o false) (sym (node_is t _ opens.kept key
-      ∙ was)) ∙ opens.named)
+  filed = grind (arith, own, node_is)
 
   -- the other collections stay
   pub beside_same : (x : Shelf) → x.id ≢ s.id → list_all (is_filed t x.id) x.keys ≡ true → collection_in now x ≡ collection_in t x

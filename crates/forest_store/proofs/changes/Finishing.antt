@@ -1,5 +1,5 @@
 -- What stays true where a collection that was worked on is put back.
-use Rattle.forest_store.proofs.Common.{◌≡◌, ◌≢◌, ℕ, ◌==◌, Bool, true, false, List, [], ◌∷◌, map, Option, Some, None, option_map, is_some, cond, refl, sym, ap, ◌∙◌, inl, inr, list_all, AllByRecursion, cons_option, option_map_or, eqb-true, false≢true, NodeKey, same_key, and_left, and_right, same_key-true, Table, node_at, parent_at, Node, Collection, Shelf, AreRising, IsStored, IsWhole, put_shelf, collection_in, nodes_with, all_keys, is_filed, put, cases_eq, was_given, Stores, all_of, stored, AreHeadsGiven}
+use Rattle.forest_store.proofs.Common.{◌≡◌, ◌≢◌, ℕ, ◌==◌, Bool, true, false, List, [], ◌∷◌, map, Option, Some, None, option_map, is_some, cond, refl, sym, ap, ◌∙◌, inl, inr, list_all, AllByRecursion, cons_option, option_map_or, eqb-true, false≢true, NodeKey, same_key, and_left, and_right, same_key-true, Table, node_at, parent_at, Node, Collection, Shelf, AreRising, IsStored, IsWhole, put_shelf, collection_in, nodes_with, all_keys, is_filed, put, cases_eq, was_given, Stores, all_of, stored, AreHeadsGiven, arith}
 use Rattle.forest_store.proofs.tables.Kin.{kin_kept}
 use Rattle.forest_store.proofs.tables.Writing.{given-same}
 use Rattle.forest_store.proofs.tables.Hanging.{in_all}
@@ -36,19 +36,12 @@ looked-keys t id named (k ∷ ks) filed =
 
 -- a node of the collection stays of it
 stored-of : (id : ℕ) (ns : List Node) (n : Node) → all_of id ns ≡ true → n.collection ≡ id → (stored ns n).collection ≡ id
-stored-of id ns n all own = elim (stored_one ns n) [
-  | inl same ↦ ap (λ (m : Node). m.collection) same ∙ own
-  | inr on ↦ eqb-true _ id (all-In (λ (m : Node). m.collection == id) ns (stored ns n) on all)
-]
+stored-of id ns n all own = grind (arith, stored_one, eqb-true, all-In)
 
 -- a node of another collection has none of these keys
 unwritten : (t : Table Node) (id : ℕ) (m n : Node) (same : Bool) → same_key m.key n.key ≡ same → is_filed t id m.key ≡ true →
     node_at t n.key ≡ Some n → n.collection ≢ id → cond same m n ≡ n
-unwritten t id m n true same filed found other =
-    let there : node_at t m.key ≡ Some n = ap (node_at t) (same_key-true _ _ same) ∙ found in
-    let own : (n.collection == id) ≡ true = rw there at filed in
-    absurd (other (eqb-true _ _ own))
-unwritten t id m n false same filed found other = refl
+unwritten t id m n b same filed found other = grind (arith, same_key-true, eqb-true)
 
 -- a node of another collection is not written over
 stored-beside : (t : Table Node) (id : ℕ) (ns : List Node) (n : Node) → list_all (is_filed t id) (keys_in ns) ≡ true →
@@ -62,10 +55,7 @@ stored-beside t id (m ∷ ms) n filed found other =
 node-beside : (t : Table Node) (id : ℕ) (ns : List Node) → list_all (is_filed t id) (keys_in ns) ≡ true → (other : ℕ) → other ≢ id →
     (key : NodeKey) (o : Option Node) → node_at t key ≡ o → ((n : Node) → node_at t key ≡ Some n → n.key ≡ key) →
     option_map_or (λ (n : Node). n.collection == other) o false ≡ true → option_map (stored ns) o ≡ o
-node-beside t id ns own other differ key None is named filed = refl
-node-beside t id ns own other differ key (Some n) is named filed =
-    let found : node_at t n.key ≡ Some n = ap (node_at t) (named n is) ∙ is in
-    ap Some (stored-beside t _ _ n own found (λ same. differ (sym (eqb-true _ _ filed) ∙ same)))
+node-beside t id ns own other differ key o is named filed = grind (arith, stored-beside, eqb-true)
 
 -- the nodes of another collection stay
 nodes-beside : (t now : Table Node) (id : ℕ) (ns : List Node) →
@@ -109,10 +99,7 @@ module _ (t now : Table Node) (id : ℕ) (ns : List Node) (stores : Stores t now
   -- a node that is found was found under the same key
   found-before : (key : NodeKey) (o : Option Node) (n : Node) → option_map (stored ns) o ≡ Some n → (m : Node) × (o ≡ Some m) ×
       (n.key ≡ m.key) × (stored ns m ≡ n)
-  found-before key None n is = absurd (cc)
-  found-before key (Some m) n is =
-      let same : stored ns m ≡ n = cc in
-      (m, refl, ap (λ (x : Node). x.key) (sym same) ∙ stored-key ns m, same)
+  found-before key o n is = grind (arith, stored-key)
 
   -- a node that is not gone has its parent in the table, as all that were stored have
   linked-put : AllByRecursion (λ (n : Node). n.gone ≡ false → parent_at t n.key ≡ n.parent) ns → ((key : NodeKey) (n : Node) →
@@ -186,7 +173,4 @@ whole-unmap t (s ∷ ss) all = (all.0, whole-unmap t ss all.1)
 pub whole-put : (new old : Collection) (cs : List Collection) → old.id ≡ new.id → IsWhole new → AllByRecursion IsWhole (put old cs) →
     AllByRecursion IsWhole (put new cs)
 whole-put new old [] ids ok all = (ok, tt)
-whole-put new old (c ∷ cs) ids ok all = cases_place c.id new.id (AllByRecursion IsWhole (put new (c ∷ cs)))
-    (λ same. let parts = rw (ids, same) at all in rw same (ok, parts.1))
-    (λ other above. let parts = rw (ids, other, above) at all in rw (other, above) (ok, parts.1))
-    (λ other below. let parts = rw (ids, other, below) at all in rw (other, below) (parts.0, whole-put new old cs ids ok parts.1))
+whole-put new old (c ∷ cs) ids ok all = grind (arith, whole-put new old cs ids ok, cases_place)

@@ -1,5 +1,5 @@
 -- A node that goes: what it keeps, what it counts for no more, and how it is written.
-use Rattle.forest_store.proofs.Common.{In-map, all_on, ◌≡◌, ℕ, ◌==◌, refl, ap, sym, ◌∙◌, Bool, true, false, not, ◌&&◌, ◌||◌, ◌⊎◌, inl, inr, if◌then◌else◌, List, [], ◌∷◌, map, Option, Some, None, cons_option, list_all, list_any, NodeKey, same_key, In, either_way, same_key-refl, same_key-true, Table, node_at, Node, lives_in, waits_in, is_filed, nodes_with, and-false, Going, gone_by, all_of, is_strong, stored, written, camped, and-true}
+use Rattle.forest_store.proofs.Common.{In-map, all_on, ◌≡◌, ℕ, ◌==◌, refl, ap, sym, ◌∙◌, Bool, true, false, ◌||◌, ◌⊎◌, inl, inr, if◌then◌else◌, List, [], ◌∷◌, map, Option, Some, None, cons_option, list_all, list_any, NodeKey, same_key, In, either_way, same_key-refl, same_key-true, Table, node_at, Node, lives_in, waits_in, is_filed, nodes_with, and-false, Going, gone_by, all_of, is_strong, stored, written, camped, and-true, arith}
 use Rattle.forest_store.proofs.changes.Finishing.{keys_in}
 use Rattle.forest_store.proofs.lists.Lookups.{in_nodes, same_key-swap}
 use Rattle.forest_store.proofs.lists.Elements.{In-made}
@@ -48,30 +48,18 @@ same_of going keys n = elim (list_any (same_key n.key) keys) as (λ (b : Bool). 
 
 -- either it goes, which keeps the allocation, or it stays
 pub given_of : (going : Going) (keys : List NodeKey) (n : Node) → (goes_of going keys n).allocated ≡ n.allocated
-given_of going keys n =
-    elim (list_any (same_key n.key) keys) as (λ (b : Bool). (if b then gone_by going n else n).allocated ≡ n.allocated) [
-      | true ↦ gone_given going n
-      | false ↦ refl
-    ]
+given_of going keys n = grind (arith, gone_given)
 
 -- either it goes now, or it is as before
 pub gone_of : (going : Going) (keys : List NodeKey) (n : Node) → (goes_of going keys n).gone ≡ (list_any (same_key n.key) keys || n.gone)
-gone_of going keys n =
-    elim (list_any (same_key n.key) keys) as (λ (b : Bool). (if b then gone_by going n else n).gone ≡ (b || n.gone)) [
-      | true ↦ gone_is going n
-      | false ↦ refl
-    ]
+gone_of going keys n = grind (arith, gone_is)
 
 -- ---- what is counted of nodes that go
 
 -- a test that no node that is gone passes
 but_is : (test : Node → Bool) → ((m : Node) → m.gone ≡ true → test m ≡ false) → (going : Going) (keys : List NodeKey) (n : Node) →
     test (goes_of going keys n) ≡ but test keys n
-but_is test none going keys n =
-    elim (list_any (same_key n.key) keys) as (λ (b : Bool). test (if b then gone_by going n else n) ≡ (test n && not b)) [
-      | true ↦ none (gone_by going n) (gone_is going n) ∙ sym (and-false (test n))
-      | false ↦ sym (and-true (test n))
-    ]
+but_is test none going keys n = grind (arith, and-false, and-true)
 
 -- a strong node is not gone
 pub strong_gone : (m : Node) → m.gone ≡ true → is_strong m ≡ false
@@ -91,11 +79,7 @@ waits_but k keys going n = but_is _ (waits_gone k) going keys n
 
 -- a gone node camps on nothing
 pub camped_of : (keys : List NodeKey) (going : Going) (n : Node) → camped (goes_of going keys n) ≡ camped_but keys n
-camped_of keys going n =
-    elim (list_any (same_key n.key) keys) as (λ (b : Bool). camped (if b then gone_by going n else n) ≡ (if b then 0 else camped n)) [
-      | true ↦ camped_gone (gone_by going n) (gone_is going n)
-      | false ↦ refl
-    ]
+camped_of keys going n = grind (arith, camped_gone)
 
 -- ---- nodes that are written as they go
 
@@ -121,10 +105,7 @@ module _ (t : Table Node) (named : (key : NodeKey) (n : Node) → node_at t key 
   stored_goes (k ∷ ks) n is x one = by (λ y two. stored_goes ks n is y two) _ refl (either_way (same_key n.key k))
     where
       x_key : x.key ≡ n.key
-      x_key = elim one [
-        | inl e ↦ ap (λ (y : Node). y.key) e
-        | inr e ↦ ap (λ (y : Node). y.key) e ∙ (gone_same going n).key
-      ]
+      x_key = grind arith
 
       -- once gone, it stays
       both_go : (b : Bool) → (if b then gone_by going n else gone_by going n) ≡ gone_by going n
@@ -138,17 +119,7 @@ module _ (t : Table Node) (named : (key : NodeKey) (n : Node) → node_at t key 
           ks then gone_by going n else x)
       by on None at (inl e) = let both : Some n ≡ None = sym is ∙ (ap (node_at t) (same_key-true _ k e) ∙ at) in cc
       by on None at (inr e) = on x one ∙ (λ i. if sym e i || list_any (same_key n.key) ks then gone_by going n else x)
-      by on (Some m) at (inl e) =
-          let both : Some n ≡ Some m = sym is ∙ (ap (node_at t) (same_key-true _ k e) ∙ at) in
-          let node : m ≡ n = cc in
-          let own : same_key (gone_by going m).key x.key ≡ true = ap (λ (k : NodeKey). same_key k x.key) (gone_same going m).key
-          ∙ ap (λ (y : Node). same_key y.key x.key) node ∙ (ap (same_key n.key) x_key ∙ same_key-refl n.key) in
-          let here : written (gone_by going m) x ≡ gone_by going n =
-          (λ i. if own i then gone_by going m else x) ∙ ap (gone_by going) node in
-          ap (stored (map (gone_by going) (nodes_with t ks))) here
-          ∙ (on (gone_by going n) (inr refl)
-          ∙ (both_go _
-          ∙ (λ i. if sym e i || list_any (same_key n.key) ks then gone_by going n else x)))
+      by on (Some m) at (inl e) = grind (arith, same_key-true, x_key, same_key-refl)
       by on (Some m) at (inr e) =
           let other : same_key (gone_by going m).key x.key ≡ false = ap (λ (j : NodeKey). same_key j x.key) ((gone_same going m).key
           ∙ named k m at) ∙ (ap (same_key k) x_key ∙ (same_key-swap k n.key ∙ e)) in

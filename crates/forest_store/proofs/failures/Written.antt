@@ -1,5 +1,5 @@
 -- Nodes that are written as they go, one after another.
-use Rattle.forest_store.proofs.Common.{◌≡◌, ◌≢◌, ℕ, zero, suc, ◌<◌, Bool, true, false, ◌||◌, inl, if◌then◌else◌, List, [], ◌∷◌, ◌++◌, length, map, take, get_or, Option, Some, None, option_map, refl, ap, sym, ◌∙◌, subst, arith, cons_option, list_any, option_map_or, NodeKey, same_key, or_right, same_key-refl, Table, node_at, Node, nodes_with, is_over, map-append, filter_map-append, list_any-append, AllPairs, or_none_left, or_none_right, Writes, table_with_node, Going, gone_by, Stores, stored, or-false, append-nil}
+use Rattle.forest_store.proofs.Common.{◌≡◌, ◌≢◌, ℕ, zero, suc, ◌<◌, Bool, true, false, ◌||◌, inl, if◌then◌else◌, List, [], ◌∷◌, ◌++◌, length, map, take, get_or, Option, Some, None, option_map, refl, ap, sym, ◌∙◌, subst, arith, cons_option, list_any, option_map_or, NodeKey, same_key, or_right, same_key-refl, Table, node_at, Node, nodes_with, is_over, map-append, filter_map-append, AllPairs, or_none_left, or_none_right, Writes, table_with_node, Going, gone_by, Stores, stored, append-nil, common_steps}
 use Rattle.forest_store.proofs.Basics.{gone_same, stored_goes, same_key-swap, Stores-more, first_once, rest_once}
 
 -- a key that is not among these is not the one that stands here
@@ -15,9 +15,7 @@ pub once_before : (ks : List NodeKey) (i : ℕ) (d : NodeKey) → AllPairs (λ (
 once_before [] i d once within = absurd (omega arith)
 once_before (k ∷ ks) zero d once within = refl
 once_before (k ∷ ks) (suc i) d once within =
-    let inside : i < length ks = omega arith in
-    let apart = same_key-swap _ k ∙ none_at k _ i d (first_once k _ once) inside in
-    (λ j. apart j || list_any (same_key (get_or ks i d)) (take i ks)) ∙ once_before ks i d (rest_once k _ once) inside
+    grind (arith, once_before ks i d (rest_once k _ once), same_key-swap, none_at, first_once, rest_once)
 
 module _ (t : Table Node) (named : (key : NodeKey) (n : Node) → node_at t key ≡ Some n → n.key ≡ key) (going : Going)
     (done : List NodeKey) (k : NodeKey) (apart : list_any (same_key k) done ≡ false) (u : Table Node)
@@ -61,18 +59,7 @@ module _ (t : Table Node) (named : (key : NodeKey) (n : Node) → node_at t key 
   pub over_more : (over one : Bool) → over ≡ list_any is_over went →
       one ≡ option_map_or (λ (n : Node). is_over (gone_by going n)) (node_at u k) false →
       (over || one) ≡ list_any is_over (map (gone_by going) (nodes_with t (done ++ k ∷ [])))
-  over_more over one was is =
-      (λ i. was i || (is ∙ ap (λ (o : Option Node). option_map_or (λ (n : Node). is_over (gone_by going n)) o false) still_there) i)
-      ∙ (by _
-      ∙ ap (λ (ns : List Node). list_any is_over (map (gone_by going) ns)) (sym with_more))
-    where
-      by : (o : Option Node) → (list_any is_over went || option_map_or (λ (n : Node). is_over (gone_by going n)) o false)
-          ≡ list_any is_over (map (gone_by going) (nodes_with t done ++ cons_option o []))
-      by None = or-false (list_any is_over went)
-          ∙ ap (λ (ns : List Node). list_any is_over (map (gone_by going) ns)) (sym (append-nil (nodes_with t done)))
-      by (Some n) = ap (λ (b : Bool). list_any is_over went || b) (sym (or-false (is_over (gone_by going n))))
-          ∙ (sym (list_any-append is_over went _)
-          ∙ ap (list_any is_over) (sym (map-append (gone_by going) (nodes_with t done) (n ∷ []))))
+  over_more over one was is = grind (arith, common_steps, still_there, with_more)
 
 -- the keys of nodes that went find them as they are then
 pub went_now : (t : Table Node) → ((key : NodeKey) (n : Node) → node_at t key ≡ Some n → n.key ≡ key) → (going : Going)

@@ -1,5 +1,5 @@
 -- What is left once the nodes of a collection that are dead are forgotten.
-use Rattle.forest_store.proofs.Common.{IsLeftIn, list_all, is_filed, ◌≡◌, ℕ, ◌==◌, Bool, true, false, cond, inl, inr, Option, Some, None, List, map, refl, sym, ap, subst, ◌∙◌, find, list_any, Table, node_at, NodeKey, same_key, both_ways, either_way, In-any, Node, Shelf, AreRising, IsStored, are_filed, collection_in, nodes_with, is_over, without_over_in, left_at, thin_in, thinned, unless_over, without_bare}
+use Rattle.forest_store.proofs.Common.{IsLeftIn, ◌≡◌, ℕ, ◌==◌, true, false, inl, inr, Option, Some, None, List, map, refl, sym, subst, ◌∙◌, find, list_any, Table, node_at, NodeKey, same_key, both_ways, either_way, In-any, Node, Shelf, AreRising, IsStored, are_filed, collection_in, nodes_with, is_over, without_over_in, left_at, thin_in, thinned, unless_over, without_bare, arith}
 use Rattle.forest_store.proofs.leaving.Thinning.{all_thinned-same, thinned-same}
 use Rattle.forest_store.proofs.leaving.Tidying.{bare-kept, bare_others, none_others, over_others, thin_others, thinned_all, tidied_all}
 use Rattle.forest_store.proofs.Basics.{all-In, filed_found, found_id, in_nodes, map-same}
@@ -8,10 +8,7 @@ use Rattle.forest_store.proofs.Basics.{all-In, filed_found, found_id, in_nodes, 
 
 -- shelves whose keys the table has stay as they are
 pub thin_filed : (t : Table Node) (id : ℕ) (ss : List Shelf) → are_filed t ss ≡ true → thin_in t id ss ≡ ss
-thin_filed t id ss filed = map-same _ ss (λ s on. elim (s.id == id) as (λ (b : Bool). cond b (thinned t s) s ≡ s) [
-  | true ↦ thinned-same t s (all-In (λ (x : Shelf). list_all (is_filed t x.id) x.keys) ss s on filed)
-  | false ↦ refl
-])
+thin_filed t id ss filed = grind (arith, map-same, thinned-same, all-In)
 
 -- where no node of the keys is dead, each key finds what is left
 pub tidy_left : (t : Table Node) (keys : List NodeKey) → list_any is_over (nodes_with t keys) ≡ false → (k : NodeKey) →
@@ -50,11 +47,7 @@ module _ {t now : Table Node} {id : ℕ} {ss : List Shelf} (ok : IsStored t ss) 
     where
       by : (o : Option Shelf) → find (λ (x : Shelf). x.id == id) ss ≡ o →
           map (collection_in now) (without_bare id (thin_in now id ss)) ≡ without_over_in id (map (collection_in t) ss)
-      by None is =
-          ap (λ (l : List Shelf). map (collection_in now) (without_bare id l)) (thin_others now _ _ (none_others _ _ is))
-          ∙ ap (map (collection_in now)) (bare_others _ _ (none_others _ _ is))
-          ∙ ap (λ (x : Table Node). map (collection_in x) ss) (left.none is)
-          ∙ sym (over_others t _ _ (none_others _ _ is))
+      by None is = grind (arith, thin_others, none_others, bare_others, over_others)
       by (Some s) is =
           let own : s.id ≡ id = found_id _ _ s is in
           rw (← own) (tidied_all t now s (filed_found t id ss ok.filed s is) (left.look s is) _ ok.rising ok.filed

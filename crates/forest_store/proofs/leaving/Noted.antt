@@ -1,5 +1,5 @@
 -- Nodes that are dead, but for those that are noted.
-use Rattle.forest_store.proofs.Common.{arith, and_both, and_left, and_right, both_ways, false_if, not-true, ◌≡◌, refl, ap, ◌∙◌, Bool, true, false, not, ◌&&◌, List, [], list_any, same_key, Node, NodeKey, over_except, is_over, and-false, AreMore}
+use Rattle.forest_store.proofs.Common.{arith, and_left, ◌≡◌, refl, ap, ◌∙◌, Bool, true, false, not, ◌&&◌, List, [], list_any, same_key, Node, NodeKey, over_except, is_over, and-false, AreMore}
 use Rattle.forest_store.proofs.lists.Elements.{none_less}
 
 -- a node that is not dead is not, whichever are noted
@@ -24,9 +24,7 @@ fewer_over garbage ns none = none_less _ is_over ns (λ n on h. and_left _ _ h) 
 -- where none is but some, none is but more
 pub more_noted : (few more : List NodeKey) → AreMore few more → (ns : List Node) → list_any (over_except few) ns ≡ false →
     list_any (over_except more) ns ≡ false
-more_noted few more all ns none = none_less _ (over_except few) ns (λ n on h.
-    and_both _ _ (and_left _ _ h) (ap not (false_if (list_any (same_key n.key) few) (λ e.
-    both_ways (list_any (same_key n.key) more) (all n.key e) (not-true _ (and_right _ _ h)))))) none
+more_noted few more all ns none = grind (arith, none_less)
 
 -- where none is noted, none is dead
 pub none_noted : (ns : List Node) → list_any (over_except []) ns ≡ false → list_any is_over ns ≡ false

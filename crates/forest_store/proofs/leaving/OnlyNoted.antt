@@ -1,5 +1,5 @@
 -- A collection of which no other nodes are dead than are noted: to look at those is to look at all.
-use Rattle.forest_store.proofs.Common.{In-filter, false_if, filter-less, not-true, ◌≡◌, refl, ap, sym, ◌∙◌, Bool, true, false, not, ◌&&◌, ◌||◌, ◌⊎◌, inl, inr, List, [], ◌∷◌, cond, Option, Some, None, is_some, ◌==◌, eqb-true, filter, list_all, list_any, option_map_or, NodeKey, same_key, In, In-list_any, both_ways, either_way, same_key-true, Table, node_at, Entry, Node, is_filed, is_over, and-false, filter-In, IsForgettable, is_found, is_left_by, is_own_if_over, left_at, unless_over}
+use Rattle.forest_store.proofs.Common.{In-filter, filter-less, not-true, ◌≡◌, refl, ap, sym, ◌∙◌, Bool, true, false, not, ◌&&◌, ◌||◌, ◌⊎◌, inl, inr, List, [], ◌∷◌, cond, Option, Some, None, is_some, eqb-true, filter, list_all, list_any, option_map_or, NodeKey, same_key, In, In-list_any, both_ways, either_way, same_key-true, Table, node_at, Entry, Node, is_filed, is_over, and-false, filter-In, IsForgettable, is_found, is_left_by, is_own_if_over, left_at, unless_over, arith}
 use Rattle.forest_store.proofs.shelves.Counted.{own_key}
 use Rattle.forest_store.proofs.Basics.{in_nodes, none_each, all-In, none_but, same_key-swap}
 
@@ -21,13 +21,7 @@ module _ (t : Table Node) (e : Entry) (can : IsForgettable t e) (garbage_known :
   -- a noted node that is dead is one of the collection
   listed : (k : NodeKey) (n : Node) → node_at t k ≡ Some n → list_any (same_key k) garbage ≡ true → is_over n ≡ true →
       list_any (same_key k) keys ≡ true
-  listed k n is on over =
-      let x = In-list_any (same_key k) garbage on in
-      let test : is_own_if_over t e.id k ≡ true =
-      rw (same_key-true k _ x.2) (all-In (is_own_if_over t e.id) garbage x.0 x.1 own) in
-      let id : (n.collection == e.id) ≡ true = (λ i. not (sym over i) || n.collection == e.id)
-      ∙ ap (λ (o : Option Node). option_map_or (λ (m : Node). not (is_over m) || m.collection == e.id) o true) (sym is) ∙ test in
-      can.all k n is (eqb-true n.collection e.id id)
+  listed k n is on over = grind (arith, In-list_any, same_key-true, all-In, eqb-true)
 
   -- each key finds what is left, whether all are looked at or those that are noted
   pub noted_left : (k : NodeKey) → left_at t garbage k ≡ left_at t keys k
@@ -35,15 +29,7 @@ module _ (t : Table Node) (e : Entry) (can : IsForgettable t e) (garbage_known :
     where
       by : (a : Bool) → list_any (same_key k) garbage ≡ a → (b : Bool) → list_any (same_key k) keys ≡ b →
           (o : Option Node) → node_at t k ≡ o → cond a (unless_over o) o ≡ cond b (unless_over o) o
-      by true on true there o is = refl
-      by false on false there o is = refl
-      by true on false there None is = refl
-      by false on true there None is = refl
-      by true on false there (Some n) is = elim (either_way (is_over n)) [
-        | inl over ↦ both_ways _ (listed k n is on over) there
-        | inr e ↦ rw e refl
-      ]
-      by false on true there (Some n) is = let e : is_over n ≡ false = unnoted k n is there on in rw e refl
+      by a on b there o is = grind (arith, listed, unnoted)
 
   -- so it is for the keys of the collection
   pub noted_found : (now : Table Node) → ((k : NodeKey) → node_at now k ≡ left_at t keys k) →
@@ -73,15 +59,7 @@ module _ (t : Table Node) (e : Entry) (can : IsForgettable t e) (garbage_known :
 -- a key that is left where the first node is not dead is left by the others
 pub left_on : (t : Table Node) (key : NodeKey) (later : List NodeKey) → option_map_or is_over (node_at t key) false ≡ false →
     (k : NodeKey) → is_left_by t (key ∷ later) k ≡ is_left_by t later k
-left_on t key later e k = elim (either_way (same_key k key)) [
-  | inl same ↦
-      let none : option_map_or is_over (node_at t k) false ≡ false =
-      ap (λ (j : NodeKey). option_map_or is_over (node_at t j) false) (same_key-true k key same) ∙ e in
-      (λ i. not (list_any (same_key k) (key ∷ later) && none i))
-      ∙ (ap not (and-false (list_any (same_key k) (key ∷ later)) ∙ sym (and-false (list_any (same_key k) later)))
-      ∙ (λ i. not (list_any (same_key k) later && sym none i)))
-  | inr other ↦ λ i. not ((other i || list_any (same_key k) later) && option_map_or is_over (node_at t k) false)
-]
+left_on t key later e k = grind (arith, same_key-true, and-false)
 
 -- and where it is dead, by the others once its key was dropped
 pub left_dropped : (t : Table Node) (key : NodeKey) (later : List NodeKey) → option_map_or is_over (node_at t key) false ≡ true →
@@ -92,10 +70,7 @@ left_dropped t key later e ks =
   where
     -- the key itself is left out
     stays : (k : NodeKey) → is_left_by t (key ∷ later) k ≡ true → not (same_key key k) ≡ true
-    stays k h = ap not (false_if (same_key key k) (λ same.
-        let over : option_map_or is_over (node_at t k) false ≡ true =
-        ap (λ (j : NodeKey). option_map_or is_over (node_at t j) false) (sym (same_key-true _ k same)) ∙ e in
-        both_ways (is_left_by t (key ∷ later) k) h (λ i. not (((same_key-swap k key ∙ same) i || list_any (same_key k) later) && over i))))
+    stays k h = grind (arith, same_key-true, same_key-swap)
 
     others : (k : NodeKey) → same_key key k ≡ false → is_left_by t (key ∷ later) k ≡ is_left_by t later k
     others k differ = λ i. not (((same_key-swap k key ∙ differ) i || list_any (same_key k) later) && option_map_or is_over (node_at t k) false)

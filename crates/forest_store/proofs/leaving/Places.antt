@@ -13,10 +13,7 @@ listed_at key (k ∷ ks) (suc n) within is = or_right _ _ (listed_at key ks n (o
 pub without_at : (key : NodeKey) (ks : List NodeKey) (at : ℕ) → are_apart ks ≡ true → at < length ks → get_or ks at key ≡ key →
     filter (λ other. not (same_key key other)) ks ≡ remove ks at
 without_at key [] at apart within is = absurd (omega (arith, within))
-without_at key (k ∷ ks) zero apart within is =
-    let here : same_key key k ≡ true = rw is (same_key-refl key) in
-    let lone = subst (λ (x : NodeKey). list_any (same_key x) ks ≡ false) is (not-true _ (and_left _ _ apart)) in
-    rw here (lacks-filter key ks lone)
+without_at key (k ∷ ks) zero apart within is = grind (arith, same_key-refl, lacks-filter)
 without_at key (k ∷ ks) (suc n) apart within is =
     let there : list_any (same_key key) ks ≡ true = listed_at key ks n (omega (arith, within)) is in
     let other : same_key key k ≡ false = false_if (same_key key k) (λ same.

@@ -41,9 +41,7 @@ apart-filter p (k ∷ ks) apart = elim (p k) as (λ b. are_apart (cond b (k ∷ 
 -- a key that passes is still there
 pub there-filter : (p : NodeKey → Bool) (key : NodeKey) (ks : List NodeKey) → p key ≡ true → list_any (same_key key) ks ≡ true →
     list_any (same_key key) (filter p ks) ≡ true
-there-filter p key ks passes there =
-    let x = In-list_any (same_key key) ks there in
-    In-any _ _ x.0 (In-filter-back p ks x.0 x.1 (ap p (sym (same_key-true key x.0 x.2)) ∙ passes)) x.2
+there-filter p key ks passes there = grind (arith, In-list_any, In-any, In-filter-back, same_key-true)
 
 -- a key that none of them is can't be left out
 pub lacks-filter : (key : NodeKey) (ks : List NodeKey) → list_any (same_key key) ks ≡ false → filter (λ k. not (same_key key k)) ks ≡ ks

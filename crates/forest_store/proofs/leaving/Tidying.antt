@@ -1,14 +1,12 @@
 -- A collection without its dead nodes, and collections without the empty ones.
-use Rattle.forest_store.proofs.Common.{false_if, In-list_any, all_on, map-In, ◌≡◌, ℕ, suc, ◌==◌, ◌<◌, Bool, true, false, ◌&&◌, not, List, [], ◌∷◌, ◌++◌, map, length, Option, Some, None, is_some, cond, refl, sym, ap, ◌∙◌, inl, inr, arith, find, list_any, list_all, filter, cons_option, AllByRecursion, option_map_or, false≢true, eqb-true, eqb-false, eq-eqb, NodeKey, same_key, and_left, and_right, or_left, or_right, same_key-true, Table, node_at, Node, Shelf, AreRising, IsStored, all_keys, are_filed, collection_in, is_filed, nodes_with, is_over, ne_eqb, filter-list_all, list_all-filter, same_key-equal, is_left, tidied, without_over_in, is_bare, is_found, left_at, thin_in, thinned, unless_over, without_bare, are_apart, either_way, filter-all, none-find}
+use Rattle.forest_store.proofs.Common.{false_if, In-list_any, all_on, map-In, ◌≡◌, ℕ, suc, ◌==◌, ◌<◌, Bool, true, false, ◌&&◌, not, List, [], ◌∷◌, map, length, Option, Some, None, is_some, cond, refl, sym, ap, ◌∙◌, inl, inr, arith, find, list_any, list_all, filter, cons_option, AllByRecursion, option_map_or, false≢true, eqb-true, eqb-false, eq-eqb, NodeKey, same_key, and_left, and_right, or_left, or_right, same_key-true, Table, node_at, Node, Shelf, AreRising, IsStored, all_keys, are_filed, collection_in, is_filed, nodes_with, is_over, ne_eqb, filter-list_all, list_all-filter, same_key-equal, is_left, tidied, without_over_in, is_bare, is_found, left_at, thin_in, thinned, unless_over, without_bare, are_apart, either_way, filter-all, none-find}
 use Rattle.forest_store.proofs.leaving.Thinning.{filed_all}
 use Rattle.forest_store.proofs.Basics.{all-In, all_at, all_filter, all_in, all_weaker, made-In, map-same, none_each}
 
 -- a key of a collection has a node of it
 filed_there : (t : Table Node) (id : ℕ) (ks : List NodeKey) (key : NodeKey) → list_all (is_filed t id) ks ≡ true →
     list_any (same_key key) ks ≡ true → is_filed t id key ≡ true
-filed_there t id ks key filed there =
-    let x = In-list_any (same_key key) ks there in
-    rw (same_key-true key x.0 x.2) (all-In (is_filed t id) ks x.0 x.1 filed)
+filed_there t id ks key filed there = grind (arith, In-list_any, same_key-true, all-In)
 
 -- a node is of one collection
 one_collection-by : (one two : ℕ) (o : Option Node) → option_map_or (λ (n : Node). n.collection == one) o false ≡ true →
@@ -19,9 +17,7 @@ one_collection-by one two (Some n) a b = sym (eqb-true _ _ a) ∙ eqb-true _ _ b
 -- the first that is left
 unless_first : (o : Option Node) (ns : List Node) → cons_option (unless_over o) (filter (λ n. not (is_over n)) ns) ≡ filter (λ n.
     not (is_over n)) (cons_option o ns)
-unless_first None ns = refl
-unless_first (Some n) ns = elim (is_over n) as (λ b. cons_option (cond b None (Some n)) (filter (λ m. not (is_over m)) ns) ≡ cond (not b)
-    (n ∷ filter (λ m. not (is_over m)) ns) (filter (λ m. not (is_over m)) ns)) [ true ↦ refl | false ↦ refl ]
+unless_first o ns = grind arith
 
 module _ (t now : Table Node) (s : Shelf) (filed : list_all (is_filed t s.id) s.keys ≡ true) (look : (k : NodeKey) →
     node_at now k ≡ left_at t s.keys k) where
@@ -169,11 +165,7 @@ module _ (t now : Table Node) (s : Shelf) (filed : list_all (is_filed t s.id) s.
 -- the ids still rise
 bare-rising : (id : ℕ) (ss : List Shelf) → AreRising ss → AreRising (without_bare id ss)
 bare-rising id [] rising = tt
-bare-rising id (s ∷ ss) rising =
-    elim (s.id == id && is_bare s) as (λ b. AreRising (cond (not b) (s ∷ without_bare id ss) (without_bare id ss))) [
-      | true ↦ bare-rising id ss rising.1
-      | false ↦ (all_filter _ _ _ rising.0, bare-rising id ss rising.1)
-    ]
+bare-rising id (s ∷ ss) rising = grind (arith, bare-rising id ss rising.1, all_filter)
 
 -- the keys stay
 no_keys : (ks : List NodeKey) → (length ks == 0) ≡ true → ks ≡ []
@@ -183,12 +175,7 @@ no_keys (k ∷ ks) none = absurd (let zero = eqb-true _ _ none in omega (arith, 
 -- by induction: a bare shelf has no key
 bare-keys : (id : ℕ) (ss : List Shelf) → all_keys (without_bare id ss) ≡ all_keys ss
 bare-keys id [] = refl
-bare-keys id (s ∷ ss) = elim (either_way (s.id == id && is_bare s)) [
-  | inl bare ↦
-      let none : s.keys ≡ [] = no_keys _ (and_left _ _ (and_right _ _ bare)) in
-      rw (bare, none) (bare-keys id ss)
-  | inr other ↦ rw other (ap (λ ks. s.keys ++ ks) (bare-keys id ss))
-]
+bare-keys id (s ∷ ss) = grind (arith, bare-keys id ss, no_keys)
 
 -- they are filed still
 bare-filed : (t : Table Node) (id : ℕ) (ss : List Shelf) → are_filed t ss ≡ true → are_filed t (without_bare id ss) ≡ true

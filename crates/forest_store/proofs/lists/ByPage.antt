@@ -1,5 +1,5 @@
 -- Intervals in order of page, as a pool keeps them.
-use Rattle.forest_store.proofs.Common.{cases_eq, le-ltb, ℕ, ◌≡◌, ◌≤◌, refl, ap, sym, ◌∙◌, Bool, true, false, nat_lt, cond, List, [], ◌∷◌, ◌++◌, map, inl, inr, list_any, Interval, insert_by, by_page, with_buffers, with_interval}
+use Rattle.forest_store.proofs.Common.{cases_eq, le-ltb, ℕ, ◌≡◌, ◌≤◌, refl, ap, sym, ◌∙◌, Bool, true, false, nat_lt, cond, List, [], ◌∷◌, ◌++◌, map, inl, inr, list_any, Interval, insert_by, by_page, with_buffers, with_interval, arith}
 use Rattle.sm_names.specs.Apart.{at_pages}
 use Rattle.forest_store.proofs.lists.SameIntervals.{any-sorted, insert-swap}
 
@@ -38,10 +38,7 @@ swap_in pages a b is = elim (cases_eq a b) [
 with_buffers_put : (pages s : ℕ) (starts : List ℕ) (is : List Interval) →
     with_buffers pages starts (put_in (at_pages pages s) is) ≡ put_in (at_pages pages s) (with_buffers pages starts is)
 with_buffers_put pages s [] is = refl
-with_buffers_put pages s (t ∷ ts) is =
-    ap (with_buffers pages ts) (put_is (at_pages pages t) (put_in (at_pages pages s) is) ∙ swap_in pages t s is)
-    ∙ (with_buffers_put pages s ts (put_in (at_pages pages t) is)
-    ∙ ap (λ (l : List Interval). put_in (at_pages pages s) (with_buffers pages ts l)) (sym (put_is _ is)))
+with_buffers_put pages s (t ∷ ts) is = grind (arith, with_buffers_put pages s ts (put_in (at_pages pages t) is), swap_in)
 
 -- buffers that are placed are in order with the others
 pub with_buffers_sorted : (pages : ℕ) (starts : List ℕ) (is : List Interval) →

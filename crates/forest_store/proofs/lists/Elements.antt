@@ -1,5 +1,5 @@
 -- What holds of the elements of a list, and what is found, kept or made of them.
-use Rattle.forest_store.proofs.Common.{◌&&◌, ◌+◌, either_way, find, list_all, list_any-map, option_map, times, ◌≡◌, refl, ap, sym, ◌∙◌, subst, Bool, true, false, inl, inr, List, [], ◌∷◌, map, Option, Some, None, is_some, cond, AllByRecursion, cons_option, filter, filter_map, list_any, In, In-any, In-filter, In-list_any, both_ways, false_if}
+use Rattle.forest_store.proofs.Common.{◌&&◌, ◌+◌, either_way, find, list_all, list_any-map, option_map, times, ◌≡◌, refl, ap, sym, ◌∙◌, subst, Bool, true, false, inl, inr, List, [], ◌∷◌, map, Option, Some, None, is_some, cond, AllByRecursion, cons_option, filter, filter_map, list_any, In, In-any, In-filter, In-list_any, both_ways, false_if, arith}
 
 -- ---- all
 
@@ -56,18 +56,13 @@ In-made {A = A} {B = B} h (x ∷ xs) y on = by _ refl (In-made h xs y) on
   where
     by : (o : Option B) → h x ≡ o → (In y (filter_map h xs) → (z : A) × In z xs × (h z ≡ Some y)) → In y (cons_option o (filter_map h xs)) →
         (z : A) × In z (x ∷ xs) × (h z ≡ Some y)
-    by None is rest on = let z = rest on in (z.0, inr z.1, z.2)
-    by (Some z) is rest (inl e) = (x, inl refl, is ∙ ap Some (sym e))
-    by (Some z) is rest (inr on) = let w = rest on in (w.0, inr w.1, w.2)
+    by o is rest on = grind arith
 
 -- and the other way round
 pub In-made-back : {A B : Type 0} (h : A → Option B) (xs : List A) (x : A) (y : B) → In x xs → h x ≡ Some y → In y (filter_map h xs)
 In-made-back h [] x y on is = absurd on
 In-made-back h (z ∷ zs) x y (inl e) is = let here : h z ≡ Some y = ap h (sym e) ∙ is in rw here (inl refl)
-In-made-back h (z ∷ zs) x y (inr on) is = elim (h z) as (λ o. In y (cons_option o (filter_map h zs))) [
-  | None ↦ In-made-back h zs x y on is
-  | Some w ↦ inr (In-made-back h zs x y on is)
-]
+In-made-back h (z ∷ zs) x y (inr on) is = grind (arith, In-made-back h zs x y on is, In)
 
 -- where the same is made of each, the same is made of all
 pub made-In : {A B : Type 0} (h g : A → Option B) (xs : List A) → ((x : A) → In x xs → h x ≡ g x) → filter_map h xs ≡ filter_map g xs

@@ -1,5 +1,5 @@
 -- Tests over lists that were filtered and mapped.
-use Rattle.forest_store.proofs.Common.{ℕ, ◌≡◌, ◌<◌, ◌≤◌, nat_lt, refl, ap, sym, ◌∙◌, Bool, true, false, not, ◌&&◌, ◌||◌, cond, if◌then◌else◌, List, [], ◌∷◌, map, Option, Some, None, inl, inr, arith, list_any, list_all, find, filter, cons_option, lt-ltb, either_way, or_cases, or_right, max, filter_map, fold, ltb-true, ltb-false, or_false, option_map, or_assoc, both_tests}
+use Rattle.forest_store.proofs.Common.{ℕ, ◌≡◌, nat_lt, refl, ap, sym, ◌∙◌, Bool, not, ◌&&◌, ◌||◌, if◌then◌else◌, List, [], ◌∷◌, map, Option, None, arith, list_any, list_all, find, filter, lt-ltb, max, filter_map, fold, ltb-true, or_false, option_map, or_assoc, both_tests}
 use Rattle.sm_names.proofs.BitLaws.{none_below}
 use Rattle.forest_store.proofs.lists.Elements.{map-same}
 
@@ -7,36 +7,19 @@ module _ {A B : Type 0} (asked : A → Bool) (f : A → B) (p : B → Bool) wher
   -- some of those that were asked for pass
   pub any-map_filter : (xs : List A) → list_any p (map f (filter asked xs)) ≡ list_any (λ x. asked x && p (f x)) xs
   any-map_filter [] = refl
-  any-map_filter (x ∷ xs) =
-      elim (either_way (asked x)) [
-        | inl e ↦ rw e (ap (λ (b : Bool). p (f x) || b) (any-map_filter xs))
-        | inr e ↦ rw e (any-map_filter xs)
-      ]
+  any-map_filter (x ∷ xs) = grind (arith, any-map_filter xs)
 
   -- all of those that were asked for pass
   pub all-map_filter : (xs : List A) →
       list_all p (map f (filter asked xs)) ≡ list_all (λ x. not (asked x) || p (f x)) xs
   all-map_filter [] = refl
-  all-map_filter (x ∷ xs) =
-      elim (either_way (asked x)) [
-        | inl e ↦ rw e (ap (λ (b : Bool). p (f x) && b) (all-map_filter xs))
-        | inr e ↦ rw e (all-map_filter xs)
-      ]
+  all-map_filter (x ∷ xs) = grind (arith, all-map_filter xs)
 
   -- the first of those that were asked for that passes
   pub find-map_filter : (xs : List A) →
       find p (map f (filter asked xs)) ≡ option_map f (find (λ x. asked x && p (f x)) xs)
   find-map_filter [] = refl
-  find-map_filter (x ∷ xs) =
-      elim (either_way (asked x)) [
-        | inl e ↦ rw e (elim (p (f x)) as
-            (λ (b : Bool). cond b (Some (f x)) (find p (map f (filter asked xs)))
-            ≡ option_map f (cond b (Some x) (find (λ y. asked y && p (f y)) xs))) [
-              | true ↦ refl
-              | false ↦ find-map_filter xs
-            ])
-        | inr e ↦ rw e (find-map_filter xs)
-      ]
+  find-map_filter (x ∷ xs) = grind (arith, find-map_filter xs)
 
 module _ {A : Type 0} (asked p : A → Bool) where
   -- some of those that were asked for pass
@@ -52,37 +35,17 @@ pub made-filter_map : {A B C : Type 0} (asked : A → Bool) (f : A → B) (again
     (xs : List A) → filter_map h (filter again (map f (filter asked xs)))
     ≡ filter_map (λ x. if asked x && again (f x) then h (f x) else None) xs
 made-filter_map asked f again h [] = refl
-made-filter_map asked f again h (x ∷ xs) =
-    elim (either_way (asked x)) [
-      | inl e ↦ elim (either_way (again (f x))) [
-        | inl g ↦ rw (e, g) (ap (cons_option (h (f x))) (made-filter_map asked f again h xs))
-        | inr g ↦ rw (e, g) (made-filter_map asked f again h xs)
-      ]
-      | inr e ↦ rw e (made-filter_map asked f again h xs)
-    ]
+made-filter_map asked f again h (x ∷ xs) = grind (arith, made-filter_map asked f again h xs)
 
 -- a number is below the greater of two, if it is below one of them
 below_max : (n a b : ℕ) → nat_lt n (max a b) ≡ (nat_lt n a || nat_lt n b)
-below_max n a b = both_tests (nat_lt n (max a b)) (nat_lt n a || nat_lt n b) (λ h. one (ltb-true n (max a b) h))
-    (λ h. elim (or_cases _ _ h) [
-      | inl e ↦ let l : n < a = ltb-true n a e in lt-ltb n (max a b) (omega arith)
-      | inr e ↦ let l : n < b = ltb-true n b e in lt-ltb n (max a b) (omega arith)
-    ])
-  where
-    one : n < max a b → (nat_lt n a || nat_lt n b) ≡ true
-    one h = elim (either_way (nat_lt n a)) [
-      | inl e ↦ rw e refl
-      | inr e ↦ let le : a ≤ n = ltb-false n a e in let lt : n < b = omega arith in
-          or_right _ _ (lt-ltb n b lt)
-    ]
+below_max n a b = grind (arith, both_tests, ltb-true, lt-ltb)
 
 -- some number is above this one exactly if the greatest is
 above_from : {A : Type 0} (f : A → ℕ) (n start : ℕ) (xs : List A) →
     nat_lt n (fold (λ k x. max k (f x)) start xs) ≡ (nat_lt n start || list_any (λ x. nat_lt n (f x)) xs)
 above_from f n start [] = sym (or_false (nat_lt n start))
-above_from f n start (x ∷ xs) = above_from f n (max start (f x)) xs
-    ∙ (ap (λ (b : Bool). b || list_any (λ y. nat_lt n (f y)) xs) (below_max n start (f x))
-    ∙ or_assoc (nat_lt n start) (nat_lt n (f x)) (list_any (λ y. nat_lt n (f y)) xs))
+above_from f n start (x ∷ xs) = grind (arith, above_from f n (max start (f x)) xs, or_assoc)
 
 -- the same from 0 on
 pub above_greatest : {A : Type 0} (f : A → ℕ) (n : ℕ) (xs : List A) →

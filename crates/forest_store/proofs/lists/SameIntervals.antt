@@ -44,10 +44,7 @@ less_of a b differ le = elim (cases_lt b a) [ inl less ↦ less | inr more ↦ a
 -- two that go in at different places, in either order
 pub insert-swap : (x y : Interval) (zs : List Interval) → x.start ≢ y.start →
     insert_by start_of x (insert_by start_of y zs) ≡ insert_by start_of y (insert_by start_of x zs)
-insert-swap x y [] differ = elim (cases_lt x.start y.start) [
-  | inl less ↦ rw (lt-ltb x.start y.start less, le-ltb y.start x.start (omega arith)) refl
-  | inr more ↦ rw (le-ltb x.start y.start more, lt-ltb y.start x.start (less_of x.start y.start differ more)) refl
-]
+insert-swap x y [] differ = grind (arith, cases_lt, lt-ltb, le-ltb)
 insert-swap x y (z ∷ zs) differ = elim (cases_lt z.start x.start) [
   | inl zx ↦ elim (cases_lt z.start y.start) [
     | inl zy ↦ rw (lt-ltb z.start x.start zx, lt-ltb z.start y.start zy, lt-ltb z.start x.start zx) (ap (λ l.
@@ -106,11 +103,7 @@ Alike-shift xs (y ∷ ys) zs = Alike-trans _ _ _ (Alike-move xs y _) (Alike-cons
 any-insert : (test : Interval → Bool) (x : Interval) (zs : List Interval) →
     list_any test (insert_by start_of x zs) ≡ (test x || list_any test zs)
 any-insert test x [] = refl
-any-insert test x (z ∷ zs) = elim (nat_lt z.start x.start) as (λ b.
-    list_any test (cond b (z ∷ insert_by start_of x zs) (x ∷ z ∷ zs)) ≡ (test x || (test z || list_any test zs))) [
-      | true ↦ ap (λ b. test z || b) (any-insert test x zs) ∙ or_swap (test z) (test x) (list_any test zs)
-      | false ↦ refl
-    ]
+any-insert test x (z ∷ zs) = grind (arith, any-insert test x zs, or_swap)
 
 -- one more in its place parts the list as in front
 parted-insert : (x : Interval) (zs : List Interval) → starts_differ (insert_by start_of x zs) ≡ starts_differ (x ∷ zs)

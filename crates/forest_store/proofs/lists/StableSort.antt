@@ -38,11 +38,7 @@ module _ {A : Type 0} (number : A → ℕ) where
   -- one more that is put in place
   first_insert : (x y : A) (xs : List A) → number x ≤ number y → IsFirst x xs → IsFirst x (insert_by number y xs)
   first_insert x y [] le first = (le, tt)
-  first_insert x y (z ∷ zs) le first =
-      elim (nat_lt (number z) (number y)) as (λ (b : Bool). IsFirst x (cond b (z ∷ insert_by number y zs) (y ∷ z ∷ zs))) [
-        | true ↦ (first.0, first_insert x y zs le first.1)
-        | false ↦ (le, first)
-      ]
+  first_insert x y (z ∷ zs) le first = grind (arith, first_insert x y zs le first.1)
 
   -- by induction: the element goes before the first that is not smaller
   rises_insert : (x : A) (xs : List A) → Rises xs → Rises (insert_by number x xs)
@@ -69,12 +65,7 @@ module _ {A : Type 0} (number : A → ℕ) where
   -- one that is put in place stands before those with its number
   filter_insert : (z x : A) (xs : List A) → filter (beside z) (insert_by number x xs) ≡ filter (beside z) (x ∷ xs)
   filter_insert z x [] = refl
-  filter_insert z x (y ∷ ys) = elim (either_way (nat_lt (number y) (number x))) [
-    | inl e ↦
-        let less : number y < number x = ltb-true (number y) (number x) e in
-        rw e (ap (λ (l : List A). cond (beside z y) (y ∷ l) l) (filter_insert z x ys) ∙ filter_swap z x y ys less)
-    | inr e ↦ rw e refl
-  ]
+  filter_insert z x (y ∷ ys) = grind (arith, filter_insert z x ys, ltb-true, filter_swap)
 
   -- so those with one number keep their order
   filter_sorted : (z : A) (xs : List A) → filter (beside z) (sorted_by number xs) ≡ filter (beside z) xs

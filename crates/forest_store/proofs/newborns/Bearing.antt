@@ -1,5 +1,5 @@
 -- A node that is born: what the table has, and what stays true.
-use Rattle.forest_store.proofs.Common.{◌≡◌, ℕ, ◌+◌, nat_lt, Bool, true, false, length, Option, Some, None, option_map, if◌then◌else◌, refl, sym, ap, subst, ◌∙◌, inl, inr, arith, option_map_or, lt-ltb, false≢true, NodeKey, same_key, either_way, Table, node_at, parent_at, Node, nat_le, Result, Ok, Err, IfOk, ne_eqb, cases_eq, get_or_past, Row, row_at, parent_in, next_at, was_given, Writes, table_with_node, key_cases, same_key-equal, same_key-apart, Bears, born, named, le-leb, Births, with_child}
+use Rattle.forest_store.proofs.Common.{◌≡◌, ℕ, ◌+◌, Bool, true, false, length, Option, Some, None, option_map, if◌then◌else◌, refl, sym, ap, ◌∙◌, inl, inr, arith, option_map_or, lt-ltb, NodeKey, same_key, Table, node_at, parent_at, Node, Result, IfOk, ne_eqb, cases_eq, get_or_past, Row, row_at, parent_in, was_given, Writes, table_with_node, key_cases, same_key-equal, same_key-apart, Bears, born, named, le-leb, Births, with_child}
 use Rattle.forest_store.proofs.tables.Writing.{look-written, parents-written}
 use Rattle.forest_store.proofs.tables.TakingOut.{still_node, still_parent}
 
@@ -7,20 +7,11 @@ use Rattle.forest_store.proofs.tables.TakingOut.{still_node, still_parent}
 
 -- a key that was given to none has no node
 ungiven : (t : Table Node) (key : NodeKey) → t.first ≡ 0 → was_given t key ≡ false → node_at t key ≡ None
-ungiven t key first fresh = elim (cases_eq (next_at t key.slot) (key.generation + 1)) [
-  | inl last ↦
-      let low : nat_le t.first key.generation ≡ true = le-leb _ _ (omega arith) in
-      let below : nat_lt key.generation (next_at t key.slot) ≡ true = lt-ltb _ _ (omega arith) in
-      absurd (false≢true (sym fresh ∙ rw (low, below) refl))
-  | inr other ↦ rw (ne_eqb _ _ other) refl
-]
+ungiven t key first fresh = grind (arith, cases_eq, le-leb, lt-ltb, ne_eqb)
 
 -- a key that has a node was given
 pub given_there : (t : Table Node) (key : NodeKey) (n : Node) → t.first ≡ 0 → node_at t key ≡ Some n → was_given t key ≡ true
-given_there t key n first is = elim (either_way (was_given t key)) [
-  | inl given ↦ given
-  | inr fresh ↦ absurd (let none = ungiven t key first fresh in cc)
-]
+given_there t key n first is = grind (arith, ungiven)
 
 -- the tables give the same generation first
 first_born : (t u : Table Node) (parent : Option NodeKey) (node : Node) (key : NodeKey) → Births t u parent node key → u.first ≡ t.first
@@ -89,15 +80,11 @@ born_weak (Some above) attached id event client key = refl
 -- a draft that is given its key is the node
 pub born_named : (above : Option Node) (attached : Bool) (id event client : ℕ) (any key : NodeKey) →
     named key (born above attached id event client any) ≡ born above attached id event client key
-born_named None attached id event client any key = refl
-born_named (Some above) true id event client any key = refl
-born_named (Some above) false id event client any key = refl
+born_named above attached id event client any key = grind arith
 
 -- so it is born
 pub named_bears : {E : Type 0} (t now : Table Node) (above : Option Node) (attached : Bool) (id event client : ℕ) (any : NodeKey)
     (draft : Node) → draft ≡ born above attached id event client any → (result : Result NodeKey E) →
     IfOk result (λ key. Bears t now (named key draft)) →
     IfOk result (λ key. Bears t now (born above attached id event client key))
-named_bears t now above attached id event client any draft is (Ok key) bears =
-    subst (Bears t now) (ap (named key) is ∙ born_named above _ id event client any key) bears
-named_bears t now above attached id event client any draft is (Err e) bears = bears
+named_bears t now above attached id event client any draft is result bears = grind (arith, born_named)

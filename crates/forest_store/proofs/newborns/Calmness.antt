@@ -19,11 +19,7 @@ module _ (c : Collection) where
   not_abandoned : (o : Option Member) →
       option_and_then (λ (root : Member). when (root.allocated && (not (some_strong_live ms) && false)) (Loss root.key Cause.NoStrong)) o
       ≡ None
-  not_abandoned None = refl
-  not_abandoned (Some root) = from _ (some_strong_live ms)
-    where
-      from : (a s : Bool) → when (a && (not s && false)) (Loss root.key Cause.NoStrong) ≡ None
-      from a s = grind arith
+  not_abandoned o = grind arith
 
   -- the allocation of an attached unit
   abbrev served : Option Buffers → Option Mark

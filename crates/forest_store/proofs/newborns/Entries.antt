@@ -1,5 +1,5 @@
 -- The entries once a node is born of which nothing else follows.
-use Rattle.forest_store.proofs.Common.{◌≡◌, ℕ, ◌+◌, ◌==◌, Bool, false, if◌then◌else◌, List, [], Option, Some, None, option_map, get_or, set, refl, sym, ap, subst, ◌∙◌, arith, find, list_any, option_map_or, NodeKey, Table, Entry, Node, strong_count, over_except, Collection, IsStored, Shelf, collection_in, forest_of, place_in, put_shelf, shelf_of, shelves_of, nodes_with, reserved_count, collection_or_new, Result, Ok, Err, IfOk, get_or_default, unwrap_or, AreCounted, IsQuiescent, IsCounted, put_in, Bears, born, no_shelf, shelf_before, shelf_with, OnErr}
+use Rattle.forest_store.proofs.Common.{◌≡◌, ℕ, ◌+◌, ◌==◌, Bool, false, if◌then◌else◌, List, [], Option, Some, None, option_map, get_or, set, refl, sym, ap, subst, ◌∙◌, arith, find, list_any, option_map_or, NodeKey, Table, Entry, Node, strong_count, over_except, Collection, IsStored, Shelf, collection_in, forest_of, place_in, put_shelf, shelf_of, shelves_of, reserved_count, collection_or_new, Result, Ok, Err, IfOk, get_or_default, unwrap_or, AreCounted, IsQuiescent, IsCounted, put_in, Bears, born, no_shelf, shelf_before, shelf_with, OnErr}
 use Rattle.forest_store.proofs.newborns.Forest.{still_collection}
 use Rattle.forest_store.proofs.shelves.Counted.{counted_but, counted_put, counted_set, moved_all, counted_as, set_shelves, shelves_put}
 use Rattle.forest_store.proofs.newborns.Newborn.{Above}
@@ -53,10 +53,7 @@ module _ (t : Table Node) (es : List Entry) (ok : IsStored t (shelves_of es)) (a
 
       -- a refusal keeps counts, notes and nodes
       pub refused_counted : AreCounted t (set es at new)
-      refused_counted = counted_set t _ at new
-          (λ within was. counted_as (ap (collection_in t) same) strong reserved (λ h.
-          ap (λ (ks : List NodeKey). list_any (over_except ks) (nodes_with t old.keys.items)) garbage ∙ counted.garbage_known (sym garbage_known ∙ h)) counted)
-          all
+      refused_counted = grind (arith, counted_set, counted_as, counted)
 
     -- where the node was born
     module _ (key : NodeKey) (new : Entry) (shelf : shelf_of new ≡ shelf_with (shelf_of old) key) where

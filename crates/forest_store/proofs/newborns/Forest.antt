@@ -99,9 +99,7 @@ filed-born t new (s ∷ ss) own all = cases_place s.id new.id (are_filed t (put_
 -- a collection more that is whole
 whole-born : (new : Collection) (cs : List Collection) → IsWhole new → AllByRecursion IsWhole cs → AllByRecursion IsWhole (put new cs)
 whole-born new [] ok all = (ok, tt)
-whole-born new (c ∷ cs) ok all = cases_place c.id new.id (AllByRecursion IsWhole (put new (c ∷ cs)))
-    (λ same. rw same (ok, all.1)) (λ other above. rw (other, above) (ok, all))
-    (λ other below. rw (other, below) (all.0, whole-born new cs ok all.1))
+whole-born new (c ∷ cs) ok all = grind (arith, whole-born new cs ok all.1, cases_place)
 
 -- neither test holds
 pub both_none : {a b : Bool} → a ≡ false → b ≡ false → (a || b) ≡ false
@@ -162,10 +160,7 @@ module _ (t now : Table Node) (node : Node) (bears : Bears t now node) where
 
   -- a filed key is not the new one
   not_this : (id : ℕ) (key : NodeKey) (same : Bool) → same_key node.key key ≡ same → is_filed t id key ≡ true → same ≡ false
-  not_this id key true same filed =
-      let none : node_at t key ≡ None = ap (node_at t) (sym (same_key-true _ _ same)) ∙ bears.none in
-      absurd (false≢true (rw none at filed))
-  not_this id key false same filed = refl
+  not_this id key b same filed = grind (arith, same_key-true)
 
   -- no filed key is the new one
   pub none_there : (id : ℕ) (keys : List NodeKey) → list_all (is_filed t id) keys ≡ true → list_any (same_key node.key) keys ≡ false

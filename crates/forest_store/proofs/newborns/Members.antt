@@ -1,5 +1,5 @@
 -- Where nothing was forced, a newborn that comes last among the nodes forces nothing.
-use Rattle.forest_store.proofs.Common.{◌≡◌, refl, ap, sym, ◌∙◌, Bool, true, false, cond, ◌&&◌, ◌||◌, not, ◌⊎◌, inl, inr, List, [], ◌∷◌, ◌++◌, Option, Some, None, is_some, list_any, list_all, find, option_map_or, option_and_then, NodeKey, Buffers, Cause, Demand, same_key, when, In, and_left, either_way, or_left, or_right, same_key-refl, same_key-true, filter-append, list_any-append, Standing, ending, abandoned, logical_allocation, logical_failure, outcome, is_allocated, is_deserted, is_next_head, Mark, Loss, Ended, Member, is_live, is_ready, is_root, is_settled, root_left, some_live, some_strong_live, subtree, unit, demands, reserved, AtRest, or_both, map-None, option_map, arith, and-false, or-false, or-true, find-append, list_all-append, option_or, find-none, none-find}
+use Rattle.forest_store.proofs.Common.{◌≡◌, refl, ap, ◌∙◌, Bool, true, false, ◌&&◌, ◌||◌, not, List, [], ◌∷◌, ◌++◌, Option, Some, None, is_some, list_any, list_all, find, option_map_or, option_and_then, NodeKey, Buffers, Cause, Demand, same_key, when, In, same_key-refl, same_key-true, filter-append, list_any-append, Standing, ending, abandoned, logical_allocation, logical_failure, outcome, is_allocated, is_deserted, is_next_head, Mark, Loss, Ended, Member, is_live, is_ready, is_root, is_settled, root_left, some_live, some_strong_live, subtree, unit, demands, reserved, AtRest, or_both, map-None, option_map, arith, and-false, or-false, or-true, find-append, list_all-append, option_or, find-none, none-find, common_steps}
 use Rattle.forest_store.proofs.lists.Elements.{none_less}
 
 -- ---- tests
@@ -31,10 +31,7 @@ module _ (ms : List Member) (m : Member) (newborn : IsNewborn ms m) where
   not_settled = from _ _ m.constraints newborn.live newborn.asks_nothing
     where
       from : (g r : Bool) (o : Option Demand) → (not g && not r) ≡ true → o ≡ None → (g || (r || is_some o)) ≡ false
-      from true r o live none = cc
-      from false true o live none = cc
-      from false false None live none = refl
-      from false false (Some d) live none = cc
+      from g r o live none = grind arith
 
   -- it is live at its own place
   lives_here : some_live (subtree m.key (m ∷ [])) ≡ true
@@ -63,11 +60,7 @@ module _ (ms : List Member) (m : Member) (newborn : IsNewborn ms m) where
 
   -- what holds of no root, and of the newborn if it is one, holds of the newborn's own root
   newest_root : (P : Option Member → Type 0) → P None → (is_root m ≡ true → P (Some m)) → P (root_left (m ∷ []))
-  newest_root P none some =
-      (elim (is_root m && not m.gone) as (λ (b : Bool). (is_root m && not m.gone) ≡ b → P (cond b (Some m) None)) [
-        | true ↦ λ e. some (and_left _ _ e)
-        | false ↦ λ e. none
-      ]) refl
+  newest_root P none some = grind arith
 
   -- ---- ends
 
@@ -81,9 +74,7 @@ module _ (ms : List Member) (m : Member) (newborn : IsNewborn ms m) where
 
   -- so none is, where none was
   none_deserted : list_any (is_deserted ms) ms ≡ false → list_any (is_deserted more) more ≡ false
-  none_deserted none = list_any-append (is_deserted more) ms (m ∷ [])
-      ∙ or_both (list_any (is_deserted more) ms) (list_any (is_deserted more) (m ∷ []))
-      (none_less (is_deserted more) (is_deserted ms) ms (λ x on. deserted_less x) none) (rw not_deserted refl)
+  none_deserted none = grind (arith, list_any-append, none_less, deserted_less, not_deserted)
 
   -- ---- heads of units
 
@@ -94,12 +85,7 @@ module _ (ms : List Member) (m : Member) (newborn : IsNewborn ms m) where
   -- so is the parent of a node that was there
   parent_more : (x : Member) → In x ms → (o : Option NodeKey) → x.parent ≡ o →
       option_map_or (is_allocated more) o false ≡ option_map_or (is_allocated ms) o false
-  parent_more x on None is = refl
-  parent_more x on (Some p) is = allocated_more p (from (either_way (same_key m.key p)))
-    where
-      from : (same_key m.key p ≡ true) ⊎ (same_key m.key p ≡ false) → same_key m.key p ≡ false
-      from (inl e) = absurd (newborn.childless x on (is ∙ ap Some (sym (same_key-true _ p e))))
-      from (inr e) = e
+  parent_more x on o is = grind (arith, allocated_more, same_key-true)
 
   -- no other is the next head that was not
   next_less : (x : Member) → In x ms → is_next_head more x ≡ true → is_next_head ms x ≡ true
@@ -109,10 +95,7 @@ module _ (ms : List Member) (m : Member) (newborn : IsNewborn ms m) where
 
   -- nor is the newborn
   not_next : is_next_head more m ≡ false
-  not_next = elim (either_way m.attached) [
-    | inl e ↦ rw (ready_more m.key, waits_here (newborn.heads (or_right _ _ e))) (simp and-false)
-    | inr e ↦ rw e refl
-  ]
+  not_next = grind (arith, common_steps, waits_here, and-false)
 
   -- so none is, where none was
   none_next : list_any (is_next_head ms) ms ≡ false → list_any (is_next_head more) more ≡ false
@@ -154,11 +137,7 @@ module _ (s : Standing) (m : Member) (newborn : IsNewborn s.members m) (rest : A
       from : (o : Option Member) → option_and_then (loss_of (some_strong_live s.members) s.strong_open) o ≡ None →
           option_and_then (loss_of (some_strong_live s.members || some_strong_live (m ∷ [])) s.strong_open)
           (option_or o (root_left (m ∷ []))) ≡ None
-      from None h = newest_root s.members m newborn
-          (λ o. option_and_then (loss_of (some_strong_live s.members || some_strong_live (m ∷ [])) s.strong_open) o ≡ None)
-          refl (λ e. rw (newborn.waits e) refl)
-      from (Some root) h =
-          less root.allocated (some_strong_live s.members) (some_strong_live (m ∷ [])) s.strong_open (Loss root.key Cause.NoStrong) h
+      from o h = grind (arith, newest_root)
 
   -- the root unit waits, or has its buffers
   none_waits : option_map_or (is_due with_it.members) (root_left with_it.members) false ≡ false
@@ -169,12 +148,7 @@ module _ (s : Standing) (m : Member) (newborn : IsNewborn s.members m) (rest : A
 
       from : (o : Option Member) → option_map_or (is_due s.members) o false ≡ false →
           option_map_or (is_due with_it.members) (option_or o (root_left (m ∷ []))) false ≡ false
-      from None h =
-          newest_root s.members m newborn (λ o. option_map_or (is_due with_it.members) o false ≡ false) refl
-          (λ e. rw (ready_more s.members m newborn m.key, waits_here s.members m newborn (newborn.heads (or_left _ _ e)))
-          (simp and-false))
-      from (Some root) h = rw (ready_more s.members m newborn root.key)
-          (less root.allocated (is_ready root.key s.members) (is_ready root.key (m ∷ [])) h)
+      from o h = grind (arith, newest_root, ready_more, waits_here, and-false, less)
 
   -- no attached unit is next
   no_head : logical_allocation with_it ≡ None
@@ -184,11 +158,7 @@ module _ (s : Standing) (m : Member) (newborn : IsNewborn s.members m) (rest : A
           option_and_then (λ buffers. option_map (becomes s.members buffers) (find (is_next_head s.members) s.members)) o ≡ None →
           option_and_then (λ buffers. option_map (becomes with_it.members buffers) (find (is_next_head with_it.members) with_it.members))
           o ≡ None
-      from None h = refl
-      from (Some buffers) h =
-          let was : find (is_next_head s.members) s.members ≡ None = map-None _ _ h in
-          ap (option_map (becomes with_it.members buffers))
-          (find-none _ with_it.members (none_next _ m newborn (none-find _ s.members was)))
+      from o h = grind (arith, map-None, find-none, none_next, none-find)
 
   -- so the collection rests with the newborn
   pub rests_with : AtRest with_it

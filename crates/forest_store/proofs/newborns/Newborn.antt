@@ -1,5 +1,5 @@
 -- The collection that a node is born into.
-use Rattle.forest_store.proofs.Common.{and_both, ◌≡◌, ℕ, ◌==◌, Bool, true, false, ◌||◌, ◌&&◌, ◌⊎◌, not, List, [], ◌∷◌, ◌++◌, drop, Option, Some, None, option_map, is_some, refl, sym, ap, subst, ◌∙◌, inl, inr, list_any, list_all, find, option_map_or, option_and_then, eqb-true, eq-eqb, false≢true, not-true, NodeKey, same_key, In, In-find, and_left, and_right, both_ways, either_way, or_cases, or_left, or_right, same_key-refl, same_key-true, some-injective, In-any, Table, node_at, Change, Node, is_left_of, Collection, Shelf, AreRising, IsStored, IsWhole, put_shelf, collection_in, nodes_with, forest_of, all_keys, are_filed, is_filed, is_of, node_of, are_distinct, heads_itself, collection_or_new, IsSome, IfSome, unwrap_or, map-append, list_any-append, or_none_left, or_none_right, row_at, was_given, same_key-equal, all_held, Bears, born, new_root, MayChange, with_birth, has_collection, shares_unit, Gives, SameTable}
+use Rattle.forest_store.proofs.Common.{and_both, ◌≡◌, ℕ, ◌==◌, Bool, true, false, ◌||◌, ◌&&◌, ◌⊎◌, not, List, [], ◌∷◌, ◌++◌, drop, Option, Some, None, option_map, is_some, refl, sym, ap, subst, ◌∙◌, inl, inr, list_any, list_all, find, option_map_or, option_and_then, eqb-true, eq-eqb, false≢true, not-true, NodeKey, same_key, In, In-find, and_left, and_right, both_ways, either_way, or_cases, or_left, or_right, same_key-refl, same_key-true, some-injective, In-any, Table, node_at, Change, Node, is_left_of, Collection, Shelf, AreRising, IsStored, IsWhole, put_shelf, collection_in, nodes_with, forest_of, all_keys, are_filed, is_filed, is_of, node_of, are_distinct, heads_itself, collection_or_new, IsSome, IfSome, unwrap_or, map-append, list_any-append, or_none_left, or_none_right, row_at, was_given, same_key-equal, all_held, Bears, born, new_root, MayChange, with_birth, has_collection, shares_unit, Gives, SameTable, arith}
 use Rattle.forest_store.proofs.newborns.Forest.{keys_before, held_before, kept-born, helds-born, helds_in, born_looked, none_there, all-append}
 use Rattle.forest_store.proofs.Basics.{filed_at, kept_of, found_id, found_filed, found_whole, shelf_by, none_above, born_key, keys_in, looked-keys, in_all, looked_there, rooted_birth, node_of-looked, same_key-swap, distinct_one, left_in, whole_rooted, node_is, collection_is, row_there, together_born, together_none, united_born}
 
@@ -77,9 +77,7 @@ distinct-more (n ∷ ns) node none ok =
 one_root-more : (ns : List Node) (node : Node) → (is_some node.parent ≡ true) ⊎ (ns ≡ []) →
     list_all (λ (n : Node). is_some n.parent) (drop 1 ns) ≡ true →
     list_all (λ (n : Node). is_some n.parent) (drop 1 (ns ++ node ∷ [])) ≡ true
-one_root-more [] node kind ok = refl
-one_root-more (n ∷ ns) node (inl child) ok = all-append (λ (x : Node). is_some x.parent) ns (node ∷ []) ok (rw child refl)
-one_root-more (n ∷ ns) node (inr none) ok = absurd (cc)
+one_root-more ns node kind ok = grind (arith, all-append)
 
 -- ---- a birth
 
@@ -114,9 +112,7 @@ lacks_key t id named key ns keys is filed none =
 -- the node above is found in the collection
 pub found_above : (t : Table Node) (ss : List Shelf) → IsStored t ss → (c : Collection) (up : NodeKey) (n : Node) → node_at t up ≡ Some n →
     c.nodes ≡ nodes_with t (keys_before n.collection ss) → node_of c.nodes up ≡ Some n
-found_above t ss ok c up n is nodes =
-    let own = in_own t _ _ n ok.rising ok.filed is (ok.there up n is) in
-    ap (λ ns. node_of ns up) nodes ∙ node_of-looked _ ok.named _ up ∙ rw (own, is) refl
+found_above t ss ok c up n is nodes = grind (arith, in_own, node_of-looked)
 
 module _ {t : Table Node} {ss : List Shelf} (ok : IsStored t ss) (c : Collection) where
   -- so is the one above a node that is born
@@ -263,9 +259,7 @@ module _ (t now : Table Node) (ss : List Shelf) (ok : IsStored t ss) (id : ℕ) 
 
   -- the pages stay
   pub born_held : all_held (forest_of now (put_shelf (shelf_by born_collection) ss)) ≡ all_held (forest_of t ss)
-  born_held = helds_in now (put_shelf (shelf_by born_collection) ss)
-      ∙ helds-born (shelf_by born_collection) _ ok.rising (rw before.id_is before.held)
-      ∙ sym (helds_in t ss)
+  born_held = grind (arith, helds_in, shelf_by, helds-born, before)
 
   -- it is the collection with the birth
   pub born_is : with_birth parent attached client event key c0 ≡ born_collection
@@ -294,9 +288,7 @@ pub above_is : (t : Table Node) (ss : List Shelf) → IsStored t ss → (id : �
     (client event : ℕ) →
     MayChange (forest_of t ss) id (Change.Birth parent attached client event) → Above t ss id parent (option_and_then (node_at t) parent)
 above_is t ss ok id None attached client event may = Root (new_root_is t ss id may.named)
-above_is t ss ok id (Some up) attached client event may =
-    child_is t ss _ _ _ refl (ap (λ o. option_map_or (λ (n : Node). n.collection == id && not n.gone) o false)
-    (sym (node_is t _ ok up)) ∙ may.named)
+above_is t ss ok id (Some up) attached client event may = grind (arith, child_is, node_is)
 
 -- a node above has a row
 pub above_there : (t : Table Node) (ss : List Shelf) (id : ℕ) (parent : Option NodeKey) (above : Option Node) → Above t ss id parent above →

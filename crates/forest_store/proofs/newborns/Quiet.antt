@@ -1,5 +1,5 @@
 -- A birth in a collection where nothing else changes with it.
-use Rattle.forest_store.proofs.Common.{◌≡◌, ℕ, ◌+◌, Bool, true, false, ◌||◌, ◌==◌, not, if◌then◌else◌, List, [], ◌∷◌, ◌++◌, map, reverse, Option, Some, None, option_map, refl, sym, ap, subst, ◌∙◌, arith, find, list_any, option_map_or, NodeKey, same_key, both_ways, same_key-refl, In-any, Table, Entry, Node, strong_count, over_except, Collection, Shelf, IsStored, put_shelf, collection_in, forest_of, shelf_of, is_of, reserved_count, collection_or_new, put, are_rooted, unwrap_or, map-append, list_any-append, times-append, or_both, IsQuiescent, IsCounted, all_held, Bears, born, is_strong, with_birth, no_shelf, shelf_before, shelf_with}
+use Rattle.forest_store.proofs.Common.{◌≡◌, ℕ, ◌+◌, Bool, true, false, ◌||◌, ◌==◌, if◌then◌else◌, List, [], ◌∷◌, ◌++◌, map, reverse, Option, Some, None, option_map, refl, sym, ap, subst, ◌∙◌, arith, find, list_any, option_map_or, NodeKey, same_key, both_ways, same_key-refl, In-any, Table, Entry, Node, strong_count, over_except, Collection, Shelf, IsStored, put_shelf, collection_in, forest_of, shelf_of, is_of, reserved_count, collection_or_new, put, are_rooted, unwrap_or, map-append, list_any-append, times-append, or_both, IsQuiescent, IsCounted, all_held, Bears, born, is_strong, with_birth, no_shelf, shelf_before, shelf_with}
 use Rattle.forest_store.proofs.newborns.Forest.{still_collections}
 use Rattle.forest_store.proofs.newborns.Newborn.{Above, before_is, born_collection, born_fresh, born_held, born_here, born_is, born_kept, born_shown, key_is}
 use Rattle.forest_store.proofs.Basics.{not_over_but, shelf_by, HaveOthers, births_calm, reserved_append, reserved_one, keys_in, looked-keys, put-map, left_node, left_parent, collection_is, filed_found}
@@ -64,20 +64,11 @@ module _ (t now : Table Node) (ss : List Shelf) (ok : IsStored t ss) (id : ℕ) 
     -- how many strong nodes the node adds
     strong_more : (up : Option Node) → strong_count (born up attached id event client key ∷ []) ≡ (if option_map_or (λ (n : Node).
         n.weak) up false then 0 else 1)
-    strong_more None = refl
-    strong_more (Some up) =
-        elim up.weak as (λ (b : Bool). (if not b then 0 + 1 else 0) ≡ (if b then 0 else 1)) [ true ↦ refl | false ↦ refl ]
+    strong_more up = grind arith
 
     -- it camps on nothing
     reserved_more : reserved_count c0.nodes ≡ reserved_count (c0.nodes ++ node ∷ [])
-    reserved_more =
-        let all = reserved_append c0.nodes (node ∷ []) in
-        let one : reserved_count (node ∷ []) ≡ 0 = reserved_one node (asks_none above) in
-        omega (arith, all, one)
-      where
-        asks_none : (up : Option Node) → (born up attached id event client key).constraints ≡ None
-        asks_none None = refl
-        asks_none (Some up) = refl
+    reserved_more = grind (arith, reserved_append, reserved_one)
 
     -- an entry with the key and the counts is counted
     pub counted_born : IsQuiescent (collection_or_new (forest_of t ss) id) → (e : Entry) → shelf_of e ≡ shelf_with (shelf_before id ss) key →
@@ -107,10 +98,7 @@ module _ (t now : Table Node) (ss : List Shelf) (ok : IsStored t ss) (id : ℕ) 
       -- and the collections are those with it
       pub behind_shown : map (collection_in now) behind ≡ put (born_collection t now ss ok id parent attached client event above at key bears)
           (map (collection_in t) ss)
-      behind_shown = ap (map (collection_in now)) behind_is
-          ∙ put-map now _ ss
-          ∙ (λ i. put (born_shown t now ss ok id parent _ client event above at key bears i) (still_collections t now node bears ss
-          ok.filed i))
+      behind_shown = grind (arith, behind_is, put-map, born_shown, still_collections)
 
       -- all that holds of forests holds
       pub quiet_kept : IsStored now behind

@@ -56,17 +56,7 @@ module _ (t : Table Node) (ss : List Shelf) (kept : IsStored t ss) (id : ℕ) (s
 
   -- no old node is of its unit, if it heads one
   none_counted : (n : Node) → In n old → (lives_in node.key n ≡ false) × (waits_in node.key n ≡ false)
-  none_counted n there = elim (either_way n.gone) [
-    | inl e ↦ (lives_gone node.key n e, waits_gone node.key n e)
-    | inr e ↦
-        let h = olds n there e in
-        let other : same_key n.head node.key ≡ false = elim (either_way (same_key n.head node.key)) [
-          | inl d ↦ both_ways (list_any (is_of node.key) old) (In-any (is_of node.key) old h.0 h.1 (ap (λ (k : NodeKey).
-              same_key k node.key) h.2 ∙ d)) fresh
-          | inr d ↦ d
-        ] in
-        (lives_other node.key n other, waits_other node.key n other)
-  ]
+  none_counted n there = grind (arith, lives_gone, waits_gone, In-any, lives_other, waits_other)
 
   -- nor does one hang right below that
   none_hung : (n : Node) → In n old → is_hung t node.key n ≡ false
@@ -110,9 +100,7 @@ module _ (t : Table Node) (ss : List Shelf) (kept : IsStored t ss) (id : ℕ) (s
   slot_in n there = rw long1 (by_place (In-append _ _ n (subst (In n) grown there)))
     where
       by_place : In n old ⊎ In n (node ∷ []) → n.key.slot < length us
-      by_place (inl o) = (in_all _ _ has n o).0
-      by_place (inr (inl is)) = rw is own_inside
-      by_place (inr (inr none)) = absurd none
+      by_place at = grind (arith, in_all)
 
   -- what each slot had before the node was counted
   before : (n : Node) → In n nodes → unit_at us1 n.key.slot ≡ unit_of old n.key
@@ -211,16 +199,12 @@ in_put_shelf s [] = inl refl
 in_put_shelf s (x ∷ xs) = from _ _ (in_put_shelf s xs)
   where
     from : (here above : Bool) → In s (put_shelf s xs) → In s (if here then s ∷ xs else (if above then s ∷ x ∷ xs else x ∷ put_shelf s xs))
-    from true above on = inl refl
-    from false true on = inl refl
-    from false false on = inr on
+    from here above on = grind arith
 
 -- its keys are some of all
 keys_fewer : (s : Shelf) (ss : List Shelf) → In s ss → length s.keys ≤ length (all_keys ss)
 keys_fewer s [] on = absurd on
-keys_fewer s (x ∷ xs) (inl is) =
-    let b : length s.keys ≡ length x.keys = ap (λ (y : Shelf). length y.keys) is in
-    omega (arith, length-append x.keys (all_keys xs))
+keys_fewer s (x ∷ xs) (inl is) = grind (arith, length-append)
 keys_fewer s (x ∷ xs) (inr on) = omega (arith, length-append x.keys (all_keys xs), keys_fewer s xs on)
 
 module _ (t now : Table Node) (ss : List Shelf) (ok : IsStored t ss) (id : ℕ) (parent : Option NodeKey) (attached : Bool) (client event : ℕ)

@@ -1,6 +1,6 @@
 -- A collection where no step would be forced with a strong handle open: none is while a strong
 -- node lives.
-use Rattle.forest_store.proofs.Common.{is_strong, ◌≡◌, ◌+◌, refl, ap, sym, ◌∙◌, Bool, true, false, not, ◌&&◌, ◌||◌, inl, inr, List, [], ◌∷◌, map, reverse, Option, Some, None, is_none, is_some, arith, not-true, list_any, list_all, find, filter, option_map_or, option_and_then, NodeKey, Buffers, Cause, same_key, when, times, In, both_ways, either_way, Node, strong_count, has_strong, waiting, Collection, with_nodes, IsWhole, members_of, node_of, is_deserted_node, is_live_node, is_next_node, is_ready_node, is_root_left, is_deserted, is_next_head, Member, is_ready, root_left, first_some, In-filter, In-filter-back, map-In, none_is, map-None, IsQuiescent, Decision, Ends, Loses, decided, first_step, later_step, above_among, member_of, is_allocated_node, is_below, lives_below, option_map, or-true, filter-swap, filter-all}
+use Rattle.forest_store.proofs.Common.{is_strong, ◌≡◌, refl, ap, sym, ◌∙◌, Bool, true, false, not, ◌&&◌, ◌||◌, inl, inr, List, [], ◌∷◌, map, reverse, Option, Some, None, is_none, is_some, arith, not-true, list_any, list_all, find, filter, option_map_or, option_and_then, NodeKey, Buffers, Cause, same_key, when, times, In, either_way, Node, strong_count, has_strong, waiting, Collection, with_nodes, IsWhole, members_of, node_of, is_deserted_node, is_live_node, is_next_node, is_ready_node, is_root_left, is_deserted, is_next_head, Member, is_ready, root_left, first_some, In-filter, In-filter-back, map-In, none_is, map-None, IsQuiescent, Decision, Loses, decided, later_step, above_among, member_of, is_allocated_node, is_below, lives_below, option_map, or-true, filter-swap, filter-all}
 use Rattle.forest_store.proofs.tables.Chains.{one_line}
 use Rattle.forest_store.proofs.quiescence.Forcing.{deserted_tie, next_tie, ready_tie, root_tie}
 use Rattle.forest_store.proofs.tables.KeptRoots.{map-reverse_aux, rooted_filter}
@@ -24,11 +24,7 @@ pub record AreNone (nodes : List Node) (buffers : Option Buffers) : Type 0 where
 
 -- none of four
 four_none : (a b c d : Option Decision) → first_some (a ∷ b ∷ c ∷ d ∷ []) ≡ None → (a ≡ None) × (b ≡ None) × (c ≡ None) × (d ≡ None)
-four_none None None None None h = (refl, refl, refl, refl)
-four_none None None None (Some m) h = cc
-four_none None None (Some m) d h = cc
-four_none None (Some m) c d h = cc
-four_none (Some m) b c d h = cc
+four_none a b c d h = grind arith
 
 -- four decisions that are none have no first one
 pub none_four : (a b c d : Option Decision) → a ≡ None → b ≡ None → c ≡ None → d ≡ None → first_some (a ∷ b ∷ c ∷ d ∷ []) ≡ None
@@ -48,19 +44,12 @@ decided_parts nodes _ strong_open h =
 -- a root is not abandoned where a strong node lives, or a strong handle is open
 kept_root : (strong strong_open : Bool) → (strong || strong_open) ≡ true → (o : Option Node) →
     option_and_then (λ (root : Node). when (root.allocated && (not strong && not strong_open)) (Loses root.key Cause.NoStrong)) o ≡ None
-kept_root strong strong_open some None = refl
-kept_root strong strong_open some (Some root) = from _ strong strong_open some
-  where
-    from : (a s h : Bool) → (s || h) ≡ true → when (a && (not s && not h)) (Loses root.key Cause.NoStrong) ≡ None
-    from a s h some = grind arith
+kept_root strong strong_open some o = grind arith
 
 -- and so nothing is decided there
 pub none_decided : (nodes : List Node) (buffers : Option Buffers) (strong_open : Bool) → (has_strong nodes || strong_open) ≡ true →
     AreNone nodes buffers → decided nodes buffers strong_open ≡ None
-none_decided nodes buffers strong_open some none = none_four _ _ _ _
-    (ap (option_map (λ (n : Node). Ends n.key)) none.no_end)
-    (kept_root (has_strong nodes) strong_open some (find is_root_left nodes))
-    (ap (option_map (λ (n : Node). first_step nodes n.key)) none.no_root) none.no_head
+none_decided nodes buffers strong_open some none = grind (arith, none_four)
 
 -- where none of the four steps is left, none is decided: the second is excluded by the open handle
 pub calm_none : (c : Collection) → AreNone c.nodes c.buffers → IsQuiescent c
@@ -75,18 +64,12 @@ none_calm c calm = decided_parts _ _ true calm
 -- some pass exactly where the count is not 0
 pub count_some : (test : Node → Bool) (ns : List Node) → (times test ns ≡ 0 → ⊥) → list_any test ns ≡ true
 count_some test [] some = absurd (some refl)
-count_some test (n ∷ ns) some = elim (either_way (test n)) [
-  | inl e ↦ rw e refl
-  | inr e ↦ let rest : times test ns ≡ 0 → ⊥ = λ z. some (rw e z) in rw e (count_some test ns rest)
-]
+count_some test (n ∷ ns) some = grind (arith, count_some test ns)
 
 -- and where it is 0 none passes
 pub count_none : (test : Node → Bool) (ns : List Node) → times test ns ≡ 0 → list_any test ns ≡ false
 count_none test [] none = refl
-count_none test (n ∷ ns) none = elim (either_way (test n)) [
-  | inl e ↦ let some : times test ns + 1 ≡ 0 = rw e at none in absurd (omega arith)
-  | inr e ↦ let rest : times test ns ≡ 0 = rw e at none in rw e (count_none test ns rest)
-]
+count_none test (n ∷ ns) none = grind (arith, count_none test ns)
 
 -- ---- nodes that are gone are left out
 
@@ -106,9 +89,7 @@ wait_tie nodes =
     from : (o : Option Node) → option_map_or (λ (root : Member). not root.allocated && is_ready root.key (members_of nodes))
         (option_map (member_of nodes) o) false
         ≡ is_some (option_and_then (λ (root : Node). when (not root.allocated && list_all (is_ready_node root.key) nodes) root) o)
-    from None = refl
-    from (Some root) = ap (λ (b : Bool). not root.allocated && b) (ready_tie nodes _)
-        ∙ told _ root
+    from o = grind (arith, ready_tie, told)
 
 -- nodes with the same members are as calm
 pub none_same : (old new : List Node) (buffers : Option Buffers) → members_of new ≡ members_of old → AreNone old buffers →
@@ -152,10 +133,7 @@ module _ (c : Collection) (whole : IsWhole c) (p : Node → Bool) (over : (n : N
 
   -- a node that is not gone passes the test, since one that fails it is gone
   passes : (n : Node) → In n nodes → n.gone ≡ false → p n ≡ true
-  passes n on here = elim (either_way (p n)) [
-    | inl e ↦ e
-    | inr e ↦ both_ways n.gone (over n on e) here
-  ]
+  passes n on here = grind arith
 
   -- above a node that is not gone lie the same nodes
   above_same : (n : Node) → In n nodes → n.gone ≡ false → above_among (reverse (filter p nodes)) n.key ≡ above_among (reverse nodes) n.key
@@ -259,15 +237,7 @@ module _ (nodes : List Node) (f : Node → Node) (plain : (n : Node) → IsPlain
   wait_map : (o : Option Node) →
       option_and_then (λ (root : Node). when (not root.allocated && list_all (is_ready_node root.key) nodes) root) o ≡ None →
       option_and_then (λ (root : Node). when (not root.allocated && list_all (is_ready_node root.key) now) root) (option_map f o) ≡ None
-  wait_map None h = refl
-  wait_map (Some root) h = ap (λ (b : Bool). when b (f root))
-      ((λ i. not ((plain root).allocated i) && list_all (is_ready_node ((plain root).key i)) now)
-      ∙ ap (λ (b : Bool). not root.allocated && b) (ready_map _))
-      ∙ still _ h
-    where
-      still : (b : Bool) → when b root ≡ None → when b (f root) ≡ None
-      still true h = cc
-      still false h = refl
+  wait_map o h = grind (arith, ready_map)
 
   -- so none of the steps is left
   pub none_map : (buffers : Option Buffers) → AreNone nodes buffers → AreNone now buffers

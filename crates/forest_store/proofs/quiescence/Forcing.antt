@@ -1,5 +1,5 @@
 -- What the code decides is what is forced.
-use Rattle.forest_store.proofs.Common.{ℕ, ◌+◌, ◌≡◌, refl, ap, ◌∙◌, Bool, true, false, not, ◌&&◌, ◌||◌, ◌==◌, nat_lt, if◌then◌else◌, is_none, is_some, List, [], ◌∷◌, ◌++◌, map, Option, Some, None, list_any, list_all, find, filter, sum_by, option_map_or, option_and_then, Interval, NodeKey, Buffers, Cause, Demand, forced, same_key, when, Node, has_strong, waiting, Collection, members_of, is_deserted_node, is_next_node, is_ready_node, is_root_left, Handles, standing, max, filter_map, Failure, Standing, ending, abandoned, logical_allocation, logical_failure, outcome, is_deserted, is_allocated, is_next_head, Mark, Loss, Ended, Member, is_live, is_ready, some_live, some_strong_live, subtree, unit, root_left, demands, reserved, first_some, MAX_BUFFERS, Allocates, Decision, Ends, Loses, Places, decided, first_step, late_failure, later_step, wanted_by, pages_in, member_of, demands_of, is_allocated_node, is_below, has_buffers, lives_below, option_map, initial_allocation, initial_failure, greatest, wanted, asked, decisions, mark_of, is_in_unit}
+use Rattle.forest_store.proofs.Common.{ℕ, ◌+◌, ◌≡◌, refl, ap, ◌∙◌, Bool, true, false, not, ◌&&◌, ◌||◌, ◌==◌, nat_lt, if◌then◌else◌, is_none, List, [], ◌∷◌, ◌++◌, map, Option, Some, None, list_any, list_all, find, filter, sum_by, option_map_or, option_and_then, Interval, NodeKey, Buffers, Cause, Demand, forced, same_key, when, Node, has_strong, waiting, Collection, members_of, is_deserted_node, is_next_node, is_ready_node, is_root_left, Handles, standing, max, filter_map, Failure, Standing, ending, abandoned, logical_allocation, logical_failure, outcome, is_deserted, is_allocated, is_next_head, Mark, Loss, Ended, Member, is_ready, some_live, some_strong_live, subtree, unit, root_left, demands, reserved, first_some, MAX_BUFFERS, Allocates, Decision, Ends, Loses, Places, decided, first_step, late_failure, later_step, wanted_by, pages_in, member_of, demands_of, is_allocated_node, has_buffers, lives_below, option_map, initial_allocation, initial_failure, greatest, wanted, asked, decisions, mark_of, is_in_unit, arith}
 use Rattle.sm_names.specs.Pages.{places, pages_of}
 use Rattle.forest_store.proofs.lists.Filters.{any-map_filter, all-map_filter, find-map_filter, any-filter, all-filter, made-filter_map, above_greatest}
 use Rattle.forest_store.proofs.lists.Booleans.{and_again_behind, and_again_last, and_again_pair, and_again_swap, settled_once}
@@ -11,9 +11,7 @@ left n = not n.gone
 -- who is gone asks for nothing anyway
 once_gone : {A : Type 0} (g s : Bool) (o : Option A) →
     (if not g && s then (if g then None else o) else None) ≡ (if not g && s then o else None)
-once_gone true s o = refl
-once_gone false true o = refl
-once_gone false false o = refl
+once_gone g s o = grind arith
 
 module _ (nodes : List Node) where
   abbrev ms : List Member
@@ -28,16 +26,11 @@ module _ (nodes : List Node) where
 
   -- the members of a unit are its nodes that are not gone, and gone nodes count as ready
   pub ready_tie : (head : NodeKey) → is_ready head ms ≡ list_all (is_ready_node head) nodes
-  ready_tie head = all-filter _ _ ms
-      ∙ (all-map_filter left _ _ nodes
-      ∙ (λ i. list_all (λ (n : Node). settled_once n.gone (same_key n.head head) (n.released || is_some n.constraints)
-      i) nodes))
+  ready_tie head = grind (arith, all-filter, all-map_filter, settled_once)
 
   -- the members below a node are the nodes below it that are not gone
   live_tie : (top : NodeKey) → some_live (subtree top ms) ≡ list_any (lives_below nodes top) nodes
-  live_tie top = any-filter _ is_live ms
-      ∙ (any-map_filter left _ _ nodes
-      ∙ (λ i. list_any (λ (n : Node). and_again_swap (not n.gone) (is_below nodes top n.key) (not n.released) i) nodes))
+  live_tie top = grind (arith, any-filter, any-map_filter, and_again_swap)
 
   -- a gone node is no member, and counts as not allocated
   allocated_tie : (key : NodeKey) → is_allocated ms key ≡ list_any (is_allocated_node key) nodes
@@ -45,9 +38,7 @@ module _ (nodes : List Node) where
 
   -- the root among the members is the root that is not gone
   pub root_tie : root_left ms ≡ option_map (member_of nodes) (find is_root_left nodes)
-  root_tie = find-map_filter left _ _ nodes
-      ∙ (λ i. option_map (member_of nodes)
-      (find (λ (n : Node). and_again_last (not n.gone) (is_none n.parent) i) nodes))
+  root_tie = grind (arith, find-map_filter, and_again_last)
 
   -- both find the first head below which nothing lives, one among members, one among nodes
   pub deserted_tie : find (is_deserted ms) ms ≡ option_map (member_of nodes) (find (is_deserted_node nodes) nodes)
@@ -64,9 +55,7 @@ module _ (nodes : List Node) where
       ∙ (λ i. option_map (member_of nodes) (find (λ n. same n i) nodes))
     where
       same : (n : Node) → (left n && is_next_head ms (member_of nodes n)) ≡ is_next_node nodes n
-      same n = and_again_behind (left n) _ _
-          ∙ (λ i. n.attached && (not n.gone &&
-          (not n.allocated && (option_map_or (λ key. allocated_tie key i) n.parent false && ready_tie n.key i))))
+      same n = grind (arith, and_again_behind, allocated_tie, ready_tie)
 
   -- a gone node asks for nothing, so members and nodes ask for the same
   unit_tie : (head : NodeKey) → demands (unit head ms) ≡ demands_of (is_in_unit head) nodes
@@ -110,11 +99,7 @@ module _ (nodes : List Node) where
 -- the last of four failures is looked at last
 last_failure : (a b c d : Option Failure) →
     first_some (a ∷ b ∷ c ∷ d ∷ []) ≡ option_map_or Some (first_some (a ∷ b ∷ c ∷ [])) d
-last_failure (Some a) b c d = refl
-last_failure None (Some b) c d = refl
-last_failure None None (Some c) d = refl
-last_failure None None None (Some d) = refl
-last_failure None None None None = refl
+last_failure a b c d = grind arith
 
 -- the first of what is made of each is what is made of the first
 first_made : {A B : Type 0} (f : A → B) (os : List (Option A)) →
@@ -197,19 +182,13 @@ module _ (handles : Handles) (pool : ℕ) (others : List Interval) (c : Collecti
       made : (root : Node) (b : Bool) → asked (members_of c.nodes) ≡ wanted_by root.key c.nodes →
           when b (outcome root.key (initial_failure pool s (asked (members_of c.nodes))))
           ≡ option_map mark (option_map (λ (n : Node). first_step c.nodes n.key) (when b root))
-      made root false is = refl
-      made root true is = ap Some (ap (λ (w : Buffers). outcome root.key (initial_failure pool s w)) is
-          ∙ early_made _)
+      made root b is = grind (arith, early_made)
 
       from : (o : Option Node) → find is_root_left c.nodes ≡ o → step (option_map (member_of c.nodes) o)
           ≡ option_map mark (option_map (λ (n : Node). first_step c.nodes n.key)
           (option_and_then (λ (root : Node). when (not root.allocated && list_all (is_ready_node root.key) c.nodes)
           root) o))
-      from None e = refl
-      from (Some root) e =
-          ap (λ (b : Bool). when (not root.allocated && b)
-          (outcome root.key (initial_failure pool s (asked (members_of c.nodes))))) (ready_tie c.nodes _)
-          ∙ made _ _ (asked_tie c.nodes _ e)
+      from o e = grind (arith, ready_tie, made, asked_tie)
 
   -- a later unit fails, or is allocated
   later_made : (b : Buffers) (key : NodeKey) →
@@ -243,11 +222,7 @@ module _ (handles : Handles) (pool : ℕ) (others : List Interval) (c : Collecti
           (find (is_next_head (members_of c.nodes)) (members_of c.nodes))) o
           ≡ option_map mark (option_and_then
           (λ b. option_map (λ (n : Node). later_step c.nodes b n.key) (find (is_next_node c.nodes) c.nodes)) o)
-      from None = refl
-      from (Some b) = ap (option_map (λ (head : Member). outcome head.key
-          (logical_failure (demands (unit head.key (members_of c.nodes))) (reserved (members_of c.nodes)) b)))
-          (next_tie c.nodes)
-          ∙ next b _
+      from o = grind (arith, next_tie, next)
 
   -- the decision comes to the mark that is forced
   pub forced_made : forced pool s ≡ option_map mark (decided c.nodes c.buffers s.strong_open)

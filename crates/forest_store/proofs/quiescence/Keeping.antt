@@ -1,16 +1,11 @@
 -- What the counts of a unit tell of what holds it.
-use Rattle.forest_store.proofs.Common.{◌≡◌, ℕ, ◌<◌, nat_lt, Bool, true, not, ◌&&◌, ◌||◌, ◌⊎◌, inl, inr, List, [], ◌∷◌, arith, list_any, NodeKey, same_key, times, In-list_any, either_way, or_cases, or_left, or_right, In-any, Node, lives_in, ltb-true, heads_below}
+use Rattle.forest_store.proofs.Common.{◌≡◌, ℕ, ◌<◌, nat_lt, Bool, true, not, ◌&&◌, ◌||◌, ◌⊎◌, List, [], ◌∷◌, arith, list_any, NodeKey, same_key, times, In-list_any, In-any, Node, lives_in, ltb-true, heads_below}
 use Rattle.forest_store.proofs.tallies.Holding.{hangs_in, holds_unit}
 
 -- some pass where the count is not 0
 pub some_pass : (test : Node → Bool) (ns : List Node) → 0 < times test ns → list_any test ns ≡ true
 some_pass test [] few = absurd (omega arith)
-some_pass test (n ∷ ns) few = elim (either_way (test n)) [
-  | inl e ↦ or_left (test n) (list_any test ns) e
-  | inr e ↦
-      let rest : 0 < times test ns = rw e at few in
-      or_right (test n) (list_any test ns) (some_pass test ns rest)
-]
+some_pass test (n ∷ ns) few = grind (arith, some_pass test ns)
 
 -- a live node holds its unit
 pub lives_held : (nodes : List Node) (head : NodeKey) → 0 < times (lives_in head) nodes → list_any (holds_unit nodes head) nodes ≡ true
@@ -35,7 +30,4 @@ below_held nodes head some =
 
 -- a live node, or a unit right below
 pub either_holds : (live below : ℕ) → (nat_lt 0 live || nat_lt 0 below) ≡ true → (0 < live) ⊎ (0 < below)
-either_holds live below h = elim (or_cases (nat_lt 0 live) (nat_lt 0 below) h) [
-  | inl a ↦ inl (ltb-true 0 live a)
-  | inr b ↦ inr (ltb-true 0 below b)
-]
+either_holds live below h = grind (arith, ltb-true)

@@ -1,7 +1,7 @@
 -- A collection that rests: nothing is forced in it, and no buffer's pages are given back.
-use Rattle.forest_store.proofs.Common.{arith, ◌≡◌, ℕ, ◌==◌, ◌⊎◌, Bool, true, false, ◌&&◌, not, nat_lt, inl, inr, List, [], ◌∷◌, drop, Option, Some, None, option_map, is_none, is_some, refl, ap, ◌∙◌, cons_option, find, list_all, option_map_or, option_and_then, NodeKey, Buffers, Cause, when, and_both, and_left, and_right, either_way, or_cases, or_left, or_right, Table, node_at, Node, has_strong, Shelf, is_filed, nodes_with, is_root_left, Handles, In, Ends, Loses, decided, first_step, is_held_strongly, is_out}
+use Rattle.forest_store.proofs.Common.{arith, ◌≡◌, ℕ, ◌==◌, ◌⊎◌, Bool, true, false, ◌&&◌, not, inl, inr, List, [], ◌∷◌, drop, Option, Some, None, option_map, is_none, is_some, refl, ap, ◌∙◌, cons_option, find, list_all, option_map_or, option_and_then, NodeKey, Buffers, Cause, when, and_left, and_right, either_way, Table, node_at, Node, has_strong, Shelf, is_filed, nodes_with, is_root_left, Handles, In, Loses, decided}
 use Rattle.forest_store.specs.Dropped.{has_given_root}
-use Rattle.forest_store.specs.Resting.{is_at_rest, is_kept_by}
+use Rattle.forest_store.specs.Resting.{is_kept_by}
 use Rattle.forest_store.proofs.quiescence.Calming.{AreNone, none_decided, none_four}
 
 -- ---- what is forced
@@ -37,21 +37,14 @@ root_first t id (k ∷ ks) filed one none = from (node_at t k) (and_left _ _ fil
 kept_root : (strong strong_open : Bool) (o : Option Node) →
     (option_map_or (λ (root : Node). root.allocated) o false && not strong_open) ≡ false →
     option_and_then (λ (root : Node). when (root.allocated && (not strong && not strong_open)) (Loses root.key Cause.NoStrong)) o ≡ None
-kept_root strong strong_open None none = refl
-kept_root strong strong_open (Some root) none = from _ strong strong_open none
-  where
-    from : (a s h : Bool) → (a && not h) ≡ false → when (a && (not s && not h)) (Loses root.key Cause.NoStrong) ≡ None
-    from a s h none = grind arith
+kept_root strong strong_open o none = grind arith
 
 -- so nothing is forced in a calm collection, where the root is not abandoned
 pub still_decided : (nodes : List Node) (buffers : Option Buffers) (strong_open : Bool) → AreNone nodes buffers →
     (has_strong nodes ≡ true)
     ⊎ ((option_map_or (λ (root : Node). root.allocated) (find is_root_left nodes) false && not strong_open) ≡ false) →
     decided nodes buffers strong_open ≡ None
-still_decided nodes buffers strong_open none (inl strong) = none_decided _ _ _ (rw strong refl) none
-still_decided nodes buffers strong_open none (inr kept) = none_four _ _ _ _
-    (ap (option_map (λ (n : Node). Ends n.key)) none.no_end) (kept_root _ _ _ kept)
-    (ap (option_map (λ (n : Node). first_step nodes n.key)) none.no_root) none.no_head
+still_decided nodes buffers strong_open none some = grind (arith, none_decided, none_four, kept_root)
 
 -- ---- what becomes of it
 
@@ -74,21 +67,4 @@ roots_stay t now f look (k ∷ ks) stays none =
 pub rests_on : (handles : Handles) (t now : Table Node) (s : Shelf) (lives : ℕ) →
     (has_given_root t s.keys ≡ false → has_given_root now s.keys ≡ false) → is_kept_by handles t s lives ≡ true →
     is_kept_by handles now s lives ≡ true
-rests_on handles t now s lives roots kept = elim (or_cases (nat_lt 0 lives) (is_at_rest handles t s) kept) [
-  | inl e ↦ or_left (nat_lt 0 lives) (is_at_rest handles now s) e
-  | inr e ↦ or_right (nat_lt 0 lives) (is_at_rest handles now s)
-      (and_both (not (has_given_root now s.keys && not opened)) (list_all (is_out handles false) s.held)
-      (from (has_given_root now s.keys) opened (has_given_root t s.keys) roots
-      (and_left (not (has_given_root t s.keys && not opened)) _ e))
-      (and_right (not (has_given_root t s.keys && not opened)) _ e))
-]
-  where
-    opened : Bool
-    opened = is_held_strongly handles s.id s.buffers
-
-    from : (now_given is_open given : Bool) → (given ≡ false → now_given ≡ false) → not (given && not is_open) ≡ true →
-        not (now_given && not is_open) ≡ true
-    from false is_open given on e = refl
-    from true true given on e = refl
-    from true false true on e = cc
-    from true false false on e = let no : true ≡ false = on refl in cc
+rests_on handles t now s lives roots kept = grind arith

@@ -1,5 +1,5 @@
 -- A decision is on nodes that are there, and changes something.
-use Rattle.forest_store.proofs.Common.{ℕ, ◌≡◌, ◌≤◌, zero, suc, refl, ap, sym, ◌∙◌, subst, Bool, true, false, not, ◌&&◌, ◌||◌, ◌==◌, nat_lt, is_none, List, [], ◌∷◌, Option, Some, None, inl, inr, arith, not-true, list_any, list_all, find, option_map_or, option_and_then, NodeKey, Buffers, Cause, same_key, when, In, In-find, and_left, and_right, and_both, or_left, or_right, both_ways, false_if, same_key-true, same_key-refl, In-any, Node, has_strong, is_left_of, Collection, is_of, node_of, is_deserted_node, is_next_node, is_ready_node, is_root_left, are_distinct, ltb-false, Failure, first_some, MAX_BUFFERS, Allocates, Ends, Loses, Places, decided, early_failure, first_step, later_step, wanted_by, is_allocated_node, IsSound, is_root_of, option_map, IfSome, IsStep, has_waiting}
+use Rattle.forest_store.proofs.Common.{◌≡◌, ◌≤◌, refl, ap, sym, ◌∙◌, subst, Bool, true, false, not, ◌&&◌, ◌||◌, ◌==◌, nat_lt, is_none, List, [], ◌∷◌, Option, Some, None, inl, inr, arith, not-true, list_any, list_all, find, option_map_or, option_and_then, NodeKey, Buffers, Cause, same_key, when, In, In-find, and_left, and_right, and_both, or_left, both_ways, false_if, same_key-true, same_key-refl, In-any, Node, has_strong, is_left_of, Collection, is_of, node_of, is_deserted_node, is_next_node, is_ready_node, is_root_left, are_distinct, ltb-false, Failure, first_some, MAX_BUFFERS, Allocates, Ends, Loses, Places, decided, early_failure, first_step, later_step, wanted_by, is_allocated_node, IsSound, is_root_of, option_map, IfSome, IsStep, has_waiting}
 use Rattle.forest_store.proofs.quiescence.Forcing.{asked_tie}
 
 -- ---- nodes by their keys
@@ -34,11 +34,7 @@ found_by_key (m ∷ ns) n h (inr on) = rw other (found_by_key ns n (and_right _ 
 -- the first of four that is there has what each has
 pub first_has : {A : Type 0} (P : A → Type 0) (a b c d : Option A) → IfSome a P → IfSome b P → IfSome c P → IfSome d P →
     IfSome (first_some (a ∷ b ∷ c ∷ d ∷ [])) P
-first_has P (Some a) b c d ha hb hc hd = ha
-first_has P None (Some b) c d ha hb hc hd = hb
-first_has P None None (Some c) d ha hb hc hd = hc
-first_has P None None None (Some d) ha hb hc hd = hd
-first_has P None None None None ha hb hc hd = tt
+first_has P a b c d ha hb hc hd = grind arith
 
 module _ (c : Collection) (sound : IsSound c) where
   -- a node that is there and not gone is found to be
@@ -72,15 +68,7 @@ module _ (c : Collection) (sound : IsSound c) where
   loses_step : (strong_open : Bool) (o : Option Node) → find is_root_left c.nodes ≡ o →
       IfSome (option_and_then (λ (root : Node). when (root.allocated && (not (has_strong c.nodes) && not strong_open))
       (Loses root.key Cause.NoStrong)) o) (IsStep c)
-  loses_step strong_open None e = tt
-  loses_step strong_open (Some n) e =
-      let f = In-find _ _ n e in
-      let is_left : is_left_of c.nodes n.key ≡ true = left_is n f.0 (not-true n.gone (and_right _ _ f.1)) in
-      elim (n.allocated && (not (has_strong c.nodes) && not strong_open)) as
-      (λ (b : Bool). IfSome (when b (Loses n.key Cause.NoStrong)) (IsStep c)) [
-        | true ↦ is_left
-        | false ↦ tt
-      ]
+  loses_step strong_open o e = grind (arith, In-find, left_is)
 
   -- where nothing fails early, the count is in range
   count_is : (head : NodeKey) → early_failure head c.nodes ≡ None →
@@ -91,22 +79,13 @@ module _ (c : Collection) (sound : IsSound c) where
       from : (a b d : Bool) → ((wanted_by head c.nodes).count == 0) ≡ b → nat_lt MAX_BUFFERS (wanted_by head c.nodes).count ≡ d →
           first_some (when a Failure.NoStrong ∷ when b Failure.NoBuffers ∷ when d Failure.TooManyBuffers ∷ []) ≡ None →
           (1 ≤ (wanted_by head c.nodes).count) × ((wanted_by head c.nodes).count ≤ MAX_BUFFERS)
-      from true b d eb ed h = cc
-      from false true d eb ed h = cc
-      from false false true eb ed h = cc
-      from false false false eb ed h = (positive _ eb, ltb-false MAX_BUFFERS (wanted_by head c.nodes).count ed)
-        where
-          positive : (n : ℕ) → (n == 0) ≡ false → 1 ≤ n
-          positive zero h = both_ways _ refl h
-          positive (suc n) h = omega arith
+      from a b d eb ed h = grind (arith, ltb-false)
 
   -- the root that waits is one of the nodes, is not gone, and has no buffers yet
   first_is : (n : Node) → find is_root_left c.nodes ≡ Some n → n.allocated ≡ false → (o : Option Failure) →
       early_failure n.key c.nodes ≡ o →
       IsStep c (option_map_or (λ why. Loses n.key (Cause.Failed why)) o (Places n.key (wanted_by n.key c.nodes)))
-  first_is n e waits (Some why) early =
-      let f = In-find _ _ n e in
-      left_is n f.0 (not-true n.gone (and_right _ _ f.1))
+  first_is n e waits (Some why) early = grind (arith, In-find, left_is)
   first_is n e waits None early =
       let f = In-find _ _ n e in
       let root : is_none n.parent ≡ true = and_left _ _ f.1 in
@@ -153,11 +132,7 @@ module _ (c : Collection) (sound : IsSound c) where
       from : (o : Option Failure) → In n c.nodes → n.attached ≡ true → n.gone ≡ false → n.allocated ≡ false →
           is_none n.parent ≡ false →
           IsStep c (option_map_or (λ why. Loses n.key (Cause.Failed why)) o (Allocates n.key))
-      from (Some why) on attached stays waits child = left_is n on stays
-      from None on attached stays waits child = record {
-        attached = root_is n on ∙ child;
-        waits = waits_is n on (or_right _ _ attached) stays waits;
-      }
+      from o on attached stays waits child = grind (arith, left_is, root_is, waits_is)
 
   -- without buffers no unit is next; with them the next head is a step by the lemma above
   allocates_step : (o : Option Buffers) →

@@ -1,5 +1,5 @@
 -- The nodes of a unit go together, whatever is changed or forced.
-use Rattle.forest_store.proofs.Common.{◌≡◌, refl, ap, sym, ◌∙◌, Bool, true, false, ◌||◌, ◌⊎◌, inl, inr, List, [], ◌∷◌, ◌++◌, map, reverse, Some, list_all, NodeKey, same_key, In, In-map, both_ways, either_way, Effect, Node, affected, are_distinct, heads_itself, are_rooted, In-append, In-filter, or_none_left, or_none_right, after_allocation, after_effect, given_buffers, GoTogether, are_united, filter}
+use Rattle.forest_store.proofs.Common.{◌≡◌, refl, ap, sym, ◌∙◌, Bool, true, false, ◌||◌, ◌⊎◌, inl, inr, List, [], ◌∷◌, ◌++◌, map, reverse, Some, list_all, NodeKey, same_key, In, In-map, both_ways, either_way, Effect, Node, affected, are_distinct, heads_itself, are_rooted, In-append, In-filter, or_none_right, after_allocation, after_effect, given_buffers, GoTogether, are_united, filter, arith}
 use Rattle.forest_store.proofs.tables.Rooted.{distinct_one}
 use Rattle.forest_store.proofs.tallies.Holding.{in_unit, own_head}
 
@@ -62,9 +62,7 @@ together_taken nodes f taken keeps goes old = record {
         sym (keeps.head n) ∙ (ap (λ (m : Node). m.head) (sym is) ∙ (unit ∙ (ap (λ (m : Node). m.key) too ∙ keeps.key h)))
 
     stayed : (n a : Node) → a ≡ f n → a.gone ≡ false → (taken n ≡ false) × (n.gone ≡ false)
-    stayed n a is here =
-        let none : (taken n || n.gone) ≡ false = sym (keeps.gone n) ∙ (ap (λ (m : Node). m.gone) (sym is) ∙ here) in
-        (or_none_left _ _ none, or_none_right (taken n) _ none)
+    stayed n a is here = grind arith
 
 -- where none goes
 pub together_same : (nodes : List Node) (f : Node → Node) → KeepsPlace f (λ n. false) → GoTogether nodes → GoTogether (map f nodes)
@@ -142,20 +140,11 @@ together_born nodes b here fresh alone kind old = record {
 
     alike : (n h : Node) → In n nodes ⊎ In n (b ∷ []) → In h nodes ⊎ In h (b ∷ []) → n.head ≡ h.key → h.head ≡ h.key → h.gone ≡ false →
         n.allocated ≡ h.allocated
-    alike n h (inl on) (inl there) unit own stays = old.alike n h on there unit own stays
-    alike n h (inl on) (inr new) unit own stays = absurd (alone n on (unit ∙ key_of h b (last h new)))
-    alike n h (inr new) (inl there) unit own stays =
-        let is = last n new in
-        let q = above h there (ap (λ (x : Node). x.head) (sym is) ∙ unit) kind in
-        ap (λ (x : Node). x.allocated) is
-        ∙ (q.3 ∙ old.alike q.0 h q.1 there (sym q.2 ∙ (ap (λ (x : Node). x.head) (sym is) ∙ unit)) own stays)
-    alike n h (inr new) (inr too) unit own stays = ap (λ (x : Node). x.allocated) (last n new ∙ sym (last h too))
+    alike n h on there unit own stays = grind (arith, key_of, last, above)
 
     spared : (n h : Node) → In n nodes ⊎ In n (b ∷ []) → In h nodes ⊎ In h (b ∷ []) → n.head ≡ h.key → h.head ≡ h.key →
         h.gone ≡ false → h.allocated ≡ false → n.gone ≡ false
-    spared n h (inl on) (inl there) unit own stays bare = old.spared n h on there unit own stays bare
-    spared n h (inl on) (inr new) unit own stays bare = absurd (alone n on (unit ∙ key_of h b (last h new)))
-    spared n h (inr new) h_on unit own stays bare = ap (λ (x : Node). x.gone) (last n new) ∙ here
+    spared n h on there unit own stays bare = grind (arith, key_of, last)
 
 -- ---- losses and ends
 

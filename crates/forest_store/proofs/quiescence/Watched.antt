@@ -1,5 +1,5 @@
 -- A collection with a strong live node: nothing is forced in it, and no buffer is home.
-use Rattle.forest_store.proofs.Common.{◌≡◌, ℕ, zero, suc, true, ◌==◌, nat_lt, List, Some, sym, ◌∙◌, arith, lt-ltb, find, list_any, Table, Entry, Node, strong_count, has_strong, AreCounted, IsCounted, is_strong, In-find}
+use Rattle.forest_store.proofs.Common.{◌≡◌, ℕ, zero, suc, true, ◌==◌, nat_lt, List, Some, arith, lt-ltb, find, list_any, Table, Entry, Node, strong_count, has_strong, AreCounted, IsCounted, is_strong, In-find}
 use Rattle.forest_store.proofs.tables.Hanging.{all_at}
 use Rattle.forest_store.proofs.quiescence.Calming.{count_none, count_some}
 
@@ -15,7 +15,4 @@ strong_lives nodes (suc n) some is = count_some is_strong nodes (λ none. absurd
 
 -- and the count tells whether there is one
 pub strong_told : (nodes : List Node) (count : ℕ) → count ≡ strong_count nodes → nat_lt 0 count ≡ list_any is_strong nodes
-strong_told nodes zero is = sym (count_none is_strong nodes (sym is))
-strong_told nodes (suc n) is =
-    let some : nat_lt 0 (suc n) ≡ true = lt-ltb 0 (suc n) (omega arith) in
-    some ∙ sym (strong_lives nodes _ some is)
+strong_told nodes count is = grind (arith, count_none, lt-ltb, strong_lives)

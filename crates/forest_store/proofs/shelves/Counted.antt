@@ -1,5 +1,5 @@
 -- Entries that are counted stay so, where one is put among them.
-use Rattle.forest_store.proofs.Common.{In-map-back, ◌≡◌, ℕ, zero, suc, ◌<◌, ◌≤◌, ◌==◌, ◌&&◌, Bool, true, false, ◌⊎◌, inl, inr, List, [], ◌∷◌, map, length, get_or, set, if◌then◌else◌, Option, Some, None, option_map, is_some, sym, ap, subst, ◌∙◌, refl, arith, AllByRecursion, cons_option, filter, list_all, list_any, eqb-true, eqb-false, NodeKey, same_key, In, In-map, and_left, both_ways, either_way, same_key-refl, same_key-true, In-any, Table, node_at, Entry, Node, strong_count, over_except, Collection, AreRising, IsWhole, Shelf, are_filed, collection_in, is_filed, nodes_with, place_in, put_shelf, shelf_of, shelves_of, is_over, reserved_count, remove, ltb-true, times-le-length, AreCounted, IsQuiescent, IsCounted, put_in, IsNotedIn, IsNoting, IsThinned, left_at, unless_over, is_strong, is_spent, camped, AreCountedExcept, with_end}
+use Rattle.forest_store.proofs.Common.{In-map-back, ◌≡◌, ℕ, zero, suc, ◌<◌, ◌≤◌, ◌==◌, ◌&&◌, Bool, true, false, ◌⊎◌, inl, inr, List, [], ◌∷◌, map, length, get_or, set, if◌then◌else◌, Option, Some, None, option_map, is_some, sym, ap, subst, ◌∙◌, refl, arith, AllByRecursion, cons_option, filter, list_all, list_any, eqb-true, eqb-false, NodeKey, same_key, In, In-map, either_way, same_key-refl, same_key-true, In-any, Table, node_at, Entry, Node, strong_count, over_except, Collection, AreRising, IsWhole, Shelf, are_filed, collection_in, is_filed, nodes_with, place_in, put_shelf, shelf_of, shelves_of, is_over, reserved_count, remove, ltb-true, times-le-length, AreCounted, IsQuiescent, IsCounted, put_in, IsNotedIn, IsNoting, IsThinned, left_at, is_strong, is_spent, camped, AreCountedExcept, with_end}
 use Rattle.forest_store.specs.declared.node.End.{End}
 use Rattle.forest_store.proofs.leaving.Thinning.{none-filter}
 use Rattle.forest_store.proofs.Basics.{none_cases, place_cases, In-made, all_at, all_in, each_none, made-found, none_each, above-weaker, all_weaker, looked-of, IsPlain, calm_filter, calm_map, strong_filter, times_map, in_all, looked_there, looked-map, fewer_over, more_noted, not_over_but, noted_not, cases_place, filed-length, all-In, reserved_filter, reserved_map}
@@ -64,9 +64,7 @@ counted_put t new (e ∷ es) rising but own = cases_place e.id new.id (AreCounte
 -- the shelves follow the entries
 pub shelves_put : (new : Entry) (es : List Entry) → shelves_of (put_in new es) ≡ put_shelf (shelf_of new) (shelves_of es)
 shelves_put new [] = refl
-shelves_put new (e ∷ es) = cases_place e.id new.id (shelves_of (put_in new (e ∷ es)) ≡ put_shelf (shelf_of new) (shelves_of (e ∷ es)))
-    (λ same. rw same refl) (λ other above. rw (other, above) refl)
-    (λ other below. rw (other, below) (ap (λ ss. shelf_of e ∷ ss) (shelves_put new es)))
+shelves_put new (e ∷ es) = grind (arith, shelves_put new es, cases_place)
 
 -- ---- nodes that are forgotten
 
@@ -100,10 +98,7 @@ module _ (t now : Table Node) (named : (k : NodeKey) (n : Node) → node_at t k 
 
   -- what does not stay was dropped, so it was gone
   dropped_over : (n : Node) → node_at t n.key ≡ Some n → stays n ≡ false → n.gone ≡ true
-  dropped_over n is out = elim (drops n.key) [
-    | inl same ↦ let there : is_some (node_at now n.key) ≡ true = ap is_some (same ∙ is) in both_ways (stays n) there out
-    | inr gone ↦ gone.1 n is
-  ]
+  dropped_over n is out = grind arith
 
   -- a collection stays calm, and its counts what they are
   dropped : (e : Entry) → IsWhole (collection_in t (shelf_of e)) → IsCounted t e → IsCounted now e
@@ -165,18 +160,7 @@ counted_set t (e ∷ es) (suc n) new own all = (all.0, counted_set t es n new (�
 
 -- what is taken out of a table where it was dead was gone
 pub drops_over : (t now : Table Node) (keys : List NodeKey) → ((k : NodeKey) → node_at now k ≡ left_at t keys k) → Drops t now
-drops_over t now keys look k = elim (either_way (list_any (same_key k) keys)) [
-  | inl e ↦ by (node_at t k) (look k ∙ (rw e refl))
-  | inr e ↦ inl (look k ∙ (rw e refl))
-]
-  where
-    by : (o : Option Node) → node_at now k ≡ unless_over o → (node_at now k ≡ o) ⊎ ((node_at now k ≡ None) × ((n : Node) → o ≡ Some n →
-        n.gone ≡ true))
-    by None is = inl is
-    by (Some n) is = elim (either_way (is_over n)) [
-      | inl e ↦ inr (is ∙ (rw e refl), λ m same. let one : n ≡ m = cc in ap (λ (x : Node). x.gone) (sym one) ∙ and_left n.gone _ e)
-      | inr e ↦ inl (is ∙ (rw e refl))
-    ]
+drops_over t now keys look k = grind arith
 
 -- so of one node that was dead
 pub drops_one : (t now : Table Node) (key : NodeKey) (node : Node) → node_at t key ≡ Some node → node.gone ≡ true →
@@ -195,16 +179,7 @@ drops_one t now key node was gone look k = elim (either_way (same_key key k)) [
 -- no node with one of the keys is dead, once those that were are taken out
 pub none_left : (t now : Table Node) (keys : List NodeKey) → ((k : NodeKey) → node_at now k ≡ left_at t keys k) → (ks : List NodeKey) →
     ((k : NodeKey) → In k ks → list_any (same_key k) keys ≡ true) → list_any is_over (nodes_with now ks) ≡ false
-none_left t now keys look ks within = each_none _ _ (λ n on.
-    let x = In-made (node_at now) ks n on in
-    from n (node_at t x.0) (sym x.2 ∙ look x.0 ∙ rw (within x.0 x.1) refl))
-  where
-    from : (n : Node) (o : Option Node) → Some n ≡ unless_over o → is_over n ≡ false
-    from n None is = cc
-    from n (Some m) is = elim (either_way (is_over m)) [
-      | inl e ↦ let none : Some n ≡ None = is ∙ (rw e refl) in cc
-      | inr e ↦ let some : Some n ≡ Some m = is ∙ (rw e refl) in let one : n ≡ m = cc in rw one e
-    ]
+none_left t now keys look ks within = grind (arith, each_none, In-made)
 
 -- a key is one of its own list
 pub own_key : (ks : List NodeKey) (k : NodeKey) → In k ks → list_any (same_key k) ks ≡ true
@@ -248,9 +223,7 @@ module _ (t : Table Node) (named : (k : NodeKey) (n : Node) → node_at t k ≡ 
   pub ends_tidy : (es : List Entry) → are_filed t (shelves_of es) ≡ true → AreCounted t es →
       (is_over (record n { end = end }) ≡ true → AllByRecursion (λ (e : Entry). e.id ≡ n.collection → IsNotedIn e key) es) →
       AllByRecursion (λ (e : Entry). e.garbage_known ≡ true → list_any (over_except e.garbage.items) (map f (nodes_with t e.keys.items)) ≡ false) es
-  ends_tidy es filed all garbage = all_in _ es (λ e on known.
-      end_tidy e (all-In (λ (s : Shelf). list_all (is_filed t s.id) s.keys) _ _ (In-map-back shelf_of es e on) filed)
-      ((all_at _ es all e on).garbage_known known) (λ over is. all_at _ es (garbage over) e on is known))
+  ends_tidy es filed all garbage = grind (arith, all_in, end_tidy, all-In, In-map-back, all_at)
 
 -- an entry that notes more
 pub garbage : (t : Table Node) (es : List Entry) (at : ℕ) (new : Entry) → (at < length es → IsNoting (get_or es at new) new) →
@@ -284,23 +257,13 @@ pub noted_set : (P : Entry → Type 0) (id : ℕ) (es : List Entry) (at : ℕ) (
     place_in id es ≡ Some at → P new → AllByRecursion (λ (e : Entry). e.id ≡ id → P e) (set es at new)
 noted_set P id [] at new rising told untidy = tt
 noted_set P id (e ∷ es) at new rising told untidy =
-    place_cases id e es at (λ at. AllByRecursion (λ (x : Entry). x.id ≡ id → P x) (set (e ∷ es) at new)) told
-    (λ here. (
-      λ same. untidy,
-      all_in _ es (λ x on is.
-          let less : e.id < x.id = all_at _ _ rising.0 (shelf_of x) (In-map-back shelf_of es x on) in
-          let own : e.id ≡ id = eqb-true e.id id here in
-          absurd (omega arith)),
-    ))
-    (λ n other behind. (λ same. absurd (eqb-false _ _ other same), noted_set P id es n new rising.1 behind untidy))
+    grind (arith, noted_set P id es, place_cases, all_in, all_at, In-map-back, eqb-true, eqb-false)
 
 -- where none has the id
 pub noted_none : (P : Entry → Type 0) (id : ℕ) (es : List Entry) → place_in id es ≡ None →
     AllByRecursion (λ (e : Entry). e.id ≡ id → P e) es
 noted_none P id [] told = tt
-noted_none P id (e ∷ es) told =
-    let x = none_cases id e es told in
-    (λ same. absurd (eqb-false _ _ x.0 same), noted_none P id es x.1)
+noted_none P id (e ∷ es) told = grind (arith, noted_none P id es, none_cases, eqb-false)
 
 -- an entry that shows the same in the place of another
 pub set_shelves : (es : List Entry) (at : ℕ) (new : Entry) → (at < length es → shelf_of new ≡ shelf_of (get_or es at new)) →
@@ -312,7 +275,4 @@ set_shelves (e ∷ es) (suc n) new same = ap (λ ss. shelf_of e ∷ ss) (set_she
 -- the count is no more than the keys
 pub count_few : (t : Table Node) (e : Entry) → list_all (is_filed t e.id) e.keys.items ≡ true → IsCounted t e →
     e.strong ≤ length e.keys.items
-count_few t e filed counted =
-    let few = times-le-length is_strong (nodes_with t e.keys.items) in
-    let same = filed-length t e.id e.keys.items filed in
-    omega (arith, few, same, counted.strong)
+count_few t e filed counted = grind (arith, times-le-length, filed-length)

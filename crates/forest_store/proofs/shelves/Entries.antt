@@ -1,5 +1,5 @@
 -- Where a collection stands among entries of rising ids.
-use Rattle.forest_store.proofs.Common.{In-get_or, both_ways, none-find, map-None, ◌≡◌, ◌≢◌, ℕ, zero, suc, ◌+◌, ◌<◌, ◌≤◌, Bool, true, false, nat_lt, ◌==◌, List, [], ◌∷◌, length, get_or, set, Option, Some, None, option_map, cond, refl, sym, ap, ◌∙◌, subst, arith, inl, inr, AllByRecursion, find, eqb-true, lt-ltb, eq-eqb, some-injective, Entry, Shelf, AreRising, place_in, shelf_of, shelves_of, slice_get, insert, IsNonDecreasingBy, le-ltb, ne_eqb, cases_lt, put_in, either_way, prefix_len, IsPartitionPoint, All-from_recursion, slice_get-get_or}
+use Rattle.forest_store.proofs.Common.{In-get_or, both_ways, none-find, map-None, ◌≡◌, ◌≢◌, ℕ, zero, suc, ◌+◌, ◌<◌, ◌≤◌, Bool, true, false, nat_lt, ◌==◌, List, [], ◌∷◌, length, get_or, set, Option, Some, None, option_map, cond, refl, sym, ap, ◌∙◌, subst, arith, inl, inr, AllByRecursion, find, eqb-true, lt-ltb, eq-eqb, some-injective, Entry, Shelf, AreRising, place_in, shelf_of, shelves_of, slice_get, insert, IsNonDecreasingBy, le-ltb, ne_eqb, cases_lt, put_in, prefix_len, IsPartitionPoint, All-from_recursion, slice_get-get_or}
 use Rattle.forest_store.proofs.lists.Elements.{none_each}
 use Rattle.std.proofs.lemmas.List.Sums.{prefix_len_is, prefix_len-le-length}
 
@@ -91,10 +91,7 @@ place_within id es items o at same told is = (place_is id es at (sym (rw same at
 
 -- where there is no place, the first has another id, and there is none behind
 pub none_cases : (id : ℕ) (e : Entry) (es : List Entry) → place_in id (e ∷ es) ≡ None → ((e.id == id) ≡ false) × (place_in id es ≡ None)
-none_cases id e es told = elim (either_way (e.id == id)) [
-  | inl here ↦ absurd (let given = rw here at told in cc)
-  | inr other ↦ (other, map-None _ _ (rw other at told))
-]
+none_cases id e es told = grind (arith, map-None)
 
 -- where there is no place, no entry has the id
 pub none_in : (id : ℕ) (es : List Entry) → place_in id es ≡ None → find (λ (e : Entry). e.id == id) es ≡ None

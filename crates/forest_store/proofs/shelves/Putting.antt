@@ -1,17 +1,11 @@
 -- A shelf that is put in its place among others.
-use Rattle.forest_store.proofs.Common.{◌≡◌, ℕ, ◌<◌, ◌==◌, nat_lt, true, false, ◌&&◌, not, List, [], ◌∷◌, ◌++◌, map, refl, sym, ap, subst, ◌∙◌, inl, inr, arith, list_all, filter, AllByRecursion, lt-ltb, eq-eqb, eqb-true, eqb-false, NodeKey, HeldBuffer, Table, Node, Collection, Shelf, AreRising, put_shelf, collection_in, all_keys, are_filed, is_filed, put, flat_map, le-ltb, ne_eqb, cases_lt, cases_eq, ltb-true, ltb-false, map-append, pages_in}
+use Rattle.forest_store.proofs.Common.{◌≡◌, ℕ, ◌<◌, ◌==◌, nat_lt, true, false, not, List, [], ◌∷◌, ◌++◌, map, refl, sym, ap, subst, ◌∙◌, arith, list_all, filter, AllByRecursion, lt-ltb, eq-eqb, eqb-true, eqb-false, NodeKey, HeldBuffer, Table, Node, Collection, Shelf, AreRising, put_shelf, collection_in, all_keys, are_filed, is_filed, put, flat_map, le-ltb, ne_eqb, cases_lt, cases_eq, ltb-true, ltb-false, map-append, pages_in}
 use Rattle.forest_store.proofs.lists.SameIntervals.{Alike, Alike-refl, Alike-trans, Alike-front, Alike-shift, less_of}
 
 -- three ways in which one number lies to another
 pub cases_place : (a b : ℕ) → (P : Type 0) → (((a == b) ≡ true) → P) → (((a == b) ≡ false) → (nat_lt b a ≡ true) → P) →
     (((a == b) ≡ false) → (nat_lt b a ≡ false) → P) → P
-cases_place a b P same above below = elim (cases_eq a b) [
-  | inl equal ↦ same (eq-eqb a b equal)
-  | inr differ ↦ elim (cases_lt b a) [
-    | inl less ↦ above (ne_eqb a b differ) (lt-ltb b a less)
-    | inr more ↦ below (ne_eqb a b differ) (le-ltb b a more)
-  ]
-]
+cases_place a b P same above below = grind (arith, cases_eq, eq-eqb, cases_lt, ne_eqb, lt-ltb, le-ltb)
 
 -- ids above another are above a smaller one
 pub above-weaker : (low id : ℕ) (ss : List Shelf) → low < id → AllByRecursion (λ (later : Shelf). id < later.id) ss →
@@ -23,9 +17,7 @@ above-weaker low id (s ∷ ss) less all = (omega (arith, all.0), above-weaker lo
 above-put : (low : ℕ) (new : Shelf) (ss : List Shelf) → low < new.id → AllByRecursion (λ (later : Shelf). low < later.id) ss →
     AllByRecursion (λ (later : Shelf). low < later.id) (put_shelf new ss)
 above-put low new [] less all = (less, tt)
-above-put low new (s ∷ ss) less all = cases_place s.id new.id (AllByRecursion (λ (later : Shelf). low < later.id) (put_shelf new (s ∷ ss)))
-    (λ same. rw same (less, all.1)) (λ other above. rw (other, above) (less, all))
-    (λ other below. rw (other, below) (all.0, above-put low new ss less all.1))
+above-put low new (s ∷ ss) less all = grind (arith, above-put low new ss less all.1, cases_place)
 
 -- the ids still rise
 pub rising-put : (new : Shelf) (ss : List Shelf) → AreRising ss → AreRising (put_shelf new ss)
@@ -44,18 +36,13 @@ rising-put new (s ∷ ss) rising = cases_place _ _ _
 pub put-map : (t : Table Node) (new : Shelf) (ss : List Shelf) →
     map (collection_in t) (put_shelf new ss) ≡ put (collection_in t new) (map (collection_in t) ss)
 put-map t new [] = refl
-put-map t new (s ∷ ss) =
-    cases_place s.id new.id (map (collection_in t) (put_shelf new (s ∷ ss)) ≡ put (collection_in t new) (map (collection_in t) (s ∷ ss)))
-    (λ same. rw same refl) (λ other above. rw (other, above) refl)
-    (λ other below. rw (other, below) (ap (λ cs. collection_in t s ∷ cs) (put-map t new ss)))
+put-map t new (s ∷ ss) = grind (arith, put-map t new ss, cases_place)
 
 -- two shelves of one id with the same keys give the same keys
 pub keys-put : (one other : Shelf) (ss : List Shelf) → one.id ≡ other.id → one.keys ≡ other.keys →
     all_keys (put_shelf one ss) ≡ all_keys (put_shelf other ss)
 keys-put one other [] ids keys = rw keys refl
-keys-put one other (s ∷ ss) ids keys = cases_place s.id other.id (all_keys (put_shelf one (s ∷ ss)) ≡ all_keys (put_shelf other (s ∷ ss)))
-    (λ same. rw (ids, keys, same) refl) (λ differ above. rw (ids, keys, differ, above) refl)
-    (λ differ below. rw (ids, differ, below) (ap (λ ks. s.keys ++ ks) (keys-put one other ss ids keys)))
+keys-put one other (s ∷ ss) ids keys = grind (arith, keys-put one other ss ids keys, cases_place)
 
 -- what two tables that file the same say of all
 pub filed-same : (t now : Table Node) → ((id : ℕ) (key : NodeKey) → is_filed now id key ≡ is_filed t id key) → (ss : List Shelf) →
@@ -66,10 +53,7 @@ filed-same t now each ss = λ i. list_all (λ (s : Shelf). list_all (λ key. eac
 pub filed-put : (t : Table Node) (one other : Shelf) (ss : List Shelf) → one.id ≡ other.id → one.keys ≡ other.keys →
     are_filed t (put_shelf one ss) ≡ are_filed t (put_shelf other ss)
 filed-put t one other [] ids keys = rw (ids, keys) refl
-filed-put t one other (s ∷ ss) ids keys =
-    cases_place s.id other.id (are_filed t (put_shelf one (s ∷ ss)) ≡ are_filed t (put_shelf other (s ∷ ss)))
-    (λ same. rw (ids, keys, same) refl) (λ differ above. rw (ids, keys, differ, above) refl)
-    (λ differ below. rw (ids, differ, below) (ap (λ b. list_all (is_filed t s.id) s.keys && b) (filed-put t one other ss ids keys)))
+filed-put t one other (s ∷ ss) ids keys = grind (arith, filed-put t one other ss ids keys, cases_place)
 
 -- ---- pages
 
@@ -84,9 +68,7 @@ pages_held (c ∷ cs) = map-append (λ (h : HeldBuffer). h.pages) c.held (flat_m
 others-above : (t : Table Node) (id : ℕ) (ss : List Shelf) → AllByRecursion (λ (later : Shelf). id < later.id) ss →
     filter (λ (c : Collection). not (c.id == id)) (map (collection_in t) ss) ≡ map (collection_in t) ss
 others-above t id [] all = refl
-others-above t id (s ∷ ss) all =
-    let other : (s.id == id) ≡ false = ne_eqb _ _ (λ same. omega (arith, all.0)) in
-    rw other (ap (λ cs. collection_in t s ∷ cs) (others-above t id ss all.1))
+others-above t id (s ∷ ss) all = grind (arith, others-above t id ss all.1, ne_eqb)
 
 -- the pages of a collection that is put are its own and those of the others
 pub pages-put : (t : Table Node) (c : Collection) (ss : List Shelf) → AreRising ss →

@@ -1,5 +1,5 @@
 -- What the forest that a table and entries make is read as.
-use Rattle.forest_store.proofs.Common.{◌≡◌, ◌≤◌, ℕ, ◌==◌, ◌+◌, true, false, not, List, [], ◌∷◌, ◌++◌, length, map, Option, Some, None, option_map, cond, if◌then◌else◌, refl, sym, ap, ◌∙◌, arith, filter, find, list_any, list_all, cons_option, option_map_or, Interval, NodeKey, Buffers, same_key, and_left, and_right, Table, node_at, Entry, Node, Collection, node_of, Shelf, shelf_of, shelves_of, nodes_with, collection_in, forest_of, all_keys, is_filed, are_filed, IsStored, IfSome, flat_map, leb-true, filter_map-append, MAX_BUFFERS, collection_at, pages_in, pages_held, length-append, In-find, all_nodes, beside, forest_node, summary_of, given_few}
+use Rattle.forest_store.proofs.Common.{◌≡◌, ◌≤◌, ℕ, ◌==◌, ◌+◌, true, false, not, List, [], ◌∷◌, ◌++◌, length, map, Option, Some, None, option_map, if◌then◌else◌, refl, sym, ap, ◌∙◌, arith, filter, find, list_any, list_all, cons_option, option_map_or, NodeKey, Buffers, same_key, and_left, and_right, Table, node_at, Entry, Node, Collection, node_of, Shelf, shelf_of, shelves_of, nodes_with, collection_in, forest_of, all_keys, is_filed, are_filed, IsStored, IfSome, flat_map, leb-true, filter_map-append, MAX_BUFFERS, collection_at, pages_held, length-append, In-find, all_nodes, beside, forest_node, summary_of, given_few}
 use Rattle.forest_store.proofs.quiescence.Steps.{all-In}
 use Rattle.forest_store.proofs.lists.Elements.{find_made}
 use Rattle.forest_store.proofs.lists.Lookups.{nothing, node_of-looked}
@@ -20,14 +20,7 @@ ids_of_all t (e ∷ es) = ap (λ (ids : List ℕ). e.id ∷ ids) (ids_of_all t e
 pub pages_of_others : (t : Table Node) (id : ℕ) (es : List Entry) → beside (forest_of t (shelves_of es)) id
     ≡ flat_map (λ (e : Entry). pages_held e.held.items) (filter (λ (e : Entry). not (e.id == id)) es)
 pages_of_others t id [] = refl
-pages_of_others t id (e ∷ es) = elim (e.id == id) as (λ b.
-    flat_map pages_in (cond (not b) (collection_in t (shelf_of e) ∷ filter (λ (c : Collection). not (c.id == id)) (forest_of t (shelves_of es)).collections)
-    (filter (λ (c : Collection). not (c.id == id)) (forest_of t (shelves_of es)).collections))
-    ≡ flat_map (λ (x : Entry). pages_held x.held.items) (cond (not b) (e ∷ filter (λ (x : Entry). not (x.id == id)) es)
-    (filter (λ (x : Entry). not (x.id == id)) es))) [
-      | true ↦ pages_of_others t id es
-      | false ↦ ap (λ (is : List Interval). pages_held e.held.items ++ is) (pages_of_others t id es)
-    ]
+pages_of_others t id (e ∷ es) = grind (arith, pages_of_others t id es)
 
 -- by what the table has there
 node_is-by : (t : Table Node) (es : List Shelf) → IsStored t es → (key : NodeKey) (o : Option Node) → node_at t key ≡ o →

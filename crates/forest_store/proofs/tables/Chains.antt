@@ -1,5 +1,5 @@
 -- What a failure reaches, of the nodes whose lines up to a root are known.
-use Rattle.forest_store.proofs.Common.{◌≡◌, refl, ap, sym, ◌∙◌, Bool, true, false, ◌⊎◌, inl, inr, List, [], ◌∷◌, Option, Some, None, list_any, NodeKey, same_key, both_ways, either_way, or_right, same_key-true, IsChain, ◌↔◌, climbs, descends, top_on}
+use Rattle.forest_store.proofs.Common.{◌≡◌, refl, ap, sym, ◌∙◌, Bool, true, false, ◌⊎◌, inl, inr, List, [], ◌∷◌, Option, Some, None, list_any, NodeKey, same_key, both_ways, either_way, same_key-true, IsChain, ◌↔◌, climbs, descends, top_on, arith}
 use Rattle.sm_names.specs.Losses.{Reach, Origin, Up, Down, top}
 
 module _ (parent : NodeKey → Option NodeKey) where
@@ -8,20 +8,14 @@ module _ (parent : NodeKey → Option NodeKey) where
   one_line node [] [] one other = refl
   one_line node [] (q ∷ b) one other = cc
   one_line node (p ∷ a) [] one other = cc
-  one_line node (p ∷ a) (q ∷ b) one other =
-      let same : p ≡ q = cc in
-      λ i. same i ∷ (one_line q a b (rw (← same) one.1) other.1) i
+  one_line node (p ∷ a) (q ∷ b) one other = grind (arith, one_line q a b)
 
   module _ (blocks : NodeKey → Bool) (origin : NodeKey) where
     -- the failure of the top goes no further
     stops : (node : NodeKey) (line : List NodeKey) → IsChain parent node line →
         (blocks (top blocks node line) ≡ true) ⊎ (parent (top blocks node line) ≡ None)
     stops node [] chain = inr chain
-    stops node (p ∷ line) chain =
-        elim (either_way (blocks node)) [
-          | inl e ↦ rw e (inl e)
-          | inr e ↦ rw e (stops p line chain.1)
-        ]
+    stops node (p ∷ line) chain = grind (arith, stops p line chain.1)
 
     module _ (above : List NodeKey) (up : IsChain parent origin above) where
       -- the highest node that a failure of the origin goes to
@@ -49,10 +43,7 @@ module _ (parent : NodeKey → Option NodeKey) where
           let below : list_any (same_key highest) (child ∷ on ∷ line) ≡ true = has_highest child r (on ∷ line) (goes, chain) in
           rw (not_passed child on free goes) at below
       has_highest _ (Down on child r goes) [] chain = cc
-      has_highest _ (Down on child r goes) (p ∷ line) chain =
-          let is : p ≡ on = cc in
-          let further = has_highest on r line (rw (← is) chain.1) in
-          or_right (same_key highest child) (list_any (same_key highest) (p ∷ line)) (rw is further)
+      has_highest _ (Down on child r goes) (p ∷ line) chain = grind (arith, has_highest on r line)
 
       -- a node is reached exactly if the highest one is on its line
       pub reached_by_line : (node : NodeKey) (line : List NodeKey) → IsChain parent node line →

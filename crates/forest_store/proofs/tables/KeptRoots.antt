@@ -1,5 +1,5 @@
 -- The nodes of a collection stay on their parents, whatever is changed or forced.
-use Rattle.forest_store.proofs.Common.{◌≡◌, ℕ, refl, ap, sym, ◌∙◌, Bool, true, false, cond, ◌||◌, inl, inr, List, [], ◌∷◌, ◌++◌, map, reverse, Option, Some, None, is_some, filter, list_any, option_map_or, Interval, NodeKey, same_key, In, In-find, In-map, In-map-back, and_both, and_left, and_right, both_ways, either_way, or_right, same_key-refl, same_key-true, In-any, Change, Effect, Node, is_left_of, Collection, affected, is_of, members_of, node_of, Handles, Settles, are_rooted, reverse-append, Mark, Called, Loss, Allocated, Ended, is_under, In-append, In-filter, In-filter-back, In-reverse, In-reverse-back, IsChain, or_parts, above_among, after_allocation, after_effect, is_taken, member_of, new_child, Rests, Forces, changed, is_root_of, made, hangs_on, is_some-find, after_end, after_loss, FitsChange}
+use Rattle.forest_store.proofs.Common.{◌≡◌, ℕ, refl, ap, sym, ◌∙◌, Bool, true, false, ◌||◌, inl, inr, List, [], ◌∷◌, ◌++◌, map, reverse, Option, Some, None, is_some, filter, list_any, option_map_or, Interval, NodeKey, same_key, In, In-find, In-map, In-map-back, and_both, and_left, and_right, both_ways, either_way, or_right, same_key-refl, same_key-true, In-any, Change, Effect, Node, is_left_of, Collection, affected, is_of, members_of, node_of, Handles, Settles, are_rooted, reverse-append, Mark, Called, Loss, Allocated, Ended, is_under, In-append, In-filter, In-filter-back, In-reverse, In-reverse-back, IsChain, or_parts, above_among, after_allocation, after_effect, is_taken, member_of, new_child, Rests, Forces, changed, is_root_of, made, hangs_on, is_some-find, after_end, after_loss, FitsChange, arith}
 use Rattle.sm_names.specs.declared.outcomes.Fault.{Fault}
 use Rattle.sm_names.specs.Changes.{highest}
 use Rattle.forest_store.proofs.tables.Chains.{one_line}
@@ -15,12 +15,7 @@ map-reverse_aux f (x ∷ xs) ys = map-reverse_aux f xs (x ∷ ys)
 pub filter-reverse_aux : {A : Type 0} (p : A → Bool) (xs ys : List A) →
     filter p (reverse_aux xs ys) ≡ reverse_aux (filter p xs) (filter p ys)
 filter-reverse_aux p [] ys = refl
-filter-reverse_aux p (x ∷ xs) ys = filter-reverse_aux p xs (x ∷ ys)
-    ∙ (elim (p x) as (λ (b : Bool). reverse_aux (filter p xs) (cond b (x ∷ filter p ys) (filter p ys))
-    ≡ reverse_aux (cond b (x ∷ filter p xs) (filter p xs)) (filter p ys)) [
-      | true ↦ refl
-      | false ↦ refl
-    ])
+filter-reverse_aux p (x ∷ xs) ys = grind (arith, filter-reverse_aux p xs (x ∷ ys))
 
 -- the map takes some of the nodes, and changes neither keys nor parents
 pub record Takes (f : Node → Node) (taken : Node → Bool) : Type 0 where
@@ -35,14 +30,7 @@ GoesDown nodes taken =
 
 -- no effect takes a node
 pub effect_takes : (key : NodeKey) (effect : Effect) → Takes (affected key effect) (λ n. false)
-effect_takes key Effect.Bound = record { key = λ n. refl; parent = λ n. refl; gone = λ n. refl }
-effect_takes key Effect.Dispensable = record { key = λ n. refl; parent = λ n. refl; gone = λ n. refl }
-effect_takes key Effect.Weak = record { key = λ n. refl; parent = λ n. refl; gone = λ n. refl }
-effect_takes key (Effect.WeakOk children) = record { key = λ n. refl; parent = λ n. refl; gone = λ n. refl }
-effect_takes key (Effect.Constrained demand) = record { key = λ n. refl; parent = λ n. refl; gone = λ n. refl }
-effect_takes key Effect.Taken = record { key = λ n. refl; parent = λ n. refl; gone = λ n. refl }
-effect_takes key Effect.Released = record { key = λ n. refl; parent = λ n. refl; gone = λ n. refl }
-effect_takes key Effect.Tracked = record { key = λ n. refl; parent = λ n. refl; gone = λ n. refl }
+effect_takes key effect = grind arith
 
 module _ (nodes : List Node) (old : IsRooted nodes) where
   -- ---- maps
@@ -50,12 +38,7 @@ module _ (nodes : List Node) (old : IsRooted nodes) where
   module _ (f : Node → Node) (taken : Node → Bool) (takes : Takes f taken) (down : GoesDown nodes taken) where
     -- nodes with one key are one
     one_mapped : AreOne (map f nodes)
-    one_mapped a b on too same =
-        let x = In-map f _ a on in
-        let y = In-map f _ b too in
-        let keys : x.0.key ≡ y.0.key =
-        sym (takes.key x.0) ∙ (ap (λ (n : Node). n.key) (sym x.2) ∙ (same ∙ (ap (λ (n : Node). n.key) y.2 ∙ takes.key y.0))) in
-        x.2 ∙ (ap f (old.one x.0 y.0 x.1 y.1 keys) ∙ sym y.2)
+    one_mapped a b on too same = grind (arith, In-map)
 
     -- each that is not gone has its parent behind it
     rooted_mapped : (ns : List Node) → ((n : Node) → In n ns → In n nodes) → are_rooted ns ≡ true → are_rooted (map f ns) ≡ true

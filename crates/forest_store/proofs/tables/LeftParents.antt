@@ -1,5 +1,5 @@
 -- The parent of a node that is not gone is in the table, and not gone.
-use Rattle.forest_store.proofs.Common.{◌≡◌, ℕ, ap, sym, ◌∙◌, subst, true, false, ◌==◌, ◌&&◌, not, List, [], Option, Some, None, refl, eqb-true, false≢true, not-true, find, option_map_or, NodeKey, In, In-find, and_left, and_right, both_ways, Table, node_at, parent_at, Change, Node, is_left_of, Collection, Shelf, IsStored, forest_of, nodes_with, collection_or_new, MayChange, is_there, loses_left}
+use Rattle.forest_store.proofs.Common.{◌≡◌, ℕ, ap, sym, ◌∙◌, subst, true, false, ◌==◌, ◌&&◌, not, List, [], Option, Some, refl, eqb-true, find, option_map_or, NodeKey, In, In-find, both_ways, Table, node_at, parent_at, Change, Node, is_left_of, Collection, Shelf, IsStored, forest_of, nodes_with, collection_or_new, MayChange, is_there, loses_left, arith}
 use Rattle.forest_store.proofs.newborns.Newborn.{before_is, found_above}
 use Rattle.forest_store.proofs.Basics.{in_all, looked_there, left_in, left_node, left_parent, node_is}
 
@@ -42,11 +42,7 @@ module _ (t : Table Node) (ss : List Shelf) (ok : IsStored t ss) where
     where
       by : (o : Option Node) → node_at t key ≡ o → option_map_or (λ (n : Node). n.collection == id && not n.gone) o false ≡ true →
           is_left_of (nodes_with t s.keys) key ≡ true
-      by None is fit = absurd (false≢true fit)
-      by (Some n) is fit =
-          let here : n.gone ≡ false = not-true n.gone (and_right _ _ fit) in
-          let on : In n (nodes_with t s.keys) = in_shelf _ s found _ n is (eqb-true _ _ (and_left _ _ fit)) in
-          ap (is_left_of (nodes_with t s.keys)) (sym (ok.named key n is)) ∙ left_in _ n on here
+      by o is fit = grind (arith, In, in_shelf, eqb-true, left_in)
 
   -- so is the node that a change loses
   pub loss_left : (id : ℕ) (change : Change) → MayChange (forest_of t ss) id change → (s : Shelf) →

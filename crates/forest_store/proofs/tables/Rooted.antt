@@ -1,6 +1,6 @@
 -- The nodes of a collection hang on their parents: a node that is not gone comes after its parent,
 -- which is not gone.
-use Rattle.forest_store.proofs.Common.{◌≡◌, refl, ap, sym, ◌∙◌, subst, true, false, inl, inr, List, [], ◌∷◌, reverse, Option, Some, None, not-true, list_any, option_map_or, NodeKey, same_key, In, In-list_any, and_both, and_left, and_right, both_ways, either_way, or_right, same_key-refl, same_key-true, In-any, Node, is_left_of, Collection, IsWhole, is_of, are_distinct, are_rooted, In-reverse, In-reverse-back, IsChain, above_among, hangs_on, not_from_false}
+use Rattle.forest_store.proofs.Common.{◌≡◌, refl, ap, sym, ◌∙◌, subst, true, false, inl, inr, List, [], ◌∷◌, reverse, Option, Some, None, not-true, list_any, option_map_or, NodeKey, same_key, In, In-list_any, and_both, and_left, and_right, either_way, or_right, same_key-refl, same_key-true, In-any, Node, is_left_of, Collection, IsWhole, is_of, are_distinct, are_rooted, In-reverse, In-reverse-back, IsChain, above_among, hangs_on, not_from_false, arith}
 
 -- nodes with one key are one node
 abbrev pub AreOne : List Node → Type 0
@@ -21,18 +21,13 @@ distinct_one (n ∷ ns) distinct a b on too same =
     alone = not-true (list_any (is_of n.key) ns) (and_left _ _ distinct)
 
     again : (m : Node) → In m ns → m.key ≡ n.key → ⊥
-    again m there is =
-        both_ways _ (In-any _ _ m there (ap (λ (k : NodeKey). same_key k n.key) is
-        ∙ same_key-refl n.key)) alone
+    again m there is = grind (arith, In-any, same_key-refl, alone)
 
     key_of : (x y : Node) → x ≡ y → x.key ≡ y.key
     key_of x y = ap (λ (m : Node). m.key)
 
     from : In a (n ∷ ns) → In b (n ∷ ns) → (In a ns → In b ns → a ≡ b) → a ≡ b
-    from (inl first) (inl second) rest = first ∙ sym second
-    from (inl first) (inr there) rest = absurd (again b there (sym same ∙ key_of a n first))
-    from (inr there) (inl second) rest = absurd (again a there (same ∙ key_of b n second))
-    from (inr here) (inr there) rest = rest here there
+    from one other rest = grind (arith, again, key_of)
 
 -- the nodes of a whole collection hang so
 pub whole_rooted : (c : Collection) → IsWhole c → IsRooted c.nodes
@@ -126,11 +121,7 @@ module _ (nodes : List Node) (parent : NodeKey → Option NodeKey) (one : AreOne
 parent_among : (ns : List Node) → are_rooted ns ≡ true → (n : Node) (p : NodeKey) → In n ns → n.gone ≡ false → n.parent ≡ Some p →
     is_left_of ns p ≡ true
 parent_among [] rooted n p on here up = absurd on
-parent_among (m ∷ older) rooted n p (inl is) here up =
-    let first : hangs_on older m ≡ true = and_left _ _ rooted in
-    let here' : m.gone ≡ false = ap (λ (x : Node). x.gone) (sym is) ∙ here in
-    let up' : m.parent ≡ Some p = ap (λ (x : Node). x.parent) (sym is) ∙ up in
-    or_right _ _ (rw (here', up') at first)
+parent_among (m ∷ older) rooted n p (inl is) here up = grind arith
 parent_among (m ∷ older) rooted n p (inr on) here up = or_right _ _
     (parent_among older (and_right _ _ rooted) n p on here up)
 

@@ -1,5 +1,5 @@
 -- Nodes that are written one after another, each in the place of the one with its key.
-use Rattle.forest_store.proofs.Common.{◌≡◌, Bool, true, false, List, [], ◌∷◌, ◌++◌, ◌⊎◌, inl, inr, Option, Some, None, option_map, is_some, cond, if◌then◌else◌, refl, ap, ◌∙◌, false≢true, NodeKey, same_key, In, either_way, same_key-true, Table, node_at, Node, IsSome, Row, row_at, Writes, table_with_node, written, stored, Stores}
+use Rattle.forest_store.proofs.Common.{◌≡◌, Bool, true, false, List, [], ◌∷◌, ◌++◌, ◌⊎◌, inl, inr, Option, Some, None, option_map, is_some, cond, if◌then◌else◌, refl, ap, ◌∙◌, false≢true, NodeKey, same_key, In, either_way, same_key-true, Table, node_at, Node, IsSome, Row, row_at, Writes, table_with_node, written, stored, Stores, arith}
 use Rattle.forest_store.proofs.lists.Lookups.{nothing}
 use Rattle.forest_store.proofs.tables.Writing.{look-written, parents-written}
 
@@ -28,13 +28,7 @@ row_there t key = by _
 -- a node as it is stored is one of those, or as it was
 pub stored_one : (ns : List Node) (n : Node) → (stored ns n ≡ n) ⊎ In (stored ns n) ns
 stored_one [] n = inl refl
-stored_one (m ∷ ms) n = elim (stored_one ms (written m n)) [
-  | inl same ↦ elim (either_way (same_key m.key n.key)) [
-    | inl e ↦ inr (inl (same ∙ rw e refl))
-    | inr e ↦ inl (same ∙ rw e refl)
-  ]
-  | inr on ↦ inr (inr on)
-]
+stored_one (m ∷ ms) n = grind (arith, stored_one ms (written m n))
 
 -- nothing is changed
 unmapped : (o : Option Node) → o ≡ option_map (stored []) o
@@ -58,10 +52,7 @@ Stores-none t = record {
 more-by : (ns : List Node) (n : Node) (key : NodeKey) (o : Option Node) → ((m : Node) → o ≡ Some m → m.key ≡ key) →
     (if same_key n.key key then option_map (λ _. n) (option_map (stored ns) o) else option_map (stored ns) o) ≡ option_map
     (stored (ns ++ n ∷ [])) o
-more-by ns n key None named = nothing _
-more-by ns n key (Some m) named =
-    let own : (stored ns m).key ≡ key = stored-key ns m ∙ named m refl in
-    rw (stored-push ns n m, own) (some_there _ n _)
+more-by ns n key o named = grind (arith, nothing, stored-key, stored-push, some_there)
 
 -- one more is written
 pub Stores-more : (t u now : Table Node) (ns : List Node) (n : Node) → ((key : NodeKey) (m : Node) → node_at t key ≡ Some m → m.key ≡ key) →

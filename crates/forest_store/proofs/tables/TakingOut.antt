@@ -1,5 +1,5 @@
 -- A node that is taken out of the table, with its children cut.
-use Rattle.forest_store.proofs.Common.{◌≡◌, ◌≢◌, suc, ◌+◌, ◌<◌, nat_lt, Bool, true, false, not, List, [], ◌∷◌, length, Option, Some, None, option_map, cond, if◌then◌else◌, refl, sym, ap, subst, ◌∙◌, inl, inr, arith, NodeKey, same_key, some-injective, Table, node_at, parent_at, Node, Shelf, forest_of, slice_index_or, IsSome, get_or_past, Row, row_at, parent_in, children_at, table_len, SameKeys, at_parent, key_cases, same_key-equal, same_key-apart, TakesOut, Contains, MatchOption, children_in, Cuts, Removes, without_child, without_parent, SameForest, IsChild, Unlinks, Leaves}
+use Rattle.forest_store.proofs.Common.{◌≡◌, ◌≢◌, suc, ◌+◌, ◌<◌, nat_lt, Bool, not, List, [], ◌∷◌, length, Option, Some, None, option_map, cond, if◌then◌else◌, refl, sym, ap, subst, ◌∙◌, inl, inr, arith, NodeKey, same_key, some-injective, Table, node_at, parent_at, Node, Shelf, forest_of, slice_index_or, IsSome, get_or_past, Row, row_at, parent_in, children_at, table_len, SameKeys, at_parent, key_cases, same_key-equal, same_key-apart, TakesOut, Contains, MatchOption, children_in, Cuts, Removes, without_child, without_parent, SameForest, IsChild, Unlinks, Leaves}
 use Rattle.node_table.specs.Forest.{IsForest, first_key}
 use Rattle.node_table.proofs.Lists.{without, without_lacks, Contains-head}
 use Rattle.node_table.proofs.Runs.{without-short}
@@ -34,20 +34,12 @@ unparented (Some row) = refl
 -- and where its parent's row changes
 pub still_node : (g : Row Node → Row Node) → ((row : Row Node) → (g row).node ≡ row.node) → (parent : Option NodeKey) (other : NodeKey)
     (o : Option (Row Node)) → node_in (option_map (at_parent parent g other) o) ≡ node_in o
-still_node g same None other None = refl
-still_node g same None other (Some row) = refl
-still_node g same (Some above) other None = refl
-still_node g same (Some above) other (Some row) =
-    elim (same_key above other) as (λ b. Some (cond b (g row) row).node ≡ Some row.node) [ true ↦ ap Some (same row) | false ↦ refl ]
+still_node g same parent other o = grind arith
 
 -- a row keeps its parent there too
 pub still_parent : (g : Row Node → Row Node) → ((row : Row Node) → (g row).parent ≡ row.parent) → (parent : Option NodeKey) (other : NodeKey)
     (o : Option (Row Node)) → parent_in (option_map (at_parent parent g other) o) ≡ parent_in o
-still_parent g same None other None = refl
-still_parent g same None other (Some row) = refl
-still_parent g same (Some above) other None = refl
-still_parent g same (Some above) other (Some row) =
-    elim (same_key above other) as (λ b. (cond b (g row) row).parent ≡ row.parent) [ true ↦ same row | false ↦ refl ]
+still_parent g same parent other o = grind arith
 
 -- a row whose parent is taken has none
 no_parent : (o : Option (Row Node)) → parent_in (option_map without_parent o) ≡ None
@@ -105,9 +97,7 @@ without-fewer-by : (key k : NodeKey) (ks : List NodeKey) (same : Bool) → same_
     (cond (not same) (k ∷ without key ks) (without key ks) ≡ k ∷ ks → ⊥) →
     ((without key ks ≡ ks → ⊥) → length (without key ks) < length ks) →
     length (cond (not same) (k ∷ without key ks) (without key ks)) < suc (length ks)
-without-fewer-by key k ks true is other on = omega (arith, without-short key ks)
-without-fewer-by key k ks false is other on =
-    let less = on (λ same. other (ap (λ (l : List NodeKey). k ∷ l) same)) in omega (arith, less)
+without-fewer-by key k ks same is other on = grind (arith, without-short)
 
 -- a list that is another without a key is shorter
 without-fewer : (key : NodeKey) (keys : List NodeKey) → (without key keys ≡ keys → ⊥) → length (without key keys) < length keys

@@ -1,5 +1,5 @@
 -- The walk over the keys of a collection that takes out the nodes that are dead.
-use Rattle.forest_store.proofs.Common.{◌≡◌, ◌≢◌, Bool, true, false, List, [], ◌∷◌, ◌++◌, map, Option, None, cond, refl, sym, ap, subst, ◌∙◌, inl, inr, list_any, option_map_or, NodeKey, same_key, and_left, or_right, Table, node_at, Node, Shelf, IsStored, is_over, list_any-append, or_false, SameKeys, key_cases, same_key-equal, same_key-apart, TakesOut, left_at, thinned, unless_over}
+use Rattle.forest_store.proofs.Common.{◌≡◌, ◌≢◌, Bool, true, false, List, [], ◌∷◌, ◌++◌, map, Option, None, cond, refl, sym, ap, subst, ◌∙◌, inl, inr, list_any, option_map_or, NodeKey, same_key, and_left, Table, node_at, Node, Shelf, IsStored, is_over, list_any-append, or_false, SameKeys, key_cases, same_key-equal, same_key-apart, TakesOut, left_at, thinned, unless_over, arith}
 use Rattle.forest_store.proofs.leaving.Thinning.{all_thinned-same, found_before, taken-kept, thinned-twice}
 use Rattle.forest_store.proofs.tables.TakingOut.{SameKeys-refl, SameKeys-trans}
 
@@ -24,31 +24,17 @@ either_same false o = refl
 
 -- a key that is not the last one
 left_before : (t : Table Node) (older : List NodeKey) (key k : NodeKey) → key ≢ k → left_at t older k ≡ left_at t (older ++ key ∷ []) k
-left_before t older key k differ =
-    let other : same_key k key ≡ false = same_key-apart k _ (λ same. differ (sym same)) in
-    let any : list_any (same_key k) (older ++ key ∷ []) ≡ list_any (same_key k) older =
-    list_any-append _ older _ ∙ (rw other (or_false (list_any (same_key k) older))) in
-    rw any refl
+left_before t older key k differ = grind (arith, same_key-apart, list_any-append, or_false)
 
 -- the last one
 left_last : (t : Table Node) (older : List NodeKey) (key k : NodeKey) → key ≡ k →
     left_at t (older ++ key ∷ []) k ≡ unless_over (node_at t k)
-left_last t older key k same =
-    let one : same_key k key ≡ true = same_key-equal k _ (sym same) in
-    let any : list_any (same_key k) (older ++ key ∷ []) ≡ true =
-    list_any-append (same_key k) older (key ∷ []) ∙ or_right (list_any (same_key k) older) _ (rw one refl) in
-    rw any refl
+left_last t older key k same = grind (arith, same_key-equal, list_any-append)
 
 -- a last node that is not dead stays
 stays_look : (t : Table Node) (older : List NodeKey) (key : NodeKey) → option_map_or is_over (node_at t key) false ≡ false → (k : NodeKey) →
     left_at t older k ≡ left_at t (older ++ key ∷ []) k
-stays_look t older key not_over k = elim (key_cases key k) [
-  | inl same ↦
-      let own : unless_over (node_at t k) ≡ node_at t k =
-      rw (ap (λ (x : NodeKey). option_map_or is_over (node_at t x) false) (sym same) ∙ not_over) refl in
-      rw own (either_same (list_any (same_key k) older) (node_at t k)) ∙ sym (left_last t older key k same ∙ own)
-  | inr differ ↦ left_before t older key k differ
-]
+stays_look t older key not_over k = grind (arith, key_cases, left_before)
 
 -- and one that is dead goes
 goes_look : (t now : Table Node) (older : List NodeKey) (key : NodeKey) → TakesOut t now key →

@@ -1,5 +1,5 @@
 -- Sums over nodes, of numbers or of tests that pass: where one node changed, or without some.
-use Rattle.forest_store.proofs.Common.{◌≤◌, ◌≡◌, ◌≢◌, ℕ, zero, suc, ◌+◌, Bool, true, false, inl, inr, List, [], ◌∷◌, map, filter, Option, Some, None, if◌then◌else◌, refl, sym, ap, subst, ◌∙◌, arith, not-true, list_any, cons_option, NodeKey, same_key, times, In, and_left, and_right, both_ways, either_way, same_key-refl, same_key-true, In-any, AllPairs, Table, node_at, nodes_with, Node, is_of, are_distinct, bit}
+use Rattle.forest_store.proofs.Common.{◌≤◌, ◌≡◌, ◌≢◌, ℕ, zero, suc, ◌+◌, Bool, true, false, inl, inr, List, [], ◌∷◌, map, filter, Option, Some, None, if◌then◌else◌, refl, sym, ap, ◌∙◌, arith, not-true, list_any, cons_option, NodeKey, same_key, times, In, and_left, and_right, both_ways, either_way, same_key-refl, same_key-true, In-any, AllPairs, Table, node_at, nodes_with, Node, is_of, are_distinct, bit, common_steps}
 use Rattle.std.proofs.lemmas.Map.Views.{Contains-from_any}
 use Rattle.forest_store.proofs.lists.Lookups.{same_key-swap}
 
@@ -35,9 +35,7 @@ amount_map amount f (n ∷ ns) = omega (arith, amount_map amount f ns)
 pub amount_filter : (p : Node → Bool) (amount : Node → ℕ) (ns : List Node) → ((n : Node) → In n ns → p n ≡ false → amount n ≡ 0) →
     amount_of amount (filter p ns) ≡ amount_of amount ns
 amount_filter p amount [] none = refl
-amount_filter p amount (n ∷ ns) none =
-    let rest = amount_filter p amount ns (λ m on. none m (inr on)) in
-    elim (either_way (p n)) [ inl e ↦ rw (e, rest) refl | inr e ↦ rw (e, none n (inl refl) e) (rest ∙ omega arith) ]
+amount_filter p amount (n ∷ ns) none = grind (arith, amount_filter p amount ns (λ m on. none m (inr on)))
 
 -- the same of how many pass
 pub times_filter : (p test : Node → Bool) (ns : List Node) → ((n : Node) → In n ns → p n ≡ false → test n ≡ false) →
@@ -50,18 +48,7 @@ times_filter p test ns none = times_is test _ ∙ amount_filter p _ ns (λ n on 
 amount_differ : (p q : Node → ℕ) (ns : List Node) (m : Node) → are_distinct ns ≡ true → In m ns →
     ((n : Node) → In n ns → same_key m.key n.key ≡ false → p n ≡ q n) → amount_of p ns + q m ≡ amount_of q ns + p m
 amount_differ p q [] m distinct on same = absurd on
-amount_differ p q (x ∷ xs) m distinct (inl is) same =
-    let none : list_any (is_of x.key) xs ≡ false = not-true (list_any (is_of x.key) xs) (and_left _ _ distinct) in
-    let rest : amount_of p xs ≡ amount_of q xs = amount_same p q _ (λ n on. same n (inr on) (elim (either_way (same_key m.key n.key)) [
-      | inl e ↦ both_ways _
-          (In-any _ _ n on
-          (subst (λ (k : NodeKey). same_key n.key k ≡ true) (sym (same_key-true _ _ e)
-          ∙ ap (λ (y : Node). y.key) is) (same_key-refl n.key))) none
-      | inr e ↦ e
-    ])) in
-    let one : p m ≡ p x = ap p is in
-    let two : q m ≡ q x = ap q is in
-    omega arith
+amount_differ p q (x ∷ xs) m distinct (inl is) same = grind (arith, common_steps, amount_same, In-any, same_key-true, same_key-refl)
 amount_differ p q (x ∷ xs) m distinct (inr on) same =
     let none : list_any (is_of x.key) xs ≡ false = not-true (list_any (is_of x.key) xs) (and_left _ _ distinct) in
     let other : same_key m.key x.key ≡ false = elim (either_way (same_key m.key x.key)) [
@@ -75,17 +62,13 @@ amount_differ p q (x ∷ xs) m distinct (inr on) same =
 pub amount_changed : (amount : Node → ℕ) (f : Node → Node) (ns : List Node) (n : Node) → are_distinct ns ≡ true → In n ns →
     ((m : Node) → In m ns → same_key n.key m.key ≡ false → f m ≡ m) →
     amount_of amount (map f ns) + amount n ≡ amount_of amount ns + amount (f n)
-amount_changed amount f ns n distinct on alone =
-    let c = amount_differ (λ m. amount (f m)) amount ns n distinct on (λ m there other. ap amount (alone m there other)) in
-    omega (arith, amount_map amount f ns)
+amount_changed amount f ns n distinct on alone = grind (arith, amount_differ, amount_map)
 
 -- so of how many pass
 pub times_changed : (test : Node → Bool) (f : Node → Node) (ns : List Node) (n : Node) → are_distinct ns ≡ true → In n ns →
     ((m : Node) → In m ns → same_key n.key m.key ≡ false → f m ≡ m) →
     times test (map f ns) + bit (test n) ≡ times test ns + bit (test (f n))
-times_changed test f ns n distinct on alone =
-    let c = amount_changed (λ m. bit (test m)) f ns n distinct on alone in
-    omega (arith, times_is test (map f ns), times_is test ns)
+times_changed test f ns n distinct on alone = grind (arith, amount_changed, times_is)
 
 -- ---- nodes with and without those of some keys
 

@@ -137,9 +137,7 @@ module _ (nodes : List Node) (distinct : are_distinct nodes ≡ true) (heads : l
 
   -- a head that is not gone heads its own unit
   pub own_head : (n : Node) → In n nodes → is_head n ≡ true → n.head ≡ n.key
-  own_head n on h =
-      let same : same_key n.head n.key ≡ true = rw h at (all-In _ _ n on heads) in
-      same_key-true _ _ same
+  own_head n on h = grind (arith, all-In, same_key-true)
 
   -- a node that is no head has a parent
   pub has_parent : (n : Node) → is_head n ≡ false → (p : NodeKey) × (n.parent ≡ Some p)
@@ -203,10 +201,7 @@ module _ (nodes : List Node) (distinct : are_distinct nodes ≡ true) (heads : l
     -- by induction on the line: what holds the unit lives, or heads a unit that is held
     lives : (fuel : ℕ) (h : Node) → In h nodes → h.gone ≡ false → is_head h ≡ true → length nodes < fuel + length (line h.key) →
         list_any (lives_below nodes h.key) nodes ≡ true
-    lives zero h on here head long =
-        let short = above_short (reverse nodes) h.key in
-        let same : length (reverse nodes) ≡ length nodes = length-reverse nodes in
-        absurd (omega arith)
+    lives zero h on here head long = grind (arith, above_short, length-reverse)
     lives (suc fuel) h on here head long =
         let x = In-list_any (holds_unit nodes h.key) nodes (holder h on here head) in
         let stays : x.0.gone ≡ false = not-true x.0.gone (and_left (not x.0.gone) _ x.2) in
@@ -308,16 +303,7 @@ module _ (nodes : List Node) (distinct : are_distinct nodes ≡ true) (heads : l
 
     -- nothing that holds it lives, so no node below it does
     pub dead_deserted : (h : Node) → In h nodes → h.gone ≡ false → is_head h ≡ true → dead h.key ≡ true → is_deserted_node nodes h ≡ true
-    dead_deserted h on here head is_dead =
-        and_both _ _ head (and_both _ _ (ap not here)
-        (ap not (false_if (list_any (lives_below nodes h.key) nodes) (λ e.
-        let x = In-list_any _ _ e in
-        let live = and_left _ _ x.2 in
-        let stays : x.0.gone ≡ false = not-true x.0.gone (and_left _ _ live) in
-        let gone : dead x.0.head ≡ true =
-        dead_below (suc (length (line x.0.key))) x.0 x.1 stays h on head is_dead (and_right _
-        _ x.2) (omega arith) in
-        both_ways _ (still x.0 x.1 stays gone) (not-true x.0.released (and_right _ _ live))))))
+    dead_deserted h on here head is_dead = grind (arith, In-list_any, dead_below)
 
   -- ---- what holds the units
 

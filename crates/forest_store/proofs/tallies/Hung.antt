@@ -1,5 +1,5 @@
 -- How many units hang right below one, as counted in the table and as defined of a collection.
-use Rattle.forest_store.proofs.Common.{◌≡◌, ◌≢◌, ℕ, ◌+◌, ◌<◌, ◌≤◌, nat_lt, refl, ap, sym, ◌∙◌, Bool, true, false, not, ◌&&◌, ◌||◌, ◌⊎◌, inl, inr, if◌then◌else◌, List, [], ◌∷◌, map, reverse, length, Option, Some, None, option_map, arith, lt-ltb, list_any, option_map_or, NodeKey, same_key, times, In, In-list_any, and_both, and_left, and_right, both_ways, either_way, false_if, same_key-refl, same_key-true, some-injective, In-any, Table, node_at, Node, Unit, unit_at, is_of, are_distinct, are_rooted, hangs_in, head_above, heads_below, lowered, unhung, without_below, bit, list_any-map, head_of, hung, raised, with_below}
+use Rattle.forest_store.proofs.Common.{◌≡◌, ◌≢◌, ℕ, ◌+◌, ◌<◌, ◌≤◌, refl, ap, sym, ◌∙◌, Bool, true, false, not, ◌&&◌, ◌||◌, ◌⊎◌, inl, inr, if◌then◌else◌, List, [], ◌∷◌, map, reverse, length, Option, Some, None, option_map, arith, lt-ltb, list_any, option_map_or, NodeKey, same_key, times, In, In-list_any, either_way, same_key-refl, same_key-true, some-injective, In-any, Table, node_at, Node, Unit, unit_at, is_of, are_distinct, are_rooted, hangs_in, head_above, heads_below, lowered, unhung, without_below, bit, list_any-map, head_of, hung, raised, with_below}
 use Rattle.forest_store.proofs.lists.Elements.{times_map}
 use Rattle.forest_store.proofs.tables.Rooted.{distinct_one, left_node, left_parent}
 use Rattle.forest_store.proofs.tables.Writing.{IsSameNode}
@@ -34,17 +34,11 @@ one_less n u = record { live = u.live; unready = u.unready; below = lowered true
 
 -- by cases: one hangs there, or none; a count below the most can grow
 hangs_more : (n : Node) (u : Unit) (b : Bool) → u.below < 18446744073709551615 → Hangs u (if b then one_more n u else u) (bit b)
-hangs_more n u true few =
-    let room : nat_lt u.below 18446744073709551615 ≡ true = lt-ltb u.below 18446744073709551615 few in
-    record { live = refl; unready = refl; below = rw room refl }
-hangs_more n u false few = record { live = refl; unready = refl; below = omega arith }
+hangs_more n u b few = grind (arith, lt-ltb)
 
 -- and a count above 0 can fall
 hangs_less : (n : Node) (u : Unit) (b : Bool) → bit b ≤ u.below → Drops u (if b then one_less n u else u) (bit b)
-hangs_less n u true some =
-    let e : nat_lt 0 u.below ≡ true = lt-ltb 0 u.below (omega arith) in
-    record { live = refl; unready = refl; below = rw e (omega arith) }
-hangs_less n u false some = record { live = refl; unready = refl; below = omega arith }
+hangs_less n u b some = grind (arith, lt-ltb)
 
 -- ---- all nodes
 
@@ -117,17 +111,7 @@ module _ (t : Table Node) (nodes : List Node) (distinct : are_distinct nodes ≡
   -- the unit of the parent is that of the one node with its key
   hangs_by : (k p : NodeKey) (x : Node) → In x nodes → x.key ≡ p →
       list_any (λ (q : Node). is_of p q && same_key q.head k) nodes ≡ same_key x.head k
-  hangs_by k p x on key = elim (either_way (same_key x.head k)) [
-    | inl e ↦ In-any (λ (q : Node). is_of p q && same_key q.head k) nodes x on
-        (and_both (is_of p x) (same_key x.head k) (ap (λ (j : NodeKey). same_key j p) key ∙ same_key-refl p) e)
-        ∙ sym e
-    | inr e ↦ false_if (list_any (λ (q : Node). is_of p q && same_key q.head k) nodes) (λ h.
-        let y = In-list_any (λ (q : Node). is_of p q && same_key q.head k) nodes h in
-        let one : y.0 ≡ x =
-        distinct_one nodes distinct y.0 x y.1 on (same_key-true y.0.key p (and_left (is_of p y.0) _ y.2) ∙ sym key) in
-        both_ways (same_key x.head k) (ap (λ (m : Node). same_key m.head k) (sym one) ∙ and_right (is_of p y.0) _ y.2) e)
-        ∙ sym e
-  ]
+  hangs_by k p x on key = grind (arith, In-any, same_key-refl, In-list_any, distinct_one, same_key-true)
 
   -- the parent of one that heads a unit is there, and the unit right above is its own
   pub above_found : (n : Node) → In n nodes → n.gone ≡ false → n.attached ≡ true → (p : NodeKey) → n.parent ≡ Some p →
@@ -164,15 +148,9 @@ module _ (t : Table Node) (nodes : List Node) (distinct : are_distinct nodes ≡
     where
       by : (n.gone ≡ true) ⊎ (n.gone ≡ false) → (n.attached ≡ true) ⊎ (n.attached ≡ false) → (o : Option NodeKey) → n.parent ≡ o →
           is_hung t k n ≡ heads_below nodes k n
-      by (inl g) a o up =
-          (λ i. is_above k (if g i || not n.attached then None else option_map_or (head_of t) n.parent None))
-          ∙ sym (ap (λ (b : Bool). not b && (n.attached && hangs_in nodes k n)) g)
-      by (inr g) (inr a) o up =
-          (λ i. is_above k (if g i || not (a i) then None else option_map_or (head_of t) n.parent None))
-          ∙ sym (λ i. not (g i) && (a i && hangs_in nodes k n))
-      by (inr g) (inl a) None up =
-          (λ i. is_above k (if g i || not (a i) then None else option_map_or (head_of t) (up i) None))
-          ∙ sym (λ i. not (g i) && (a i && option_map_or (λ p. list_any (λ q. is_of p q && same_key q.head k) nodes) (up i) false))
+      by (inl g) a o up = grind (arith, is_above)
+      by (inr g) (inr a) o up = grind (arith, is_above)
+      by (inr g) (inl a) None up = grind (arith, is_above)
       by (inr g) (inl a) (Some p) up =
           let x = above_found n on g a p up in
           ap (is_above k) x.4

@@ -1,5 +1,5 @@
 -- What the counts of a unit are, once nodes were counted for their units.
-use Rattle.forest_store.proofs.Common.{Option, Some, None, some-injective, ◌≡◌, ℕ, ◌+◌, ◌<◌, ◌≤◌, nat_lt, refl, ap, ◌∙◌, Bool, true, false, not, ◌&&◌, ◌||◌, inl, inr, if◌then◌else◌, List, [], ◌∷◌, length, is_some, arith, lt-ltb, NodeKey, same_key, times, In, either_way, Node, Unit, is_live_node, lives_in, unit_at, waits_in, bit, is_unready, tallied, and-false, and-true, or-true, raised}
+use Rattle.forest_store.proofs.Common.{Option, Some, None, some-injective, ◌≡◌, ℕ, ◌+◌, ◌<◌, ◌≤◌, nat_lt, refl, ap, ◌∙◌, Bool, true, false, not, ◌&&◌, ◌||◌, if◌then◌else◌, List, [], ◌∷◌, length, is_some, arith, lt-ltb, NodeKey, same_key, times, In, Node, Unit, is_live_node, lives_in, unit_at, waits_in, bit, is_unready, tallied, and-false, and-true, or-true, raised}
 use Rattle.forest_store.specs.Counts.{with_node}
 use Rattle.forest_store.proofs.tallies.Amounts.{bit_few, times_more}
 use Rattle.forest_store.proofs.tallies.InTurn.{Changes, in_turn, is_above, own_slot, put_at}
@@ -47,10 +47,7 @@ own_unit n = if n.gone then None else Some n.head
 
 -- only a node that is not gone has one, its own
 pub own_is : (n : Node) (h : NodeKey) → own_unit n ≡ Some h → (n.gone ≡ false) × (n.head ≡ h)
-own_is n h is = elim (either_way n.gone) [
-  | inl e ↦ absurd (let no = rw e at is in cc)
-  | inr e ↦ (e, some-injective n.head h (rw e at is))
-]
+own_is n h is = grind (arith, some-injective)
 
 -- a node counts for its own unit, and no other
 pub counts_own : (k : NodeKey) (n : Node) → (bit (lives_in k n) ≡ (if is_above k (own_unit n) then bit (is_live_node n) else 0)) ×

@@ -65,9 +65,7 @@ reserved_map f same ns = reserved_is _ ∙ amount_map camped f ns ∙ amount_sam
 pub reserved_changed : (f : Node → Node) (ns : List Node) (n : Node) → are_distinct ns ≡ true → In n ns →
     ((m : Node) → In m ns → same_key n.key m.key ≡ false → f m ≡ m) →
     reserved_count (map f ns) + camped n ≡ reserved_count ns + camped (f n)
-reserved_changed f ns n distinct on alone =
-    let c = amount_changed camped f ns n distinct on alone in
-    omega (arith, reserved_is (map f ns), reserved_is ns)
+reserved_changed f ns n distinct on alone = grind (arith, amount_changed, reserved_is)
 
 -- nodes that are gone are not missed
 pub reserved_filter : (p : Node → Bool) (ns : List Node) → ((n : Node) → In n ns → p n ≡ false → n.gone ≡ true) →

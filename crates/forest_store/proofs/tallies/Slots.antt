@@ -1,5 +1,5 @@
 -- The counts in the slots of keys: which stay where others change.
-use Rattle.forest_store.proofs.Common.{◌≡◌, ◌≢◌, ℕ, ◌+◌, ◌<◌, ◌==◌, nat_lt, refl, ap, sym, ◌∙◌, subst, Bool, true, false, ◌&&◌, ◌⊎◌, inl, inr, if◌then◌else◌, List, [], ◌∷◌, map, length, reverse, Option, Some, None, not, arith, eqb-false, eqb-true, AllByRecursion, list_all, list_any, option_map_or, Interval, NodeKey, same_key, times, In, In-find, In-list_any, In-map, In-map-back, and_left, both_ways, either_way, false_if, same_key-true, In-any, Table, node_at, Change, Node, Unit, AreUnits, lives_in, unit_at, waits_in, Collection, with_nodes, AreRising, IsStored, IsWhole, Shelf, are_filed, collection_in, is_filed, nodes_with, is_of, are_distinct, Handles, Settles, collection_or_new, put, are_rooted, unwrap_or, Mark, Called, Loss, Allocated, Ended, In-filter, In-filter-back, next_at, AreUnitsExcept, HasUnits, hangs_in, heads_below, unit_of, collection_at, tidied, without_over_in, Forces, Rests, changed, is_birth, is_root_of, made, filter, Forest}
+use Rattle.forest_store.proofs.Common.{◌≡◌, ◌≢◌, ℕ, ◌+◌, ◌<◌, ◌==◌, nat_lt, refl, ap, sym, ◌∙◌, Bool, true, false, ◌&&◌, ◌⊎◌, inl, inr, if◌then◌else◌, List, [], ◌∷◌, map, length, reverse, Option, Some, None, not, arith, eqb-false, eqb-true, AllByRecursion, list_all, list_any, option_map_or, Interval, NodeKey, same_key, times, In, In-find, In-list_any, In-map, In-map-back, and_left, both_ways, either_way, false_if, same_key-true, In-any, Table, node_at, Change, Node, Unit, AreUnits, lives_in, unit_at, waits_in, Collection, with_nodes, AreRising, IsStored, IsWhole, Shelf, are_filed, collection_in, is_filed, nodes_with, is_of, are_distinct, Handles, Settles, collection_or_new, put, are_rooted, unwrap_or, Mark, In-filter, In-filter-back, next_at, AreUnitsExcept, HasUnits, hangs_in, heads_below, unit_of, collection_at, tidied, without_over_in, Forces, Rests, changed, is_birth, made, filter, Forest}
 pub use Rattle.forest_store.proofs.tables.Hanging.{all_at}
 use Rattle.forest_store.proofs.Basics.{all_mapped, all_filter, all_weaker, looked-of, times_map, all_in, in_all, looked_gone, looked_there, below_mapped, all-In, distinct_one, left_node, left_parent, IsSameNode, times_same, times_filter}
 
@@ -7,10 +7,7 @@ use Rattle.forest_store.proofs.Basics.{all_mapped, all_filter, all_weaker, looke
 
 -- the node of a key is of its slot's last generation
 last_given : (t : Table Node) (key : NodeKey) (n : Node) → node_at t key ≡ Some n → next_at t key.slot ≡ key.generation + 1
-last_given t key n is = elim (either_way (next_at t key.slot == key.generation + 1)) [
-  | inl e ↦ eqb-true _ _ e
-  | inr e ↦ let none = rw e at is in absurd (cc)
-]
+last_given t key n is = grind (arith, eqb-true)
 
 -- such keys are told apart by their slots
 pub one_slot : (t : Table Node) (a b : NodeKey) (n m : Node) → node_at t a ≡ Some n → node_at t b ≡ Some m → a.slot ≡ b.slot → a ≡ b
@@ -58,9 +55,7 @@ module _ (t : Table Node) (named : (key : NodeKey) (n : Node) → node_at t key 
   -- so do those of all shelves but one
   pub but_stays : (ss : List Shelf) → are_filed t ss ≡ true → AreUnitsExcept us id (map (collection_in t) ss) →
       AreUnitsExcept new id (map (collection_in t) ss)
-  but_stays ss filed all = all_mapped _ _ ss (all_in _ ss (λ s on differ.
-      units_stay s.id differ s.keys (all-In (λ (x : Shelf). list_all (is_filed t x.id) x.keys) ss s on filed)
-      (all_at _ _ all _ (In-map-back (collection_in t) ss s on) differ)))
+  but_stays ss filed all = grind (arith, all_mapped, all_in, units_stay, all-In, all_at, In-map-back)
 
 -- where all have their counts, all but one have
 pub but_all : (us : List Unit) (id : ℕ) (cs : List Collection) → AreUnits us cs → AreUnitsExcept us id cs
@@ -69,10 +64,7 @@ but_all us id cs all = all_weaker _ _ cs (λ c has differ. has) all
 -- and with that one all have
 pub but_join : (us : List Unit) (id : ℕ) (cs : List Collection) → AreUnitsExcept us id cs → ((c : Collection) → In c cs → c.id ≡ id →
     HasUnits us c.nodes) → AreUnits us cs
-but_join us id cs but own = all_in _ cs (λ c on. elim (either_way (c.id == id)) [
-  | inl e ↦ own c on (eqb-true c.id id e)
-  | inr e ↦ all_at _ cs but c on (eqb-false c.id id e)
-])
+but_join us id cs but own = grind (arith, all_in, eqb-true, all_at, eqb-false)
 
 -- where the one has its counts and those of the others stay
 pub units_own : (t : Table Node) (ss : List Shelf) → IsStored t ss → (id : ℕ) (us new : List Unit) → Stays t id us new →
@@ -88,9 +80,7 @@ units_own t ss kept id us new stays but s on own has =
 pub but_moved : (t now : Table Node) (us : List Unit) (id : ℕ) (ss : List Shelf) → ((s : Shelf) → In s ss → s.id ≢ id →
     collection_in now s ≡ collection_in t s) →
     AreUnitsExcept us id (map (collection_in t) ss) → AreUnitsExcept us id (map (collection_in now) ss)
-but_moved t now us id ss same but = all_mapped _ _ ss (all_in _ ss (λ s on differ.
-    subst (λ (c : Collection). HasUnits us c.nodes) (sym (same s on differ))
-    (all_at _ _ but _ (In-map-back (collection_in t) ss s on) differ)))
+but_moved t now us id ss same but = grind (arith, all_mapped, all_in, all_at, In-map-back)
 
 -- where the one is put among them
 pub but_put : (us : List Unit) (c : Collection) (cs : List Collection) → AreUnits us cs → AreUnitsExcept us c.id (put c cs)
@@ -99,21 +89,13 @@ but_put us c (d ∷ ds) all = from _ (nat_lt c.id d.id) (but_put us c ds all.1)
   where
     from : (here above : Bool) → AreUnitsExcept us c.id (put c ds) →
         AreUnitsExcept us c.id (if here then c ∷ ds else (if above then c ∷ d ∷ ds else d ∷ put c ds))
-    from true above on = (λ differ. absurd (differ refl), but_all _ c.id _ all.1)
-    from false true on = (λ differ. absurd (differ refl), (λ differ. all.0, but_all _ c.id _ all.1))
-    from false false on = (λ differ. all.0, on)
+    from here above on = grind (arith, but_all)
 
 -- ---- collections that were settled
 
 -- by cases on the mark: none changes the id
 pub made_id : (pool : ℕ) (others : List Interval) (mark : Mark) (c : Collection) → (made pool others mark c).id ≡ c.id
-made_id pool others (Called client reply call) c = refl
-made_id pool others (Loss origin cause) c = refl
-made_id pool others (Allocated head) c = elim (either_way (is_root_of c head)) [
-  | inl e ↦ rw e refl
-  | inr e ↦ rw e refl
-]
-made_id pool others (Ended top) c = refl
+made_id pool others mark c = grind arith
 
 -- no forced step makes a collection another
 pub settles_id : (pool : ℕ) (handles : Handles) (others : List Interval) (c after : Collection) → Settles pool handles others c after →
@@ -124,10 +106,7 @@ settles_id pool handles others _ _ (Forces c after mark forces settles) =
 
 -- nor a change
 pub changed_id : (change : Change) (key : NodeKey) (c : Collection) → is_birth change ≡ false → (changed change key c).id ≡ c.id
-changed_id (Change.Birth parent attached client event) key c h = cc
-changed_id (Change.Effect on effect) key c h = refl
-changed_id (Change.Loss origin cause) key c h = refl
-changed_id Change.Nothing key c h = refl
+changed_id change key c h = grind arith
 
 -- the collection with an id has it, or is new with it
 pub or_new_id : (f : Forest) (id : ℕ) → (collection_or_new f id).id ≡ id
@@ -194,9 +173,7 @@ below_filter p nodes distinct rooted over k =
     ap (λ (b : Bool). not b && (n.attached && hangs_in nodes k n)) (over n on out))
   where
     one : (n : Node) → In n nodes → (n.gone ≡ true) ⊎ (n.gone ≡ false) → heads_below (filter p nodes) k n ≡ heads_below nodes k n
-    one n on (inl e) = (λ i. not (e i) && (n.attached && hangs_in (filter p nodes) k n))
-        ∙ sym (λ i. not (e i) && (n.attached && hangs_in nodes k n))
-    one n on (inr e) = λ i. not n.gone && (n.attached && hangs_filter p nodes distinct rooted over k n on e i)
+    one n on gone = grind (arith, hangs_filter)
 
 -- the units that are left have the counts that they had
 pub units_filter : (us : List Unit) (p : Node → Bool) (nodes : List Node) → are_distinct nodes ≡ true →
@@ -251,9 +228,7 @@ units_over us id (c ∷ cs) formed all = from _ _ (units_over us id cs formed.1 
 
     from : (here bare : Bool) → AreUnits us (without_over_in id cs) →
         AreUnits us (if here then (if bare then cs else tidied c ∷ cs) else c ∷ without_over_in id cs)
-    from true true on = all.1
-    from true false on = (garbage_known, all.1)
-    from false bare on = (all.0, on)
+    from here bare on = grind (arith, garbage_known)
 
 -- and where collections are
 pub units_some : (us : List Unit) (p : Collection → Bool) (cs : List Collection) → AreUnits us cs → AreUnits us (filter p cs)
