@@ -30,8 +30,7 @@ recounted t e new = counted_as
 pub moved_all : (t now : Table Node) (es : List Entry) → are_filed t (shelves_of es) ≡ true →
     ((e : Entry) → list_all (is_filed t e.id) e.keys.items ≡ true → collection_in now (shelf_of e) ≡ collection_in t (shelf_of e)) →
     AreCounted t es → AreCounted now es
-moved_all t now es filed same all = all_in _ es (λ e on.
-    moved t now e (same e (all-In (λ (s : Shelf). list_all (is_filed t s.id) s.keys) _ _ (In-map-back shelf_of es e on) filed)) (all_at _ es all e on))
+moved_all t now es filed same all = grind (arith, all_in, moved, all-In, In-map-back, all_at)
 
 -- where all are counted, all but one are
 pub counted_but : (t : Table Node) (id : ℕ) (es : List Entry) → AreCounted t es → AreCountedExcept t id es
