@@ -37,7 +37,7 @@ decided_parts nodes _ strong_open h =
       no_head = n.3;
     }
 
--- a root is not abandoned where a strong node lives, or a strong handle is open, so nothing is decided there
+-- with a strong node, or a strong handle open, no root is abandoned, so nothing is decided
 pub none_decided : (nodes : List Node) (buffers : Option Buffers) (strong_open : Bool) → (has_strong nodes || strong_open) ≡ true →
     AreNone nodes buffers → decided nodes buffers strong_open ≡ None
 none_decided nodes buffers strong_open some none = grind arith

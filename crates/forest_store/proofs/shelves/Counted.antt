@@ -4,7 +4,7 @@ use Rattle.forest_store.specs.declared.node.End.{End}
 use Rattle.forest_store.proofs.leaving.Thinning.{none-filter}
 use Rattle.forest_store.proofs.Basics.{none_cases, place_cases, In-made, all_at, all_in, each_none, made-found, none_each, above-weaker, all_weaker, looked-of, IsPlain, calm_filter, calm_map, strong_filter, times_map, in_all, looked_there, looked-map, fewer_over, more_noted, not_over_but, noted_not, cases_place, filed-length, all-In, reserved_filter, reserved_map}
 
--- what is told of the collection of an entry is told of an entry of which a table shows the same with the same counts
+-- an entry that shows the same as another, with the same counts, is counted as that one is
 pub counted_as : {t now : Table Node} {e new : Entry} → collection_in now (shelf_of new) ≡ collection_in t (shelf_of e) →
     new.strong ≡ e.strong → new.reserved ≡ e.reserved →
     (new.garbage_known ≡ true → list_any (over_except new.garbage.items) (nodes_with t e.keys.items) ≡ false) → IsCounted t e → IsCounted now new
