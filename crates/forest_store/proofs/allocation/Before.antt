@@ -1,5 +1,5 @@
 -- A unit that is to be allocated, as the table tells before it is.
-use Rattle.forest_store.proofs.Common.{some-injective, In-any, ◌≡◌, refl, ap, sym, ◌∙◌, subst, Bool, true, false, not, ◌&&◌, ◌||◌, ◌==◌, inl, inr, is_none, List, Option, Some, None, eq-eqb, not-true, find, list_all, list_any, option_map_or, NodeKey, same_key, In, In-list_any, and_both, and_left, and_right, both_ways, either_way, same_key-refl, same_key-true, Table, node_at, parent_at, Node, Unit, unit_at, waits_in, Collection, IsStored, IsWhole, Shelf, collection_in, nodes_with, is_of, is_ready_node, times-zero, HasUnits, has_buffers, IsSound, is_root_of, arith}
+use Rattle.forest_store.proofs.Common.{some-injective, In-any, ◌≡◌, refl, ap, sym, ◌∙◌, subst, Bool, true, false, not, ◌&&◌, ◌||◌, ◌==◌, inl, inr, is_none, List, Option, Some, None, eq-eqb, not-true, find, list_all, list_any, option_map_or, NodeKey, same_key, In, In-list_any, and_both, and_left, and_right, both_ways, either_way, same_key-refl, same_key-true, Table, node_at, parent_at, Node, Unit, unit_at, Collection, IsStored, IsWhole, Shelf, collection_in, nodes_with, is_of, is_ready_node, times-zero, HasUnits, has_buffers, IsSound, is_root_of, arith}
 use Rattle.forest_store.specs.UnitAllocation.{hangs_below, has_turn_at, is_left_out, is_of_some, is_waiting_head, left_out_at}
 use Rattle.forest_store.proofs.Basics.{In-made, all-In, found_by_key, found_whole, hangs_in_some, in_all, looked_there, left_node, left_parent, head_there}
 
@@ -77,8 +77,7 @@ module _ (t : Table Node) (ss : List Shelf) (kept : IsStored t ss) (s : Shelf) (
   -- a unit that is ready waits for none
   waits_for_none : (us : List Unit) → HasUnits us nodes → (m : Node) → In m nodes → list_all (is_ready_node m.key) nodes ≡ true →
       (unit_at us m.key.slot).unready ≡ 0
-  waits_for_none us counts m on ready = ap (λ (u : Unit). u.unready) (in_all _ _ counts m on).1
-      ∙ times-zero (waits_in m.key) nodes (λ x there. ap not (all-In _ _ x there ready))
+  waits_for_none us counts m on ready = grind (arith, in_all, times-zero, all-In)
 
   -- the head has its turn by the table, and stands in the collection as the table has it
   pub due_head : has_turn_at t k ≡ true → (n : Node) → In n nodes → n.gone ≡ false → n.head ≡ k → IsDueHead t nodes k

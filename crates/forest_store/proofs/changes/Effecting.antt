@@ -1,5 +1,5 @@
 -- An effect that is made in its place, and what the count of strong live nodes becomes.
-use Rattle.forest_store.proofs.Common.{◌≡◌, ◌≢◌, ℕ, ◌+◌, ◌==◌, Bool, true, false, not, if◌then◌else◌, is_some, ◌<◌, ◌⊎◌, inl, inr, List, map, length, set, Option, Some, option_map, refl, sym, ap, subst, ◌∙◌, arith, eqb-true, lt-ltb, not-true, list_all, NodeKey, Cause, same_key, times, In, In-find, In-map, In-map-back, and_both, and_left, and_right, both_ways, either_way, same_key-refl, same_key-true, Table, node_at, Change, Effect, Node, Unit, strong_count, AreUnits, lives_in, unit_at, waits_in, Collection, IsStored, IsWhole, Shelf, collection_in, is_filed, nodes_with, affected, is_over, is_live_node, is_head, get_or-set_other, get_or-set_same, length-set, and-false, or_none_right, Writes, table_with_node, HasUnit, HasUnits, heads_below, is_unready, no_unit, unit_of, bit, is_strong, decrement_if, MayAffect, is_plain}
+use Rattle.forest_store.proofs.Common.{◌≡◌, ◌≢◌, ℕ, ◌+◌, ◌==◌, Bool, true, false, if◌then◌else◌, is_some, ◌<◌, ◌⊎◌, inl, inr, List, map, length, set, Option, Some, option_map, refl, sym, ap, subst, ◌∙◌, arith, eqb-true, lt-ltb, list_all, NodeKey, Cause, same_key, times, In, In-find, In-map, In-map-back, and_both, both_ways, either_way, same_key-refl, same_key-true, Table, node_at, Change, Effect, Node, Unit, strong_count, AreUnits, lives_in, unit_at, waits_in, Collection, IsStored, IsWhole, Shelf, collection_in, is_filed, nodes_with, affected, is_over, is_live_node, is_head, get_or-set_other, get_or-set_same, length-set, and-false, or_none_right, Writes, table_with_node, HasUnit, HasUnits, heads_below, is_unready, no_unit, unit_of, bit, is_strong, decrement_if, MayAffect, is_plain}
 use Rattle.forest_store.proofs.tables.LeftParents.{loss_left}
 use Rattle.forest_store.proofs.tallies.Slots.{Stays, all_at, but_all, but_join, but_moved, but_stays, one_shelf, one_slot}
 use Rattle.forest_store.proofs.Basics.{together_effect, times_changed, found_filed, found_whole, looked-of, same_affected, IsPlain, collection-beside, all_in, in_all, looked_there, head_there, below_mapped, looked-map, lives_other, lives_own, waits_other, waits_own, IsLeft, left_node, node_is, all-In, Stores-more, Stores-none, IsSameNode, kept-map, look-changed, parents-written}
@@ -60,8 +60,7 @@ live_before key effect n h = grind (arith, remains_affected)
 
 -- a node that is strong after the effect was strong before, since effects only take this away
 pub strong_before : (key : NodeKey) (effect : Effect) (n : Node) → is_strong (affected key effect n) ≡ true → is_strong n ≡ true
-strong_before key effect n h = and_both _ _ (live_before key effect n (and_left _ _ h))
-    (ap not ((remains_affected key effect n).weak (not-true _ (and_right _ _ h))))
+strong_before key effect n h = grind arith
 
 -- a node that is waited for after the effect was waited for before, since effects only end that
 pub unready_before : (key : NodeKey) (effect : Effect) (n : Node) → is_unready (affected key effect n) ≡ true → is_unready n ≡ true

@@ -16,16 +16,6 @@ pub gone_same : (going : Going) (n : Node) → IsSameNode (gone_by going n) n
 gone_same (Going.Fails fault) n = record { key = refl; parent = refl; attached = refl; collection = refl; head = refl }
 gone_same Going.Leaves n = record { key = refl; parent = refl; attached = refl; collection = refl; head = refl }
 
--- it sets the mark
-pub gone_is : (going : Going) (n : Node) → (gone_by going n).gone ≡ true
-gone_is (Going.Fails fault) n = refl
-gone_is Going.Leaves n = refl
-
--- it does not touch the allocation
-gone_given : (going : Going) (n : Node) → (gone_by going n).allocated ≡ n.allocated
-gone_given (Going.Fails fault) n = refl
-gone_given Going.Leaves n = refl
-
 -- the nodes with these keys go
 abbrev pub goes_of : Going → List NodeKey → Node → Node
 goes_of going keys n = if list_any (same_key n.key) keys then gone_by going n else n
@@ -48,11 +38,11 @@ same_of going keys n = elim (list_any (same_key n.key) keys) as (λ (b : Bool). 
 
 -- either it goes, which keeps the allocation, or it stays
 pub given_of : (going : Going) (keys : List NodeKey) (n : Node) → (goes_of going keys n).allocated ≡ n.allocated
-given_of going keys n = grind (arith, gone_given)
+given_of going keys n = grind arith
 
 -- either it goes now, or it is as before
 pub gone_of : (going : Going) (keys : List NodeKey) (n : Node) → (goes_of going keys n).gone ≡ (list_any (same_key n.key) keys || n.gone)
-gone_of going keys n = grind (arith, gone_is)
+gone_of going keys n = grind arith
 
 -- ---- what is counted of nodes that go
 
@@ -106,11 +96,6 @@ module _ (t : Table Node) (named : (key : NodeKey) (n : Node) → node_at t key 
     where
       x_key : x.key ≡ n.key
       x_key = grind arith
-
-      -- once gone, it stays
-      both_go : (b : Bool) → (if b then gone_by going n else gone_by going n) ≡ gone_by going n
-      both_go true = refl
-      both_go false = refl
 
       by : ((y : Node) → (y ≡ n) ⊎ (y ≡ gone_by going n) →
           stored (map (gone_by going) (nodes_with t ks)) y ≡ (if list_any (same_key n.key) ks then gone_by going n else y)) →

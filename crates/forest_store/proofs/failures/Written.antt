@@ -47,8 +47,7 @@ module _ (t : Table Node) (named : (key : NodeKey) (n : Node) → node_at t key 
   went_more now none becomes writes = rw with_more (by _ refl)
     where
       by : (o : Option Node) → node_at t k ≡ o → Stores t now (map (gone_by going) (nodes_with t done ++ cons_option o []))
-      by None at =
-          rw (append-nil (nodes_with t done)) (subst (λ (x : Table Node). Stores t x went) (sym (none (still_there ∙ at))) stores)
+      by None at = grind (arith, append-nil)
       by (Some n) at =
           let is : node_at u k ≡ Some n = still_there ∙ at in
           let key : k ≡ (gone_by going n).key = sym ((gone_same going n).key ∙ named k n at) in

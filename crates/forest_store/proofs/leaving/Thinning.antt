@@ -1,5 +1,5 @@
 -- What stays true of a forest where a node was taken out, and its key is dropped.
-use Rattle.forest_store.proofs.Common.{In-any, In-filter, In-filter-back, In-list_any, all_on, both_ways, filter-In, ◌≡◌, ℕ, ◌+◌, ◌==◌, Bool, true, false, not, List, [], ◌∷◌, ◌++◌, map, length, drop, Option, Some, None, is_some, cond, refl, sym, ap, subst, ◌∙◌, inl, inr, arith, list_any, list_all, filter, AllByRecursion, option_map_or, false≢true, not-true, NodeKey, same_key, In, and_both, and_left, and_right, either_way, same_key-true, Table, node_at, parent_at, Node, Collection, with_nodes, Shelf, AreRising, IsStored, IsWhole, all_keys, are_filed, collection_in, is_filed, nodes_with, is_of, are_distinct, heads_itself, filter-append, filter-list_all, list_all-filter, table_len, same_key-equal, TakesOut, is_found, thinned, are_apart, IsSound, filter-all, filter-less, list_all-append}
+use Rattle.forest_store.proofs.Common.{In-any, In-filter, In-filter-back, In-list_any, all_on, both_ways, filter-In, ◌≡◌, ℕ, ◌+◌, ◌==◌, Bool, true, false, not, List, [], ◌∷◌, map, length, drop, Option, Some, None, is_some, cond, refl, sym, ap, subst, ◌∙◌, inl, inr, arith, list_any, list_all, filter, AllByRecursion, option_map_or, false≢true, not-true, NodeKey, same_key, In, and_both, and_left, and_right, either_way, same_key-true, Table, node_at, parent_at, Node, Collection, with_nodes, Shelf, AreRising, IsStored, IsWhole, all_keys, are_filed, collection_in, is_filed, nodes_with, is_of, are_distinct, heads_itself, filter-append, filter-list_all, list_all-filter, table_len, same_key-equal, TakesOut, is_found, thinned, are_apart, IsSound, filter-all, filter-less, list_all-append}
 use Rattle.forest_store.proofs.tables.LeftParents.{childless}
 use Rattle.forest_store.proofs.Basics.{all_weaker, all-In, all_mapped, each_none, made-found, map-same, none_each, looked_gone, rooted_filter, kin_kept, looked-without, whole_rooted, same_first, together_filter, united_filter, place-filed}
 
@@ -100,8 +100,7 @@ thinned-rising t (s ∷ ss) rising = (all_mapped _ _ ss rising.0, thinned-rising
 -- the keys are those that the table has
 pub thinned-keys : (t : Table Node) (ss : List Shelf) → all_keys (map (thinned t) ss) ≡ filter (is_found t) (all_keys ss)
 thinned-keys t [] = refl
-thinned-keys t (s ∷ ss) =
-    ap (λ ks. filter (is_found t) s.keys ++ ks) (thinned-keys t ss) ∙ sym (filter-append _ s.keys _)
+thinned-keys t (s ∷ ss) = grind (arith, thinned-keys t ss, filter-append)
 
 -- so have all
 pub filed_all : (t : Table Node) (id : ℕ) (ks : List NodeKey) → list_all (is_filed t id) ks ≡ true → list_all (is_found t) ks ≡ true
@@ -113,8 +112,7 @@ thinned-same t s filed = λ i. record s { keys = filter-list_all (is_found t) s.
 
 -- so have all shelves
 pub all_thinned-same : (t : Table Node) (ss : List Shelf) → are_filed t ss ≡ true → map (thinned t) ss ≡ ss
-all_thinned-same t ss filed = map-same _ ss (λ s on.
-    thinned-same t s (all-In (λ (s : Shelf). list_all (is_filed t s.id) s.keys) ss s on filed))
+all_thinned-same t ss filed = grind (arith, map-same, thinned-same, all-In)
 
 -- what is kept by a table, and by one that has fewer nodes
 pub thinned-twice : (t now : Table Node) → ((k : NodeKey) → is_found now k ≡ true → is_found t k ≡ true) → (ss : List Shelf) →

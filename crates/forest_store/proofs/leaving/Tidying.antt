@@ -1,5 +1,5 @@
 -- A collection without its dead nodes, and collections without the empty ones.
-use Rattle.forest_store.proofs.Common.{false_if, In-list_any, all_on, map-In, ◌≡◌, ℕ, suc, ◌==◌, ◌<◌, Bool, true, false, ◌&&◌, not, List, [], ◌∷◌, map, length, Option, Some, None, is_some, cond, refl, sym, ap, ◌∙◌, inl, inr, arith, find, list_any, list_all, filter, cons_option, AllByRecursion, option_map_or, false≢true, eqb-true, eqb-false, eq-eqb, NodeKey, same_key, and_left, and_right, or_left, or_right, same_key-true, Table, node_at, Node, Shelf, AreRising, IsStored, all_keys, are_filed, collection_in, is_filed, nodes_with, is_over, ne_eqb, filter-list_all, list_all-filter, same_key-equal, is_left, tidied, without_over_in, is_bare, is_found, left_at, thin_in, thinned, unless_over, without_bare, are_apart, either_way, filter-all, none-find}
+use Rattle.forest_store.proofs.Common.{false_if, In-list_any, all_on, map-In, ◌≡◌, ℕ, suc, ◌==◌, ◌<◌, Bool, true, false, ◌&&◌, not, List, [], ◌∷◌, map, length, Option, Some, None, is_some, cond, refl, sym, ap, ◌∙◌, inl, inr, arith, find, list_any, list_all, filter, cons_option, AllByRecursion, option_map_or, false≢true, eqb-true, eqb-false, eq-eqb, NodeKey, same_key, and_right, or_left, or_right, same_key-true, Table, node_at, Node, Shelf, AreRising, IsStored, all_keys, are_filed, collection_in, is_filed, nodes_with, is_over, ne_eqb, filter-list_all, list_all-filter, same_key-equal, is_left, tidied, without_over_in, is_bare, is_found, left_at, thin_in, thinned, unless_over, without_bare, are_apart, either_way, filter-all, none-find}
 use Rattle.forest_store.proofs.leaving.Thinning.{filed_all}
 use Rattle.forest_store.proofs.Basics.{all-In, all_at, all_filter, all_in, all_weaker, made-In, map-same, none_each}
 
@@ -87,8 +87,7 @@ bare_left t s = ap (λ n. (n == 0) && (length s.held == 0)) (sym (found-length t
 -- ids above another are others
 pub above_other : (id low : ℕ) (ss : List Shelf) → AllByRecursion (λ (later : Shelf). low < later.id) ss → (low == id) ≡ true →
     AllByRecursion (λ (x : Shelf). (x.id == id) ≡ false) ss
-above_other id low ss all same = all_weaker _ _ ss (λ s less.
-    ne_eqb s.id id (λ equal. let own = eqb-true low id same in omega (arith, less, own, equal))) all
+above_other id low ss all same = grind (arith, all_weaker, ne_eqb, eqb-true)
 
 -- shelves of other ids stay
 pub bare_others : (id : ℕ) (ss : List Shelf) → AllByRecursion (λ (x : Shelf). (x.id == id) ≡ false) ss → without_bare id ss ≡ ss
@@ -115,8 +114,7 @@ module _ (t now : Table Node) (s : Shelf) (filed : list_all (is_filed t s.id) s.
   -- other collections stay
   others_same : (ss : List Shelf) → are_filed t ss ≡ true → AllByRecursion (λ (x : Shelf). (x.id == s.id) ≡ false) ss →
       map (collection_in now) ss ≡ map (collection_in t) ss
-  others_same ss all others = map-In _ _ ss (λ x on.
-      other_same t now s filed look x (all_at _ _ others x on) (all-In (λ (x : Shelf). list_all (is_filed t x.id) x.keys) ss x on all))
+  others_same ss all others = grind (arith, map-In, other_same, all_at, all-In)
 
   -- the found one, with all behind it
   tidied_here : (ss : List Shelf) → are_filed t ss ≡ true → AllByRecursion (λ (x : Shelf). (x.id == s.id) ≡ false) ss → (b : Bool) →
@@ -149,8 +147,7 @@ module _ (t now : Table Node) (s : Shelf) (filed : list_all (is_filed t s.id) s.
           let own : (s.id == s.id) ≡ true = eq-eqb s.id s.id refl in
           rw (one, own, own, thin_others now s.id xs others, bare_others s.id xs others)
           (tidied_here xs (and_right _ _ all) others (is_bare (thinned now s)) refl)
-      by on false other is = rw (other, other)
-          (λ i. other_same t now s filed look x other (and_left _ _ all) i ∷ on is i)
+      by on false other is = grind (arith, other_same)
 
   -- the shelves of others have only keys that the table has, so thinning one shelf thins all
   pub thinned_all : (ss : List Shelf) → are_filed t ss ≡ true → thin_in now s.id ss ≡ map (thinned now) ss
@@ -179,8 +176,7 @@ bare-keys id (s ∷ ss) = grind (arith, bare-keys id ss, no_keys)
 
 -- they are filed still
 bare-filed : (t : Table Node) (id : ℕ) (ss : List Shelf) → are_filed t ss ≡ true → are_filed t (without_bare id ss) ≡ true
-bare-filed t id ss filed =
-    list_all-filter (λ (s : Shelf). list_all (is_filed t s.id) s.keys) (λ (s : Shelf). not (s.id == id && is_bare s)) ss filed
+bare-filed t id ss filed = grind (arith, list_all-filter)
 
 -- all that holds of forests holds without a bare collection
 pub bare-kept : (t : Table Node) (id : ℕ) (ss : List Shelf) → IsStored t ss → IsStored t (without_bare id ss)

@@ -5,10 +5,6 @@ use Rattle.forest_store.proofs.Common.{◌≡◌, Bool, ◌&&◌, ◌||◌, not,
 pub and_again_behind : (a r b : Bool) → (a && (r && (a && b))) ≡ (r && (a && b))
 and_again_behind a r b = grind arith
 
--- the same as the last
-pub and_again_last : (a r : Bool) → (a && (r && a)) ≡ (r && a)
-and_again_last a r = grind arith
-
 -- the same in front of a pair
 pub and_again_pair : (a b c : Bool) → (a && ((a && b) && c)) ≡ ((a && b) && c)
 and_again_pair a b c = grind arith

@@ -1,5 +1,5 @@
 -- What holds of the elements of a list, and what is found, kept or made of them.
-use Rattle.forest_store.proofs.Common.{◌&&◌, ◌+◌, either_way, find, list_all, list_any-map, option_map, times, ◌≡◌, refl, ap, sym, ◌∙◌, subst, Bool, true, false, inl, inr, List, [], ◌∷◌, map, Option, Some, None, is_some, cond, AllByRecursion, cons_option, filter, filter_map, list_any, In, In-any, In-filter, In-list_any, both_ways, false_if, arith}
+use Rattle.forest_store.proofs.Common.{◌&&◌, ◌+◌, find, list_all, list_any-map, option_map, times, ◌≡◌, refl, ap, sym, ◌∙◌, subst, Bool, true, false, inl, inr, List, [], ◌∷◌, map, Option, Some, None, is_some, cond, AllByRecursion, cons_option, filter, filter_map, list_any, In, In-any, In-filter, In-list_any, both_ways, false_if, arith}
 
 -- ---- all
 
@@ -94,8 +94,7 @@ all_map p q f (x ∷ xs) same = λ i. same x i && all_map p q f xs same i
 pub find_made : {A B : Type 0} (p : B → Bool) (q : A → Bool) (f : A → B) (xs : List A) → ((x : A) → p (f x) ≡ q x) →
     find p (map f xs) ≡ option_map f (find q xs)
 find_made p q f [] same = refl
-find_made p q f (x ∷ xs) same =
-    elim (either_way (q x)) [ inl e ↦ rw (same x, e) refl | inr e ↦ rw (same x, e) (find_made p q f xs same) ]
+find_made p q f (x ∷ xs) same = grind (arith, find_made p q f xs same)
 
 -- so where the map stays within one type
 pub find_map : {A : Type 0} (p q : A → Bool) (f : A → A) (xs : List A) → ((x : A) → p (f x) ≡ q x) →

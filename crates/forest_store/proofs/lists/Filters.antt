@@ -1,5 +1,5 @@
 -- Tests over lists that were filtered and mapped.
-use Rattle.forest_store.proofs.Common.{ℕ, ◌≡◌, nat_lt, refl, ap, sym, ◌∙◌, Bool, not, ◌&&◌, ◌||◌, if◌then◌else◌, List, [], ◌∷◌, map, Option, None, arith, list_any, list_all, find, filter, lt-ltb, max, filter_map, fold, ltb-true, or_false, option_map, or_assoc, both_tests}
+use Rattle.forest_store.proofs.Common.{ℕ, ◌≡◌, nat_lt, refl, ap, sym, ◌∙◌, Bool, not, ◌&&◌, ◌||◌, if◌then◌else◌, List, [], ◌∷◌, map, Option, None, arith, list_any, list_all, find, filter, max, filter_map, fold, or_false, option_map, or_assoc}
 use Rattle.sm_names.proofs.BitLaws.{none_below}
 use Rattle.forest_store.proofs.lists.Elements.{map-same}
 
@@ -36,10 +36,6 @@ pub made-filter_map : {A B C : Type 0} (asked : A → Bool) (f : A → B) (again
     ≡ filter_map (λ x. if asked x && again (f x) then h (f x) else None) xs
 made-filter_map asked f again h [] = refl
 made-filter_map asked f again h (x ∷ xs) = grind (arith, made-filter_map asked f again h xs)
-
--- a number is below the greater of two, if it is below one of them
-below_max : (n a b : ℕ) → nat_lt n (max a b) ≡ (nat_lt n a || nat_lt n b)
-below_max n a b = grind (arith, both_tests, ltb-true, lt-ltb)
 
 -- some number is above this one exactly if the greatest is
 above_from : {A : Type 0} (f : A → ℕ) (n start : ℕ) (xs : List A) →

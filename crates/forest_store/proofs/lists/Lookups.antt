@@ -29,8 +29,7 @@ node_of-first look knows key k ns there o is b same on = grind (arith, common_st
 pub node_of-looked : (look : Look) → Knows look → (keys : List NodeKey) (key : NodeKey) →
     node_of (filter_map look keys) key ≡ (if list_any (same_key key) keys then look key else None)
 node_of-looked look knows [] key = refl
-node_of-looked look knows (k ∷ ks) key = node_of-first _ knows _ k _ _ _ refl _ refl
-    (node_of-looked look knows ks key)
+node_of-looked look knows (k ∷ ks) key = grind (arith, node_of-looked look knows ks key, node_of-first)
 
 -- what is found where each node is as f makes it
 pub looked-map : (f : Node → Node) (look now : Look) → ((key : NodeKey) → now key ≡ option_map f (look key)) → (keys : List NodeKey) →
@@ -38,18 +37,11 @@ pub looked-map : (f : Node → Node) (look now : Look) → ((key : NodeKey) → 
 looked-map f look now each [] = refl
 looked-map f look now each (k ∷ ks) = grind (arith, looked-map f look now each ks)
 
--- the first key, where one is found no more
-looked-without-first : (look now : Look) → Knows look → (key k : NodeKey) (ns : List Node) (o : Option Node) → look k ≡ o → (same : Bool) →
-    same_key key k ≡ same → cons_option (cond same None o) (filter (λ n. not (is_of key n)) ns) ≡ filter (λ n.
-    not (is_of key n)) (cons_option o ns)
-looked-without-first look now knows key k ns o is b same = grind (arith, common_steps, same_key-equal, same_key-true, same_key-swap)
-
 -- what is found where this key is found no more
 pub looked-without : (key : NodeKey) (look now : Look) → Knows look → ((k : NodeKey) → now k ≡ (if same_key key k then None else look k)) →
     (keys : List NodeKey) → filter_map now keys ≡ filter (λ n. not (is_of key n)) (filter_map look keys)
 looked-without key look now knows each [] = refl
-looked-without key look now knows each (k ∷ ks) = rw (each k, looked-without key look now knows each ks)
-    (looked-without-first _ now knows _ k _ _ refl _ refl)
+looked-without key look now knows each (k ∷ ks) = grind (arith, looked-without key look now knows each ks)
 
 -- keys that find nothing can be left out
 pub looked-kept : (key : NodeKey) (now : Look) → now key ≡ None → (keys : List NodeKey) →

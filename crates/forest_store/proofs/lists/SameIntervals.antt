@@ -45,31 +45,7 @@ less_of a b differ le = elim (cases_lt b a) [ inl less ↦ less | inr more ↦ a
 pub insert-swap : (x y : Interval) (zs : List Interval) → x.start ≢ y.start →
     insert_by start_of x (insert_by start_of y zs) ≡ insert_by start_of y (insert_by start_of x zs)
 insert-swap x y [] differ = grind (arith, cases_lt, lt-ltb, le-ltb)
-insert-swap x y (z ∷ zs) differ = elim (cases_lt z.start x.start) [
-  | inl zx ↦ elim (cases_lt z.start y.start) [
-    | inl zy ↦ rw (lt-ltb z.start x.start zx, lt-ltb z.start y.start zy, lt-ltb z.start x.start zx) (ap (λ l.
-        z ∷ l) (insert-swap x y zs differ))
-    | inr yz ↦
-        let yx : y.start < x.start = omega arith in
-        rw (lt-ltb z.start x.start zx, le-ltb z.start y.start yz, lt-ltb y.start x.start yx, lt-ltb z.start x.start zx) refl
-  ]
-  | inr xz ↦ elim (cases_lt z.start y.start) [
-    | inl zy ↦
-        let xy : x.start < y.start = omega arith in
-        rw (le-ltb z.start x.start xz, lt-ltb z.start y.start zy, lt-ltb x.start y.start xy, le-ltb z.start x.start xz) refl
-    | inr yz ↦ elim (cases_lt x.start y.start) [
-      | inl xy ↦ rw (le-ltb z.start x.start xz, le-ltb z.start y.start yz, le-ltb y.start x.start (omega arith), lt-ltb x.start y.start xy)
-          refl
-      | inr yx ↦ rw (
-        le-ltb z.start x.start xz,
-        le-ltb z.start y.start yz,
-        lt-ltb y.start x.start (less_of x.start y.start differ yx),
-        le-ltb x.start y.start yx,
-        le-ltb z.start x.start xz,
-      ) refl
-    ]
-  ]
-]
+insert-swap x y (z ∷ zs) differ = grind (arith, insert-swap x y zs differ, cases_lt, lt-ltb, le-ltb)
 
 -- the first begins elsewhere than the second
 parts_first : (x y : Interval) (zs : List Interval) → starts_differ (x ∷ y ∷ zs) ≡ true → x.start ≢ y.start

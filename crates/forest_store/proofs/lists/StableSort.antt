@@ -57,29 +57,22 @@ module _ {A : Type 0} (number : A → ℕ) where
   rises_sorted [] = tt
   rises_sorted (x ∷ xs) = rises_insert x _ (rises_sorted xs)
 
-  -- of two with other numbers at most one has this number
-  filter_swap : (z x y : A) (xs : List A) → number y < number x →
-      filter (beside z) (y ∷ x ∷ xs) ≡ filter (beside z) (x ∷ y ∷ xs)
-  filter_swap z x y xs less = grind (arith, common_steps)
-
   -- one that is put in place stands before those with its number
   filter_insert : (z x : A) (xs : List A) → filter (beside z) (insert_by number x xs) ≡ filter (beside z) (x ∷ xs)
   filter_insert z x [] = refl
-  filter_insert z x (y ∷ ys) = grind (arith, filter_insert z x ys, ltb-true, filter_swap)
+  filter_insert z x (y ∷ ys) = grind (arith, filter_insert z x ys, ltb-true)
 
   -- so those with one number keep their order
   filter_sorted : (z : A) (xs : List A) → filter (beside z) (sorted_by number xs) ≡ filter (beside z) xs
   filter_sorted z [] = refl
-  filter_sorted z (x ∷ xs) = filter_insert z x _
-      ∙ ap (λ (l : List A). cond (beside z x) (x ∷ l) l) (filter_sorted z xs)
+  filter_sorted z (x ∷ xs) = grind (arith, filter_sorted z xs, filter_insert)
 
   -- ---- there is one such list
 
   -- none has a number below that of the first
   none_below : (x y : A) (xs : List A) → number x < number y → IsFirst y xs → filter (beside x) xs ≡ []
   none_below x y [] less first = refl
-  none_below x y (z ∷ zs) less first =
-      rw (other_number (number x) (number z) (omega arith)) (none_below x y zs less first.1)
+  none_below x y (z ∷ zs) less first = grind (arith, none_below x y zs less first.1)
 
   -- an element has its own number
   beside_itself : (x : A) → beside x x ≡ true

@@ -77,14 +77,9 @@ pub born_weak : (above : Option Node) (attached : Bool) (id event client : ℕ) 
 born_weak None attached id event client key = refl
 born_weak (Some above) attached id event client key = refl
 
--- a draft that is given its key is the node
-pub born_named : (above : Option Node) (attached : Bool) (id event client : ℕ) (any key : NodeKey) →
-    named key (born above attached id event client any) ≡ born above attached id event client key
-born_named above attached id event client any key = grind arith
-
 -- so it is born
 pub named_bears : {E : Type 0} (t now : Table Node) (above : Option Node) (attached : Bool) (id event client : ℕ) (any : NodeKey)
     (draft : Node) → draft ≡ born above attached id event client any → (result : Result NodeKey E) →
     IfOk result (λ key. Bears t now (named key draft)) →
     IfOk result (λ key. Bears t now (born above attached id event client key))
-named_bears t now above attached id event client any draft is result bears = grind (arith, born_named)
+named_bears t now above attached id event client any draft is result bears = grind arith

@@ -140,8 +140,7 @@ module _ (t now : Table Node) (node : Node) (bears : Bears t now node) where
 
   -- all of them
   still_all_filed : (ss : List Shelf) → are_filed t ss ≡ true → are_filed now ss ≡ true
-  still_all_filed ss filed = all_on _ ss (λ s on.
-      still_filed s.id s.keys (all-In (λ (s : Shelf). list_all (is_filed t s.id) s.keys) ss s on filed))
+  still_all_filed ss filed = grind (arith, all_on, still_filed, all-In)
 
   -- a collection stays
   pub still_collection : (s : Shelf) → list_all (is_filed t s.id) s.keys ≡ true → collection_in now s ≡ collection_in t s
@@ -149,8 +148,7 @@ module _ (t now : Table Node) (node : Node) (bears : Bears t now node) where
 
   -- so do all
   pub still_collections : (ss : List Shelf) → are_filed t ss ≡ true → map (collection_in now) ss ≡ map (collection_in t) ss
-  still_collections ss filed = map-In _ _ ss (λ s on.
-      still_collection s (all-In (λ (s : Shelf). list_all (is_filed t s.id) s.keys) ss s on filed))
+  still_collections ss filed = grind (arith, map-In, still_collection, all-In)
 
   -- the keys with that of the node find the nodes with the node
   pub born_looked : (id : ℕ) (keys : List NodeKey) → list_all (is_filed t id) keys ≡ true →

@@ -1,5 +1,5 @@
 -- Where nothing was forced, a newborn that comes last among the nodes forces nothing.
-use Rattle.forest_store.proofs.Common.{◌≡◌, refl, ap, ◌∙◌, Bool, true, false, ◌&&◌, ◌||◌, not, List, [], ◌∷◌, ◌++◌, Option, Some, None, is_some, list_any, list_all, find, option_map_or, option_and_then, NodeKey, Buffers, Cause, Demand, same_key, when, In, same_key-refl, same_key-true, filter-append, list_any-append, Standing, ending, abandoned, logical_allocation, logical_failure, outcome, is_allocated, is_deserted, is_next_head, Mark, Loss, Ended, Member, is_live, is_ready, is_root, is_settled, root_left, some_live, some_strong_live, subtree, unit, demands, reserved, AtRest, or_both, map-None, option_map, arith, and-false, or-false, or-true, find-append, list_all-append, option_or, find-none, none-find, common_steps}
+use Rattle.forest_store.proofs.Common.{◌≡◌, refl, ap, ◌∙◌, Bool, true, false, ◌&&◌, ◌||◌, not, List, [], ◌∷◌, ◌++◌, Option, Some, None, list_any, find, option_map_or, option_and_then, NodeKey, Buffers, Cause, same_key, when, In, same_key-refl, same_key-true, filter-append, list_any-append, Standing, ending, abandoned, logical_allocation, logical_failure, outcome, is_allocated, is_deserted, is_next_head, Mark, Loss, Ended, Member, is_live, is_ready, is_root, root_left, some_live, some_strong_live, subtree, unit, demands, reserved, AtRest, map-None, option_map, arith, and-false, or-false, or-true, find-append, list_all-append, option_or, find-none, none-find, common_steps}
 use Rattle.forest_store.proofs.lists.Elements.{none_less}
 
 -- ---- tests
@@ -26,13 +26,6 @@ module _ (ms : List Member) (m : Member) (newborn : IsNewborn ms m) where
   abbrev more : List Member
   more = ms ++ m ∷ []
 
-  -- it waits for constraints
-  not_settled : is_settled m ≡ false
-  not_settled = from _ _ m.constraints newborn.live newborn.asks_nothing
-    where
-      from : (g r : Bool) (o : Option Demand) → (not g && not r) ≡ true → o ≡ None → (g || (r || is_some o)) ≡ false
-      from g r o live none = grind arith
-
   -- it is live at its own place
   lives_here : some_live (subtree m.key (m ∷ [])) ≡ true
   lives_here = rw (same_key-refl m.key, newborn.live) refl
@@ -43,12 +36,7 @@ module _ (ms : List Member) (m : Member) (newborn : IsNewborn ms m) where
 
   -- a unit is ready, as far as it was
   ready_more : (key : NodeKey) → is_ready key more ≡ (is_ready key ms && is_ready key (m ∷ []))
-  ready_more key = ap (list_all is_settled) (filter-append _ ms _)
-      ∙ list_all-append is_settled (unit key ms) (unit key (m ∷ []))
-
-  -- the newborn's own unit is not ready
-  waits_here : m.head ≡ m.key → is_ready m.key (m ∷ []) ≡ false
-  waits_here is = rw (is, same_key-refl m.key, not_settled) refl
+  ready_more key = grind (arith, filter-append, list_all-append)
 
   -- some strong node is live, as far as some was
   strong_more : some_strong_live more ≡ (some_strong_live ms || some_strong_live (m ∷ []))
@@ -57,10 +45,6 @@ module _ (ms : List Member) (m : Member) (newborn : IsNewborn ms m) where
   -- a root that is left stays the root
   root_more : root_left more ≡ option_or (root_left ms) (root_left (m ∷ []))
   root_more = find-append _ ms _
-
-  -- what holds of no root, and of the newborn if it is one, holds of the newborn's own root
-  newest_root : (P : Option Member → Type 0) → P None → (is_root m ≡ true → P (Some m)) → P (root_left (m ∷ []))
-  newest_root P none some = grind arith
 
   -- ---- ends
 
@@ -95,12 +79,11 @@ module _ (ms : List Member) (m : Member) (newborn : IsNewborn ms m) where
 
   -- nor is the newborn
   not_next : is_next_head more m ≡ false
-  not_next = grind (arith, common_steps, waits_here, and-false)
+  not_next = grind (arith, common_steps, and-false)
 
   -- so none is, where none was
   none_next : list_any (is_next_head ms) ms ≡ false → list_any (is_next_head more) more ≡ false
-  none_next none = list_any-append _ ms _
-      ∙ or_both _ _ (none_less _ _ _ next_less none) (rw not_next refl)
+  none_next none = grind (arith, list_any-append, none_less, next_less, not_next)
 
 -- the loss of a root with buffers that neither a strong node nor a strong handle keeps
 abbrev loss_of : Bool → Bool → Member → Option Mark
@@ -137,7 +120,7 @@ module _ (s : Standing) (m : Member) (newborn : IsNewborn s.members m) (rest : A
       from : (o : Option Member) → option_and_then (loss_of (some_strong_live s.members) s.strong_open) o ≡ None →
           option_and_then (loss_of (some_strong_live s.members || some_strong_live (m ∷ [])) s.strong_open)
           (option_or o (root_left (m ∷ []))) ≡ None
-      from o h = grind (arith, newest_root)
+      from o h = grind arith
 
   -- the root unit waits, or has its buffers
   none_waits : option_map_or (is_due with_it.members) (root_left with_it.members) false ≡ false
@@ -148,7 +131,7 @@ module _ (s : Standing) (m : Member) (newborn : IsNewborn s.members m) (rest : A
 
       from : (o : Option Member) → option_map_or (is_due s.members) o false ≡ false →
           option_map_or (is_due with_it.members) (option_or o (root_left (m ∷ []))) false ≡ false
-      from o h = grind (arith, newest_root, ready_more, waits_here, and-false, less)
+      from o h = grind (arith, ready_more, and-false, less)
 
   -- no attached unit is next
   no_head : logical_allocation with_it ≡ None

@@ -106,8 +106,7 @@ any-is_of key (n ∷ ns) = λ i. same_key-swap n.key key i || any-is_of key ns i
 lacks_key : (t : Table Node) (id : ℕ) → ((key : NodeKey) (n : Node) → node_at t key ≡ Some n → n.key ≡ key) →
     (key : NodeKey) (ns : List Node) (keys : List NodeKey) → ns ≡ nodes_with t keys → list_all (is_filed t id) keys ≡ true →
     list_any (same_key key) keys ≡ false → list_any (is_of key) ns ≡ false
-lacks_key t id named key ns keys is filed none =
-    any-is_of key ns ∙ ap (list_any (same_key key)) (ap keys_in is ∙ looked-keys t _ named _ filed) ∙ none
+lacks_key t id named key ns keys is filed none = grind (arith, any-is_of, keys_in, looked-keys)
 
 -- the node above is found in the collection
 pub found_above : (t : Table Node) (ss : List Shelf) → IsStored t ss → (c : Collection) (up : NodeKey) (n : Node) → node_at t up ≡ Some n →
@@ -118,8 +117,7 @@ module _ {t : Table Node} {ss : List Shelf} (ok : IsStored t ss) (c : Collection
   -- so is the one above a node that is born
   found_child : {id : ℕ} → IsBefore t ss id c → (up : NodeKey) (n : Node) → node_at t up ≡ Some n → n.collection ≡ id →
       node_of c.nodes up ≡ Some n
-  found_child before up n is own =
-      found_above t ss ok c up n is (before.nodes ∙ ap (λ (i : ℕ). nodes_with t (keys_before i ss)) (sym own))
+  found_child before up n is own = grind (arith, found_above, keys_before)
 
   -- the collection with the birth
   birth_by : {id : ℕ} {parent : Option NodeKey} {above : Option Node} → Above t ss id parent above → IsBefore t ss id c →
@@ -237,8 +235,7 @@ module _ (t now : Table Node) (ss : List Shelf) (ok : IsStored t ss) (id : ℕ) 
 
   -- its keys are those before, and that of the node
   born_keys : keys_in born_collection.nodes ≡ keys_before id ss ++ node.key ∷ []
-  born_keys = map-append (λ (n : Node). n.key) c0.nodes (node ∷ [])
-      ∙ ap (λ ks. ks ++ node.key ∷ []) (ap keys_in before.nodes ∙ looked-keys t _ ok.named _ before.filed)
+  born_keys = grind (arith, map-append, keys_in, before, looked-keys)
 
   -- the table has it
   pub born_shown : collection_in now (shelf_by born_collection) ≡ born_collection

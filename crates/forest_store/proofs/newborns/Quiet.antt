@@ -106,5 +106,4 @@ module _ (t now : Table Node) (ss : List Shelf) (ok : IsStored t ss) (id : ℕ) 
 
       -- the pages stay
       pub quiet_held : all_held (forest_of now behind) ≡ all_held (forest_of t ss)
-      quiet_held = ap (λ (b : List Shelf). all_held (forest_of now b)) behind_is
-          ∙ born_held t now ss ok id parent _ client event above at key bears
+      quiet_held = grind (arith, behind_is, born_held)

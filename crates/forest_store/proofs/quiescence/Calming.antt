@@ -1,6 +1,6 @@
 -- A collection where no step would be forced with a strong handle open: none is while a strong
 -- node lives.
-use Rattle.forest_store.proofs.Common.{is_strong, ◌≡◌, refl, ap, sym, ◌∙◌, Bool, true, false, not, ◌&&◌, ◌||◌, inl, inr, List, [], ◌∷◌, map, reverse, Option, Some, None, is_none, is_some, arith, not-true, list_any, list_all, find, filter, option_map_or, option_and_then, NodeKey, Buffers, Cause, same_key, when, times, In, either_way, Node, strong_count, has_strong, waiting, Collection, with_nodes, IsWhole, members_of, node_of, is_deserted_node, is_live_node, is_next_node, is_ready_node, is_root_left, is_deserted, is_next_head, Member, is_ready, root_left, first_some, In-filter, In-filter-back, map-In, none_is, map-None, IsQuiescent, Decision, Loses, decided, later_step, above_among, member_of, is_allocated_node, is_below, lives_below, option_map, or-true, filter-swap, filter-all}
+use Rattle.forest_store.proofs.Common.{is_strong, ◌≡◌, refl, ap, sym, ◌∙◌, Bool, true, false, not, ◌&&◌, ◌||◌, inl, inr, List, [], ◌∷◌, map, reverse, Option, Some, None, is_none, is_some, arith, not-true, list_any, list_all, find, filter, option_map_or, option_and_then, NodeKey, Buffers, same_key, when, times, In, either_way, Node, strong_count, has_strong, waiting, Collection, with_nodes, IsWhole, members_of, node_of, is_deserted_node, is_live_node, is_next_node, is_ready_node, is_root_left, is_deserted, is_next_head, Member, is_ready, root_left, first_some, In-filter, In-filter-back, map-In, none_is, map-None, IsQuiescent, Decision, decided, later_step, above_among, member_of, is_allocated_node, is_below, lives_below, option_map, or-true, filter-swap, filter-all}
 use Rattle.forest_store.proofs.tables.Chains.{one_line}
 use Rattle.forest_store.proofs.quiescence.Forcing.{deserted_tie, next_tie, ready_tie, root_tie}
 use Rattle.forest_store.proofs.tables.KeptRoots.{map-reverse_aux, rooted_filter}
@@ -26,10 +26,6 @@ pub record AreNone (nodes : List Node) (buffers : Option Buffers) : Type 0 where
 four_none : (a b c d : Option Decision) → first_some (a ∷ b ∷ c ∷ d ∷ []) ≡ None → (a ≡ None) × (b ≡ None) × (c ≡ None) × (d ≡ None)
 four_none a b c d h = grind arith
 
--- four decisions that are none have no first one
-pub none_four : (a b c d : Option Decision) → a ≡ None → b ≡ None → c ≡ None → d ≡ None → first_some (a ∷ b ∷ c ∷ d ∷ []) ≡ None
-none_four a b c d ha hb hc hd = rw (ha, hb, hc, hd) refl
-
 -- where nothing is decided, no step is left
 pub decided_parts : (nodes : List Node) (buffers : Option Buffers) (strong_open : Bool) → decided nodes buffers strong_open ≡ None →
     AreNone nodes buffers
@@ -41,15 +37,10 @@ decided_parts nodes _ strong_open h =
       no_head = n.3;
     }
 
--- a root is not abandoned where a strong node lives, or a strong handle is open
-kept_root : (strong strong_open : Bool) → (strong || strong_open) ≡ true → (o : Option Node) →
-    option_and_then (λ (root : Node). when (root.allocated && (not strong && not strong_open)) (Loses root.key Cause.NoStrong)) o ≡ None
-kept_root strong strong_open some o = grind arith
-
--- and so nothing is decided there
+-- with a strong node, or a strong handle open, no root is abandoned, so nothing is decided
 pub none_decided : (nodes : List Node) (buffers : Option Buffers) (strong_open : Bool) → (has_strong nodes || strong_open) ≡ true →
     AreNone nodes buffers → decided nodes buffers strong_open ≡ None
-none_decided nodes buffers strong_open some none = grind (arith, none_four)
+none_decided nodes buffers strong_open some none = grind arith
 
 -- where none of the four steps is left, none is decided: the second is excluded by the open handle
 pub calm_none : (c : Collection) → AreNone c.nodes c.buffers → IsQuiescent c
@@ -213,13 +204,11 @@ module _ (nodes : List Node) (f : Node → Node) (plain : (n : Node) → IsPlain
 
   -- whether a node is ready is read from its flags and head, which are kept
   ready_map : (head : NodeKey) → list_all (is_ready_node head) now ≡ list_all (is_ready_node head) nodes
-  ready_map head = all_map _ _ f nodes
-      (λ n. λ i. (plain n).gone i || (not (same_key ((plain n).head i) head) || ((plain n).released i || (plain n).asks i)))
+  ready_map head = grind (arith, all_map)
 
   -- being allocated is read from flags and the key, which are kept
   allocated_map : (key : NodeKey) → list_any (is_allocated_node key) now ≡ list_any (is_allocated_node key) nodes
-  allocated_map key = any_map _ _ f nodes
-      (λ n. λ i. not ((plain n).gone i) && ((plain n).allocated i && same_key ((plain n).key i) key))
+  allocated_map key = grind (arith, any_map)
 
   -- whether a head is next is read from its flags, its parent and its unit, which are kept
   next_map : (n : Node) → is_next_node now (f n) ≡ is_next_node nodes n

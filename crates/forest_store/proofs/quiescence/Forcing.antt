@@ -1,8 +1,8 @@
 -- What the code decides is what is forced.
-use Rattle.forest_store.proofs.Common.{ℕ, ◌+◌, ◌≡◌, refl, ap, ◌∙◌, Bool, true, false, not, ◌&&◌, ◌||◌, ◌==◌, nat_lt, if◌then◌else◌, is_none, List, [], ◌∷◌, ◌++◌, map, Option, Some, None, list_any, list_all, find, filter, sum_by, option_map_or, option_and_then, Interval, NodeKey, Buffers, Cause, Demand, forced, same_key, when, Node, has_strong, waiting, Collection, members_of, is_deserted_node, is_next_node, is_ready_node, is_root_left, Handles, standing, max, filter_map, Failure, Standing, ending, abandoned, logical_allocation, logical_failure, outcome, is_deserted, is_allocated, is_next_head, Mark, Loss, Ended, Member, is_ready, some_live, some_strong_live, subtree, unit, root_left, demands, reserved, first_some, MAX_BUFFERS, Allocates, Decision, Ends, Loses, Places, decided, first_step, late_failure, later_step, wanted_by, pages_in, member_of, demands_of, is_allocated_node, has_buffers, lives_below, option_map, initial_allocation, initial_failure, greatest, wanted, asked, decisions, mark_of, is_in_unit, arith}
+use Rattle.forest_store.proofs.Common.{ℕ, ◌+◌, ◌≡◌, refl, ap, ◌∙◌, Bool, true, false, not, ◌&&◌, ◌||◌, ◌==◌, nat_lt, if◌then◌else◌, is_none, List, [], ◌∷◌, ◌++◌, map, Option, Some, None, list_any, list_all, find, filter, sum_by, option_map_or, option_and_then, Interval, NodeKey, Buffers, Cause, Demand, forced, when, Node, has_strong, waiting, Collection, members_of, is_deserted_node, is_next_node, is_ready_node, is_root_left, Handles, standing, max, Failure, Standing, ending, abandoned, logical_allocation, logical_failure, outcome, is_deserted, is_allocated, is_next_head, Mark, Loss, Ended, Member, is_ready, some_live, some_strong_live, subtree, unit, root_left, demands, reserved, first_some, MAX_BUFFERS, Allocates, Decision, Ends, Loses, Places, decided, first_step, late_failure, later_step, wanted_by, pages_in, member_of, demands_of, is_allocated_node, has_buffers, lives_below, option_map, initial_allocation, initial_failure, greatest, wanted, asked, decisions, mark_of, is_in_unit, arith}
 use Rattle.sm_names.specs.Pages.{places, pages_of}
 use Rattle.forest_store.proofs.lists.Filters.{any-map_filter, all-map_filter, find-map_filter, any-filter, all-filter, made-filter_map, above_greatest}
-use Rattle.forest_store.proofs.lists.Booleans.{and_again_behind, and_again_last, and_again_pair, and_again_swap, settled_once}
+use Rattle.forest_store.proofs.lists.Booleans.{and_again_behind, and_again_pair, and_again_swap, settled_once}
 
 -- who is not gone
 abbrev left : Node → Bool
@@ -21,8 +21,7 @@ module _ (nodes : List Node) where
 
   -- a member is a node that is not gone, so both ask the same nodes
   pub strong_tie : some_strong_live ms ≡ has_strong nodes
-  strong_tie = any-map_filter left _ _ nodes
-      ∙ (λ i. list_any (λ (n : Node). and_again_pair (not n.gone) (not n.released) (not n.weak) i) nodes)
+  strong_tie = grind (arith, any-map_filter, and_again_pair)
 
   -- the members of a unit are its nodes that are not gone, and gone nodes count as ready
   pub ready_tie : (head : NodeKey) → is_ready head ms ≡ list_all (is_ready_node head) nodes
@@ -38,7 +37,7 @@ module _ (nodes : List Node) where
 
   -- the root among the members is the root that is not gone
   pub root_tie : root_left ms ≡ option_map (member_of nodes) (find is_root_left nodes)
-  root_tie = grind (arith, find-map_filter, and_again_last)
+  root_tie = grind (arith, find-map_filter)
 
   -- both find the first head below which nothing lives, one among members, one among nodes
   pub deserted_tie : find (is_deserted ms) ms ≡ option_map (member_of nodes) (find (is_deserted_node nodes) nodes)
@@ -59,13 +58,11 @@ module _ (nodes : List Node) where
 
   -- a gone node asks for nothing, so members and nodes ask for the same
   unit_tie : (head : NodeKey) → demands (unit head ms) ≡ demands_of (is_in_unit head) nodes
-  unit_tie head = made-filter_map left _ _ _ nodes
-      ∙ (λ i. filter_map (λ (n : Node). once_gone n.gone (same_key n.head head) n.constraints i) nodes)
+  unit_tie head = grind (arith, made-filter_map, once_gone)
 
   -- the same for the nodes whose unit is allocated
   served_tie : demands (filter (λ m. m.allocated) ms) ≡ demands_of has_buffers nodes
-  served_tie = made-filter_map left _ _ _ nodes
-      ∙ (λ i. filter_map (λ (n : Node). once_gone n.gone n.allocated n.constraints i) nodes)
+  served_tie = grind (arith, made-filter_map, once_gone)
 
   -- the same demands give the same number and size
   wanted_tie : (head : NodeKey) → wanted (unit head ms) ≡ wanted_by head nodes

@@ -2,7 +2,7 @@
 use Rattle.forest_store.proofs.Common.{arith, ◌≡◌, ℕ, ◌==◌, ◌⊎◌, Bool, true, false, ◌&&◌, not, inl, inr, List, [], ◌∷◌, drop, Option, Some, None, option_map, is_none, is_some, refl, ap, ◌∙◌, cons_option, find, list_all, option_map_or, option_and_then, NodeKey, Buffers, Cause, when, and_left, and_right, either_way, Table, node_at, Node, has_strong, Shelf, is_filed, nodes_with, is_root_left, Handles, In, Loses, decided}
 use Rattle.forest_store.specs.Dropped.{has_given_root}
 use Rattle.forest_store.specs.Resting.{is_kept_by}
-use Rattle.forest_store.proofs.quiescence.Calming.{AreNone, none_decided, none_four}
+use Rattle.forest_store.proofs.quiescence.Calming.{AreNone, none_decided}
 
 -- ---- what is forced
 
@@ -44,7 +44,7 @@ pub still_decided : (nodes : List Node) (buffers : Option Buffers) (strong_open 
     (has_strong nodes ≡ true)
     ⊎ ((option_map_or (λ (root : Node). root.allocated) (find is_root_left nodes) false && not strong_open) ≡ false) →
     decided nodes buffers strong_open ≡ None
-still_decided nodes buffers strong_open none some = grind (arith, none_decided, none_four, kept_root)
+still_decided nodes buffers strong_open none some = grind (arith, none_decided, kept_root)
 
 -- ---- what becomes of it
 

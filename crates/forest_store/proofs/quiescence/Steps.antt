@@ -1,5 +1,5 @@
 -- A decision is on nodes that are there, and changes something.
-use Rattle.forest_store.proofs.Common.{◌≡◌, ◌≤◌, refl, ap, sym, ◌∙◌, subst, Bool, true, false, not, ◌&&◌, ◌||◌, ◌==◌, nat_lt, is_none, List, [], ◌∷◌, Option, Some, None, inl, inr, arith, not-true, list_any, list_all, find, option_map_or, option_and_then, NodeKey, Buffers, Cause, same_key, when, In, In-find, and_left, and_right, and_both, or_left, both_ways, false_if, same_key-true, same_key-refl, In-any, Node, has_strong, is_left_of, Collection, is_of, node_of, is_deserted_node, is_next_node, is_ready_node, is_root_left, are_distinct, ltb-false, Failure, first_some, MAX_BUFFERS, Allocates, Ends, Loses, Places, decided, early_failure, first_step, later_step, wanted_by, is_allocated_node, IsSound, is_root_of, option_map, IfSome, IsStep, has_waiting}
+use Rattle.forest_store.proofs.Common.{◌≡◌, ◌≤◌, refl, ap, sym, ◌∙◌, subst, Bool, true, false, not, ◌&&◌, ◌||◌, is_none, List, [], ◌∷◌, Option, Some, None, inl, inr, arith, not-true, list_any, list_all, find, option_map_or, option_and_then, NodeKey, Buffers, Cause, same_key, when, In, In-find, and_left, and_right, and_both, or_left, both_ways, false_if, same_key-true, same_key-refl, In-any, Node, has_strong, is_left_of, Collection, is_of, node_of, is_deserted_node, is_next_node, is_ready_node, is_root_left, are_distinct, Failure, first_some, MAX_BUFFERS, Allocates, Ends, Loses, Places, decided, early_failure, first_step, later_step, wanted_by, is_allocated_node, IsSound, is_root_of, option_map, IfSome, IsStep, has_waiting}
 use Rattle.forest_store.proofs.quiescence.Forcing.{asked_tie}
 
 -- ---- nodes by their keys
@@ -73,13 +73,7 @@ module _ (c : Collection) (sound : IsSound c) where
   -- where nothing fails early, the count is in range
   count_is : (head : NodeKey) → early_failure head c.nodes ≡ None →
       (1 ≤ (wanted_by head c.nodes).count) × ((wanted_by head c.nodes).count ≤ MAX_BUFFERS)
-  count_is head e = from _ ((wanted_by head c.nodes).count == 0)
-      (nat_lt MAX_BUFFERS (wanted_by head c.nodes).count) refl refl e
-    where
-      from : (a b d : Bool) → ((wanted_by head c.nodes).count == 0) ≡ b → nat_lt MAX_BUFFERS (wanted_by head c.nodes).count ≡ d →
-          first_some (when a Failure.NoStrong ∷ when b Failure.NoBuffers ∷ when d Failure.TooManyBuffers ∷ []) ≡ None →
-          (1 ≤ (wanted_by head c.nodes).count) × ((wanted_by head c.nodes).count ≤ MAX_BUFFERS)
-      from a b d eb ed h = grind (arith, ltb-false)
+  count_is head e = grind arith
 
   -- the root that waits is one of the nodes, is not gone, and has no buffers yet
   first_is : (n : Node) → find is_root_left c.nodes ≡ Some n → n.allocated ≡ false → (o : Option Failure) →

@@ -58,8 +58,7 @@ together_taken nodes f taken keeps goes old = record {
     given n a is = ap (λ (m : Node). m.allocated) is ∙ keeps.allocated n
 
     units : (n h a b : Node) → a ≡ f n → b ≡ f h → a.head ≡ b.key → n.head ≡ h.key
-    units n h a b is too unit =
-        sym (keeps.head n) ∙ (ap (λ (m : Node). m.head) (sym is) ∙ (unit ∙ (ap (λ (m : Node). m.key) too ∙ keeps.key h)))
+    units n h a b is too unit = grind arith
 
     stayed : (n a : Node) → a ≡ f n → a.gone ≡ false → (taken n ≡ false) × (n.gone ≡ false)
     stayed n a is here = grind arith

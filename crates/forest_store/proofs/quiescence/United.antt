@@ -1,5 +1,5 @@
 -- The nodes of a unit are of one unit still, whatever is changed or forced.
-use Rattle.forest_store.proofs.Common.{◌≡◌, refl, ap, sym, ◌∙◌, Bool, true, false, ◌||◌, ◌&&◌, not, inl, inr, List, [], ◌∷◌, ◌++◌, map, reverse, is_none, filter, list_all, option_map_or, same_key, In, and_both, and_left, and_right, either_way, all_on, Node, reverse-append, In-reverse, list_all-filter, are_united, shares_unit}
+use Rattle.forest_store.proofs.Common.{◌≡◌, refl, ap, sym, ◌∙◌, Bool, true, ◌&&◌, inl, inr, List, [], ◌∷◌, ◌++◌, map, reverse, filter, list_all, In, and_both, and_left, and_right, either_way, all_on, Node, reverse-append, In-reverse, list_all-filter, are_united, shares_unit, arith}
 use Rattle.forest_store.proofs.tables.KeptRoots.{filter-reverse_aux, map-reverse_aux}
 
 -- what is kept of a node that stays in its unit
@@ -12,8 +12,7 @@ pub record KeepsUnit (f : Node → Node) : Type 0 where
 module _ (f : Node → Node) (keeps : KeepsUnit f) where
   -- parent, attachment, key and head are kept, and sharing a unit is read from these
   shares_same : (n q : Node) → shares_unit (f n) (f q) ≡ shares_unit n q
-  shares_same n q = λ i. (is_none (keeps.parent n i) || keeps.attached n i)
-      || (not (option_map_or (λ p. same_key (keeps.key q i) p) (keeps.parent n i) false) || same_key (keeps.head q i) (keeps.head n i))
+  shares_same n q = grind arith
 
   -- by induction over the others
   shares_map : (n : Node) (qs : List Node) → list_all (shares_unit (f n)) (map f qs) ≡ list_all (shares_unit n) qs
@@ -50,5 +49,4 @@ united_filter p ns united = ap are_united (sym (filter-reverse_aux p ns [])) ∙
 -- the new node stands first in the list turned round, and shares its unit with its parent
 pub united_born : (ns : List Node) (b : Node) → ((q : Node) → In q ns → shares_unit b q ≡ true) → are_united (reverse ns) ≡ true →
     are_united (reverse (ns ++ b ∷ [])) ≡ true
-united_born ns b shares united = ap are_united (reverse-append ns (b ∷ []))
-    ∙ and_both _ _ (all_on _ _ (λ q on. shares q (In-reverse _ q on))) united
+united_born ns b shares united = grind (arith, reverse-append, all_on, In-reverse)

@@ -4,7 +4,7 @@ use Rattle.forest_store.specs.declared.node.End.{End}
 use Rattle.forest_store.proofs.leaving.Thinning.{none-filter}
 use Rattle.forest_store.proofs.Basics.{none_cases, place_cases, In-made, all_at, all_in, each_none, made-found, none_each, above-weaker, all_weaker, looked-of, IsPlain, calm_filter, calm_map, strong_filter, times_map, in_all, looked_there, looked-map, fewer_over, more_noted, not_over_but, noted_not, cases_place, filed-length, all-In, reserved_filter, reserved_map}
 
--- what is told of the collection of an entry is told of an entry of which a table shows the same with the same counts
+-- an entry that shows the same as another, with the same counts, is counted as that one is
 pub counted_as : {t now : Table Node} {e new : Entry} → collection_in now (shelf_of new) ≡ collection_in t (shelf_of e) →
     new.strong ≡ e.strong → new.reserved ≡ e.reserved →
     (new.garbage_known ≡ true → list_any (over_except new.garbage.items) (nodes_with t e.keys.items) ≡ false) → IsCounted t e → IsCounted now new
@@ -30,8 +30,7 @@ recounted t e new = counted_as
 pub moved_all : (t now : Table Node) (es : List Entry) → are_filed t (shelves_of es) ≡ true →
     ((e : Entry) → list_all (is_filed t e.id) e.keys.items ≡ true → collection_in now (shelf_of e) ≡ collection_in t (shelf_of e)) →
     AreCounted t es → AreCounted now es
-moved_all t now es filed same all = all_in _ es (λ e on.
-    moved t now e (same e (all-In (λ (s : Shelf). list_all (is_filed t s.id) s.keys) _ _ (In-map-back shelf_of es e on) filed)) (all_at _ es all e on))
+moved_all t now es filed same all = grind (arith, all_in, moved, all-In, In-map-back, all_at)
 
 -- where all are counted, all but one are
 pub counted_but : (t : Table Node) (id : ℕ) (es : List Entry) → AreCounted t es → AreCountedExcept t id es

@@ -1,5 +1,5 @@
 -- A shelf that is put in its place among others.
-use Rattle.forest_store.proofs.Common.{◌≡◌, ℕ, ◌<◌, ◌==◌, nat_lt, true, false, not, List, [], ◌∷◌, ◌++◌, map, refl, sym, ap, subst, ◌∙◌, arith, list_all, filter, AllByRecursion, lt-ltb, eq-eqb, eqb-true, eqb-false, NodeKey, HeldBuffer, Table, Node, Collection, Shelf, AreRising, put_shelf, collection_in, all_keys, are_filed, is_filed, put, flat_map, le-ltb, ne_eqb, cases_lt, cases_eq, ltb-true, ltb-false, map-append, pages_in}
+use Rattle.forest_store.proofs.Common.{◌≡◌, ℕ, ◌<◌, ◌==◌, nat_lt, true, false, not, List, [], ◌∷◌, ◌++◌, map, refl, sym, subst, arith, list_all, filter, AllByRecursion, lt-ltb, eq-eqb, eqb-true, eqb-false, NodeKey, HeldBuffer, Table, Node, Collection, Shelf, AreRising, put_shelf, collection_in, all_keys, are_filed, is_filed, put, flat_map, le-ltb, ne_eqb, cases_lt, cases_eq, ltb-true, ltb-false, map-append, pages_in}
 use Rattle.forest_store.proofs.lists.SameIntervals.{Alike, Alike-refl, Alike-trans, Alike-front, Alike-shift, less_of}
 
 -- three ways in which one number lies to another
@@ -61,8 +61,7 @@ filed-put t one other (s ∷ ss) ids keys = grind (arith, filed-put t one other 
 pub pages_held : (cs : List Collection) → map (λ (h : HeldBuffer). h.pages) (flat_map (λ (c : Collection). c.held) cs)
     ≡ flat_map pages_in cs
 pages_held [] = refl
-pages_held (c ∷ cs) = map-append (λ (h : HeldBuffer). h.pages) c.held (flat_map (λ (d : Collection). d.held) cs)
-    ∙ ap (λ is. pages_in c ++ is) (pages_held cs)
+pages_held (c ∷ cs) = grind (arith, pages_held cs, map-append)
 
 -- collections of greater ids are others
 others-above : (t : Table Node) (id : ℕ) (ss : List Shelf) → AllByRecursion (λ (later : Shelf). id < later.id) ss →

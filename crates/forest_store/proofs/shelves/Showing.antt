@@ -1,5 +1,5 @@
 -- What the forest that a table and entries make is read as.
-use Rattle.forest_store.proofs.Common.{◌≡◌, ◌≤◌, ℕ, ◌==◌, ◌+◌, true, false, not, List, [], ◌∷◌, ◌++◌, length, map, Option, Some, None, option_map, if◌then◌else◌, refl, sym, ap, ◌∙◌, arith, filter, find, list_any, list_all, cons_option, option_map_or, NodeKey, Buffers, same_key, and_left, and_right, Table, node_at, Entry, Node, Collection, node_of, Shelf, shelf_of, shelves_of, nodes_with, collection_in, forest_of, all_keys, is_filed, are_filed, IsStored, IfSome, flat_map, leb-true, filter_map-append, MAX_BUFFERS, collection_at, pages_held, length-append, In-find, all_nodes, beside, forest_node, summary_of, given_few}
+use Rattle.forest_store.proofs.Common.{◌≡◌, ◌≤◌, ℕ, ◌==◌, ◌+◌, true, false, not, List, [], ◌∷◌, length, map, Option, Some, None, option_map, if◌then◌else◌, refl, ap, ◌∙◌, arith, filter, find, list_any, list_all, cons_option, option_map_or, NodeKey, Buffers, same_key, and_left, and_right, Table, node_at, Entry, Node, Collection, node_of, Shelf, shelf_of, shelves_of, nodes_with, collection_in, forest_of, all_keys, is_filed, are_filed, IsStored, IfSome, flat_map, leb-true, filter_map-append, MAX_BUFFERS, collection_at, pages_held, length-append, In-find, all_nodes, beside, forest_node, summary_of, given_few}
 use Rattle.forest_store.proofs.quiescence.Steps.{all-In}
 use Rattle.forest_store.proofs.lists.Elements.{find_made}
 use Rattle.forest_store.proofs.lists.Lookups.{nothing, node_of-looked}
@@ -7,8 +7,7 @@ use Rattle.forest_store.proofs.lists.Lookups.{nothing, node_of-looked}
 -- the nodes of all collections are those of all keys
 pub nodes_of_all : (t : Table Node) (es : List Shelf) → all_nodes (forest_of t es) ≡ nodes_with t (all_keys es)
 nodes_of_all t [] = refl
-nodes_of_all t (e ∷ es) = ap (λ ns. nodes_with t e.keys ++ ns) (nodes_of_all t es)
-    ∙ sym (filter_map-append _ e.keys _)
+nodes_of_all t (e ∷ es) = grind (arith, nodes_of_all t es, filter_map-append)
 
 -- the collections have the ids of the entries
 pub ids_of_all : (t : Table Node) (es : List Entry) →

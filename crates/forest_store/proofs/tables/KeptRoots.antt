@@ -1,5 +1,5 @@
 -- The nodes of a collection stay on their parents, whatever is changed or forced.
-use Rattle.forest_store.proofs.Common.{◌≡◌, ℕ, refl, ap, sym, ◌∙◌, Bool, true, false, ◌||◌, inl, inr, List, [], ◌∷◌, ◌++◌, map, reverse, Option, Some, None, is_some, filter, list_any, option_map_or, Interval, NodeKey, same_key, In, In-find, In-map, In-map-back, and_both, and_left, and_right, both_ways, either_way, or_right, same_key-refl, same_key-true, In-any, Change, Effect, Node, is_left_of, Collection, affected, is_of, members_of, node_of, Handles, Settles, are_rooted, reverse-append, Mark, Called, Loss, Allocated, Ended, is_under, In-append, In-filter, In-filter-back, In-reverse, In-reverse-back, IsChain, or_parts, above_among, after_allocation, after_effect, is_taken, member_of, new_child, Rests, Forces, changed, is_root_of, made, hangs_on, is_some-find, after_end, after_loss, FitsChange, arith}
+use Rattle.forest_store.proofs.Common.{◌≡◌, ℕ, refl, ap, sym, ◌∙◌, Bool, true, false, ◌||◌, inl, inr, List, [], ◌∷◌, ◌++◌, map, reverse, Option, Some, None, is_some, filter, list_any, option_map_or, Interval, NodeKey, In, In-find, In-map, In-map-back, and_both, and_left, and_right, both_ways, either_way, or_right, same_key-refl, same_key-true, In-any, Change, Effect, Node, is_left_of, Collection, affected, is_of, members_of, node_of, Handles, Settles, are_rooted, reverse-append, Mark, Called, Loss, Allocated, Ended, is_under, In-append, In-filter, In-filter-back, In-reverse, In-reverse-back, IsChain, or_parts, above_among, after_allocation, after_effect, is_taken, member_of, new_child, Rests, Forces, changed, is_root_of, made, hangs_on, is_some-find, after_end, after_loss, FitsChange, arith}
 use Rattle.sm_names.specs.declared.outcomes.Fault.{Fault}
 use Rattle.sm_names.specs.Changes.{highest}
 use Rattle.forest_store.proofs.tables.Chains.{one_line}
@@ -166,8 +166,7 @@ module _ (nodes : List Node) (old : IsRooted nodes) where
     where
       -- an older node has another key
       other : (n : Node) → In n nodes → n.key ≡ b.key → ⊥
-      other n on same = both_ways _
-          (In-any _ _ n on (ap (λ (k : NodeKey). same_key k b.key) same ∙ same_key-refl b.key)) fresh
+      other n on same = grind (arith, In-any, same_key-refl)
 
       last : (n : Node) → In n (b ∷ []) → n ≡ b
       last n (inl is) = is
@@ -248,7 +247,7 @@ pub rooted_settled : (pool : ℕ) (handles : Handles) (others : List Interval) (
     Settles pool handles others c after → IsRooted after.nodes
 rooted_settled pool handles others _ _ old (Rests c rest) = old
 rooted_settled pool handles others _ _ old (Forces c after mark forces settles) =
-    rooted_settled pool handles others (made pool others mark c) after (rooted_made pool others mark c old) settles
+    grind (arith, rooted_settled pool handles others (made pool others mark c) after (rooted_made pool others mark c old) settles)
 
 -- so does a change
 pub rooted_changed : (change : Change) (key : NodeKey) (c : Collection) → FitsChange change key c.nodes → IsRooted c.nodes →

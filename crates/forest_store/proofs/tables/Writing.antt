@@ -1,5 +1,5 @@
 -- What stays true of a forest where nodes are written in their places.
-use Rattle.forest_store.proofs.Common.{◌≡◌, ◌≢◌, ℕ, ◌==◌, nat_lt, false, ◌&&◌, List, [], ◌∷◌, map, drop, Option, Some, None, option_map, is_some, if◌then◌else◌, refl, sym, ap, subst, ◌∙◌, inl, inr, list_any, list_all, AllByRecursion, option_map_or, NodeKey, same_key, Table, node_at, parent_at, Node, Collection, with_nodes, Shelf, collection_in, is_filed, are_filed, IsStored, IsWhole, nodes_with, is_of, are_distinct, heads_itself, nat_le, slice_index_or, Row, row_at, parent_in, table_len, was_given, Writes, with_node, key_cases, same_key-equal, same_key-apart, IsSound, GoTogether}
+use Rattle.forest_store.proofs.Common.{◌≡◌, ◌≢◌, ℕ, ◌==◌, false, List, [], ◌∷◌, map, drop, Option, Some, None, option_map, is_some, if◌then◌else◌, refl, sym, ap, subst, ◌∙◌, inl, inr, list_any, list_all, AllByRecursion, option_map_or, NodeKey, same_key, Table, node_at, parent_at, Node, Collection, with_nodes, Shelf, collection_in, is_filed, are_filed, IsStored, IsWhole, nodes_with, is_of, are_distinct, heads_itself, Row, row_at, parent_in, table_len, was_given, Writes, with_node, key_cases, same_key-equal, same_key-apart, IsSound, GoTogether, arith}
 use Rattle.forest_store.proofs.tables.KeptRoots.{rooted_same}
 use Rattle.forest_store.proofs.tables.Kin.{kin_kept}
 use Rattle.forest_store.proofs.lists.Elements.{all_map, all_weaker, any_map}
@@ -9,8 +9,7 @@ use Rattle.forest_store.proofs.quiescence.United.{united_mapped}
 
 -- the same keys were given
 pub given-same : (t now : Table Node) → now.first ≡ t.first → now.nexts ≡ t.nexts → (key : NodeKey) → was_given now key ≡ was_given t key
-given-same t now first nexts key =
-    λ i. nat_le (first i) key.generation && nat_lt key.generation (slice_index_or (nexts i) key.slot (first i))
+given-same t now first nexts key = grind arith
 
 -- the first is the second, but for what a change may make of it
 pub record IsSameNode (m n : Node) : Type 0 where

@@ -154,7 +154,7 @@ module _ (nodes : List Node) (distinct : are_distinct nodes ≡ true) (heads : l
       let x = shared_among _ united rooted n (In-reverse-back _ n on) here h p is in
       (x.0, In-reverse _ _ x.1, x.2, x.3)
 
-  -- by induction on the line: what holds of heads, and passes from parents in the unit, holds of all
+  -- by induction on the line: what holds of heads and passes from parents in the unit holds of all
   climbed : (P : Node → Type 0) → ((n : Node) → In n nodes → n.gone ≡ false → is_head n ≡ true → P n) →
       ((n q : Node) → In n nodes → n.gone ≡ false → is_head n ≡ false → In q nodes → n.parent ≡ Some q.key →
       q.head ≡ n.head → P q → P n) → (fuel : ℕ) (n : Node) → In n nodes → n.gone ≡ false → length (line n.key) < fuel → P n

@@ -163,8 +163,7 @@ module _ (f : Node → Node) (same : (n : Node) → IsSameNode (f n) n) (nodes :
   -- keys and heads are kept
   unit_mapped : (p k : NodeKey) → list_any (λ (q : Node). is_of p q && same_key q.head k) (map f nodes)
       ≡ list_any (λ (q : Node). is_of p q && same_key q.head k) nodes
-  unit_mapped p k = list_any-map _ _ f _
-      (λ q there. λ i. same_key ((same q).key i) p && same_key ((same q).head i) k)
+  unit_mapped p k = grind (arith, list_any-map)
 
   -- so a node hangs in a unit as before
   pub hangs_mapped : (k : NodeKey) (n : Node) → hangs_in (map f nodes) k (f n) ≡ hangs_in nodes k n
@@ -173,5 +172,4 @@ module _ (f : Node → Node) (same : (n : Node) → IsSameNode (f n) n) (nodes :
   -- so each unit has as many heads right below it
   pub below_mapped : ((n : Node) → (f n).gone ≡ n.gone) → (k : NodeKey) →
       times (heads_below (map f nodes) k) (map f nodes) ≡ times (heads_below nodes k) nodes
-  below_mapped gone k = times_map _ _ f nodes
-      (λ n. λ i. not (gone n i) && ((same n).attached i && hangs_mapped k n i))
+  below_mapped gone k = grind (arith, times_map, hangs_mapped)

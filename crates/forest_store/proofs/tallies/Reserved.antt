@@ -40,8 +40,7 @@ reserved_one n none = reserved_is (n ∷ []) ∙ rw none (from (has_buffers n))
 
 -- a sum over two lists is the sum of both
 pub reserved_append : (xs ys : List Node) → reserved_count (xs ++ ys) ≡ reserved_count xs + reserved_count ys
-reserved_append xs ys = ap (sum_by (λ (d : Demand). d.camping)) (filter_map-append _ xs ys)
-    ∙ sum_by-append (λ (d : Demand). d.camping) (demands_of has_buffers xs) (demands_of has_buffers ys)
+reserved_append xs ys = grind (arith, filter_map-append, sum_by-append)
 
 -- ---- nodes that are changed
 

@@ -102,7 +102,7 @@ pub settles_id : (pool : ℕ) (handles : Handles) (others : List Interval) (c af
     after.id ≡ c.id
 settles_id pool handles others _ _ (Rests c rest) = refl
 settles_id pool handles others _ _ (Forces c after mark forces settles) =
-    settles_id pool handles others (made pool others mark c) after settles ∙ made_id pool others mark c
+    grind (arith, settles_id pool handles others (made pool others mark c) after settles, made_id)
 
 -- nor a change
 pub changed_id : (change : Change) (key : NodeKey) (c : Collection) → is_birth change ≡ false → (changed change key c).id ≡ c.id
