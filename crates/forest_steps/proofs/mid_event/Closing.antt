@@ -253,7 +253,8 @@ module _ {handles : Handles} {t : Table Node} {us : List Unit} {es : List Entry}
       ] in
       let closed : IsClosed handles t t us (shelves_of es) old old = closed_still _
       (rw none at under_is) (inl live) in
-      closes closed old refl (sym (filter-list_all _ _ (all_on (is_out handles (nat_lt 0 old.strong)) old.held.items (λ h on. ap not (strong_keeps _ _ _ live))))) _ _ parted
+      closes closed old refl
+      (sym (filter-list_all _ _ (all_on (is_out handles (nat_lt 0 old.strong)) old.held.items (λ h on. ap not (strong_keeps _ _ _ live))))) _ _ parted
       (pages_mid closed _ parted of)
 
   -- where none does, but the collection rests without one, nothing is either

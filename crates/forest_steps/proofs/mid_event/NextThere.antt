@@ -111,7 +111,8 @@ module _ {t : Table Node} {us : List Unit} {ss : List Shelf} {e : Entry} {k : No
   -- more may be due
   pub more_due : (pending : List NodeKey) → MidEvent t us ss e [] (k ∷ pending)
   more_due pending = under_with u u.held
-      (next_fewer nodes_one (k ∷ []) (k ∷ pending) u.next (λ n on next one. or_left (same_key n.key k) (list_any (same_key n.key) pending) (or_first _ _ one refl)))
+      (next_fewer nodes_one (k ∷ []) (k ∷ pending) u.next
+      (λ n on next one. or_left (same_key n.key k) (list_any (same_key n.key) pending) (or_first _ _ one refl)))
       (wait_among nodes_one (k ∷ pending) (none_waits nodes_one no_wait))
 
   -- so where a list begins with it, those that are listed
