@@ -27,7 +27,7 @@ ghost use Rattle.forest_steps.specs.StoreSteps.{HasRoom, IsRootedIn, KeepsRoom, 
 use crate::demand::TotalDemand;
 use crate::event_end::finish_event;
 use crate::logical_allocation::list_unit;
-use crate::node_effect::{EffectCounts, NodeEffect, affected_by, make_effect};
+use crate::node_effect::{EffectCounts, NodeEffect, make_effect};
 use crate::pending_units::{allocate_all_pending, list_pending};
 use crate::placement::{assert_disjoint, place_buffers};
 use crate::removal::remove_subtree;
@@ -35,6 +35,7 @@ use crate::scratch::Scratch;
 use crate::unit_allocation::{asked_at, mark_allocated};
 use buffer_holds::Holds;
 use buffer_pool::Pool;
+use forest_store::effects::affect_one;
 use forest_store::entry::Entry;
 use forest_store::node::Node;
 use forest_store::store::{NodeStore, Store};
@@ -232,7 +233,8 @@ fn planned(
     if !is_bare_root(&nodes.table, node.head) || !is_held_ready(&counts.unit) {
         return None;
     }
-    let after = affected_by(&node, made.key, &made.effect);
+    let mut after = node;
+    affect_one(&mut after, made.key, &made.effect);
     list_unit(&nodes.table, node.head, keys);
     let asks = root_total(&nodes.table, keys, node.head, &after);
     Some(Plan {

@@ -68,16 +68,6 @@ pub fn keeps_counts(effect: &Effect) -> bool
     }
 }
 
-/// The node after the effect on the one with this key.
-pub(crate) fn affected_by(node: &Node, key: NodeKey, effect: &Effect) -> Node
-    requires { has_tracker_room key effect.now node.now ≡ true }
-    ensures { result ≡ affected key effect.now node.now }
-{
-    let mut after = *node;
-    affect_one(&mut after, key, effect);
-    after
-}
-
 /// Whether the node is live and strong after the effect on the one with this key.
 fn is_strong_after(node: &Node, key: NodeKey, effect: &Effect) -> bool
     ensures { result ≡ is_strong (affected key effect.now node.now) }
@@ -166,16 +156,6 @@ fn is_due(table: &NodeTable<Node>, head: NodeKey) -> bool
     }
 }
 
-/// Whether the unit of the node gets its buffers next, of which so many nodes are waited for: it waited
-/// for this one, and waits for none then.
-#[inline(always)]
-fn comes_due(table: &NodeTable<Node>, node: &Node, unready: usize) -> bool
-    ensures { result ≡ (is_unready node.now
-        && (unready == 0 && is_due_at table.now node.now.head)) }
-{
-    is_unready(node) && unready == 0 && is_due(table, node.head)
-}
-
 /// What is counted of the unit of this node, once the effect is made on the one with this key.
 #[inline(always)]
 fn unit_after(units: &[Unit], node: &Node, key: NodeKey, effect: &Effect) -> Unit
@@ -221,7 +201,7 @@ fn counts_after(
     EffectCounts {
         head: node.head,
         unit,
-        due: comes_due(&nodes.table, node, unit.unready),
+        due: is_unready(node) && unit.unready == 0 && is_due(&nodes.table, node.head),
         strong: decrement_if(
             entry.strong,
             is_strong(node),

@@ -1,6 +1,5 @@
 //! Attached units that come to their turn, one after another by birth: each is allocated or refused.
 ghost use Rattle.std.specs.List.{list_any};
-ghost use Rattle.std.specs.List.Sorted.{IsNonDecreasingBy, IsPermutation};
 ghost use Rattle.std.specs.Prelude.{◌≡◌, ◌<◌, ◌≤◌, ◌+◌, ◌++◌, ◌∷◌, [], List, ℕ, Some, true, IsSome, filter, length, vec_capacity};
 ghost use Rattle.sm_names.specs.declared.keys.NodeKey.{NodeKey as Key};
 ghost use Rattle.sm_names.specs.Sameness.{same_key};
@@ -116,14 +115,6 @@ fn list_heads(
     }
 }
 
-/// Puts them in the order of their places.
-fn order_pending(turns: &mut Vec<PendingUnit>)
-    ensures same { IsPermutation turns.old.items turns.new.items }
-    ensures rising { IsNonDecreasingBy (λ (w : PendingValue). w.place) turns.new.items }
-{
-    turns.sort_unstable_by_key(|turn| turn.place);
-}
-
 /// Lists the unit with this head, and behind it by birth each attached unit that may come to its turn
 /// by its allocation: it is ready, without buffers, and hangs right below another of them. It costs the
 /// nodes of these units and the heads right below them, and for each of these units a logarithm of the
@@ -150,7 +141,7 @@ pub(crate) fn list_pending(
 {
     find_ready_below(table, units, entry.id, head, walked);
     list_heads(table, units, entry, head, walked, turns);
-    order_pending(turns);
+    turns.sort_unstable_by_key(|turn| turn.place);
 }
 
 /// Whether the buffers are abandoned: no strong node of the collection, which has these buffers, is

@@ -1,5 +1,5 @@
 -- Where nodes fall, each unit is held as it was but the one right above them, and none comes to its turn by it.
-use Rattle.forest_steps.proofs.Common.{◌≡◌, refl, ap, sym, ◌∙◌, subst, Bool, true, false, not, ◌&&◌, ◌||◌, ◌⊎◌, inl, inr, List, ◌∷◌, map, Option, Some, None, arith, not-true, list_any, list_all, option_map_or, NodeKey, same_key, In, In-list_any, In-map, In-map-back, and_both, and_left, and_right, both_ways, either_way, false_if, same_key-true, some-injective, In-any, all_on, Node, is_left_of, waiting, Collection, IsWhole, is_of, is_next_node, is_ready_node, is_root_left, is_head, or-true, list_any-map, or_none_right, or_none_left, is_allocated_node, left_parent, all-In, IsSameNode, is_none, or_cases, or_left, or_right, same_key-refl, hangs_in, are_held_except, holds_unit, is_held, is_next_except, waits_among}
+use Rattle.forest_steps.proofs.Common.{◌≡◌, refl, ap, sym, ◌∙◌, subst, Bool, true, false, not, ◌&&◌, ◌||◌, ◌⊎◌, inl, inr, List, ◌∷◌, map, Option, Some, None, arith, not-true, list_any, list_all, option_map_or, NodeKey, same_key, In, In-list_any, In-map, In-map-back, and_both, and_left, and_right, both_ways, either_way, false_if, same_key-true, some-injective, In-any, all_on, Node, is_left_of, waiting, Collection, IsWhole, is_of, is_next_node, is_ready_node, is_root_left, is_head, or-true, or_none_right, or_none_left, is_allocated_node, left_parent, all-In, IsSameNode, is_none, or_cases, or_left, or_right, same_key-refl, hangs_in, are_held_except, holds_unit, is_held, is_next_except, waits_among, hangs_mapped}
 use Rattle.forest_steps.proofs.tables.Upward.{own_head, still_here, by_unit}
 use Rattle.forest_steps.proofs.mid_event.RootLost.{waits_was}
 
@@ -71,15 +71,9 @@ module _ {c : Collection} {falls : NodeKey → Bool} {top above : Node} (way : A
     stays : (n : Node) → (f n).gone ≡ false → (falls n.key ≡ false) × (n.gone ≡ false)
     stays n h = (or_none_left _ _ (sym (made.goes n) ∙ h), or_none_right _ _ (sym (made.goes n) ∙ h))
 
-    -- keys and heads are kept
-    unit_same : (p head : NodeKey) → list_any (λ (q : Node). is_of p q && same_key q.head head) now ≡ list_any (λ (q : Node).
-        is_of p q && same_key q.head head) nodes
-    unit_same p head = list_any-map _ _ f _
-        (λ q there. λ i. same_key ((made.same q).key i) p && same_key ((made.same q).head i) head)
-
-    -- so a node hangs in a unit as before
-    hangs_same : (head : NodeKey) (n : Node) → hangs_in now head n ≡ hangs_in nodes head n
-    hangs_same head n = λ i. option_map_or (λ p. unit_same p head i) n.parent false
+    -- a node that did not fall hangs in a unit as before
+    hangs_same : (head : NodeKey) (n : Node) → falls n.key ≡ false → hangs_in now head n ≡ hangs_in nodes head n
+    hangs_same head n e = ap (hangs_in now head) (sym (made.alone n e)) ∙ hangs_mapped f made.same nodes head n
 
     -- ---- what holds the units
 
@@ -90,7 +84,7 @@ module _ {c : Collection} {falls : NodeKey → Bool} {top above : Node} (way : A
         inr (In-any _ now _ (In-map-back f _ x on)
         (rw (made.alone x e)
         ((λ i. not x.gone && ((same_key x.head m.key && not x.released)
-        || (x.attached && hangs_same m.key x i))) ∙ holds)))
+        || (x.attached && hangs_same m.key x e i))) ∙ holds)))
     by_holder m x on out holds (inl e) =
         let here : x.gone ≡ false = not-true _ (and_left _ _ holds) in
         inl (elim (or_cases (same_key x.head m.key && not x.released) (x.attached && hangs_in nodes m.key x) (and_right (not x.gone) _ holds)) [

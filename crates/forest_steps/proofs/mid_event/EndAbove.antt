@@ -183,10 +183,8 @@ module _ {t : Table Node} {us : List Unit} {ss : List Shelf} {e : Entry} {first 
       let some : unit_over t us top.key ≡ Some q.head =
       over_by top on here ∙ ap (option_and_then (λ p. over_at (node_at t p))) hung ∙ ap over_at (at q q_on)
       ∙ ap (λ b. when b q.head) once in
-      never (sym some ∙ last)
-    where
-      never : Some q.head ≡ None → ⊥
-      never is = cc
+      let no : Some q.head ≡ None = sym some ∙ last in
+      cc
 
   -- so with enough steps it comes to the highest
   reach : (n : ℕ) {h : Node} {keys : List NodeKey} → AreLoose nodes h keys → is_one keys first ≡ true → length (above h.key) ≤ n →

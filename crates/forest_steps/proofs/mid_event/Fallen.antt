@@ -258,17 +258,9 @@ module _ {t : Table Node} {us : List Unit} {ss : List Shelf} {old : Entry} (stor
 
   module _ {now : Table Node} (stores : Stores t now (map (gone_by going) fallen))
       (rooted_now : are_rooted (reverse (map f nodes)) ≡ true) where
-    -- the look-up above
-    look : (k : NodeKey) → node_at now k ≡ option_map f (node_at t k)
-    look = look_then stores
-
-    -- the nodes above
-    nodes_now : nodes_with now s.keys ≡ map f nodes
-    nodes_now = nodes_then stores
-
     -- only the nodes change
     pub now_is : collection_in now s ≡ with_nodes (map f) (collection_in t s)
-    now_is = λ i. record (collection_in t s) { nodes = nodes_now i }
+    now_is = λ i. record (collection_in t s) { nodes = nodes_then stores i }
 
     -- what fell kept its place, and takes with it what hung on it
     whole_after : IsWhole (with_nodes (map f) (collection_in t s))
@@ -301,7 +293,7 @@ module _ {t : Table Node} {us : List Unit} {ss : List Shelf} {old : Entry} (stor
     -- what falls keeps its place, so the store keeps its facts
     pub kept_now : IsStored now ss
     kept_now = kept-with f same (λ n h. or_none_right (falls n.key) n.gone (sym (gone_of _ _ n) ∙ h)) t now stores.same.first
-        stores.same.nexts stores.same.len look stores.parents ss whole_now store.kept
+        stores.same.nexts stores.same.len (look_then stores) stores.parents ss whole_now store.kept
 
     -- the units of other collections stay, and those of this one are counted anew
     pub units_now : AreUnits new (map (collection_in now) ss)

@@ -1,7 +1,8 @@
 -- Nodes of which some went: none may come to its turn that might not before.
-use Rattle.forest_steps.proofs.Common.{◌≡◌, refl, ap, sym, ◌∙◌, subst, Bool, true, false, not, ◌||◌, ◌⊎◌, inl, inr, is_none, is_some, List, map, Option, Some, None, not-true, list_all, list_any, NodeKey, same_key, In, In-map, In-map-back, and_both, and_left, and_right, both_ways, either_way, false_if, same_key-true, all_on, Node, waiting, Collection, is_ready_node, heads_itself, or-true, Fault, is_under, list_any-map, after_loss, ended, is_taken, lost, member_of, IsSound, GoTogether, all-In, head_own, arith, AreClosed, AreOrEnd, hangs_in_some, is_coming, IsSameNode, is_of, option_map_or, ◌&&◌}
+use Rattle.forest_steps.proofs.Common.{◌≡◌, refl, ap, sym, ◌∙◌, subst, Bool, true, false, not, ◌||◌, ◌⊎◌, inl, inr, is_none, is_some, List, map, Option, Some, None, not-true, list_all, NodeKey, same_key, In, In-map-back, and_both, and_left, and_right, both_ways, either_way, false_if, same_key-true, all_on, Node, waiting, Collection, is_ready_node, heads_itself, or-true, Fault, is_under, after_loss, ended, is_taken, lost, member_of, IsSound, GoTogether, all-In, head_own, AreClosed, AreOrEnd, is_coming, IsSameNode}
 use Rattle.sm_names.proofs.ListLaws.{map-map}
 use Rattle.forest_steps.proofs.mid_event.RootLost.{waits_was}
+use Rattle.forest_steps.proofs.turns.Gifts.{closed_mapped}
 
 -- some go, and nothing else is asked of them changes
 pub record OnlyGo (f : Node → Node) : Type 0 where
@@ -80,11 +81,8 @@ module _ {c : Collection} (sound : IsSound c) {f : Node → Node} (only : OnlyGo
       list_all (is_ready_node h.key) now ≡ true → list_all (is_ready_node h.key) nodes ≡ true
   ready_was h on here waits own all = all_on _ _ (λ m there. one m there (either_way (same_key m.head h.key)))
     where
-      other : (g r : Bool) → (g || (true || r)) ≡ true
-      other g r = grind arith
-
       one : (m : Node) → In m nodes → (same_key m.head h.key ≡ true) ⊎ (same_key m.head h.key ≡ false) → is_ready_node h.key m ≡ true
-      one m there (inr out) = rw out (other m.gone (m.released || is_some m.constraints))
+      one m there (inr out) = rw out (or-true m.gone)
       one m there (inl same) =
           let unit : m.head ≡ h.key = same_key-true _ _ same in
           let stays : (f m).gone ≡ false =
@@ -107,20 +105,9 @@ module _ {c : Collection} (sound : IsSound c) {f : Node → Node} (only : OnlyGo
       and_both _ _ attached (and_both _ _ (ap not (here_was n here)) (and_both _ _ (ap not waits)
       (ready_was n on here waits (head_own c sound n on attached) all)))
 
-  -- keys and heads are kept
-  hangs_same : (hs : List NodeKey) (n : Node) → hangs_in_some now hs (f n) ≡ hangs_in_some nodes hs n
-  hangs_same hs n = λ i. option_map_or (λ p. list_any-map (λ (q : Node). is_of p q && list_any (same_key q.head) hs)
-      (λ (q : Node). is_of p q && list_any (same_key q.head) hs) f nodes
-      (λ q there. λ j. same_key ((only.same q).key j) p && list_any (same_key ((only.same q).head j)) hs) i) ((only.same n).parent i) false
-
   -- a unit that is coming after was coming before, and hangs as it did
   pub closed_on : (hs : List NodeKey) → AreClosed nodes hs → AreClosed now hs
-  closed_on hs closed m there coming hangs =
-      let x = In-map f _ m there in
-      ap (λ (n : Node). list_any (same_key n.key) hs) x.2
-      ∙ (ap (λ j. list_any (same_key j) hs) (only.same x.0).key
-      ∙ closed x.0 x.1 (coming_was x.0 x.1 (ap (is_coming now) (sym x.2) ∙ coming))
-      (sym (hangs_same hs x.0) ∙ (ap (hangs_in_some now hs) (sym x.2) ∙ hangs)))
+  closed_on hs closed = closed_mapped f only.same nodes hs coming_was closed
 
   -- the root waits where it did, if it is there still
   pub waits_on : waiting nodes ≡ None → waiting now ≡ None

@@ -1,7 +1,7 @@
 -- The units that may come to their turn by one, in a list: from what a walk finds to the order of their places.
-use Rattle.forest_steps.proofs.Common.{◌≡◌, ℕ, suc, ◌<◌, ◌≤◌, ◌==◌, nat_lt, refl, ap, sym, ◌∙◌, subst, Bool, true, false, not, ◌⊎◌, inl, inr, get_or, length, List, [], ◌∷◌, ◌++◌, map, Some, None, arith, eqb-true, lt-ltb, not-true, find, list_any, option_map_or, NodeKey, same_key, In-list_any, In-map, In-map-back, and_both, and_left, and_right, both_ways, either_way, false_if, or_cases, or_right, same_key-refl, same_key-true, some-injective, In-any, Table, node_at, parent_at, Entry, Node, Unit, AreUnits, unit_at, IsStored, Shelf, collection_in, nodes_with, shelf_of, Below, Top, Within, Going, HasUnits, Hangs, Roots, is_head_at, is_waiting_head, all-In, found_filed, in_looked, key_listed, node_there, in_shelf, slice_get, In-get_or, PendingUnit, AreHeads, IsGathered, hangs_below, is_ready_head, AreClosed, ArePlacedIfThere, AreTurns, MidEvent, is_head_left, turn_heads}
+use Rattle.forest_steps.proofs.Common.{◌≡◌, ℕ, suc, ◌<◌, ◌≤◌, ◌==◌, nat_lt, refl, ap, sym, ◌∙◌, subst, Bool, true, false, not, ◌⊎◌, inl, inr, get_or, length, List, [], ◌∷◌, ◌++◌, map, Some, None, arith, eqb-true, lt-ltb, not-true, find, list_any, option_map_or, NodeKey, same_key, In-list_any, In-map, In-map-back, and_both, and_left, and_right, both_ways, either_way, false_if, or_cases, or_right, same_key-refl, same_key-true, some-injective, In-any, Table, node_at, parent_at, Entry, Node, Unit, AreUnits, unit_at, IsStored, Shelf, collection_in, nodes_with, shelf_of, Below, Top, Within, Going, HasUnits, Hangs, Roots, is_head_at, is_waiting_head, in_looked, key_listed, node_there, in_shelf, slice_get, In-get_or, PendingUnit, AreHeads, IsGathered, hangs_below, is_ready_head, AreClosed, ArePlacedIfThere, AreTurns, MidEvent, is_head_left, turn_heads, eq-eqb}
 use Rattle.forest_store.proofs.changes.Altering.{Some-shelf}
-use Rattle.forest_store.proofs.allocation.Before.{at_key, closed_below}
+use Rattle.forest_store.proofs.allocation.Before.{closed_below}
 use Rattle.std.proofs.Common.{filter}
 use Rattle.std.proofs.lemmas.List.Sorted.{All-permutation, IsPermutation-map, list_any-IsPermutation}
 use Rattle.std.proofs.lemmas.Option.{slice_get_read}
@@ -14,6 +14,7 @@ use Rattle.forest_steps.specs.MidEvent.{AreInTurn}
 use Rattle.forest_steps.proofs.lists.ByKey.{place_of}
 use Rattle.forest_steps.proofs.turns.Places.{grown, key_node, node_key, one_place}
 use Rattle.forest_steps.proofs.mid_event.EndAbove.{head_left}
+use Rattle.forest_steps.proofs.tables.OfShelf.{of_it}
 use Rattle.forest_steps.proofs.mid_event.Inside as inside
 
 -- ---- lists of turns
@@ -109,10 +110,6 @@ module _ {t : Table Node} {ss : List Shelf} (kept : IsStored t ss) {s : Shelf} (
     gathered : IsGathered t us s.id k hs ks
     gathered = record { walked = walked; are = inr all }
 
-    -- each node stands in the table under its key
-    at : (m : Node) → In m nodes → node_at t m.key ≡ Some m
-    at m on = at_key t ss kept s found k m on
-
     -- a node of the table that heads a unit as it is asked for is one of the collection
     in_nodes : (j : NodeKey) {m : Node} → node_at t j ≡ Some m → is_ready_head us s.id m ≡ true → In m nodes
     in_nodes j {m} is ready = in_shelf t ss kept _ s found j m is (eqb-true _ _ (and_left _ _ ready))
@@ -123,23 +120,17 @@ module _ {t : Table Node} {ss : List Shelf} (kept : IsStored t ss) {s : Shelf} (
 
     -- ---- none is left out
 
-    -- each filed key has a node of the collection
-    own : (j : NodeKey) → In j s.keys → {m : Node} → node_at t j ≡ Some m → m.collection == s.id ≡ true
-    own j on is =
-        ap (λ o. option_map_or (λ (n : Node). n.collection == s.id) o false) (sym is)
-        ∙ all-In _ _ j on (found_filed t _ ss s kept.filed found)
-
     -- what may come to its turn was walked, so it was listed
     none_out : list_any (left_out_at t us hs) s.keys ≡ false
     none_out = false_if _ (λ e.
-        let x = In-list_any _ _ e in
+        let x = In-list_any (left_out_at t us hs) s.keys e in
         let m = node_there _ _ x.2 in
         let key : m.0.key ≡ x.0 = kept.named x.0 m.0 m.1 in
         let is : node_at t m.0.key ≡ Some m.0 = ap (node_at t) key ∙ m.1 in
         let on : In m.0 nodes = in_looked t kept.named Going.Leaves _ m.0 is
         (In-any _ _ x.0 x.1 (subst (λ j. same_key m.0.key j ≡ true) key (same_key-refl m.0.key))) in
         let hangs : hangs_below t us hs m.0 ≡ true = and_left _ _ m.2 in
-        let ready : is_ready_head us s.id m.0 ≡ true = and_both _ _ (own x.0 x.1 m.1)
+        let ready : is_ready_head us s.id m.0 ≡ true = and_both _ _ (eq-eqb _ _ (of_it kept found m.0 on))
         (and_both _ _ (lt-ltb m.0.key.slot (length us) (within m.0.key m.0 is))
         (and_both (is_waiting_head m.0) _ (and_left (is_waiting_head m.0) _ hangs)
         (and_left ((unit_at us m.0.key.slot).unready == 0) _ (and_right (is_waiting_head m.0) _ hangs)))) in

@@ -1,5 +1,5 @@
 -- Whether an attached unit is next, which its head, the node above it and the counts tell, while forced steps are being made.
-use Rattle.forest_steps.proofs.Common.{◌≡◌, ℕ, refl, ap, sym, ◌∙◌, subst, Bool, true, false, not, ◌||◌, inl, inr, List, [], ◌∷◌, Option, Some, None, eq-eqb, not-true, list_all, list_any, option_map_or, NodeKey, same_key, times, In, In-list_any, and_both, and_left, and_right, both_ways, either_way, false_if, same_key-true, all_on, In-any, Table, node_at, parent_at, Entry, Node, Unit, unit_at, waits_in, waiting, Shelf, nodes_with, is_next_node, is_ready_node, same_key-equal, row_at, unit_of, is_allocated_node, is_waiting_head, count_none, arith, or_first, IsSome, PendingUnit, has_turn_at, is_next_there, MidEvent, is_head_left, is_next_except, turn_heads, waits_among}
+use Rattle.forest_steps.proofs.Common.{◌≡◌, ℕ, refl, ap, sym, ◌∙◌, subst, Bool, true, false, not, inl, inr, List, [], ◌∷◌, Option, Some, None, eq-eqb, not-true, list_all, list_any, option_map_or, NodeKey, same_key, times, In, In-list_any, and_both, and_left, and_right, both_ways, either_way, false_if, same_key-true, all_on, In-any, Table, node_at, parent_at, Entry, Node, Unit, unit_at, waits_in, waiting, Shelf, nodes_with, is_next_node, is_ready_node, same_key-equal, row_at, unit_of, is_allocated_node, is_waiting_head, count_none, arith, or_first, IsSome, PendingUnit, has_turn_at, is_next_there, MidEvent, is_head_left, is_next_except, turn_heads, waits_among, or_left}
 use Rattle.forest_store.specs.UnitAllocation.{has_buffers_there}
 use Rattle.forest_steps.proofs.turns.Gifts.{not_this}
 use Rattle.forest_steps.proofs.mid_event.Ready.{none_next, under_with, unit_told}
@@ -111,11 +111,9 @@ module _ {t : Table Node} {us : List Unit} {ss : List Shelf} {e : Entry} {k : No
   -- more may be due
   pub more_due : (pending : List NodeKey) → MidEvent t us ss e [] (k ∷ pending)
   more_due pending = under_with u u.held
-      (next_fewer nodes_one (k ∷ []) (k ∷ pending) u.next (λ n on next one. more (same_key n.key k) (list_any (same_key n.key) pending) one))
+      (next_fewer nodes_one (k ∷ []) (k ∷ pending) u.next
+      (λ n on next one. or_left (same_key n.key k) (list_any (same_key n.key) pending) (or_first _ _ one refl)))
       (wait_among nodes_one (k ∷ pending) (none_waits nodes_one no_wait))
-    where
-      more : (a b : Bool) → (a || false) ≡ true → (a || b) ≡ true
-      more a b h = grind arith
 
   -- so where a list begins with it, those that are listed
   pub listed_due : (ws : List PendingUnit) (place : ℕ) (rest : List PendingUnit) → ws ≡ record { place = place; head = k } ∷ rest →

@@ -1,5 +1,5 @@
 -- The root's unit is allocated with its buffers, and the attached units that follow have their turns.
-use Rattle.forest_steps.proofs.Common.{◌≡◌, ◌≢◌, ℕ, ◌==◌, nat_lt, refl, ap, sym, ◌∙◌, subst, Bool, true, false, not, ◌&&◌, ◌||◌, is_none, inl, inr, List, [], ◌∷◌, map, Option, Some, None, eqb-true, find, list_any, option_map_or, HeldBuffer, NodeKey, Buffers, same_key, In, and_both, either_way, or_left, same_key-refl, same_key-true, In-any, Table, Entry, Node, Unit, over_except, strong_count, AreUnits, waiting, Collection, IsStored, IsWhole, Shelf, collection_in, nodes_with, put_shelf, shelf_of, is_of, reserved_count, heads_itself, Handles, Settles, is_head, same_key-equal, is_strong, after_allocation, given_few, IsGivenAt, given_at, any_map, times_map, all-In, found_put, IsBareHead, in_all, looked_there, arith, or_false, AllocationOutcome, PendingUnit, IsComing, IsRooted, first_made, shelf_then, IsUnitListed, AreTurns, AfterPropagation, MidEvent, are_held_except, is_head_left, is_next_except, turn_heads, waits_among, kept-put}
+use Rattle.forest_steps.proofs.Common.{◌≡◌, ◌≢◌, ℕ, ◌==◌, nat_lt, refl, ap, sym, ◌∙◌, subst, Bool, true, false, not, ◌&&◌, is_none, inl, inr, List, [], ◌∷◌, map, Option, Some, None, eqb-true, find, list_any, option_map_or, HeldBuffer, NodeKey, Buffers, same_key, In, and_both, either_way, or_left, same_key-refl, same_key-true, In-any, Table, Entry, Node, Unit, over_except, strong_count, AreUnits, waiting, Collection, IsStored, IsWhole, Shelf, collection_in, nodes_with, put_shelf, shelf_of, is_of, reserved_count, Handles, Settles, is_head, same_key-equal, is_strong, after_allocation, given_few, IsGivenAt, given_at, any_map, times_map, all-In, found_put, IsBareHead, in_all, looked_there, arith, or_false, AllocationOutcome, PendingUnit, IsComing, IsRooted, first_made, shelf_then, IsUnitListed, AreTurns, AfterPropagation, MidEvent, are_held_except, is_head_left, is_next_except, turn_heads, waits_among, kept-put}
 use Rattle.forest_steps.proofs.changes.Dropped.{nothing_stored}
 use Rattle.forest_steps.proofs.changes.FirstAllocated.{all_there, found_there, units_there}
 use Rattle.forest_steps.proofs.allocation.RootUnit.{waits_none}
@@ -10,6 +10,7 @@ use Rattle.forest_steps.proofs.mid_event.RootLost.{IsReadyRoot, ready_root}
 use Rattle.forest_steps.proofs.mid_event.Turns.{hangs_more, turns_behind}
 use Rattle.forest_steps.proofs.mid_event.UnitGiven.{IsUnitGiven, closed_given, f, given_is, held_then, next_parts, next_then, served, unit_given, was_there}
 use Rattle.forest_steps.proofs.tables.Rows.{same_on}
+use Rattle.forest_steps.proofs.tables.Upward.{own_head}
 
 -- another shelf stays where one is put
 in_put : (new : Shelf) (ss : List Shelf) (x : Shelf) → In x ss → x.id ≢ new.id → In x (put_shelf new ss)
@@ -75,33 +76,23 @@ module _ {t now : Table Node} {us : List Unit} {ss : List Shelf} {e : Entry} {k 
   abbrev r : Node
   r = coming.root
 
-  -- each collection is whole
-  formed : IsWhole (collection_in t (shelf_of e))
-  formed = whole_under u
-
   -- the root that waits is left, and has no buffers
   root : IsReadyRoot (nodes_with t e.keys.items) coming.root
   root = ready_root _ coming.waits
 
   -- the root heads its own unit
-  own_head : coming.root.head ≡ k
-  own_head =
-      let mine : heads_itself r ≡ true = all-In _ _ r root.on formed.sound.heads in
-      same_key-true _ _ (by r.parent root.top (same_key r.head r.key) mine) ∙ coming.own
-    where
-      by : (o : Option NodeKey) → o ≡ None → (b : Bool) → (not (is_none o || r.attached) || b) ≡ true → b ≡ true
-      by None e b h = h
-      by (Some p) e b h = cc
+  heads_own : coming.root.head ≡ k
+  heads_own = own_head (whole_under u) r root.on (or_left _ _ (ap is_none root.top)) ∙ coming.own
 
   -- ---- the table
 
   -- the head has no buffers yet
   top : IsBareHead (nodes_with t e.keys.items) k
-  top = record { head = r; on = root.on; key = coming.own; own = own_head; here = root.here; waits = root.bare }
+  top = record { head = r; on = root.on; key = coming.own; own = heads_own; here = root.here; waits = root.bare }
 
   -- the unit is allocated in the table
   unit : IsUnitGiven t now e k
-  unit = unit_given e u.store.kept u.store.found formed top listed given
+  unit = unit_given e u.store.kept u.store.found (whole_under u) top listed given
 
   -- the first allocation made them
   pub made_then : collection_in now s' ≡ record {
@@ -118,14 +109,14 @@ module _ {t now : Table Node} {us : List Unit} {ss : List Shelf} {e : Entry} {k 
   whole' : IsWhole (collection_in t s')
   whole' = record {
     sound = record {
-      distinct = formed.sound.distinct;
-      heads = formed.sound.heads;
-      one_root = formed.sound.one_root;
+      distinct = (whole_under u).sound.distinct;
+      heads = (whole_under u).sound.heads;
+      one_root = (whole_under u).sound.one_root;
       few = few;
     };
-    rooted = formed.rooted;
-    united = formed.united;
-    together = formed.together;
+    rooted = (whole_under u).rooted;
+    united = (whole_under u).united;
+    together = (whole_under u).together;
   }
 
   -- the shelf is put in its place, with the same keys
@@ -147,11 +138,11 @@ module _ {t now : Table Node} {us : List Unit} {ss : List Shelf} {e : Entry} {k 
 
   -- the root is of its own unit
   own_unit : list_any (same_key r.head) hs ≡ true
-  own_unit = or_left _ _ (same_key-equal _ _ own_head)
+  own_unit = or_left _ _ (same_key-equal _ _ heads_own)
 
   -- the root has its buffers, so it waits no more
   waits_then : waiting (served k (nodes_with t e.keys.items)) ≡ None
-  waits_then = waits_none formed.sound hs r root.on (and_both _ _ (ap is_none root.top) (ap not root.here)) own_unit
+  waits_then = waits_none (whole_under u).sound hs r root.on (and_both _ _ (ap is_none root.top) (ap not root.here)) own_unit
 
   -- the same, in the table
   pub waits_no_more : waits_among [] (nodes_with now e.keys.items) ≡ true

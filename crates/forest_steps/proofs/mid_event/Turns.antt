@@ -262,7 +262,8 @@ module _ {t : Table Node} {us : List Unit} {ss : List Shelf} {e : Entry} {k : No
 
         -- the root is not lost, since the buffers are not abandoned
         not_lost : losing nodes opened (find is_root_left nodes) ≡ None
-        not_lost = not_losing nodes opened (find is_root_left nodes) (kept_root t e _ (found_filed t _ ss _ u.store.kept.filed u.store.found) (whole_under u) u.store.strong
+        not_lost = not_losing nodes opened (find is_root_left nodes)
+            (kept_root t e _ (found_filed t _ ss _ u.store.kept.filed u.store.found) (whole_under u) u.store.strong
             (kept_or e.strong _ stays))
 
         -- no step comes before that of the next head, and what is decided is what is forced
@@ -298,7 +299,8 @@ module _ {t : Table Node} {us : List Unit} {ss : List Shelf} {e : Entry} {k : No
               let found_head : node_of nodes k ≡ Some head =
               ap (node_of nodes) (sym head_key) ∙ found_by_key _ _ (whole_under u).sound.distinct head_on in
               let blocks : blocks_here k head ≡ true = and_both _ _ (ap not head_here)
-              (and_both _ _ (same_key-equal _ _ head_key) (or_left head.attached (head.dispensable && head.allocated) (and_left head.attached (not head.gone && not head.allocated) waits))) in
+              (and_both _ _ (same_key-equal _ _ head_key)
+              (or_left head.attached (head.dispensable && head.allocated) (and_left head.attached (not head.gone && not head.allocated) waits))) in
               let high : highest_of nodes k ≡ k =
               blocked_first (λ j. list_any (blocks_here j) nodes) k (above_among (reverse nodes) k)
               (In-any (blocks_here k) _ _ head_on blocks) in

@@ -5,7 +5,7 @@ use Rattle.forest_store.proofs.lists.Lookups.{same_key-swap}
 use Rattle.forest_steps.proofs.allocation.Giving.{given_in, given_other, given_out, kept_given, same_given}
 use Rattle.forest_store.proofs.tables.Writing.{IsWhole-map, collections-map}
 use Rattle.forest_store.proofs.tallies.Slots.{units_with}
-use Rattle.forest_steps.proofs.turns.Gifts.{ready_same}
+use Rattle.forest_steps.proofs.turns.Gifts.{ready_same, closed_mapped}
 use Rattle.forest_steps.proofs.mid_event.Listed.{key_within, of_unit}
 use Rattle.forest_steps.proofs.tables.OfShelf.{of_it}
 
@@ -54,12 +54,6 @@ hangs_same : (k : NodeKey) (nodes : List Node) (head : NodeKey) (n : Node) → h
 hangs_same k nodes head n = λ i. option_map_or (λ p. any_map (λ (q : Node). is_of p q && same_key q.head head)
     (λ (q : Node). is_of p q && same_key q.head head) (f k) nodes (λ q. refl) i) n.parent false
 
--- keys and heads are kept
-pub hangs_some_same : (k : NodeKey) (nodes : List Node) (hs : List NodeKey) (n : Node) →
-    hangs_in_some (served k nodes) hs (f k n) ≡ hangs_in_some nodes hs n
-hangs_some_same k nodes hs n = λ i. option_map_or (λ p. any_map (λ (q : Node). is_of p q && list_any (same_key q.head) hs)
-    (λ (q : Node). is_of p q && list_any (same_key q.head) hs) (f k) nodes (λ q. refl) i) n.parent false
-
 -- allocation changes nothing of what holds a unit
 pub held_then : (k : NodeKey) (nodes : List Node) → are_held_except [] nodes ≡ true → are_held_except [] (served k nodes) ≡ true
 held_then k nodes held = all_mapped (is_held (served k nodes)) _ (f k) nodes (λ n.
@@ -75,11 +69,9 @@ coming_was k nodes n h = grind (arith, ready_same)
 
 -- a unit that is coming after was coming before, and hangs as it did
 pub closed_given : (k : NodeKey) (nodes : List Node) (hs : List NodeKey) → AreClosed nodes hs → AreClosed (served k nodes) hs
-closed_given k nodes hs closed m there is hangs =
-    let x = In-map _ _ m there in
-    ap (λ (n : Node). list_any (same_key n.key) hs) x.2
-    ∙ closed x.0 x.1 (coming_was k nodes x.0 (ap (is_coming (served k nodes)) (sym x.2) ∙ is))
-    (sym (hangs_some_same k _ hs x.0) ∙ (ap (hangs_in_some (served k nodes) hs) (sym x.2) ∙ hangs))
+closed_given k nodes hs closed =
+    closed_mapped (f k) (λ m. record { key = refl; parent = refl; attached = refl; collection = refl; head = refl }) nodes hs
+    (λ n on. coming_was k nodes n) closed
 
 -- one whose parent has its buffers now had it so, or hangs right below the unit
 turn_was : (k : NodeKey) (nodes : List Node) (n : Node) (o : Option NodeKey) → n.parent ≡ o →

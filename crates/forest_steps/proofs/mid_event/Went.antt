@@ -122,28 +122,20 @@ module _ {t : Table Node} {us : List Unit} {ss : List Shelf} {old : Entry} {unhe
 
     -- what goes hung on a node, whose unit stays
     module _ {p : NodeKey} (up : highest.parent ≡ Some p) where
+      -- the parent of the top is one of the nodes, and left
+      abbrev above : IsLeft nodes p
+      above = parent opens.store.kept opens.store.found gone.forest left gone.taken up
+
       abbrev over : Node
-      over = (parent opens.store.kept opens.store.found gone.forest left gone.taken up).node
-
-      -- the parent of the top is one of the nodes
-      over_on : In over nodes
-      over_on = (parent opens.store.kept opens.store.found gone.forest left gone.taken up).on
-
-      -- it has the key that the top names
-      over_key : over.key ≡ p
-      over_key = (parent opens.store.kept opens.store.found gone.forest left gone.taken up).is
-
-      -- it is left
-      over_here : over.gone ≡ false
-      over_here = (parent opens.store.kept opens.store.found gone.forest left gone.taken up).here
+      over = above.node
 
       -- no two nodes have one key
       over_one : (q : Node) → In q nodes → q.key ≡ over.key → q ≡ over
-      over_one q on is = distinct_one nodes (whole_under opens).sound.distinct q over on over_on is
+      over_one q on is = distinct_one nodes (whole_under opens).sound.distinct q over on above.on is
 
       -- the top names its key
       up_over : highest.parent ≡ Some over.key
-      up_over = up ∙ ap Some (sym over_key)
+      up_over = up ∙ ap Some (sym above.is)
 
       -- what falls is the top, or hangs on something that falls
       ups : (x : Node) → In x nodes → x.gone ≡ false → falls x.key ≡ true → (x ≡ highest) ⊎ ((q : NodeKey) × (x.parent ≡ Some q) ×
@@ -162,7 +154,7 @@ module _ {t : Table Node} {us : List Unit} {ss : List Shelf} {old : Entry} {unhe
             let q = shared (whole_under opens) _ highest_on highest_here no_head up_over in
             let unit : highest.head ≡ h.key =
             sym q.3 ∙ (ap (λ (n : Node). n.head) (over_one q.0 q.1 q.2) ∙ sym is) in
-            let x = head_there (whole_under opens) _ over_on over_here in
+            let x = head_there (whole_under opens) _ above.on above.here in
             let same : x.0 ≡ h = distinct_one nodes (whole_under opens).sound.distinct x.0 h x.1 on (x.2 ∙ sym is) in
             let head : is_head h ≡ true = ap is_head (sym same) ∙ x.4 in
             let here : h.gone ≡ false = ap (λ (n : Node). n.gone) (sym same) ∙ x.3 in
@@ -176,7 +168,7 @@ module _ {t : Table Node} {us : List Unit} {ss : List Shelf} {old : Entry} {unhe
       -- the head of the unit above is left
       head_left : is_head_left (map goes nodes) over.head ≡ true
       head_left =
-          let x = head_there (whole_under opens) _ over_on over_here in
+          let x = head_there (whole_under opens) _ above.on above.here in
           let out : falls x.0.key ≡ false =
           head_out opens.store.kept opens.store.found gone.forest left gone.taken up x.0 x.1 x.3 x.2 in
           In-any _ _ _ (In-map-back _ _ x.0 x.1)
@@ -207,7 +199,7 @@ module _ {t : Table Node} {us : List Unit} {ss : List Shelf} {old : Entry} {unhe
       -- the parent stands in the table
       over_found : option_map_or (head_of t) highest.parent None ≡ Some over.head
       over_found =
-          ap (λ o. option_map_or (head_of t) o None) up_over ∙ ap (option_map (λ (n : Node). n.head)) (at_key opens.store.kept opens.store.found _ over_on)
+          ap (λ o. option_map_or (head_of t) o None) up_over ∙ ap (option_map (λ (n : Node). n.head)) (at_key opens.store.kept opens.store.found _ above.on)
 
     -- by cases on whether the top has a parent
     pub went : AfterRemoval t now after ss old new origin fault (head_over t keys) unheld pending

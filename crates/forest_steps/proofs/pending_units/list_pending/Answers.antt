@@ -1,6 +1,7 @@
 -- What the walk finds is listed by birth.
-use Rattle.forest_steps.proofs.Common.{ap, ◌∙◌, is_head_at}
+use Rattle.forest_steps.proofs.Common.{rules, ap, ◌∙◌, is_head_at, PendingUnit}
 use Rattle.std.proofs.Common.{filter}
+use Rattle.std.proofs.lemmas.List.Sorted.{IsNonDecreasingBy-from_sort, answers_always}
 use Rattle.forest_steps.proofs.mid_event.Listing.{turns_listed}
 use Rattle.forest_steps.proofs.pending_units.list_pending.Goals as goal
 
@@ -11,4 +12,6 @@ returns-clause-listed c ss unheld pending under left =
     let e = c.args.entry.now in
     turns_listed under left c.find_ready_below.ensures.walked _ _
     (c.list_heads.ensures.heads ∙ ap (λ l. filter (is_head_at t us e.id c.args.head) l) c.deref.ensures.value)
-    c.list_heads.ensures.placed c.order_pending.ensures.same c.order_pending.ensures.rising
+    c.list_heads.ensures.placed c.sort_unstable_by_key.ensures.permutation
+    (IsNonDecreasingBy-from_sort (λ (w : PendingUnit). w.place) _
+    (c.sort_unstable_by_key.ensures.sorted (λ (w : PendingUnit). w.place) (answers_always _ _ _ (λ f a r g called. search rules))))
