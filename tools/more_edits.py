@@ -182,8 +182,8 @@ class Crate:
         return f"refused{', but only by a proof file that names what is gone' if is_named else ''}: {first[:150]}"
 
     def together(self, chosen):
-        """Tries edits of different functions in one check. Gives what it says of each edit that it decides, and of each
-        function of the others which functions below it are not proved."""
+        """Tries edits of different functions in one check, but those that no longer apply behind the others. Gives what it
+        says of each edit that it decides, and of each function of the others which functions below it are not proved."""
         texts, made = {}, []
         for edit, names in chosen:
             try:
@@ -207,7 +207,7 @@ class Crate:
         while left:
             chosen = chosen_of(left, apart)
             said, below = self.together(chosen)
-            later = []
+            later, unmade = [], []
             for edit, names in chosen:
                 new = {(it, other) for it in names for other in below.get(it, ())} - apart
                 if edit in said:
@@ -215,9 +215,13 @@ class Crate:
                 elif new:
                     apart |= new
                     later.append((edit, names))
-                else:
+                elif names & set(below):
                     singly.append((edit, names))
-            left = later + [it for it in left if it not in chosen]
+                else:
+                    unmade.append((edit, names))
+            if len(unmade) == len(chosen):
+                return singly + left
+            left = later + [it for it in left if it not in chosen] + unmade
         return singly
 
     def run(self, say):
