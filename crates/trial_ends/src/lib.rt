@@ -1,5 +1,5 @@
-//! Trials of client_ends, all by its public calls. A crate of their own, so that the ends are proved
-//! once.
+//! Trials of service_lock and client_ends, all by their public calls: see docs/TESTING.md. A crate of their own, so that
+//! each of those is proved once.
 #![tactic(auto)]
 
 #[cfg(test)]

@@ -5,6 +5,7 @@ mod asking;
 mod crowd;
 mod drafting;
 mod limits;
+mod lock;
 mod memory;
 mod remains;
 mod retried;
@@ -13,19 +14,19 @@ mod stage;
 mod typed;
 
 #[test]
-fn drafts_are_made_when_they_are_synced(rt: HostRuntime) {
+fn sync_makes_the_drafted_calls(rt: HostRuntime) {
     let _ = stage(&rt, rt.alloc(), Scene::Drafts);
 }
 
 #[test]
-fn every_call_is_made_again_after_memory_was_refused(rt: HostRuntime) {
+fn every_typed_call_succeeds_after_out_of_memory(rt: HostRuntime) {
     if stage(&rt, rt.alloc(), Scene::Typed) {
         let _ = println!(rt; "memory was refused");
     }
 }
 
 #[test]
-fn nothing_is_made_after_the_last_event(rt: HostRuntime) {
+fn each_typed_call_after_the_last_event_is_answered_history_full(rt: HostRuntime) {
     let _ = stage(&rt, rt.alloc(), Scene::LastEvent);
 }
 
@@ -35,12 +36,12 @@ fn clients_in_threads_share_one_record(rt: HostRuntime) {
 }
 
 #[test]
-fn what_is_left_goes_when_the_service_has_ended(rt: HostRuntime) {
+fn values_are_spent_once_the_service_has_ended(rt: HostRuntime) {
     let _ = stage(&rt, rt.alloc(), Scene::Remains);
 }
 
 #[test]
-fn drafts_and_gifts_are_made_again_after_memory_was_refused(rt: HostRuntime) {
+fn drafts_and_gifts_succeed_after_out_of_memory(rt: HostRuntime) {
     if stage(&rt, rt.alloc(), Scene::Memory) {
         let _ = println!(rt; "memory was refused");
     }

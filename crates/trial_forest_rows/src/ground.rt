@@ -12,11 +12,8 @@ use alloc_event::node::Node;
 use alloc_event::summary::Summary;
 use buffer_holds::Holds;
 use buffer_pool::Pool;
-use sm_names::{
-    BufferName, Call, Cause, CollectionId, Constraints, NoMemory, NodeKey, Reply, Strength,
-};
+use sm_names::{BufferName, Call, Cause, CollectionId, NoMemory, NodeKey, Reply, Strength};
 use std::alloc::Global;
-use std::test::Fail;
 
 /// How many nodes the forest has at most.
 pub const LIMIT: usize = 1024;
@@ -64,17 +61,15 @@ fn is_tracked(effect: &Effect) -> bool
 
 impl Ground {
     /// An empty forest, and a pool with all pages free.
-    pub fn new(alloc: Global) -> Result<Ground, Fail> {
-        for _ in 0..2 {
-            if let Ok(pool) = Pool::new(alloc, 16) {
-                return Ok(Ground {
-                    forest: Forest::new(alloc, LIMIT),
-                    pool,
-                    holds: Holds::new(alloc, 8),
-                });
-            }
+    pub fn new(alloc: Global) -> Option<Ground> {
+        match Pool::new(alloc, 16) {
+            Ok(pool) => Some(Ground {
+                forest: Forest::new(alloc, LIMIT),
+                pool,
+                holds: Holds::new(alloc, 8),
+            }),
+            Err(_) => None,
         }
-        Err(Fail::from("no memory for a pool"))
     }
 
     /// What is seen of it.
@@ -142,27 +137,27 @@ impl Ground {
     }
 
     /// Makes the change, if it may be made. Where memory is refused nothing is seen to change, and
-    /// the same call is made once more.
-    fn change(&mut self, change: Change) -> Result<Option<NodeKey>, Fail> {
+    /// the same call is made once more. `None` if the change was not made so.
+    fn change(&mut self, change: Change) -> Option<Option<NodeKey>> {
         for _ in 0..2 {
             if !self.may_change(&change) {
-                return Err(Fail::from("a change that may not be made"));
+                return None;
             }
             let before = self.view();
             match self.settle(change) {
-                Ok(key) => return Ok(key),
+                Ok(key) => return Some(key),
                 Err(_) => {
                     if self.view() != before {
-                        return Err(Fail::from("a refused change left something"));
+                        return None;
                     }
                 }
             }
         }
-        Err(Fail::from("refused twice"))
+        None
     }
 
     /// A node that is born, whose end client 3 holds.
-    pub fn bear(&mut self, parent: Option<NodeKey>, attached: bool) -> Result<NodeKey, Fail> {
+    pub fn bear(&mut self, parent: Option<NodeKey>, attached: bool) -> Option<NodeKey> {
         let event = self.forest.len() as u64;
         let birth = Change::Birth {
             parent,
@@ -170,88 +165,41 @@ impl Ground {
             client: 3,
             event,
         };
-        match self.change(birth)? {
-            Some(key) => Ok(key),
-            None => Err(Fail::from("a birth without a key")),
-        }
+        self.change(birth)?
     }
 
-    // The call takes effect, and was answered Done.
-    fn settle_done(&mut self, call: Call) -> Result<(), Fail> {
+    /// The call takes effect, and was answered Done. Answers whether it did.
+    pub fn settle_done(&mut self, call: Call) -> bool {
         match effect_of(&call, &Reply::Done) {
-            Some(effect) => {
-                self.change(effect)?;
-                Ok(())
-            }
-            None => Err(Fail::from("a call without an effect")),
+            Some(effect) => self.change(effect).is_some(),
+            None => false,
         }
     }
 
-    /// The node asks for this.
-    pub fn ask(&mut self, key: NodeKey, asked: Constraints) -> Result<(), Fail> {
-        self.settle_done(Call::SetConstraints(key, asked))
+    /// The node fails. Answers whether it did.
+    pub fn lose(&mut self, key: NodeKey) -> bool {
+        self.change(Change::Loss(key, Cause::Lost)).is_some()
     }
 
-    /// The node is released.
-    pub fn release(&mut self, key: NodeKey) -> Result<(), Fail> {
-        self.settle_done(Call::Release(key))
+    /// Only handles changed. Answers whether that was seen.
+    pub fn look_again(&mut self) -> bool {
+        self.change(Change::Nothing).is_some()
     }
 
-    /// The node's failure goes no further up, once its unit has its buffers.
-    pub fn make_dispensable(&mut self, key: NodeKey) -> Result<(), Fail> {
-        self.settle_done(Call::SetDispensable(key))
-    }
-
-    /// The node is weak.
-    pub fn weaken(&mut self, key: NodeKey) -> Result<(), Fail> {
-        self.settle_done(Call::SetWeak(key))
-    }
-
-    /// The node may take weak handles.
-    pub fn allow_weak(&mut self, key: NodeKey) -> Result<(), Fail> {
-        self.settle_done(Call::SetWeakOk(key, false))
-    }
-
-    /// The node fails.
-    pub fn lose(&mut self, key: NodeKey) -> Result<(), Fail> {
-        self.change(Change::Loss(key, Cause::Lost))?;
-        Ok(())
-    }
-
-    /// Only handles changed.
-    pub fn look_again(&mut self) -> Result<(), Fail> {
-        self.change(Change::Nothing)?;
-        Ok(())
-    }
-
-    // Client 3 opens such a handle of the collection's buffer with this index.
-    fn open_as(&mut self, index: u8, strength: Strength) -> Result<(), Fail> {
+    /// Client 3 opens such a handle of the collection's buffer with this index, at the second time where memory is
+    /// refused. Answers whether it did.
+    pub fn open(&mut self, index: u8, strength: Strength) -> bool {
         for _ in 0..2 {
             if let Ok(()) = self.holds.add(3, buffer(index), strength) {
-                return Ok(());
+                return true;
             }
         }
-        Err(Fail::from("no handle"))
+        false
     }
 
-    /// Client 3 opens a strong handle of the collection's buffer with this index.
-    pub fn open_at(&mut self, index: u8) -> Result<(), Fail> {
-        self.open_as(index, Strength::Strong)
-    }
-
-    /// And closes it.
-    pub fn close_at(&mut self, index: u8) -> bool {
-        self.holds.sub(3, buffer(index), Strength::Strong)
-    }
-
-    /// A weak one.
-    pub fn open_weak(&mut self) -> Result<(), Fail> {
-        self.open_as(0, Strength::Weak)
-    }
-
-    /// And closes it.
-    pub fn close_weak(&mut self) -> bool {
-        self.holds.sub(3, buffer(0), Strength::Weak)
+    /// And closes it, if it is there.
+    pub fn close(&mut self, index: u8, strength: Strength) -> bool {
+        self.holds.sub(3, buffer(index), strength)
     }
 
     /// The forest.

@@ -25,35 +25,45 @@
 //!     over, forget                      forgets all nodes that are not kept, in one pass; forgets the collection
 //!     end A B                           node by node: spends its end, and checks that a pass forgets this node alone
 //!
-//! If a change is refused memory, the program checks that nothing changed, and makes the change again.
+//! If a change is refused memory, the program checks that nothing changed, and makes the change again. It answers
+//! `: not made` where a change may not be made, or was not made so.
 #![tactic(auto)]
 
 mod ground;
+mod line;
 mod past;
 mod player;
 mod texts;
 
 use player::Player;
 use std::alloc::Global;
+use std::io;
+use std::io::Write;
 use std::test::Fail;
 
-// A line, and what it is answered.
-fn answer(alloc: Global, player: &mut Player, line: &str) -> Result<String, Fail> {
-    let words: Vec<&str> = line.split_whitespace().collect(alloc)?;
-    let said = player.take(alloc, &words)?;
-    Ok(format!(in alloc; "{line}{said}")?)
-}
-
-// Takes each line of the input.
-fn take_lines(rt: &(impl Input + Print), alloc: Global, player: &mut Player) -> Result<(), Fail> {
-    for line in rt.lines(alloc) {
-        let text = answer(alloc, player, line?.as_str())?;
-        println!(rt; "{text}")?;
+// Takes each line of a text, and puts it with its answer behind what is there.
+fn take_lines(input: &str, player: &mut Player, text: &mut Vec<u8>) -> Result<(), Fail> {
+    for line in input.lines() {
+        text.extend_from_slice(line.as_bytes())?;
+        player.take(line, text)?;
+        text.push(b'\n')?;
     }
     Ok(())
 }
 
+// The same, from an empty ground on.
+fn play(alloc: Global, input: &str, text: &mut Vec<u8>) -> Result<(), Fail> {
+    match Player::new(alloc) {
+        Some(mut player) => take_lines(input, &mut player, text),
+        None => Err(Fail::from("no memory")),
+    }
+}
+
 fn main(rt: HostRuntime) -> Result<(), Fail> {
-    let mut player = Player::new(rt.alloc())?;
-    take_lines(&rt, rt.alloc(), &mut player)
+    let alloc = rt.alloc();
+    let input = io::read_to_string(alloc, rt.reader())?;
+    let mut text = Vec::new(alloc);
+    play(alloc, input.as_str(), &mut text)?;
+    io::writer(&rt).write_all(text.as_slice())?;
+    Ok(())
 }

@@ -1,9 +1,9 @@
-//! A forest that changes no more: the ends of its nodes are spent, and what is over is forgotten.
+//! A forest without further changes: the ends of its nodes are spent, and nodes that are gone and spent are forgotten.
 use crate::ground::HERE;
+use crate::line::Range;
 use alloc_event::forest::Forest;
 use alloc_event::node::End;
 use sm_names::NodeKey;
-use std::test::Fail;
 
 /// A forest without a pool.
 #[derive(Drop)]
@@ -11,33 +11,39 @@ pub struct Past {
     forest: Forest,
 }
 
-// Spends the end of a node that is kept.
+/// What is done with a node: its end is spent; it is forgotten, if it is gone and its end is spent; or its end is spent, and
+/// then one pass over all nodes forgets this node alone.
+#[derive(Clone, Copy)]
+pub enum Leaving {
+    Spend,
+    Forget,
+    End,
+}
+
+// Spends the end of a node, if it is kept.
 fn spend(forest: &mut Forest, key: NodeKey) {
     if forest.node(key).is_some() {
         forest.set_end(key, End::Spent);
     }
 }
 
-// Forgets a node that is gone and whose end is spent.
-fn forget(forest: &mut Forest, key: NodeKey) -> Result<(), Fail> {
+// Forgets a node, if it is gone and its end is spent, and answers whether it is.
+fn forget(forest: &mut Forest, key: NodeKey) -> bool {
     match forest.node(key).copied() {
         Some(node) if node.gone && matches!(node.end, End::Spent) => {
             forest.forget(key);
-            Ok(())
+            true
         }
-        _ => Err(Fail::from("a node that is not over")),
+        _ => false,
     }
 }
 
-// Spends the end of a node that is kept, and is the only one then that is over.
-fn end(forest: &mut Forest, key: NodeKey) -> Result<(), Fail> {
+// Spends the end of a node, and answers whether a pass over all nodes then forgets this node alone.
+fn end(forest: &mut Forest, key: NodeKey) -> bool {
     let before = forest.len();
     spend(forest, key);
     forest.forget_over(HERE);
-    if forest.node(key).is_some() || forest.len().checked_add(1) != Some(before) {
-        return Err(Fail::from("not the one node was forgotten"));
-    }
-    Ok(())
+    forest.node(key).is_none() && forest.len().checked_add(1) == Some(before)
 }
 
 impl Past {
@@ -51,42 +57,44 @@ impl Past {
         &self.forest
     }
 
-    /// The end of each node is spent.
-    pub fn spend_each(&mut self, keys: &[NodeKey]) {
-        for key in keys {
-            spend(&mut self.forest, *key);
+    // Does this with the node, and answers whether it could be done.
+    fn leave(&mut self, key: NodeKey, how: Leaving) -> bool {
+        match how {
+            Leaving::Spend => {
+                spend(&mut self.forest, key);
+                true
+            }
+            Leaving::Forget => forget(&mut self.forest, key),
+            Leaving::End => end(&mut self.forest, key),
         }
     }
 
-    /// Each node, which is over, is forgotten.
-    pub fn forget_each(&mut self, keys: &[NodeKey]) -> Result<(), Fail> {
-        for key in keys {
-            forget(&mut self.forest, *key)?;
+    /// Does this with each node of the range, and answers whether it could be done with all.
+    pub fn leave_each(&mut self, keys: &[NodeKey], range: Range, how: Leaving) -> bool {
+        for step in 0..=range.steps() {
+            let Some(key) = keys.get(range.at(step)) else {
+                return false;
+            };
+            if !self.leave(*key, how) {
+                return false;
+            }
         }
-        Ok(())
+        true
     }
 
-    /// The end of each node is spent, and it is forgotten in a pass before the next one's is.
-    pub fn end_each(&mut self, keys: &[NodeKey]) -> Result<(), Fail> {
-        for key in keys {
-            end(&mut self.forest, *key)?;
-        }
-        Ok(())
-    }
-
-    /// All that is over is forgotten in one pass.
+    /// Forgets all nodes that are gone and spent, in one pass.
     pub fn forget_over(&mut self) {
         self.forest.forget_over(HERE);
     }
 
-    /// The collection, of which nothing is left, is forgotten.
-    pub fn forget_collection(&mut self) -> Result<(), Fail> {
+    /// Forgets the collection, if nothing is left of it, and answers whether that is so.
+    pub fn forget_collection(&mut self) -> bool {
         match self.forest.collection(HERE) {
             Some(summary) if summary.nodes == 0 && summary.held == 0 => {
                 self.forest.forget_collection(HERE);
-                Ok(())
+                true
             }
-            _ => Err(Fail::from("something is left of the collection")),
+            _ => false,
         }
     }
 }

@@ -1,105 +1,40 @@
 //! The lines of a tree. Nodes are called by their numbers, in the order in which they are born.
 use crate::ground::Ground;
-use crate::past::Past;
-use crate::texts::{birth_text, count_text, kept_text, node_text, pool_text, tally_of, turn_text};
+use crate::line::{Line, Range, line_of};
+use crate::past::{Leaving, Past};
+use crate::texts::{
+    Tally, push_birth, push_kept, push_node, push_pool, push_tally, tally_in, tally_of,
+};
 use alloc_event::forest::Forest;
-use sm_names::{Constraints, NodeKey};
-use std::alloc::Global;
+use script_lines::push;
+use sm_names::{Call, Constraints, NodeKey, Strength};
+use std::alloc::{AllocError, Global};
 use std::mem;
-use std::test::Fail;
-use trial_streams::decimal;
 
 /// A ground, and the keys of the nodes that were born on it; or what is left of its forest.
 #[derive(Drop)]
 pub struct Player {
+    alloc: Global,
     ground: Ground,
     past: Option<Past>,
     keys: Vec<NodeKey>,
 }
 
-// The same, if the numbers are in range.
-fn demand_of(camping: &str, at_least: &str, size: &str) -> Option<Constraints> {
-    let camping = u8::try_from(decimal(camping)?).ok()?;
-    let at_least = u8::try_from(decimal(at_least)?).ok()?;
-    Constraints::new(camping, at_least, decimal(size)?)
+// The constraints of the last three numbers of a line, if these are in range.
+fn demand_of(line: &Line) -> Option<Constraints> {
+    let [_, _, camping, at_least, size] = line.numbers;
+    let camping = u8::try_from(camping).ok()?;
+    let at_least = u8::try_from(at_least).ok()?;
+    Constraints::new(camping, at_least, size)
 }
 
-// The number that a word is.
-fn number_of(word: &str) -> Result<usize, Fail> {
-    match decimal(word) {
-        Some(number) => Ok(number as usize),
-        None => Err(Fail::from("not a number")),
-    }
+// The index of a buffer that the line names.
+fn index_of(line: &Line) -> u8 {
+    let [index, ..] = line.numbers;
+    u8::try_from(index).unwrap_or(u8::MAX)
 }
 
-fn demand(camping: &str, at_least: &str, size: &str) -> Result<Constraints, Fail> {
-    match demand_of(camping, at_least, size) {
-        Some(demand) => Ok(demand),
-        None => Err(Fail::from("a number is out of its range")),
-    }
-}
-
-fn key_of(keys: &[NodeKey], number: &str) -> Result<NodeKey, Fail> {
-    let at = number_of(number)?;
-    match keys.get(at) {
-        Some(key) => Ok(*key),
-        None => Err(Fail::from("no such node")),
-    }
-}
-
-// The keys of the nodes from this number to that one, which may be the lesser.
-fn keys_of(alloc: Global, keys: &[NodeKey], first: &str, last: &str) -> Result<Vec<NodeKey>, Fail> {
-    let (first, last) = (number_of(first)?, number_of(last)?);
-    let mut found = Vec::new(alloc);
-    match keys.get(first.min(last)..=first.max(last)) {
-        Some(some) => found.extend_from_slice(some)?,
-        None => return Err(Fail::from("no such nodes")),
-    }
-    if last < first {
-        found.reverse();
-    }
-    Ok(found)
-}
-
-// So many nodes below one, each beside the one before, or below it; of one unit, or each of its own.
-fn bear_each(
-    ground: &mut Ground,
-    keys: &mut Vec<NodeKey>,
-    parent: NodeKey,
-    count: &str,
-    attached: bool,
-    deep: bool,
-) -> Result<(), Fail> {
-    let count = number_of(count)?;
-    let mut above = parent;
-    for _ in 0..count {
-        let key = ground.bear(Some(above), attached)?;
-        keys.push(key)?;
-        if deep {
-            above = key;
-        }
-    }
-    Ok(())
-}
-
-// So many units of two nodes below one.
-fn bear_pairs(
-    ground: &mut Ground,
-    keys: &mut Vec<NodeKey>,
-    parent: NodeKey,
-    count: &str,
-) -> Result<(), Fail> {
-    let count = number_of(count)?;
-    for _ in 0..count {
-        let head = ground.bear(Some(parent), true)?;
-        keys.push(head)?;
-        let child = ground.bear(Some(head), false)?;
-        keys.push(child)?;
-    }
-    Ok(())
-}
-
-/// What is done with a node.
+/// What is done with each node of a range.
 #[derive(Clone, Copy)]
 enum Act {
     Ask(Constraints),
@@ -111,210 +46,78 @@ enum Act {
     BearBelow,
 }
 
-// What these words ask for.
-fn act_of(words: &[&str]) -> Result<Act, Fail> {
-    match *words {
-        ["ask", _, _, camping, at_least, size] => Ok(Act::Ask(demand(camping, at_least, size)?)),
-        ["release", _, _] => Ok(Act::Release),
-        ["lose", _, _] => Ok(Act::Lose),
-        ["weaken", _, _] => Ok(Act::Weaken),
-        ["allowweak", _, _] => Ok(Act::AllowWeak),
-        ["dispensable", _, _] => Ok(Act::MakeDispensable),
-        ["below", _, _] => Ok(Act::BearBelow),
-        _ => Err(Fail::from("a line that says nothing")),
+// What the line does with nodes.
+fn act_of(line: &Line) -> Option<Act> {
+    match line.verb {
+        "ask" => Some(Act::Ask(demand_of(line)?)),
+        "release" => Some(Act::Release),
+        "lose" => Some(Act::Lose),
+        "weaken" => Some(Act::Weaken),
+        "allowweak" => Some(Act::AllowWeak),
+        "dispensable" => Some(Act::MakeDispensable),
+        "below" => Some(Act::BearBelow),
+        _ => None,
     }
 }
 
-fn act_on(
-    ground: &mut Ground,
-    keys: &mut Vec<NodeKey>,
-    key: NodeKey,
-    act: &Act,
-) -> Result<(), Fail> {
+// The call by which that is done, if there is one.
+fn call_of(act: &Act, key: NodeKey) -> Option<Call> {
     match *act {
-        Act::Ask(asked) => ground.ask(key, asked),
-        Act::Release => ground.release(key),
-        Act::Lose => ground.lose(key),
-        Act::Weaken => ground.weaken(key),
-        Act::AllowWeak => ground.allow_weak(key),
-        Act::MakeDispensable => ground.make_dispensable(key),
-        Act::BearBelow => {
-            let below = ground.bear(Some(key), false)?;
-            keys.push(below)?;
-            Ok(())
+        Act::Ask(asked) => Some(Call::SetConstraints(key, asked)),
+        Act::Release => Some(Call::Release(key)),
+        Act::Weaken => Some(Call::SetWeak(key)),
+        Act::AllowWeak => Some(Call::SetWeakOk(key, false)),
+        Act::MakeDispensable => Some(Call::SetDispensable(key)),
+        Act::Lose | Act::BearBelow => None,
+    }
+}
+
+// Puts behind what is there how each change altered the numbers, if all altered them alike.
+fn push_turn(text: &mut Vec<u8>, each: Option<Tally>) -> Result<(), AllocError> {
+    match each {
+        Some(tally) => {
+            push(text, ": each ")?;
+            push_tally(text, tally, true)
         }
-    }
-}
-
-fn act_on_each(
-    ground: &mut Ground,
-    keys: &mut Vec<NodeKey>,
-    these: &[NodeKey],
-    act: &Act,
-) -> Result<(), Fail> {
-    for key in these {
-        act_on(ground, keys, *key, act)?;
-    }
-    Ok(())
-}
-
-// The same, and what each of them changed of the whole tree.
-fn act_in_turn(
-    alloc: Global,
-    ground: &mut Ground,
-    keys: &mut Vec<NodeKey>,
-    these: &[NodeKey],
-    act: &Act,
-) -> Result<String, Fail> {
-    let mut before = tally_of(ground.forest(), keys);
-    let mut changes = Vec::new(alloc);
-    for key in these {
-        act_on(ground, keys, *key, act)?;
-        let now = tally_of(ground.forest(), keys);
-        changes.push(now.less(before))?;
-        before = now;
-    }
-    turn_text(alloc, &changes)
-}
-
-// The index of a buffer that a word is.
-fn index_of(word: &str) -> Result<u8, Fail> {
-    match u8::try_from(number_of(word)?) {
-        Ok(index) => Ok(index),
-        Err(_) => Err(Fail::from("not an index")),
-    }
-}
-
-// A handle is opened or closed.
-fn handle(ground: &mut Ground, words: &[&str]) -> Result<(), Fail> {
-    let is_there = match *words {
-        ["open", index] => {
-            ground.open_at(index_of(index)?)?;
-            true
-        }
-        ["openweak"] => {
-            ground.open_weak()?;
-            true
-        }
-        ["close", index] => ground.close_at(index_of(index)?),
-        ["closeweak"] => ground.close_weak(),
-        _ => return Err(Fail::from("a line that says nothing")),
-    };
-    if is_there {
-        Ok(())
-    } else {
-        Err(Fail::from("no handle to close"))
-    }
-}
-
-// What these words forget of a tree that was left.
-fn forget_of(
-    alloc: Global,
-    past: &mut Past,
-    keys: &[NodeKey],
-    words: &[&str],
-) -> Result<String, Fail> {
-    match *words {
-        ["spend", first, last] => past.spend_each(&keys_of(alloc, keys, first, last)?),
-        ["forget", first, last] => past.forget_each(&keys_of(alloc, keys, first, last)?)?,
-        ["forget"] => past.forget_collection()?,
-        ["end", first, last] => {
-            past.end_each(&keys_of(alloc, keys, first, last)?)?;
-            return Ok(format!(in alloc; ": each forgotten alone")?);
-        }
-        _ => past.forget_over(),
-    }
-    Ok(String::new(alloc))
-}
-
-// How a tree changes.
-#[derive(Clone, Copy)]
-enum Change {
-    Begin,
-    BearRoot,
-    Bear,
-    LookAgain,
-    Leave,
-    Handle,
-    Act,
-}
-
-// What a line is for.
-#[derive(Clone, Copy)]
-enum Purpose {
-    See,
-    Forget,
-    Turn,
-    Change(Change),
-    Nothing,
-}
-
-// The first words of lines that ask to see something, and of those that forget something.
-const SEEING: &[&str] = &["node", "born", "count", "kept", "pool"];
-
-const FORGETTING: &[&str] = &["spend", "forget", "end", "over"];
-
-// Whether the word is one of these.
-fn is_among(words: &[&str], word: &str) -> bool {
-    for one in words {
-        if *one == word {
-            return true;
-        }
-    }
-    false
-}
-
-// What these words are for.
-fn purpose_of(words: &[&str]) -> Purpose {
-    let Some(word) = words.first() else {
-        return Purpose::Nothing;
-    };
-    if is_among(SEEING, word) {
-        Purpose::See
-    } else if is_among(FORGETTING, word) {
-        Purpose::Forget
-    } else if *word == "turn" {
-        Purpose::Turn
-    } else {
-        Purpose::Change(change_of(words))
-    }
-}
-
-// What these words change.
-fn change_of(words: &[&str]) -> Change {
-    match *words {
-        ["tree", ..] => Change::Begin,
-        ["root"] => Change::BearRoot,
-        ["look"] => Change::LookAgain,
-        ["leave"] => Change::Leave,
-        ["child" | "unit" | "chain" | "line" | "pairs", _, _] => Change::Bear,
-        ["open" | "close", _] | ["openweak" | "closeweak"] => Change::Handle,
-        _ => Change::Act,
+        None => push(text, ": not alike"),
     }
 }
 
 impl Player {
-    /// A player on an empty ground.
-    pub fn new(alloc: Global) -> Result<Player, Fail> {
-        Ok(Player {
-            ground: Ground::new(alloc)?,
+    /// A player on an empty ground, if there is memory for one.
+    pub fn new(alloc: Global) -> Option<Player> {
+        let ground = Ground::new(alloc)?;
+        Some(Player {
+            alloc,
+            ground,
             past: None,
             keys: Vec::new(alloc),
         })
     }
 
-    fn begin(&mut self, alloc: Global) -> Result<(), Fail> {
-        self.ground = Ground::new(alloc)?;
-        self.past = None;
-        self.keys.clear();
-        Ok(())
+    // Begins anew with an empty ground.
+    fn begin(&mut self) -> bool {
+        match Ground::new(self.alloc) {
+            Some(ground) => {
+                self.ground = ground;
+                self.past = None;
+                self.keys.clear();
+                true
+            }
+            None => false,
+        }
     }
 
-    // From here on the tree changes no more: its ends are spent, and it is forgotten.
-    fn leave(&mut self, alloc: Global) -> Result<(), Fail> {
-        let ground = mem::replace(&mut self.ground, Ground::new(alloc)?);
-        self.past = Some(Past::new(ground.into_forest()));
-        Ok(())
+    // Ends the changes of the tree: from here on its ends are spent, and its nodes are forgotten.
+    fn leave(&mut self) -> bool {
+        match Ground::new(self.alloc) {
+            Some(next) => {
+                let ground = mem::replace(&mut self.ground, next);
+                self.past = Some(Past::new(ground.into_forest()));
+                true
+            }
+            None => false,
+        }
     }
 
     fn forest(&self) -> &Forest {
@@ -324,109 +127,217 @@ impl Player {
         }
     }
 
-    // What is forgotten of a tree that was left.
-    fn forget(&mut self, alloc: Global, words: &[&str]) -> Result<String, Fail> {
-        match &mut self.past {
-            Some(past) => forget_of(alloc, past, &self.keys, words),
-            None => Err(Fail::from("the tree was not left")),
+    // The key of the node with this number.
+    fn key(&self, number: usize) -> Option<NodeKey> {
+        self.keys.get(number).copied()
+    }
+
+    // The key of the node that the line names first.
+    fn first_key(&self, line: &Line) -> Option<NodeKey> {
+        let [number, ..] = line.numbers;
+        self.key(number as usize)
+    }
+
+    // A node below another one, or a root.
+    fn bear(&mut self, parent: Option<NodeKey>, attached: bool) -> Option<NodeKey> {
+        let key = self.ground.bear(parent, attached)?;
+        match self.keys.push(key) {
+            Ok(()) => Some(key),
+            Err(_) => None,
         }
     }
 
-    fn bear_root(&mut self) -> Result<(), Fail> {
-        let key = self.ground.bear(None, false)?;
-        self.keys.push(key)?;
-        Ok(())
-    }
-
-    fn bear(&mut self, words: &[&str]) -> Result<(), Fail> {
-        let [how, above, count] = *words else {
-            return Err(Fail::from("no births"));
-        };
-        let above = key_of(&self.keys, above)?;
-        if how == "pairs" {
-            return bear_pairs(&mut self.ground, &mut self.keys, above, count);
-        }
-        let (attached, deep) = (
-            how == "unit" || how == "chain",
-            how == "chain" || how == "line",
-        );
-        bear_each(
-            &mut self.ground,
-            &mut self.keys,
-            above,
-            count,
-            attached,
-            deep,
-        )
-    }
-
-    // Each of the nodes that are named is acted on.
-    fn act_on_all(&mut self, alloc: Global, words: &[&str]) -> Result<(), Fail> {
-        let act = act_of(words)?;
-        let [_, first, last, ..] = *words else {
-            return Err(Fail::from("no nodes"));
-        };
-        let these = keys_of(alloc, &self.keys, first, last)?;
-        act_on_each(&mut self.ground, &mut self.keys, &these, &act)
-    }
-
-    // The same, one by one.
-    fn act_one_by_one(&mut self, alloc: Global, words: &[&str]) -> Result<String, Fail> {
-        let act = act_of(words)?;
-        let [_, first, last, ..] = *words else {
-            return Err(Fail::from("no nodes"));
-        };
-        let these = keys_of(alloc, &self.keys, first, last)?;
-        act_in_turn(alloc, &mut self.ground, &mut self.keys, &these, &act)
-    }
-
-    // What the line asks to see.
-    fn see(&self, alloc: Global, words: &[&str]) -> Result<String, Fail> {
-        let forest = self.forest();
-        match *words {
-            ["node", node] => node_text(alloc, forest, key_of(&self.keys, node)?),
-            ["born", node] => birth_text(alloc, forest, key_of(&self.keys, node)?),
-            ["kept"] => kept_text(alloc, forest),
-            ["count", first, last] => {
-                count_text(alloc, forest, &keys_of(alloc, &self.keys, first, last)?)
+    // This many nodes below one, each beside the one before, or below it; all in one unit, or each in its own.
+    fn bear_each(&mut self, above: NodeKey, count: u32, attached: bool, deep: bool) -> bool {
+        let mut above = above;
+        for _ in 0..count {
+            let Some(key) = self.bear(Some(above), attached) else {
+                return false;
+            };
+            if deep {
+                above = key;
             }
-            ["pool"] => pool_text(alloc, &self.ground),
-            _ => Err(Fail::from("a line that says nothing")),
+        }
+        true
+    }
+
+    // This many units of two nodes below one.
+    fn bear_pairs(&mut self, above: NodeKey, count: u32) -> bool {
+        for _ in 0..count {
+            let Some(head) = self.bear(Some(above), true) else {
+                return false;
+            };
+            if self.bear(Some(head), false).is_none() {
+                return false;
+            }
+        }
+        true
+    }
+
+    // The nodes that the line makes below one.
+    fn bear_below(&mut self, line: &Line) -> bool {
+        let [_, count, ..] = line.numbers;
+        let Some(above) = self.first_key(line) else {
+            return false;
+        };
+        match line.verb {
+            "child" => self.bear_each(above, count, false, false),
+            "unit" => self.bear_each(above, count, true, false),
+            "line" => self.bear_each(above, count, false, true),
+            "chain" => self.bear_each(above, count, true, true),
+            _ => self.bear_pairs(above, count),
         }
     }
 
-    // The tree is changed so.
-    fn change(&mut self, alloc: Global, change: Change, words: &[&str]) -> Result<(), Fail> {
-        match change {
-            Change::Begin => self.begin(alloc),
-            Change::BearRoot => self.bear_root(),
-            Change::Bear => self.bear(words),
-            Change::LookAgain => self.ground.look_again(),
-            Change::Leave => self.leave(alloc),
-            Change::Handle => handle(&mut self.ground, words),
-            Change::Act => self.act_on_all(alloc, words),
+    fn act_on(&mut self, number: usize, act: &Act) -> bool {
+        let Some(key) = self.key(number) else {
+            return false;
+        };
+        match *act {
+            Act::Lose => self.ground.lose(key),
+            Act::BearBelow => self.bear(Some(key), false).is_some(),
+            _ => match call_of(act, key) {
+                Some(call) => self.ground.settle_done(call),
+                None => false,
+            },
         }
     }
 
-    // The same, of which nothing is told.
-    fn change_untold(
-        &mut self,
-        alloc: Global,
-        change: Change,
-        words: &[&str],
-    ) -> Result<String, Fail> {
-        self.change(alloc, change, words)?;
-        Ok(String::new(alloc))
+    // Acts on each node of the range.
+    fn act_on_each(&mut self, range: Range, act: &Act) -> bool {
+        for step in 0..=range.steps() {
+            if !self.act_on(range.at(step), act) {
+                return false;
+            }
+        }
+        true
     }
 
-    /// Takes a line, which begins a tree, changes it, or asks what is seen.
-    pub fn take(&mut self, alloc: Global, words: &[&str]) -> Result<String, Fail> {
-        match purpose_of(words) {
-            Purpose::See => self.see(alloc, words),
-            Purpose::Forget => self.forget(alloc, words),
-            Purpose::Turn => self.act_one_by_one(alloc, words.get(1..).unwrap_or(&[])),
-            Purpose::Change(change) => self.change_untold(alloc, change, words),
-            Purpose::Nothing => Ok(String::new(alloc)),
+    // Acts on a node, and answers how that altered the numbers of the whole tree.
+    fn act_and_count(&mut self, number: usize, act: &Act) -> Option<Tally> {
+        let before = tally_of(self.ground.forest(), &self.keys);
+        if !self.act_on(number, act) {
+            return None;
+        }
+        Some(tally_of(self.ground.forest(), &self.keys).less(before))
+    }
+
+    // Acts on each node of the range, and answers how each altered the numbers, if all altered them alike.
+    fn act_in_turn(&mut self, range: Range, act: &Act) -> Option<Tally> {
+        let first = self.act_and_count(range.at(0), act)?;
+        for step in 1..=range.steps() {
+            if self.act_and_count(range.at(step), act) != Some(first) {
+                return None;
+            }
+        }
+        Some(first)
+    }
+
+    // Opens or closes a handle, or acts on nodes.
+    fn change_more(&mut self, line: &Line) -> bool {
+        match line.verb {
+            "open" => self.ground.open(index_of(line), Strength::Strong),
+            "close" => self.ground.close(index_of(line), Strength::Strong),
+            "openweak" => self.ground.open(0, Strength::Weak),
+            "closeweak" => self.ground.close(0, Strength::Weak),
+            "look" => self.ground.look_again(),
+            _ => match act_of(line) {
+                Some(act) => self.act_on_each(Range::of(line), &act),
+                None => false,
+            },
+        }
+    }
+
+    // Spends ends or forgets nodes, once the changes have ended.
+    fn forget(&mut self, line: &Line) -> bool {
+        let Some(past) = &mut self.past else {
+            return false;
+        };
+        let range = Range::of(line);
+        match line.verb {
+            "spend" => past.leave_each(&self.keys, range, Leaving::Spend),
+            "end" => past.leave_each(&self.keys, range, Leaving::End),
+            "forget" if line.count > 0 => past.leave_each(&self.keys, range, Leaving::Forget),
+            "forget" => past.forget_collection(),
+            _ => {
+                past.forget_over();
+                true
+            }
+        }
+    }
+
+    // Makes the change of the line, and answers whether it was made.
+    fn change(&mut self, line: &Line) -> bool {
+        match line.verb {
+            "root" => self.bear(None, false).is_some(),
+            "child" | "unit" | "line" | "chain" | "pairs" => self.bear_below(line),
+            "leave" => self.leave(),
+            "spend" | "forget" | "end" | "over" => self.forget(line),
+            _ => self.change_more(line),
+        }
+    }
+
+    // Puts behind what is there what is seen of a node.
+    fn push_one(&self, line: &Line, text: &mut Vec<u8>) -> Result<(), AllocError> {
+        match self.first_key(line) {
+            Some(key) if line.verb == "node" => push_node(text, self.forest(), key),
+            Some(key) => push_birth(text, self.forest(), key),
+            None => push(text, ": never born"),
+        }
+    }
+
+    // Puts behind what is there the numbers for the nodes of the range.
+    fn push_count(&self, range: Range, text: &mut Vec<u8>) -> Result<(), AllocError> {
+        push(text, ": ")?;
+        push_tally(text, tally_in(self.forest(), &self.keys, range), false)
+    }
+
+    // Puts behind what is there what the line asks to see, or what became of its change.
+    fn answer(&mut self, line: &Line, text: &mut Vec<u8>) -> Result<(), AllocError> {
+        match line.verb {
+            "node" | "born" => self.push_one(line, text),
+            "count" => self.push_count(Range::of(line), text),
+            "kept" => push_kept(text, self.forest()),
+            "pool" => push_pool(text, &self.ground),
+            _ => {
+                let is_made = self.change(line);
+                push(
+                    text,
+                    match (is_made, line.verb) {
+                        (true, "end") => ": each forgotten alone",
+                        (true, _) => "",
+                        (false, _) => ": not made",
+                    },
+                )
+            }
+        }
+    }
+
+    // Makes a change node by node, and puts behind what is there how each altered the numbers.
+    fn turn(&mut self, line: &Line, text: &mut Vec<u8>) -> Result<(), AllocError> {
+        let each = match act_of(line) {
+            Some(act) => self.act_in_turn(Range::of(line), &act),
+            None => None,
+        };
+        push_turn(text, each)
+    }
+
+    /// Takes a line, which begins a tree, changes it, or asks what is seen, and puts its answer behind what is there.
+    pub fn take(&mut self, words: &str, text: &mut Vec<u8>) -> Result<(), AllocError> {
+        if words.is_empty() {
+            return Ok(());
+        }
+        if words.starts_with("tree ") {
+            let is_there = self.begin();
+            return push(text, if is_there { "" } else { ": no memory" });
+        }
+        match (words.strip_prefix("turn "), line_of(words)) {
+            (Some(rest), _) => match line_of(rest) {
+                Some(line) => self.turn(&line, text),
+                None => push(text, ": not understood"),
+            },
+            (None, Some(line)) => self.answer(&line, text),
+            (None, None) => push(text, ": not understood"),
         }
     }
 }

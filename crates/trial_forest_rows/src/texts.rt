@@ -1,13 +1,15 @@
 //! What is told of a forest.
 use crate::ground::{Ground, HERE};
+use crate::line::Range;
 use alloc_event::births::{new_child, new_root};
 use alloc_event::forest::Forest;
 use alloc_event::node::Node;
-use sm_names::{CollectionId, NodeKey};
-use std::alloc::Global;
-use std::test::Fail;
+use script_lines::push;
+use sm_names::{Cause, CollectionId, Failure, NodeKey};
+use std::alloc::AllocError;
+use text_parts::{Part, push_parts};
 
-/// How many of some nodes are live, how many have their buffers, and how many failed; or by how many more.
+/// How many of some nodes are live, have their buffers, and failed; or the change of these numbers.
 #[derive(Clone, Copy, PartialEq, Eq)]
 pub struct Tally {
     live: i64,
@@ -16,7 +18,16 @@ pub struct Tally {
 }
 
 impl Tally {
-    /// What came since the other one.
+    /// Of no node.
+    pub fn new() -> Tally {
+        Tally {
+            live: 0,
+            served: 0,
+            failed: 0,
+        }
+    }
+
+    /// The change since the other one.
     pub fn less(self, other: Tally) -> Tally {
         Tally {
             live: self.live.wrapping_sub(other.live),
@@ -24,83 +35,139 @@ impl Tally {
             failed: self.failed.wrapping_sub(other.failed),
         }
     }
-}
 
-/// How many of these nodes are so.
-pub fn tally_of(forest: &Forest, keys: &[NodeKey]) -> Tally {
-    let (mut live, mut served, mut failed) = (0i64, 0i64, 0i64);
-    for key in keys {
-        if let Some(node) = forest.node(*key) {
-            live = live.wrapping_add(i64::from(!node.gone));
-            served = served.wrapping_add(i64::from(node.allocated));
-            failed = failed.wrapping_add(i64::from(node.fault.is_some()));
+    // The same with one more node.
+    fn with(self, node: &Node) -> Tally {
+        Tally {
+            live: self.live.wrapping_add(i64::from(!node.gone)),
+            served: self.served.wrapping_add(i64::from(node.allocated)),
+            failed: self.failed.wrapping_add(i64::from(node.fault.is_some())),
         }
     }
-    Tally {
-        live,
-        served,
-        failed,
+}
+
+/// The numbers for these nodes.
+pub fn tally_of(forest: &Forest, keys: &[NodeKey]) -> Tally {
+    let mut tally = Tally::new();
+    for key in keys {
+        if let Some(node) = forest.node(*key) {
+            tally = tally.with(node);
+        }
     }
+    tally
 }
 
-/// The same as text.
-pub fn count_text(alloc: Global, forest: &Forest, keys: &[NodeKey]) -> Result<String, Fail> {
-    let found = tally_of(forest, keys);
-    Ok(format!(in alloc;
-        ": {} live, {} served, {} failed",
-        found.live, found.served, found.failed
-    )?)
+/// The numbers for the nodes of the range.
+pub fn tally_in(forest: &Forest, keys: &[NodeKey], range: Range) -> Tally {
+    let mut tally = Tally::new();
+    for step in 0..=range.steps() {
+        if let Some(key) = keys.get(range.at(step)) {
+            if let Some(node) = forest.node(*key) {
+                tally = tally.with(node);
+            }
+        }
+    }
+    tally
 }
 
-/// By how much each of some calls changed them.
-pub fn turn_text(alloc: Global, changes: &[Tally]) -> Result<String, Fail> {
-    let Some(first) = changes.first() else {
-        return Err(Fail::from("no nodes"));
+// Puts a number behind what is there, with its sign if `signed`.
+fn push_number(text: &mut Vec<u8>, number: i64, signed: bool) -> Result<(), AllocError> {
+    let sign = match (signed, number < 0) {
+        (true, true) => "-",
+        (true, false) => "+",
+        (false, _) => "",
     };
-    if changes.iter().any(|change| *change != *first) {
-        return Ok(format!(in alloc; ": not alike")?);
-    }
-    Ok(format!(in alloc;
-        ": each {:+} live, {:+} served, {:+} failed",
-        first.live, first.served, first.failed
-    )?)
+    push_parts(
+        text,
+        &[Part::Word(sign), Part::Number(number.unsigned_abs())],
+    )
 }
 
-// Why a node failed, and of which node the loss was.
-fn fault_text(alloc: Global, node: &Node) -> Result<String, Fail> {
-    match node.fault {
-        Some(fault) => Ok(format!(in alloc; ", {:?} by {}", fault.cause, fault.origin.slot)?),
-        None => Ok(String::new(alloc)),
+/// Puts the numbers behind what is there, with their signs if `signed`.
+pub fn push_tally(text: &mut Vec<u8>, tally: Tally, signed: bool) -> Result<(), AllocError> {
+    push_number(text, tally.live, signed)?;
+    push(text, " live, ")?;
+    push_number(text, tally.served, signed)?;
+    push(text, " served, ")?;
+    push_number(text, tally.failed, signed)?;
+    push(text, " failed")
+}
+
+// The words for the cause of a failure.
+fn cause_text(cause: Cause) -> &'static str {
+    match cause {
+        Cause::Lost => ", Lost by ",
+        Cause::NoStrong => ", NoStrong by ",
+        Cause::Misused(_) => ", Misused by ",
+        Cause::Failed(Failure::NoStrong) => ", Failed(NoStrong) by ",
+        Cause::Failed(Failure::NoBuffers) => ", Failed(NoBuffers) by ",
+        Cause::Failed(Failure::TooManyBuffers) => ", Failed(TooManyBuffers) by ",
+        Cause::Failed(Failure::PoolFull) => ", Failed(PoolFull) by ",
+        Cause::Failed(Failure::TooFew) => ", Failed(TooFew) by ",
+        Cause::Failed(Failure::TooSmall) => ", Failed(TooSmall) by ",
     }
 }
 
-/// A node: whether it is live, whether it has its buffers, and what failed it.
-pub fn node_text(alloc: Global, forest: &Forest, key: NodeKey) -> Result<String, Fail> {
+/// Puts a node behind what is there: whether it is live, whether it has its buffers, why it failed, and of which node the
+/// loss was.
+pub fn push_node(text: &mut Vec<u8>, forest: &Forest, key: NodeKey) -> Result<(), AllocError> {
     let Some(node) = forest.node(key) else {
-        return Ok(format!(in alloc; ": forgotten")?);
+        return push(text, ": forgotten");
     };
-    let live = if node.gone { "gone" } else { "live" };
-    let served = if node.allocated { "served" } else { "waiting" };
-    let fault = fault_text(alloc, node)?;
-    Ok(format!(in alloc; ": {live}, {served}{fault}")?)
+    push(text, if node.gone { ": gone" } else { ": live" })?;
+    push(
+        text,
+        if node.allocated {
+            ", served"
+        } else {
+            ", waiting"
+        },
+    )?;
+    match node.fault {
+        Some(fault) => push_parts(
+            text,
+            &[
+                Part::Word(cause_text(fault.cause)),
+                Part::Number(u64::from(fault.origin.slot)),
+            ],
+        ),
+        None => Ok(()),
+    }
 }
 
-/// The buffers of the collection, how many of them are held, how many pages are free, and whether a strong node
-/// is live.
-pub fn pool_text(alloc: Global, ground: &Ground) -> Result<String, Fail> {
-    let free = ground.free_pages();
+/// Puts behind what is there the buffers of the collection, how many of them are held, how many pages are free, and whether
+/// a strong node is live.
+pub fn push_pool(text: &mut Vec<u8>, ground: &Ground) -> Result<(), AllocError> {
+    let free = Part::Number(u64::from(ground.free_pages()));
     let Some(summary) = ground.forest().collection(HERE) else {
-        return Ok(format!(in alloc; ": no collection, {free} free")?);
+        return push_parts(
+            text,
+            &[Part::Word(": no collection, "), free, Part::Word(" free")],
+        );
     };
-    let held = summary.held;
-    let strong = strength_text(ground.forest(), HERE);
     match summary.buffers {
-        Some(given) => Ok(format!(in alloc;
-            ": {} of {}, {held} held, {free} free, {strong}",
-            given.count, given.size
-        )?),
-        None => Ok(format!(in alloc; ": none, {held} held, {free} free, {strong}")?),
+        Some(given) => push_parts(
+            text,
+            &[
+                Part::Word(": "),
+                Part::Number(u64::from(given.count)),
+                Part::Word(" of "),
+                Part::Number(u64::from(given.size)),
+            ],
+        )?,
+        None => push(text, ": none")?,
     }
+    push_parts(
+        text,
+        &[
+            Part::Word(", "),
+            Part::Number(summary.held as u64),
+            Part::Word(" held, "),
+            free,
+            Part::Word(" free, "),
+            Part::Word(strength_text(ground.forest(), HERE)),
+        ],
+    )
 }
 
 // Whether a strong node of this collection is live.
@@ -112,32 +179,66 @@ fn strength_text(forest: &Forest, collection: CollectionId) -> &'static str {
     }
 }
 
-/// How many nodes and collections are kept, and whether a strong node is live here, and in the collection after.
-pub fn kept_text(alloc: Global, forest: &Forest) -> Result<String, Fail> {
-    let (here, next) = (strength_text(forest, HERE), strength_text(forest, HERE + 1));
-    Ok(format!(in alloc;
-        ": {} nodes, {} collections, {here}, the next {next}",
-        forest.len(),
-        forest.collections()
-    )?)
+/// Puts behind what is there how many nodes and collections are kept, and whether a strong node is live here, and in the
+/// collection after.
+pub fn push_kept(text: &mut Vec<u8>, forest: &Forest) -> Result<(), AllocError> {
+    push_parts(
+        text,
+        &[
+            Part::Word(": "),
+            Part::Number(forest.len() as u64),
+            Part::Word(" nodes, "),
+            Part::Number(forest.collections() as u64),
+            Part::Word(" collections, "),
+            Part::Word(strength_text(forest, HERE)),
+            Part::Word(", the next "),
+            Part::Word(strength_text(forest, HERE + 1)),
+        ],
+    )
 }
 
-/// Where and when a node was born, if it is as it was then and client 3 has its end.
-pub fn birth_text(alloc: Global, forest: &Forest, key: NodeKey) -> Result<String, Fail> {
-    let Some(node) = forest.node(key) else {
-        return Ok(format!(in alloc; ": forgotten")?);
-    };
-    let event = node.event;
+// Puts behind what is there whether the node is a root or whose child it is, and answers whether it is as it was born.
+fn push_parent(
+    text: &mut Vec<u8>,
+    forest: &Forest,
+    key: NodeKey,
+    node: &Node,
+) -> Result<bool, AllocError> {
     let Some(parent) = node.parent else {
-        let is_new = *node == new_root(key, HERE, event, 3);
-        let what = if is_new { "root" } else { "root, changed" };
-        return Ok(format!(in alloc; ": {what}, event {event}")?);
+        push(text, ": root")?;
+        return Ok(*node == new_root(key, HERE, node.event, 3));
     };
     let Some(above) = forest.node(parent) else {
-        return Ok(format!(in alloc; ": its parent is forgotten")?);
+        push(text, ": a child of a forgotten node")?;
+        return Ok(false);
     };
-    let is_new = *node == new_child(node.attached, key, event, 3, above);
-    let what = if node.attached { "attached" } else { "child" };
-    let changed = if is_new { "" } else { ", changed" };
-    Ok(format!(in alloc; ": {what} of {}{changed}, event {event}", parent.slot)?)
+    push(
+        text,
+        if node.attached {
+            ": attached of "
+        } else {
+            ": child of "
+        },
+    )?;
+    push_parts(text, &[Part::Number(u64::from(parent.slot))])?;
+    Ok(*node == new_child(node.attached, key, node.event, 3, above))
+}
+
+/// Puts behind what is there where and when a node was born, and whether it has changed since; client 3 has its end.
+pub fn push_birth(text: &mut Vec<u8>, forest: &Forest, key: NodeKey) -> Result<(), AllocError> {
+    let Some(node) = forest.node(key) else {
+        return push(text, ": forgotten");
+    };
+    let is_new = push_parent(text, forest, key, node)?;
+    push_parts(
+        text,
+        &[
+            Part::Word(if is_new {
+                ", event "
+            } else {
+                ", changed, event "
+            }),
+            Part::Number(node.event),
+        ],
+    )
 }

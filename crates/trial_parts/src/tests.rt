@@ -1,5 +1,9 @@
 mod cells;
 mod counts;
 mod falls;
+mod lists;
 mod names;
+mod own_lists;
 mod pages;
+mod reports;
+mod states;

@@ -1,6 +1,5 @@
 //! Calls that must be made.
 ghost use Rattle.std.specs.Prelude.{◌≡◌, Ok};
-ghost use Rattle.sm_names.specs.declared.messages.Reply.{Reply as Told};
 
 use client_ends::{Client, Kept, Why};
 use service_lock::{Service, Setup, books, entries};
@@ -36,16 +35,6 @@ pub fn told<R: Abort>(rt: &R, asked: Result<Reply, StepFault>) -> Reply
     match asked {
         Ok(reply) => reply,
         Err(_) => panic!(rt; "a fault"),
-    }
-}
-
-/// The call was answered Done.
-pub fn assert_done<R: Abort>(rt: &R, asked: Result<Reply, StepFault>)
-    ensures { asked ≡ Ok Told.Done }
-{
-    match asked {
-        Ok(Reply::Done) => {}
-        _ => panic!(rt; "not done"),
     }
 }
 

@@ -1,8 +1,9 @@
 //! Calls that are drafted.
 ghost use Rattle.std.specs.Prelude.{◌≡◌};
 
-use super::asking::{drafted, joined, made, spent, stands};
-use client_ends::{Client, CollectionEnd, Synced, TokenEnd, Why, join};
+use super::asking::{drafted, spent, stands};
+use super::retrying::{close_again, join_again, open_again};
+use client_ends::{Client, CollectionEnd, Synced, TokenEnd, Why};
 use service_lock::{Service, Setup};
 use sm_names::{Misuse, Reply};
 use std::alloc::Global;
@@ -119,8 +120,9 @@ pub fn drafts<E: Setup, S: Ledger, W: Ledger, R: Wait + Abort>(
     alloc: Global,
     service: &Service<E, S, W>,
 ) -> Client<E, S, W> {
-    let mut client = joined(rt, join(rt, alloc, service));
-    let root = made(rt, client.open_root(rt, service));
+    let mut refused = false;
+    let mut client = join_again(rt, alloc, service, &mut refused);
+    let root = open_again(rt, service, &mut client, &mut refused);
     let synced = twins(rt, alloc, service, &mut client, root);
     let Synced {
         token: root,
@@ -136,8 +138,8 @@ pub fn drafts<E: Setup, S: Ledger, W: Ledger, R: Wait + Abort>(
     assert!(rt; pending == Reply::Pending);
     let (second, misused) = ask_twin(rt, alloc, service, &mut client, second);
     assert!(rt; misused == Reply::Misused(Misuse::WeakNotOk));
-    spent(rt, first.close(rt, service, &mut client));
-    spent(rt, second.close(rt, service, &mut client));
-    spent(rt, root.close(rt, service, &mut client));
+    close_again(rt, service, &mut client, first, &mut refused);
+    close_again(rt, service, &mut client, second, &mut refused);
+    close_again(rt, service, &mut client, root, &mut refused);
     client
 }

@@ -1,8 +1,9 @@
 //! What is left when the service ends.
 ghost use Rattle.std.specs.Prelude.{◌≡◌};
 
-use super::asking::{assert_done, constraints, joined, made, spent, stands};
-use client_ends::{Client, CollectionEnd, Kept, Why, end, join};
+use super::asking::{constraints, stands};
+use super::retrying::{bind_again, constrain_again, join_again, open_again, take_again};
+use client_ends::{Client, CollectionEnd, Kept, Why, end};
 use service_lock::{Service, Setup};
 use sm_names::{Refusal, Reply};
 use std::alloc::Global;
@@ -38,13 +39,14 @@ pub fn remains<E: Setup, S: Ledger, W: Ledger, R: Wait + Abort>(
     alloc: Global,
     service: Service<E, S, W>,
 ) {
-    let mut client = joined(rt, join(rt, alloc, &service));
-    let root = made(rt, client.open_root(rt, &service));
-    let root = spent(rt, root.bind(rt, &service, &mut client));
+    let mut refused = false;
+    let mut client = join_again(rt, alloc, &service, &mut refused);
+    let root = open_again(rt, &service, &mut client, &mut refused);
+    let root = bind_again(rt, &service, &mut client, root, &mut refused);
     let root = kept(rt, &service, &mut client, root);
     let asked = constraints(rt, 2, 0, 4096);
-    assert_done(rt, root.set_constraints(rt, &service, &mut client, asked));
-    let mut handles = made(rt, root.take(rt, alloc, &service, &mut client));
+    constrain_again(rt, &service, &mut client, &root, asked, &mut refused);
+    let mut handles = take_again(rt, alloc, &service, &mut client, &root, &mut refused);
     assert!(rt; stands(rt, &service, &client, 6, 2, 0));
     let ended = end(service);
     while let Some(handle) = handles.pop() {

@@ -6,6 +6,7 @@ ghost use Rattle.service_lock.specs.Units.{AreFor};
 use super::crowd::crowd;
 use super::drafting::drafts;
 use super::limits::last_event;
+use super::lock::{LockScene, play_lock};
 use super::memory::again;
 use super::remains::remains;
 use super::typed::typed;
@@ -28,12 +29,15 @@ pub enum Scene {
     Remains,
     Memory,
     Crowd,
+    Lock(LockScene),
 }
 
 // How many events the scene may make.
 fn limits(scene: Scene) -> Option<Limits> {
     match scene {
-        Scene::LastEvent => Limits::new(2, 4, 4, 4, 4),
+        Scene::LastEvent | Scene::Lock(LockScene::LastEvent) => Limits::new(2, 4, 4, 4, 4),
+        Scene::Lock(LockScene::Handles) => Limits::new(20, 2, 1, 1, 3),
+        Scene::Lock(LockScene::Tracker) => Limits::new(4, 1, 1, 1, 1),
         _ => Some(Limits::full()),
     }
 }
@@ -49,6 +53,10 @@ fn pages(scene: Scene) -> u32
         Scene::Remains => 4,
         Scene::Memory => 16,
         Scene::Crowd => 8,
+        Scene::Lock(LockScene::Handles) => 2,
+        Scene::Lock(LockScene::LastEvent) => 1,
+        Scene::Lock(LockScene::Tracker) => 64,
+        Scene::Lock(LockScene::Crowd) => 16,
     }
 }
 
@@ -95,7 +103,7 @@ fn play<
     requires blanks { AreFor E.name E.parts S.name S.parts W.name W.parts blanks }
     requires asked { IsSetUpWith E.pages E.limits pages limits }
 {
-    let service = Service::<E, S, W>::new(alloc, blanks, pages, limits).ok()?;
+    let service = Service::<E, S, W>::with_seed(alloc, blanks, pages, limits, [3; 16]).ok()?;
     match scene {
         Scene::Drafts => leave(drafts(rt, alloc, &service), service),
         Scene::Typed => {
@@ -106,6 +114,10 @@ fn play<
         Scene::LastEvent => last_event(rt, alloc, service),
         Scene::Remains => remains(rt, alloc, service),
         Scene::Crowd => crowd(rt, alloc, service),
+        Scene::Lock(scene) => {
+            play_lock(rt, alloc, &service, scene);
+            service.end();
+        }
         Scene::Memory => {
             let (client, refused) = again(rt, alloc, &service);
             leave(client, service);

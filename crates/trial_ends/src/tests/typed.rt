@@ -124,7 +124,7 @@ fn handles<E: Setup, S: Ledger, W: Ledger, R: Wait + Abort>(
     tracker
 }
 
-// The root goes into a parcel and out again, and the client is shut: 3 events.
+// The client gives the root to itself and collects it, and is shut: 3 events.
 fn round<E: Setup, S: Ledger, W: Ledger, R: Wait + Abort>(
     rt: &R,
     service: &Service<E, S, W>,
@@ -174,7 +174,7 @@ fn build<E: Setup, S: Ledger, W: Ledger, R: Wait + Abort>(
     (root, child, token, (gone, left))
 }
 
-// The child leaves, the attached token is closed, and the root goes round: 5 events.
+// The child is released, the attached token is closed, and the root is given and collected: 5 events.
 fn leave_root<E: Setup, S: Ledger, W: Ledger, R: Wait + Abort>(
     rt: &R,
     service: &Service<E, S, W>,

@@ -1,6 +1,6 @@
 //! That a cell that was set is seen from another thread, and that a refusal leaves trackers as they were.
 use fixture::{Gone, Line};
-use sm_names::NodeKey;
+use sm_names::{NodeKey, TrackerId};
 use std::test::Fail;
 use std::thread;
 use trackers::{Condition, Fired, TrackFault};
@@ -35,25 +35,35 @@ fn a_reader_in_another_thread_sees_the_firing(rt: HostRuntime) -> Result<(), Fai
     Ok(())
 }
 
-// Run with each allocation refused in turn, this meets each growth of `attach`.
-#[test]
-fn refused_memory_leaves_all_as_it_was(rt: HostRuntime) -> Result<(), Fail> {
-    let mut line = Line::new(rt.alloc(), 8);
+// Whether the next tracker of the node gets this number. If memory is refused, no tracker has this number and none
+// fired, and the next try succeeds.
+fn is_attached(rt: &impl Print, line: &mut Line, wanted: TrackerId) -> bool {
+    match line.track(Condition::Node(NODE)) {
+        Ok(id) => id == wanted,
+        Err(fault) => {
+            let _ = println!(rt; "memory was refused");
+            fault == TrackFault::NoMemory
+                && line.take(wanted).is_none()
+                && line.fired().is_empty()
+                && line.track(Condition::Node(NODE)) == Ok(wanted)
+        }
+    }
+}
+
+// Whether six trackers are attached and fire.
+fn six_fire(rt: &impl Print, line: &mut Line) -> bool {
     for wanted in 1..=6 {
-        let id = match line.track(Condition::Node(NODE)) {
-            Ok(id) => id,
-            Err(fault) => {
-                assert!(rt; fault == TrackFault::NoMemory);
-                let _ = println!(rt; "memory was refused");
-                assert!(rt; line.take(wanted).is_none());
-                assert!(rt; line.fired().is_empty());
-                line.track(Condition::Node(NODE))
-                    .map_err(|_| "refused twice")?
-            }
-        };
-        assert_eq!(rt; id, wanted);
+        if !is_attached(rt, line, wanted) {
+            return false;
+        }
     }
     line.sweep(&GONE);
-    assert_eq!(rt; line.fired().len(), 6);
-    Ok(())
+    line.fired().len() == 6
+}
+
+// Run with each allocation refused in turn, this meets each growth of `attach`.
+#[test]
+fn refused_memory_changes_no_tracker(rt: HostRuntime) {
+    let mut line = Line::new(rt.alloc(), 8);
+    assert!(rt; six_fire(&rt, &mut line));
 }

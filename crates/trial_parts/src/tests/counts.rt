@@ -44,7 +44,7 @@ fn all_are_undone(rt: &impl Print, holds: &mut Holds) -> bool {
 // Run with the Nth allocation refused, this shows that undoing asks for no memory, nor does landing
 // what was lifted, whoever lands it.
 #[test]
-fn what_is_undone_takes_no_memory(rt: HostRuntime) {
+fn undoing_a_count_takes_no_memory(rt: HostRuntime) {
     let mut holds = Holds::new(rt.alloc(), 9);
     assert!(rt; all_are_undone(&rt, &mut holds));
 }

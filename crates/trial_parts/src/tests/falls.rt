@@ -3,8 +3,6 @@ use failure_domains::{Fall, Link, fall};
 use node_table::NodeTable;
 use sm_names::NodeKey;
 use std::alloc::Global;
-use std::process::Abort;
-use std::test::Fail;
 
 #[derive(Clone, Copy, Debug, PartialEq, Eq)]
 struct Node {
@@ -20,33 +18,33 @@ impl Link for Node {
 }
 
 // Inserts a node without a parent. One refused growth is tried again.
-fn put(rt: &impl Print, table: &mut NodeTable<Node>, blocks: bool) -> Result<NodeKey, Fail> {
+fn put(rt: &impl Print, table: &mut NodeTable<Node>, blocks: bool) -> Option<NodeKey> {
     for _ in 0..2 {
         if let Ok(key) = table.insert(None, Node { blocks }) {
-            return Ok(key);
+            return Some(key);
         }
         let _ = println!(rt; "memory was refused");
     }
-    Err(Fail::from("no insert"))
+    None
 }
 
-// The same below a parent.
+// The same below a parent, if that is there.
 fn put_below(
     rt: &impl Print,
     table: &mut NodeTable<Node>,
     above: NodeKey,
     blocks: bool,
-) -> Result<NodeKey, Fail> {
+) -> Option<NodeKey> {
     for _ in 0..2 {
         if !table.contains(above) {
-            return Err(Fail::from("no parent"));
+            return None;
         }
         if let Ok(key) = table.insert(Some(above), Node { blocks }) {
-            return Ok(key);
+            return Some(key);
         }
         let _ = println!(rt; "memory was refused");
     }
-    Err(Fail::from("no insert"))
+    None
 }
 
 // What a failure takes. One refused growth is tried again.
@@ -63,31 +61,16 @@ fn found(rt: &impl Print, alloc: Global, table: &NodeTable<Node>, origin: NodeKe
     None
 }
 
-// Whether a failure takes so many keys by so many visits, from the first to the last of these.
-fn takes_many(
-    rt: &impl Print,
-    alloc: Global,
-    table: &NodeTable<Node>,
-    origin: NodeKey,
-    count: usize,
-    visits: u64,
-    ends: (NodeKey, NodeKey),
-) -> bool {
-    match found(rt, alloc, table, origin) {
-        Some(fall) => {
-            (fall.keys.len(), fall.visits) == (count, visits)
-                && (fall.keys.first().copied(), fall.keys.last().copied())
-                    == (Some(ends.0), Some(ends.1))
-        }
-        None => false,
-    }
+// A root, its child that blocks, and the first and the last of the 28 children of that child.
+#[derive(Clone, Copy)]
+struct Family {
+    root: NodeKey,
+    child: NodeKey,
+    first: NodeKey,
+    last: NodeKey,
 }
 
-fn falls_in_part(
-    rt: &(impl Abort + Print),
-    alloc: Global,
-    table: &mut NodeTable<Node>,
-) -> Result<(), Fail> {
+fn bear_family(rt: &impl Print, table: &mut NodeTable<Node>) -> Option<Family> {
     let root = put(rt, table, false)?;
     let child = put_below(rt, table, root, true)?;
     let first = put_below(rt, table, child, false)?;
@@ -95,16 +78,51 @@ fn falls_in_part(
     for _ in 3..30 {
         last = put_below(rt, table, child, false)?;
     }
-    assert!(rt; takes_many(rt, alloc, table, child, 29, 29, (child, last)));
-    assert!(rt; table.len() == 30 && table.parent(child) == Some(root));
-    assert!(rt; table.first_child(child) == Some(first));
-    assert!(rt; table.get(child).copied() == Some(Node { blocks: true }));
-    Ok(())
+    Some(Family {
+        root,
+        child,
+        first,
+        last,
+    })
+}
+
+// Whether a failure of the child takes 29 nodes in 29 visits: the child first, its last child last.
+fn takes_all_but_the_root(
+    rt: &impl Print,
+    alloc: Global,
+    table: &NodeTable<Node>,
+    family: Family,
+) -> bool {
+    match found(rt, alloc, table, family.child) {
+        Some(fall) => {
+            (fall.keys.len(), fall.visits) == (29, 29)
+                && fall.keys.first() == Some(&family.child)
+                && fall.keys.last() == Some(&family.last)
+        }
+        None => false,
+    }
+}
+
+// Whether the table is unchanged by the search for what fails.
+fn is_as_it_was(table: &NodeTable<Node>, family: Family) -> bool {
+    table.len() == 30
+        && table.parent(family.child) == Some(family.root)
+        && table.first_child(family.child) == Some(family.first)
+        && table.get(family.child).copied() == Some(Node { blocks: true })
+}
+
+fn falls_in_part(rt: &impl Print, alloc: Global, table: &mut NodeTable<Node>) -> bool {
+    match bear_family(rt, table) {
+        Some(family) => {
+            takes_all_but_the_root(rt, alloc, table, family) && is_as_it_was(table, family)
+        }
+        None => false,
+    }
 }
 
 // Run with each allocation refused in turn, this meets each growth of `fall`.
 #[test]
-fn refused_memory_leaves_the_table_for_the_next_call(rt: HostRuntime) -> Result<(), Fail> {
+fn a_fall_succeeds_after_refused_memory(rt: HostRuntime) {
     let mut table = NodeTable::new(rt.alloc(), 30);
-    falls_in_part(&rt, rt.alloc(), &mut table)
+    assert!(rt; falls_in_part(&rt, rt.alloc(), &mut table));
 }

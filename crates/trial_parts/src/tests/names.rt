@@ -4,94 +4,131 @@ use sm_names::{
     Argument, Call, CallKind, CallParts, Constraints, Limits, Misuse, NodeKey, Object, Refusal,
     call_of, kind_at, kind_named, parts_of, row_of, word_of,
 };
+use std::alloc::Global;
 use std::test::Fail;
 
-#[test]
-fn constraints_are_taken_up_to_their_last_numbers(rt: HostRuntime) {
-    let cases = [
-        (0, 0, 1, true),
-        (64, 64, 1_073_741_824, true),
-        (65, 0, 1, false),
-        (0, 65, 1, false),
-        (0, 0, 0, false),
-        (0, 0, 1_073_741_825, false),
-    ];
-    for (camping, at_least, size, taken) in cases {
-        let made = Constraints::new(camping, at_least, size);
-        assert_eq!(rt; made.is_some(), taken, "{camping} {at_least} {size}");
-        if let Some(c) = made {
-            assert_eq!(rt;
-                (c.camping(), c.at_least(), c.size()),
-                (camping, at_least, size)
-            );
-        }
+// Numbers of constraints, and whether they are in their ranges.
+const CONSTRAINTS: &[(u8, u8, u32, bool)] = &[
+    (0, 0, 1, true),
+    (64, 64, 1_073_741_824, true),
+    (65, 0, 1, false),
+    (0, 65, 1, false),
+    (0, 0, 0, false),
+    (0, 0, 1_073_741_825, false),
+];
+
+// Whether constraints are made of these numbers exactly if these are in range, and then have them.
+fn is_made(camping: u8, at_least: u8, size: u32, in_range: bool) -> bool {
+    match Constraints::new(camping, at_least, size) {
+        Some(c) => in_range && (c.camping(), c.at_least(), c.size()) == (camping, at_least, size),
+        None => !in_range,
     }
 }
 
-#[test]
-fn limits_are_taken_up_to_the_full_ones(rt: HostRuntime) {
-    let full = Limits::full();
-    let numbers = (
-        full.events(),
-        full.nodes(),
-        full.collections(),
-        full.trackers(),
-        full.handles(),
-    );
-    assert_eq!(rt; numbers, (4_294_967_295, 1_024, 256, 4_096, 4_294_967_295));
-    let cases = [
-        ((1, 1, 1, 1, 1), true),
-        (numbers, true),
-        ((0, 1, 1, 1, 1), false),
-        ((1, 1_025, 1, 1, 1), false),
-        ((1, 1, 257, 1, 1), false),
-        ((1, 1, 1, 4_097, 1), false),
-        ((1, 1, 1, 1, 0), false),
-    ];
-    for ((events, nodes, collections, trackers, handles), taken) in cases {
-        let made = Limits::new(events, nodes, collections, trackers, handles);
-        assert_eq!(rt;
-            made.is_some(),
-            taken,
-            "{events} {nodes} {collections} {trackers} {handles}"
-        );
+fn are_made() -> bool {
+    for (camping, at_least, size, in_range) in CONSTRAINTS {
+        if !is_made(*camping, *at_least, *size, *in_range) {
+            return false;
+        }
     }
+    true
+}
+
+#[test]
+fn constraints_are_made_up_to_their_greatest_numbers(rt: HostRuntime) {
+    assert!(rt; are_made());
+}
+
+// The greatest limits: events, nodes, collections, trackers and handles.
+const FULL: [u32; 5] = [4_294_967_295, 1_024, 256, 4_096, 4_294_967_295];
+
+// Numbers of limits, and whether they are in their ranges.
+const LIMITS: &[([u32; 5], bool)] = &[
+    ([1, 1, 1, 1, 1], true),
+    (FULL, true),
+    ([0, 1, 1, 1, 1], false),
+    ([1, 1_025, 1, 1, 1], false),
+    ([1, 1, 257, 1, 1], false),
+    ([1, 1, 1, 4_097, 1], false),
+    ([1, 1, 1, 1, 0], false),
+];
+
+fn is_full(full: Limits) -> bool {
+    let [events, nodes, collections, trackers, handles] = FULL;
+    (full.events(), full.nodes(), full.collections()) == (events, nodes, collections)
+        && (full.trackers(), full.handles()) == (trackers, handles)
+}
+
+// Whether limits are made of these numbers exactly if these are in range.
+fn are_limits() -> bool {
+    for (numbers, in_range) in LIMITS {
+        let [events, nodes, collections, trackers, handles] = *numbers;
+        let made = Limits::new(events, nodes, collections, trackers, handles);
+        if made.is_some() != *in_range {
+            return false;
+        }
+    }
+    true
+}
+
+#[test]
+fn limits_are_made_up_to_the_full_ones(rt: HostRuntime) {
+    assert!(rt; is_full(Limits::full()) && are_limits());
+}
+
+// All refusals in the order of their numbers, which begin at 1, with their names.
+const REFUSALS: &[(Refusal, &str)] = &[
+    (Refusal::NoSuchClient, "NoSuchClient"),
+    (Refusal::ClientShut, "ClientShut"),
+    (Refusal::NoSuchEnd, "NoSuchEnd"),
+    (Refusal::InTransit, "InTransit"),
+    (Refusal::WrongKind, "WrongKind"),
+    (Refusal::TooManyNodes, "TooManyNodes"),
+    (Refusal::TooManyCollections, "TooManyCollections"),
+    (Refusal::TrackersFull, "TrackersFull"),
+    (Refusal::NoSuchHandle, "NoSuchHandle"),
+    (Refusal::TooManyHandles, "TooManyHandles"),
+];
+
+// All misuses in the order of their numbers, with their names.
+const MISUSES: &[(Misuse, &str)] = &[
+    (Misuse::SecondConstraints, "SecondConstraints"),
+    (Misuse::LateWeak, "LateWeak"),
+    (Misuse::LateWeakOk, "LateWeakOk"),
+    (Misuse::WeakNotOk, "WeakNotOk"),
+    (Misuse::TooManyNodeTrackers, "TooManyNodeTrackers"),
+];
+
+fn are_refusals_named() -> bool {
+    let mut number: u8 = 0;
+    for (refusal, name) in REFUSALS {
+        number = number.wrapping_add(1);
+        if refusal.number() != number || refusal.name() != *name {
+            return false;
+        }
+    }
+    number == 10
+}
+
+fn are_misuses_named() -> bool {
+    let mut number: u8 = 0;
+    for (misuse, name) in MISUSES {
+        number = number.wrapping_add(1);
+        if misuse.number() != number || misuse.name() != *name {
+            return false;
+        }
+    }
+    number == 5
 }
 
 #[test]
 fn refusals_and_misuses_are_numbered_and_named(rt: HostRuntime) {
-    let refusals = [
-        (Refusal::NoSuchClient, 1, "NoSuchClient"),
-        (Refusal::ClientShut, 2, "ClientShut"),
-        (Refusal::NoSuchEnd, 3, "NoSuchEnd"),
-        (Refusal::InTransit, 4, "InTransit"),
-        (Refusal::WrongKind, 5, "WrongKind"),
-        (Refusal::TooManyNodes, 6, "TooManyNodes"),
-        (Refusal::TooManyCollections, 7, "TooManyCollections"),
-        (Refusal::TrackersFull, 8, "TrackersFull"),
-        (Refusal::NoSuchHandle, 9, "NoSuchHandle"),
-        (Refusal::TooManyHandles, 10, "TooManyHandles"),
-    ];
-    for (refusal, number, name) in refusals {
-        assert_eq!(rt; refusal.number(), number);
-        assert_eq!(rt; refusal.name(), name);
-    }
-    let misuses = [
-        (Misuse::SecondConstraints, 1, "SecondConstraints"),
-        (Misuse::LateWeak, 2, "LateWeak"),
-        (Misuse::LateWeakOk, 3, "LateWeakOk"),
-        (Misuse::WeakNotOk, 4, "WeakNotOk"),
-        (Misuse::TooManyNodeTrackers, 5, "TooManyNodeTrackers"),
-    ];
-    for (misuse, number, name) in misuses {
-        assert_eq!(rt; misuse.number(), number);
-        assert_eq!(rt; misuse.name(), name);
-    }
+    assert!(rt; are_refusals_named() && are_misuses_named());
 }
 
 // Of each kind of call, in the order of their numbers: its word, what it is made on, what it says, what it brings,
 // when it spends what it is made on, and what it is answered.
-const ROWS: [&str; 23] = [
+const ROWS: &[&str] = &[
     "join Nothing Nothing Client Never Joined",
     "shut Nothing Nothing Nothing Never Shut",
     "open Nothing Nothing Collection Never Token",
@@ -117,29 +154,45 @@ const ROWS: [&str; 23] = [
     "trackweak Handle Nothing Tracker Never Tracker",
 ];
 
-#[test]
-fn each_call_has_its_number_its_word_and_its_row(rt: HostRuntime) -> Result<(), Fail> {
-    let mut number = 0;
+// What is true of calls of the kind, as text.
+fn row_text(alloc: Global, kind: CallKind) -> Result<String, Fail> {
+    let row = row_of(kind);
+    let word = word_of(kind);
+    Ok(format!(in alloc;
+        "{word} {:?} {:?} {:?} {:?} {:?}",
+        row.on, row.says, row.brings, row.spends, row.answers
+    )?)
+}
+
+// Whether the kind of this number has this row, and its word names it.
+fn has_row(alloc: Global, number: u32, told: &str) -> Result<bool, Fail> {
+    let Some(kind) = kind_at(number) else {
+        return Ok(false);
+    };
+    let text = row_text(alloc, kind)?;
+    Ok(text.as_str() == told && kind_named(word_of(kind).as_bytes()) == Some(kind))
+}
+
+// Whether each kind has its row, and there is no other kind.
+fn have_rows(alloc: Global) -> Result<bool, Fail> {
+    let mut number: u32 = 0;
     for told in ROWS {
-        let Some(kind) = kind_at(number) else {
-            return Err(Fail::from("no kind"));
-        };
-        let row = row_of(kind);
-        let word = word_of(kind);
-        let text = format!(in rt.alloc();
-            "{word} {:?} {:?} {:?} {:?} {:?}",
-            row.on, row.says, row.brings, row.spends, row.answers
-        )?;
-        assert_eq!(rt; text.as_str(), told);
-        assert!(rt; kind_named(word.as_bytes()) == Some(kind), "{word}");
+        if !has_row(alloc, number, told)? {
+            return Ok(false);
+        }
         number = number.wrapping_add(1);
     }
-    assert!(rt; kind_at(number).is_none() && kind_named(b"poll").is_none());
+    Ok(kind_at(number).is_none() && kind_named(b"poll").is_none())
+}
+
+#[test]
+fn each_call_has_its_number_its_word_and_its_row(rt: HostRuntime) -> Result<(), Fail> {
+    assert!(rt; have_rows(rt.alloc())?);
     Ok(())
 }
 
 #[test]
-fn a_call_taken_apart_is_made_again(rt: HostRuntime) {
+fn the_parts_of_a_call_make_that_call(rt: HostRuntime) {
     let key = NodeKey {
         slot: 3,
         generation: 1,

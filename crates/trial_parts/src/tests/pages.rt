@@ -45,7 +45,7 @@ fn fills(rt: &impl Print, pool: &mut Pool) -> bool {
 
 // Run with each allocation refused in turn, this meets each growth of `place`.
 #[test]
-fn refused_memory_changes_nothing(rt: HostRuntime) {
+fn refused_memory_changes_no_page(rt: HostRuntime) {
     match new_pool(&rt, rt.alloc()) {
         Some(mut pool) => assert!(rt; fills(&rt, &mut pool)),
         None => assert!(rt; false, "no pool"),

@@ -68,7 +68,7 @@ fn finds(parts: &Parts) -> bool {
 }
 
 #[test]
-fn a_list_that_differs_is_told_by_the_event(rt: HostRuntime) -> Result<(), Fail> {
+fn differ_answers_the_first_event_that_differs(rt: HostRuntime) -> Result<(), Fail> {
     match Parts::new(rt.alloc(), &RECORD) {
         Ok(parts) => {
             assert!(rt; finds(&parts));

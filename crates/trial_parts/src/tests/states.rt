@@ -132,7 +132,7 @@ fn knows(state: &mut ActorState) -> bool {
 }
 
 #[test]
-fn an_actor_knows_what_it_was_told(rt: HostRuntime) {
+fn an_actor_has_the_objects_of_its_replies(rt: HostRuntime) {
     let mut state = ActorState::new(rt.alloc());
     assert!(rt; knows(&mut state));
 }
