@@ -1,5 +1,6 @@
 //! Two actors side by side.
-use super::asking::{Silent, ask, made, open, put};
+use super::asking::{Silent, ask, open};
+use crate::tests::asking::{made, put};
 use actor_scripts::ActorScript;
 use client_actors::{ActorEnd, Gate, run_actors};
 use client_parting::{Holding, Report, end_service, gather};

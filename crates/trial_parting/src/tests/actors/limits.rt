@@ -1,6 +1,7 @@
 //! A record that is full.
-use super::asking::{Silent, put};
+use super::asking::Silent;
 use super::together::scripts;
+use crate::tests::asking::put;
 use client_actors::run_actors;
 use client_parting::{Holding, end_service};
 use service_lock::{Service, Setup};

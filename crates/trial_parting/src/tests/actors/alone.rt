@@ -1,5 +1,6 @@
 //! One client that runs a script.
-use super::asking::{Silent, ask, made, open, put};
+use super::asking::{Silent, ask, open};
+use crate::tests::asking::{made, put};
 use actor_scripts::ActorScript;
 use client_actors::{ActorEnd, run_actor};
 use client_ends::join;

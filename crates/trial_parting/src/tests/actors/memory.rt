@@ -1,6 +1,7 @@
 //! Actors where memory is refused.
-use super::asking::{Silent, put};
+use super::asking::Silent;
 use super::together::scripts;
+use crate::tests::asking::put;
 use actor_scripts::ActorScript;
 use client_actors::{ActorEnd, run_actors};
 use client_ends::Held;
