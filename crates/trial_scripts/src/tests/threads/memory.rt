@@ -1,11 +1,19 @@
 //! Two actors where memory is refused.
-use crate::tests::fixture::{SEED, TWO, TWO_REPORT, report_of};
+use crate::tests::threads::fixture::{SEED, TWO, TWO_REPORT, report_of};
 use sm_names::Limits;
 use thread_runs::{ThreadsFault, run_threads};
 use trial_streams::FixedWriter;
 
-// With memory refused at any growth, the whole report is out, or nothing is and the fault says so. A
-// thread needs memory too.
+// Whether the writer has the whole report; or nothing, for want of memory. A thread needs memory too.
+fn is_whole_or_none(writer: &FixedWriter, ended: Result<(), ThreadsFault>) -> bool {
+    let out = writer.used.min(128);
+    match ended {
+        Ok(()) => &writer.bytes[..out] == TWO_REPORT.as_bytes(),
+        Err(ThreadsFault::NoMemory | ThreadsFault::NoThread) => out == 0,
+        Err(_) => false,
+    }
+}
+
 #[test]
 fn refused_memory_leaves_the_whole_report_or_none(rt: HostRuntime) {
     let mut writer = FixedWriter {
@@ -22,13 +30,8 @@ fn refused_memory_leaves_the_whole_report_or_none(rt: HostRuntime) {
         report_of(&rt, 4),
         Limits::full(),
     );
-    let out = writer.used.min(128);
-    if ended == Ok(()) {
-        assert_eq!(rt; &writer.bytes[..out], TWO_REPORT.as_bytes());
-    } else {
-        let faults = [Err(ThreadsFault::NoMemory), Err(ThreadsFault::NoThread)];
-        assert!(rt; faults.contains(&ended));
-        assert_eq!(rt; out, 0);
+    if ended != Ok(()) {
         let _ = println!(rt; "memory was refused");
     }
+    assert!(rt; is_whole_or_none(&writer, ended));
 }

@@ -4,7 +4,6 @@ use sm_names::Limits;
 use std::alloc::Global;
 use std::process::Abort;
 use std::sync::Wait;
-use std::test::Fail;
 use std::thread::Threads;
 use std::time::Clock;
 use thread_runs::{Job, Output, ThreadsFault, run_threads};
@@ -40,9 +39,8 @@ pub fn report_of<R: Abort>(rt: &R, pages: u32) -> Job {
     }
 }
 
-/// Asserts what a run of actors with a pool of so many pages writes, whose lines and whose script's lines
-/// end in `; `, and how it ends.
-pub fn check<R: Threads + Wait + Clock + Abort + Sync>(
+/// Whether a run of actors with a pool of this many pages writes this report, and ends so.
+pub fn reports<R: Threads + Wait + Clock + Abort + Sync>(
     rt: &R,
     alloc: Global,
     pages: u32,
@@ -50,16 +48,12 @@ pub fn check<R: Threads + Wait + Clock + Abort + Sync>(
     script: &str,
     report: &str,
     outcome: Result<(), ThreadsFault>,
-) -> Result<(), Fail> {
-    let script = script.replace(alloc, "; ", "\n")?;
-    let report = report.replace(alloc, "; ", "\n")?;
+) -> bool {
     let mut reader = script.as_bytes();
     let mut out = Vec::new(alloc);
     let job = report_of(rt, pages);
     let ended = run_threads(rt, alloc, SEED, &mut reader, &mut out, job, limits);
-    assert_eq!(rt; ended, outcome, "{script}");
-    assert_eq!(rt; out.as_slice(), report.as_bytes(), "{script}");
-    Ok(())
+    ended == outcome && out.as_slice() == report.as_bytes()
 }
 
 /// Runs both actors, so many bytes a read.
@@ -85,21 +79,23 @@ fn has_none_open(line: &[u8]) -> bool {
     line.ends_with(b" strong 0 weak 0")
 }
 
-/// Asserts that so many actors come to their end, that none has a handle open, and that all was
-/// gathered.
-pub fn check_gathered<R: Threads + Wait + Clock + Abort + Sync>(
+// Whether this many actors have no open handle by the report, and all was gathered.
+fn is_gathered(report: &[u8], actors: usize) -> bool {
+    let lines = report.split(|byte| *byte == b'\n');
+    lines.filter(|line| has_none_open(*line)).count() == actors
+        && report.ends_with(b"\ngather ok\n")
+}
+
+/// Whether this many actors end without an open handle, and all is gathered.
+pub fn gathers<R: Threads + Wait + Clock + Abort + Sync>(
     rt: &R,
     alloc: Global,
     script: &[u8],
     actors: usize,
-) {
+) -> bool {
     let mut reader = script;
     let mut out = Vec::new(alloc);
     let job = report_of(rt, 16);
     let ended = run_threads(rt, alloc, SEED, &mut reader, &mut out, job, Limits::full());
-    assert_eq!(rt; ended, Ok(()));
-    let report = out.as_slice();
-    let lines = report.split(|byte| *byte == b'\n');
-    assert_eq!(rt; lines.filter(|line| has_none_open(*line)).count(), actors);
-    assert!(rt; report.ends_with(b"\ngather ok\n"));
+    ended == Ok(()) && is_gathered(&out, actors)
 }
