@@ -27,7 +27,7 @@ done
 [[ $lanes =~ ^[1-9][0-9]*$ ]] || { echo 'test.sh: -j takes a number of lanes' >&2 && exit 2; }
 
 # All items. Those that take longest come first, so that no lane waits for them at the end.
-first=(trial_threads sysmem_main trial_report_rows trial_core trial_script_rows trial_forest_rows)
+first=(trial_scripts sysmem_main trial_script_rows trial_core trial_forest_rows)
 mapfile -t others < <({
   grep -rl --include='*.rt' '^ *#\[test\]' crates/*/src
   ls crates/*/src/main.rt

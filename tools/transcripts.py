@@ -3,7 +3,7 @@
 
   tools/transcripts.py
 
-Of each example, and of each row of trial_report_rows that is explained: the explanation without its indented lines is the
+Of each example, and of each row of trial_script_rows that is explained: the explanation without its indented lines is the
 script, as far as it was told, and its lines of exactly two spaces are the replies. The replies of an example stand in
 its `.out`. It reads files alone, and takes less than a second. The last line counts; the status is 1 if one differs.
 """
@@ -55,7 +55,7 @@ def main():
     for script in sorted(TOP.glob("examples/*.script")):
         told, out = script.with_suffix(".explained"), script.with_suffix(".out")
         cases.append((script.name, *(lines(path.read_bytes()) for path in (script, told, out))))
-    folder = TOP / "crates/trial_report_rows"
+    folder = TOP / "crates/trial_script_rows"
     given, wrote = (rows((folder / name).read_bytes()) for name in ("stdin", "stdout"))
     for (title, script), (_, told) in zip(given, wrote, strict=True):
         if title.startswith(b"= explain "):

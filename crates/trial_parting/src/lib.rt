@@ -1,4 +1,5 @@
-//! Trials of client_parting, all by its public calls. A crate of their own, so that it is proved once.
+//! Trials of client_parting and client_actors, all by their public calls: see docs/TESTING.md. A crate of their own, so
+//! that each of those is proved once.
 #![tactic(auto)]
 
 #[cfg(test)]

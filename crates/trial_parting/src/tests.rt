@@ -3,6 +3,8 @@ use client_parting::GatherFault;
 use stage::{Scene, stage};
 use std::test::Fail;
 
+mod actors;
+mod again;
 mod asking;
 mod crowd;
 mod gathered;
@@ -12,12 +14,12 @@ mod stage;
 mod vanished;
 
 #[test]
-fn who_vanishes_closes_what_waits_for_it(rt: HostRuntime) {
+fn a_client_that_vanishes_closes_the_ends_in_its_parcels(rt: HostRuntime) {
     stage(&rt, rt.alloc(), Scene::Vanished)
 }
 
 #[test]
-fn all_that_is_open_is_gathered(rt: HostRuntime) {
+fn gather_finds_missing_parts_and_handles(rt: HostRuntime) {
     stage(&rt, rt.alloc(), Scene::Gathered)
 }
 
@@ -32,7 +34,7 @@ fn vanish_and_gather_succeed_after_out_of_memory(rt: HostRuntime) {
 }
 
 #[test]
-fn threads_that_share_trees_leave_nothing(rt: HostRuntime) {
+fn nothing_is_live_or_held_after_threads_shared_trees(rt: HostRuntime) {
     stage(&rt, rt.alloc(), Scene::Crowd)
 }
 

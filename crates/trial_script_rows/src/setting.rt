@@ -1,87 +1,54 @@
-//! With how many pages a script is run, and within which limits.
-ghost use Rattle.std.specs.Prelude.{◌≤◌};
-
+//! With how many pages a script is played, and within which limits.
+use script_lines::Pages;
 use sm_names::Limits;
-use std::alloc::Global;
-use std::test::Fail;
 use trial_streams::decimal;
 
-/// Pages from 1 to 1,048,576, and limits.
+/// Pages of a pool, and limits.
 #[derive(Clone, Copy)]
 pub struct Setting {
-    pages: u32,
-    limits: Limits,
-    ghost in_range: { (1 ≤ pages) × (pages ≤ 1048576) },
+    pub pages: Pages,
+    pub limits: Limits,
 }
 
-// The number that a word is.
-fn number_of(word: &str) -> Result<u32, Fail> {
-    match decimal(word) {
-        Some(number) => Ok(number),
-        None => Err(Fail::from("not a number")),
+// The five numbers of a text.
+fn numbers_of(text: &str) -> Option<[u32; 5]> {
+    let mut numbers = [0; 5];
+    let mut words = text.split_whitespace();
+    for number in &mut numbers {
+        *number = decimal(words.next()?)?;
     }
+    Some(numbers)
+}
+
+// The limits of five numbers, if these are in range.
+fn limits_of(text: &str) -> Option<Limits> {
+    let [events, nodes, collections, trackers, handles] = numbers_of(text)?;
+    Limits::new(events, nodes, collections, trackers, handles)
 }
 
 impl Setting {
-    /// 16 pages, and all limits full.
-    pub fn full() -> Setting {
-        Setting {
-            pages: 16,
-            limits: Limits::full(),
-        }
-    }
-
-    /// How many pages.
-    pub fn pages(&self) -> u32
-        ensures { (1 ≤ result) × (result ≤ 1048576) }
-    {
-        self.pages
-    }
-
-    /// Which limits.
-    pub fn limits(&self) -> Limits {
-        self.limits
-    }
-
-    fn with_pages(&self, pages: u32) -> Result<Setting, Fail> {
-        if pages < 1 || 1048576 < pages {
-            return Err(Fail::from("so many pages may not be"));
-        }
-        Ok(Setting {
+    /// 16 pages and the greatest limits.
+    pub fn full() -> Option<Setting> {
+        let pages = Pages::new(16)?;
+        Some(Setting {
             pages,
-            limits: self.limits,
+            limits: Limits::full(),
         })
     }
 
-    fn with_limits(&self, limits: Option<Limits>) -> Result<Setting, Fail> {
-        match limits {
-            Some(limits) => Ok(Setting {
-                pages: self.pages,
-                limits,
-            }),
-            None => Err(Fail::from("such limits may not be")),
+    /// The setting with the pages or the limits of the line, or `None` if the line sets neither.
+    pub fn with(self, line: &str) -> Option<Setting> {
+        if let Some(count) = line.strip_prefix("@ pages ") {
+            let pages = Pages::new(decimal(count)?)?;
+            return Some(Setting {
+                pages,
+                limits: self.limits,
+            });
         }
-    }
-
-    /// Takes a line, if it says something of the setting.
-    pub fn take(&mut self, alloc: Global, line: &str) -> Result<bool, Fail> {
-        if !line.starts_with("@ ") {
-            return Ok(false);
-        }
-        let words: Vec<&str> = line.split_whitespace().collect(alloc)?;
-        *self = match *words.as_slice() {
-            ["@", "pages", pages] => self.with_pages(number_of(pages)?)?,
-            ["@", "limits", events, nodes, collections, trackers, handles] => {
-                self.with_limits(Limits::new(
-                    number_of(events)?,
-                    number_of(nodes)?,
-                    number_of(collections)?,
-                    number_of(trackers)?,
-                    number_of(handles)?,
-                ))?
-            }
-            _ => return Err(Fail::from("a line that says nothing")),
-        };
-        Ok(true)
+        let limits = limits_of(line.strip_prefix("@ limits ")?)?;
+        Some(Setting {
+            pages: self.pages,
+            limits,
+        })
     }
 }

@@ -1,5 +1,5 @@
-//! Trials of sm_script, all by its public calls: see docs/TESTING.md. A crate of their own, so that
-//! scripts are proved once.
+//! Trials of sm_script and thread_runs, all by their public calls: see docs/TESTING.md. A crate of their own, so that
+//! each of those is proved once.
 #![tactic(auto)]
 
 #[cfg(test)]

@@ -3,4 +3,5 @@ mod exits;
 mod faults;
 mod fixture;
 mod lines;
+mod threads;
 mod turns;

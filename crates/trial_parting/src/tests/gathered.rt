@@ -1,9 +1,10 @@
 //! What is gathered, and what is missed.
-use super::asking::{constraints, gathered, made, put, report};
-use client_ends::{Client, Handle, Held, join};
+use super::again::{bind_again, join_again, open_again, take_again};
+use super::asking::{gathered, put, report};
+use client_ends::{Client, Handle, Held};
 use client_parting::{GatherFault, Holding, Report, end_service};
 use service_lock::{Service, Setup};
-use sm_names::{ClientId, Reply};
+use sm_names::ClientId;
 use std::alloc::Global;
 use std::process::Abort;
 use std::sync::Wait;
@@ -15,12 +16,10 @@ fn owner<E: Setup, S: Ledger, W: Ledger, R: Wait + Abort>(
     alloc: Global,
     service: &Service<E, S, W>,
 ) -> (Client<E, S, W>, Held<E, S, W>) {
-    let mut client = made(rt, join(rt, alloc, service));
-    let root = made(rt, client.open_root(rt, service));
-    let root = made(rt, root.bind(rt, service, &mut client));
-    let asked = constraints(rt, 2, 0, 4096);
-    assert!(rt; made(rt, root.set_constraints(rt, service, &mut client, asked)) == Reply::Done);
-    let handles = made(rt, root.take(rt, alloc, service, &mut client));
+    let mut client = join_again(rt, alloc, service);
+    let root = open_again(rt, service, &mut client);
+    let root = bind_again(rt, service, &mut client, root);
+    let handles = take_again(rt, alloc, service, &mut client, &root, 2);
     let mut held = Held {
         tokens: Vec::new(alloc),
         collections: Vec::new(alloc),

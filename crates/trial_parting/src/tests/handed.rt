@@ -1,9 +1,10 @@
 //! A handle that is given to a client that vanishes.
-use super::asking::{constraints, gathered, gone, made, nothing, parted_by, put, report};
-use client_ends::{Client, CollectionEnd, Held, join};
+use super::again::{bind_again, join_again, open_again, send_again, take_again};
+use super::asking::{gathered, gone, nothing, parted_by, put, report};
+use client_ends::{Client, CollectionEnd, Held};
 use client_parting::{GatherFault, Holding, end_service};
 use service_lock::{Service, Setup};
-use sm_names::{BufferName, Call, ClientId, Reply, Strength};
+use sm_names::{BufferName, Call, ClientId, Strength};
 use std::alloc::Global;
 use std::process::Abort;
 use std::sync::Wait;
@@ -18,19 +19,17 @@ fn hand_over<E: Setup, S: Ledger, W: Ledger, R: Wait + Abort>(
     client: &mut Client<E, S, W>,
     to: ClientId,
 ) -> (CollectionEnd, BufferName) {
-    let root = made(rt, client.open_root(rt, service));
-    let root = made(rt, root.bind(rt, service, client));
-    let asked = constraints(rt, 1, 0, 4096);
-    assert!(rt; made(rt, root.set_constraints(rt, service, client, asked)) == Reply::Done);
-    let mut handles = made(rt, root.take(rt, alloc, service, client));
+    let root = open_again(rt, service, client);
+    let root = bind_again(rt, service, client, root);
+    let mut handles = take_again(rt, alloc, service, client, &root, 1);
     let handle = match handles.pop() {
         Some(handle) => handle,
         None => panic!(rt; "no handle"),
     };
-    assert!(rt; handles.is_empty() && handle.client() == client.id());
+    assert!(rt; handles.is_empty());
     handles.destroy_empty();
     let buffer = handle.buffer();
-    made(rt, handle.give(rt, service, client, to));
+    send_again(rt, service, client, handle, to);
     (root, buffer)
 }
 
@@ -67,8 +66,8 @@ pub fn handed<E: Setup, S: Ledger, W: Ledger, R: Wait + Abort>(
     alloc: Global,
     service: Service<E, S, W>,
 ) {
-    let mut first = made(rt, join(rt, alloc, &service));
-    let second = made(rt, join(rt, alloc, &service));
+    let mut first = join_again(rt, alloc, &service);
+    let second = join_again(rt, alloc, &service);
     let (root, buffer) = hand_over(rt, alloc, &service, &mut first, second.id());
     let mut held = nothing(alloc);
     put(rt, &mut held.collections, root);

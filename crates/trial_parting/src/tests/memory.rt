@@ -1,134 +1,17 @@
-//! A client that vanishes, and what is gathered, where memory is refused.
+//! A client that vanishes, and what is gathered, if memory is refused.
 ghost use Rattle.std.specs.Prelude.{◌≡◌};
 ghost use Rattle.client_parting.specs.Partings.{AllHeldBy, held_in};
 
-use super::asking::{constraints, gone, made, nothing, put, report};
-use client_ends::{Client, CollectionEnd, EndOf, Handle, Held, Kept, Own, TokenEnd, Why, join};
+use super::again::{bind_again, give_again, join_again, open_again, send_again, take_again};
+use super::asking::{gone, nothing, put, report};
+use client_ends::{Client, Handle, Held, Own, TokenEnd};
 use client_parting::{GatherFault, Holding, Report, Wreck, end_service, gather, vanish};
 use service_lock::{Service, Setup};
-use sm_names::{Call, ClientId, Reply, StepFault};
+use sm_names::{Call, ClientId, StepFault};
 use std::alloc::Global;
 use std::process::Abort;
 use std::sync::Wait;
 use std::sync::ledger::Ledger;
-
-// A client more.
-fn join_again<E: Setup, S: Ledger, W: Ledger, R: Wait + Abort>(
-    rt: &R,
-    alloc: Global,
-    service: &Service<E, S, W>,
-) -> Client<E, S, W> {
-    match join(rt, alloc, service) {
-        Ok(client) => client,
-        Err(_) => made(rt, join(rt, alloc, service)),
-    }
-}
-
-// A root.
-fn open_again<E: Setup, S: Ledger, W: Ledger, R: Wait + Abort>(
-    rt: &R,
-    service: &Service<E, S, W>,
-    client: &mut Client<E, S, W>,
-) -> TokenEnd
-    ensures id { client.new.id ≡ client.old.id }
-    ensures token { result.client ≡ client.new.id }
-{
-    match client.open_root(rt, service) {
-        Ok(root) => root,
-        Err(Why::Fault(_)) => made(rt, client.open_root(rt, service)),
-        Err(_) => panic!(rt; "no root"),
-    }
-}
-
-// The token is bound.
-fn bind_again<E: Setup, S: Ledger, W: Ledger, R: Wait + Abort>(
-    rt: &R,
-    service: &Service<E, S, W>,
-    client: &mut Client<E, S, W>,
-    token: TokenEnd,
-) -> CollectionEnd
-    requires { token.client ≡ client.old.id }
-    ensures id { client.new.id ≡ client.old.id }
-    ensures collection { result.client ≡ client.new.id }
-{
-    match token.bind(rt, service, client) {
-        Ok(collection) => collection,
-        Err(
-            Kept {
-                value,
-                why: Why::Fault(_),
-            },
-        ) => made(rt, value.bind(rt, service, client)),
-        Err(_) => panic!(rt; "not bound"),
-    }
-}
-
-// It asks for two buffers, and takes a handle on each.
-fn take_again<E: Setup, S: Ledger, W: Ledger, R: Wait + Abort>(
-    rt: &R,
-    alloc: Global,
-    service: &Service<E, S, W>,
-    client: &mut Client<E, S, W>,
-    root: &CollectionEnd,
-) -> Vec<Handle<E, S, W>>
-    requires { root.now.client ≡ client.old.id }
-    ensures { client.new.id ≡ client.old.id }
-{
-    let asked = constraints(rt, 2, 0, 4096);
-    let reply = match root.set_constraints(rt, service, client, asked) {
-        Ok(reply) => reply,
-        Err(_) => made(rt, root.set_constraints(rt, service, client, asked)),
-    };
-    assert!(rt; reply == Reply::Done);
-    match root.take(rt, alloc, service, client) {
-        Ok(handles) => handles,
-        Err(Why::Fault(_)) => made(rt, root.take(rt, alloc, service, client)),
-        Err(_) => panic!(rt; "not taken"),
-    }
-}
-
-// The end goes to the other client.
-fn give_again<K, E: Setup, S: Ledger, W: Ledger, R: Wait + Abort>(
-    rt: &R,
-    service: &Service<E, S, W>,
-    client: &mut Client<E, S, W>,
-    end: EndOf<K>,
-    to: ClientId,
-)
-    requires { end.client ≡ client.old.id }
-{
-    match end.give(rt, service, client, to) {
-        Ok(()) => {}
-        Err(
-            Kept {
-                value,
-                why: Why::Fault(_),
-            },
-        ) => made(rt, value.give(rt, service, client, to)),
-        Err(_) => panic!(rt; "not given"),
-    }
-}
-
-// The handle goes to the other client.
-fn send_again<E: Setup, S: Ledger, W: Ledger, R: Wait + Abort>(
-    rt: &R,
-    service: &Service<E, S, W>,
-    client: &mut Client<E, S, W>,
-    handle: Handle<E, S, W>,
-    to: ClientId,
-) {
-    assert!(rt; handle.client() == client.id());
-    match handle.give(rt, service, client, to) {
-        Ok(()) => {}
-        Err(
-            Kept {
-                value,
-                why: Why::Fault(_),
-            },
-        ) => made(rt, value.give(rt, service, client, to)),
-        Err(_) => panic!(rt; "not sent"),
-    }
-}
 
 // The client gives a collection and one of its two handles to the other, and keeps these handles.
 fn share<E: Setup, S: Ledger, W: Ledger, R: Wait + Abort>(
@@ -140,7 +23,7 @@ fn share<E: Setup, S: Ledger, W: Ledger, R: Wait + Abort>(
 ) -> Vec<Handle<E, S, W>> {
     let root = open_again(rt, service, client);
     let root = bind_again(rt, service, client, root);
-    let mut handles = take_again(rt, alloc, service, client, &root);
+    let mut handles = take_again(rt, alloc, service, client, &root, 2);
     give_again(rt, service, client, root, to);
     match handles.pop() {
         Some(handle) => send_again(rt, service, client, handle, to),
@@ -181,8 +64,8 @@ fn is_back<E: Setup, S: Ledger, W: Ledger>(client: &Client<E, S, W>, held: &Held
     ends + held.handles.len() as u128 + parted as u128 == 1 + collected as u128
 }
 
-// The client goes. Where memory is refused it comes back with what it still has, and goes once more,
-// beginning with a Shut.
+// The client vanishes. If memory is refused, it comes back with what it still has, and vanishes at the second try,
+// which begins with a Shut.
 fn gone_again<E: Setup, S: Ledger, W: Ledger, R: Wait + Abort>(
     rt: &R,
     alloc: Global,
@@ -213,7 +96,7 @@ fn is_all(report: &Report) -> bool {
     (report.strong, report.weak) == (1, 0) && report.lines.len() == 2
 }
 
-// All is gathered. Where memory is refused all parts come back, and all is gathered from them.
+// All is gathered. If memory is refused, all parts come back, and all is gathered from them.
 fn gather_again<E: Setup, S: Ledger, W: Ledger, R: Wait + Abort>(
     rt: &R,
     alloc: Global,

@@ -3,6 +3,7 @@ ghost use Rattle.std.specs.Prelude.{◌≤◌};
 ghost use Rattle.service_lock.specs.States.{IsSetUpWith};
 ghost use Rattle.service_lock.specs.Units.{AreFor};
 
+use super::actors::{ActorScene, play_actors};
 use super::crowd::{PAGES, crowd};
 use super::gathered::all_gathered;
 use super::handed::handed;
@@ -16,6 +17,7 @@ use std::process::Abort;
 use std::sync::Wait;
 use std::sync::ledger::{Blank, Ledger};
 use std::thread::Threads;
+use std::time::Clock;
 
 /// What is played.
 #[derive(Clone, Copy)]
@@ -25,6 +27,15 @@ pub enum Scene {
     Handed,
     Memory,
     Crowd,
+    Actors(ActorScene),
+}
+
+// The limits of its service.
+fn limits(scene: Scene) -> Option<Limits> {
+    match scene {
+        Scene::Actors(ActorScene::OneEvent) => Limits::new(1, 4, 4, 4, 4),
+        _ => Some(Limits::full()),
+    }
 }
 
 // How many pages the pool of its service has.
@@ -37,31 +48,39 @@ fn pages(scene: Scene) -> u32
         Scene::Handed => 4,
         Scene::Memory => 16,
         Scene::Crowd => PAGES,
+        Scene::Actors(ActorScene::Alone) => 2,
+        Scene::Actors(ActorScene::Together) => 64,
+        Scene::Actors(ActorScene::Meeting) => 4,
+        Scene::Actors(ActorScene::OneEvent) => 1,
+        Scene::Actors(ActorScene::Memory) => 16,
     }
 }
 
 /// Plays the scene on a service that has seen nothing, and ends it.
-pub fn stage<R: Threads + Wait + Abort + Sync>(rt: &R, alloc: Global, scene: Scene) {
+pub fn stage<R: Threads + Wait + Clock + Abort + Sync>(rt: &R, alloc: Global, scene: Scene) {
     if !start(rt, alloc, scene) {
         assert!(rt; start(rt, alloc, scene));
     }
 }
 
 // The same, once: whether there was memory for a service.
-fn start<R: Threads + Wait + Abort + Sync>(rt: &R, alloc: Global, scene: Scene) -> bool {
+fn start<R: Threads + Wait + Clock + Abort + Sync>(rt: &R, alloc: Global, scene: Scene) -> bool {
     let blanks = BlankBooks {
         events: Blank::new(MAX_SHARES),
         strong: Blank::new(MAX_SHARES),
         weak: Blank::new(MAX_SHARES),
     };
-    play::<Brand, Brand, Brand, _>(rt, alloc, blanks, scene, pages(scene), Limits::full())
+    let Some(limits) = limits(scene) else {
+        panic!(rt; "no limits");
+    };
+    play::<Brand, Brand, Brand, _>(rt, alloc, blanks, scene, pages(scene), limits)
 }
 
 fn play<
     E: Setup + Send + Sync,
     S: Ledger + Send + Sync,
     W: Ledger + Send + Sync,
-    R: Threads + Wait + Abort + Sync,
+    R: Threads + Wait + Clock + Abort + Sync,
 >(rt: &R, alloc: Global, blanks: BlankBooks, scene: Scene, pages: u32, limits: Limits) -> bool
     requires pages { (1 ≤ pages) × (pages ≤ 1048576) }
     requires blanks { AreFor E.name E.parts S.name S.parts W.name W.parts blanks }
@@ -76,6 +95,7 @@ fn play<
         Scene::Handed => handed(rt, alloc, service),
         Scene::Memory => memory(rt, alloc, service),
         Scene::Crowd => crowd(rt, alloc, service),
+        Scene::Actors(scene) => play_actors(rt, alloc, service, scene),
     }
     true
 }

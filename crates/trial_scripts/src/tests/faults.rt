@@ -1,131 +1,23 @@
 //! Scripts that stop before their end.
-use crate::tests::fixture::{check, play};
+use crate::tests::fixture::{is_out, play};
 use sm_names::Limits;
 use sm_script::{ScriptFault, run_script};
-use std::alloc::Global;
-use std::process::Abort;
+use std::alloc::{AllocError, Global};
 use std::test::Fail;
 use trial_streams::{FailingWriter, FixedWriter};
 
-#[test]
-fn labels_are_bound_once_and_where_something_was_made(rt: HostRuntime) -> Result<(), Fail> {
-    let cases = [
-        ("a sync r; ", "", 1),
-        ("a join; a join; ", "joined; ", 2),
-        ("a join; b open r; ", "joined; ", 2),
-        ("a join; a sync r; ", "joined; ", 2),
-        ("a join; a open r; a open r; ", "joined; token r; ", 3),
-        ("a join; a open r; a dup r r; ", "joined; token r; ", 3),
-        ("a join; a open r; a dup s t; ", "joined; token r; ", 3),
-        (
-            "a join; a open a; a close a; a open a; ",
-            "joined; token a; done; ",
-            4,
-        ),
-        (
-            "a join; a open r; a bind r; a dup r k; a sync k; ",
-            "joined; token r; done; refused 5 WrongKind; ",
-            5,
-        ),
-    ];
-    for (script, replies, number) in cases {
-        check_bad(&rt, rt.alloc(), script, replies, number)?;
-    }
-    Ok(())
-}
-
-// Asserts that the line of this number is the first bad one, and what the lines before it give.
-fn check_bad(
-    rt: &impl Abort,
-    alloc: Global,
-    script: &str,
-    replies: &str,
-    number: u64,
-) -> Result<(), Fail> {
-    let outcome = Err(ScriptFault::BadLine(number));
-    check(rt, alloc, 16, Limits::full(), script, replies, outcome)
-}
-
-#[test]
-fn labels_of_what_was_brought_are_bound_once(rt: HostRuntime) -> Result<(), Fail> {
-    let cases = [
-        ("a shut; ", "", 1),
-        ("a join; a open r; a give r b; ", "joined; token r; ", 3),
-        ("a join; a give r a; ", "joined; ", 2),
-        ("a join; a collect m; a sync m; ", "joined; empty; ", 3),
-        ("a join; a open r; a collect r; ", "joined; token r; ", 3),
-        (
-            "a join; a open r; a give r a; a collect m; a collect m; ",
-            "joined; token r; done; token m; ",
-            5,
-        ),
-        ("a join; a duph r.0 strong; ", "joined; ", 2),
-        ("a join; a droph a.0 weak; ", "joined; ", 2),
-        (
-            "a join; a open r; a giveh r.0 strong b; ",
-            "joined; token r; ",
-            3,
-        ),
-        ("a join; b giveh r.0 strong a; ", "joined; ", 2),
-    ];
-    for (script, replies, number) in cases {
-        check_bad(&rt, rt.alloc(), script, replies, number)?;
-    }
-    Ok(())
-}
-
-#[test]
-fn trackers_have_labels_of_their_own(rt: HostRuntime) -> Result<(), Fail> {
-    let cases = [
-        ("a join; a tracknode r e; ", "joined; ", 2),
-        ("a join; a tracklife r 0 e; ", "joined; ", 2),
-        ("a join; a trackweak r.0 e; ", "joined; ", 2),
-        ("a join; a open r; a poll r; ", "joined; token r; ", 3),
-        (
-            "a join; a open r; a tracknode r r; b poll r; ",
-            "joined; token r; tracker r; ",
-            4,
-        ),
-        (
-            "a join; a open r; a tracknode r e; a tracknode r e; ",
-            "joined; token r; tracker e; ",
-            4,
-        ),
-        (
-            "a join; a open r; a tracknode r e; a trackweak r.0 e; ",
-            "joined; token r; tracker e; ",
-            4,
-        ),
-        (
-            "a join; a open r; a tracklife r 0 e; a poll e; ",
-            "joined; token r; refused 5 WrongKind; ",
-            4,
-        ),
-        (
-            "a join; a open r; a trackweak r.0 e; a poll e; ",
-            "joined; token r; refused 9 NoSuchHandle; ",
-            4,
-        ),
-    ];
-    for (script, replies, number) in cases {
-        check_bad(&rt, rt.alloc(), script, replies, number)?;
-    }
-    Ok(())
-}
-
-#[test]
-fn empty_lines_and_remarks_are_counted(rt: HostRuntime) -> Result<(), Fail> {
-    check_bad(&rt, rt.alloc(), "; # a; a join; b; ", "joined; ", 4)
+// Whether the second line is the first bad one, and the first line has its reply.
+fn is_second_bad(alloc: Global, script: &str) -> bool {
+    let mut writer = FailingWriter::new(alloc);
+    let ended = play(alloc, script.as_bytes(), 3, 0, &mut writer);
+    ended == Err(ScriptFault::BadLine(2)) && is_out(&writer, "joined\n", 7)
 }
 
 #[test]
 fn a_last_line_without_its_end_is_bad(rt: HostRuntime) {
-    for text in ["a join\na ope", "a join\na open r", "a join\n#"] {
-        let mut writer = FailingWriter::new(rt.alloc());
-        let ended = play(rt.alloc(), text.as_bytes(), 3, 0, &mut writer);
-        assert_eq!(rt; ended, Err(ScriptFault::BadLine(2)), "{text}");
-        assert_eq!(rt; writer.bytes.as_slice(), b"joined\n".as_slice(), "{text}");
-    }
+    assert!(rt; is_second_bad(rt.alloc(), "a join\na ope"));
+    assert!(rt; is_second_bad(rt.alloc(), "a join\na open r"));
+    assert!(rt; is_second_bad(rt.alloc(), "a join\n#"));
 }
 
 // A script of weak handles, with its replies: each line has one.
@@ -169,72 +61,96 @@ fn answered(read: usize) -> usize {
     front(REPLIES.as_bytes(), lines)
 }
 
-#[test]
-fn whole_lines_are_answered_before_the_next_read(rt: HostRuntime) {
+// Whether the writer has the replies to all whole lines if the read after this many bytes fails.
+fn stops_behind(alloc: Global, read: usize) -> bool {
+    let mut writer = FailingWriter::new(alloc);
+    let fails = read.saturating_add(1);
+    let ended = play(alloc, SCRIPT.as_bytes(), 1, fails, &mut writer);
+    ended == Err(ScriptFault::ReadFault) && is_out(&writer, REPLIES, answered(read))
+}
+
+// Whether the writer has all replies if each read gives this many bytes.
+fn is_played_by(alloc: Global, step: usize) -> bool {
+    let mut writer = FailingWriter::new(alloc);
+    let ended = play(alloc, SCRIPT.as_bytes(), step, 0, &mut writer);
+    ended == Ok(()) && is_out(&writer, REPLIES, REPLIES.len())
+}
+
+// The first number of bytes, before a read that fails or of each read, with which the writer has other replies.
+fn late_reply(alloc: Global) -> Option<usize> {
     for read in 0..SCRIPT.len() + 1 {
-        let mut writer = FailingWriter::new(rt.alloc());
-        let ended = play(rt.alloc(), SCRIPT.as_bytes(), 1, read + 1, &mut writer);
-        assert_eq!(rt; ended, Err(ScriptFault::ReadFault), "at read {read}");
-        let out = answered(read).min(REPLIES.len());
-        assert_eq!(rt;
-            writer.bytes.as_slice(),
-            &REPLIES.as_bytes()[..out],
-            "at read {read}"
-        );
+        if !stops_behind(alloc, read) || !is_played_by(alloc, read + 1) {
+            return Some(read);
+        }
     }
-    for step in 1..SCRIPT.len() + 2 {
-        let mut writer = FailingWriter::new(rt.alloc());
-        let ended = play(rt.alloc(), SCRIPT.as_bytes(), step, 0, &mut writer);
-        assert_eq!(rt; ended, Ok(()), "{step} bytes a read");
-        assert_eq!(rt;
-            writer.bytes.as_slice(),
-            REPLIES.as_bytes(),
-            "{step} bytes a read"
-        );
-    }
+    None
 }
 
 #[test]
-fn a_part_is_out_where_a_write_fails(rt: HostRuntime) {
+fn whole_lines_are_answered_before_the_next_read(rt: HostRuntime) {
+    assert!(rt; late_reply(rt.alloc()).is_none());
+}
+
+// Whether the writer has all bytes before this one if the write of this one fails, or takes nothing.
+fn stops_at(alloc: Global, write: usize, takes_nothing: bool) -> bool {
+    let mut writer = FailingWriter::new(alloc);
+    writer.fails = write.saturating_add(1);
+    writer.takes_nothing = takes_nothing;
+    let ended = play(alloc, SCRIPT.as_bytes(), 5, 0, &mut writer);
+    ended == Err(ScriptFault::WriteFault) && is_out(&writer, REPLIES, write)
+}
+
+// The number of the first byte whose write fails and leaves other bytes.
+fn wrong_part(alloc: Global) -> Option<usize> {
     for write in 0..REPLIES.len() {
-        for takes_nothing in [false, true] {
-            let mut writer = FailingWriter::new(rt.alloc());
-            writer.fails = write + 1;
-            writer.takes_nothing = takes_nothing;
-            let ended = play(rt.alloc(), SCRIPT.as_bytes(), 5, 0, &mut writer);
-            assert_eq!(rt; ended, Err(ScriptFault::WriteFault), "at write {write}");
-            assert_eq!(rt;
-                writer.bytes.as_slice(),
-                &REPLIES.as_bytes()[..write],
-                "at {write}"
-            );
+        if !stops_at(alloc, write, false) || !stops_at(alloc, write, true) {
+            return Some(write);
         }
     }
+    None
+}
+
+#[test]
+fn a_first_part_is_written_if_a_write_fails(rt: HostRuntime) {
+    assert!(rt; wrong_part(rt.alloc()).is_none());
+}
+
+// Whether a failed flush is a write fault, and the writer has all replies.
+fn is_flushed(alloc: Global) -> bool {
+    let mut writer = FailingWriter::new(alloc);
+    writer.flushes = false;
+    let ended = play(alloc, SCRIPT.as_bytes(), 5, 0, &mut writer);
+    ended == Err(ScriptFault::WriteFault) && is_out(&writer, REPLIES, REPLIES.len())
 }
 
 #[test]
 fn a_writer_is_flushed_at_the_end(rt: HostRuntime) {
-    let mut writer = FailingWriter::new(rt.alloc());
-    writer.flushes = false;
-    let ended = play(rt.alloc(), SCRIPT.as_bytes(), 5, 0, &mut writer);
-    assert_eq!(rt; ended, Err(ScriptFault::WriteFault));
-    assert_eq!(rt; writer.bytes.as_slice(), REPLIES.as_bytes());
+    assert!(rt; is_flushed(rt.alloc()));
 }
 
-#[test]
-fn the_greatest_size_is_read(rt: HostRuntime) -> Result<(), Fail> {
+// Remarks of as many bytes as a script may have.
+fn remarks(alloc: Global) -> Result<Vec<u8>, AllocError> {
     let remark = 64;
-    let mut script = Vec::with_capacity(rt.alloc(), sm_script::MOST_BYTES + 1)?;
+    let mut script = Vec::with_capacity(alloc, sm_script::MOST_BYTES + 1)?;
     for _ in 0..sm_script::MOST_BYTES / remark {
         script.resize(script.len().saturating_add(remark - 1), b'#')?;
         script.push(b'\n')?;
     }
-    let mut writer = FailingWriter::new(rt.alloc());
-    let ended = play(rt.alloc(), script.as_slice(), 65_536, 0, &mut writer);
-    assert_eq!(rt; ended, Ok(()));
+    Ok(script)
+}
+
+// How a script of remarks ends.
+fn end_of(alloc: Global, script: &[u8]) -> Result<(), ScriptFault> {
+    let mut writer = FailingWriter::new(alloc);
+    play(alloc, script, 65_536, 0, &mut writer)
+}
+
+#[test]
+fn a_script_of_the_greatest_size_is_read(rt: HostRuntime) -> Result<(), Fail> {
+    let mut script = remarks(rt.alloc())?;
+    assert!(rt; end_of(rt.alloc(), script.as_slice()) == Ok(()));
     script.push(b'\n')?;
-    let ended = play(rt.alloc(), script.as_slice(), 65_536, 0, &mut writer);
-    assert_eq!(rt; ended, Err(ScriptFault::ReadFault));
+    assert!(rt; end_of(rt.alloc(), script.as_slice()) == Err(ScriptFault::ReadFault));
     Ok(())
 }
 
@@ -242,6 +158,19 @@ fn the_greatest_size_is_read(rt: HostRuntime) -> Result<(), Fail> {
 const SHORT: &str = "a join\n\na open r\nshow live\n";
 
 const SHORT_REPLIES: &str = "joined\ntoken r\nlive r\n";
+
+// Whether the writer has whole replies: all of them if the run ended well, and else it ended for want of memory.
+fn is_whole(writer: &FixedWriter, ended: Result<(), ScriptFault>) -> bool {
+    let out = writer.used.min(128);
+    let is_well = match ended {
+        Ok(()) => out == SHORT_REPLIES.len(),
+        Err(fault) => fault == ScriptFault::NoMemory,
+    };
+    let whole = [0, 7, 15, SHORT_REPLIES.len()];
+    is_well
+        && whole.contains(&out)
+        && &writer.bytes[..out] == &SHORT_REPLIES.as_bytes()[..out.min(SHORT_REPLIES.len())]
+}
 
 // With memory refused at any growth, whole replies are out or the run ends well.
 #[test]
@@ -259,16 +188,8 @@ fn refused_memory_leaves_the_text_of_the_first_lines(rt: HostRuntime) {
         16,
         Limits::full(),
     );
-    let out = writer.used.min(128);
-    let whole = [0, 7, 15, SHORT_REPLIES.len()];
     if ended != Ok(()) {
-        assert_eq!(rt; ended, Err(ScriptFault::NoMemory));
         let _ = println!(rt; "memory was refused");
     }
-    assert!(rt; whole.contains(&out));
-    assert!(rt; ended != Ok(()) || out == SHORT_REPLIES.len());
-    assert_eq!(rt;
-        &writer.bytes[..out],
-        &SHORT_REPLIES.as_bytes()[..out.min(SHORT_REPLIES.len())]
-    );
+    assert!(rt; is_whole(&writer, ended));
 }

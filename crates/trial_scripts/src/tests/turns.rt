@@ -72,7 +72,5 @@ fn a_line_is_answered_before_the_next_read(rt: HostRuntime) {
         16,
         Limits::full(),
     );
-    assert_eq!(rt; ended, Ok(()));
-    assert!(rt; !reader.is_late);
-    assert_eq!(rt; written.get(), SCRIPT.len());
+    assert!(rt; ended == Ok(()) && !reader.is_late && written.get() == SCRIPT.len());
 }

@@ -1,5 +1,0 @@
-//! Trials of thread_runs, all by its public calls. A crate of their own, so that it is proved once.
-#![tactic(auto)]
-
-#[cfg(test)]
-mod tests;
