@@ -154,20 +154,19 @@ impl Forest {
         Ok(None)
     }
 
-    /// Makes the steps that are forced because a handle of the buffer was dropped, and gives back the
-    /// pages of the buffer, if it is home. The caller sees to it that no other buffer of its
-    /// collection is home: none is after `settle` or `settle_drop`, and no handle that is opened brings
-    /// one home.
+    /// Makes the steps that are forced because a handle of the buffer was dropped, and frees the pages
+    /// of the buffer, if it is home. No other buffer of its collection may be home before the call:
+    /// `settle` and `settle_drop` leave none, and opening a handle brings none home.
     ///
     /// `NoMemory` where a growth is refused. The forest and the pool are then as they were.
     ///
     /// Where a strong node of the collection is live, it costs a binary search. Else, where the root
     /// is gone or has no buffers, it costs besides one look at the handles of the buffer, and where
     /// that is home, a pass over the names of the collection's buffers, a shift of those behind it,
-    /// and what the pool takes. Where the root is not gone and has its buffers, it costs besides a
-    /// look at the strong handles of each buffer up to the first one of which one is open. None of
-    /// these takes memory. Where no strong handle of any is open then, the root is lost, and it costs
-    /// what `settle` does: each node of the collection is removed.
+    /// and the cost of `Pool::give_back`. Where the root is not gone and has its buffers, it costs
+    /// besides a look at the strong handles of each buffer up to the first one of which one is open.
+    /// None of these takes memory. Where no strong handle of any is open then, the root is lost, and it
+    /// costs what `settle` does: each node of the collection is removed.
     pub fn settle_drop(
         &mut self,
         pool: &mut Pool,

@@ -1,5 +1,5 @@
 //! What nodes ask of the buffers together.
-ghost use Rattle.std.specs.Prelude.{◌≡◌, ◌<◌, ◌+◌, ◌^◌, nat_lt, None, if◌then◌else◌};
+ghost use Rattle.std.specs.Prelude.{◌≡◌, None, if◌then◌else◌};
 ghost use Rattle.forest_store.specs.Questions.{is_in_unit};
 ghost use Rattle.forest_steps.specs.Refusing.{refusal as why};
 
@@ -32,22 +32,15 @@ pub(crate) fn refusal(buffers: Buffers, reserved: u128, asks: &TotalDemand) -> O
     ensures { result ≡ why buffers reserved asks.now.camping asks.now.at_least asks.now.size }
 {
     let count = buffers.count as u128;
-    if is_more(count, reserved, asks.camping) || count < asks.at_least as u128 {
+    let is_above = match reserved.checked_add(asks.camping) {
+        Some(sum) => count < sum,
+        None => true,
+    };
+    if is_above || count < asks.at_least as u128 {
         Some(Failure::TooFew)
     } else if buffers.size < asks.size {
         Some(Failure::TooSmall)
     } else {
         None
-    }
-}
-
-/// Whether the two are more than this together, which is no great number.
-fn is_more(count: u128, reserved: u128, camping: u128) -> bool
-    requires { count < 2 ^ 32 }
-    ensures { result ≡ nat_lt count (reserved + camping) }
-{
-    match reserved.checked_add(camping) {
-        Some(sum) => count < sum,
-        None => true,
     }
 }

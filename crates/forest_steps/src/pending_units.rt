@@ -47,14 +47,6 @@ fn place_by_pass(keys: &[NodeKey], key: NodeKey) -> usize
     0
 }
 
-/// The place of the last one. Where nodes were born one after another the next head stands beside it.
-fn last_place(turns: &[PendingUnit]) -> usize {
-    match turns.last() {
-        Some(last) => last.place,
-        None => 0,
-    }
-}
-
 /// The unit with this head, which stands among the keys, as it comes to its turn. Its place is looked
 /// for beside this one first, then by birth, and at last in a pass over the keys.
 fn pending_of(table: &NodeTable<Node>, keys: &[NodeKey], near: usize, head: NodeKey) -> PendingUnit
@@ -88,7 +80,11 @@ fn list_head(
     ensures room { vec_capacity turns.new ≡ vec_capacity turns.old }
 {
     if is_head_at(table, units, entry.id, head, key) {
-        let near = last_place(turns);
+        // Where nodes were born one after another, the head stands beside the last one.
+        let near = match turns.last() {
+            Some(last) => last.place,
+            None => 0,
+        };
         let turn = pending_of(table, entry.keys.as_slice(), near, key);
         turns.push_reserved(turn);
     }

@@ -5,11 +5,11 @@ ghost use Rattle.forest_store.specs.declared.change.Change.{Change as Changed};
 ghost use Rattle.forest_store.specs.Forest.{IsPoolOf};
 ghost use Rattle.forest_store.specs.Scenes.{given_few};
 ghost use Rattle.forest_store.specs.Stores.{forest_in};
-ghost use Rattle.forest_steps.specs.NodeEffects.{IsUnforcedAt, IsWorkedOutAt, is_unforced, may_force, strong_then};
+ghost use Rattle.forest_steps.specs.NodeEffects.{IsUnforcedAt, IsWorkedOutAt, is_unforced};
 ghost use Rattle.forest_steps.specs.StoreSteps.{OutcomeAt, ReadyAt};
 
 use crate::at_rest::is_kept_by;
-use crate::node_effect::{EffectCounts, NodeEffect, make_effect};
+use crate::node_effect::{NodeEffect, make_effect};
 use crate::placement::assert_disjoint;
 use buffer_holds::Holds;
 use buffer_pool::Pool;
@@ -19,29 +19,6 @@ use forest_store::store::Store;
 use forest_store::unit_counts::is_held_by;
 use node_table::NodeTable;
 
-/// Whether something may be forced of the unit with these counts, if any changed: nothing holds it, or
-/// it gets its buffers next.
-#[inline(always)]
-fn may_force(counts: &Option<EffectCounts>) -> bool
-    ensures { result ≡ may_force counts.now }
-{
-    match counts {
-        Some(counts) => counts.due || !is_held_by(&counts.unit),
-        None => false,
-    }
-}
-
-/// How many strong nodes of the collection are live with these counts.
-#[inline(always)]
-fn strong_then(entry: &Entry, counts: &Option<EffectCounts>) -> usize
-    ensures { result ≡ strong_then entry.now counts.now }
-{
-    match counts {
-        Some(counts) => counts.strong,
-        None => entry.strong,
-    }
-}
-
 /// Whether nothing is forced by the effect: something holds the node's unit, which does not get its
 /// buffers next, and a strong node of the collection is live, or it rests without one. It costs a
 /// constant, and a look at the handles of each buffer where no strong node is live then.
@@ -50,7 +27,16 @@ pub fn is_unforced(table: &NodeTable<Node>, entry: &Entry, holds: &Holds, made: 
     requires { given_few entry.now.buffers ≡ true }
     ensures { result ≡ is_unforced (total holds.now) table.now entry.now made.now }
 {
-    !may_force(&made.counts) && is_kept_by(table, entry, holds, strong_then(entry, &made.counts))
+    let strong = match &made.counts {
+        Some(counts) => {
+            if counts.due || !is_held_by(&counts.unit) {
+                return false;
+            }
+            counts.strong
+        }
+        None => entry.strong,
+    };
+    is_kept_by(table, entry, holds, strong)
 }
 
 /// Makes an effect that forces nothing on a node of the collection at this place. It costs a constant,

@@ -1,4 +1,4 @@
--- A collection of which a handle was dropped: nothing is forced in it, and only one buffer goes home.
+-- A collection of which a handle was dropped: nothing is forced in it, and only one buffer is freed.
 use Rattle.forest_steps.proofs.Common.{◌≡◌, ℕ, ◌<◌, ◌==◌, zero, suc, Bool, true, false, ◌&&◌, not, nat_lt, List, [], ◌∷◌, ◌++◌, map, length, get_or, set, Option, Some, None, option_map, refl, sym, ap, subst, ◌∙◌, ◌⊎◌, inl, inr, arith, find, filter, AllByRecursion, option_map_or, Interval, HeldBuffer, either_way, Table, node_at, Entry, Node, Unit, has_strong, Collection, IsStored, IsWhole, Shelf, collection_in, forest_of, nodes_with, place_in, put_shelf, shelf_of, shelves_of, members_of, is_root_left, Handles, collection_or_new, put, get_or_default, unwrap_or, BufferName, Strength, is_home, sorted_by, AreCounted, IsCounted, HaveUnits, decided, mark_of, are_rest_out, has_given_root, all_held, beside, collection_at, pages_in, Finishes, Stores, stored, starts_differ, by_page, given_few, is_held_strongly, is_out, pages_held, given_back, none_calm, forced_made, still_decided, found_filed, found_put, found_whole, start_of, shelves_put, IsPlace, place_is, set_put, put-map, collection_is, shelf_found, and-false, same_buffer-true, filter-list_all, Rests, found_counted, strong_told, kept-put, list_all, is_filed, strong_count, ◌||◌, list_any, Member, is_strong, member_of}
 use Rattle.sm_names.specs.Members.{some_strong_live, is_live as lives}
 use Rattle.forest_store.proofs.quiescence.Resting.{root_first}
@@ -37,7 +37,7 @@ strong_found t es id {e} found = grind (arith, collection_is, shelf_found, stron
 pub strong_keeps : (strong weak : ℕ) (live : Bool) → live ≡ true → is_home strong weak live ≡ false
 strong_keeps strong weak live is = grind arith
 
--- where the one buffer is not home, none goes
+-- where the one buffer is not home, none is freed
 pub none_goes : (handles : Handles) (buffer : BufferName) (live : Bool) (held : List HeldBuffer) →
     is_home (handles buffer Strength.Strong) (handles buffer Strength.Weak) live ≡ false → are_rest_out handles buffer live held ≡ true →
     filter (is_out handles live) held ≡ held

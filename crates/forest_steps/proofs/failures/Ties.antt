@@ -50,7 +50,7 @@ module _ {t : Table Node} {nodes : List Node} (tied : IsTied t nodes) where
       back : (x : IsLeft nodes key) → blocks_among key ≡ true → is_blocking x.node ≡ true
       back x h = grind (arith, In-filter, In-list_any, In-map, one_node, same_key-true)
 
-  -- the highest node that a failure of the origin goes to, by the table and by the members
+  -- the highest node that a failure of the origin reaches, by the table and by the members
   abbrev pub highest_at : NodeKey → NodeKey
   highest_at origin = top (blocked_at is_blocking t) origin (line origin)
 

@@ -6,7 +6,7 @@ use Rattle.forest_store.specs.Starts.{begins_with}
 use Rattle.forest_store.proofs.lists.SameIntervals.{Alike-shift}
 use Rattle.std.proofs.lemmas.List.Elements.{filter_more}
 
--- ---- one that goes
+-- ---- one that is removed
 
 -- where none begins at the page, all stay
 kept_all : (x : Interval) (is : List Interval) → list_any (begins_with x) is ≡ false → without x.start is ≡ is
@@ -15,7 +15,7 @@ kept_all x (i ∷ is) none =
     let other : (i.start == x.start) ≡ false = or_none_left _ _ none in
     rw other (ap (λ l. i ∷ l) (kept_all x is (or_none_right _ _ none)))
 
--- an interval that was put among others goes again, and these stay
+-- an interval that was put among others is removed again, and these stay
 put_removed : (x : Interval) (is : List Interval) → list_any (begins_with x) is ≡ false → without x.start (put_in x is) ≡ is
 put_removed x [] none =
     let here : (x.start == x.start) ≡ true = eq-eqb _ _ refl in

@@ -28,7 +28,7 @@ module _ {X : Type 0} (p : X → Bool) where
     | inr e ↦ let more = rw e at none in rw e (filter_empty xs more)
   ]
 
-  -- one that does not pass goes
+  -- one that does not pass is removed
   pub filter_removed : (xs : List X) (at : ℕ) (d : X) → at < length xs → p (get_or xs at d) ≡ false → filter p (remove xs at) ≡ filter p xs
   filter_removed [] at d within fails = absurd (omega (arith, within))
   filter_removed (x ∷ xs) zero d within fails = rw fails refl

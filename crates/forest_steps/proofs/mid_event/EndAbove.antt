@@ -14,7 +14,7 @@ module _ (t : Table Node) (us : List Unit) where
   stays zero head none = refl
   stays (suc n) head none = ap (λ o. option_map_or (climbed n t us) o head) none
 
-  -- and goes on there where there is
+  -- and continues there where there is
   pub goes_on : (n : ℕ) (head : NodeKey) {over : NodeKey} → unit_over t us head ≡ Some over → climbed (suc n) t us head ≡ climbed n t us over
   goes_on n head is = ap (λ o. option_map_or (climbed n t us) o head) is
 
@@ -169,7 +169,7 @@ module _ {t : Table Node} {us : List Unit} {ss : List Shelf} {e : Entry} {first 
                 ∙ eqb-true _ 1 (and_right _ _ once));
           }
 
-  -- and goes no further only where something else holds the unit above
+  -- and ends there only where something else holds the unit above
   closed : (top : Node) → In top nodes → top.gone ≡ false → unit_over t us top.key ≡ None → (y q : Node) → In y nodes → In q nodes →
       top.parent ≡ Some q.key → q.head ≡ y.key → times (lives_in y.key) nodes ≡ 0 → times (heads_below nodes y.key) nodes ≡ 1 → ⊥
   closed top on here last y q y_on q_on hung unit live below =
@@ -290,7 +290,7 @@ module _ {t : Table Node} {us : List Unit} {ss : List Shelf} {e : Entry} {first 
           begins (whole_under ok) _ head.on head.here head.head
           (omega arith) (omega arith)
 
-      -- the climb goes up while the counts allow, so it ends at the top of what is loose
+      -- the climb continues while the counts allow, so it ends at the top of what is loose
       made_top : IsTop nodes t us first (table_len t) head.node.key
       made_top = reach _ begun (ap (λ k. is_one (head.node.key ∷ []) k) (sym head.is) ∙ begun.own) (short _)
 

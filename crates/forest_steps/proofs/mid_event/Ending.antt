@@ -244,7 +244,7 @@ module _ {c : Collection} (whole : IsWhole c) where
     over = λ x there dead other p above q q_on q_is. both_ways _ (same_key-equal x.key h.key (alone_is _ _ dead)) other;
   }
 
-  -- and goes on to the unit above, where no node of that is live, and one unit alone hangs right below it
+  -- and continues to the unit above, where no node of that is live, and one unit alone hangs right below it
   pub climbs : {h : Node} {keys : List NodeKey} → AreLoose nodes h keys → (q : Node) → In q nodes → h.parent ≡ Some q.key →
       (o : Node) → In o nodes → o.gone ≡ false → is_head o ≡ true → o.key ≡ q.head → times (lives_in o.key) nodes ≡ 0 →
       times (heads_below nodes o.key) nodes ≡ 1 → AreLoose nodes o (o.key ∷ keys)

@@ -51,7 +51,7 @@ module _ {t : Table Node} {us : List Unit} {ss : List Shelf} {old : Entry} (stor
   abbrev pub new : List Unit
   new = unreckoned t fallen us
 
-  -- what goes keeps its place
+  -- a removed node keeps its place
   same : (n : Node) → IsSameNode (f n) n
   same n = same_of _ _ n
 

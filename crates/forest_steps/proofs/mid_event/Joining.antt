@@ -34,7 +34,7 @@ others_put new id (c ∷ cs) same =
     let there : (c.id == id) ≡ false = ap (λ i. c.id == i) (sym same) ∙ other in
     rw (other, below, there) (ap (λ xs. c ∷ xs) (others_put new id cs same)))
 
--- the collection was put in its place, and the others stay
+-- the collection was put at its place, and the others stay
 pub beside_put : (t now : Table Node) (ss behind : List Shelf) (c : Collection) (id : ℕ) → c.id ≡ id →
     map (collection_in now) behind ≡ put c (map (collection_in t) ss) → beside (forest_of now behind) id ≡ beside (forest_of t ss) id
 beside_put t now ss behind c id same is =

@@ -39,7 +39,7 @@ module _ {t : Table Node} {ss : List Shelf} (kept : IsStored t ss) {s : Shelf} (
         | inr e ↦ rw e (and-false _)
       ]
 
-  -- so it lists each node of the unit: it goes down from the head within it
+  -- so it lists each node of the unit: it walks down from the head within it
   pub of_unit : (n : Node) → In n nodes → n.gone ≡ false → n.head ≡ k → list_any (same_key n.key) ks ≡ true
   of_unit = by_unit (whole kept found) (λ n. n.head ≡ k → list_any (same_key n.key) ks ≡ true)
       (λ n on here head own. rw (sym (own_head (whole kept found) n on head) ∙ own) (inside_key k Top))

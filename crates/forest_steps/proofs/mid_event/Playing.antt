@@ -1,4 +1,4 @@
--- A loss or an effect that is made in its place, with all that it forces.
+-- A loss or an effect that is made on its collection, with all that it forces.
 use Rattle.forest_steps.proofs.Common.{◌≡◌, refl, ap, sym, ◌∙◌, subst, Bool, true, false, not, ◌&&◌, ◌||◌, ◌⊎◌, inl, inr, List, [], ◌∷◌, Option, Some, None, not-true, list_any, option_map_or, NodeKey, same_key, In, In-list_any, In-map, In-map-back, and_both, and_left, and_right, either_way, same_key-true, all_on, In-any, Table, Effect, Entry, Node, Unit, waiting, Collection, IsWhole, Shelf, collection_in, nodes_with, shelf_of, is_of, Handles, Settles, is_head, arith, Fault, or_none_right, after_end, after_loss, ended, all-In, found_whole, distinct_one, IsSameNode, or_first, after_effect, AreOrEnd, AfterEffect, IsBeside, AfterLoss, AfterSteps, PropagatedFrom, AfterPropagation, MidEvent, Reaches, are_held_except, holds_unit, is_head_left, is_held, waits_among, hangs_mapped}
 use Rattle.forest_steps.proofs.mid_event.Fewer.{only_ended, waits_on}
 use Rattle.forest_steps.proofs.mid_event.Leading.{beside_on, led_none, led_on}

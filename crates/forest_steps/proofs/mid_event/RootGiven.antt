@@ -119,7 +119,7 @@ module _ {t now : Table Node} {us : List Unit} {ss : List Shelf} {e : Entry} {k 
     together = (whole_under u).together;
   }
 
-  -- the shelf is put in its place, with the same keys
+  -- the shelf is put at its place, with the same keys
   kept' : IsStored t ss'
   kept' =
       let put_same : put_shelf (shelf_of e) ss ≡ ss = found_put s ss u.store.kept.rising u.store.found in

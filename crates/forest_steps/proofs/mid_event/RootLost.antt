@@ -85,7 +85,7 @@ module _ {t : Table Node} {us : List Unit} {ss : List Shelf} {e : Entry} {head :
     gone_new : AreGone (nodes_with now new.keys.items)
     gone_new = subst (λ (s : Shelf). AreGone (nodes_with now s.keys)) (sym went.shelf) gone
 
-    -- the shelf stands in its place
+    -- the shelf has the same place
     same_shelves : put_shelf (shelf_of new) ss ≡ ss
     same_shelves = found_put _ ss went.under.store.kept.rising went.under.store.found
 

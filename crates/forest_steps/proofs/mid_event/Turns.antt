@@ -24,7 +24,7 @@ use Rattle.forest_steps.proofs.mid_event.Leading.{led_none}
 use Rattle.forest_steps.proofs.tables.OfShelf.{at_key}
 use Rattle.forest_store.proofs.lists.Filters.{any-map_filter}
 
--- the highest node that a failure of the node with this key goes up to
+-- the highest node that a failure of the node with this key reaches
 abbrev pub highest_of : List Node → NodeKey → NodeKey
 highest_of nodes key = topmost (λ k. list_any (blocks_here k) nodes) key (above_among (reverse nodes) key)
 
@@ -76,7 +76,7 @@ pub record AreAsked (t : Table Node) (k : NodeKey) (ks : List NodeKey) (asks : T
   pub at_least : asks.at_least ≡ greatest (λ (d : Demand). d.at_least) (filter_map (asked_there t k) ks)
   pub size : asks.size ≡ greatest (λ (d : Demand). d.size) (filter_map (asked_there t k) ks)
 
--- a climb that is blocked where it begins goes no higher
+-- a climb that is blocked where it begins ends there
 blocked_first : (blocks : NodeKey → Bool) (key : NodeKey) (above : List NodeKey) → blocks key ≡ true → topmost blocks key above ≡ key
 blocked_first blocks key [] h = refl
 blocked_first blocks key (p ∷ ps) h = rw h refl

@@ -31,7 +31,7 @@ module _ {t : Table Node} {us : List Unit} {ss : List Shelf} {old : Entry} {unhe
   abbrev pub goes : Node → Node
   goes = goes_of going keys
 
-  -- what goes is of the collection
+  -- each removed node is of the collection
   own : all_of old.id (nodes_with t keys) ≡ true
   own =
       let x = left_node _ _ left in
@@ -40,7 +40,7 @@ module _ {t : Table Node} {us : List Unit} {ss : List Shelf} {old : Entry} {unhe
       ∙ all-In _ _ _ x.on
       (looked-of t _ _ (found_filed t _ ss s opens.store.kept.filed opens.store.found))) gone.taken
 
-  -- what goes is written, and nothing else
+  -- the removed nodes are written, and no others
   nodes_now : nodes_with now old.keys.items ≡ map goes nodes
   nodes_now = nodes_then opens.store _ gone.taken own gone.stores
 
@@ -48,7 +48,7 @@ module _ {t : Table Node} {us : List Unit} {ss : List Shelf} {old : Entry} {unhe
   nodes_new : nodes_with now new.keys.items ≡ map goes nodes
   nodes_new = ap (λ (x : Shelf). nodes_with now x.keys) gone.shelf ∙ nodes_now
 
-  -- what is left has buffers only where it had: what goes gets none
+  -- a remaining node has buffers only where it had: a removed one gets none
   bare_new : new.buffers ≡ None → list_any has_buffers (nodes_with now new.keys.items) ≡ false
   bare_new none = ap (list_any has_buffers) nodes_new ∙ false_if _ (λ h.
       let x = In-list_any has_buffers (map goes nodes) h in
@@ -68,7 +68,7 @@ module _ {t : Table Node} {us : List Unit} {ss : List Shelf} {old : Entry} {unhe
         (all-In _ ss x on opens.store.kept.filed);
   }
 
-  -- the highest of what goes
+  -- the highest of the removed nodes
   abbrev highest : Node
   highest = top opens.store.kept opens.store.found gone.forest left gone.taken
 
@@ -108,7 +108,7 @@ module _ {t : Table Node} {us : List Unit} {ss : List Shelf} {old : Entry} {unhe
       beside = beside;
     }
 
-    -- the root goes, and so does all that is left
+    -- the root is removed, and so is each remaining node
     by_root : highest.parent ≡ None → AfterRemoval t now after ss old new origin fault None unheld pending
     by_root none =
         let all : AreGone (map goes nodes) = λ n on.
@@ -120,7 +120,7 @@ module _ {t : Table Node} {us : List Unit} {ss : List Shelf} {old : Entry} {unhe
         ]) in
         went_so _ (held_gone _ _ all) (next_gone _ _ all) (root_gone _ _ all) refl
 
-    -- what goes hung on a node, whose unit stays
+    -- the highest removed node hung on a node, whose unit stays
     module _ {p : NodeKey} (up : highest.parent ≡ Some p) where
       -- the parent of the top is one of the nodes, and left
       abbrev above : IsLeft nodes p

@@ -16,11 +16,11 @@ module _ {c : Collection} (whole : IsWhole c) where
   pub chain : (key : NodeKey) → is_left_of c.nodes key ≡ true → IsChain up key (line key)
   chain = Holding.chain c.nodes whole.sound.distinct whole.sound.heads whole.rooted whole.united
 
-  -- a node's line goes on as its parent's
+  -- a node's line continues as its parent's
   pub step : (n : Node) → In n c.nodes → n.gone ≡ false → {p : NodeKey} → n.parent ≡ Some p → line n.key ≡ p ∷ line p
   step n on here {p} = Holding.step c.nodes whole.sound.distinct whole.sound.heads whole.rooted whole.united n on here p
 
-  -- from a key in the line the line goes on as above that key
+  -- from a key in the line the line continues as above that key
   pub shorter : (a b : NodeKey) → is_left_of c.nodes a ≡ true → is_left_of c.nodes b ≡ true → is_below c.nodes a b ≡ true →
       length (line a) ≤ length (line b)
   shorter a b left_a left_b = Holding.no_longer up a b (line b) (line a) (chain b left_b) (chain a left_a)

@@ -1,4 +1,4 @@
--- The root's unit comes to its allocation, and what is forced is made in its place.
+-- The root's unit comes to its allocation, and what is forced is made in the collection.
 use Rattle.forest_steps.proofs.Common.{◌≡◌, ◌∙◌, true, false, List, [], Option, None, Some, refl, set, sym, ap, subst, arith, total, NodeKey, not, ◌&&◌, and_left, option_map, option_map_or, affected, is_root_left, node_at, Table, Change, Effect, Entry, Node, Unit, place_in, shelves_of, get_or_default, Row, row_at, Holdings, IsOutcomeIn, StoreAgrees, IsPlace, place_is, IsSome, unit_then, Closes, IsPlanned, IsRooted, IsAllocationOutcome, comes_first, is_bare_root, is_held_ready, EffectMade, AfterEffect, MidEvent, KeepsCounts, tracker_room}
 use Rattle.forest_steps.proofs.mid_event.Changing.{affected_on}
 use Rattle.forest_steps.proofs.mid_event.Counted.{may_make, waits_plain}

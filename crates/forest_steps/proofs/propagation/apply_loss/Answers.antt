@@ -1,4 +1,4 @@
--- What the fault takes goes, and what nothing holds then ends: nothing more is due.
+-- What the fault takes is removed, and what nothing holds then ends: nothing more is due.
 use Rattle.forest_steps.proofs.mid_event.Playing.{played_lost}
 use Rattle.forest_steps.proofs.propagation.apply_loss.Goals as goal
 

@@ -12,6 +12,6 @@ returns-then-out-eq0 c =
     c.clear.ensures.items ∙ sym (filter_empty (is_out (total c.args.holds.now) c.args.strong_live) c.args.held.now.items
     (omega (arith, c.requires, c.if-out-eq0.true)))
 
--- one goes
+-- one is removed
 pub loop-at-preserved-then-home_near : goal.loop-at-preserved-then-home_near
 loop-at-preserved-then-home_near c = grind (arith, filter_removed, take_removed)

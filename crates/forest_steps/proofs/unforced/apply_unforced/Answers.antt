@@ -1,4 +1,4 @@
--- The effect is made in its place, and nothing else.
+-- The effect is all that is made.
 use Rattle.forest_steps.proofs.Common.{arith, not-true, and_left, and_right, shelves_of, place_is}
 use Rattle.forest_steps.proofs.mid_event.Counted.{may_make, outcome_still}
 use Rattle.forest_steps.proofs.unforced.apply_unforced.Goals as goal
