@@ -58,7 +58,8 @@ pub(crate) fn push_kept(
     let mut row = Vec::new(*text.allocator());
     let mut some = false;
     for buffer in held {
-        let who = holder_words(core, labels, &clients, buffer.buffer)?;
+        let mut who = Vec::new(*text.allocator());
+        push_holders(&mut who, core, labels, &clients, buffer.buffer, "")?;
         begin_row(text, some, &row, &who)?;
         some = true;
         row = who;
@@ -88,18 +89,6 @@ fn push_by(text: &mut Vec<u8>, row: &[u8]) -> Result<(), AllocError> {
         text,
         &[Part::Word(" by "), Part::Bytes(row), Part::Word("\n")],
     )
-}
-
-// Who has handles on the buffer open, in words.
-fn holder_words(
-    core: &Core,
-    labels: &Labels,
-    clients: &Vec<ClientId>,
-    buffer: BufferName,
-) -> Result<Vec<u8>, AllocError> {
-    let mut words = Vec::new(*clients.allocator());
-    push_holders(&mut words, core, labels, clients, buffer, "")?;
-    Ok(words)
 }
 
 /// Appends who has handles on the buffer open, and how many: these clients in their order, strong
