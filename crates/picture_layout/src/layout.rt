@@ -246,6 +246,14 @@ fn take_columns(free: &mut Vec<u64>, parents: &[Option<usize>], widths: &[u64], 
     set_number(free, at, column);
 }
 
+// For each node: how many columns it takes, the first of them, and its generation.
+#[derive(Drop)]
+struct Grid {
+    widths: Vec<u64>,
+    columns: Vec<u64>,
+    depths: Vec<u64>,
+}
+
 // The corners of the boxes, which are so wide.
 #[tactic(auto, unfolding(crate::specs::Layouts::corners_of))]
 fn corners_of(
@@ -259,15 +267,13 @@ fn corners_of(
     let widths = widths_of(parents)?;
     let columns = columns_of(parents, &widths)?;
     let depths = depths_of(parents)?;
-    corners_over(
-        *parents.allocator(),
-        start,
-        plus(width, COLUMN_GAP),
-        &widths,
-        &columns,
-        &depths,
-        parents.len(),
-    )
+    let grid = Grid {
+        widths,
+        columns,
+        depths,
+    };
+    let pitch = plus(width, COLUMN_GAP);
+    corners_over(*parents.allocator(), start, pitch, &grid, parents.len())
 }
 
 // The corners of so many boxes, where a column is so wide.
@@ -275,38 +281,31 @@ fn corners_over(
     alloc: Global,
     start: Corner,
     pitch: u64,
-    widths: &[u64],
-    columns: &[u64],
-    depths: &[u64],
+    grid: &Grid,
     count: usize,
 ) -> Result<Vec<Corner>, AllocError>
     ensures { IfOk result (λ corners. corners.items ≡ map
-        (corner_in start pitch widths.now columns.now depths.now) (range_with_len 0 count)) }
+        (corner_in start pitch grid.now.widths.items grid.now.columns.items grid.now.depths.items)
+        (range_with_len 0 count)) }
 {
     let mut corners = Vec::new(alloc);
     for at in 0..count {
-        corners.push(corner_under(start, pitch, widths, columns, depths, at))?;
+        corners.push(corner_under(start, pitch, grid, at))?;
     }
     Ok(corners)
 }
 
 // The corner of the box at this place.
-fn corner_under(
-    start: Corner,
-    pitch: u64,
-    widths: &[u64],
-    columns: &[u64],
-    depths: &[u64],
-    at: usize,
-) -> Corner
-    ensures { result ≡ corner_in start pitch widths.now columns.now depths.now at }
+fn corner_under(start: Corner, pitch: u64, grid: &Grid, at: usize) -> Corner
+    ensures { result ≡ corner_in start pitch grid.now.widths.items grid.now.columns.items
+        grid.now.depths.items at }
 {
     corner_over(
         start,
         pitch,
-        number_at(widths, at),
-        number_at(columns, at),
-        number_at(depths, at),
+        number_at(&grid.widths, at),
+        number_at(&grid.columns, at),
+        number_at(&grid.depths, at),
     )
 }
 
