@@ -25,7 +25,8 @@ pub(crate) fn push_initial(
     held: &[HeldBuffer],
 ) -> Result<(), AllocError>
     ensures { OnOk result ((names : Names) → Keeps tables.now names →
-        text.new.items ≡ text.old.items ++ initial_text names scene.now.nodes.items head given held.now) }
+        text.new.items
+        ≡ text.old.items ++ initial_text names scene.now.nodes.items head given held.now) }
 {
     push_given(text, tables, head, given)?;
     push_camps(text, tables, &scene.nodes, head)?;

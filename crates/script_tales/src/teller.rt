@@ -243,7 +243,8 @@ impl Teller {
     ) -> Result<(), AllocError>
         ensures { OnOk result ((names : Names) → Keeps self.now.session.tables names →
             facts.new.items ≡ facts.old.items ++ mark_text names
-            (views_of self.now.session.core).free (option_map (λ p. (p.0, p.1.now)) placed.entry) moment.now) }
+            (views_of self.now.session.core).free
+            (option_map (λ p. (p.0, p.1.now)) placed.entry) moment.now) }
     {
         let tables = &self.session.tables;
         let scene = &moment.before;
@@ -266,7 +267,8 @@ impl Teller {
     ) -> Result<(), AllocError>
         ensures { OnOk result ((names : Names) → Keeps self.now.session.tables names →
             facts.new.items ≡ facts.old.items
-            ++ allocated_text names scene.now head (option_map (λ p. (p.0, p.1.now)) placed.entry)) }
+            ++ allocated_text names scene.now head
+            (option_map (λ p. (p.0, p.1.now)) placed.entry)) }
     {
         let tables = &self.session.tables;
         match (scene.buffers, placed) {
