@@ -12,6 +12,7 @@ others. No other function's proof sees the body of a function, so an edit is ref
 function is not proved, and let through if its function is proved. A function that has no such fault, and is not proved
 since it calls one that is not, tells nothing: its edit is tried again without the edits of what it calls. If a function
 with no edit has a fault of its own, then the check decides only the edits of functions that call none that is unproved.
+An edit that takes away what an answer names is refused for that alone, and the line says so: change a value, keep the names.
 The contract of a law, a function with no body, is tried so too, in checks of laws alone, where no proof file of one cites
 another. An edit of any other contract or of a definition is tried alone, in a check of the whole crate.
 
@@ -40,7 +41,8 @@ PROVED = re.compile(r"^fn (\S+): proved", re.M)
 NOT_PROVED = re.compile(r"^fn (\S+): (?:not proved|no proof)(.*)$", re.M)
 CALLED = re.compile(r"`((?:\w+::)+\w+)`")
 ERROR = re.compile(r"^(?:\./)?proofs/(\S+)/\w+\.antt:\d+:\d+: error: (.*)$", re.M)
-ELSEWHERE = re.compile(r"rejected|not checked|not admitted|not in scope|no module|cannot be imported")
+ELSEWHERE = re.compile(r"rejected|not checked|not admitted|no module|cannot be imported")
+NAMED = re.compile(r"has no field|has no `|is not in scope")
 REACHED = re.compile(r"^(?:logic=not-proved|only=)", re.M)
 
 
@@ -86,13 +88,18 @@ class Answer:
     def __init__(self, said):
         self.reached = bool(REACHED.search(said))
         self.proved, self.faults, self.calls = {short(it) for it in PROVED.findall(said)}, set(), {}
-        errors = [(place, bool(ELSEWHERE.search(text))) for place, text in ERROR.findall(said)]
+        self.only_named = set()
+        errors = [(place, bool(NAMED.search(text))) for place, text in ERROR.findall(said) if not ELSEWHERE.search(text)]
+        rejected = {place for place, text in ERROR.findall(said) if ELSEWHERE.search(text)}
         for name, why in NOT_PROVED.findall(said):
             goals, _, calls = why.partition("it calls ")
             self.calls[short(name)] = {short(it) for it in CALLED.findall(calls)}
-            own = {is_elsewhere for place, is_elsewhere in errors if place == "/".join(name.split("::")[1:])}
-            if "did not prove" in goals or False in own or not calls and not own:
+            place = "/".join(name.split("::")[1:])
+            own = {is_named for at, is_named in errors if at == place}
+            if "did not prove" in goals or False in own or not calls and place not in rejected:
                 self.faults.add(short(name))
+            if "did not prove" not in goals and own == {True}:
+                self.only_named.add(short(name))
 
     def decided(self, changed):
         """Of these functions with edits: those whose edits are refused, and those whose edits are let through."""
@@ -100,6 +107,11 @@ class Answer:
         if self.faults - changed:
             refused = {it for it in refused if not self.calls[it]}
         return refused, self.proved & changed
+
+    def refusal(self, names):
+        """What to say of an edit that is refused since these functions are not proved."""
+        only = "" if names - self.only_named else ", but only by an answer that names what is gone"
+        return f"refused{only}: {min(names - self.only_named or names)} is not proved"
 
     def below(self, name):
         """The functions that are not proved among those that this one calls, and that they call."""
@@ -178,8 +190,8 @@ class Crate:
         if not REACHED.search(said):
             return f"BAD EDIT: it did not reach the prover: {' '.join(said.splitlines()[:3])[:300]}"
         first = next((it for it in said.splitlines() if ": error" in it or "not proved" in it), "")
-        is_named = functions and not functions & Answer(said).faults
-        return f"refused{', but only by a proof file that names what is gone' if is_named else ''}: {first[:150]}"
+        refused = functions & Answer(said).faults
+        return Answer(said).refusal(refused) if refused else f"refused: {first[:150]}"
 
     def together(self, chosen):
         """Tries edits of different functions in one check, but those that no longer apply behind the others. Gives what it
@@ -197,7 +209,7 @@ class Crate:
             some, others = self.together(made[::2]), self.together(made[1::2])
             return {**some[0], **others[0]}, {**some[1], **others[1]}
         refused, passed = answer.decided(changed)
-        said = {edit: f"refused: {min(names & refused)} is not proved" for edit, names in made if names & refused}
+        said = {edit: answer.refusal(names & refused) for edit, names in made if names & refused}
         said.update({edit: "NOT REFUSED" for edit, names in made if names <= passed})
         return said, {it: answer.below(it) & changed - {it} for it in changed - refused}
 
