@@ -29,6 +29,7 @@ weight_at-share kind hold None true e = refl
 weight_at-share kind hold None false e = refl
 weight_at-share kind hold (Some count) b e = ap (λ v. cond v count 0) e
 
+-- a row counts as one if it is of the kind, and as zero if it is not
 pub weight_at-one_of : (kind : HandleKind) (hold : Hold) (row : Option ℕ) (b : Bool) → same_handle_kind hold.kind kind ≡ b →
     weight_at (one_of kind) hold row ≡ cond b (one_row row) 0
 weight_at-one_of kind hold None true e = refl

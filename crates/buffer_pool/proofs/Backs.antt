@@ -49,6 +49,7 @@ joined-gap low pages end to rest some is le apart =
           ∙ (λ k. record { start = low; pages = same k } ∷ rest))
     ]
 
+-- the pages before `end`, merged with the holes from `end` on, give the holes from `low` on
 joined-holes : (low pages end size : ℕ) (is : List Interval) → 0 < pages → low + pages ≡ end → in_order end size is ≡ true →
     with_merged (record { start = low; pages = pages }) (holes_from end size is) ≡ holes_from low size is
 joined-holes low pages end size [] some same h =
@@ -137,6 +138,7 @@ goes_back low size back (i ∷ is) h (suc k) lt at =
     let from : end_of i ≤ back.start = rw at at (in_order-at (end_of i) size is f.rest k back within).0 in
     later_back low size back i is h from (goes_back (end_of i) size back is f.rest k within at)
 
+-- GoesBack is true of each held interval, since containment gives its place in the order
 pub goes_back-of : (size : ℕ) (back : Interval) (is : List Interval) → in_order 0 size is ≡ true → Contains is back →
     GoesBack 0 size back is
 goes_back-of size back is h there = goes_back 0 size back is h there.0 there.1 there.2
@@ -148,6 +150,7 @@ none_begins : ℕ → List Interval → Bool
 none_begins page [] = true
 none_begins page (h ∷ hs) = not (h.start == page) && none_begins page hs
 
+-- if no hole begins at the page, the first hole does not begin there either
 none-first : (page : ℕ) (hs : List Interval) → none_begins page hs ≡ true → first_begins page hs ≡ false
 unfolding none_begins
 none-first page [] none = refl
@@ -162,6 +165,7 @@ none-later page low (h ∷ hs) lt s =
     let other : (h.start == page) ≡ false = ne_eqb _ _ (λ e. absurd (omega (arith, f.from))) in
     rw other (none-later page (end_of h + 1) hs (omega (arith, f.from)) f.rest)
 
+-- a gap that ends at or before the page begins before it, so it adds no hole that begins there
 none-gap : (page low to : ℕ) (hs : List Interval) → to ≤ page → none_begins page hs ≡ true → none_begins page (gap low to ++ hs) ≡ true
 unfolding none_begins
 none-gap page low to hs le none =
@@ -232,6 +236,7 @@ pub record RunGoesBack (size start each count : ℕ) (is : List Interval) : Type
   pub pages : count * each + total_pages (without_run start each count is) ≡ total_pages is
   pub fewer : length (without_run start each count is) + count ≡ length is
 
+-- by induction on the count: each buffer that is released merges with those before it
 run_back : (size start pages n : ℕ) (is : List Interval) → in_order 0 size is ≡ true → HasRun start pages (suc n) is →
     RunGoesBack size start pages (suc n) is
 run_back size start pages zero is h run =
@@ -273,6 +278,7 @@ pub record KeepsBack (size free : ℕ) (holes held : List Interval) (capacity st
   pub kept : IsPoolSound size (free + count * pages) (with_released (record { start = start; pages = count * pages }) holes)
       (without_run start pages count held) capacity
 
+-- the release of a run of at least one buffer keeps the pool sound and within its capacity
 keeps_more : (size free : ℕ) (holes held : List Interval) (capacity start pages n : ℕ) → IsPoolSound size free holes held capacity →
     HasRun start pages (suc n) held → KeepsBack size free holes held capacity start pages (suc n)
 keeps_more size free holes held capacity start pages n k run =
@@ -302,6 +308,7 @@ keeps_more size free holes held capacity start pages n k run =
       };
     }
 
+-- a count of at least one is a successor, so the lemma above applies to it
 pub keeps_back : (size free : ℕ) (holes held : List Interval) (capacity start pages count : ℕ) → 1 ≤ count →
     IsPoolSound size free holes held capacity → HasRun start pages count held → KeepsBack size free holes held capacity start pages count
 keeps_back size free holes held capacity start pages zero some k run = absurd (omega arith)

@@ -7,12 +7,15 @@ use Rattle.std.proofs.lemmas.List.Elements.{All-append, All-cons, All-take, All-
 use Rattle.sm_names.specs.declared.keys.Interval.{Interval}
 use Rattle.buffer_pool.specs.Rows.{AreBlocks}
 
+-- intervals in blocks, as the list of the blocks
 abbrev Lists : Type 0
 Lists = List (List Interval)
 
+-- the block has an interval
 abbrev Some : List Interval → Type 0
 Some b = 0 < length b
 
+-- the block has no interval
 abbrev Empty : List Interval → Type 0
 Empty b = b ≡ []
 

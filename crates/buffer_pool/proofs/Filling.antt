@@ -39,6 +39,7 @@ pub record Lists (holes held : List Interval) : Type 0 where
   pub few : length holes ≤ MAX_PAGES
   pub rises : IsNonDecreasingBy (λ (i : Interval). i.start) held
 
+-- holes end inside the pool, each hole has a page, and held intervals lie in order of page
 pub lists_of : (size : ℕ) (holes held : List Interval) → AreGaps size holes held → Lists holes held
 lists_of size holes held g =
     let small = g.sized in
@@ -120,6 +121,7 @@ pub record IsNextRun (pages n start at : ℕ) (holes held : List Interval) : Typ
   pub ends : start + n * pages < 4294967296
   pub clear : IsClear start (start + n * pages) held
 
+-- buffers that fit in the first hole lie there side by side, and no held interval begins there
 pub next_run : (size pages n start at : ℕ) (holes held : List Interval) → 1 ≤ pages → 1 ≤ n → start ≡ first_fit pages holes →
     at ≡ prefix_len (too_small pages) holes → at < length holes → FitsInFirst pages n holes → AreGaps size holes held →
     IsNextRun pages n start at holes held

@@ -14,6 +14,7 @@ pub record IsFirstFit (pages : ℕ) (hs : List Interval) (hole : Interval) : Typ
   pub has_pages : pages ≤ hole.pages
   pub start : first_fit pages hs ≡ hole.start
 
+-- the hole at which the search stops has enough pages, and the first fit is its start
 pub fit_at : (pages : ℕ) (hs : List Interval) (d : Interval) → prefix_len (too_small pages) hs < length hs →
     IsFirstFit pages hs (get_or hs (prefix_len (too_small pages) hs) d)
 fit_at pages [] d lt = absurd (omega arith)
@@ -105,6 +106,7 @@ search_from_front pages from hs ks le lt =
       | inr more ↦ omega arith
     ]
 
+-- a search that reaches the second part passed all of the first, and the rest in the second
 pub search_from_back : (pages from : ℕ) (hs ks : List Interval) → from ≤ prefix_len (too_small pages) (hs ++ ks) → length hs ≤ from →
     (from - length hs ≤ prefix_len (too_small pages) ks) × (length hs ≤ prefix_len (too_small pages) hs)
 search_from_back pages from hs ks le past =
@@ -140,6 +142,7 @@ all-small pages most hs all lt =
     at : (k : ℕ) (d : Interval) → k < length hs → (get_or hs k d).pages < pages
     at k d less = let few : (get_or hs k d).pages ≤ most = all k d less in omega arith
 
+-- if the search passes the last hole, each hole has fewer pages than it asks for
 pub small-all : (pages at : ℕ) (hs : List Interval) → 1 ≤ pages → at ≡ prefix_len (too_small pages) hs → length hs ≤ at →
     All (λ (h : Interval). h.pages ≤ pages - 1) hs
 small-all pages at hs one found past = λ k d lt.

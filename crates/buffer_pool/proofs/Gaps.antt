@@ -16,6 +16,7 @@ use Rattle.buffer_pool.proofs.Spaces.{spaced-cons, spaced-earlier}
 pub gap_some : (from to : ℕ) → from < to → gap from to ≡ record { start = from; pages = to - from } ∷ []
 gap_some from to lt = let y : nat_lt from to ≡ true = lt-ltb _ _ lt in rw y refl
 
+-- a gap that ends no later than it begins is the empty list
 pub gap_none : (from to : ℕ) → to ≤ from → gap from to ≡ []
 gap_none from to le = let n : nat_lt from to ≡ false = le-ltb _ _ le in rw n refl
 
@@ -31,6 +32,7 @@ spaced_behind low to next rest le lt s =
       | inr none ↦ rw (gap_none low to none) (spaced-earlier next low rest (omega arith) s)
     ]
 
+-- by induction: each interval has a page, so the holes on its two sides do not touch
 pub spaced-holes : (low size : ℕ) (is : List Interval) → in_order low size is ≡ true → spaced low (holes_from low size is) ≡ true
 spaced-holes low size [] h =
     elim (cases_lt low size) [
@@ -120,6 +122,7 @@ pub record Passes (low to pages : ℕ) (rest : List Interval) : Type 0 where
       prefix_len (too_small pages) (gap low to ++ rest) < length (gap low to ++ rest)
   pub rooms : rooms pages (gap low to ++ rest) ≡ rooms pages rest
 
+-- first fit skips a gap that is too small, and such a gap adds no room
 pub gap_passes : (low to pages : ℕ) (rest : List Interval) → 1 ≤ pages → low ≤ to → to < low + pages → Passes low to pages rest
 gap_passes low to pages rest one le small =
     elim (cases_lt low to) [

@@ -28,6 +28,7 @@ spaced-apart low (h ∷ hs) s (suc j) (suc k) d e less lt =
     let before : j < k = omega arith in
     spaced-apart (end_of h + 1) hs f.rest j k d e before within
 
+-- each hole of a spaced list has a page, since the test asks it of each
 spaced-pages : (low : ℕ) (hs : List Interval) → spaced low hs ≡ true → (k : ℕ) (d : Interval) → k < length hs → 0 < (get_or hs k d).pages
 spaced-pages low [] s k d lt = absurd (omega arith)
 spaced-pages low (h ∷ hs) s zero d lt = (first_spaced low h hs s).has_pages
@@ -95,6 +96,7 @@ room_in_gap low to P rest here behind k d lt =
     both zero first lt = first
     both (suc k) first lt = behind k d (omega arith)
 
+-- each hole is free: earlier intervals end before it, and later ones begin behind it
 holes-free : (low size : ℕ) (is : List Interval) → in_order low size is ≡ true → (k : ℕ) (d : Interval) →
     k < length (holes_from low size is) → has_room size is (get_or (holes_from low size is) k d) ≡ true
 holes-free low size [] h k d lt =

@@ -38,6 +38,7 @@ run_pushed xs next left rest is =
     append_assoc xs (next ∷ []) (run_of (next.start + next.pages) next.pages rest)
     ∙ ap (λ n. xs ++ run_of next.start next.pages n) (sym is)
 
+-- a start that is pushed is the first of a run, and the starts of the others follow it
 pub starts_pushed : (xs : List ℕ) (next pages left rest : ℕ) → left ≡ suc rest →
     (xs ++ next ∷ []) ++ run_starts (next + pages) pages rest ≡ xs ++ run_starts next pages left
 starts_pushed xs next pages left rest is =
@@ -56,10 +57,12 @@ run_of-bound start pages (suc n) bound le (suc k) d lt = run_of-bound (start + p
 
 -- ---- lengths and order
 
+-- by induction on the count: each step adds one interval
 pub length-run_of : (start pages n : ℕ) → length (run_of start pages n) ≡ n
 length-run_of start pages zero = refl
 length-run_of start pages (suc n) = ap suc (length-run_of (start + pages) pages n)
 
+-- an insert of a run adds its count to the length, at each place within the list
 pub length-with : (start pages n at : ℕ) (is : List Interval) → at ≤ length is →
     length (insert_slice is at (run_of start pages n)) ≡ length is + n
 length-with start pages n at is le =
@@ -77,6 +80,7 @@ bound-with bound more start pages n at is grows le all =
     All-append P (take at is ++ R) (drop at is) (All-append P (take at is) R (All-take P at is wide) (run_of-bound start pages n more le))
     (All-drop P at is wide)
 
+-- a run that is put in its place adds its count to the length
 pub length-with_run : (start pages n : ℕ) (is : List Interval) → length (with_run start pages n is) ≡ n + length is
 length-with_run start pages n [] = omega (arith, length-append (run_of start pages n) [], length-run_of start pages n)
 length-with_run start pages n (i ∷ is) =
@@ -85,6 +89,7 @@ length-with_run start pages n (i ∷ is) =
       | inr n' ↦ rw n' (omega (arith, length-append (run_of start pages n) (i ∷ is), length-run_of start pages n))
     ]
 
+-- the starts stay in order, since each buffer is put in its place, one after another
 with_buffers-rises : (pages : ℕ) (ss : List ℕ) (is : List Interval) → IsNonDecreasingBy (λ (i : Interval). i.start) is →
     IsNonDecreasingBy (λ (i : Interval). i.start) (with_buffers pages ss is)
 with_buffers-rises pages [] is h = h
@@ -139,6 +144,7 @@ clear-first start pages to (i ∷ is) one c =
 
 -- ---- one after another
 
+-- a run is the run of its first buffers and then the run of the others, behind their end
 run_of-more : (start pages d m n next : ℕ) → n ≡ d + m → next ≡ start + d * pages →
     run_of start pages n ≡ run_of start pages d ++ run_of next pages m
 run_of-more start pages zero m n next is at =
@@ -190,6 +196,7 @@ run_more start pages d m n next (i ∷ is) one count at c =
 
 -- ---- buffer by buffer
 
+-- a run of no buffers changes nothing
 with_none : (start pages : ℕ) (is : List Interval) → with_run start pages zero is ≡ is
 with_none start pages [] = refl
 with_none start pages (i ∷ is) =
@@ -198,6 +205,7 @@ with_none start pages (i ∷ is) =
       | inr n ↦ rw n refl
     ]
 
+-- a run of one buffer is put where a single interval is put
 with_one : (start pages : ℕ) (is : List Interval) →
     with_interval (record { start = start; pages = pages }) is ≡ with_run start pages (suc zero) is
 with_one start pages [] = refl
@@ -240,6 +248,7 @@ pub record Opens (count left : ℕ) (held0 held : List Interval) : Type 0 where
   pub rises : IsNonDecreasingBy (λ (i : Interval). i.start) held
   pub long : length held + left ≡ length held0 + count
 
+-- the part of a run that is put in is its buffers, each in its place, so the starts stay in order
 pub opens : (first : Interval) (count left : ℕ) (next : Interval) (held0 held : List Interval) (c0 c : ℕ) → 1 ≤ first.pages →
     IsClear first.start (first.start + count * first.pages) held0 → IsNonDecreasingBy (λ (i : Interval). i.start) held0 →
     IsHeldSoFar first count left next held0 held c0 c → Opens count left held0 held

@@ -9,9 +9,11 @@ use Rattle.buffer_pool.specs.declared.block.TheConstants.{HALF}
 use Rattle.sm_names.specs.declared.keys.Interval.{Interval}
 use Rattle.buffer_pool.specs.Rows.{all_in}
 
+-- intervals in blocks, as the list of the blocks
 abbrev Lists : Type 0
 Lists = List (List Interval)
 
+-- the intervals of two lists of blocks in a row are those of the first and then of the second
 all-append : (us vs : Lists) → all_in (us ++ vs) ≡ all_in us ++ all_in vs
 all-append us vs = flat_map-append (λ (b : List Interval). b) us vs
 
@@ -29,6 +31,7 @@ parts-set L b B lt =
     ap all_in (set_split L b B lt) ∙ all-append (take b L) (B ∷ drop (suc b) L)
     ∙ ap (λ n. all_in (take b L) ++ (B ++ all_in (drop n L))) (sym (add-one b))
 
+-- a sum less its first term is its second term
 none-left : (n m : ℕ) → n + m - n ≡ m
 none-left n m = omega arith
 
@@ -45,6 +48,7 @@ insert_in L b o x lt le =
     ∙ sym (insert-append_right P (B ++ S) (length P) (length P + o) x refl (omega arith))
     ∙ sym (ap (λ ys. insert ys (length P + o) x) (parts L b lt))
 
+-- an insert into a block is an insert into the whole list, offset by the blocks before
 pub insert_slice_in : (L : Lists) (b o : ℕ) (R : List Interval) → b < length L → o ≤ length (get_or L b []) →
     all_in (set L b (insert_slice (get_or L b []) o R)) ≡ insert_slice (all_in L) (length (all_in (take b L)) + o) R
 insert_slice_in L b o R lt le =
@@ -59,6 +63,7 @@ insert_slice_in L b o R lt le =
     ∙ sym (λ i. (take-append-add P (B ++ S) o i ++ R) ++ drop-append-add P (B ++ S) o i)
     ∙ sym (ap (λ ys. insert_slice ys (length P + o) R) (parts L b lt))
 
+-- the removal of a range in a block removes it from the whole list, offset by the blocks before
 pub remove_range_in : (L : Lists) (b o n : ℕ) → b < length L → o + n ≤ length (get_or L b []) →
     all_in (set L b (remove_range (get_or L b []) o (o + n)))
     ≡ remove_range (all_in L) (length (all_in (take b L)) + o) (length (all_in (take b L)) + o + n)
@@ -75,6 +80,7 @@ remove_range_in L b o n lt le =
     ∙ sym (ap (λ m. take (length P + o) (P ++ (B ++ S)) ++ drop m (P ++ (B ++ S))) sum)
     ∙ sym (ap (λ ys. remove_range ys (length P + o) (length P + o + n)) (parts L b lt))
 
+-- an update in a block is an update in the whole list, offset by the blocks before
 pub set_in : (L : Lists) (b o : ℕ) (x : Interval) → b < length L → o < length (get_or L b []) →
     all_in (set L b (set (get_or L b []) o x)) ≡ set (all_in L) (length (all_in (take b L)) + o) x
 set_in L b o x lt le =
@@ -180,6 +186,7 @@ take-insert L b k B le within =
     let size : length (take b L) ≡ b = length-take-le b L within in
     take-append-le k (take b L) (B ∷ drop b L) (omega arith) ∙ take-take k b L le
 
+-- the removal of a block leaves the blocks before it as they are
 pub take-remove : (L : Lists) (b k : ℕ) → k ≤ b → b ≤ length L → take k (remove L b) ≡ take k L
 take-remove L b k le within =
     let size : length (take b L) ≡ b = length-take-le b L within in
@@ -194,6 +201,7 @@ pub record IsCut (L : Lists) (b : ℕ) (M : Lists) : Type 0 where
   pub count : length M ≡ length L + 1
   pub before : length (all_in (take (b + 1) M)) ≡ length (all_in (take b L)) + length (take HALF (get_or L b []))
 
+-- a block that is cut in two keeps its intervals in order, in two blocks side by side
 pub is_cut : (L : Lists) (b : ℕ) (M : Lists) → b < length L →
     M ≡ insert (set L b (take HALF (get_or L b []))) (b + 1) (drop HALF (get_or L b [])) → IsCut L b M
 is_cut L b M lt is =
@@ -219,6 +227,7 @@ is_cut L b M lt is =
 
 -- ---- blocks of the same lengths
 
+-- if a block is replaced by one of its length, each block begins where it began
 pub same-place : (L : Lists) (b k : ℕ) (Y : List Interval) → length Y ≡ length (get_or L b []) →
     length (all_in (take k (set L b Y))) ≡ length (all_in (take k L))
 same-place [] b k Y is = refl
@@ -228,6 +237,7 @@ same-place (B ∷ L) (suc b) (suc k) Y is =
     let r = same-place L b k Y is in
     omega (arith, length-append B (all_in (take k (set L b Y))), length-append B (all_in (take k L)))
 
+-- if a block is replaced by one of its length, each block is as long as it was
 pub same-size : (L : Lists) (b k : ℕ) (Y : List Interval) → length Y ≡ length (get_or L b []) →
     length (get_or (set L b Y) k []) ≡ length (get_or L k [])
 same-size [] b k Y is = refl
@@ -248,6 +258,7 @@ remove-suc [] at y lt = absurd (omega arith)
 remove-suc (x ∷ xs) zero y lt = refl
 remove-suc (x ∷ xs) (suc at) y lt = ap (λ r. x ∷ r) (remove-suc xs at y (omega arith))
 
+-- an update commutes with the removal of the next interval
 pub remove-next : (xs : List Interval) (at : ℕ) (y : Interval) → at + 1 < length xs →
     remove (set xs at y) (at + 1) ≡ set (remove xs (at + 1)) at y
 remove-next xs at y lt =

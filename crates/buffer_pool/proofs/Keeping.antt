@@ -25,6 +25,7 @@ pub record KeepsRun (size free count pages : ℕ) (holes held : List Interval) :
   pub kept : (capacity : ℕ) → length held + count ≤ capacity →
       IsPoolSound size (free - count * pages) (holes_after pages count holes) (with_buffers pages (starts_in pages count holes) held) capacity
 
+-- if all buffers have room, the looks for them are bounded, and the pool stays sound with them
 pub keeps_run : (size free count pages : ℕ) (holes held : List Interval) (capacity : ℕ) → 1 ≤ pages →
     IsPoolSound size free holes held capacity →
     count ≤ rooms pages holes → KeepsRun size free count pages holes held

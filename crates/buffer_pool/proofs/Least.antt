@@ -16,9 +16,11 @@ use Rattle.buffer_pool.proofs.Gaps.{gap_none, gap_fits, gap_passes}
 pub meets-before : (a b : Interval) → end_of a ≤ b.start → meets a b ≡ false
 meets-before a b h = and_right (nat_lt a.start (end_of b)) (nat_lt b.start (end_of a)) (le-ltb _ _ h)
 
+-- an interval that begins at or behind the end of another does not meet it
 pub meets-behind : (a b : Interval) → end_of b ≤ a.start → meets a b ≡ false
 meets-behind a b h = and_left (nat_lt a.start (end_of b)) (nat_lt b.start (end_of a)) (le-ltb _ _ h)
 
+-- two intervals meet if each begins before the other ends
 pub meets-over : (a b : Interval) → a.start < end_of b → b.start < end_of a → meets a b ≡ true
 meets-over a b h k = and_from (nat_lt a.start (end_of b)) (nat_lt b.start (end_of a)) (lt-ltb _ _ h) (lt-ltb _ _ k)
 
@@ -26,12 +28,15 @@ meets-over a b h k = and_from (nat_lt a.start (end_of b)) (nat_lt b.start (end_o
 pub has_room-past : (size : ℕ) (a i : Interval) (is : List Interval) → meets a i ≡ false → has_room size (i ∷ is) a ≡ has_room size is a
 has_room-past size a i is apart = rw apart refl
 
+-- an interval that meets a held one has no room
 pub has_room-over : (size : ℕ) (a i : Interval) (is : List Interval) → meets a i ≡ true → has_room size (i ∷ is) a ≡ false
 has_room-over size a i is over = rw over (and_right (nat_le (end_of a) size) false refl)
 
+-- an interval that ends beyond the pool has no room
 pub has_room-beyond : (size : ℕ) (a : Interval) (is : List Interval) → size < end_of a → has_room size is a ≡ false
 has_room-beyond size a is lt = and_left (nat_le (end_of a) size) (not (list_any (meets a) is)) (lt-leb _ _ lt)
 
+-- an interval that ends at or before the first page of an order meets none of its intervals
 pub has_room-before : (low size : ℕ) (a : Interval) (is : List Interval) → in_order low size is ≡ true → end_of a ≤ low →
     has_room size is a ≡ true
 has_room-before low size a [] h le =
@@ -154,6 +159,7 @@ fit_behind low size pages i is one small f r =
       some = g.some r.some;
     }
 
+-- if a gap is too small and no hole behind its interval fits, no start from the gap on has room
 no_fit_behind : (low size pages : ℕ) (i : Interval) (is : List Interval) → 1 ≤ pages → i.start < low + pages → IsFirst low size i is →
     NoFit (end_of i) size pages is → NoFit low size pages (i ∷ is)
 no_fit_behind low size pages i is one small f r =
@@ -202,6 +208,7 @@ find_least p a (suc n) s from to here before =
           rw no (find_least p (a + 1) n s (omega arith) (omega arith) here (λ t from less. before t (omega arith) less))
     ]
 
+-- a search over a range finds nothing if the test fails at each number of the range
 find_none : (p : ℕ → Bool) (a n : ℕ) → ((t : ℕ) → a ≤ t → p t ≡ false) → find p (range_with_len a n) ≡ None
 find_none p a zero none = refl
 find_none p a (suc n) none =
@@ -215,5 +222,6 @@ least_start-fit size pages is one f =
     let inside : start + pages ≤ size = leb-true _ _ (and_parts (nat_le (start + pages) size) _ f.least.is_free).0 in
     find_least (λ t. has_room size is (at_pages pages t)) 0 size start (omega arith) (omega arith) f.least.is_free f.least.is_least
 
+-- if no hole is long enough, there is no least start
 pub least_start-none : (size pages : ℕ) (is : List Interval) → NoFit 0 size pages is → least_start size pages is ≡ None
 least_start-none size pages is f = find_none (λ t. has_room size is (at_pages pages t)) 0 size f.none

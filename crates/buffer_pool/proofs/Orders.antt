@@ -15,12 +15,14 @@ pub record IsFirst (low high : ℕ) (i : Interval) (is : List Interval) : Type 0
   pub has_pages : 0 < i.pages
   pub rest : in_order (end_of i) high is ≡ true
 
+-- the test of an order gives what it asks of the first interval and of the rest
 pub first_in_order : (low high : ℕ) (i : Interval) (is : List Interval) → in_order low high (i ∷ is) ≡ true → IsFirst low high i is
 first_in_order low high i is h =
     let p = and_parts (nat_le low i.start) _ h in
     let q = and_parts (nat_lt 0 i.pages) _ p.1 in
     record { from = leb-true _ _ p.0; has_pages = ltb-true _ _ q.0; rest = q.1 }
 
+-- the converse: an interval before an order that begins at its end makes an order
 pub in_order-cons : (low high : ℕ) (i : Interval) (is : List Interval) → IsFirst low high i is → in_order low high (i ∷ is) ≡ true
 in_order-cons low high i is f =
     and_from (nat_le low i.start) _ (le-leb _ _ f.from) (and_from (nat_lt 0 i.pages) _ (lt-ltb _ _ f.has_pages) f.rest)

@@ -13,6 +13,7 @@ use Rattle.buffer_pool.proofs.Fits.{search_front, search_back, search_from_front
 use Rattle.buffer_pool.proofs.Joins.{parts, before-next}
 use Rattle.buffer_pool.proofs.TakenRuns.{prefix_len-after}
 
+-- the reach at this block and offset, with so many intervals in the blocks before
 abbrev reach : ℕ → ℕ → ℕ → Reach
 reach block offset before = record { spot = record { block = block; offset = offset }; before = before }
 
@@ -22,6 +23,7 @@ pub record IsPassedIn (pages b o : ℕ) (L : List (List Interval)) : Type 0 wher
   pub whole : prefix_len (too_small pages) (all_in L) ≡ length (all_in (take b L))
       + prefix_len (too_small pages) (get_or L b [] ++ all_in (drop (b + 1) L))
 
+-- a search that stands in a block passed all blocks before it, and its holes up to the offset
 pub passed-in : (pages b o before : ℕ) (L : List (List Interval)) → b < length L → IsPassed pages (reach b o before) L →
     IsPassedIn pages b o L
 passed-in pages b o before L lt k =
@@ -73,6 +75,7 @@ found-end pages b o before L past k =
 
 -- ---- room
 
+-- the rooms of two lists in a row add up
 pub rooms-append : (pages : ℕ) (hs ks : List Interval) → rooms pages (hs ++ ks) ≡ rooms pages hs + rooms pages ks
 rooms-append pages hs ks = sum_by-append (λ (h : Interval). h.pages / pages) hs ks
 
@@ -104,6 +107,7 @@ rooms-block pages b o L lt le =
 
 -- ---- what stays passed
 
+-- all intervals are those of the first blocks and then those of the others
 all-front : (L : List (List Interval)) (b : ℕ) → all_in L ≡ all_in (take b L) ++ all_in (drop b L)
 all-front L b = ap all_in (sym (take-append-drop b L)) ∙ flat_map-append (λ (b : List Interval). b) (take b L) (drop b L)
 

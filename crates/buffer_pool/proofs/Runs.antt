@@ -49,6 +49,7 @@ in_order-without low high start (i ∷ is) h =
       | inr n ↦ rw n (in_order-cons low high i (without start is) (record { from = f.from; has_pages = f.has_pages; rest = r }))
     ]
 
+-- the removal of a run keeps the order, since each of its steps does
 pub in_order-without_run : (low high start pages count : ℕ) (is : List Interval) → in_order low high is ≡ true →
     in_order low high (without_run start pages count is) ≡ true
 in_order-without_run low high start pages zero is h = h
@@ -72,6 +73,7 @@ without-keeps start x (i ∷ is) other (suc k) lt at =
 had-later : (x i : Interval) (is : List Interval) → Contains is x → Contains (i ∷ is) x
 had-later x i is r = (suc r.0, omega (arith, r.1), r.2)
 
+-- an interval that remains after a removal was there before it
 without-had : (start : ℕ) (x : Interval) (is : List Interval) (k : ℕ) → k < length (without start is) → get_or (without start is) k x ≡ x →
     Contains is x
 without-had start x [] k lt at = absurd (omega arith)
@@ -86,6 +88,7 @@ without-had start x (i ∷ is) k lt at =
     kept zero lt at on = (0, omega arith, at)
     kept (suc k) lt at on = had-later x i is (on k (omega arith) at)
 
+-- an interval that remains after the removal of a run was there before each of its steps
 pub without_run-had : (start pages count : ℕ) (x : Interval) (is : List Interval) → Contains (without_run start pages count is) x → Contains is
     x
 without_run-had start pages zero x is there = there

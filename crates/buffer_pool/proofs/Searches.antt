@@ -14,6 +14,7 @@ pub record IsSearch (f : Interval → ℕ) (page low high : ℕ) (xs : List Inte
   pub below : (k : ℕ) (d : Interval) → k < low → f (get_or xs k d) < page
   pub above : (d : Interval) → high < length xs → page ≤ f (get_or xs high d)
 
+-- if the middle lies below the page, so do all before it, and the search continues behind it
 pub search_upper : (f : Interval → ℕ) (page low high middle : ℕ) (xs : List Interval) (x : Interval) → IsNonDecreasingBy f xs →
     low ≤ middle → middle < high → x ≡ get_or xs middle x → f x < page → IsSearch f page low high xs → IsSearch f page (middle + 1) high xs
 search_upper f page low high middle xs x up le lt is less s =
@@ -28,6 +29,7 @@ search_upper f page low high middle xs x up le lt is less s =
       above = s.above;
     }
 
+-- where the two bounds meet, they count the intervals below the page
 pub search_ends : (f : Interval → ℕ) (page low high : ℕ) (xs : List Interval) → high ≤ low → IsSearch f page low high xs →
     low ≡ prefix_len (λ (i : Interval). nat_lt (f i) page) xs
 search_ends f page low high xs le s =

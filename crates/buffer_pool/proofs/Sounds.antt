@@ -6,6 +6,7 @@ use Rattle.buffer_pool.specs.Holdings.{in_order, IsSound}
 use Rattle.buffer_pool.proofs.Orders.{in_order-at, in_order-apart}
 use Rattle.buffer_pool.proofs.Least.{meets-before}
 
+-- intervals in order do not meet and lie in the pool, so a pool of a legal size is sound
 pub sound_from : (size : ℕ) (held : List Interval) → (1 ≤ size) × (size ≤ MAX_PAGES) → in_order 0 size held ≡ true →
     IsSound (record { size = size; held = held })
 sound_from size held sized order =

@@ -16,12 +16,14 @@ pub record IsFirst (low : ℕ) (h : Interval) (hs : List Interval) : Type 0 wher
   pub has_pages : 0 < h.pages
   pub rest : spaced (end_of h + 1) hs ≡ true
 
+-- the test of spaced holes gives what it asks of the first hole and of the rest
 pub first_spaced : (low : ℕ) (h : Interval) (hs : List Interval) → spaced low (h ∷ hs) ≡ true → IsFirst low h hs
 first_spaced low h hs s =
     let p = and_parts (nat_le low h.start) _ s in
     let q = and_parts (nat_lt 0 h.pages) _ p.1 in
     record { from = leb-true _ _ p.0; has_pages = ltb-true _ _ q.0; rest = q.1 }
 
+-- the converse: a hole before spaced holes that begin behind its end makes a spaced list
 pub spaced-cons : (low : ℕ) (h : Interval) (hs : List Interval) → IsFirst low h hs → spaced low (h ∷ hs) ≡ true
 spaced-cons low h hs f = and_from (nat_le low h.start) _ (le-leb _ _ f.from) (and_from (nat_lt 0 h.pages) _ (lt-ltb _ _ f.has_pages) f.rest)
 
@@ -98,6 +100,7 @@ merged_behind i hole at hs lt is ends =
     let e : (end_of hole == i.start) ≡ true = rw parts at ends in
     (eqb-true _ _ e, rw parts (rw e refl))
 
+-- an interval that ends where the hole begins makes the hole longer at its front
 pub merged_before : (i hole : Interval) (at : ℕ) (hs : List Interval) → at < length hs → hole ≡ get_or hs at hole →
     first_ends i.start (drop at hs) ≡ false → first_begins (end_of i) (drop at hs) ≡ true → (hole.start ≡ end_of i) ×
     (merged i (drop at hs) ≡ record { start = i.start; pages = i.pages + hole.pages } ∷ drop (at + 1) hs)
@@ -107,6 +110,7 @@ merged_before i hole at hs lt is ends begins =
     let e : (hole.start == end_of i) ≡ true = rw parts at begins in
     (eqb-true _ _ e, rw parts (rw (n, e) refl))
 
+-- an interval that touches the first hole on neither side becomes a hole of its own
 pub merged_apart : (i : Interval) (ys : List Interval) → first_ends i.start ys ≡ false → first_begins (end_of i) ys ≡ false →
     merged i ys ≡ i ∷ ys
 merged_apart i [] ends begins = refl
@@ -122,6 +126,7 @@ pub join_apart : (hole : Interval) (at : ℕ) (hs : List Interval) → at < leng
     set hs at hole ≡ take at hs ++ with_merged hole (drop (at + 1) hs)
 join_apart hole at hs lt begins = rw (joined_apart hole (drop (at + 1) hs) begins, add-one) (set_split hs at hole lt)
 
+-- a next hole that begins where the hole ends is removed, and the hole gains its pages
 pub join_touching : (hole next : Interval) (at : ℕ) (hs : List Interval) → next ≡ get_or hs (at + 1) next →
     first_begins (end_of hole) (drop (at + 1) hs) ≡ true →
     set (remove hs (at + 1)) at (record { start = hole.start; pages = hole.pages + next.pages }) ≡ take at hs ++ with_merged hole

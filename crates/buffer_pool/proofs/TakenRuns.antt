@@ -21,6 +21,7 @@ record IsBehind (pages n : ℕ) (h : Interval) (hs : List Interval) : Type 0 whe
   looks : looks_in pages n (h ∷ hs) ≡ n + looks_in pages n hs
   holes : holes_after pages n (h ∷ hs) ≡ h ∷ holes_after pages n hs
 
+-- each search passes a hole that is too small with one look, and leaves it as it is
 behind : (pages n : ℕ) (h : Interval) (hs : List Interval) → too_small pages h ≡ true → IsBehind pages n h hs
 behind pages zero h hs y = record { starts = refl; looks = refl; holes = refl }
 behind pages (suc n) h hs y =
@@ -140,16 +141,19 @@ prefix_len-after pages (suc n) hs = omega (arith, prefix_len-taken pages hs, pre
 pub room_for_one : (pages whole : ℕ) → 1 ≤ pages → pages ≤ whole → 1 ≤ whole / pages
 room_for_one pages whole one le = let less : whole / pages ≡ (whole - pages) / pages + 1 = div-eq-sub-div one le in omega arith
 
+-- the pages of so many buffers are at most the quotient times the divisor, so at most the whole
 pub pages-fit : (n pages whole : ℕ) → n ≤ whole / pages → n * pages ≤ whole
 pages-fit n pages whole le =
     let few : n * pages ≤ whole / pages * pages = mul-le-mul_right pages le in omega (arith, div-mul-le_self whole pages)
 
 -- ---- the two ways of taking: the hole goes, or is shortened
 
+-- a hole of which all pages are taken is removed
 pub shortened_whole : (pages : ℕ) (hs : List Interval) (at : ℕ) (hole : Interval) → hole.pages ≡ pages →
     remove hs at ≡ take at hs ++ shortened pages hole (drop (suc at) hs)
 shortened_whole pages hs at hole same = let e : (hole.pages == pages) ≡ true = eq-eqb _ _ same in rw e refl
 
+-- a hole of which some pages remain begins behind those that are taken
 pub shortened_part : (pages : ℕ) (hs : List Interval) (at : ℕ) (hole : Interval) → (hole.pages ≡ pages → ⊥) → at < length hs →
     set hs at (record { start = hole.start + pages; pages = hole.pages - pages }) ≡ take at hs ++ shortened pages hole (drop (suc at) hs)
 shortened_part pages hs at hole other lt =

@@ -48,9 +48,11 @@ record LetsAll (client : ℕ) (marks : Timeline) (events : List Entry) (later : 
   ends : (key : NodeKey) → holds_end (readings later) client key ≡ false
   handles : (buffer : BufferName) (strength : Strength) → open_of later client buffer strength ≡ 0
 
+-- LetsAll is true of these events if the client has joined
 abbrev LettingAll : ℕ → Timeline → List Entry → Timeline → Type 0
 LettingAll client marks events later = has_joined marks client ≡ true → LetsAll client marks events later
 
+-- no DropHandle gives the client an end, so after the second phase it still holds none
 lets_all : (client : ℕ) (old mid new : State) → Phase old mid (Lets (IsClose client) client (HoldsAmong client [])) →
     Phase mid new (Lets (IsDrop client) client (HasAmong client [])) → Phase old new (LettingAll client)
 lets_all client old mid new p q =
@@ -107,11 +109,13 @@ collects_of client zero = []
 collects_of client (suc n) =
     (client, Call.Collect, Reply.CollectedHandle (record { collection = 0; index = 0 }) Strength.Strong) ∷ collects_of client n
 
+-- by induction on the count: each step adds one Collect
 collects_many : (client n : ℕ) → length (collects_of client n) ≡ n
 unfolding collects_of
 collects_many client zero = refl
 collects_many client (suc n) = omega (arith, collects_many client n)
 
+-- each entry is a Collect of this client that is answered with a parcel
 collects_are : (client n : ℕ) → All (IsCollect client) (collects_of client n)
 unfolding collects_of
 collects_are client zero = All-nil (IsCollect client)
@@ -180,6 +184,7 @@ record DropsSome (client : ℕ) (events : List Entry) : Type 0 where
   closed : All (IsClose client) closes
   dropped : All (IsDrop client) drops
 
+-- the Collects, the Closes and these DropHandles are the first events of an exit
 pub drops_some : (client waiting : ℕ) (old one two new : State) → Phase old one (Collecting client waiting waiting) →
     Phase one two (Lets (IsClose client) client (HoldsAmong client [])) →
     Phase two new (Lets (IsDrop client) client Whatever) → Phase old new (Gathered client waiting)
@@ -305,6 +310,7 @@ unshut_begun client PartFault.NoSuchClient events marks later h = h
 unshut_begun client PartFault.HistoryFull events marks later h = shut_alone client events h
 unshut_begun client PartFault.NoMemory events marks later h = absurd h
 
+-- a phase in which the Shut is refused, or not made, begins an exit with that fault
 pub unshut : (client : ℕ) (fault : PartFault) (old new : State) → Phase old new (IsUnshut client fault) →
     Phase old new (λ marks events later. IsBegun client fault events)
 unshut client fault old new p =

@@ -43,6 +43,7 @@ shut_known : (limits : Bound) (marks : Timeline) (client : ℕ) (reply : Reply) 
     has_joined marks client ≡ true → reply ≡ Reply.Shut (length (parcels marks client))
 shut_known limits marks client reply answer joined = rw joined at answer.told
 
+-- a Shut of a client that has not joined is refused
 shut_unknown : (limits : Bound) (marks : Timeline) (client : ℕ) (reply : Reply) → IsAnswer limits (readings marks) client Call.Shut reply →
     has_joined marks client ≡ false → reply ≡ Reply.Refused Refusal.NoSuchClient
 shut_unknown limits marks client reply answer stranger = rw stranger at answer.told

@@ -62,11 +62,13 @@ pub told_ok : (old new : State) (client : ℕ) (reply : Reply) → AdvancesBy ol
 told_ok old new client (Reply.Shut waiting) a = shut_phase old new client waiting a
 told_ok old new client _ a = tt
 
+-- an answer without a number of parcels is not `Reply.Shut`, so the Shut is refused
 pub told_err : (old new : State) (client : ℕ) (reply : Reply) → AdvancesBy old new ((client, Call.Shut, reply) ∷ []) →
     IfErr (waiting_told reply) (λ fault. Phase old new (IsUnshut client fault))
 told_err old new client (Reply.Shut waiting) a = tt
 told_err old new client reply a = refused_phase old new client reply a (λ waiting is. cc)
 
+-- no answer tells that the history is full, so anything follows if one does
 pub told_full : {A : Type 0} (reply : Reply) → waiting_told reply ≡ Err PartFault.HistoryFull → A
 told_full (Reply.Shut waiting) h = cc
 told_full _ h = cc
@@ -92,6 +94,7 @@ record CollectsOne (client : ℕ) (entry : Entry) (left : ℕ) (marks : Timeline
   shut : is_shut marks client ≡ true → is_shut later client ≡ true
   waits : length (parcels later client) ≡ left
 
+-- the next Collect takes one parcel, so one more is collected and one less waits
 pub collect_more : (old mid new : State) (client waiting count left : ℕ) (reply : Reply) → count + left ≡ waiting → 0 < left →
     Phase old mid (Collecting client waiting count) → AdvancesBy mid new ((client, Call.Collect, reply) ∷ []) →
     Phase old new (Collecting client waiting (count + 1))

@@ -106,6 +106,7 @@ pub record Steps (history : List Entry) (client event : ℕ) (entry : Entry) (ne
   pub rest : rest_at history client event ≡ own_entry event entry ∷ rest_at history client next
   pub stands : Stands history client next
 
+-- an event of the client's part is the client's own, and its link names the next one
 steps_at : (history : List Entry) (client k : ℕ) (entry : Entry) (first next : List ℕ) → Stands history client (k + 1) →
     entry ≡ get_or history k entry →
     Links 0 first next history → Steps history client (k + 1) entry (get_or next k 0)

@@ -35,10 +35,12 @@ use Rattle.event_laws.proofs.LinkLaws.{own_not_yet}
 
 -- ---- what one event brings its client, and takes from it
 
+-- a test of two conditions is a test of the second inside one of the first
 both_asked : (a b : Bool) (n : ℕ) → cond (a && b) n 0 ≡ cond a (cond b n 0) 0
 both_asked true b n = refl
 both_asked false b n = refl
 
+-- an amount of zero is zero, whether the condition holds or not
 none_asked : (a : Bool) (n : ℕ) → n ≡ 0 → cond a n 0 ≡ 0
 none_asked true n is = is
 none_asked false n is = refl
@@ -132,6 +134,7 @@ module _ (client : ℕ) (amount : Call → Reply → ℕ) (one two : Mark → �
 
 -- ---- the first events of a history
 
+-- the first events of a history have legal answers, since each depends only on those before it
 front_answers : (pool : ℕ) (limits : Bound) (marks : Timeline) (xs ys : List Entry) → AreAnswers pool limits marks (xs ++ ys) →
     AreAnswers pool limits marks xs
 front_answers pool limits marks [] ys all = tt

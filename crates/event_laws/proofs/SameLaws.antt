@@ -13,21 +13,25 @@ use Rattle.sm_names.specs.contracts.demands.ConstraintsPartialEq.TheImpl as dema
 use Rattle.sm_names.specs.contracts.messages.CallPartialEq.TheImpl as call
 use Rattle.sm_names.specs.Demands.{Demand}
 
+-- keys that pass the derived test have the same slot and the same generation
 key_one : (a b : NodeKey) → (key.eq-value).it a b ≡ true → a ≡ b
 key_one a b e =
     let fields = and_parts (a.slot == b.slot) (a.generation == b.generation) e in
     λ i. record { slot = eqb-true a.slot b.slot fields.0 i; generation = eqb-true a.generation b.generation fields.1 i }
 
+-- buffer names that pass it have the same collection and the same index
 buffer_one : (a b : BufferName) → (buffer.eq-value).it a b ≡ true → a ≡ b
 buffer_one a b e =
     let fields = and_parts (a.collection == b.collection) (a.index == b.index) e in
     λ i. record { collection = eqb-true a.collection b.collection fields.0 i; index = eqb-true a.index b.index fields.1 i }
 
+-- strengths that pass it are both strong or both weak
 strength_one : (a b : Strength) → (strength.eq-value).it a b ≡ true → a ≡ b
 strength_one Strong Strong e = refl
 strength_one Weak Weak e = refl
 strength_one _ _ e = cc
 
+-- demands that pass it have the same three fields
 demand_one : (a b : Demand) → (demand.eq-value).it a b ≡ true → a ≡ b
 demand_one a b e =
     let fields = and_parts (a.camping == b.camping) (a.at_least == b.at_least && a.size == b.size) e in
@@ -38,6 +42,7 @@ demand_one a b e =
       size = eqb-true a.size b.size last.1 i;
     }
 
+-- two SetWeakOk calls that pass it name the same node and the same choice
 weak_ok_one : (a b : NodeKey) (c d : Bool) → (call.eq-value).it (Call.SetWeakOk a c) (Call.SetWeakOk b d) ≡ true →
     Call.SetWeakOk a c ≡ Call.SetWeakOk b d
 weak_ok_one a b true true e = ap (λ k. Call.SetWeakOk k true) (key_one a b (and_parts ((key.eq-value).it a b) true e).0)

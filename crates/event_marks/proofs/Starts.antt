@@ -18,6 +18,7 @@ at_pages pages start = record { start = start; pages = pages }
 abbrev fits_at : ℕ → ℕ → List Interval → ℕ → Bool
 fits_at pool pages held start = has_room pool held (record { start = start; pages = pages })
 
+-- a conjunction with false is false
 never : (b : Bool) → (b && false) ≡ false
 never true = refl
 never false = refl

@@ -18,6 +18,7 @@ given_if : (stopped : Bool) (ks : List NodeKey) (child : NodeKey) → Contains (
 given_if true ks child there = absurd (omega (arith, there.1))
 given_if false ks child there = (refl, there)
 
+-- distinct keys stay distinct where a stop leaves none of them
 apart_if : (stopped : Bool) (ks : List NodeKey) → AllPairs (λ (a b : NodeKey). a ≢ b) ks →
     AllPairs (λ (a b : NodeKey). a ≢ b) (if stopped then [] else ks)
 apart_if true ks apart = λ i j d before within. absurd (omega (arith, within))

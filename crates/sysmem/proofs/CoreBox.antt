@@ -15,6 +15,7 @@ use Rattle.lifetime_core.proofs.machine.Core.TheLaws as core_laws
 use Rattle.sysmem.specs.contracts.place.Place as place
 use Rattle.sysmem.specs.contracts.raw.Unboxed as unboxed
 
+-- a box of a core: the row of the core, its laws, and the allocator that frees the box
 abbrev pub E : Bx
 E = record {
   row = core.the_row;
@@ -22,21 +23,27 @@ E = record {
   al = record { row = heap.the_row; laws = heap_laws.the_row_laws; g = ghosts; d = dict; drops = impl [] tnil dnil };
 }
 
+-- the type of a handle of the allocator
 abbrev pub Handle : RattleType
 Handle = heap.the_row
 
+-- the type of a place, which keeps a core or nothing
 abbrev pub Kept : RattleType
 Kept = place.the_row
 
+-- the type of a box of a core that is taken apart into its pointer and its allocator
 abbrev pub Loosened : RattleType
 Loosened = unboxed.the_row core.the_row heap.the_row ghosts
 
+-- the slot of a signature for a handle of the allocator
 abbrev pub a_handle : Slot 0
 a_handle = plain (λ _. Handle)
 
+-- the slot of a signature for a place
 abbrev pub a_place : Slot 0
 a_place = plain (λ _. Kept)
 
+-- the slot of a signature for a box that is taken apart
 abbrev pub a_loosened : Slot 0
 a_loosened = plain (λ _. Loosened)
 

@@ -1,6 +1,7 @@
 -- Writing words over places, one after the other.
 use Rattle.std.proofs.Common.{◌≡◌, ℕ, zero, suc, ◌+◌, ◌<◌, List, [], ◌∷◌, ◌++◌, drop, get_or, length, set, take, refl, ap, ◌∙◌, arith}
 
+-- the next word, written over its place, makes the part that is written one word longer
 step : {A : Type 0} (words places : List A) (i : ℕ) (z : A) → i < length words → i < length places
     → set (take i words ++ drop i places) i (get_or words i z) ≡ take (suc i) words ++ drop (suc i) places
 step [] places i z p q = absurd (omega (arith, p))

@@ -48,6 +48,7 @@ waits_low : (n id cell : ℕ) (state : RowState) (has : Bool) (more : List Waiti
 waits_low n id cell (Waits place c) has more low all = (low, all)
 waits_low n id cell (Over event) has more low all = all
 
+-- if each row has an id below n, each tracker that waits has one
 waits_below : (n : ℕ) (rows : List TrackerRow) → AllByRecursion (λ (r : TrackerRow). r.id < n) rows →
     AllByRecursion (λ (t : Waiting). t.id < n) (filter_map waiting_of_row rows)
 waits_below n [] all = tt
@@ -60,6 +61,7 @@ untaken_low : (n id cell : ℕ) (state : RowState) (has : Bool) (more : List ℕ
 untaken_low n id cell state true more low all = (low, all)
 untaken_low n id cell state false more low all = all
 
+-- if each row has an id below n, each reader that is still to be taken has one
 untaken_below : (n : ℕ) (rows : List TrackerRow) → AllByRecursion (λ (r : TrackerRow). r.id < n) rows →
     AllByRecursion (λ (i : ℕ). i < n) (filter_map untaken_of_row rows)
 untaken_below n [] all = tt
@@ -147,6 +149,7 @@ none_at_row collection m n id cell (Waits p c) has f more less rest =
       | false ↦ rest
     ]
 
+-- the rows stand at places before m, so none of their wishes is at m
 none_at : (collection m n : ℕ) (f : Wish → ℕ) (rows : List TrackerRow) → n + length rows ≤ m →
     weigh (weigh_at m f) (wishes_from collection n rows) ≡ 0
 none_at collection m n f [] within = refl

@@ -70,6 +70,7 @@ waits_in slots fired number name InSlot waits = refl
 waits_in slots fired number name Untaken waits = absurd (cc)
 waits_in slots fired number name Taken waits = absurd (cc)
 
+-- a place that names a firing has a row that is over, so one whose row waits names a slot
 pub in_slot_of_waiting : (slots : Slots) (fired : List Fired) (place : Place) → is_waiting (row_at slots fired place) ≡ true → place.stage ≡ InSlot
 in_slot_of_waiting slots fired place waits = waits_in slots fired place.number place.note.cell place.stage waits
 
@@ -117,6 +118,7 @@ met_waits_at : (w : World) (id cell : ℕ) (state : RowState) (has : Bool) → i
 met_waits_at w id cell (Waits place condition) has met = refl
 met_waits_at w id cell (Over event) has met = met
 
+-- a row that fired waits for nothing that can be met, so a row that is met waits
 pub met_waits : (w : World) (row : TrackerRow) → is_met w row ≡ true → is_waiting row ≡ true
 met_waits w row met = met_waits_at w row.id row.cell row.state row.has_reader met
 

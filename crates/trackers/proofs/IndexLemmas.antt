@@ -109,6 +109,7 @@ one_asked place n id cell (Waits p c) has more =
     elim (place == p) as (λ b. length (cons_option (if b then Some (c, n) else None) more) ≤ 1 + length more)
     [ true ↦ omega arith | false ↦ omega arith ]
 
+-- by induction: a row that waits adds at most one wish, and a row that fired adds none
 few_asked : (place n : ℕ) (rows : List TrackerRow) → length (wishes_from place n rows) ≤ count_by is_waiting rows
 few_asked place n [] = omega arith
 few_asked place n (row ∷ rows) =

@@ -83,6 +83,7 @@ weigh_out h place (e ∷ es) =
       | false ↦ omega (arith, weigh_out h place es)
     ]
 
+-- a list without the entries of a place weighs less by what these entries weigh
 pub asking_out : (f : Wish → ℕ) (condition : Condition) (place : ℕ) (old kept new : List (ℕ × ℕ)) →
     kept ≡ filter (λ (e : ℕ × ℕ). not (e.1 == place)) old → IsPermutation kept new →
     weigh f (map (wish_at condition) new) + weigh (weigh_at place f) (map (wish_at condition) old) ≡ weigh f (map (wish_at condition) old)
@@ -106,6 +107,7 @@ entries_filled (q ∷ qs) = elim (is_filled q) as (λ b. is_filled q ≡ b →
 
 -- ---- two lists of lists in a row
 
+-- the wishes of the first lists come before those of the second
 pub entries_append : (xs ys : List WaitList) → entries_in (xs ++ ys) ≡ entries_in xs ++ entries_in ys
 entries_append [] ys = refl
 entries_append (x ∷ xs) ys = ap (λ l. wishes_of x ++ l) (entries_append xs ys) ∙ sym (append_assoc (wishes_of x) (entries_in xs) (entries_in ys))

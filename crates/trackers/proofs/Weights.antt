@@ -76,6 +76,7 @@ none_below n (x ∷ xs) all =
     let nought : one_at n x ≡ 0 = rw other refl in
     omega (arith, nought, none_below n xs all.1)
 
+-- a number below a lower bound of a list is below each number of the list
 all_above : (n x : ℕ) (xs : List ℕ) → n < x → AllByRecursion (λ (y : ℕ). x ≤ y) xs → AllByRecursion (λ (y : ℕ). n < y) xs
 all_above n x [] below all = tt
 all_above n x (y ∷ ys) below all = (omega (arith, below, all.0), all_above n x ys below all.1)
@@ -94,6 +95,7 @@ not_less x y xs ys rise alike less =
     let one = one_here x xs in
     absurd (omega (arith, none, one, alike (one_at x)))
 
+-- neither first number is less than the other, since it would be missing in the other list
 same_first : (x y : ℕ) (xs ys : List ℕ) → AllByRecursion (λ (z : ℕ). x ≤ z) xs → AllByRecursion (λ (z : ℕ). y ≤ z) ys →
     SameElements (x ∷ xs) (y ∷ ys) → x ≡ y
 same_first x y xs ys left right alike =

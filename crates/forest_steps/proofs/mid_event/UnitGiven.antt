@@ -33,9 +33,11 @@ was_there g t now look key is = was_by g _ (sym (look key) ∙ is)
 
 -- ---- the nodes once a unit is allocated
 
+-- the node, once the unit with this head is allocated
 abbrev pub f : NodeKey → Node → Node
 f k = given_all (k ∷ [])
 
+-- the nodes, once the unit with this head is allocated
 abbrev pub served : NodeKey → List Node → List Node
 served k nodes = after_all (k ∷ []) nodes
 

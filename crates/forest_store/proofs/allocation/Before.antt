@@ -52,6 +52,7 @@ pub record IsDueHead (t : Table Node) (nodes : List Node) (k : NodeKey) : Type 0
   pub above_here : above.gone ≡ false
   pub served : above.allocated ≡ true
 
+-- the head of a unit that is to be allocated is the head of a unit without buffers
 abbrev pub due_bare : (t : Table Node) (nodes : List Node) (k : NodeKey) → IsDueHead t nodes k → IsBareHead nodes k
 due_bare t nodes k pending =
     record { head = pending.head; on = pending.on; key = pending.key; own = pending.own; here = pending.here; waits = pending.waits }

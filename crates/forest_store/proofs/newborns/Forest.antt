@@ -51,6 +51,7 @@ SameKeys-front (x ∷ xs) ys zs p = SameKeys-cons x _ _ (SameKeys-front xs ys zs
 abbrev pub keys_before : ℕ → List Shelf → List NodeKey
 keys_before id ss = option_map_or (λ (s : Shelf). s.keys) (find (λ (s : Shelf). s.id == id) ss) []
 
+-- the held buffers of the shelf with the id, or none if there is no such shelf
 abbrev pub held_before : ℕ → List Shelf → List HeldBuffer
 held_before id ss = option_map_or (λ (s : Shelf). s.held) (find (λ (s : Shelf). s.id == id) ss) []
 

@@ -13,6 +13,7 @@ holds_unit nodes head n = not n.gone && ((same_key n.head head && not n.released
 abbrev pub is_held : List Node → Node → Bool
 is_held nodes n = n.gone || (not (is_head n) || list_any (holds_unit nodes n.key) nodes)
 
+-- something holds each unit whose head is not gone
 abbrev pub are_held : List Node → Bool
 are_held nodes = list_all (is_held nodes) nodes
 

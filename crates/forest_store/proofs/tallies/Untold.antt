@@ -81,6 +81,7 @@ untallied_other ns us slot differ =
 pub times_same : (p q : Node → Bool) (ns : List Node) → ((n : Node) → In n ns → p n ≡ q n) → times p ns ≡ times q ns
 times_same p q ns same = times_is p ns ∙ amount_same _ _ ns (λ n on. ap bit (same n on)) ∙ sym (times_is q ns)
 
+-- the node passes the test, and its key is none of these
 abbrev pub but : (Node → Bool) → List NodeKey → Node → Bool
 but test ks n = test n && not (list_any (same_key n.key) ks)
 

@@ -17,10 +17,12 @@ use Rattle.lifetime_core.proofs.machine.Core.TheSendSync.{the_send as core_send}
 use Rattle.sysmem.specs.Ownership.{owns_core}
 use Rattle.sysmem.specs.contracts.place.Place.{the_row, the_type}
 
+-- what a place owns names no key of one thread: it is empty, or a core that can be sent
 keeps_keyless : (alloc : Global) (at : Ptr) (kept : Option State) → Keyless (owns_core alloc at kept)
 keeps_keyless alloc at None = tt
 keeps_keyless alloc at (Some state) = (lies core.the_row core_send at state, heap.frees.frees alloc (raw (lone core.the_row.mir)) at)
 
+-- the fields of a place can be sent, and what it owns names no key of one thread
 pub send : IsSend the_row
 send =
     let all : AllSend (fields the_type) = (search sendable, (handle.the_field_send, tt)) in
