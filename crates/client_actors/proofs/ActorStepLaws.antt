@@ -88,6 +88,7 @@ handles_seen : (E S W : Type 0) (hs : List Grip) → lies {E = E} {S = S} {W = W
 handles_seen E S W [] = refl
 handles_seen E S W (h ∷ hs) = ap (λ l. Some (handle_seen h) ∷ l) (handles_seen E S W hs)
 
+-- the new slots contain exactly the objects that the call brought, in their order
 brought_seen : {E S W : Type 0} (brought : NewObjects E S W) → lies (slots_for brought) ≡ map Some (objects_in brought)
 brought_seen NewObjects.Nothing = refl
 brought_seen (NewObjects.One end) = refl
@@ -109,6 +110,7 @@ full_owned client (h ∷ hs) all =
     All-cons (SlotHeldBy client) (filled_by h) (map filled_by hs) (All-head (λ (x : Grip). x.client ≡ client) h hs all)
     (full_owned client hs (All-tail (λ (x : Grip). x.client ≡ client) h hs all))
 
+-- all slots stay the client's once they contain what the call brought, which the client holds
 pub stored_owned : {E S W : Type 0} (client : ℕ) (slots : List (Option (End E S W))) (brought : NewObjects E S W) → All (SlotHeldBy client) slots →
     NewHeldBy client brought → All (SlotHeldBy client) (slots ++ slots_for brought)
 stored_owned client slots NewObjects.Nothing all of = All-append (SlotHeldBy client) slots [] all (All-nil (SlotHeldBy client))
@@ -133,6 +135,7 @@ answers old new asked before mid after brought asks stored = record {
 
 -- ---- how many objects a call gives
 
+-- a set gives at most one handle for each index that is counted
 handles_few : (collection : ℕ) (strength : Strength) (held index count : ℕ) →
     length (handles_from collection strength held index count) ≤ count
 unfolding handles_from
@@ -145,12 +148,14 @@ handles_few collection strength held index (suc count) =
     either more true is = rw is (omega (arith, more))
     either more false is = rw is (omega (arith, more))
 
+-- a Bind of a token gives one collection, and a Bind of anything else would give nothing
 bound_few : (on : Option Object) → length (bound on) ≤ MAX_BUFFERS
 bound_few (Some (Object.Token key collection)) = omega arith
 bound_few (Some (Object.Collection key collection)) = omega arith
 bound_few (Some (Object.Handle buffer strength)) = omega arith
 bound_few None = omega arith
 
+-- a call gives MAX_BUFFERS objects at most, since only a Take gives more than one
 few : (on : Option Object) (call : Call) (reply : Reply) → length (new_objects on call reply) ≤ MAX_BUFFERS
 few on (Call.Take key) (Reply.Taken collection strength held) = handles_few collection strength held 0 MAX_BUFFERS
 few on (Call.Take key) _ = omega arith
@@ -182,6 +187,7 @@ at_end : (own : List Own) (o : Own) → slice_get (own ++ o ∷ []) (length own)
 at_end [] o = refl
 at_end (x ∷ xs) o = at_end xs o
 
+-- the reply to the event that was made is the last one, since that event is last in the list
 pub last_is : (old new : Seen) (call : Call) (reply : Reply) → Made old new call reply → last_reply new.own ≡ Some reply
 last_is old new call reply made =
     let o : Own = record { event = made.told.event; call = call; reply = reply } in
@@ -190,6 +196,7 @@ last_is old new call reply made =
     ∙ (ap (λ n. option_map (λ (e : Own). e.reply) (slice_get (old.own ++ o ∷ []) n)) place
     ∙ ap (option_map (λ (e : Own). e.reply)) (at_end old.own o))
 
+-- an event adds its call and its reply behind those of the earlier events
 pub pairs_more : (old new : Seen) (call : Call) (reply : Reply) → Made old new call reply →
     pairs_of new.own ≡ pairs_of old.own ++ (call, reply) ∷ []
 pairs_more old new call reply made = ap pairs_of made.told.next

@@ -85,6 +85,7 @@ found_other history parts rest others p event found now so on differs is = recor
         (mine (All-weaker (λ q. id_of q < at.0 → Matches history q) (λ q. id_of q < id_of p → Matches history q) (λ q was below.
         was (omega (arith, below, less.0))) so.seen m.before))
 
+-- the mismatch that was found is the first of all parts once no part is left to compare
 pub found_first : {E S W : Type 0} (history : List Entry) (parts rest : List (Holding E S W)) (at : ℕ × ℕ) → length rest ≡ 0 →
     FoundSoFar history parts rest (Some at) → IsFirstMismatch history parts at.1
 found_first history parts [] at none so =

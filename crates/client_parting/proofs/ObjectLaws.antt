@@ -25,6 +25,7 @@ sorted-append xs ys = λ i. record {
   handles = flat-append handles_among xs ys i;
 }
 
+-- each of the three lists stays as it is where no object is added
 pub both_none : (a : Holds) → both a (sorted []) ≡ a
 both_none a = λ i. record {
   tokens = append-nil a.tokens i;
@@ -37,10 +38,12 @@ pub flat_tokens : (ts : List Tag) → flat_map tokens_among (map Token ts) ≡ t
 flat_tokens [] = refl
 flat_tokens (t ∷ ts) = ap (λ l. t ∷ l) (flat_tokens ts)
 
+-- the collections among some collections are all of them, in their order
 pub flat_collections : (ts : List Tag) → flat_map collections_among (map Collection ts) ≡ ts
 flat_collections [] = refl
 flat_collections (t ∷ ts) = ap (λ l. t ∷ l) (flat_collections ts)
 
+-- the handles among some handles are all of them, in their order
 pub flat_handles : (hs : List Grip) → flat_map handles_among (map Handle hs) ≡ hs
 flat_handles [] = refl
 flat_handles (h ∷ hs) = ap (λ l. h ∷ l) (flat_handles hs)
@@ -50,22 +53,27 @@ pub no_token_c : (ts : List Tag) → flat_map tokens_among (map Collection ts) �
 no_token_c [] = refl
 no_token_c (t ∷ ts) = no_token_c ts
 
+-- a list of handles contains no token
 pub no_token_h : (hs : List Grip) → flat_map tokens_among (map Handle hs) ≡ []
 no_token_h [] = refl
 no_token_h (h ∷ hs) = no_token_h hs
 
+-- a list of tokens contains no collection
 pub no_collection_t : (ts : List Tag) → flat_map collections_among (map Token ts) ≡ []
 no_collection_t [] = refl
 no_collection_t (t ∷ ts) = no_collection_t ts
 
+-- a list of handles contains no collection
 pub no_collection_h : (hs : List Grip) → flat_map collections_among (map Handle hs) ≡ []
 no_collection_h [] = refl
 no_collection_h (h ∷ hs) = no_collection_h hs
 
+-- a list of tokens contains no handle
 pub no_handle_t : (ts : List Tag) → flat_map handles_among (map Token ts) ≡ []
 no_handle_t [] = refl
 no_handle_t (t ∷ ts) = no_handle_t ts
 
+-- a list of collections contains no handle
 pub no_handle_c : (ts : List Tag) → flat_map handles_among (map Collection ts) ≡ []
 no_handle_c [] = refl
 no_handle_c (t ∷ ts) = no_handle_c ts

@@ -18,6 +18,7 @@ use Rattle.client_parting.proofs.ObjectLaws.{both_none, flat-append, flat_collec
 
 -- ---- collecting
 
+-- the last of some equal calls can stand behind the others as well as in front of them
 replicate_push : (n : ℕ) (c : Call) → replicate (n + 1) c ≡ replicate n c ++ c ∷ []
 replicate_push n c = sym (replicate-append-replicate n 1 c)
 
@@ -149,6 +150,7 @@ sorted_held held = λ i. record {
 abbrev pub stacked : List HeldObject → List HeldObject → Holds → List HeldObject
 stacked ends handles held = ends ++ (map Token held.tokens ++ (map Collection held.collections ++ (handles ++ map Handle held.handles)))
 
+-- the stack lists all that there is to part with: what the replies brought and what was held
 pub told_all : (old mid : Seen) → mid.id ≡ old.id → (told : List Reply) (ends handles : List HeldObject) (held : Holds) →
     ends ≡ flat_map (end_told mid.id) told → handles ≡ flat_map (handle_told mid.id) told →
     all_objects old.id told held ≡ stacked ends handles held
@@ -156,6 +158,7 @@ told_all old mid same told ends handles held ends_are handles_are =
     sym (ap (λ e. stacked e handles held) (ends_are ∙ ap (λ n. flat_map (end_told n) told) same)
     ∙ ap (λ h. stacked (flat_map (end_told old.id) told) h held) (handles_are ∙ ap (λ n. flat_map (handle_told n) told) same))
 
+-- either the first condition holds, or leave is given and the second condition follows from it
 pub in_turn : (may : Bool) (P Q : Type 0) → P ⊎ (may ≡ true) → (may ≡ true → Q) → P ⊎ Q
 in_turn may P Q (inl p) whole = inl p
 in_turn may P Q (inr so) whole = inr (whole so)
@@ -229,6 +232,7 @@ handle_owner client (Reply.CollectedHandle buffer strength) =
     owner_of t ≡ client))
 handle_owner client _ = All-nil (λ t. owner_of t ≡ client)
 
+-- the client owns all that the replies tell of where it owns what each of them tells of
 flat_owner : (client : ℕ) (f : Reply → List HeldObject) → ((r : Reply) → All (λ t. owner_of t ≡ client) (f r)) → (told : List Reply) →
     All (λ t. owner_of t ≡ client) (flat_map f told)
 flat_owner client f each [] = All-nil (λ t. owner_of t ≡ client)
@@ -255,24 +259,29 @@ end_no_handle n (Reply.Collected key Kind.Token collection) = refl
 end_no_handle n (Reply.Collected key Kind.Collection collection) = refl
 end_no_handle n _ = refl
 
+-- a handle that a reply tells of is no token
 handle_no_token : (n : ℕ) (r : Reply) → flat_map tokens_among (handle_told n r) ≡ []
 handle_no_token n (Reply.CollectedHandle buffer strength) = refl
 handle_no_token n _ = refl
 
+-- a handle that a reply tells of is no collection
 handle_no_collection : (n : ℕ) (r : Reply) → flat_map collections_among (handle_told n r) ≡ []
 handle_no_collection n (Reply.CollectedHandle buffer strength) = refl
 handle_no_collection n _ = refl
 
+-- a reply tells of one end at most, so of one token at most
 end_one_token : (n : ℕ) (r : Reply) → length (flat_map tokens_among (end_told n r)) ≤ 1
 end_one_token n (Reply.Collected key Kind.Token collection) = omega arith
 end_one_token n (Reply.Collected key Kind.Collection collection) = omega arith
 end_one_token n _ = omega arith
 
+-- a reply tells of one end at most, so of one collection at most
 end_one_collection : (n : ℕ) (r : Reply) → length (flat_map collections_among (end_told n r)) ≤ 1
 end_one_collection n (Reply.Collected key Kind.Token collection) = omega arith
 end_one_collection n (Reply.Collected key Kind.Collection collection) = omega arith
 end_one_collection n _ = omega arith
 
+-- a reply tells of one handle at most
 handle_one_handle : (n : ℕ) (r : Reply) → length (flat_map handles_among (handle_told n r)) ≤ 1
 handle_one_handle n (Reply.CollectedHandle buffer strength) = omega arith
 handle_one_handle n _ = omega arith
@@ -290,6 +299,7 @@ no_more f g each (r ∷ rs) =
       no_more f g each rs,
     )
 
+-- replies bring no object of a kind where each of them brings none
 none_of : {A : Type 0} (f : HeldObject → List A) (g : Reply → List HeldObject) → ((r : Reply) → flat_map f (g r) ≡ []) → (told : List Reply) →
     flat_map f (flat_map g told) ≡ []
 none_of f g each [] = refl

@@ -13,6 +13,7 @@ not_end : (ns : List Node) (c : Node) → is_end (ns ++ c ∷ []) ≡ false
 not_end [] c = refl
 not_end (n ∷ ns) c = refl
 
+-- a conjunction is false where its second part is, whatever the first part is
 never : (b : Bool) → (b && false) ≡ false
 never true = refl
 never false = refl
@@ -66,6 +67,7 @@ lines_none : (n : ℕ) (nodes : List Node) → lines_from n nodes [] ≡ []
 lines_none zero nodes = refl
 lines_none (suc n) nodes = refl
 
+-- the lines so far are all lines where no node waits
 pub none_waits : (n : ℕ) (nodes : List Node) (lines : List Line) (ts : List Twig) → ts ≡ [] → lines ++ lines_from n nodes (reverse ts) ≡ lines
 none_waits n nodes lines ts none =
     ap (λ (l : List Twig). lines ++ lines_from n nodes (reverse l)) none

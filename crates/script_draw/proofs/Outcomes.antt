@@ -36,6 +36,7 @@ abbrev pub IsWritten : Format → Scroll → Option (List ℕ) → Option (List 
 IsWritten format scroll old new = (setting : Setting) (until : Option ℕ) (lines : List (List ℕ))
     (far : Reached setting until scroll lines) → IsPictured format setting far.scene scroll.line.items old new
 
+-- the fault says why no whole picture of the lines that were played was written
 abbrev pub IsRefused : Format → Scroll → Option (List ℕ) → Option (List ℕ) → ReportFault → Type 0
 IsRefused format scroll old new fault = (setting : Setting) (until : Option ℕ) (lines : List (List ℕ))
     (far : Reached setting until scroll lines) → IsUnwritten format setting far.scene scroll.line.items old new fault

@@ -153,9 +153,11 @@ module _ (setting : Setting) (until : Option ℕ) (scroll : Scroll) (lines : Lis
             (length-append far.scene.history ((client, call, told.0) ∷ [])) before;
       }
 
+-- a bad line and a refusal of memory are different reasons to stop
 bad-memory : Stop.BadLine ≡ Stop.NoMemory → ⊥
 bad-memory e = cc
 
+-- a full history and a refusal of memory are different reasons to stop
 full-memory : Stop.HistoryFull ≡ Stop.NoMemory → ⊥
 full-memory e = cc
 

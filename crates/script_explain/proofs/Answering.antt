@@ -11,6 +11,7 @@ pub record AreSame (xs ys : List ℕ) (a b : ℕ) : Type 0 where
   pub fronts : xs ≡ ys
   pub lasts : a ≡ b
 
+-- lists that are equal with one element behind each have equal fronts and equal last elements
 pub last-same : (xs ys : List ℕ) (a b : ℕ) → xs ++ a ∷ [] ≡ ys ++ b ∷ [] → AreSame xs ys a b
 last-same [] [] a b e = record { fronts = refl; lasts = cc }
 last-same [] (y ∷ ys) a b e = let behind : [] ≡ ys ++ b ∷ [] = cc in absurd (nil-last ys b behind)

@@ -37,24 +37,29 @@ IsClean label = is_inner (text_of_label label) ≡ true
 name-inner : (byte : ℕ) → (is_letter byte || is_digit byte) ≡ true → not (byte == 10) ≡ true
 name-inner byte test = grind (arith, nat_tests)
 
+-- the first part of a conjunction is true where the conjunction is
 pub and-left : (a b : Bool) → (a && b) ≡ true → a ≡ true
 and-left true b e = refl
 and-left false b e = e
 
+-- the second part of a conjunction is true where the conjunction is
 pub and-right : (a b : Bool) → (a && b) ≡ true → b ≡ true
 and-right true b e = e
 and-right false b e = absurd (cc)
 
+-- a disjunction is true where its first part is
 or-left : (a b : Bool) → a ≡ true → (a || b) ≡ true
 or-left true b e = refl
 or-left false b e = absurd (cc)
 
+-- a word of letters and digits has no end of a line, by induction on its bytes
 names-inner : (bytes : List ℕ) → list_all (λ byte. is_letter byte || is_digit byte) bytes ≡ true → is_inner bytes ≡ true
 names-inner [] e = refl
 names-inner (byte ∷ more) e =
     rw (name-inner byte (and-left (is_letter byte || is_digit byte) (list_all (λ b. is_letter b || is_digit b) more) e))
     (names-inner more (and-right (is_letter byte || is_digit byte) (list_all (λ b. is_letter b || is_digit b) more) e))
 
+-- a label has no end of a line: it consists of a letter, then letters and digits
 label-inner : (word : List ℕ) → is_label word ≡ true → is_inner word ≡ true
 label-inner [] e = refl
 label-inner (first ∷ others) e =
@@ -119,6 +124,7 @@ read-clean {A = A} P read each (word ∷ rest) =
 abbrev pub IsCleanBinds : Option Label → Type 0
 IsCleanBinds binds = IfSome binds IsClean
 
+-- a label that is read to be bound has no end of a line, since a word spells it
 binds-clean : (product : Product) (words : List (List ℕ)) →
     IfSome (binds_read product words) (λ (b : Option Label × List (List ℕ)). IsCleanBinds b.0)
 binds-clean product words =
@@ -131,6 +137,7 @@ binds-clean product words =
 abbrev pub IsCleanRequest : Request Label BufferLabel → Type 0
 IsCleanRequest r = IsCleanBinds r.binds
 
+-- a request that is read has a clean label, if any: `binds_read` reads it behind the other parts
 request-clean : (kind : CallKind) (words : List (List ℕ)) → IfSome (request_of kind words) IsCleanRequest
 request-clean kind words =
     some-then IsCleanRequest _ (object_read (row_of kind).on words) (λ o.
@@ -140,6 +147,7 @@ request-clean kind words =
     (binds_read (row_of kind).brings a.1) (binds-clean (row_of kind).brings a.1)
     (λ b clean. some-end IsCleanRequest b.1 (Some (record { kind = kind; object = o.0; argument = a.0; binds = b.0 })) clean)))
 
+-- a line that asks for a call is clean, since it binds only the label of its request
 ask-clean : (client : Label) (word : List ℕ) (rest : List (List ℕ)) → IfSome (ask_of client word rest) IsCleanLine
 ask-clean client word rest =
     some-map-of IsCleanLine IsCleanRequest (λ request. Line.Ask client request)
@@ -147,25 +155,30 @@ ask-clean client word rest =
     (some-then IsCleanRequest (λ kind. request_of kind rest) (kind_named word) (λ kind. request-clean kind rest))
     (λ request clean. clean)
 
+-- a line that polls a tracker is clean, since it binds no label
 poll-clean : (client : Label) (rest : List (List ℕ)) → IfSome (poll_of client rest) IsCleanLine
 poll-clean client [] = tt
 poll-clean client (word ∷ rest) =
     some-end IsCleanLine rest _ (some-map IsCleanLine (λ tracker. Line.Poll client tracker) (label_of word) (λ tracker. tt))
 
+-- a client's join binds the client's own clean label; its polls and its other calls are clean too
 call-clean : (client : Label) (word : List ℕ) (rest : List (List ℕ)) → IsClean client → IfSome (call_of client word rest) IsCleanLine
 call-clean client word rest clean =
     some-if IsCleanLine (bytes_eq word (codes "join")) _ _ (some-end IsCleanLine rest (Some (Line.Join client)) clean)
     (some-if IsCleanLine (bytes_eq word (codes "poll")) _ _ (poll-clean client rest) (ask-clean client word rest))
 
+-- a line is clean whatever stands behind the label of its client, if that label is clean
 asked-clean : (client : Label) (rest : List (List ℕ)) → IsClean client → IfSome (asked_of client rest) IsCleanLine
 asked-clean client [] clean = tt
 asked-clean client (word ∷ rest) clean = call-clean client word rest clean
 
+-- a line that shows a view is clean, since it binds no label
 show-clean : (rest : List (List ℕ)) → IfSome (show_of rest) IsCleanLine
 show-clean [] = tt
 show-clean (what ∷ rest) =
     some-end IsCleanLine rest _ (some-map IsCleanLine (λ view. Line.Show view) (view_of what) (λ view. tt))
 
+-- words spell a clean line, whether the first of them is `show` or the label of a client
 said-clean : (words : List (List ℕ)) → IfSome (said_of words) IsCleanLine
 said-clean [] = tt
 said-clean (first ∷ rest) =

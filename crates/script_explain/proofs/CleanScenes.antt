@@ -46,16 +46,20 @@ use Rattle.script_explain.proofs.CleanLabels.{IsClean, IsCleanBinds, IsCleanLine
 
 -- ---- numbers
 
+-- a byte from 48 on, as the glyphs of the digits 0 to 9 are, ends no line
 glyph-low : (d : ℕ) → not (48 + d == 10) ≡ true
 glyph-low d = grind (arith, nat_tests)
 
+-- a byte from 87 on, as the glyphs of the digits from 10 on are, ends no line
 glyph-high : (d : ℕ) → not (87 + d == 10) ≡ true
 glyph-high d = grind (arith, nat_tests)
 
+-- the glyph of a digit ends no line, whichever of the two ranges contains it
 glyph-inner : (d : ℕ) → not (digit_glyph false d == 10) ≡ true
 glyph-inner d = elim (nat_lt d 10) as (λ t. not ((if t then 48 + d else 87 + d) == 10) ≡ true)
     [ true ↦ glyph-low d | false ↦ glyph-high d ]
 
+-- the digits of a number add no end of a line to the text that they precede
 digits-inner : (k n : ℕ) (behind : List ℕ) → is_inner behind ≡ true → is_inner (digits_onto k 10 false n behind) ≡ true
 digits-inner zero n behind inner = inner
 digits-inner (suc k) n behind inner =
@@ -66,13 +70,16 @@ digits-inner (suc k) n behind inner =
       | false ↦ digits-inner k (n / 10) (digit_glyph false (n % 10) ∷ behind) here
     ]
 
+-- a decimal number contains no end of a line: it consists of digits alone
 decimal-inner : (n : ℕ) → is_inner (decimal n) ≡ true
 unfolding digits
 decimal-inner n = digits-inner 64 n [] refl
 
+-- a number and a space in front of a name add no end of a line to it
 numbered-inner : (n : ℕ) (name : List ℕ) → is_inner name ≡ true → is_inner (numbered n name) ≡ true
 numbered-inner n name inner = inner-append (decimal n) (32 ∷ name) (decimal-inner n) inner
 
+-- texts that have no end of a line have none when they stand one behind another
 flat-inner : {A : Type 0} (f : A → List ℕ) (xs : List A) → ((x : A) → is_inner (f x) ≡ true) → is_inner (flat_map f xs) ≡ true
 flat-inner f [] inner = refl
 flat-inner f (x ∷ xs) inner = inner-append (f x) (flat_map f xs) (inner x) (flat-inner f xs inner)
@@ -103,14 +110,17 @@ first-clean test (g ∷ older) key label clean =
     or-clean (first_label test (map (λ h. (key h, label h)) older)) (if test (key g) then Some (label g) else None) rest
     (elim (test (key g)) as (λ t. is_inner (label_text (if t then Some (label g) else None)) ≡ true) [ true ↦ here | false ↦ refl ])
 
+-- the label of a node has no end of a line: the names contain it, or there is none
 node-inner : (names : Names) → AreClean names → (node : NodeKey) → is_inner (label_text (label_of_node names node)) ≡ true
 node-inner names clean node =
     first-clean (λ other. same_key other node) names.nodes (λ (n : Label × Place). n.1.0) (λ (n : Label × Place). n.0) clean.nodes
 
+-- the label of a collection's root has no end of a line: the names contain it, or there is none
 root-inner : (names : Names) → AreClean names → (collection : ℕ) → is_inner (label_text (label_of_root names collection)) ≡ true
 root-inner names clean collection =
     first-clean (λ other. other == collection) names.nodes (λ (n : Label × Place). n.1.1) (λ (n : Label × Place). n.0) clean.nodes
 
+-- the label of a tracker has no end of a line: the names contain it, or there is none
 tracker-inner : (names : Names) → AreClean names → (tracker : ℕ) → is_inner (label_text (label_of_tracker names tracker)) ≡ true
 tracker-inner names clean tracker =
     first-clean (λ other. other == tracker) names.trackers (λ (t : Label × ℕ). t.1) (λ (t : Label × ℕ). t.0) clean.trackers
@@ -120,6 +130,7 @@ abbrev pub IsCleanAct : Act → Type 0
 IsCleanAct (Act.Ask client call binds) = is_inner (bound_text binds) ≡ true
 IsCleanAct _ = Unit {0}
 
+-- names stay clean after a reply: they gain at most the label that the line binds
 names-clean : (names : Names) → AreClean names → (binds : Binds) → is_inner (bound_text binds) ≡ true → (reply : Reply) →
     AreClean (names_after names binds reply)
 names-clean names clean Binds.Nothing inner reply = clean
@@ -136,9 +147,11 @@ names-clean names clean (Binds.Tracker label) inner reply = clean
 
 -- ---- acts
 
+-- the act for a new node is clean: it is the given act, unless its label stands for a node already
 new-clean : (names : Names) (label : Label) (act : Act) → IsCleanAct act → IfSome (for_new names label act) IsCleanAct
 new-clean names label act clean = some-if IsCleanAct _ None (Some act) tt clean
 
+-- the act for a tracker is clean: it is the given act, unless its label stands for one already
 track-clean : (names : Names) (label : Label) (act : Act) → IsCleanAct act → IfSome (for_tracker names label act) IsCleanAct
 track-clean names label act clean = some-if IsCleanAct _ None (Some act) tt clean
 
@@ -150,12 +163,14 @@ binding-clean names product client call (Some label) clean =
     some-if IsCleanAct (is_tracker product) _ _ (track-clean names label (Act.Ask client call (Binds.Tracker label)) clean)
     (new-clean names label (Act.Ask client call (Binds.Node label)) clean)
 
+-- the act of a request is clean: it binds the label of the request or none
 ask-clean : (names : Names) (client : ℕ) (r : Request Label BufferLabel) → IsCleanBinds r.binds →
     IfSome (ask_by names client r) IsCleanAct
 ask-clean names client r clean =
     some-then IsCleanAct (λ call. act_binding names (row_of r.kind).brings client call r.binds) (call_named names r)
     (λ call. binding-clean names (row_of r.kind).brings client call r.binds clean)
 
+-- the act of a clean line is clean: it binds the label of the line or none
 act-clean : (names : Names) (line : Line) → IsCleanLine line → IfSome (act_of names line) IsCleanAct
 act-clean names Line.Nothing clean = tt
 act-clean names (Line.Join client) clean = some-if IsCleanAct _ None (Some (Act.Ask 0 Call.Join (Binds.Client client))) tt clean
@@ -177,27 +192,32 @@ pub record IsPlain (text : List ℕ) : Type 0 where
   pub inner : is_inner text ≡ true
   pub whole : is_indented text ≡ false
 
+-- the text of a buffer has no end of a line: it is a root's label, a dot and a number
 buffer-inner : (names : Names) → AreClean names → (buffer : BufferName) → is_inner (buffer_text names buffer) ≡ true
 buffer-inner names clean buffer =
     inner-append (label_text (label_of_root names buffer.collection)) (46 ∷ decimal buffer.index)
     (root-inner names clean buffer.collection) (decimal-inner buffer.index)
 
+-- a buffer outside of the set has the empty text, and one in the set has its own
 member-inner : (names : Names) → AreClean names → (set : ℕ) (buffer : BufferName) → is_inner (member_text names set buffer) ≡ true
 member-inner names clean set buffer =
     elim (bit_at set buffer.index == 1) as (λ t. is_inner (if t then buffer_text names buffer else []) ≡ true)
     [ true ↦ buffer-inner names clean buffer | false ↦ refl ]
 
+-- the text of a held buffer has no end of a line: it is the buffer's text and two numbers
 held-inner : (names : Names) → AreClean names → (held : HeldBuffer) → is_inner (held_text names held) ≡ true
 held-inner names clean held =
     inner-append (buffer_text names held.buffer) (32 ∷ numbered held.pages.start (decimal held.pages.pages))
     (buffer-inner names clean held.buffer)
     (numbered-inner held.pages.start (decimal held.pages.pages) (decimal-inner held.pages.pages))
 
+-- the text of a firing has no end of a line: it is a tracker's label and the number of an event
 fired-inner : (names : Names) → AreClean names → (firing : Fired) → is_inner (fired_text names firing) ≡ true
 fired-inner names clean firing =
     inner-append (label_text (label_of_tracker names firing.tracker)) (32 ∷ decimal firing.event)
     (tracker-inner names clean firing.tracker) (decimal-inner firing.event)
 
+-- the name of each misuse is a constant without an end of a line
 misuse-inner : (misuse : Misuse) → is_inner (misuse_name misuse) ≡ true
 misuse-inner Misuse.SecondConstraints = refl
 misuse-inner Misuse.LateWeak = refl
@@ -205,6 +225,7 @@ misuse-inner Misuse.LateWeakOk = refl
 misuse-inner Misuse.WeakNotOk = refl
 misuse-inner Misuse.TooManyNodeTrackers = refl
 
+-- the name of each refusal is a constant without an end of a line
 refusal-inner : (refusal : Refusal) → is_inner (refusal_name refusal) ≡ true
 refusal-inner Refusal.NoSuchClient = refl
 refusal-inner Refusal.ClientShut = refl
@@ -217,6 +238,7 @@ refusal-inner Refusal.TrackersFull = refl
 refusal-inner Refusal.NoSuchHandle = refl
 refusal-inner Refusal.TooManyHandles = refl
 
+-- the name of each failure is a constant without an end of a line
 failure-inner : (failure : Failure) → is_inner (failure_name failure) ≡ true
 failure-inner Failure.NoStrong = refl
 failure-inner Failure.NoBuffers = refl
@@ -225,16 +247,19 @@ failure-inner Failure.PoolFull = refl
 failure-inner Failure.TooFew = refl
 failure-inner Failure.TooSmall = refl
 
+-- the text of a cause is constant, but for the name of a misuse or of a failure
 cause-inner : (cause : Cause) → is_inner (cause_text cause) ≡ true
 cause-inner Cause.Lost = refl
 cause-inner (Cause.Misused misuse) = misuse-inner misuse
 cause-inner (Cause.Failed failure) = failure-inner failure
 cause-inner Cause.NoStrong = refl
 
+-- the name of each strength is a constant without an end of a line
 strength-inner : (strength : Strength) → is_inner (strength_name strength) ≡ true
 strength-inner Strength.Strong = refl
 strength-inner Strength.Weak = refl
 
+-- the text of a reply is plain: it begins with a word, and no part of it ends a line
 reply-plain : (names : Names) → AreClean names → (binds : Binds) → is_inner (bound_text binds) ≡ true → (reply : Reply) →
     IsPlain (reply_text names binds reply)
 reply-plain names clean binds inner Reply.Done = record { inner = refl; whole = refl }
@@ -266,6 +291,7 @@ reply-plain names clean binds inner (Reply.PeerClosed cause origin) = record {
   whole = refl;
 }
 
+-- the text of a view is plain: it begins with the view's name, and no part of it ends a line
 view-plain : (pool : ℕ) (marks : Timeline) (names : Names) → AreClean names → (view : View) → IsPlain (view_text pool marks names view)
 view-plain pool marks names clean View.Live =
     record { inner = flat-inner (node_text names) (live_nodes marks) (node-inner names clean); whole = refl }
@@ -275,6 +301,7 @@ view-plain pool marks names clean View.Fired =
     record { inner = flat-inner (fired_text names) (fired marks) (fired-inner names clean); whole = refl }
 view-plain pool marks names clean View.Free = record { inner = decimal-inner (free_pages pool marks); whole = refl }
 
+-- the text of a poll is plain: it is `quiet`, or `fired` and the number of an event
 poll-plain : (marks : Timeline) (tracker : ℕ) (text : List ℕ) → IsPolled marks tracker text → IsPlain text
 poll-plain marks tracker text (inl quiet) = subst IsPlain (sym quiet) (record { inner = refl; whole = refl })
 poll-plain marks tracker text (inr told) =
@@ -292,6 +319,7 @@ pub record Cleanly (text : List ℕ) (next : Scene) : Type 0 where
   pub reply : IsReply text
   pub clean : AreClean next.names
 
+-- an act gives nothing or one plain line, and the names that follow it are clean
 gives-clean : (pool : ℕ) (scene : Scene) → AreClean scene.names → (act : Act) → IsCleanAct act → (text : List ℕ) (next : Scene) →
     ActGives pool scene act text next → Cleanly text next
 gives-clean pool scene clean Act.Nothing inner text next gives = record {

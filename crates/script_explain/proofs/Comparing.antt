@@ -50,6 +50,7 @@ record AreFew (lines : List (List ℕ)) (at : TranscriptPlace) : Type 0 where
   lines_few : at.lines ≤ length lines
   replies_few : at.replies ≤ length lines
 
+-- a line raises each of the two counts by one at most, by induction on the lines
 agrees-few : (pool : ℕ) (lines : List (List ℕ)) (at : TranscriptPlace) → Agrees pool lines at → AreFew lines at
 agrees-few pool lines at Begins = record { lines_few = omega arith; replies_few = omega arith }
 agrees-few pool lines at (Remarks before line there so_far remark) =

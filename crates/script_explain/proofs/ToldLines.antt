@@ -20,13 +20,16 @@ record IsWhole (text : List ℕ) (lines : List (List ℕ)) : Type 0 where
   pub lines_are : whole_lines text ≡ lines
   pub ends : last_part text ≡ []
 
+-- the empty text consists of no lines
 whole-nil : IsWhole [] []
 whole-nil = record { lines_are = refl; ends = refl }
 
+-- a test is false where its negation is true
 not-false : (t : Bool) → not t ≡ true → t ≡ false
 not-false true e = absurd (cc)
 not-false false e = refl
 
+-- the first end of a line behind a text ends one line: the front and the text
 first-line : (front text rest : List ℕ) → is_inner text ≡ true →
     lines_from front (text ++ 10 ∷ rest) ≡ (front ++ text) ∷ lines_from [] rest
 first-line front [] rest inner = ap (λ line. line ∷ lines_from [] rest) (sym (append-nil front))
@@ -35,6 +38,7 @@ first-line front (x ∷ text) rest inner =
     rw other (first-line (front ++ x ∷ []) text rest (and-right (not (x == 10)) (is_inner text) inner)
     ∙ ap (λ line. line ∷ lines_from [] rest) (append_assoc front (x ∷ []) text))
 
+-- a line in front does not change what stands behind the last end of a line
 first-rest : (front text rest : List ℕ) → is_inner text ≡ true → rest_from front (text ++ 10 ∷ rest) ≡ rest_from [] rest
 first-rest front [] rest inner = refl
 first-rest front (x ∷ text) rest inner =
@@ -73,6 +77,7 @@ lines-inner front (x ∷ text) inner = by (λ other ok. lines-inner other text o
 abbrev shown : List ℕ → List ℕ
 shown line = codes "    " ++ line
 
+-- the facts are whole lines, each behind four spaces, since no fact contains an end of a line
 whole-facts : (lines : List (List ℕ)) → list_all is_inner lines ≡ true → IsWhole (flat_map fact_line lines) (map shown lines)
 whole-facts [] inner = whole-nil
 whole-facts (line ∷ lines) inner =
@@ -98,6 +103,7 @@ record IsToldIn (line reply facts : List ℕ) (text : List ℕ) : Type 0 where
   pub behind : Behind reply replies
   pub whole : IsWhole text (line ∷ (replies ++ map shown (whole_lines facts)))
 
+-- a told line consists of the line itself, of its reply behind two spaces, if any, and of its facts
 whole-told : (line reply facts : List ℕ) → is_inner line ≡ true → IsReply reply → IsToldIn line reply facts (told_line line reply facts)
 whole-told line reply facts inner NoReply = record {
   replies = [];
@@ -132,10 +138,12 @@ facts-silent : (lines : List (List ℕ)) → replies_in (map shown lines) ≡ []
 facts-silent [] = refl
 facts-silent (line ∷ lines) = facts-silent lines
 
+-- a reply is no line of the script, since two spaces precede it
 behind-indented : (reply : List ℕ) (lines : List (List ℕ)) → Behind reply lines → unindented lines ≡ []
 behind-indented reply lines NothingBehind = refl
 behind-indented reply lines (ReplyBehind text whole) = refl
 
+-- the reply is what remains of its line without the two spaces
 behind-replies : (reply : List ℕ) (lines : List (List ℕ)) → Behind reply lines → replies_in lines ≡ reply
 behind-replies reply lines NothingBehind = refl
 behind-replies reply lines (ReplyBehind text whole) = rw whole (append-nil (as_line text))
@@ -148,10 +156,12 @@ record Has (lines : List (List ℕ)) (text replies : List ℕ) (scene : Scene) :
   pub answers : replies_in all ≡ replies
   pub clean : AreClean scene.names
 
+-- the replies among lines of two lists are those of the first, then those of the second
 replies-append : (a b : List (List ℕ)) → replies_in (a ++ b) ≡ replies_in a ++ replies_in b
 replies-append a b =
     flat_map-append (λ line. if is_indented line && not (is_indented (drop 2 line)) then as_line (drop 2 line) else []) a b
 
+-- each line that is not indented adds itself, its reply and its facts, by induction on the lines
 told-has : (pool : ℕ) (lines : List (List ℕ)) (text replies : List ℕ) (scene : Scene) → ExplainsLines pool first_scene lines text replies scene →
     list_all is_inner lines ≡ true → Has lines text replies scene
 told-has pool lines text replies scene Begins inner =
@@ -205,12 +215,14 @@ script-told pool script text replies scene tells =
     let has = told-has pool (whole_lines script) text replies scene tells (lines-inner [] script refl) in
     ap unindented has.whole.lines_are ∙ has.script
 
+-- the lines of an explanation that begin with two spaces, but not with four, are the replies
 pub replies-told : (pool : ℕ) (script text replies : List ℕ) (scene : Scene) →
     ExplainsLines pool first_scene (whole_lines script) text replies scene → replies_in (whole_lines text) ≡ replies
 replies-told pool script text replies scene tells =
     let has = told-has pool (whole_lines script) text replies scene tells (lines-inner [] script refl) in
     ap replies_in has.whole.lines_are ∙ has.answers
 
+-- the text of an explanation consists of whole lines: nothing stands behind the last of them
 pub text-whole : (pool : ℕ) (script text replies : List ℕ) (scene : Scene) →
     ExplainsLines pool first_scene (whole_lines script) text replies scene → last_part text ≡ []
 text-whole pool script text replies scene tells =

@@ -9,6 +9,7 @@ use Rattle.script_lines.proofs.Splits.{found_is, none_is}
 abbrev pub is_end : ℕ → Bool
 is_end byte = byte == 10
 
+-- the rest of two pieces is that of the second, where the rest of the first came before it
 pub rest-append : (front xs ys : List ℕ) → rest_from front (xs ++ ys) ≡ rest_from (rest_from front xs) ys
 rest-append front [] ys = refl
 rest-append front (x ∷ xs) ys =
@@ -18,6 +19,7 @@ rest-append front (x ∷ xs) ys =
       | false ↦ rest-append (front ++ x ∷ []) xs ys
     ]
 
+-- the lines of two pieces are those of the first, then those that the second ends
 pub lines-append : (front xs ys : List ℕ) → lines_from front (xs ++ ys) ≡ lines_from front xs ++ lines_from (rest_from front xs) ys
 lines-append front [] ys = refl
 lines-append front (x ∷ xs) ys =
@@ -47,6 +49,7 @@ ends-behind front x xs at other ends =
       rest = rw other (ends.rest ∙ ap (λ n. rest_from [] (drop n (x ∷ xs))) (sym two));
     }
 
+-- the first byte that ends a line ends the one that the front began, by induction on the bytes
 ends_at_first : (front xs : List ℕ) → nat_lt (position_or_len is_end xs) (length xs) ≡ true → Ends front xs (position_or_len is_end xs)
 ends_at_first front [] within = absurd (cc)
 ends_at_first front (x ∷ xs) within = by (ends_at_first (front ++ x ∷ []) xs) (x == 10) refl within
@@ -73,6 +76,7 @@ pub record Unended (front xs : List ℕ) : Type 0 where
   pub lines : lines_from front xs ≡ []
   pub rest : rest_from front xs ≡ front ++ xs
 
+-- bytes without an end of a line extend the front and end no line, by induction on the bytes
 unended_where_none : (front xs : List ℕ) → nat_lt (position_or_len is_end xs) (length xs) ≡ false → Unended front xs
 unended_where_none front [] beyond = record { lines = refl; rest = sym (append-nil front) }
 unended_where_none front (x ∷ xs) beyond = by (unended_where_none (front ++ x ∷ []) xs) (x == 10) refl beyond
@@ -89,6 +93,7 @@ unended_where_none front (x ∷ xs) beyond = by (unended_where_none (front ++ x 
           rest = rw is (others.rest ∙ append_assoc front (x ∷ []) xs);
         }
 
+-- bytes among which a search finds no end of a line end no line
 pub unended_none : (front xs : List ℕ) → position is_end xs ≡ None → Unended front xs
 unended_none front xs none =
     unended_where_none front xs (none_is (nat_lt (position_or_len is_end xs) (length xs)) (position_or_len is_end xs) none)

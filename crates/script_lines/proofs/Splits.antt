@@ -41,5 +41,6 @@ split_nowhere : (p : ℕ → Bool) (xs : List ℕ) → nat_lt (position_or_len p
 split_nowhere p [] e = refl
 split_nowhere p (x ∷ xs) e = nowhere p x xs (p x) e (split_nowhere p xs)
 
+-- a list stays one part where a search finds no element that passes
 pub split_none : (p : ℕ → Bool) (xs : List ℕ) → position p xs ≡ None → slice_split p xs ≡ xs ∷ []
 split_none p xs e = split_nowhere p xs (none_is (nat_lt (position_or_len p xs) (length xs)) (position_or_len p xs) e)

@@ -21,21 +21,26 @@ AllZip-more R [] (b ∷ ys) x y all one = absurd all
 AllZip-more R (a ∷ xs) [] x y all one = absurd all
 AllZip-more R (a ∷ xs) (b ∷ ys) x y all one = (all.0, AllZip-more R xs ys x y all.1 one)
 
+-- an option stays as it is where the alternative is none
 or-none : {A : Type 0} (a : Option A) → option_or a None ≡ a
 or-none None = refl
 or-none (Some a) = refl
 
+-- the first value among three options does not depend on which two are combined first
 or-assoc : {A : Type 0} (a b c : Option A) → option_or a (option_or b c) ≡ option_or (option_or a b) c
 or-assoc None b c = refl
 or-assoc (Some a) b c = refl
 
+-- two lists are equal where their first elements are and the elements behind these are
 same-first : {x y : ℕ} {xs ys : List ℕ} → x ≡ y → xs ≡ ys → x ∷ xs ≡ y ∷ ys
 same-first {x} {y} {xs} {ys} one all = ap (λ (a : ℕ). a ∷ xs) one ∙ ap (λ (l : List ℕ). y ∷ l) all
 
+-- each fault of a step is one of a run whose script was read
 late-step : (fault : StepFault) → IsLate (step_fault fault)
 late-step StepFault.HistoryFull = tt
 late-step StepFault.NoMemory = tt
 
+-- the fault that is told is late where it equals a late one
 late-is : (fault told : ThreadsFault) → IsLate fault → Some fault ≡ Some told → IsLate told
 late-is fault told late is = let same : fault ≡ told = cc in subst IsLate same late
 

@@ -97,6 +97,7 @@ closed-fits call None named reply is = cc
 closed-fits call (Some f) named reply is =
     let same : Reply.PeerClosed f.cause f.origin ≡ reply = cc in subst (λ (x : Reply). fits_call call x ≡ true) same named
 
+-- only a call that names a node is told of a failure, and each such call can have that reply
 peer-fits : (r : Readings) (call : Call) → Fits call (peer_closed r call)
 peer-fits r call reply is = by (key_of call) refl
   where
@@ -116,6 +117,7 @@ misused-fits call true m named reply is =
     let same : Reply.Misused m ≡ reply = cc in subst (λ (x : Reply). fits_call call x ≡ true) same named
 misused-fits call false m named reply is = cc
 
+-- each of the five calls that can be a misuse names a node, so the reply Misused fits it
 misuse_of-fits : (e : OpenEnd) (call : Call) → Fits call (misuse_of e call)
 misuse_of-fits e (Call.SetConstraints key demand) = misused-fits (Call.SetConstraints key demand) _ _ refl
 misuse_of-fits e (Call.SetWeak key) = misused-fits (Call.SetWeak key) _ _ refl
@@ -124,6 +126,7 @@ misuse_of-fits e (Call.Take key) = misused-fits (Call.Take key) _ _ refl
 misuse_of-fits e (Call.TrackNode key) = misused-fits (Call.TrackNode key) _ _ refl
 misuse_of-fits e _ = λ reply is. cc
 
+-- the reply to a misuse fits the call, whichever end the call names
 misuse-fits : (r : Readings) (call : Call) → Fits call (misuse r call)
 misuse-fits r call reply is = by (option_and_then r.end_of (key_of call)) is
   where

@@ -142,6 +142,7 @@ pub record Carries (f g : Forest) : Type 0 where
   pub same : SameKeys f g
   pub ids : (most : ℕ) → AreUpTo most f → AreUpTo most g
 
+-- the move of an end keeps the forest sound and tidy, and its held buffers, its keys and its ids
 pub carries : (f : Forest) (carried : Option Place) → IsSound f → CanCarry f carried → Carries f (with_place carried f)
 carries f None sound can = record {
   sound = sound;

@@ -57,6 +57,7 @@ laid_for pages (b ∷ bs) [] h on = absurd on
 laid_for pages (b ∷ bs) (s ∷ ss) h (inl is) = inl (ap (λ (x : HeldBuffer). x.buffer) is)
 laid_for pages (b ∷ bs) (s ∷ ss) h (inr on) = inr (laid_for pages bs ss h on)
 
+-- each buffer of a layout has the id of its collection, since the layout names no others
 layout_ours : (pool id : ℕ) (want : Buffers) (held : List Interval) (h : HeldBuffer) → In h (layout pool id want held) →
     h.buffer.collection ≡ id
 layout_ours pool id want held h = from (places pool (pages_of want.size) want.count held)
@@ -244,6 +245,7 @@ asked_by s client buffer strength (Reply.Taken collection taken set) = tt
 asked_by s client buffer strength (Reply.Tracker id) = tt
 asked_by s client buffer strength _ = tt
 
+-- the task of a dropped handle has no change or the empty one, in the collection of the buffer
 pub asks_only : (s : State) (client : ℕ) (call : Call) (asked : Reply) (task : Option Task) → work_in task ≡ work_of s client call asked →
     AsksOnly call task
 asks_only s client (Call.DropHandle buffer strength) asked task work =

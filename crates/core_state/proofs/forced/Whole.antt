@@ -88,6 +88,7 @@ pub record Stands (s : State) (key : NodeKey) (n : Node) : Type 0 where
   pub id : collection.id ≡ n.collection
   pub gone : is_spent n.end ≡ false → n.fault ≡ None → n.gone ≡ false
 
+-- a node of a sound forest is in its collection, and is not gone while its end is open and unfailed
 pub stands : (s : State) (key : NodeKey) (n : Node) → IsSound s.forest → node_at s.forest key ≡ Some n → Stands s key n
 stands s key n sound at =
     let c = node_with_key s.forest key n at in

@@ -58,6 +58,7 @@ none_later n (m ∷ ns) all =
     let other : (m == n) ≡ false = false_if (m == n) (λ e. let same : m ≡ n = eqb-true m n e in omega (arith, same, all.0)) in
     rw other (none_later n ns all.1)
 
+-- rising numbers are distinct, since each is below all that follow it
 rise_once : (ns : List ℕ) → Rise ns → AreOnce ns
 rise_once [] rise = tt
 rise_once (n ∷ ns) rise = (none_later n ns rise.0, rise_once ns rise.1)

@@ -40,6 +40,7 @@ or_right : (a : Bool) {b : Bool} → b ≡ true → (a || b) ≡ true
 or_right true is = refl
 or_right false is = is
 
+-- a disjunction is true where its first part is, whatever the second part is
 or_left : {a : Bool} (b : Bool) → a ≡ true → (a || b) ≡ true
 or_left b is = ap (λ a. a || b) is
 
@@ -64,6 +65,7 @@ record IsQuiet (s : State) (client : ℕ) (call : Call) (asked : Reply) : Type 0
   work : work_of s client call asked ≡ None
   room : takes_room call asked ≡ false
 
+-- a Shut needs no room, attaches no tracker and changes no collection, whatever its reply is
 shut_is_quiet : (s : State) (client : ℕ) (asked : Reply) → IsQuiet s client Call.Shut asked
 shut_is_quiet s client Reply.Done = record { hands = refl; tracks = refl; work = refl; room = refl }
 shut_is_quiet s client (Reply.Token key collection) = record { hands = refl; tracks = refl; work = refl; room = refl }
@@ -72,6 +74,7 @@ shut_is_quiet s client (Reply.Taken collection strength set) = record { hands = 
 shut_is_quiet s client (Reply.Tracker id) = record { hands = refl; tracks = refl; work = refl; room = refl }
 shut_is_quiet s client _ = record { hands = refl; tracks = refl; work = refl; room = refl }
 
+-- a Collect needs no room, attaches no tracker and changes no collection, whatever its reply is
 collect_is_quiet : (s : State) (client : ℕ) (asked : Reply) → IsQuiet s client Call.Collect asked
 collect_is_quiet s client Reply.Done = record { hands = refl; tracks = refl; work = refl; room = refl }
 collect_is_quiet s client (Reply.Token key collection) = record { hands = refl; tracks = refl; work = refl; room = refl }
@@ -80,6 +83,7 @@ collect_is_quiet s client (Reply.Taken collection strength set) = record { hands
 collect_is_quiet s client (Reply.Tracker id) = record { hands = refl; tracks = refl; work = refl; room = refl }
 collect_is_quiet s client _ = record { hands = refl; tracks = refl; work = refl; room = refl }
 
+-- a quiet event takes no memory, since none of the four reasons to take some applies
 quiet_takes_none : (s : State) (client : ℕ) (call : Call) (asked : Reply) (task : Option Task) (tracking : Option Waiting) →
     IsQuiet s client call asked → work_in task ≡ work_of s client call asked → tracking ≡ tracker_by s.forest call asked →
     may_take_memory call asked task tracking ≡ false

@@ -96,6 +96,7 @@ sum_by-adds : {A : Type 0} (f : A → ℕ) (x : A) (xs ys : List A) → Adds x x
 sum_by-adds f x _ _ (First xs) = sum_by-cons f x xs
 sum_by-adds f x _ _ (Later y xs ys a) = omega (arith, sum_by-adds f x xs ys a, sum_by-cons f y xs, sum_by-cons f y ys)
 
+-- a sum does not depend on the order, since an element adds the same wherever it stands
 pub sum_by-mixed : {A : Type 0} (f : A → ℕ) (xs ys : List A) → Mixed xs ys → sum_by f ys ≡ sum_by f xs
 sum_by-mixed f _ _ Nothing = refl
 sum_by-mixed f _ _ (Puts x xs ys more m a) = omega (arith, sum_by-mixed f xs ys m, sum_by-adds f x ys more a, sum_by-cons f x xs)
@@ -105,6 +106,7 @@ length-adds : {A : Type 0} (x : A) (xs ys : List A) → Adds x xs ys → length 
 length-adds x _ _ (First xs) = omega arith
 length-adds x _ _ (Later y xs ys a) = let on : length ys ≡ length xs + 1 = length-adds x xs ys a in omega arith
 
+-- lists of the same elements in another order are equally long, by induction on the elements
 pub length-mixed : {A : Type 0} (xs ys : List A) → Mixed xs ys → length ys ≡ length xs
 length-mixed _ _ Nothing = refl
 length-mixed _ _ (Puts x xs ys more m a) =

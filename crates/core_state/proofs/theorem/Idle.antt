@@ -70,6 +70,7 @@ module _ (mark : Mark) (unseen : IsUnseen mark) where
 
 -- ---- an idle call
 
+-- an idle call makes no node, fails none, and has no effect on the buffers of a collection
 no_work : (s : State) (client : ℕ) (call : Call) (asked : Reply) → changes_nothing call asked ≡ true → None ≡ work_of s client call asked
 no_work s client (Call.Sync key) Reply.Done idle = refl
 no_work s client _ Reply.Done idle = cc
@@ -79,26 +80,31 @@ no_work s client call (Reply.Taken collection strength set) idle = cc
 no_work s client call (Reply.Tracker id) idle = cc
 no_work s client call _ idle = refl
 
+-- an idle call spends no end, since a Close or a Release that spends one is not idle
 no_spend : (call : Call) (asked : Reply) → changes_nothing call asked ≡ true → None ≡ spent_by call asked
 no_spend (Call.Close key) Reply.Done idle = cc
 no_spend (Call.Release key) Reply.Done idle = cc
 no_spend (Call.Release key) (Reply.PeerClosed cause origin) idle = cc
 no_spend _ _ idle = refl
 
+-- an idle call carries no end, since neither a Give that is done nor a Collect of an end is idle
 no_carry : (client : ℕ) (call : Call) (asked : Reply) → changes_nothing call asked ≡ true → None ≡ carried_by client call asked
 no_carry client (Call.Give key to) Reply.Done idle = cc
 no_carry client Call.Collect (Reply.Collected key kind collection) idle = cc
 no_carry client _ _ idle = refl
 
+-- an idle call attaches no tracker, since a call whose reply tells of a tracker is not idle
 no_track : (f : Forest) (call : Call) (asked : Reply) → changes_nothing call asked ≡ true → None ≡ tracker_by f call asked
 no_track f (Call.TrackNode key) (Reply.Tracker id) idle = cc
 no_track f _ (Reply.Tracker id) idle = cc
 no_track f _ _ idle = refl
 
+-- the reply to an idle call names no new node, so it stays as it is without a new key
 no_key_told : (call : Call) (asked : Reply) → changes_nothing call asked ≡ true → asked ≡ with_key asked None
 no_key_told call (Reply.Token key collection) idle = cc
 no_key_told call _ idle = refl
 
+-- an idle call moves no handle, neither makes nor shuts a client, and changes no parcel
 none_sees : (client : ℕ) (call : Call) (asked : Reply) → changes_nothing call asked ≡ true → IsUnseen (Called client asked call)
 none_sees client (Call.Sync key) Reply.Done idle =
     record {
@@ -183,6 +189,7 @@ pub record Idles (s : State) (client : ℕ) (call : Call) (asked : Reply) : Type
   pub tidy : s.forest.collections ≡ without_over s.forest.collections
   pub still : s.trackers ≡ swept (world_in s.forest (total s.holds)) (s.events + 1) s.trackers
 
+-- an idle call takes effect on a whole core without a change, and makes no tracker due
 pub idles : (pool : Holdings) (s now : State) (client : ℕ) (call : Call) (asked : Reply) → s ≡ now →
     IsWholeCore pool s.limits s.events s.clients s.forest s.holds s.trackers →
     asked ≡ answer now.limits (readings_of now) client no_key call → changes_nothing call asked ≡ true → Idles s client call asked

@@ -69,6 +69,7 @@ pub leads_pool : (old new : State) (made : List Entry) → Leads old made new �
 leads_pool old new [] same = ap (λ (s : State). s.pool) same
 leads_pool old new (first ∷ more) leads = leads_pool leads.0 new more leads.2 ∙ leads.1.after.pool
 
+-- events keep the limits of the core, by induction on the events
 pub leads_limits : (old new : State) (made : List Entry) → Leads old made new → new.limits ≡ old.limits
 leads_limits old new [] same = ap (λ (s : State). s.limits) same
 leads_limits old new (first ∷ more) leads = leads_limits leads.0 new more leads.2 ∙ leads.1.after.limits
