@@ -16,9 +16,11 @@ root_found (n ∷ ns) one r (inr on) root = absurd (never r.parent (and_left _ _
     never (Some p) a b = cc
 
 module _ {c : Collection} (sound : IsSound c) (hs : List NodeKey) where
+  -- a node once the units with these heads have their buffers
   abbrev f : Node → Node
   f = given_all hs
 
+  -- the collection's nodes once the units with these heads have their buffers
   abbrev after : List Node
   after = after_all hs c.nodes
 

@@ -91,9 +91,11 @@ kept_root t e strong_open filed whole counts (inr none) = inr (elim (either_way 
 
 module _ (handles : Handles) {t : Table Node} (es : List Entry) (id : ℕ) {at : ℕ} (old : Entry) (told : place_in id es ≡ Some at)
     (is : old ≡ get_or es at old) (kept : IsStored t (shelves_of es)) (all : AreCounted t es) where
+  -- the shelves of all the entries
   abbrev ss : List Shelf
   ss = shelves_of es
 
+  -- the collection that the table and the old entry hold
   abbrev c : Collection
   c = collection_in t (shelf_of old)
 

@@ -54,6 +54,7 @@ module _ {t : Table Node} {nodes : List Node} (tied : IsTied t nodes) where
   abbrev pub highest_at : NodeKey → NodeKey
   highest_at origin = top (blocked_at is_blocking t) origin (line origin)
 
+  -- the highest node that a failure of the origin reaches, as the members tell what blocks
   abbrev highest_among : NodeKey → NodeKey
   highest_among origin = top blocks_among origin (line origin)
 

@@ -43,9 +43,11 @@ camped_plain key Effect.Tracked n is = refl
 
 module _ {t : Table Node} {us : List Unit} {ss : List Shelf} {e : Entry} (store : StoreAgrees t us ss e) (key : NodeKey) (effect : Effect)
     {n : Node} (was : node_at t key ≡ Some n) (here : n.gone ≡ false) (own : n.collection ≡ e.id) where
+  -- the nodes that the table has under the entry's keys before the effect
   abbrev members : List Node
   members = nodes_with t e.keys.items
 
+  -- the shelf of the entry
   abbrev s : Shelf
   s = shelf_of e
 
@@ -62,6 +64,7 @@ module _ {t : Table Node} {us : List Unit} {ss : List Shelf} {e : Entry} (store 
 
   module _ {now : Table Node} (becomes_it : now ≡ table_with_node t key (affected key effect n)) (writes_it : Writes t now key (affected key effect n))
     where
+      -- a node after the effect, which changes only the node with the key
       abbrev made : Node → Node
       made = affected key effect
 
@@ -73,6 +76,7 @@ module _ {t : Table Node} {us : List Unit} {ss : List Shelf} {e : Entry} (store 
       becomes : now ≡ table_with_node t (affected key effect n).key (affected key effect n)
       becomes = subst (λ k. now ≡ table_with_node t k (affected key effect n)) own_key_is becomes_it
 
+      -- the table writes the effect's key, which is the node's own key
       writes : Writes t now (affected key effect n).key (affected key effect n)
       writes = subst (λ k. Writes t now k (affected key effect n)) own_key_is writes_it
 
@@ -96,6 +100,7 @@ module _ {t : Table Node} {us : List Unit} {ss : List Shelf} {e : Entry} (store 
           by None is h = cc
           by (Some x) is h = (x, is, cc)
 
+      -- a key with a node had one before the effect, and setting a slot keeps the list's length
       inside_now : (next : Unit) (k : NodeKey) {m : Node} → node_at now k ≡ Some m → k.slot < length (set us n.head.slot next)
       inside_now next k at =
           let x = found_before k at in

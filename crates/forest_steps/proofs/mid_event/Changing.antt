@@ -31,6 +31,7 @@ module _ {t : Table Node} {us : List Unit} {ss : List Shelf} {e : Entry} {k : No
     (none : (x : Node) → In x (nodes_with t e.keys.items) → x.key ≡ k → x.gone ≡ false → x.allocated ≡ false →
     option_map_or (λ p. list_any (is_allocated_node p) (nodes_with t e.keys.items)) x.parent true ≡ true →
     list_all (is_ready_node k) (nodes_with t e.keys.items) ≡ true → ⊥) where
+  -- the nodes that the table has under the entry's keys
   abbrev ms : List Node
   ms = nodes_with t e.keys.items
 
@@ -80,9 +81,11 @@ module _ (nodes : List Node) (f : Node → Node) (same : (n : Node) → IsSameNo
     (alloc : (n : Node) → (f n).allocated ≡ n.allocated) (n : Node)
     (alone : (m : Node) → In m nodes → same_key n.key m.key ≡ false → f m ≡ m)
     (one : (m : Node) → In m nodes → same_key n.key m.key ≡ true → m ≡ n) where
+  -- the nodes after the change
   abbrev now : List Node
   now = map f nodes
 
+  -- the list with one head: that of the changed node's unit
   abbrev own : List NodeKey
   own = n.head ∷ []
 
@@ -209,6 +212,7 @@ module _ (nodes : List Node) (f : Node → Node) (same : (n : Node) → IsSameNo
   abbrev waits : Node → Option Node
   waits root = when (not root.allocated && list_all (is_ready_node root.key) now) root
 
+  -- the root, where its unit waited for its buffers alone before the change
   abbrev waited : Node → Option Node
   waited root = when (not root.allocated && list_all (is_ready_node root.key) nodes) root
 
@@ -238,9 +242,11 @@ module _ (nodes : List Node) (f : Node → Node) (same : (n : Node) → IsSameNo
 module _ {t now : Table Node} {us after : List Unit} {ss : List Shelf} {e new : Entry} {key : NodeKey} {effect : Effect} {n : Node}
     (was : node_at t key ≡ Some n) (own : n.collection ≡ e.id) (under : MidEvent t us ss e [] [])
     (made : EffectMade t now after ss e new key effect n.head) where
+  -- the nodes that the table has under the entry's keys before the effect
   abbrev nodes : List Node
   nodes = nodes_with t e.keys.items
 
+  -- a node after the effect, which changes only the node with the key
   abbrev f : Node → Node
   f = affected key effect
 
@@ -276,6 +282,7 @@ module _ {t now : Table Node} {us after : List Unit} {ss : List Shelf} {e new : 
   nodes_are : nodes_with now new.keys.items ≡ map f nodes
   nodes_are = ap (λ (x : Shelf). nodes_with now x.keys) made.shelf ∙ made.nodes
 
+  -- the collection's nodes after the effect
   abbrev then : List Node
   then = map f nodes
 

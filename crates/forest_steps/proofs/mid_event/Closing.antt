@@ -32,9 +32,11 @@ module _ (handles : Handles) {t : Table Node} {us : List Unit} {ss : List Shelf}
 
 module _ (handles : Handles) {t : Table Node} {us : List Unit} {ss : List Shelf} {e : Entry} {pending : List NodeKey}
     (under : MidEvent t us ss e [] pending) (abandoned : is_abandoned_in handles t e ≡ true) where
+  -- the collection whose buffers are abandoned
   abbrev c : Collection
   c = collection_in t (shelf_of e)
 
+  -- whether a strong handle is open on one of the buffers that the collection was given
   abbrev strong_open : Bool
   strong_open = is_held_strongly handles e.id e.buffers
 
@@ -64,6 +66,7 @@ module _ (handles : Handles) {t : Table Node} {us : List Unit} {ss : List Shelf}
   root_is : {first : NodeKey} → slice_get e.keys.items 0 ≡ Some first → root.node.key ≡ first
   root_is is = some-injective _ _ (sym (ap (λ ks. slice_get ks 0) root.keys_are) ∙ is)
 
+  -- the fault that begins at a node for want of a strong node
   abbrev fault_at : NodeKey → Fault
   fault_at first = record { cause = Cause.NoStrong; origin = first }
 
@@ -125,6 +128,7 @@ module _ (handles : Handles) {t : Table Node} {us : List Unit} {ss : List Shelf}
 
 module _ {handles : Handles} {t : Table Node} {us : List Unit} {es : List Entry} {at : ℕ} (may : MayClose handles t us es at) (id : ℕ)
     (told : place_in id es ≡ Some at) (old : Entry) (is : old ≡ get_or es at old) where
+  -- the shelves of all the entries
   abbrev ss : List Shelf
   ss = shelves_of es
 
@@ -145,6 +149,7 @@ module _ {handles : Handles} {t : Table Node} {us : List Unit} {es : List Entry}
   own = ap (λ (e : Entry). e.id) is ∙ (place_is id es at told).id_is old
 
   module _ {now : Table Node} {after : List Unit} {new : Entry} (closed : IsClosed handles t now after (shelves_of es) old new) where
+    -- the entries with the new entry at the place of the old one
     abbrev mid : List Entry
     mid = set es at new
 

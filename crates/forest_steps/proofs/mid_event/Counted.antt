@@ -79,6 +79,7 @@ module _ (handles : Handles) {t : Table Node} {us : List Unit} {es : List Entry}
   is_new : (id : ℕ) → place_in id es ≡ Some at → new ≡ get_or (set es at new) at new
   is_new id told = sym (get_or-set_same es at new new (place_is id es at told).within)
 
+  -- the collection stays kept and nothing is forced, so the effect is the whole outcome
   pub outcome_still : (pool : Holdings) → starts_differ pool.held ≡ true → IsPoolOf pool (forest_of t (shelves_of es)) →
       IsOutcomeAt true handles pool pool t now es (set es at new) after at (Change.Effect key effect)
   outcome_still pool parted of =

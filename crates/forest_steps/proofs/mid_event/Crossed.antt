@@ -19,6 +19,7 @@ pub record IsMarked (falls : NodeKey → Bool) (f : Node → Node) : Type 0 wher
   pub alone : (n : Node) → falls n.key ≡ false → f n ≡ n
 
 module _ {c : Collection} {falls : NodeKey → Bool} {top above : Node} (way : AreFalling c falls top above) where
+  -- the collection's nodes before the fall
   abbrev nodes : List Node
   nodes = c.nodes
 
@@ -64,6 +65,7 @@ module _ {c : Collection} {falls : NodeKey → Bool} {top above : Node} (way : A
       ]
 
   module _ {f : Node → Node} (made : IsMarked falls f) where
+    -- the nodes once those that fall are marked
     abbrev now : List Node
     now = map f nodes
 

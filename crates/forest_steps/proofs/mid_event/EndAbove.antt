@@ -103,9 +103,11 @@ pub record IsTop (nodes : List Node) (t : Table Node) (us : List Unit) (first : 
 
 module _ {t : Table Node} {us : List Unit} {ss : List Shelf} {e : Entry} {first : NodeKey} {pending : List NodeKey}
     (ok : MidEvent t us ss e (first ∷ []) pending) where
+  -- the nodes that the table has under the entry's keys
   abbrev nodes : List Node
   nodes = nodes_with t e.keys.items
 
+  -- the collection that the table and the entry hold
   abbrev c : Collection
   c = collection_in t (shelf_of e)
 
@@ -113,6 +115,7 @@ module _ {t : Table Node} {us : List Unit} {ss : List Shelf} {e : Entry} {first 
   on_shelf : In (shelf_of e) ss
   on_shelf = (In-find _ ss _ ok.store.found).0
 
+  -- the keys above a key, from its parent up to the root
   abbrev above : NodeKey → List NodeKey
   above = line (whole_under ok)
 
@@ -294,6 +297,7 @@ module _ {t : Table Node} {us : List Unit} {ss : List Shelf} {e : Entry} {first 
       made_top : IsTop nodes t us first (table_len t) head.node.key
       made_top = reach _ begun (ap (λ k. is_one (head.node.key ∷ []) k) (sym head.is) ∙ begun.own) (short _)
 
+      -- the highest head that the climb from the first head reaches
       abbrev top : Node
       top = made_top.top
 

@@ -130,6 +130,7 @@ none_counts : (p : Node → Bool) (ns : List Node) → list_any p ns ≡ false �
 none_counts p ns none = times-zero p ns (λ x there. false_if _ (λ e. both_ways _ (In-any p ns x there e) none))
 
 module _ {c : Collection} (whole : IsWhole c) where
+  -- the nodes of the collection
   abbrev nodes : List Node
   nodes = c.nodes
 
@@ -451,6 +452,7 @@ module _ {c : Collection} (whole : IsWhole c) where
 
     -- ---- once it ended
 
+    -- the nodes once the top and all below it end
     abbrev now : List Node
     now = after_end top.key nodes
 

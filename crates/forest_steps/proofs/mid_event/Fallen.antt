@@ -33,21 +33,27 @@ one_option n e = cc
 
 module _ {t : Table Node} {us : List Unit} {ss : List Shelf} {old : Entry} (store : StoreAgrees t us ss old) (going : Going)
     {origin : NodeKey} {keys : List NodeKey} (taken : IsTaken t origin keys) (own : all_of old.id (nodes_with t keys) ≡ true) where
+  -- the shelf of the entry as it was
   abbrev pub s : Shelf
   s = shelf_of old
 
+  -- a node after the removal: it is marked as gone if its key is one of the removed keys
   abbrev pub f : Node → Node
   f = goes_of going keys
 
+  -- whether the key is one of the removed keys
   abbrev pub falls : NodeKey → Bool
   falls k = list_any (same_key k) keys
 
+  -- the collection's nodes before the removal
   abbrev pub nodes : List Node
   nodes = nodes_with t s.keys
 
+  -- the removed nodes, as the table has them before the removal
   abbrev pub fallen : List Node
   fallen = nodes_with t keys
 
+  -- the unit counts, which leave out the removed nodes
   abbrev pub new : List Unit
   new = unreckoned t fallen us
 
@@ -213,6 +219,7 @@ module _ {t : Table Node} {us : List Unit} {ss : List Shelf} {old : Entry} (stor
     pub look_then : (k : NodeKey) → node_at now k ≡ option_map f (node_at t k)
     look_then k = stores.look k ∙ by (node_at t k) refl
       where
+        -- storing the removed nodes changes what the key has exactly as the removal does
         by : (o : Option Node) → node_at t k ≡ o → option_map (stored (map (gone_by going) fallen)) o ≡ option_map f o
         by None is = refl
         by (Some n) is =
@@ -276,6 +283,7 @@ module _ {t : Table Node} {us : List Unit} {ss : List Shelf} {old : Entry} (stor
       together = together_now;
     }
 
+    -- the search by id finds the shelf, so the list of shelves has it
     in_shelves : In s ss
     in_shelves = (In-find _ ss s store.found).0
 
