@@ -18,6 +18,7 @@ lent_there (Some b) h out = cc
 
 module _ (handles : Handles) {t mid : Table Node} {us : List Unit} {ss : List Shelf} {e e1 : Entry} {fault : Fault} {pending : List NodeKey}
     {above : Option NodeKey} (went : AfterRemoval t mid us ss e e1 fault.origin (Some fault) above [] pending) where
+  -- the shelf of the entry before the loss
   abbrev s : Shelf
   s = shelf_of e
 

@@ -66,9 +66,11 @@ have_gone fault nodes now (inr ends) = record {
 }
 
 module _ {c : Collection} (sound : IsSound c) {f : Node → Node} (only : OnlyGo f) (together : GoTogether (map f c.nodes)) where
+  -- the collection's nodes before the change, which brings no gone node back
   abbrev nodes : List Node
   nodes = c.nodes
 
+  -- the nodes after that change
   abbrev now : List Node
   now = map f nodes
 

@@ -38,6 +38,7 @@ served_effect key effect n h = let same = remains_affected key effect n in sym (
 
 -- where none were given, a unit is allocated only as the root's
 module _ (pool : ℕ) (others : List Interval) (c : Collection) (distinct : are_distinct c.nodes ≡ true) (head : NodeKey) where
+  -- if the decision allocates the unit with this head, the head is a root
   abbrev IsRootIf : List Interval → Decision → Type 0
   IsRootIf held d = mark_of pool held d ≡ Allocated head → is_root_of c head ≡ true
 

@@ -9,12 +9,15 @@ use Rattle.forest_steps.proofs.tables.OfShelf.{whole, at_key}
 module _ {t : Table Node} {ss : List Shelf} (kept : IsStored t ss) {s : Shelf} (found : find (λ (x : Shelf). x.id == s.id) ss ≡ Some s)
     {us : List Unit} (counts : HasUnits us (nodes_with t s.keys)) {k : NodeKey}
     {hs : List NodeKey} {ks : List NodeKey} (gathered : IsGathered t us s.id k hs ks) where
+  -- the nodes that the table has under the shelf's keys
   abbrev nodes : List Node
   nodes = nodes_with t s.keys
 
+  -- whether a node other than the first stops the walk: it is attached and heads no ready unit
   abbrev pub stopped : NodeKey → Bool
   stopped = stopped_at (is_outside us s.id) t k
 
+  -- the walk down from the first head reaches the key
   abbrev pub Inside : NodeKey → Type 0
   Inside key = Within (parent_at t) stopped k key
 

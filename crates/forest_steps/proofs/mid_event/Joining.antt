@@ -117,6 +117,7 @@ changed_own t es id change birth = changed_id _ _ _ birth ∙ or_new_id (forest_
 -- the steps led from this table and these entries to that table, and to that entry at the place of the collection
 module _ (handles : Handles) {t mid : Table Node} (es : List Entry) {id at : ℕ} (told : place_in id es ≡ Some at)
     (kept : IsStored t (shelves_of es)) (by : IsBeside t mid (shelves_of es) id) (new : Entry) (own : new.id ≡ id) where
+  -- the shelves of the entries before the steps
   abbrev ss : List Shelf
   ss = shelves_of es
 

@@ -10,15 +10,19 @@ use Rattle.forest_steps.proofs.tables.OfShelf.{whole, linked, at_key, of_it}
 
 module _ {t : Table Node} {ss : List Shelf} (kept : IsStored t ss) {s : Shelf} (found : find (λ (x : Shelf). x.id == s.id) ss ≡ Some s)
     {k : NodeKey} (top : IsBareHead (nodes_with t s.keys) k) {ks : List NodeKey} (listed : IsUnitListed t k ks) where
+  -- the nodes that the table has under the shelf's keys
   abbrev nodes : List Node
   nodes = nodes_with t s.keys
 
+  -- whether a node other than the head stops the walk: it is attached
   abbrev stopped : NodeKey → Bool
   stopped = stopped_at (λ (n : Node). n.attached) t k
 
+  -- the walk down from the head reaches the key
   abbrev Inside : NodeKey → Type 0
   Inside key = Within (parent_at t) stopped k key
 
+  -- the walk lists each key that it reaches
   inside_key : (key : NodeKey) → Inside key → list_any (same_key key) ks ≡ true
   inside_key key reach = list_any-from_Contains key_equivalence key ks ((listed.within key).1 reach)
 
@@ -53,6 +57,7 @@ module _ {t : Table Node} {ss : List Shelf} (kept : IsStored t ss) {s : Shelf} (
 
   -- ---- all that are listed are of the collection
 
+  -- the walk begins in the collection, and a child is of the collection of its parent
   inside_node : (key : NodeKey) → Inside key → (n : Node) × (node_at t key ≡ Some n) × (n.collection ≡ s.id)
   inside_node _ Top = (
     top.head,
@@ -79,6 +84,7 @@ module _ {t : Table Node} {ss : List Shelf} (kept : IsStored t ss) {s : Shelf} (
 
   -- ---- what they ask for
 
+  -- the demands of those listed nodes that are of the unit and not gone
   abbrev pub asked : List Demand
   asked = filter_map (asked_there t k) ks
 

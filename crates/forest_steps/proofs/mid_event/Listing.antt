@@ -61,6 +61,7 @@ units_found t us id (x ∷ xs) {s} all found = elim (either_way (x.id == id)) [
 
 module _ {t : Table Node} {ss : List Shelf} (kept : IsStored t ss) {s : Shelf} (found : find (λ (x : Shelf). x.id == s.id) ss ≡ Some s)
     (k : NodeKey) where
+  -- the nodes that the table has under the shelf's keys
   abbrev nodes : List Node
   nodes = nodes_with t s.keys
 
@@ -97,6 +98,7 @@ module _ {t : Table Node} {ss : List Shelf} (kept : IsStored t ss) {s : Shelf} (
       {ks : List NodeKey} (walked : IsWalked t us s.id k ks) (ws vs : List PendingUnit)
       (heads : turn_heads ws ≡ filter (is_head_at t us s.id k) ks) (placed : ArePlacedIfThere s.keys ws)
       (moved : IsPermutation ws vs) (rising : IsNonDecreasingBy (λ (w : PendingUnit). w.place) vs) where
+    -- the heads of the pending units, in the order of their places
     abbrev hs : List NodeKey
     hs = turn_heads vs
 

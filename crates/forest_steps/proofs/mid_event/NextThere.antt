@@ -31,6 +31,7 @@ next_fewer nodes pending few next each = false_if _ (λ h.
 module _ {t : Table Node} {us : List Unit} {ss : List Shelf} {e : Entry} {unheld pending : List NodeKey}
     (u : MidEvent t us ss e unheld pending) (k : NodeKey) (head : Node) (head_on : In head (nodes_with t e.keys.items))
     (head_key : head.key ≡ k) where
+  -- the nodes that the table has under the entry's keys
   abbrev nodes : List Node
   nodes = nodes_with t e.keys.items
 
@@ -95,6 +96,7 @@ told_there t us k told = grind arith
 
 module _ {t : Table Node} {us : List Unit} {ss : List Shelf} {e : Entry} {k : NodeKey} (u : MidEvent t us ss e [] (k ∷ []))
     (no_wait : waits_among [] (nodes_with t e.keys.items) ≡ true) where
+  -- the nodes that the table has under the entry's keys
   abbrev nodes_one : List Node
   nodes_one = nodes_with t e.keys.items
 

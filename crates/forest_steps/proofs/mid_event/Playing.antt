@@ -122,6 +122,7 @@ module _ {t mid : Table Node} {us : List Unit} {ss : List Shelf} {e e1 : Entry} 
 
   module _ {handles : Handles} {then : Table Node} {vs : List Unit} {e2 : Entry} (led : AfterSteps handles mid then vs ss e1 e2 [] (head ∷ []))
       (ends : AreOrEnd (nodes_with mid e1.keys.items) (nodes_with then e1.keys.items)) where
+    -- the collection's nodes right after the effect
     abbrev nodes : List Node
     nodes = after_effect key effect (nodes_with t e.keys.items)
 

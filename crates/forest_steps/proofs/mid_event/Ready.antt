@@ -75,6 +75,7 @@ none_next nodes none = grind (arith, In-any, In-list_any, none)
 
 module _ {t : Table Node} (us : List Unit) {ss : List Shelf} {e : Entry} (kept : IsStored t ss)
     (found : find (λ (x : Shelf). x.id == e.id) ss ≡ Some (shelf_of e)) (counted : IsCounted t e) where
+  -- the nodes that the table has under the entry's keys
   abbrev nodes : List Node
   nodes = nodes_with t e.keys.items
 

@@ -57,6 +57,7 @@ module _ {t now : Table Node} {us : List Unit} {ss : List Shelf} {e : Entry} {k 
     (u : MidEvent t us ss e [] (k ∷ [])) (coming : IsComing (nodes_with t e.keys.items) k)
     {ks : List NodeKey} (listed : IsUnitListed t k ks) (given : IsGivenAt t now (k ∷ []) ks)
     (buffers : Buffers) (few : given_few (Some buffers) ≡ true) (held : List HeldBuffer) where
+  -- the shelf of the entry before the allocation
   abbrev s : Shelf
   s = shelf_of e
 
@@ -67,12 +68,15 @@ module _ {t now : Table Node} {us : List Unit} {ss : List Shelf} {e : Entry} {k 
   abbrev ss' : List Shelf
   ss' = put_shelf s' ss
 
+  -- the collection's nodes before the allocation
   abbrev nodes : List Node
   nodes = nodes_with t e.keys.items
 
+  -- the list with one head: that of the root's unit
   abbrev hs : List NodeKey
   hs = k ∷ []
 
+  -- the root that waits for its buffers
   abbrev r : Node
   r = coming.root
 

@@ -11,6 +11,7 @@ use Rattle.forest_steps.proofs.mid_event.Ready.{under_with}
 module _ {t : Table Node} {us : List Unit} {ss : List Shelf} {e : Entry} {head : NodeKey} (unheld : List NodeKey) {pending : List NodeKey}
     (some : list_any (holds_unit (nodes_with t e.keys.items) head) (nodes_with t e.keys.items) ≡ true)
     (under : MidEvent t us ss e (head ∷ unheld) pending) where
+  -- the nodes that the table has under the entry's keys
   abbrev ns : List Node
   ns = nodes_with t e.keys.items
 
@@ -49,9 +50,11 @@ module _ {c : Collection} (sound : IsSound c) {head : NodeKey} (coming : IsComin
     (beside_is : before.held ≡ by_page (pages_in c ++ others)) (wants : Result Buffers Failure)
     (wants_is : wants ≡ wants_of (has_strong c.nodes) (wanted_by head c.nodes)) (verdict : AllocationOutcome)
     (found : IsAllocationOutcome before after c.id c.held wants verdict) where
+  -- the number and the size of the buffers that the nodes of the unit ask for
   abbrev want : Buffers
   want = wanted_by head c.nodes
 
+  -- the number of pages that one of these buffers takes
   abbrev pages : ℕ
   pages = pages_of (wanted_by head c.nodes).size
 

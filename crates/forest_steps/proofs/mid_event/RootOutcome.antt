@@ -42,12 +42,15 @@ module _ (handles : Handles) {t : Table Node} {es : List Entry} {id at : ℕ} {o
     (under : MidEvent t us (shelves_of es) old [] []) {plan : Plan} (planned : IsPlanned t us old key effect plan)
     (comes : comes_first t us key effect ≡ true) {now : Table Node} {after : List Unit} {mid : Entry}
     (affects : AfterEffect t now after (shelves_of es) old mid key effect planned.node.head) where
+  -- the shelves of the entries before the effect
   abbrev ss : List Shelf
   ss = shelves_of es
 
+  -- the node that the effect changes
   abbrev n : Node
   n = planned.node
 
+  -- the collection's nodes right after the effect
   abbrev nodes1 : List Node
   nodes1 = map (affected key effect) (nodes_with t old.keys.items)
 
@@ -128,12 +131,15 @@ module _ (handles : Handles) {t : Table Node} {es : List Entry} {id at : ℕ} {o
         (of : before.held ≡ sorted_by start_of (map (λ (h : HeldBuffer). h.pages) (all_held (forest_of t (shelves_of es)))))
         {then : Table Node} {units : List Unit} {new : Entry}
         (rooted : IsRooted handles now then units (shelves_of es) mid new plan.head verdict) where
+      -- the pages of the other collections
       abbrev others : List Interval
       others = beside (forest_of t (shelves_of es)) old.id
 
+      -- the entries with the new entry at the place of the old one
       abbrev es2 : List Entry
       es2 = set es at new
 
+      -- the mark that the first step of the root's unit comes to after the effect
       abbrev mark : Mark
       mark = mark_of before.size (pages_in c1 ++ others) (first_step nodes1 n.head)
 

@@ -59,9 +59,11 @@ held_told nodes head = grind (arith, head, holds_told, ready_told, some_told)
 
 module _ {t : Table Node} {us : List Unit} (key : NodeKey) (effect : Effect) {n : Node} (was : node_at t key ≡ Some n)
     {ss : List Shelf} {s : Shelf} {strong : ℕ} (opens : IsOpen t us ss s (Change.Effect key effect) strong) where
+  -- a node after the effect, which changes only the node with the key
   abbrev f : Node → Node
   f = affected key effect
 
+  -- the collection's nodes before the effect
   abbrev nodes : List Node
   nodes = nodes_with t s.keys
 
@@ -110,6 +112,7 @@ module _ {t : Table Node} {us : List Unit} (key : NodeKey) (effect : Effect) {n 
   head : (h : Node) × In h nodes × (h.key ≡ n.head) × (h.gone ≡ false) × (is_head h ≡ true)
   head = head_there whole n on (ap (λ (m : Node). m.gone) is_left ∙ left.here)
 
+  -- the node that heads the unit of the changed node
   abbrev top : Node
   top = head.0
 
@@ -229,6 +232,7 @@ module _ {t : Table Node} {us : List Unit} (key : NodeKey) (effect : Effect) {n 
     -- ---- what the nodes of its unit ask for
 
     module _ {ks : List NodeKey} (listed : IsUnitListed t n.head ks) where
+      -- whether a node is of the changed node's unit and not gone
       abbrev test : Node → Bool
       test = is_in_unit n.head
 
@@ -266,9 +270,11 @@ module _ {t : Table Node} {us : List Unit} (key : NodeKey) (effect : Effect) {n 
           asked_is t ks (n.head ∷ []) _ ∙ (ap (demands_of (is_in_some (n.head ∷ []))) (written_is (nodes_with t ks) within)
           ∙ (λ i. demands_of (λ (m : Node). not m.gone && or_false (same_key m.head n.head) i) (map f (nodes_with t ks))))
 
+      -- the demands of the unit after the effect, taken from the listed nodes
       abbrev few : List Demand
       few = demands_of test (map (affected key effect) (nodes_with t ks))
 
+      -- the demands of the unit after the effect, taken from all nodes of the collection
       abbrev all : List Demand
       all = demands_of test (map (affected key effect) (nodes_with t s.keys))
 
