@@ -11,9 +11,11 @@ use Rattle.forest_steps.proofs.tables.OfShelf.{at_key, linked, tied, whole}
 module _ {t : Table Node} {ss : List Shelf} {s : Shelf} (kept : IsStored t ss)
     (found : find (λ (x : Shelf). x.id == s.id) ss ≡ Some s) (forest : IsForest t) {origin : NodeKey}
     (left : is_left_of (nodes_with t s.keys) origin ≡ true) {keys : List NodeKey} (taken : IsTaken t origin keys) where
+  -- the nodes that the table has under the shelf's keys
   abbrev nodes : List Node
   nodes = nodes_with t s.keys
 
+  -- whether the failure takes the key
   abbrev falls : NodeKey → Bool
   falls k = list_any (same_key k) keys
 
@@ -21,6 +23,7 @@ module _ {t : Table Node} {ss : List Shelf} {s : Shelf} (kept : IsStored t ss)
   pub highest : IsLeft nodes (highest_at (tied kept found) origin)
   highest = left_node _ _ (highest_left (tied kept found) _ left)
 
+  -- the highest node that the failure takes
   abbrev pub top : Node
   top = highest.node
 

@@ -98,37 +98,47 @@ kept_or (suc n) b h = inl (lt-ltb 0 (suc n) (omega arith))
 module _ {t : Table Node} {us : List Unit} {ss : List Shelf} {e : Entry} {k : NodeKey} (place : ℕ) (ws : List PendingUnit)
     (u : MidEvent t us ss e [] (k ∷ turn_heads ws)) (turns : AreTurns t e.keys.items (record { place = place; head = k } ∷ ws))
   where
+    -- the shelf of the entry
     abbrev pub s : Shelf
     s = shelf_of e
 
+    -- the nodes that the table has under the entry's keys
     abbrev pub nodes : List Node
     nodes = nodes_with t e.keys.items
 
+    -- the nodes of a whole collection have distinct keys
     pub one : (m n : Node) → In m nodes → In n nodes → m.key ≡ n.key → m ≡ n
     one m n on there same = distinct_one nodes (whole_under u).sound.distinct m n on there same
 
     -- ---- places
 
+    -- the entry's keys have each pending head at the place of its unit
     stands_at : (w : PendingUnit) → In w (record { place = place; head = k } ∷ ws) → slice_get e.keys.items w.place ≡ Some w.head
     stands_at w on =
         let p : IsPlace e.keys.items w.head w.place = turns.placed w on in
         slice_get-get_or e.keys.items w.place w.head p.within ∙ ap Some p.is
 
+    -- the entry's keys have the first pending head at its place
     first : slice_get e.keys.items place ≡ Some k
     first = stands_at _ (inl refl)
 
+    -- each key has its node at the same place, so the first pending head has one
     pub found : (m : Node) × (slice_get nodes place ≡ Some m) × (node_at t k ≡ Some m) × (m.key ≡ k)
     found = key_node u.store.kept u.store.found _ first
 
+    -- the node that heads the first pending unit
     abbrev pub head : Node
     head = found.0
 
+    -- the table has the head's node under the first pending key
     pub head_is : node_at t k ≡ Some head
     head_is = found.2
 
+    -- the head's node carries the key under which the table has it
     pub head_key : head.key ≡ k
     head_key = found.3
 
+    -- a place of the list holds the head, so the collection has it
     pub head_on : In head nodes
     head_on = got_In _ _ found.1
 
@@ -160,6 +170,7 @@ module _ {t : Table Node} {us : List Unit} {ss : List Shelf} {e : Entry} {k : No
     pub closed_behind : AreClosed nodes (turn_heads ws)
     closed_behind n on coming hangs = grind (arith, hangs_more, not_again)
 
+    -- the pending units keep their order and stay closed without the first one
     pub turns_behind : AreTurns t e.keys.items ws
     turns_behind = record {
       placed = λ w on. turns.placed w (inr on);
@@ -178,6 +189,7 @@ module _ {t : Table Node} {us : List Unit} {ss : List Shelf} {e : Entry} {k : No
     still_under no_root out = under_with u u.held (next_behind (λ h. both_ways _ (next_told u k _ head_on head_key h) out))
         (wait_among nodes (turn_heads ws) no_root)
 
+    -- a first unit that is not next needs no step, so the turns behind it stay as they are
     pub still_led : (handles : Handles) → waits_among [] nodes ≡ true → is_next_there t us k ≡ false →
         AfterSteps handles t t us ss e e [] (turn_heads ws) × (AreTurns t e.keys.items ws × (waits_among [] nodes ≡ true))
     still_led handles no_wait out = (led_none _ (still_under (none_waits nodes no_wait) out), (turns_behind, no_wait))
@@ -249,9 +261,11 @@ module _ {t : Table Node} {us : List Unit} {ss : List Shelf} {e : Entry} {k : No
       module _ (no_wait : waits_among [] nodes ≡ true) {ks : List NodeKey} (listed : IsUnitListed t k ks) {asks : TotalDemand}
           (asked : AreAsked t k ks asks) (handles : Handles) {b : Buffers} (has : e.buffers ≡ Some b)
           (stays : is_abandoned_in handles t e ≡ false) where
+        -- the collection before the refusal
         abbrev c0 : Collection
         c0 = collection_in t (shelf_of e)
 
+        -- whether a strong handle is open on one of the buffers that the collection was given
         abbrev opened : Bool
         opened = is_held_strongly handles e.id e.buffers
 
@@ -283,9 +297,11 @@ module _ {t : Table Node} {us : List Unit} {ss : List Shelf} {e : Entry} {k : No
 
         module _ {now : Table Node} {new : List Unit} {after : Entry} {why : Failure}
             (felled : AfterLoss handles t now new ss e after (record { cause = Cause.Failed why; origin = k }) (k ∷ turn_heads ws)) where
+          -- the fault that begins at the head of the refused unit
           abbrev fault : Fault
           fault = record { cause = Cause.Failed why; origin = k }
 
+          -- the collection's nodes after the loss
           abbrev ns : List Node
           ns = nodes_with now after.keys.items
 

@@ -141,12 +141,15 @@ module _ {t now : Table Node} {ss : List Shelf} (e : Entry) {k : NodeKey} (kept 
     (found : find (λ (x : Shelf). x.id == e.id) ss ≡ Some (shelf_of e)) (formed : IsWhole (collection_in t (shelf_of e)))
     (top : IsBareHead (nodes_with t e.keys.items) k) {ks : List NodeKey} (listed : IsUnitListed t k ks) (given : IsGivenAt t now (k ∷ []) ks)
   where
+    -- the collection's nodes before the allocation
     abbrev nodes : List Node
     nodes = nodes_with t e.keys.items
 
+    -- the list with one head: that of the unit
     abbrev hs : List NodeKey
     hs = k ∷ []
 
+    -- a node after the allocation, which gives buffers to the unit's listed nodes alone
     abbrev g : Node → Node
     g = given_at (k ∷ []) ks
 

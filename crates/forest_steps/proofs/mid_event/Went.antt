@@ -19,15 +19,19 @@ module _ {t : Table Node} {us : List Unit} {ss : List Shelf} {old : Entry} {unhe
     (opens : MidEvent t us ss old unheld pending) {now : Table Node} {after : List Unit} {new : Entry} {going : Going}
     {origin : NodeKey} {keys : List NodeKey} (gone : IsGoneSo t now us after old new going origin keys)
     (left : is_left_of (nodes_with t old.keys.items) origin ≡ true) where
+  -- the collection's nodes before the removal
   abbrev pub nodes : List Node
   nodes = nodes_with t old.keys.items
 
+  -- the shelf of the entry before the removal
   abbrev s : Shelf
   s = shelf_of old
 
+  -- whether the key is one of the removed keys
   abbrev falls : NodeKey → Bool
   falls k = list_any (same_key k) keys
 
+  -- a node after the removal: it is marked as gone if its key is one of the removed keys
   abbrev pub goes : Node → Node
   goes = goes_of going keys
 
@@ -126,6 +130,7 @@ module _ {t : Table Node} {us : List Unit} {ss : List Shelf} {old : Entry} {unhe
       abbrev above : IsLeft nodes p
       above = parent opens.store.kept opens.store.found gone.forest left gone.taken up
 
+      -- the parent of the highest removed node
       abbrev over : Node
       over = above.node
 

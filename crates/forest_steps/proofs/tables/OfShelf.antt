@@ -4,6 +4,7 @@ use Rattle.forest_store.proofs.tables.Hanging.{looked_hung, looked_tied}
 
 module _ {t : Table Node} {ss : List Shelf} {s : Shelf} (kept : IsStored t ss)
     (found : find (λ (x : Shelf). x.id == s.id) ss ≡ Some s) where
+  -- the nodes that the table has under the shelf's keys
   abbrev pub nodes : List Node
   nodes = nodes_with t s.keys
 

@@ -114,6 +114,7 @@ module _ (t : Table Node) (id : ℕ) (named : (key : NodeKey) (n : Node) → nod
 
 module _ {t : Table Node} {ss : List Shelf} (kept : IsStored t ss) {s : Shelf}
     (found : find (λ (x : Shelf). x.id == s.id) ss ≡ Some s) where
+  -- the nodes that the table has under the shelf's keys
   abbrev nodes : List Node
   nodes = nodes_with t s.keys
 
