@@ -108,6 +108,7 @@ module _ {K X : Type 0} where
   set_value_at-get_or (e ∷ es) zero d = refl
   set_value_at-get_or (e ∷ es) (suc place) d = ap (λ rest. e ∷ rest) (set_value_at-get_or es place d)
 
+  -- writing the value that an entry already has leaves the list as it is
   pub set_value_at-same : (es : List (K × X)) (place : ℕ) (key : K) (v : X) → slice_get es place ≡ Some (key, v) →
       set_value_at es place v ≡ es
   set_value_at-same es place key v stands =
@@ -118,9 +119,11 @@ module _ {K X : Type 0} where
 module _ {K X S : Type 0} (m : HashMap K X S) (place : ℕ) (key : K) (v : X) (stands : slice_get m.entries place ≡ Some (key, v))
     (lent : Option (MutBor X))
     (value : option_copied_mut lent ≡ slice_get (values m) place) where
+  -- the lent value is that of the entry, since the values stand in the order of the entries
   is_value : option_copied_mut lent ≡ Some v
   is_value = value ∙ slice_get-map (λ (e : K × X). e.1) m.entries place ∙ ap (option_map (λ (e : K × X). e.1)) stands
 
+  -- the map lends a value, since an entry stands at the place
   pub IsSome-lent_at : IsSome lent
   IsSome-lent_at = some lent is_value
     where
@@ -128,6 +131,7 @@ module _ {K X S : Type 0} (m : HashMap K X S) (place : ℕ) (key : K) (v : X) (s
       some None e = cc
       some (Some r) e = refl
 
+  -- a borrow from the place has the value of the entry that stands there
   pub value_lent_at : (r : MutBor X) → lent ≡ Some r → r.now ≡ v
   value_lent_at r is = injected (sym (ap option_copied_mut is) ∙ is_value)
     where
@@ -139,15 +143,19 @@ module _ {K X S : Type 0} (eq : K → K → Bool) (m : HashMap K X S) (place : �
     (stands : slice_get m.entries place ≡ Some (key, v)) (lent : Option (Bor K × Bor X))
     (entry : option_map deref_pair lent ≡ slice_get m.entries place) (value : IfSome lent (λ p. get eq m p.0.now ≡ Some p.1.now))
     (read : Bor K × Bor X) (is_read : lent ≡ Some read) where
+  -- the entry at the place consists of the key and the value that were read
   pair : slice_get m.entries place ≡ Some (read.0.now, read.1.now)
   pair = sym entry ∙ ap (option_map deref_pair) is_read
 
+  -- the key that was read is the key of the place, since one entry stands there
   this : read.0.now ≡ key
   this = ap (λ (o : Option (K × X)). (unwrap_or o (key, v)).0) (sym pair ∙ stands)
 
+  -- the value that was read stands at the place under the given key
   pub stands_read_at : slice_get m.entries place ≡ Some (key, read.1.now)
   stands_read_at = pair ∙ ap (λ k. Some (k, read.1.now)) this
 
+  -- a look-up of the key finds the value that was read at its place
   pub lookup_read_at : lookup (eq key) m.entries ≡ Some read.1.now
   lookup_read_at =
       subst (λ k. lookup (eq k) m.entries ≡ Some read.1.now) this (subst (λ o. IfSome o (λ p. get eq m p.0.now ≡ Some p.1.now)) is_read
@@ -155,6 +163,7 @@ module _ {K X S : Type 0} (eq : K → K → Bool) (m : HashMap K X S) (place : �
 
 module _ {K X S : Type 0} (eq same : K → K → Bool) (is : eq ≡ same) (one : (a b : K) → same a b ≡ true → a ≡ b) (itself : (a : K) →
     same a a ≡ true) (m n : HashMap K X S) (key : K) where
+  -- the map's comparison is an equivalence, since it holds exactly of equal keys
   laws : IsEquivalence eq
   laws = subst IsEquivalence (sym is) (record {
     refl = itself;
@@ -170,13 +179,16 @@ module _ {K X S : Type 0} (eq same : K → K → Bool) (is : eq ≡ same) (one :
 
   -- the entry of the key stands at a place
   module _ (place : ℕ) (v : X) (stands : slice_get m.entries place ≡ Some (key, v)) where
+    -- the place is less than the length, since an entry stands there
     within : place < length m.entries
     within = slice_get_within m.entries place (key, v) stands
 
+    -- reading the place with any default gives the entry that stands there
     here : get_or m.entries place (key, v) ≡ (key, v)
     here = get_or_from_slice_get m.entries place (key, v) (key, v) stands
 
     module _ (unique : IsUnique eq m) where
+      -- a look-up with the map's own comparison finds the value, since no other entry has the key
       found : lookup (eq key) m.entries ≡ Some v
       found = lookup_from_place laws m.entries place key v unique stands
 

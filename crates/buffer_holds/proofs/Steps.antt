@@ -129,6 +129,7 @@ module _ (limit : ℕ) (rows rows' : List (Hold × ℕ)) (tallies tallies' : Lis
       not_idle zero (suc moving) e = omega arith
       not_idle (suc clients) moving e = omega arith
 
+  -- dropping a row of 0 is a step, whether the tally of its kind stays or is dropped too
   pub Step-forgotten : Step limit rows rows' tallies tallies' hold None (without_client (tally_at tallies hold.kind))
   Step-forgotten =
       elim (is_idle left) as (λ b. is_idle left ≡ b →
@@ -169,6 +170,7 @@ module _ (limit : ℕ) (rows rows' : List (Hold × ℕ)) (tallies tallies' : Lis
         | false ↦ λ e. refl
       ] refl
 
+  -- the total of the kind stays, since a tally that is dropped has a total of 0
   pub forgotten_total : (unwrap_or (without_client (tally_at tallies hold.kind)) no_tally).total ≡ (tally_at tallies hold.kind).total
   forgotten_total =
       elim (is_idle left) as (λ b. is_idle left ≡ b →
@@ -184,11 +186,13 @@ module _ {limit : ℕ} {rows rows' : List (Hold × ℕ)} {tallies tallies' : Lis
       (tally_at tallies kind)
   tally_after kind = ap (λ o. unwrap_or o no_tally) (step.retallies.finds kind) ∙ inside (same_handle_kind hold.kind kind)
     where
+      -- the default for an absent tally moves into both cases of the choice
       inside : (b : Bool) → unwrap_or (cond b tally' (lookup (same_handle_kind kind) tallies)) no_tally ≡ cond b (unwrap_or tally' no_tally)
           (tally_at tallies kind)
       inside true = refl
       inside false = refl
 
+  -- the new tally counts the new rows of its kind, since tally and row change by the same amount
   tallied_here : Tallies limit rows' hold.kind (unwrap_or tally' no_tally)
   tallied_here =
       let kind = hold.kind in
@@ -214,6 +218,7 @@ module _ {limit : ℕ} {rows rows' : List (Hold × ℕ)} {tallies tallies' : Lis
         within = step.keeps.within;
       }
 
+  -- a tally of another kind counts the new rows too, since no row of that kind changes
   tallied_there : (kind : HandleKind) → same_handle_kind hold.kind kind ≡ false → Tallies limit rows' kind (tally_at tallies kind)
   tallied_there kind e =
       let was = step.sound.tallied kind in
@@ -236,6 +241,7 @@ module _ {limit : ℕ} {rows rows' : List (Hold × ℕ)} {tallies tallies' : Lis
         within = was.within;
       }
 
+  -- the tally of each kind counts the new rows, by whether the step is of that kind
   tallied_after : (kind : HandleKind) → Tallies limit rows' kind (tally_at tallies' kind)
   tallied_after kind =
       subst (Tallies limit rows' kind) (sym (tally_after kind))
@@ -245,6 +251,7 @@ module _ {limit : ℕ} {rows rows' : List (Hold × ℕ)} {tallies tallies' : Lis
         | false ↦ λ e. tallied_there kind e
       ] refl)
 
+  -- each tally that is kept counts a client or a handle in a parcel
   needed_after : (kind : HandleKind) → IsSome (lookup (same_handle_kind kind) tallies') →
       0 < (tally_at tallies' kind).clients + (tally_at tallies' kind).moving
   needed_after kind =
@@ -361,11 +368,13 @@ module _ {limit : ℕ} {rows rows' : List (Hold × ℕ)} {tallies tallies' : Lis
     none_here other e = subst (λ hold. count_at rows hold ≡ 0) (same_hold-one (hold_of client buffer strength) other e) (ap (λ o.
         unwrap_or o 0) idle)
 
+    -- each count stays, since the dropped row counted 0
     same_count : (other : Hold) (here : Bool) → same_hold (hold_of client buffer strength) other ≡ here →
         cond here (unwrap_or row' 0) (count_at rows other) ≡ count_at rows other
     same_count other true e = ap (λ o. unwrap_or o 0) gone ∙ sym (none_here other e)
     same_count other false e = refl
 
+    -- this client keeps no room in the dropped row, as its count is 0; all other rows stay
     room_left : (other : Hold) (here : Bool) → same_hold (hold_of client buffer strength) other ≡ here
         → cond here (is_some row') (is_some (row_at rows other)) ≡ cond here (nat_lt 0 (count_at rows other)) (is_some (row_at rows other))
     room_left other true e = ap is_some gone ∙ ap (nat_lt 0) (sym (none_here other e))

@@ -26,23 +26,29 @@ module _ {S : Type 0} (tallies : HashMap HandleKind Tally S) (kind : HandleKind)
       (lent : Option (Bor HandleKind × Bor Tally)) (entry : option_map deref_pair lent ≡ slice_get tallies.entries place)
       (value : IfSome lent (λ p. get derived.it tallies p.0.now ≡ Some p.1.now)) (read : Bor HandleKind ×
       Bor Tally) (is_read : lent ≡ Some read) where
+    -- the search found the place, so an entry of the kind stands there
     there : StandsAt tallies.entries place kind
     there = subst (λ o. IfSome o (λ place. StandsAt tallies.entries place kind)) is_place found
 
+    -- the entry at the place consists of the kind and the tally that were read
     pair : slice_get tallies.entries place ≡ Some (read.0.now, read.1.now)
     pair = sym entry ∙ ap (option_map deref_pair) is_read
 
+    -- the kind that was read is the kind of the search, since one entry stands at the place
     this : read.0.now ≡ kind
     this = ap (λ (o : Option (HandleKind × Tally)). (unwrap_or o (kind, no_tally)).0) (sym pair ∙ there.1)
 
+    -- the tally that was read stands at the place under the kind of the search
     pub stands_read : slice_get tallies.entries place ≡ Some (kind, read.1.now)
     stands_read = pair ∙ ap (λ k. Some (k, read.1.now)) this
 
+    -- a look-up of the kind with the derived comparison finds the tally that was read
     pub found_read : lookup (derived.it kind) tallies.entries ≡ Some read.1.now
     found_read =
         subst (λ k. lookup (derived.it k) tallies.entries ≡ Some read.1.now) this (subst (λ o.
         IfSome o (λ p. get derived.it tallies p.0.now ≡ Some p.1.now)) is_read value)
 
+    -- a look-up of the kind with the specs' comparison finds the tally that was read
     pub row_read : tally_row tallies.entries kind ≡ Some read.1.now
     row_read = row_found (Some read.1.now) (sym found_read)
 
@@ -65,13 +71,16 @@ module _ {S : Type 0} (tallies : HashMap HandleKind Tally S) (kind : HandleKind)
   module _ (searched : Option ℕ) (found : IfSome searched (λ place. StandsAt tallies.entries place kind)) (place : ℕ)
       (is_place : searched ≡ Some place) (lent : Option (MutBor Tally))
       (value : option_copied_mut lent ≡ slice_get (values tallies) place) where
+    -- the search found the place, so an entry of the kind stands there
     placed : StandsAt tallies.entries place kind
     placed = subst (λ o. IfSome o (λ place. StandsAt tallies.entries place kind)) is_place found
 
+    -- the map lends a tally, since an entry stands at the place
     pub lent_there : IsSome lent
     lent_there = IsSome-lent_at tallies place kind placed.0 placed.1 lent value
 
     module _ (unique : IsUnique derived.it tallies) where
+      -- the lent tally is the one that is kept for the kind, since no other entry has the kind
       pub tally_lent : (tally : MutBor Tally) → lent ≡ Some tally → tally_at tallies.entries kind ≡ tally.now
       tally_lent tally is = tally_lent_at place placed lent value unique tally is
 

@@ -217,6 +217,7 @@ module _ (start pages count high : ℕ) (is : List Interval) (h : in_order 0 hig
             next.1,
       )
 
+  -- the run ends within the list, since its last interval stands there
   pub run_within : 1 ≤ count → at + count ≤ length is
   run_within some = within count refl some
     where
@@ -241,5 +242,6 @@ module _ (start pages count high : ℕ) (is : List Interval) (h : in_order 0 hig
       ∙ sym ((without_between 0 high (take at is) b (drop (at + k + 1) is) order).1)
       ∙ ap (without b.start) whole
 
+  -- removing the whole range at once removes the same intervals as removing each of the run
   pub run_removed : remove_range is at (at + count) ≡ without_run start pages count is
   run_removed = removed count (omega arith)

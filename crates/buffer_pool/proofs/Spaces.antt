@@ -147,15 +147,18 @@ join_touching hole next at hs is begins =
 
 -- what comes back, behind the hole at the place, before it, or apart from all
 module _ (i : Interval) (hs : List Interval) (at : ℕ) (found : at ≡ prefix_len (λ (h : Interval). nat_lt (end_of h) i.start) hs) where
+  -- the interval is merged with the holes from the place on; those before the place stay
   placed_at : with_released i hs ≡ take at hs ++ merged i (drop at hs)
   placed_at = subst (λ n. with_released i hs ≡ take n hs ++ merged i (drop n hs)) (sym found) (released_at i hs)
 
+  -- where the hole at the place ends at the interval's start, it gains the interval's pages
   pub released_behind : (hole : Interval) → hole ≡ get_or hs at hole → first_ends i.start (drop at hs) ≡ true →
       take at hs ++ with_merged (record { start = hole.start; pages = hole.pages + i.pages }) (drop (at + 1) hs) ≡ with_released i hs
   released_behind hole is ends =
       let m = merged_behind i hole at hs (first_within (first_ends i.start) at hs refl ends) is ends in
       sym (placed_at ∙ ap (λ r. take at hs ++ r) m.1)
 
+  -- where the hole at the place touches only the end of the interval, both become one hole
   pub released_before : (hole : Interval) → hole ≡ get_or hs at hole → first_ends i.start (drop at hs) ≡ false →
       first_begins (end_of i) (drop at hs) ≡ true → set hs at (record { start = i.start; pages = i.pages + hole.pages }) ≡ with_released i hs
   released_before hole is ends begins =
@@ -163,6 +166,7 @@ module _ (i : Interval) (hs : List Interval) (at : ℕ) (found : at ≡ prefix_l
       let m = merged_before i hole at hs lt is ends begins in
       set_split hs at _ lt ∙ sym (placed_at ∙ ap (λ r. take at hs ++ r) (rw (sym (add-one at)) m.1))
 
+  -- an interval that touches no hole becomes a hole of its own at the place
   pub released_apart : first_ends i.start (drop at hs) ≡ false → first_begins (end_of i) (drop at hs) ≡ false →
       insert hs at i ≡ with_released i hs
   released_apart ends begins = sym (placed_at ∙ ap (λ r. take at hs ++ r) (merged_apart i (drop at hs) ends begins))

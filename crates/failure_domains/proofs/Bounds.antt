@@ -35,9 +35,11 @@ pub all_within : {N : Type 0} (t : Table N) (top : NodeKey) → children_within 
 all_within t top = λ i key. if none_stops (not (same_key key top)) (node_at t key) i then [] else children_at t key
 
 module _ {N : Type 0} (stops : N → Bool) (t : Table N) (top : NodeKey) where
+  -- the children to which the walk continues from a key: none if it stops there
   abbrev down : NodeKey → List NodeKey
   down = children_within stops t top
 
+  -- whether the walk stops at a key: it is not the top, and its node is a stop
   abbrev stopped : NodeKey → Bool
   stopped = stopped_at stops t top
 
@@ -60,6 +62,7 @@ module _ {N : Type 0} (stops : N → Bool) (t : Table N) (top : NodeKey) where
     within_apart key = apart_if (stopped key) (children_at t key) (forest.once key)
 
     module _ (keys : List NodeKey) (walk : IsWalk down (depth_at t) top (length keys) keys) where
+      -- a finished walk lists the top, and the children to which it continues from each listed key
       whole : keys ≡ top ∷ flat_map down keys
       whole = walk_ends t top down (length keys) keys walk (omega arith)
 
@@ -83,5 +86,6 @@ module _ {N : Type 0} (stops : N → Bool) (t : Table N) (top : NodeKey) where
           brings down top keys whole above child (within_is_key above reach)
           (subst (λ (b : Bool). Contains (if b then [] else children_at t above) child) (sym goes) ((forest.linked above child).0 parent))
 
+      -- the walk lists exactly the keys that lie within the bound
       pub keys_are_within : (key : NodeKey) → Contains keys key ↔ Within (parent_at t) stopped top key
       keys_are_within key = (key_is_within (depth_at t key + 1) key (omega arith), within_is_key key)

@@ -71,6 +71,7 @@ module _ {N : Type 0} (blocks : N → Bool) (t : Table N) (forest : IsForest t) 
       ap (λ most. links_within blocks t most below) deep ∙ (rw goes refl)
 
   module _ (origin : NodeKey) where
+    -- a climb of so many steps from the origin to the top, over links that nothing blocks
     abbrev IsClimb : NodeKey → ℕ → Type 0
     IsClimb top steps = Climb (parent_at t) (blocked_at blocks t) origin top steps
 

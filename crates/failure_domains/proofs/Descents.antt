@@ -13,6 +13,7 @@ use Rattle.failure_domains.proofs.Lists.{AllPairs-append, Contains-cases, flat_m
 
 -- A walk may leave out the children of some keys: those that it goes to are children, and each is one.
 module _ {N : Type 0} (t : Table N) (top : NodeKey) (down : NodeKey → List NodeKey) where
+  -- the keys are the list of a walk down from the top, of which so many were taken
   abbrev Walk : ℕ → List NodeKey → Type 0
   Walk taken keys = IsWalk (down) (depth_at t) top taken keys
 
@@ -45,6 +46,7 @@ module _ {N : Type 0} (t : Table N) (top : NodeKey) (down : NodeKey → List Nod
 
     module _ (taken : ℕ) (keys : List NodeKey) (walk : Walk taken keys) (more : taken < length keys) (key : NodeKey)
         (is : get_or keys taken key ≡ key) where
+      -- the keys that the next step of the walk appends
       abbrev children : List NodeKey
       children = down key
 
@@ -52,6 +54,7 @@ module _ {N : Type 0} (t : Table N) (top : NodeKey) (down : NodeKey → List Nod
       above_low : depth_at t top ≤ depth_at t key
       above_low = All-contains (λ k. depth_at t top ≤ depth_at t k) keys key walk.low (taken, more, is)
 
+      -- the key lies at most as many layers below the top as keys were taken
       above_high : depth_at t key ≤ depth_at t top + taken
       above_high = subst (λ k. depth_at t k ≤ depth_at t top + taken) is (walk.high taken key more)
 

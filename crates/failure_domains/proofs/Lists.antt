@@ -9,6 +9,7 @@ module _ {X : Type 0} where
   pub Contains-head : (x : X) (rest : List X) → Contains (x ∷ rest) x
   Contains-head x rest = (zero, omega arith, refl)
 
+  -- an element of the tail stands one place further in the whole list
   pub Contains-tail : (x y : X) (rest : List X) → Contains rest y → Contains (x ∷ rest) y
   Contains-tail x y rest there = (suc there.0, omega (arith, there.1), there.2)
 

@@ -27,6 +27,7 @@ module _ {N : Type 0} where
       pub runs_are : (i : ℕ) → run_in slots most i ≡ lists i
       runs_are i = run_is (next_in slots) (prev_in slots) None (first_in slots i) (lists i) (last_in slots i) most (each i) (short i)
 
+      -- the run of each slot is linked to and fro, since the run is the given list
       pub chained_so : (i : ℕ) → IsRun (next_in slots) (prev_in slots) None (first_in slots i) (run_in slots most i) (last_in slots i)
       chained_so i = subst (λ keys. IsRun (next_in slots) (prev_in slots) None (first_in slots i) keys (last_in slots i)) (sym (runs_are i))
           (each i)
@@ -49,14 +50,17 @@ module _ {N : Type 0} where
   children-there keys None some = absurd (cc)
   children-there keys (Some row) some = refl
 
+  -- an entry that is there has a core
   some-core : (o : Option (Entry N)) → IsSome o → IsSome (option_map core_of o)
   some-core None some = absurd (cc)
   some-core (Some e) some = refl
 
+  -- if a row with its children is there, the row without them is there
   core-some : (keys : List NodeKey) (o : Option (Row N)) → IsSome (option_map (with_children keys) o) → IsSome o
   core-some keys None some = absurd (cc)
   core-some keys (Some row) some = refl
 
+  -- a row that is there is still there once it has its children
   some-row : (keys : List NodeKey) (o : Option (Row N)) → IsSome o → IsSome (option_map (with_children keys) o)
   some-row keys None some = absurd (cc)
   some-row keys (Some row) some = refl

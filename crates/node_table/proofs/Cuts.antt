@@ -26,6 +26,7 @@ module _ {N : Type 0} (old : List (Option (Slot N))) (nexts : List ℕ) (first c
     abbrev pub old-rows : List (Option (Row N))
     old-rows = rows_of old most
 
+    -- the rows of the table after the key lost its parent, while the parent still lists it
     abbrev pub mid-rows : List (Option (Row N))
     mid-rows = slice_set old-rows key.slot (option_map without_parent (slice_index_or old-rows key.slot None))
 
@@ -33,9 +34,11 @@ module _ {N : Type 0} (old : List (Option (Slot N))) (nexts : List ℕ) (first c
     abbrev before : Table N
     before = table_of old nexts first limit
 
+    -- the table with these rows, between the two changes of the cut
     abbrev half : Table N
     half = record { rows = mid-rows; nexts = nexts; first = first; limit = limit; vacant = 0 }
 
+    -- the first change of the cut edits the row of the key alone
     pub loosened-rows : EditsRows old-rows mid-rows (Some key) without_parent
     loosened-rows = edit-one old-rows key without_parent (slot-there before key there)
 
@@ -50,10 +53,12 @@ module _ {N : Type 0} (old : List (Option (Slot N))) (nexts : List ℕ) (first c
     row-of-slot t k some =
         ap (λ b. cond b (slice_index_or t.rows k.slot None) None) (eq-true (next_at t k.slot) (k.generation + 1) (next-there t k some))
 
+    -- the table before the cut has the parent that the entry of the key names
     pub had-parent : parent_at before key ≡ parent
     had-parent = ap parent_in (row-of-slot before key there ∙ row-at old most key.slot)
         ∙ (parent-in-row (next_in old) (entry_in (slice_index_or old key.slot None)) ∙ sym was)
 
+    -- halfway the row of the key has no parent, and every other row is the old one
     half-row : (k : NodeKey) → row_at half k ≡ option_map (at_parent (Some key) without_parent k) (row_at before k)
     half-row k = edited-key old-rows mid-rows nexts first limit (Some key) without_parent loosened-rows there k
 
@@ -61,9 +66,11 @@ module _ {N : Type 0} (old : List (Option (Slot N))) (nexts : List ℕ) (first c
     still-there : (k : NodeKey) → IsSome (row_at before k) → IsSome (row_at half k)
     still-there k some = ap is_some (half-row k) ∙ is_some-option_map (at_parent (Some key) without_parent k) (row_at before k) ∙ some
 
+    -- the parent has a row halfway, since the forest has a row for every parent
     above-there : (above : NodeKey) → parent ≡ Some above → IsSome (row_at half above)
     above-there above is = still-there above (parent-there before sound.forest above key (had-parent ∙ is))
 
+    -- the key's parent has a row halfway, if the key has a parent
     pub parent-half : (p : Option NodeKey) → p ≡ parent → IfSome p (λ k. IsSome (row_at half k))
     parent-half None is = tt
     parent-half (Some above) is = above-there above (sym is)
@@ -77,14 +84,17 @@ module _ {N : Type 0} (old : List (Option (Slot N))) (nexts : List ℕ) (first c
         abbrev after : Table N
         after = table_of new nexts first limit
 
+        -- the second change removes the key from its parent's children and leaves all other rows
         whole-row : (k : NodeKey) → row_at after k ≡ option_map (at_parent parent (without_child key) k) (row_at half k)
         whole-row k = edited-key mid-rows (rows_of new most) nexts first limit parent (without_child key) unlinked (parent-half parent refl)
             k
 
+        -- no key is its own parent, since each parent ranks lower than its child
         not-own-parent : parent ≢ Some key
         not-own-parent same = let lower : sound.forest.rank key < sound.forest.rank key =
             sound.forest.ranked key key (had-parent ∙ same) in absurd (omega arith)
 
+        -- the key's row loses its parent and nothing else
         loose : row_at after key ≡ option_map without_parent (row_at before key)
         loose =
             whole-row key ∙ map-stranger parent (without_child key) key (row_at half key) not-own-parent
@@ -97,9 +107,11 @@ module _ {N : Type 0} (old : List (Option (Slot N))) (nexts : List ℕ) (first c
             ∙ ap (option_map (at_parent parent (without_child key) k)) (half-row k
             ∙ map-stranger (Some key) without_parent k (row_at before k) (λ same. differ (cc)))
 
+        -- the first change of the cut leaves every list of children
         same-children : (above : NodeKey) → children_at half above ≡ children_at before above
         same-children above = ap children_in (half-row above) ∙ map-down (Some key) without_parent above (row_at before above) (λ row. refl)
 
+        -- parents and children still match, since the cut removes one link from both sides
         forest-cut : IsLinked (parent_at after) (children_at after)
         forest-cut =
             IsLinked-cut (parent_at before) (children_at before) (parent_at after) (children_at after) sound.forest key
@@ -111,15 +123,18 @@ module _ {N : Type 0} (old : List (Option (Slot N))) (nexts : List ℕ) (first c
             (λ above away. ap children_in (whole-row above ∙ map-stranger parent (without_child key) above (row_at half above) (λ is.
             away (had-parent ∙ is))) ∙ same-children above)
 
+        -- the number of rows stays, since both changes edit rows that are there
         count-kept : count_by is_some (rows_of new most) ≡ count_by is_some old-rows
         count-kept = edited-count mid-rows (rows_of new most) parent (without_child key) unlinked
             ∙ edited-count old-rows mid-rows (Some key) without_parent loosened-rows
 
+        -- a slot has a row after the cut exactly if it had one before
         row-kept : (i : ℕ) → is_some (slice_index_or (rows_of new most) i None) ≡ is_some (slice_index_or old-rows i None)
         row-kept i =
             ap is_some (unlinked i) ∙ is_some-option_map (at_slot parent (without_child key) i) (slice_index_or mid-rows i None)
             ∙ ap is_some (loosened-rows i) ∙ is_some-option_map (at_slot (Some key) without_parent i) (slice_index_or old-rows i None)
 
+        -- the fields are sound after the cut
         pub sound-cut : IsSound new nexts first count limit
         sound-cut =
             record {
@@ -133,6 +148,7 @@ module _ {N : Type 0} (old : List (Option (Slot N))) (nexts : List ℕ) (first c
               chained = chained;
             }
 
+        -- the two changes together cut the key from its parent, as the specification states it
         pub cuts : (vacant vacant2 : ℕ) → vacant2 ≡ vacant → Cuts (with_vacant vacant before) (with_vacant vacant2 after) key
         cuts vacant vacant2 same =
             record {

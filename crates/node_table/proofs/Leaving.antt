@@ -38,15 +38,19 @@ module _ {N : Type 0} (old mid : Slab (Slot N)) (nexts : List ℕ) (first count 
     (in_table : IsSome (row_at (table_of old.slots nexts first limit) key))
     (edits : Edits old mid key.slot loosened)
   where
+    -- how many children there may be
     abbrev most : ℕ
     most = given_count first nexts
 
+    -- the children that a slot lists before the cut
     abbrev run : ℕ → List NodeKey
     run i = run_in old.slots most i
 
+    -- the sibling before the key, if it has one
     abbrev before_key : Option NodeKey
     before_key = prev_in old.slots key.slot
 
+    -- the sibling after the key, if it has one
     abbrev after_key : Option NodeKey
     after_key = next_in old.slots key.slot
 
@@ -57,18 +61,22 @@ module _ {N : Type 0} (old mid : Slab (Slot N)) (nexts : List ℕ) (first count 
         (λ at. differ (one_key old.slots nexts first count limit sound x key (member-there old.slots nexts first count limit sound i x
         child) in_table at)))
 
+    -- every child but the key keeps its link to the sibling before it
     mid-prev : (x : NodeKey) (i : ℕ) → Contains (run i) x → x ≢ key → prev_in mid.slots x.slot ≡ prev_in old.slots x.slot
     mid-prev x i child differ =
         ap (λ o. link_in (λ (e : Entry N). e.prev) (entry_in o)) (there old mid key.slot loosened edits x.slot
         (λ at. differ (one_key old.slots nexts first count limit sound x key (member-there old.slots nexts first count limit sound i x
         child) in_table at)))
 
+    -- each slot keeps its first child, since a loosened entry keeps its links to children
     mid-first : (i : ℕ) → first_in mid.slots i ≡ first_in old.slots i
     mid-first = part-kept old mid key.slot loosened edits (link_in (λ (e : Entry N). e.first)) (λ e. refl)
 
+    -- each slot keeps its last child, since a loosened entry keeps its links to children
     mid-last : (i : ℕ) → last_in mid.slots i ≡ last_in old.slots i
     mid-last = part-kept old mid key.slot loosened edits (link_in (λ (e : Entry N). e.last)) (λ e. refl)
 
+    -- in the key's slot the core loses its parent, and in every other slot it stays
     mid-core : (i : ℕ) → option_map core_of (entry_in (get mid i)) ≡ option_map (at_slot (Some key) without_parent i)
         (option_map core_of (entry_in (get old i)))
     mid-core i =
@@ -129,16 +137,19 @@ module _ {N : Type 0} (old mid : Slab (Slot N)) (nexts : List ℕ) (first count 
           (each : (i : ℕ) → IsRun (next_in new.slots) (prev_in new.slots) None (first_in new.slots i) (without key (run i))
           (last_in new.slots i))
         where
+          -- a list without the key is no longer than the list, so the bound still holds
           short : (i : ℕ) → length (without key (run i)) ≤ most
           short i =
               let less : length (without key (run i)) ≤ length (run i) = without-short key (run i) in
               let most_run : length (run i) ≤ most = runs_short old.slots nexts first count limit sound i in
               omega arith
 
+          -- the new runs are linked to and fro, since they are the lists without the key
           pub chained-left : (i : ℕ) → IsRun (next_in new.slots) (prev_in new.slots) None (first_in new.slots i) (run_in new.slots most i)
               (last_in new.slots i)
           chained-left = chained_so new.slots most (λ i. without key (run i)) each short
 
+          -- the second change edits the parent's row alone, which loses the key as a child
           pub rows-left : EditsRows (mid-rows old.slots nexts first count limit parent key sound in_table was) (rows_of new.slots most)
               parent (without_child key)
           rows-left i =
@@ -153,6 +164,7 @@ module _ {N : Type 0} (old mid : Slab (Slot N)) (nexts : List ℕ) (first count 
 
     -- a root is in no list, so all lists stay
     module _ (was : None ≡ parent_of old.slots key.slot) where
+      -- each list stays linked, since the links of its children and its ends stay
       pub each-root : (i : ℕ) → IsRun (next_in mid.slots) (prev_in mid.slots) None (first_in mid.slots i) (without key (run i))
           (last_in mid.slots i)
       each-root i =
@@ -168,18 +180,23 @@ module _ {N : Type 0} (old mid : Slab (Slot N)) (nexts : List ℕ) (first count 
 
     -- a child is in its parent's list
     module _ (above : NodeKey) (was : Some above ≡ parent_of old.slots key.slot) where
+      -- the table has this node as the key's parent
       up : parent_at (table_of old.slots nexts first limit) key ≡ Some above
       up = had-parent old.slots nexts first count limit (Some above) key sound in_table was
 
+      -- the parent has a row, since the forest has a row for every parent
       above-there : IsSome (row_at (table_of old.slots nexts first limit) above)
       above-there = parent-there (table_of old.slots nexts first limit) sound.forest above key up
 
+      -- the children of the parent are those that its slot lists
       above-run : children_at (table_of old.slots nexts first limit) above ≡ run above.slot
       above-run = children_run old.slots nexts first count limit sound above above-there
 
+      -- the parent's slot lists the key
       child : Contains (run above.slot) key
       child = subst (λ ks. Contains ks key) above-run ((sound.forest.linked above key).0 up)
 
+      -- the parent's slot lists no key twice
       differ : AllDiffer (run above.slot)
       differ = subst AllDiffer above-run (sound.forest.once above)
 
@@ -192,6 +209,7 @@ module _ {N : Type 0} (old mid : Slab (Slot N)) (nexts : List ℕ) (first count 
             | inr found ↦ found
           ]
 
+      -- the parent's slot lists the sibling after the key, and that sibling links back to the key
       next-in : (x : NodeKey) → after_key ≡ Some x → Contains (run above.slot) x × (prev_in old.slots x.slot ≡ Some key)
       next-in x is = run-on (next_in old.slots) (prev_in old.slots) None (first_in old.slots above.slot) (run above.slot)
           (last_in old.slots above.slot) key x (sound.chained above.slot) child is
@@ -202,13 +220,16 @@ module _ {N : Type 0} (old mid : Slab (Slot N)) (nexts : List ℕ) (first count 
           has old mid key.slot loosened edits x.slot (entry-there old.slots nexts first limit x (member-there old.slots nexts first count
           limit sound above.slot x in_run))
 
+      -- the parent's slot still has an entry after the key lost its links
       pub parent-entry : HasEntry mid above.slot
       parent-entry = has old mid key.slot loosened edits above.slot (entry-there old.slots nexts first limit above above-there)
 
+      -- the sibling before the key still has an entry, if there is one
       pub prev-entry : (o : Option NodeKey) → o ≡ before_key → IfSome o (λ k. HasEntry mid k.slot)
       prev-entry None is = tt
       prev-entry (Some x) is = entry-of x (prev-in x (sym is)).0
 
+      -- the sibling after the key still has an entry, if there is one
       pub next-entry : (o : Option NodeKey) → o ≡ after_key → IfSome o (λ k. HasEntry mid k.slot)
       next-entry None is = tt
       next-entry (Some x) is = entry-of x (next-in x (sym is)).0
@@ -220,6 +241,7 @@ module _ {N : Type 0} (old mid : Slab (Slot N)) (nexts : List ℕ) (first count 
             one_key old.slots nexts first count limit sound x y (member-there old.slots nexts first count limit sound i x in_i)
             (member-there old.slots nexts first count limit sound j y in_j)
 
+        -- a child keeps its next link, unless it is the key or the sibling before the key
         nexts-kept : (i : ℕ) (x : NodeKey) → Contains (run i) x → before_key ≢ Some x → x ≢ key →
             next_in new.slots x.slot ≡ next_in old.slots x.slot
         nexts-kept i x in_i off apart =
@@ -228,6 +250,7 @@ module _ {N : Type 0} (old mid : Slab (Slot N)) (nexts : List ℕ) (first count 
             off (is ∙ ap Some (one y x above.slot i (prev-in y is).0 in_i at)))
             ∙ mid-next x i in_i apart)
 
+        -- a child keeps its previous link, unless it is the key or the sibling after the key
         prevs-kept : (i : ℕ) (x : NodeKey) → Contains (run i) x → after_key ≢ Some x → x ≢ key →
             prev_in new.slots x.slot ≡ prev_in old.slots x.slot
         prevs-kept i x in_i off apart =
@@ -256,6 +279,7 @@ module _ {N : Type 0} (old mid : Slab (Slot N)) (nexts : List ℕ) (first count 
             joins.firsts above.slot ∙ at_key-here (unless before_key (Some above)) after_key above.slot (first_in mid.slots above.slot)
             above (ap (λ o. unless o (Some above)) none) refl
 
+        -- the parent keeps its first child if that is not the key
         begins-else : first_in old.slots above.slot ≢ Some key → first_in new.slots above.slot ≡ first_in old.slots above.slot
         begins-else off =
             joins.firsts above.slot
@@ -264,6 +288,7 @@ module _ {N : Type 0} (old mid : Slab (Slot N)) (nexts : List ℕ) (first count 
             (last_in old.slots above.slot) key (sound.chained above.slot) child (unless-is before_key above y is).0))
             ∙ mid-first above.slot)
 
+        -- if the key was the parent's last child, the sibling before it is the last child now
         ends : last_in old.slots above.slot ≡ Some key → last_in new.slots above.slot ≡ before_key
         ends is =
             let none : after_key ≡ None = run-last_ends (next_in old.slots) (prev_in old.slots) None (first_in old.slots above.slot)
@@ -271,6 +296,7 @@ module _ {N : Type 0} (old mid : Slab (Slot N)) (nexts : List ℕ) (first count 
             joins.lasts above.slot ∙ at_key-here (unless after_key (Some above)) before_key above.slot (last_in mid.slots above.slot) above
             (ap (λ o. unless o (Some above)) none) refl
 
+        -- the parent keeps its last child if that is not the key
         ends-else : last_in old.slots above.slot ≢ Some key → last_in new.slots above.slot ≡ last_in old.slots above.slot
         ends-else off =
             joins.lasts above.slot

@@ -32,6 +32,7 @@ module _ {N : Type 0} (t : Table N) (forest : IsForest t) (key : NodeKey) where
       → Appends (children_at t key) old (now ++ child ∷ []) next
   appends-more old now at next child so is then = by_rest so.rest so.all so.next_is
     where
+      -- the children still to come begin with the appended child, so the rest is their tail
       by_rest : (rest : List NodeKey) → children_at t key ≡ so.done ++ rest → at ≡ first_key rest →
           Appends (children_at t key) old (now ++ child ∷ []) next
       by_rest [] all first = absurd (cc)

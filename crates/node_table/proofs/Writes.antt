@@ -35,18 +35,23 @@ module _ {N : Type 0} (slots : Slab (Slot N)) (nexts : List ℕ) (first count li
     abbrev writing : Entry N → Entry N
     writing entry = record entry { node = node }
 
+    -- the write edits the entry in the key's slot alone
     edits : Edits slots written key.slot writing
     edits = record { before = e; was = was; becomes = refl }
 
+    -- each slot keeps its link to the next sibling, since the write changes the node alone
     nexts_kept : (i : ℕ) → next_in written.slots i ≡ next_in slots.slots i
     nexts_kept = part-kept slots written key.slot writing edits (link_in (λ (entry : Entry N). entry.next)) (λ entry. refl)
 
+    -- each slot keeps its link to the previous sibling
     prevs_kept : (i : ℕ) → prev_in written.slots i ≡ prev_in slots.slots i
     prevs_kept = part-kept slots written key.slot writing edits (link_in (λ (entry : Entry N). entry.prev)) (λ entry. refl)
 
+    -- each slot keeps its link to the first child
     firsts_kept : (i : ℕ) → first_in written.slots i ≡ first_in slots.slots i
     firsts_kept = part-kept slots written key.slot writing edits (link_in (λ (entry : Entry N). entry.first)) (λ entry. refl)
 
+    -- each slot keeps its link to the last child
     lasts_kept : (i : ℕ) → last_in written.slots i ≡ last_in slots.slots i
     lasts_kept = part-kept slots written key.slot writing edits (link_in (λ (entry : Entry N). entry.last)) (λ entry. refl)
 
@@ -63,9 +68,11 @@ module _ {N : Type 0} (slots : Slab (Slot N)) (nexts : List ℕ) (first count li
         ∙ ap (λ (o : Option (Row N)). slice_set (rows_of slots.slots most) key.slot (option_map (with_node node) o))
         (sym (row-at slots.slots most key.slot ∙ ap (row_in (next_in slots.slots) most) was)))
 
+    -- the written slots show the old table with the node in the key's row
     pub table-written : table_in written nexts first limit ≡ table_with_node (table_in slots nexts first limit) key node
     table-written = ap (λ (rows : List (Option (Row N))). record { rows = rows; nexts = nexts; first = first; limit = limit; vacant = slots.vacant_key }) rows-written
 
+    -- the write edits the key's row alone
     edits-rows : EditsRows (rows_of slots.slots most) (rows_of written.slots most) (Some key) (with_node node)
     edits-rows i =
         ap (λ (rows : List (Option (Row N))). slice_index_or rows i None) rows-written
@@ -74,16 +81,19 @@ module _ {N : Type 0} (slots : Slab (Slot N)) (nexts : List ℕ) (first count li
 
     module _ (sound : IsSound slots.slots nexts first count limit) (there : IsSome (row_at (table_of slots.slots nexts first limit)
         key)) where
+      -- the row of the key has the node, and the row of every other key stays
       key-row : (k : NodeKey) → row_at (table_of written.slots nexts first limit) k ≡ option_map (at_parent (Some key) (with_node node) k)
           (row_at (table_of slots.slots nexts first limit) k)
       key-row = edited-key (rows_of slots.slots most) (rows_of written.slots most) nexts first limit (Some key) (with_node node) edits-rows
           there
 
+      -- a slot has a row after the write exactly if it had one before
       row-kept : (i : ℕ) → is_some (slice_index_or (rows_of written.slots most) i None) ≡ is_some (slice_index_or (rows_of slots.slots most)
           i None)
       row-kept i = ap is_some (edits-rows i)
           ∙ is_some-option_map (at_slot (Some key) (with_node node) i) (slice_index_or (rows_of slots.slots most) i None)
 
+      -- the fields stay sound, since the write keeps all links and the number of rows
       pub sound-written : IsSound written.slots nexts first count limit
       sound-written =
           record {

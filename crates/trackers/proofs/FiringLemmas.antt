@@ -127,6 +127,7 @@ module _ (w : World) (e : ℕ) (rows : List TrackerRow) (fired : List Fired) (at
   pub unmet_rows : is_met w (get_or rows at d) ≡ false → rows ≡ set rows at (row_after w e (get_or rows at d))
   unmet_rows unmet = rw unmet (sym (set-get_or rows at d))
 
+  -- a visit of a row that is not met adds no firing
   pub unmet_fired : is_met w (get_or rows at d) ≡ false → fired ≡ fired ++ option_to_list (fires w e (get_or rows at d))
   unmet_fired unmet = rw unmet (sym (append-nil fired))
 
@@ -135,6 +136,7 @@ module _ (w : World) (e : ℕ) (rows : List TrackerRow) (fired : List Fired) (at
       set rows at (record (get_or rows at d) { state = Over e }) ≡ set rows at (row_after w e (get_or rows at d))
   met_rows met = rw met refl
 
+  -- a visit of a row that is met appends the firing of its tracker
   pub met_fired : is_met w (get_or rows at d) ≡ true →
       fired ++ record { tracker = (get_or rows at d).id; event = e } ∷ [] ≡ fired ++ option_to_list (fires w e (get_or rows at d))
   met_fired met = rw met refl

@@ -44,6 +44,7 @@ module _ (w : World) (place : ℕ) where
   split_elsewhere None ts all = (tt, all)
   split_elsewhere (Some t) ts all = ((all.0, tt), all.1)
 
+  -- the due places reach each row that is met, if nothing indexed elsewhere is due
   pub reach_due : (n : ℕ) (rows : List TrackerRow) → AllByRecursion Elsewhere (filter_map waiting_of_row rows) →
       MetPlaces w n rows (met_in w (wishes_from place n rows))
   reach_due n [] all = none
@@ -66,6 +67,7 @@ module _ (w : World) (place : ℕ) where
         | false ↦ all
       ]
 
+  -- a bound at or below the first row's place is a bound for all due places
   due_above : (m n : ℕ) (rows : List TrackerRow) → m ≤ n → AllByRecursion (λ (p : ℕ). m ≤ p) (met_in w (wishes_from place n rows))
   due_above m n [] le = tt
   due_above m n (row ∷ rows) le =
@@ -83,6 +85,7 @@ module _ (w : World) (place : ℕ) where
         | false ↦ rise
       ]
 
+  -- the due places rise, since each row's place is less than those of the rows after it
   due_rise : (n : ℕ) (rows : List TrackerRow) → DoRise (met_in w (wishes_from place n rows))
   due_rise n [] = tt
   due_rise n (row ∷ rows) =
@@ -150,6 +153,7 @@ module _ (w : World) (e : ℕ) where
             (if b then Some (c, n) else None) has_still) [ true ↦ rw unmet (ap (λ l. (c, n) ∷ l) more) | false ↦ more ]
       ] refl
 
+  -- after an event the rows wait for exactly the wishes that it does not meet
   pub asked_after : (collection n : ℕ) (rows : List TrackerRow) →
       unmet_in w (wishes_from collection n rows) ≡ wishes_from collection n (map (row_after w e) rows)
   asked_after collection n [] = refl
@@ -170,6 +174,7 @@ module _ (w : World) (e : ℕ) where
         | false ↦ λ e. rw (elsewhere.0 (apart place p e)) refl
       ] refl
 
+  -- rows keep their wishes under another collection, since none of those is due
   pub other_asked : (place collection n : ℕ) (rows : List TrackerRow) → collection ≢ place →
       AllByRecursion (Elsewhere w place) (filter_map waiting_of_row rows) →
       wishes_from collection n (map (row_after w e) rows) ≡ wishes_from collection n rows

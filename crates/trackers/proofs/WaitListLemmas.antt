@@ -214,6 +214,7 @@ module _ (w : World) where
   abbrev pub weigh_met : (Wish → ℕ) → Wish → ℕ
   weigh_met f wish = if is_wish_met w wish then f wish else 0
 
+  -- to weigh the due places is to weigh all wishes, where an unmet one weighs nothing
   pub weigh_due : (g : ℕ → ℕ) (wishes : List Wish) → weigh g (met_in w wishes) ≡ weigh (weigh_met (λ (wish : Wish). g wish.1)) wishes
   weigh_due g wishes = weigh_map g (λ (wish : Wish). wish.1) (filter (is_wish_met w) wishes)
       ∙ weigh_filter (λ (wish : Wish). g wish.1) (is_wish_met w) wishes

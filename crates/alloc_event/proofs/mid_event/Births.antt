@@ -75,9 +75,11 @@ above_in {t = t} {ss = ss} {id = id} (Child k m there own here) kept n is =
 
 module _ {t mid : Table Node} {es born_es : List Entry} {us : List Unit} (forest : IsForest t es us) {id : ℕ} {b : Birth}
     (may : MayChange (forest_of t (shelves_of es)) id (birth_change b)) {key : NodeKey} (ok : IsInserted t mid es born_es id b key) where
+  -- the shelves of the entries before the birth
   abbrev ss : List Shelf
   ss = shelves_of es
 
+  -- the node that the table has under the key of the parent, if the birth names a parent
   abbrev over : Option Node
   over = option_and_then (node_at t) b.parent
 
@@ -85,9 +87,11 @@ module _ {t mid : Table Node} {es born_es : List Entry} {us : List Unit} (forest
   up : Above t (shelves_of es) id b.parent over
   up = above_is t ss forest.kept id b.parent b.attached b.client b.event may
 
+  -- the collection as the birth specifies it
   abbrev after : Collection
   after = with_birth b.parent b.attached b.client b.event key (collection_or_new (forest_of t (shelves_of es)) id)
 
+  -- the collection before the birth, with the new node behind its nodes
   abbrev child : Collection
   child = born_collection t mid ss forest.kept id b.parent b.attached b.client b.event over up key ok.bears
 

@@ -27,9 +27,11 @@ abbrev pub after_all : List NodeKey → List Node → List Node
 after_all hs nodes = map (given_all hs) nodes
 
 module _ (c : Collection) (sound : IsSound c) (hs : List NodeKey) (children : AreChildren c hs) where
+  -- the change of one node: it has buffers if its head is among the keys
   abbrev f : Node → Node
   f = given_all hs
 
+  -- the nodes of the collection once the units with these heads are allocated
   abbrev after : List Node
   after = after_all hs c.nodes
 

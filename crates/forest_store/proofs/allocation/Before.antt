@@ -59,6 +59,7 @@ due_bare t nodes k pending =
 
 module _ (t : Table Node) (ss : List Shelf) (kept : IsStored t ss) (s : Shelf) (found : find (λ (x : Shelf). x.id == s.id) ss ≡ Some s)
     (k : NodeKey) where
+  -- the nodes of the shelf, as the table has them
   abbrev nodes : List Node
   nodes = nodes_with t s.keys
 

@@ -77,9 +77,11 @@ module _ (t now : Table Node) (us : List Unit) (key : NodeKey) (effect : Effect)
     (becomes : now ≡ table_with_node t (affected key effect n).key (affected key effect n))
     (writes : Writes t now (affected key effect n).key (affected key effect n))
     (ss : List Shelf) (s : Shelf) (strong : ℕ) (opens : MayAffect t us ss s key strong) where
+  -- the change of one node: the effect, if the node has the key
   abbrev pub f : Node → Node
   f = affected key effect
 
+  -- the nodes of the shelf before the effect
   abbrev nodes : List Node
   nodes = nodes_with t s.keys
 
@@ -219,6 +221,7 @@ module _ (t now : Table Node) (us : List Unit) (key : NodeKey) (effect : Effect)
 
   module _ (within : n.head.slot < length us) (next : Unit) (live_next : next.live ≡ times (lives_in n.head) (map f nodes))
       (unready_next : next.unready ≡ times (waits_in n.head) (map f nodes)) (below_next : next.below ≡ (unit_at us n.head.slot).below) where
+    -- the counts of all units with those of the node's unit replaced
     abbrev pub after_one : List Unit
     after_one = set us n.head.slot next
 

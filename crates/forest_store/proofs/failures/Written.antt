@@ -20,6 +20,7 @@ once_before (k ∷ ks) (suc i) d once within =
 module _ (t : Table Node) (named : (key : NodeKey) (n : Node) → node_at t key ≡ Some n → n.key ≡ key) (going : Going)
     (done : List NodeKey) (k : NodeKey) (apart : list_any (same_key k) done ≡ false) (u : Table Node)
     (stores : Stores t u (map (gone_by going) (nodes_with t done))) where
+  -- the nodes of the keys that are done, each marked as gone
   abbrev went : List Node
   went = map (gone_by going) (nodes_with t done)
 

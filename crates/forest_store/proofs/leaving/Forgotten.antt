@@ -31,6 +31,7 @@ module _ {t now : Table Node} {id : ℕ} {ss : List Shelf} (ok : IsStored t ss) 
   thinned_is : thin_in now id ss ≡ map (thinned now) ss
   thinned_is = by _ refl
     where
+      -- without a shelf of this id nothing is thinned; with one, thinning it thins all shelves
       by : (o : Option Shelf) → find (λ (x : Shelf). x.id == id) ss ≡ o → thin_in now id ss ≡ map (thinned now) ss
       by None is = subst (λ (x : Table Node). thin_in x id ss ≡ map (thinned x) ss) (sym (left.none is))
           (thin_filed t id ss ok.filed ∙ sym (all_thinned-same t ss ok.filed))

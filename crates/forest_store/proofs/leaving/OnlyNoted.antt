@@ -5,9 +5,11 @@ use Rattle.forest_store.proofs.Basics.{in_nodes, none_each, all-In, none_but, sa
 
 module _ (t : Table Node) (e : Entry) (can : IsForgettable t e) (garbage_known : e.garbage_known ≡ true)
     (own : list_all (is_own_if_over t e.id) e.garbage.items ≡ true) where
+  -- the keys of all nodes of the collection
   abbrev keys : List NodeKey
   keys = e.keys.items
 
+  -- the keys that the collection has noted as those of nodes that may be dead
   abbrev garbage : List NodeKey
   garbage = e.garbage.items
 

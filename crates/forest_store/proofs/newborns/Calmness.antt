@@ -12,6 +12,7 @@ abbrev pub kept_open : Collection → Standing
 kept_open c = record { members = members_of c.nodes; buffers = c.buffers; strong_open = true; held = [] }
 
 module _ (c : Collection) where
+  -- the members of the collection: its nodes that are not gone
   abbrev ms : List Member
   ms = members_of c.nodes
 

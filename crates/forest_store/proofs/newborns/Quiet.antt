@@ -19,9 +19,11 @@ no_children nodes key rooted fresh n on here up =
 module _ (t now : Table Node) (ss : List Shelf) (ok : IsStored t ss) (id : ℕ) (parent : Option NodeKey) (attached : Bool) (client event : ℕ)
     (above : Option Node) (at : Above t ss id parent above) (key : NodeKey) (bears : Bears t now (born above attached id event client key))
   where
+    -- the collection before the birth, or an empty one
     abbrev c0 : Collection
     c0 = collection_or_new (forest_of t ss) id
 
+    -- the node that is born
     abbrev node : Node
     node = born above attached id event client key
 
@@ -29,12 +31,15 @@ module _ (t now : Table Node) (ss : List Shelf) (ok : IsStored t ss) (id : ℕ) 
     abbrev after : Collection
     after = with_birth parent attached client event key c0
 
+    -- a birth appends the new node and changes nothing else of the collection
     pub grown_is : after ≡ record c0 { nodes = c0.nodes ++ node ∷ [] }
     grown_is = born_is t now ss ok id parent _ client event above at key bears
 
+    -- the new node has the key that the table gave
     own : node.key ≡ key
     own = key_is t now ss ok id parent _ client event above at key bears
 
+    -- no older node of the collection has the new key
     fresh : list_any (is_of key) c0.nodes ≡ false
     fresh = rw (← own) (born_fresh t now ss ok id parent _ client event above at key bears)
 

@@ -14,9 +14,11 @@ module _ (t : Table Node) (ss : List Shelf) (kept : IsStored t ss) (id : ℕ) (s
     In n (nodes_with t s.keys) → n.collection ≡ id)
     (us : List Unit) (own_inside : node.key.slot < length us) (has : HasUnits us old) (but : AreUnitsExcept us id (map (collection_in t) ss))
     (few : length (nodes_with t s.keys) ≤ 18446744073709551615) where
+  -- the nodes of the shelf, the new one among them
   abbrev nodes : List Node
   nodes = nodes_with t s.keys
 
+  -- the counts with those in the new node's slot cleared
   abbrev us1 : List Unit
   us1 = set us node.key.slot no_unit
 
@@ -24,9 +26,11 @@ module _ (t : Table Node) (ss : List Shelf) (kept : IsStored t ss) (id : ℕ) (s
   long1 : length us1 ≡ length us
   long1 = length-set us node.key.slot no_unit
 
+  -- the counts once the new node is counted for its own unit
   abbrev own_new : List Unit
   own_new = tallied (node ∷ []) us1
 
+  -- the counts once the new node is counted for its unit and for the unit right above that
   abbrev new : List Unit
   new = reckoned t (node ∷ []) us1
 
@@ -210,12 +214,15 @@ keys_fewer s (x ∷ xs) (inr on) = omega (arith, length-append x.keys (all_keys 
 module _ (t now : Table Node) (ss : List Shelf) (ok : IsStored t ss) (id : ℕ) (parent : Option NodeKey) (attached : Bool) (client event : ℕ)
     (above : Option Node) (up : Above t ss id parent above) (key : NodeKey) (bears : Bears t now (born above attached id event client key))
     (behind : List Shelf) (placed : behind ≡ put_shelf (shelf_with (shelf_before id ss) key) ss) where
+  -- the collection before the birth, or an empty one
   abbrev c0 : Collection
   c0 = collection_or_new (forest_of t ss) id
 
+  -- the node that is born
   abbrev child : Node
   child = born above attached id event client key
 
+  -- the collection with the new node
   abbrev with_it : Collection
   with_it = born_collection t now ss ok id parent attached client event above up key bears
 

@@ -104,6 +104,7 @@ none_same old new buffers same none = record {
         ∙ ap (option_map (member_of old)) (map-None _ _ h)))
 
 module _ (c : Collection) (whole : IsWhole c) (p : Node → Bool) (over : (n : Node) → In n c.nodes → p n ≡ false → n.gone ≡ true) where
+  -- the nodes of the collection, gone ones among them
   abbrev nodes : List Node
   nodes = c.nodes
 
@@ -115,6 +116,7 @@ module _ (c : Collection) (whole : IsWhole c) (p : Node → Bool) (over : (n : N
   fewer : IsRooted (filter p nodes)
   fewer = rooted_filter _ old p over
 
+  -- the parent of the node with a key, if there is such a node and it has a parent
   abbrev up : NodeKey → Option NodeKey
   up key = option_map_or (λ (n : Node). n.parent) (node_of nodes key) None
 
@@ -165,6 +167,7 @@ pub record IsPlain (m n : Node) : Type 0 where
   pub asks : is_some m.constraints ≡ is_some n.constraints
 
 module _ (nodes : List Node) (f : Node → Node) (plain : (n : Node) → IsPlain (f n) n) where
+  -- the nodes after the change that f makes of each
   abbrev now : List Node
   now = map f nodes
 

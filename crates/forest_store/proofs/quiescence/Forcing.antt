@@ -14,6 +14,7 @@ once_gone : {A : Type 0} (g s : Bool) (o : Option A) →
 once_gone g s o = grind arith
 
 module _ (nodes : List Node) where
+  -- the members: what the forced steps read of the nodes that are not gone
   abbrev ms : List Member
   ms = members_of nodes
 
@@ -78,6 +79,7 @@ module _ (nodes : List Node) where
       ∙ ap (option_map (member_of nodes)) e)
       ∙ wanted_tie _
 
+  -- the demands of the nodes in the unit with a head
   abbrev ds : NodeKey → List Demand
   ds head = demands_of (is_in_unit head) nodes
 
@@ -111,9 +113,11 @@ when_made f true x = refl
 when_made f false x = refl
 
 module _ (handles : Handles) (pool : ℕ) (others : List Interval) (c : Collection) where
+  -- the collection as it stands beside the pages of the others
   abbrev s : Standing
   s = standing handles others c
 
+  -- the mark of a decision, while the pages of this and of the other collections are held
   abbrev mark : Decision → Mark
   mark = mark_of pool (pages_in c ++ others)
 
@@ -147,6 +151,7 @@ module _ (handles : Handles) (pool : ℕ) (others : List Interval) (c : Collecti
       from None = refl
       from (Some root) = when_made mark _ _
 
+  -- the failure of a root unit for whose buffers the pool has no places
   abbrev full : NodeKey → Option Failure
   full root = when (is_none (places pool (pages_of (wanted_by root c.nodes).size) (wanted_by root c.nodes).count
       (pages_in c ++ others))) Failure.PoolFull
@@ -168,10 +173,12 @@ module _ (handles : Handles) (pool : ℕ) (others : List Interval) (c : Collecti
       from None = refl
       from (Some why) = refl
 
+  -- the mark of the initial allocation, if the root unit is ready and has no buffers
   abbrev step : Option Member → Option Mark
   step o = option_and_then (λ (root : Member). when (not root.allocated && is_ready root.key (members_of c.nodes))
       (outcome root.key (initial_failure pool s (asked (members_of c.nodes))))) o
 
+  -- both sides wait for the same root, and the first step of its unit makes the same mark
   initial_made : initial_allocation pool s
       ≡ option_map mark (option_map (λ (n : Node). first_step c.nodes n.key) (waiting c.nodes))
   initial_made = ap step (root_tie c.nodes) ∙ from _ refl

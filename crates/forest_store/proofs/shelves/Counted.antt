@@ -188,6 +188,7 @@ own_key ks k on = In-any _ _ k on (same_key-refl k)
 
 module _ (t : Table Node) (named : (k : NodeKey) (n : Node) → node_at t k ≡ Some n → n.key ≡ k) (key : NodeKey) (end : End) (n : Node)
     (was : node_at t key ≡ Some n) where
+  -- the change of one node: it has the new end, if it has the key
   abbrev f : Node → Node
   f = with_end key end
 

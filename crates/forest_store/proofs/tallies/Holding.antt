@@ -100,6 +100,7 @@ module _ (nodes : List Node) (distinct : are_distinct nodes ≡ true) (heads : l
   linked : (n : Node) → In n nodes → n.gone ≡ false → up n.key ≡ n.parent
   linked n on here = ap (λ (o : Option Node). option_map_or (λ (m : Node). m.parent) o None) (found_by_key _ n distinct on)
 
+  -- the keys above a key, from its parent up to the root
   abbrev pub line : NodeKey → List NodeKey
   line key = above_among (reverse nodes) key
 
