@@ -97,6 +97,7 @@ module _ (clients : List ℕ) (r : Request ℕ StepBuffer) where
   no_join Product.Client is = cc
   no_join _ is = tt
 
+  -- a call that makes no client and names nothing fits without an object, whatever its argument is
   bare_argument : is_join (row_of r.kind).brings ≡ false → (said : Option (Argument ℕ)) (call : Call) →
       option_and_then (λ argument. call_of (parts r.kind Named.Nothing argument)) said ≡ Some call → FitsNone call
   bare_argument apart None call is = cc
@@ -104,6 +105,7 @@ module _ (clients : List ℕ) (r : Request ℕ StepBuffer) where
       subst (λ (p : CallParts). NamesNothing (row_of p.kind).brings p.object) (sym (made r.kind Named.Nothing argument call is))
       (no_join (row_of r.kind).brings apart)
 
+  -- a join yields no bare call, and a bare call of any other kind fits without an object
   bare_if : (join : Bool) → is_join (row_of r.kind).brings ≡ join → (call : Call) →
       (if join then None else option_and_then (λ argument. call_of (parts r.kind Named.Nothing argument)) (argument_at clients r.argument))
       ≡ Some call → FitsNone call

@@ -12,6 +12,7 @@ use Rattle.actor_scripts.specs.Reads.{IsScriptFault, line_fault}
 module _ (so_far : Reading) (rest : List ℕ) where
   -- where a line is ended
   module _ (at : ℕ) (found : position is_end rest ≡ Some at) where
+    -- the reader takes the first line, then reads the rest from the reading that it leads to
     by_line : script_actors_from so_far rest ≡ actors_after (rest_from [] (drop (at + 1) rest))
         (option_map_or (λ next. after_lines next (lines_from [] (drop (at + 1) rest))) (after_line so_far (take at rest)) (Err (so_far.lines + 1)))
     by_line =

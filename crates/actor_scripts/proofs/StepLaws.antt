@@ -31,6 +31,7 @@ module _ (so_far : Reading) (client : Label) (line : Line) where
     by_place = ap (option_and_then
         (λ (a : ℕ). option_map (λ (said : Step × List Name). led said a) (step_of so_far.actors.labels so_far.named a line))) place
 
+    -- a line that reads as a step appends that step to the script of its client's actor
     pub stepped-on : (step : Step) (named : List Name) → step_of so_far.actors.labels so_far.named actor line ≡ Some (step, named) →
         step_effect so_far client line ≡ Some (led (step, named) actor)
     stepped-on step named is = by_place ∙ ap (option_map (λ (said : Step × List Name). led said actor)) is

@@ -231,6 +231,7 @@ module _ (client : ℕ) where
   one_owner (Some (End.Collection t)) of = All-cons (λ p. owner_of p ≡ client) (Collection t) [] of (All-nil (λ p. owner_of p ≡ client))
   one_owner (Some (End.Handle h)) of = All-cons (λ p. owner_of p ≡ client) (Handle h) [] of (All-nil (λ p. owner_of p ≡ client))
 
+  -- each object in slots that the client holds belongs to the client
   all_owner : {E S W : Type 0} (slots : List (Option (End E S W))) → All (SlotHeldBy client) slots →
       All (λ p. owner_of p ≡ client) (objects_in_slots slots)
   all_owner [] of = All-nil (λ p. owner_of p ≡ client)

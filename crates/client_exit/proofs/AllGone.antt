@@ -76,12 +76,15 @@ HoldersJoined pool history = (key : NodeKey) → was_born (births (timeline pool
 
 module _ (pool : ℕ) (limits : Bound) (history : List Entry) (entry : Entry) (legal : IsLegal pool limits (history ++ entry ∷ []))
     (held : HoldersJoined pool history) (key : NodeKey) where
+  -- the timeline before the event
   abbrev old : Timeline
   old = timeline pool history
 
+  -- the timeline after the event
   abbrev new : Timeline
   new = timeline pool (history ++ entry ∷ [])
 
+  -- the timeline before the event grows from no marks, and the event's reply answers its call
   next : NextEvent pool limits history entry
   next = next_event pool limits history entry legal
 
@@ -138,6 +141,7 @@ abbrev pub AllExited : ℕ → List Entry → Type 0
 AllExited pool history = (client : ℕ) → has_joined (timeline pool history) client ≡ true → ExitedIn pool history client
 
 module _ (pool : ℕ) (limits : Bound) (history : List Entry) (legal : IsLegal pool limits history) (all : AllExited pool history) where
+  -- the timeline of the whole history
   abbrev now : Timeline
   now = timeline pool history
 
@@ -171,6 +175,7 @@ module _ (pool : ℕ) (limits : Bound) (history : List Entry) (legal : IsLegal p
     ]
   ]
 
+  -- the timeline of a legal history grows from no marks
   grown : Grows pool limits [] (timeline pool history)
   grown = legal_grows pool limits history legal
 

@@ -103,12 +103,15 @@ gets_by limits marks caller _ _ answer client buffer strength h = cc
 
 module _ (pool : ℕ) (limits : Bound) (history : List Entry) (entry : Entry) (legal : IsLegal pool limits (history ++ entry ∷ []))
     (client : ℕ) where
+  -- the timeline before the event
   abbrev old : Timeline
   old = timeline pool history
 
+  -- the timeline after the event
   abbrev new : Timeline
   new = timeline pool (history ++ entry ∷ [])
 
+  -- the timeline before the event grows from no marks, and the event's reply answers its call
   next : NextEvent pool limits history entry
   next = next_event pool limits history entry legal
 

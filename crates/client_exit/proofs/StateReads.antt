@@ -37,9 +37,11 @@ use Rattle.client_exit.specs.Exits.{holds_end}
 use Rattle.client_exit.specs.Phases.{HasAmong, HoldsAmong}
 
 module _ (s : State) (history : List Entry) (shows : Shows s history) (client : ℕ) where
+  -- the timeline of the history that the state shows
   abbrev marks : Timeline
   marks = timeline s.pool history
 
+  -- the state shows a legal history, so the timeline grows from no marks
   grown : Grows s.pool s.limits [] (timeline s.pool history)
   grown = legal_grows s.pool s.limits history shows.legal
 

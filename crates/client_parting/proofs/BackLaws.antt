@@ -30,18 +30,22 @@ kept_all P (t ∷ ts) (a ∷ rest) all = either (kept_all P ts rest (All-tail P 
 
 -- the client's objects, each in the list of its kind, are the client's
 module _ (client : ℕ) where
+  -- the tag of a token that the client holds names the client
   token_own : (t : HeldObject) → owner_of t ≡ client → All (λ (x : Tag). x.client ≡ client) (tokens_among t)
   token_own (Token tag) is = All-cons (λ (x : Tag). x.client ≡ client) tag [] is (All-nil (λ (x : Tag). x.client ≡ client))
   token_own _ is = All-nil (λ (x : Tag). x.client ≡ client)
 
+  -- the tag of a collection that the client holds names the client
   collection_own : (t : HeldObject) → owner_of t ≡ client → All (λ (x : Tag). x.client ≡ client) (collections_among t)
   collection_own (Collection tag) is = All-cons (λ (x : Tag). x.client ≡ client) tag [] is (All-nil (λ (x : Tag). x.client ≡ client))
   collection_own _ is = All-nil (λ (x : Tag). x.client ≡ client)
 
+  -- the grip of a handle that the client holds names the client
   handle_own : (t : HeldObject) → owner_of t ≡ client → All (λ (x : Grip). x.client ≡ client) (handles_among t)
   handle_own (Handle grip) is = All-cons (λ (x : Grip). x.client ≡ client) grip [] is (All-nil (λ (x : Grip). x.client ≡ client))
   handle_own _ is = All-nil (λ (x : Grip). x.client ≡ client)
 
+  -- a property of what each of the client's objects yields holds of what all of them yield
   flat_own : {A : Type 0} (Q : A → Type 0) (f : HeldObject → List A) → ((t : HeldObject) → owner_of t ≡ client → All Q (f t)) →
       (objects : List HeldObject) → All (λ t. owner_of t ≡ client) objects → All Q (flat_map f objects)
   flat_own Q f one [] all = All-nil Q
@@ -49,6 +53,7 @@ module _ (client : ℕ) where
       All-append Q (f t) (flat_map f ts) (one t (All-head (λ x. owner_of x ≡ client) t ts all)) (flat_own Q f one ts (All-tail (λ x.
       owner_of x ≡ client) t ts all))
 
+  -- the lists by kind of the client's objects hold only entries that name the client
   pub sorted_own : (objects : List HeldObject) → All (λ t. owner_of t ≡ client) objects → AllHeldBy client (sorted objects)
   sorted_own objects all = record {
     tokens = flat_own (λ (x : Tag). x.client ≡ client) tokens_among token_own objects all;

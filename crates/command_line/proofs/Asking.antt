@@ -30,6 +30,7 @@ first_text id matches inner (Some p) rows is =
 -- a text that u32 can't read is no count, nor one that reads as a number out of range
 module _ {E : Type 0} (gives : List ℕ → Result ℕ E → Type 0) (only : (t : List ℕ) (r : Result ℕ E) → gives t r →
     ParsesUnsigned 32 10 t r) where
+  -- a text that u32 can't read writes no count, because each count in range fits 32 bits
   pub unread : (text : Option (List ℕ)) (read : Option ℕ) → (text ≡ None → read ≡ None) → ((t : List ℕ) → text ≡ Some t →
       ReadsOne gives t read) →
       read ≡ None → AreAsked text None
@@ -42,6 +43,7 @@ module _ {E : Type 0} (gives : List ℕ → Result ℕ E → Type 0) (only : (t 
       below : (written_number t ≤ MAX_PAGES) → written_number t < 2 ^ 32
       below le = omega (arith, ints, le)
 
+  -- the range check on the number that u32 reads decides whether the text writes a count
   in_range : (t : List ℕ) (n : ℕ) (count : Option ℕ) → gives t (Ok n) → SomeIff count ((1 ≤ n) × (n ≤ MAX_PAGES)) n →
       SomeIff count (IsCount t) (written_number t)
   in_range t n (Some k) read some =
@@ -62,6 +64,7 @@ module _ {E : Type 0} (gives : List ℕ → Result ℕ E → Type 0) (only : (t 
 -- a text that u64 reads is that number, and one that it can't read is no number
 module _ {E : Type 0} (gives : List ℕ → Result ℕ E → Type 0) (only : (t : List ℕ) (r : Result ℕ E) → gives t r →
     ParsesUnsigned 64 10 t r) where
+  -- u64 accepts exactly the numerals that fit 64 bits, so the number read is the one written
   pub is_read : (text : Option (List ℕ)) (read : Option ℕ) → (text ≡ None → read ≡ None) → ((t : List ℕ) → text ≡ Some t →
       ReadsOne gives t read) → IsRead text read
   is_read None read none value = none refl

@@ -127,15 +127,19 @@ in_transit_unspent pool limits marks g node h = (end_at pool limits marks g node
 -- ---- one event of it
 
 module _ (pool : ℕ) (limits : Bound) (history : List Entry) (entry : Entry) (legal : IsLegal pool limits (history ++ entry ∷ [])) where
+  -- the timeline before the event
   abbrev old : Timeline
   old = timeline pool history
 
+  -- the timeline before the event grows from no marks, and the event's reply answers its call
   next : NextEvent pool limits history entry
   next = next_event pool limits history entry legal
 
+  -- before the event, no client has collected more parcels than it was given
   drawn : IsDrawn (timeline pool history)
   drawn = (counted pool limits (timeline pool history) next.grown).drawn
 
+  -- before the event, each node's end waits for at most one client
   was_at : (node : NodeKey) → EndAt (timeline pool history) node
   was_at = end_at pool limits (timeline pool history) next.grown
 

@@ -172,15 +172,19 @@ module _ (pool : ℕ) (limits : Bound) (history : List Entry) (entry : Entry) (l
   abbrev old : Timeline
   old = timeline pool history
 
+  -- the timeline after the event
   abbrev new : Timeline
   new = timeline pool (history ++ entry ∷ [])
 
+  -- the timeline before the event grows from no marks, and the event's reply answers its call
   next : NextEvent pool limits history entry
   next = next_event pool limits history entry legal
 
+  -- the counts of handles and parcels add up before the event
   was_counted : IsCounted (timeline pool history)
   was_counted = counted pool limits (timeline pool history) next.grown
 
+  -- the counts of handles and parcels add up after the event's own mark
   is_counted : IsCounted (entry_mark entry ∷ timeline pool history)
   is_counted = counted pool limits (entry_mark entry ∷ timeline pool history) (Answers (timeline pool history) entry.0 entry.2 entry.1
       next.grown next.answer)

@@ -285,12 +285,15 @@ module _ (pool : ℕ) (limits : Bound) (history : List Entry) (legal : IsLegal p
   abbrev marks : Timeline
   marks = timeline pool history
 
+  -- the timeline of a legal history grows from no marks
   grown : Grows pool limits [] (timeline pool history)
   grown = legal_grows pool limits history legal
 
+  -- the counts of handles and parcels add up in the timeline of a legal history
   are_counted : IsCounted (timeline pool history)
   are_counted = counted pool limits (timeline pool history) grown
 
+  -- the list of the allocated collections names no collection twice
   once : AreOnce collections
   once = listed_once collections lists.once
 

@@ -172,15 +172,19 @@ module _ (pool : ℕ) (limits : Bound) (history : List Entry) (legal : IsLegal p
       (timeline pool history) client strength
 
   module _ (before : List Entry) (e : Entry) (es : List Entry) (on : history ≡ before ++ e ∷ es) where
+    -- the history is the part up to and including this event, followed by the later events
     front_is : history ≡ (before ++ e ∷ []) ++ es
     front_is = on ∙ sym (append_assoc before (e ∷ []) es)
 
+    -- the events up to and including this one form a legal history
     legal_front : IsLegal pool limits (before ++ e ∷ [])
     legal_front = front_legal pool limits (before ++ e ∷ []) es (subst (IsLegal pool limits) front_is legal)
 
+    -- the events before this one form a legal history
     legal_before : IsLegal pool limits before
     legal_before = front_legal pool limits before (e ∷ []) legal_front
 
+    -- this event makes the history before it longer by one
     as_long : length (before ++ e ∷ []) ≡ length before + 1
     as_long = length-append before (e ∷ [])
 
@@ -204,6 +208,7 @@ module _ (pool : ℕ) (limits : Bound) (history : List Entry) (legal : IsLegal p
     sides : (f : Entry → ℕ) → sum_by f history ≡ sum_by f before + (f e + sum_by f es)
     sides f = ap (sum_by f) on ∙ (sum_by-append f before (e ∷ es) ∙ ap (λ n. sum_by f before + n) (sum_by-cons f e es))
 
+    -- a client that this event makes had nothing open before, so its own part balances
     balances_at : makes_client e ≡ true → has_joined (timeline pool before) (length before + 1) ≡ false → Balances (length before + 1)
     balances_at join stranger strength =
         let client = length before + 1 in
@@ -261,6 +266,7 @@ module _ (pool : ℕ) (limits : Bound) (history : List Entry) (legal : IsLegal p
   IsTold line = (line.strong ≡ all_open_of (timeline pool history) line.client Strong) ×
       (line.weak ≡ all_open_of (timeline pool history) line.client Weak)
 
+  -- each client that joined balances, so its line tells what it has open
   pub lines_told : All IsTold (lines_of history)
   lines_told = All-map IsTold (client_line history) (joined history) (λ k d below.
       told (get_or (joined history) k d) (balances_from [] history refl k d below))

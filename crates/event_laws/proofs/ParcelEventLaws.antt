@@ -225,12 +225,15 @@ not_joined_yet marks old = false_if (has_joined marks (events marks + 1)) (λ e.
 -- ---- one event of a legal history
 
 module _ (pool : ℕ) (limits : Bound) (history : List Entry) (entry : Entry) (legal : IsLegal pool limits (history ++ entry ∷ [])) where
+  -- the timeline before the event
   abbrev old : Timeline
   old = timeline pool history
 
+  -- the timeline before the event grows from no marks, and the event's reply answers its call
   next : NextEvent pool limits history entry
   next = next_event pool limits history entry legal
 
+  -- before the event, no client has collected more parcels than it was given
   were_drawn : IsDrawn (timeline pool history)
   were_drawn = (counted pool limits (timeline pool history) next.grown).drawn
 

@@ -32,6 +32,7 @@ along-none script until first = record {
 }
 
 module _ (setting : Setting) (until : Option ℕ) (scroll : Scroll) (lines all more : List (List ℕ)) (is : all ≡ lines ++ more) where
+  -- a line of the first lines that halts the play also halts the play of all lines
   halted-on : (fault : ReportFault) → PlayHalted setting until scroll lines fault → PlayHalted setting until scroll all fault
   halted-on fault stop = record {
     before = stop.before;
@@ -94,6 +95,7 @@ module _ (script rest : List ℕ) (number : ℕ) (until : Option ℕ) (first now
       }
 
   module _ (test : (scene : Scene) → Knows now.teller scene → is_reached until (length scene.history) ≡ false) where
+    -- the history does not reach the event asked for, so its length comes before that event
     along-ahead : (setting : Setting) (far : Reached setting until first []) →
         ComesBefore until (length (along.reached setting far).scene.history)
     along-ahead setting far =
@@ -102,6 +104,7 @@ module _ (script rest : List ℕ) (number : ℕ) (until : Option ℕ) (first now
 
     module _ (at : ℕ) (found : position is_end rest ≡ Some at) (within : at < length rest) (count : ℕ)
         (counted : count ≡ min (number + 1) (2 ^ 64 - 1)) where
+      -- a script is too short to saturate the counter, so the next line's number is exact
       along-number : count ≡ length along.taken + 1
       along-number = next-number (length along.taken) (length script) number count along.numbered
           (taken-room script rest along.taken along.takes at within) small counted
@@ -131,6 +134,7 @@ module _ (script rest : List ℕ) (number : ℕ) (until : Option ℕ) (first now
           (stops setting until along.taken (along.reached setting far) (along-ahead setting far) along-number))
 
     module _ (none : position is_end rest ≡ None) where
+      -- a rest without a line end holds no whole line, so the lines taken are all of them
       all-taken : whole_lines script ≡ along.taken
       all-taken = taken-all script rest along.taken along.takes none
 

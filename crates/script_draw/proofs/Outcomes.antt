@@ -85,6 +85,7 @@ module _ (setting : Setting) (view : View) (scroll : Scroll) (old new : Option (
   Left = (lines : List (List ℕ)) (far : Reached setting view.at scroll lines) → ComesBefore view.at (length far.scene.history) →
       PictureBefore view.at view.format setting far.scene scroll.line.items old new
 
+  -- a line that halts the play leaves the picture that `left` gives of the lines before it
   halted-left : (fault : ReportFault) (stop : PlayHalted setting view.at scroll (whole_lines script) fault) → Left →
       IsUnplayed setting view old new script fault
   halted-left fault stop left = record {

@@ -79,27 +79,33 @@ label-clean word = by (is_label word) refl
 -- ---- values that may be there
 
 module _ {A : Type 0} (P : A → Type 0) where
+  -- a property of both optional values holds of the one that the test picks
   pub some-if : (t : Bool) (a b : Option A) → IfSome a P → IfSome b P → IfSome (if t then a else b) P
   some-if true a b p q = p
   some-if false a b p q = q
 
+  -- leftover words drop the value, so `at_end` keeps its property
   pub some-end : (rest : List (List ℕ)) (said : Option A) → IfSome said P → IfSome (at_end rest said) P
   some-end [] said p = p
   some-end (next ∷ rest) said p = tt
 
+  -- a property of each result of the function holds of the chained result
   pub some-then : {B : Type 0} (f : B → Option A) (o : Option B) → ((b : B) → IfSome (f b) P) → IfSome (option_and_then f o) P
   some-then f None p = tt
   some-then f (Some b) p = p b
 
+  -- a property of each image holds of the mapped optional value
   pub some-map : {B : Type 0} (f : B → A) (o : Option B) → ((b : B) → P (f b)) → IfSome (option_map f o) P
   some-map f None p = tt
   some-map f (Some b) p = p b
 
+  -- a chained result has the property if the function yields it from inputs with the first property
   pub some-then-of : {B : Type 0} (Q : B → Type 0) (f : B → Option A) (o : Option B) → IfSome o Q → ((b : B) → Q b → IfSome (f b) P) →
       IfSome (option_and_then f o) P
   some-then-of Q f None q p = tt
   some-then-of Q f (Some b) q p = p b q
 
+  -- a mapped value has the property if the function yields it from inputs with the first property
   pub some-map-of : {B : Type 0} (Q : B → Type 0) (f : B → A) (o : Option B) → IfSome o Q → ((b : B) → Q b → P (f b)) →
       IfSome (option_map f o) P
   some-map-of Q f None q p = tt

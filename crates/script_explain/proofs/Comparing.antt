@@ -93,6 +93,7 @@ module _ (setting : Setting) (c : Comparison) (lines : List (List ℕ)) (far : C
     };
   }
 
+  -- the numbers of played lines and of compared replies are at most the number of compared lines
   few : AreFew lines (comparison_place c far.scene)
   few = agrees-few setting.pool lines (comparison_place c far.scene) far.agrees
 
@@ -216,6 +217,7 @@ module _ (setting : Setting) (c : Comparison) (lines : List (List ℕ)) (far : C
   far-unasked line reply number ReportFault.NoMemory records none is numbered = tt
 
 module _ (setting : Setting) (lines all more : List (List ℕ)) (is : all ≡ lines ++ more) where
+  -- a line of the first lines that stops the check also stops the check of all lines
   unchecked-on : (fault : ReportFault) → IsUnchecked setting lines fault → IsUnchecked setting all fault
   unchecked-on fault stop = record {
     before = stop.before;
@@ -314,6 +316,7 @@ module _ (setting : Setting) (left_before left old : Option (List ℕ)) where
 
   module _ (new : Option (List ℕ)) (script : List ℕ) (taken : Consumes left_before left script) (end : IsAtEnd left)
       (within : length script ≤ MOST_BYTES) where
+    -- a fault in comparing a transcript that came in whole is an outcome of the check
     checks-stopped : (fault : ReportFault) → ComparisonStopped setting old new script fault → Checks setting left_before left old new (Err fault)
     checks-stopped ReportFault.ReadFault stop = absurd stop.0
     checks-stopped ReportFault.TooLong stop = absurd stop.0

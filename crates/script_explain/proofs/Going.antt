@@ -40,6 +40,7 @@ module _ (script rest : List ℕ) (number : ℕ) (first : Session) (mid : Option
     (small : length script ≤ MOST_BYTES) where
   module _ (at : ℕ) (found : position is_end rest ≡ Some at) (within : at < length rest) (count : ℕ)
       (counted : count ≡ min (number + 1) (2 ^ 64 - 1)) where
+    -- a script is too short to saturate the counter, so the next line's number is exact
     along-number : count ≡ length along.taken + 1
     along-number = next-number (length along.taken) (length script) number count along.numbered
         (taken-room script rest along.taken along.takes at within) small counted
@@ -108,6 +109,7 @@ module _ (script rest : List ℕ) (number : ℕ) (first now : Comparison) (along
     (small : length script ≤ MOST_BYTES) where
   module _ (at : ℕ) (found : position is_end rest ≡ Some at) (within : at < length rest) (count : ℕ)
       (counted : count ≡ min (number + 1) (2 ^ 64 - 1)) where
+    -- a script is too short to saturate the counter, so the next line's number is exact
     agreeing-number : count ≡ length along.taken + 1
     agreeing-number = next-number (length along.taken) (length script) number count along.numbered
         (taken-room script rest along.taken along.takes at within) small counted
@@ -155,6 +157,7 @@ module _ (script rest : List ℕ) (number : ℕ) (first now : Comparison) (along
         (stops setting along.taken (along.agreeing setting far).0 agreeing-number))
 
   module _ (none : position is_end rest ≡ None) where
+    -- a rest without a line end holds no whole line, so the comparison covers all whole lines
     all-agree : (setting : Setting) → Compared setting first [] → Compared setting now (whole_lines script)
     all-agree setting far = subst (Compared setting now) (sym (taken-all script rest along.taken along.takes none))
         (along.agreeing setting far).0

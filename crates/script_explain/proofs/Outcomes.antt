@@ -57,6 +57,7 @@ cut-more setting old new lines all more is cut = record {
 }
 
 module _ (setting : Setting) (old new : Option (List ℕ)) (pending : List ℕ) (lines all more : List (List ℕ)) (is : all ≡ lines ++ more) where
+  -- a line of the first lines that halts the explanation also halts that of all lines
   halted-on : (fault : ReportFault) → IsHalted setting old new pending lines fault → IsHalted setting old new pending all fault
   halted-on fault stop = record {
     before = stop.before;
@@ -116,6 +117,7 @@ halted-at-end setting session old new pending script number ReportFault.NoMemory
 }
 
 module _ (setting : Setting) (old mid new : Option (List ℕ)) (pending script : List ℕ) where
+  -- the pending text is written, so all lines before the halting line are explained
   stop-told : (fault : ReportFault) (stop : IsHalted setting old mid pending (whole_lines script) fault) → Appends mid new pending →
       IsUnexplained setting old new (whole_lines script) fault
   stop-told fault stop out = record {
@@ -150,6 +152,7 @@ module _ (setting : Setting) (old mid new : Option (List ℕ)) (pending script :
     told = pending-told setting old mid pending stop.before stop.so_far new out;
   }
 
+  -- a partial write of the pending text cuts off the explanation of the lines before the halt
   stop-cut : (fault : ReportFault) (stop : IsHalted setting old mid pending (whole_lines script) fault) → WritesPart mid new pending →
       ExplanationCutOff setting old new (whole_lines script)
   stop-cut fault stop part = subst (ExplanationCutOff setting old new) (sym stop.split)
@@ -177,6 +180,7 @@ module _ (setting : Setting) (old mid new : Option (List ℕ)) (pending script :
     pub told-out : Appends mid new pending → LinesTold setting old new script result
     told-out out = by result ok whole err
       where
+        -- a success explains all whole lines, and a fault explains those before its stop
         by : (r : Result (Unit {0}) ReportFault) → OnOk r (ExplainedSoFar setting session old mid pending (whole_lines script)) →
             OnOk r (last_part script ≡ []) → IfErr r (LinesHalted setting old mid pending script) → LinesTold setting old new script r
         by (Ok done) far end stop = (

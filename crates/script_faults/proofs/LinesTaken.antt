@@ -45,6 +45,7 @@ module _ (script rest : List ℕ) (taken : List (List ℕ)) (takes : AreTaken sc
   pub taken-all : position is_end rest ≡ None → whole_lines script ≡ taken
   taken-all none = takes.lines ∙ ap (λ ls. taken ++ ls) (unended_none [] rest none).lines ∙ append-nil taken
 
+  -- a rest without a line end is the last part of the script
   pub rest-all : position is_end rest ≡ None → last_part script ≡ rest
   rest-all none = takes.ends ∙ (unended_none [] rest none).rest
 

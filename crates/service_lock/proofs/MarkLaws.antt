@@ -40,6 +40,7 @@ sum_by-push : (f : Entry → ℕ) (history : List Entry) (e : Entry) → sum_by 
 sum_by-push f history e = omega (arith, sum_by-append f history (e ∷ []), sum_by-cons f e [])
 
 module _ (strength : Strength) (client : ℕ) (call : Call) (reply : Reply) (history : List Entry) where
+  -- the history with the record's call and reply appended
   abbrev more : List Entry
   more = history ++ (client, call, reply) ∷ []
 

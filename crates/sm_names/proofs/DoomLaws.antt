@@ -166,9 +166,11 @@ doomed_whole marks buffer d =
 
 module _ (pool : ℕ) (limits : Bound) (before : Timeline) (client : ℕ) (reply : Reply) (call : Call) (grown : Grows pool limits [] before)
     (answer : IsAnswer limits (readings before) client call reply) where
+  -- the timeline after the answer
   abbrev after_it : Timeline
   after_it = Called client reply call ∷ before
 
+  -- a timeline that grows from no marks is ordered
   abbrev old : IsOrdered before
   old = ordered pool limits before grown
 
@@ -229,6 +231,7 @@ module _ (pool : ℕ) (limits : Bound) (before : Timeline) (client : ℕ) (reply
       by_reply Reply.Done (Call.DupHandle name dup) answer = dup_none pool limits before client grown buffer strength dup name none answer
       by_reply reply call answer = refl
 
+  -- a buffer without open handles has none after an answer that opens none
   none_opened : (buffer : BufferName) (strength : Strength) → opens anyone buffer strength (Called client reply call) ≡ false →
       open_total before buffer strength ≡ 0 → open_total after_it buffer strength ≡ 0
   none_opened buffer strength none h =
@@ -236,6 +239,7 @@ module _ (pool : ℕ) (limits : Bound) (before : Timeline) (client : ℕ) (reply
       let d = times-cons (drops anyone buffer strength) (Called client reply call) before in
       omega arith
 
+  -- an answer opens no strong handle on a doomed buffer and gives it no strong live node
   doomed_call : (buffer : BufferName) → doomed before buffer ≡ true → IsDoomed after_it buffer
   doomed_call buffer h =
       let d : IsDoomed before buffer = doomed_parts before buffer h in
@@ -252,6 +256,7 @@ module _ (pool : ℕ) (limits : Bound) (before : Timeline) (client : ℕ) (reply
         ];
       }
 
+  -- a doomed buffer without weak handles gets none by an answer
   weak_call : (buffer : BufferName) → doomed before buffer ≡ true → open_total before buffer Strength.Weak ≡ 0 →
       open_total after_it buffer Strength.Weak ≡ 0
   weak_call buffer h none = none_opened buffer Strength.Weak (opens_none buffer Strength.Weak h none) none

@@ -98,24 +98,30 @@ none_to_come marks =
 module _ (marks : Timeline) (client : ℕ) (reply : Reply) (call : Call)
     (same_world : world (Called client reply call ∷ marks) ≡ world marks)
     (same_tracked : tracked (Called client reply call ∷ marks) ≡ tracked marks) where
+  -- the timeline after the call
   abbrev now : Timeline
   now = Called client reply call ∷ marks
 
+  -- the call changes neither the world nor the trackers, so each condition holds as before
   fires_same : (t : Tracked) → fires_at t now ≡ fires_at t marks
   fires_same t i = let one_tracked : Bool =
       list_any (λ (u : Tracked). u.id == t.id) (same_tracked i) in one_tracked && holds (same_world i) t.condition
 
+  -- the call makes no condition true, so each tracker has fired at the same event as before
   pub fired_at-same : (t : Tracked) → fired_at now t ≡ fired_at marks t
   fired_at-same t = ap (option_map events) (last_match-again (fires_at t) now marks (earlier_moments marks) (fires_same t))
 
+  -- no tracker fires by the call, so as many wait as before
   pub unfired-same : unfired now ≡ unfired marks
   unfired-same = λ i. count_by (λ t. is_none (fired_at-same t i)) (same_tracked i)
 
+  -- each event fires the same trackers, as each tracker fires at the same event
   fired_in-same : (event : ℕ) → fired_in now event ≡ fired_in marks event
   fired_in-same event = λ i.
       map (λ (t : Tracked). record { tracker = t.id; event = event })
       (filter (λ t. option_map_or (λ e. e == event) (fired_at-same t i) false) (reverse (same_tracked i)))
 
+  -- the call adds one moment, and no tracker fires at it
   pub fired-same : fired now ≡ fired marks
   fired-same =
       let each : flat_map (λ moment. fired_in now (events moment)) (reverse (moments now)) ≡ flat_map (λ moment.

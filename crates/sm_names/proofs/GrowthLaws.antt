@@ -52,6 +52,7 @@ module _ (pool : ℕ) (limits : Bound) (start : Timeline) where
       next_forced pool collection marks ≡ Some mark → Grows pool limits start (mark ∷ marks)
   grows_forced collection marks mark g e = by_why mark (forced_why pool collection marks mark e) e
     where
+      -- each reason for a forced mark gives a step by which the timeline grows
       by_why : (mark : Mark) → Why pool collection marks mark → next_forced pool collection marks ≡ Some mark →
           Grows pool limits start (mark ∷ marks)
       by_why _ (No_live b on ours free none) e = Ends marks collection b.node g e
@@ -163,6 +164,7 @@ module _ (P : Timeline → Type 0) (nothing : P []) (pool : ℕ) (limits : Bound
     (answered : (marks : Timeline) (client : ℕ) (reply : Reply) (call : Call) → IsAnswer limits (readings marks) client call reply →
     P marks → P (Called client reply call ∷ marks))
     (each : (marks : Timeline) (mark : Mark) → is_event mark ≡ false → P marks → P (mark ∷ marks)) where
+  -- a property that holds of no marks and that each step keeps holds of a grown timeline
   pub kept-grown : (marks : Timeline) → Grows pool limits [] marks → P marks
   kept-grown _ Stays = nothing
   kept-grown _ (Answers before client reply call g answer) = answered before client reply call answer (kept-grown before g)

@@ -178,9 +178,11 @@ pub data Lays (pool : ℕ) (before : Timeline) (mark : Mark) : Type 0 where
       ((c : ℕ) → buffers_of (mark ∷ before) c ≡ cond (collection == c) (Some buffers) (buffers_of before c)) → Lays pool before mark
 
 module _ (pool : ℕ) (limits : Bound) (before : Timeline) (collection : ℕ) (grown : Grows pool limits [] before) where
+  -- the page intervals that the held buffers occupy before the mark
   abbrev out : List Interval
   out = map (λ (h : HeldBuffer). h.pages) (held pool before)
 
+  -- the allocation of a root lays out its collection's buffers at starts with room
   initial_lays : (b : Birth) → In b (births before) → b.collection == collection ≡ true → b.parent ≡ None →
       allocated before b.node ≡ false →
       initial_failure pool (standing pool before collection) (asked (members before collection)) ≡ None →
@@ -222,6 +224,7 @@ module _ (pool : ℕ) (limits : Bound) (before : Timeline) (collection : ℕ) (g
           sym (eqb-true b.collection k e) in rw (is, root, e) (ap (λ (n : ℕ). Some (asked (members before n))) same)
       gives k (inr e) is = rw (is, root, e) refl
 
+  -- the allocation of a node with a parent lays out nothing
   logical_lays : (b : Birth) → In b (births before) → is_some b.parent ≡ true → Lays pool before (Allocated b.node)
   logical_lays b on child =
       let ord : IsOrdered before = ordered pool limits before grown in
@@ -254,13 +257,16 @@ length-names c n = length-map (range_with_len 0 n) (λ i. record { collection = 
 
 module _ (pool : ℕ) (limits : Bound) (before : Timeline) (mark : Mark) (first : Grows pool limits [] before)
     (step : Grows pool limits before (mark ∷ before)) (old : AreHeld pool before) where
+  -- the page intervals that the held buffers occupy before the mark
   abbrev pages_in : List Interval
   pages_in = map (λ (h : HeldBuffer). h.pages) (held pool before)
 
+  -- a buffer that is held after the mark was held before it, because a home buffer stays home
   stays_out : (h : HeldBuffer) → not (home (mark ∷ before) h.buffer) ≡ true → not (home before h.buffer) ≡ true
   stays_out h k = not_turned (home before h.buffer) (home (mark ∷ before) h.buffer) (λ e.
       home_on pool limits before first h.buffer e (mark ∷ before) step) k
 
+  -- the buffers held after the mark are, in order, some of the new ones and of those held before
   out_part : (new : List HeldBuffer) → layout_at pool before pages_in mark ≡ new
       → Part (held pool (mark ∷ before)) (new ++ held pool before)
   out_part new e =
@@ -269,6 +275,7 @@ module _ (pool : ℕ) (limits : Bound) (before : Timeline) (mark : Mark) (first 
       subst (λ (l : List HeldBuffer). Part (filter (λ (h : HeldBuffer). not (home (mark ∷ before) h.buffer)) (l ++ placed pool before))
       (new ++ held pool before)) (sym e) p
 
+  -- new buffers take only free pages, so the held pages stay apart and inside the pool
   held_by : Lays pool before mark → AreHeld pool (mark ∷ before)
   held_by (Nothing_new e same) = record {
     apart = part_apart (λ (h : HeldBuffer). h.pages) (held pool (mark ∷ before)) (held pool before) (out_part [] e) old.apart;

@@ -65,6 +65,7 @@ find_none test from (suc many) h k a b =
 -- ---- the first start with room
 
 module _ (pool pages : ℕ) (held : List Interval) where
+  -- the test that the pages have room at a start
   abbrev fits_at : ℕ → Bool
   fits_at start = has_room pool held (at_pages pages start)
 

@@ -26,6 +26,7 @@ plays-more pool from to next lines texts line text (Goes scene mid last one its 
     more))
 
 module _ (setting : Setting) (old new : Option (List ℕ)) (lines more : List (List ℕ)) where
+  -- output that is cut off among the first lines is cut off among all lines
   cut-more : IsCutOff setting old new lines → IsCutOff setting old new (lines ++ more)
   cut-more cut = record {
     before = cut.before;
@@ -37,6 +38,7 @@ module _ (setting : Setting) (old new : Option (List ℕ)) (lines more : List (L
     written = cut.written;
   }
 
+  -- a line that stays unanswered among the first lines stays so among all lines
   unanswered-more : (fault : ScriptFault) → IsUnanswered setting old new lines fault → IsUnanswered setting old new (lines ++ more) fault
   unanswered-more fault stop = record {
     before = stop.before;
@@ -99,6 +101,7 @@ module _ (setting : Setting) (player : Player) (old mid : Option (List ℕ)) (li
         counted = rw length-append (omega (arith, counted, far.counted));
       }
 
+  -- the output so far and the pending text behind it are all the text of the lines
   all-written : (new : Option (List ℕ)) → Appends mid new player.out.items → Appends old new far.texts
   all-written new out =
       subst (Appends old new) (sym far.split) (Appends-trans old mid new far.done player.out.items far.written out)

@@ -72,9 +72,11 @@ module _ (left_before old : Option (List ℕ)) (first : Player) where
       pub come-told : IsTold setting old now (whole_lines come.script)
       come-told = told-so_far setting player old now (whole_lines come.script) (come.answered setting old [] start) come.empty
 
+      -- the bytes read and the room left add up to the limit, so the bytes read are within it
       within-most : length come.script ≤ MOST_BYTES
       within-most = omega (arith, come.counted)
 
+      -- the script with no bytes behind it is still what the run takes
       all-taken : (later : Option (List ℕ)) → Consumes left_before later come.script → Consumes left_before later (come.script ++ [])
       all-taken later taken = subst (Consumes left_before later) (sym (append-nil come.script)) taken
 
@@ -112,6 +114,7 @@ module _ (left_before old : Option (List ℕ)) (first : Player) where
 
       -- the end of the script
       module _ (later new : Option (List ℕ)) (none : Consumes left later []) (end : IsAtEnd later) (kept : Keeps now new) where
+        -- the output keeps what it had, so it holds the answers of all whole lines
         told-end : IsTold setting old new (whole_lines come.script)
         told-end =
             let told = come-told in
@@ -122,6 +125,7 @@ module _ (left_before old : Option (List ℕ)) (first : Player) where
               written = Appends-kept old now new told.texts told.written kept;
             }
 
+        -- output that holds the answers of all whole lines also counts as cut off behind them
         cut-end : IsCutOff setting old new (whole_lines come.script)
         cut-end =
             let told = told-end in
@@ -135,9 +139,11 @@ module _ (left_before old : Option (List ℕ)) (first : Player) where
               written = record { done = told.texts; rest = []; split = sym (append-nil told.texts); written = told.written };
             }
 
+        -- the line without an end has the number behind that of the last whole line
         numbered-end : (n : ℕ) → n ≡ player.lines + 1 → n ≡ length (whole_lines come.script) + 1
         numbered-end n is = is ∙ ap (λ k. k + 1) (come.answered setting old [] start).counted
 
+        -- each fault at the end of the script is a way in which the run stops
         ended-by : (fault : ScriptFault) → EndsBy front player.lines fault → RunStops setting later old new come.script fault
         ended-by ScriptFault.ReadFault why = absurd why
         ended-by ScriptFault.WriteFault why = cut-end
@@ -150,6 +156,7 @@ module _ (left_before old : Option (List ℕ)) (first : Player) where
         ended-by ScriptFault.HistoryFull why = absurd why
         ended-by ScriptFault.NoMemory why = absurd why
 
+        -- a run that reaches the end of the script succeeds or stops by a fault at that end
         pub runs-ended : (result : Result (Unit {0}) ScriptFault) → OnOk result (front ≡ []) → IfErr result (EndsBy front player.lines) →
             Runs setting left_before later old new result
         runs-ended result ok err = record {

@@ -87,6 +87,7 @@ module _ (first_front piece : List ℕ) (first : Player) (first_mid : Option (Li
       pub all-taken : lines_from first_front piece ≡ so_far.taken
       all-taken = so_far.lines ∙ ap (λ ls. so_far.taken ++ ls) (unended_none front rest none).lines ∙ append-nil so_far.taken
 
+      -- where the rest has no line end, the front and the rest remain behind the lines
       pub all-rest : rest_from first_front piece ≡ front ++ rest
       all-rest = so_far.rests ∙ (unended_none front rest none).rest
 

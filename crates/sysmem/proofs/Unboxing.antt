@@ -26,9 +26,11 @@ use Rattle.std_alloc.specs.Box.Ownership.{box_owns}
 use Rattle.sysmem.specs.contracts.raw.Unboxed as unboxed
 
 module _ (E : Bx) where
+  -- the type of the pair of the pointer and the allocator
   abbrev pub Parts : RattleType
   Parts = Tuple (RawPtr ∷ P E ∷ [])
 
+  -- the type of the pair together with the value that the box owned
   abbrev pub Loose : RattleType
   Loose = unboxed.the_row (R E) (P E) E.al.g
 
@@ -36,12 +38,14 @@ module _ (E : Bx) where
   abbrev pub shell : Val → Val
   shell w = vstruct (vcons w vnil)
 
+  -- for a fitting allocator, the value of the parts in a struct of one field is well typed
   pub shell_typed : (h : Val) (b o : ℕ) → Fits E.al h →
       T (has_ty (ty_struct [] (tcons (ty_struct [] (tcons ty_ptr (tcons (α E.al) tnil))) tnil)) (shell (word E h b o))) ×
       WT (shell (word E h b o))
   shell_typed h b o fits = let typed = box_typed E h b o fits in (and_tt _ typed.0, (typed.1, tt))
 
   module _ {M : Type 1} {𝓤 : Ura M} {𝓛 : Logic 𝓤} {K : Type 0} {Γ : List (Item 𝓤)} {G : Goal 𝓤 𝓛.H} where
+    -- the ownership of the parts tells their machine value and leaves the allocator's handle
     pub parts_out : K → (p : Ptr) (a : E.al.row.Denot) (us : List Val)
         → ((h : Val) → us ≡ vstruct (of_list (ptr_val p ∷ h ∷ [])) ∷ [] → Fits E.al h → Seq K 𝓛 (‵ (handle E a h) ∷ Γ) G)
         → Seq K 𝓛 (‵ (Parts.own_val (p, a) us) ∷ Γ) G
@@ -49,6 +53,7 @@ module _ (E : Bx) where
         fpick t (λ vss. fsplit t $ feq_l t (λ eu. fsplit t $ feq_l t (λ ep. fsplit t $ handle_tells E.al t a vss.1.0 (λ h eh fits.
         move t (1 ∷ []) $ drop t $ k h (eu ∙ (λ j. vstruct (of_list (ep j ++ (eh j ++ []))) ∷ [])) fits))))
 
+    -- the allocator's handle and the pointer to a block make up the owned parts
     pub parts_in : K → (b o : ℕ) (h : Val) (a : E.al.row.Denot) →
         Step K 𝓛 (‵ (Parts.own_val (block_ptr b o, a) (word E h b o ∷ [])) ∷ Γ) G (‵ (handle E a h) ∷ Γ) G
     parts_in t b o h a = step (λ s. let w = word E h b o in
@@ -58,6 +63,7 @@ module _ (E : Bx) where
         (vptr b o ∷ [], (h ∷ [], tt)) $ s)
 
   module _ {M : Type 1} {𝓤 : Ura M} {𝓛 : Logic 𝓤} {K : Type 0} {Γ : List (Item 𝓤)} {G : Goal 𝓤 𝓛.H} where
+    -- the ownership of a loosened box splits into its block's and the allocator's handle
     pub loose_out : K → (d : Loose.Denot) (vs : List Val)
         → ((b o : ℕ) (h : Val) → d.parts.0 ≡ block_ptr b o → vs ≡ shell (word E h b o) ∷ [] → Fits E.al h
         → Seq K 𝓛 (‵ (box_owns (token E.al d.parts.1) (R E) (block_ptr b o) d.value) ∷ ‵ (handle E d.parts.1 h) ∷ Γ) G)
@@ -70,6 +76,7 @@ module _ (E : Bx) where
         (subst (λ (p : Ptr). vs ≡ shell (vstruct (of_list (ptr_val p ∷ h ∷ []))) ∷ []) e (ev ∙ (λ j. vstruct (of_list (ep j ++ [])) ∷ [])))
         fits))))
 
+    -- the block with the value and the allocator's handle make up the loosened box
     pub loose_in : K → (b o : ℕ) (h : Val) (a : E.al.row.Denot) (x : E.row.Denot)
         → Step K 𝓛 (‵ (Loose.own_val (record { parts = (block_ptr b o, a); value = x }) (shell (word E h b o) ∷ [])) ∷ Γ) G
         (‵ (handle E a h) ∷ ‵ (box_owns (token E.al a) (R E) (block_ptr b o) x) ∷ Γ) G

@@ -141,6 +141,7 @@ module _ (f : Forest) (id : ℕ) (leaving : Option NodeKey) (amid : IsAmid f id 
   untouched None is c on apart = refl
   untouched (Some key) is c on apart = λ i. record c { nodes = map-stays (with_end key End.Spent) c.nodes others i }
     where
+      -- a node of another collection has another key than the spent one, so its end stays
       others : (n : Node) → In n c.nodes → with_end key End.Spent n ≡ n
       others n there = other_node key n (false_if (same_key key n.key) (λ same.
           let it = amid.there key is in

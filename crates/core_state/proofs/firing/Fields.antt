@@ -196,9 +196,11 @@ module _ (s : State) (client : ℕ) (call : Call) (asked : Reply) (task : Option
   made_here t is id changed =
       by call asked (sym (ap (option_map (λ (w : Work). w.collection)) starts.work) ∙ changed) (sym starts.tracks ∙ is)
     where
+      -- `Some` is injective on numbers
       same : (m n : ℕ) → Some m ≡ Some n → m ≡ n
       same m n h = cc
 
+      -- only a TrackNode both makes a tracker and changes a collection, namely its node's
       by : (call : Call) (asked : Reply) → option_map (λ (w : Work). w.collection) (work_of s client call asked) ≡ Some id →
           tracker_by s.forest call asked ≡ Some t → t.collection ≡ id
       by (Call.TrackNode key) (Reply.Tracker number) there made =

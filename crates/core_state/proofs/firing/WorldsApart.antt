@@ -85,6 +85,7 @@ module _ (f worked : Forest) (here : Option ℕ) (sound : IsSound f) (named : Ar
   same_node : (id : ℕ) (key : NodeKey) → (here ≡ Some id → ⊥) → IsNodeOf f id key → node_at worked key ≡ node_at f key
   same_node id key other of = by (node_at f key) refl (node_at worked key) refl
     where
+      -- the work leaves the node's collection alone, so a node found before is found after
       was : (n : Node) → node_at f key ≡ Some n → node_at worked key ≡ Some n
       was n at =
           let c = node_with_key f key n at in
@@ -93,6 +94,7 @@ module _ (f worked : Forest) (here : Option ℕ) (sound : IsSound f) (named : Ar
           let there : collection_at worked id ≡ Some c.0 = rest.others id other ∙ found_collection f (sound_named f sound) c.0 id c.1 its in
           found_node worked named c.0 n key (In-find (λ (x : Collection). x.id == id) worked.collections c.0 there).0 c.2 c.3
 
+      -- the work adds a node only under a key not given before, and this key was given
       never : (n : Node) → node_at f key ≡ None → node_at worked key ≡ Some n → ⊥
       never n none at =
           let c = node_with_key worked key n at in
@@ -101,6 +103,7 @@ module _ (f worked : Forest) (here : Option ℕ) (sound : IsSound f) (named : Ar
             | inr fresh ↦ both_ways (given f key) of.given (subst (λ (k : NodeKey). given f k ≡ false) c.3 fresh)
           ]
 
+      -- both look-ups agree, whether or not the forest held the node
       by : (before : Option Node) → node_at f key ≡ before → (after : Option Node) → node_at worked key ≡ after → after ≡ before
       by (Some n) at after now = sym now ∙ was n at
       by None none None now = refl
@@ -138,6 +141,7 @@ module _ (f worked : Forest) (here : Option ℕ) (sound : IsSound f) (named : Ar
             | inr fresh ↦ both_ways (given f key) of.given (subst (λ (k : NodeKey). given f k ≡ false) c.3 fresh)
           ]
 
+  -- a node keeps its collection under the work, so a condition concerns the same one as before
   pub concerns_worked : (id : ℕ) (condition : Condition) → Concerns f id condition → Concerns worked id condition
   concerns_worked id (Condition.Node key) of = node_of_worked id key of
   concerns_worked id (Condition.Lifetime key its most) of = (of.0, node_of_worked id key of.1)

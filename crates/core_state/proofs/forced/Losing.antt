@@ -26,6 +26,7 @@ module _ (f : Forest) (key : NodeKey) (cause : Cause) where
   abbrev loss_of : Node → Work
   loss_of n = record { collection = n.collection; change = Change.Loss key cause }
 
+  -- a loss that does work names a node that the forest holds and that is not gone
   pub losing : (work : Work) → loss_at f key cause ≡ Some work → IsLosing f key cause work
   losing work e =
       let t = and_then-Some (λ (n : Node). cond n.gone None (Some (loss_of n))) (node_at f key) work e in

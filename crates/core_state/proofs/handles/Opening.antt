@@ -59,11 +59,13 @@ still false is one = is
 
 -- these handles have one count
 module _ (client : ℕ) (buffer : BufferName) (strength : Strength) where
+  -- a handle that tests equal to this client's handle has the same count
   pub one_hold : (count : ℕ → BufferName → Strength → ℕ) (c : ℕ) (b : BufferName) (s : Strength) →
       (client == c && is_the buffer strength b s) ≡ true → count client buffer strength ≡ count c b s
   one_hold count c b s same =
       ap (λ h. count h.client h.kind.buffer h.kind.strength) (same_hold-one (hold_of client buffer strength) (hold_of c b s) same)
 
+  -- a kind of handle that tests equal to this one has the same count
   pub one_kind : (count : BufferName → Strength → ℕ) (b : BufferName) (s : Strength) → is_the buffer strength b s ≡ true →
       count buffer strength ≡ count b s
   one_kind count b s same = ap (λ k. count k.buffer k.strength) (same_kind-one (kind_of buffer strength) (kind_of b s) same)

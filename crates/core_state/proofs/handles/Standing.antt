@@ -16,6 +16,7 @@ module _ (call : Call) (asked : Reply) {task : Option Task} {tracking : Option W
   pub stands_tracked : is_some tracking ≡ true → collects_handle call asked ≡ false
   stands_tracked some = by (collects_handle call asked) refl
     where
+      -- an event that collects a handle makes no tracker, so the test is false
       by : (b : Bool) → collects_handle call asked ≡ b → b ≡ false
       by false is = refl
       by true is = let none : is_some tracking ≡ false = ap is_some (lands is).1 in cc
@@ -49,12 +50,15 @@ module _ (call : Call) (asked : Reply) (task : Option Task) (tracking : Option W
   pub may_by_handles : takes_handle_room call asked ≡ true → may_take_memory call asked task tracking ≡ true
   may_by_handles is = or_left _ is
 
+  -- an event that makes a tracker may take memory for it
   pub may_by_tracker : is_some tracking ≡ true → may_take_memory call asked task tracking ≡ true
   may_by_tracker is = or_right (takes_handle_room call asked) (or_left _ is)
 
+  -- an event that changes a collection may take memory for the change
   pub may_by_work : is_some (work_in task) ≡ true → may_take_memory call asked task tracking ≡ true
   may_by_work is = or_right (takes_handle_room call asked) (or_right (is_some tracking) (or_left _ is))
 
+  -- an event that adds a client or a parcel may take memory for it
   pub may_by_room : takes_room call asked ≡ true → may_take_memory call asked task tracking ≡ true
   may_by_room is = or_right (takes_handle_room call asked) (or_right (is_some tracking) (or_right (is_some (work_in task)) is))
 

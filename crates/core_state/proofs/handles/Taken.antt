@@ -105,6 +105,7 @@ module _ (pool : ℕ) (limits : Bound) where
 -- what goes at the root goes everywhere in its collection
 module _ (marks : Timeline) (ord : IsOrdered marks) (root : Birth) (there : In root (births marks)) (top : root.parent ≡ None)
     (taken : gone marks root.node ≡ true) where
+  -- each node of a gone root's collection is gone, by induction from the oldest birth
   gone_with_root : (bs : List Birth) → ((b : Birth) → In b bs → In b (births marks)) → AreTogether bs → (b : Birth) → In b bs →
       root.collection ≡ b.collection → gone marks b.node ≡ true
   gone_with_root [] among together b on same = absurd on
@@ -218,9 +219,11 @@ module _ (pool : ℕ) (limits : Bound) (marks : Timeline) (grown : Grows pool li
 
   module _ (bound : Bound) (client collection : ℕ) (taken : Strength) (set : ℕ) (key : NodeKey) (answer : IsAnswer bound (readings marks)
       client (Call.Take key) (Reply.Taken collection taken set)) where
+    -- the Take of the node
     abbrev call : Call
     call = Call.Take key
 
+    -- the reply that names the collection, the strength and the set of buffers opened
     abbrev reply : Reply
     reply = Reply.Taken collection taken set
 

@@ -186,6 +186,7 @@ module _ (client : ℕ) (reply : Reply) where
       is_about_handles (Called client reply (Call.Take key)) ≡ false
   not_taken key no_set = by reply no_set
     where
+      -- among the replies to a Take, only `Taken` is about handles
       by : (reply : Reply) → ((collection : ℕ) (strength : Strength) (set : ℕ) → reply ≡ Reply.Taken collection strength set → ⊥) →
           is_about_handles (Called client reply (Call.Take key)) ≡ false
       by (Reply.Taken collection strength set) no_set = absurd (no_set collection strength set refl)

@@ -41,6 +41,7 @@ module _ (client : ℕ) (reply : Reply) (rows : List Client) where
   pub not_joined : ((made : ℕ) → reply ≡ Reply.Joined made → ⊥) → rows ≡ clients_by (Called client reply Call.Join) rows
   not_joined not = unchanged client reply Call.Join rows (by reply not)
     where
+      -- among the replies to a Join, only `Joined` changes the clients
       by : (reply : Reply) → ((made : ℕ) → reply ≡ Reply.Joined made → ⊥) → changes_clients Call.Join reply ≡ false
       by (Reply.Joined made) not = absurd (not made refl)
       by _ not = refl

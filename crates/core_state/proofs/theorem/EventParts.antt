@@ -197,6 +197,7 @@ module _ (s : State) (client : ℕ) (call : Call) (asked reply : Reply) (task : 
       pub one : is_some task ≡ true → carried ≡ None
       one there = by carried refl
         where
+          -- an event that carries an end has no task, so the task excludes a carried end
           by : (o : Option Place) → carried ≡ o → carried ≡ None
           by None is = is
           by (Some c) is =

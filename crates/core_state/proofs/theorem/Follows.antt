@@ -68,6 +68,7 @@ module _ (pool : ℕ) (s : Standing) (other : List Interval) where
       initial_allocation pool s ≡ initial_allocation pool (record s { held = other })
   initial_held same given = from s.buffers refl
     where
+      -- a collection with buffers has an allocated root, so neither side allocates it
       at_root : (o : Option Member) → root_left s.members ≡ o → is_some s.buffers ≡ true →
           option_and_then (λ root. when (not root.allocated && is_ready root.key s.members)
           (outcome root.key (initial_failure pool s (asked s.members)))) o
@@ -76,6 +77,7 @@ module _ (pool : ℕ) (s : Standing) (other : List Interval) where
       at_root None e there = refl
       at_root (Some root) e there = rw (given there root e) refl
 
+      -- the two allocations agree, whether or not the collection has buffers
       from : (o : Option Buffers) → s.buffers ≡ o → initial_allocation pool s ≡ initial_allocation pool (record s { held = other })
       from None e =
           let want : Buffers = asked s.members in

@@ -66,6 +66,7 @@ module _ (s : State) (marks : Timeline) (shown : IsAfter s marks) (limits : Boun
         (collection_after s.pool (after s.pool marks (client, call, reply))) (kept_ids (after s.pool marks (client, call, reply)))
     left_collections = from (work_of s client call reply) refl work
       where
+        -- the collections agree, whether or not the event does work on one of them
         from : (o : Option Work) → work_of s client call reply ≡ o → Worked s handles o (new_key reply) worked →
             without_over (with_place (end_by client call reply) worked).collections ≡ map
             (collection_after s.pool (after s.pool marks (client, call, reply))) (kept_ids (after s.pool marks (client, call, reply)))

@@ -79,6 +79,7 @@ module _ (s : State) (marks : Timeline) (shown : IsAfter s marks) (limits : Boun
   pub live_is : (key : NodeKey) → is_live_in s key ≡ live marks key
   live_is key = from (birth_of marks key) (is_kept marks key) refl refl
     where
+      -- the two tests agree, whether the node is unborn, kept or forgotten
       from : (o : Option Birth) (k : Bool) → birth_of marks key ≡ o → is_kept marks key ≡ k →
           option_map_or (λ (n : Node). not n.gone && not n.released) (node_at s.forest key) false ≡ live marks key
       from None k e h = rw (node_unknown s marks shown limits grown key e, e) refl
