@@ -12,6 +12,9 @@ use sm_names::{Interval, MAX_PAGES};
 use std::alloc::{AllocError, Global};
 use std::marker::Model;
 
+// From this many on, intervals side by side are inserted at once. Fewer cost less one by one.
+const LONG_RUN: usize = 8;
+
 /// Where an interval lies: in which block, and behind how many of it.
 #[derive(Clone, Copy)]
 pub(crate) struct Spot {
@@ -210,7 +213,7 @@ impl Blocks {
             (run_of first.start first.pages result) }
         ensures capacity { capacity_of self.new ≡ capacity_of self.old }
     {
-        if most > 1 {
+        if most >= LONG_RUN {
             let count = most.min(self.room_at(spot.block));
             if count > 0 {
                 self.put_run(spot, first, count);
