@@ -13,7 +13,7 @@ use std::alloc::{AllocError, Global};
 use std::marker::Model;
 
 // From this many on, intervals side by side are inserted at once. Fewer cost less one by one.
-const LONG_RUN: usize = 8;
+const LONG_RUN: usize = 32;
 
 /// Where an interval lies: in which block, and behind how many of it.
 #[derive(Clone, Copy)]
