@@ -12,7 +12,8 @@ use sm_names::{Interval, MAX_PAGES};
 use std::alloc::{AllocError, Global};
 use std::marker::Model;
 
-// From this many on, intervals side by side are inserted at once. Fewer cost less one by one.
+// From this many on, intervals side by side are inserted at once. To begin that in the midst of a block is
+// expensive.
 const LONG_RUN: usize = 32;
 
 /// Where an interval lies: in which block, and behind how many of it.
