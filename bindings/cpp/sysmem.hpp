@@ -1,28 +1,30 @@
 // The service as C++ values, over sysmem.h and libsysmem. C++17, headers only, no other dependency.
 //
-// A Service is one core behind one mutex. Copies of it are the same service, and any thread may use
-// them. What a client has is a value that is moved and never copied. Its destructor does what its
-// loss means:
+// A Service is one core behind one mutex. All copies of a Service are the same service, and any
+// thread may use them. Tokens, Collections, Handles and Clients can be moved, but not copied. What
+// destructors do:
 //
-//   Token, Collection   an abrupt close: the node fails, and what its failure reaches fails with it.
-//                       To leave in good order, call release().
-//   Handle              drops the handle; a buffer's pages come back with its last one.
-//   Client              the client vanishes: it is shut, collects what waits for it, closes all its
-//                       ends and drops all its handles. Its other values are dead from then on:
-//                       calls on them are refused, their destructors do nothing.
-//   Tracker             nothing: it fires whether somebody looks or not.
-//   Service             nothing. The core is closed once the last Service, Client, Token, Collection,
-//                       Handle and Tracker of it is gone.
+//   Token, Collection   closes the end without a release: the node fails, and all nodes that its
+//                       failure reaches. To leave without a failure, call release().
+//   Handle              drops the handle. A buffer gives its pages back with its last handle, if
+//                       nothing else keeps it.
+//   Client              makes the client vanish: it is shut, collects its parcels, closes all its
+//                       ends and drops all its handles. From then on calls on its other values are
+//                       refused, and their destructors do nothing.
+//   Tracker             does nothing: the tracker fires also without a Tracker.
+//   Service             does nothing. The last Service, Client, Token, Collection, Handle or Tracker
+//                       of a core closes it.
 //
-// No destructor throws, fails, or waits for anything but the mutex. Where memory is refused, what the
-// destructor was to do is done before the next call of anybody.
+// No destructor throws, fails, or waits for anything but the mutex. If memory is refused to a
+// destructor, its call is made before the next call of any thread.
 //
-// Any number of threads may call on different values, and on one Service. One value belongs to one
-// thread at a time. Callbacks run in the thread whose call fired the tracker, after the mutex was let
-// go, so that they may call the service. They may not throw.
+// Any number of threads may use different values, and one Service. At most one thread at a time may
+// use a Token, Collection, Handle, Client or Tracker. A callback runs in the thread whose call
+// fired the tracker, after that call has released the mutex: so it may call the service. It must
+// not throw.
 //
-// A value that was moved from has no client: only its destructor, an assignment to it and its
-// operator bool may be called.
+// Of a value that was moved from, only the destructor, an assignment to it and operator bool may be
+// called.
 #ifndef SYSMEM_HPP
 #define SYSMEM_HPP
 
@@ -30,11 +32,11 @@
 
 namespace sysmem {
 
-// A tracker. It fires once.
+// A tracker, which fires once.
 class Tracker {
 public:
     TrackerId id() const { return watch().id; }
-    // The event at which it fired. It takes no lock.
+    // The event at which the tracker fired, or nothing. Takes no lock.
     std::optional<Event> poll() const {
         Event event = watch().event.load(std::memory_order_acquire);
         return event == 0 ? std::nullopt : std::optional<Event>(event);
@@ -54,23 +56,23 @@ public:
     std::optional<Event> wait_for(std::chrono::duration<Rep, Period> time) const {
         return wait_until(detail::after(time));
     }
-    // Calls this once, with the event: in the thread whose call fires the tracker, without the
-    // mutex, or here and now if it fired before. It takes the place of an earlier one, stays when
-    // the Tracker goes, and may not throw. Others who wait may be told before it ran, or while it
-    // runs: what it uses is to be its own.
+    // Sets the callback, in place of an earlier one. It is called once, with the event, without the
+    // mutex: in the thread whose call fires the tracker, or in this call if the tracker has fired.
+    // It stays when the Tracker is destroyed, and must not throw. Threads that wait for the tracker
+    // may return before or while the callback runs, so it must own what it uses.
     void on_fired(std::function<void(Event)> then) {
         std::unique_lock<std::mutex> lock(reader->state->mutex);
         if (!poll()) {
             watch().then.swap(then);
-            return lock.unlock(); // the earlier one goes without the mutex
+            return lock.unlock(); // the earlier callback is destroyed without the mutex
         }
         lock.unlock();
         if (then) then(*poll());
     }
 
 #ifdef __linux__
-    // A file descriptor that is readable once it fired, for poll and its like; -1 where the system
-    // gives none. It is the tracker's: it is closed with the last copy of the Tracker.
+    // A file descriptor for poll() or epoll, which becomes readable when the tracker fires; -1 if
+    // the system gives none. The last copy of the Tracker closes it.
     int fd() {
         std::lock_guard<std::mutex> lock(reader->state->mutex);
         if (watch().fd < 0) watch().fd = eventfd(poll() ? 1 : 0, EFD_CLOEXEC | EFD_NONBLOCK);
@@ -102,7 +104,7 @@ private:
     std::shared_ptr<detail::Reader> reader;
 };
 
-// A handle that keeps a buffer in use. Its destructor drops it.
+// A handle, which keeps a buffer in use. The destructor drops it.
 class Handle {
 public:
     Handle(Handle &&other) noexcept
@@ -130,7 +132,7 @@ public:
         detail::LastGuard guard(a);
         a.state->part(a, row);
     }
-    // One more handle like this one.
+    // Opens one more handle of this buffer and strength.
     Result<Handle> duplicate() const {
         detail::State &s = *account->state;
         detail::Guard guard(s);
@@ -139,7 +141,7 @@ public:
         if (!answer.is_good()) return s.why(answer);
         return Handle(*account, named, how);
     }
-    // The handle goes to the other client. It stays here where that is refused.
+    // Puts the handle into a parcel for the client. If that is refused, it stays in this value.
     Result<void> give(ClientId to) && {
         detail::Account &a = *account;
         sysmem_call call = words(SYSMEM_GIVE_HANDLE);
@@ -152,8 +154,8 @@ public:
         account = nullptr;
         return {};
     }
-    // A tracker for a weak handle. It fires once no strong handle and no strong node keeps the
-    // buffer.
+    // Makes a tracker that fires once no strong handle and no strong node keeps the buffer. Refused
+    // unless the handle is weak.
     Result<Tracker> track_weak() const {
         return Tracker::make(*account, words(SYSMEM_TRACK_WEAK), 0);
     }
@@ -161,7 +163,7 @@ public:
 private:
     friend class Client;
     friend class Collection;
-    // Under the mutex, where there is room for a row.
+    // Called under the mutex, with room for a row.
     Handle(detail::Account &a, Buffer buffer, Strength strength) noexcept
         : account(&a), row(a.add({buffer, strength})), how(strength), named(buffer) {
         a.values++;
@@ -185,19 +187,20 @@ public:
     CollectionId collection() const { return tree; }
     ClientId client() const { return account->id; }
 
+    // Asks only whether the node has failed.
     Result<void> sync() const { return make(SYSMEM_SYNC); }
-    // Makes the node weak, and so the children that it gets from now on.
+    // Makes the node weak, and each child that it gets from now on.
     Result<void> set_weak() const { return make(SYSMEM_SET_WEAK); }
-    // The node copes with weak handles; with `children`, so do all nodes below the children that it
-    // gets from now on, those included.
+    // Lets the node take weak handles; with `children` also each child that it gets from now on,
+    // and all nodes below these children.
     Result<void> set_weak_ok(bool children = false) const {
         sysmem_call call = detail::call(SYSMEM_SET_WEAK_OK, node);
         call.children = children;
         return make(call);
     }
-    // A tracker that fires once the node is gone.
+    // Makes a tracker that fires once the node is gone.
     Result<Tracker> track_node() const { return track(detail::call(SYSMEM_TRACK_NODE, node)); }
-    // The end goes to the other client. It stays here where that is refused.
+    // Puts the end into a parcel for the client. If that is refused, it stays in this value.
     Result<void> give(ClientId to) && {
         detail::Account &a = *account;
         sysmem_call call = detail::call(SYSMEM_GIVE, node);
@@ -210,9 +213,8 @@ public:
         account = nullptr;
         return {};
     }
-    // Leaves without a failure. The end is gone from here whatever is answered: PeerClosed tells
-    // that the node had failed before, SYSMEM_NO_MEMORY that the release is made before the next
-    // call of anybody.
+    // Spends the end without a failure, whatever the answer. PeerClosed: the node had failed
+    // before. SYSMEM_NO_MEMORY: the release is made before the next call of any thread.
     Result<void> release() && {
         detail::Account &a = *std::exchange(account, nullptr);
         detail::State &s = *a.state;
@@ -226,7 +228,7 @@ public:
         if (!answer.is_good()) return s.why(answer);
         return {};
     }
-    // Does what the destructor does: a node that was not released fails.
+    // Does what the destructor does: the node fails.
     void close() noexcept {
         if (!account) return;
         detail::Account &a = *std::exchange(account, nullptr);
@@ -235,7 +237,7 @@ public:
     }
 
 protected:
-    // Under the mutex, where there is room for a row.
+    // Called under the mutex, with room for a row.
     End(detail::Account &a, Key node, CollectionId tree) noexcept
         : account(&a), row(a.add({node, tree})), node(node), tree(tree) {
         a.values++;
@@ -266,7 +268,7 @@ protected:
     Result<Tracker> track(const sysmem_call &call) const {
         return Tracker::make(*account, call, tree);
     }
-    // A new token by this call.
+    // Makes the call, and answers the new token.
     template <class T>
     static Result<T> born(detail::Account &a, const sysmem_call &call, std::string label) {
         detail::State &s = *a.state;
@@ -288,10 +290,11 @@ protected:
 
 class Token;
 
-// An end that was bound.
+// A bound end.
 class Collection : public End {
 public:
-    // A token of a unit of its own, whose failure goes no further up.
+    // Makes an attached child token: it heads a unit of its own, and its failure does not climb to
+    // this node.
     Result<Token> attach_token(std::string label = {}) const;
     Result<void> set_constraints(Constraints wanted) const {
         sysmem_call call = detail::call(SYSMEM_SET_CONSTRAINTS, node);
@@ -300,13 +303,14 @@ public:
         call.size = wanted.size;
         return make(call);
     }
-    // What was allocated, or nothing yet.
+    // The allocation, or nothing if there is none yet.
     Result<std::optional<Allocation>> check() const {
         detail::Guard guard(*account->state);
         return look();
     }
-    // Waits until the buffers are there or the node is gone; nothing where the time is over. It
-    // checks again, by an event, after each event of the collection that may have brought either.
+    // Waits until the buffers are allocated or the node is gone; nothing if the time is over first.
+    // Makes a Check, which is an event, and another one after each event that may have caused an
+    // allocation or a failure in the collection.
     template <class Rep, class Period>
     Result<std::optional<Allocation>> wait_allocated(std::chrono::duration<Rep, Period> time) const {
         auto until = detail::after(time);
@@ -330,7 +334,7 @@ public:
             }
         }
     }
-    // A handle on each buffer that something strong keeps, or nothing yet.
+    // Opens a handle on each buffer that something strong keeps; nothing if none is allocated yet.
     Result<std::optional<std::vector<Handle>>> take() const {
         using Taken = std::optional<std::vector<Handle>>;
         std::vector<Handle> handles;
@@ -347,8 +351,8 @@ public:
                 handles.push_back(Handle(*account, Buffer{r.id, i}, Strength(r.detail)));
         return Taken(std::move(handles));
     }
-    // A tracker that fires once at most `left` buffers are left, after the allocation; or once the
-    // node is gone before it.
+    // Makes a tracker that fires once the node's unit is allocated and at most `left` buffers of
+    // the collection hold pages, or once the node is gone before that allocation.
     Result<Tracker> track_lifetime(std::uint32_t left) const {
         sysmem_call call = detail::call(SYSMEM_TRACK_LIFETIME, node);
         call.left = left;
@@ -369,19 +373,19 @@ private:
         return std::optional<Allocation>(Allocation{answer.reply.count, answer.reply.size});
     }
 
-    mutable std::uint32_t most = 64; // so many buffers there may be
+    mutable std::uint32_t most = 64; // the collection has at most so many buffers
 };
 
-// An end that is no collection yet.
+// An end that is not bound.
 class Token : public End {
 public:
-    // A child token.
+    // Makes a child token.
     Result<Token> duplicate(std::string label = {}) const {
         return born<Token>(*account, detail::call(SYSMEM_DUPLICATE, node), std::move(label));
     }
-    // A failure of the node, once its unit has buffers, goes no further up.
+    // From the allocation of the node's unit on, no failure climbs from the node to its parent.
     Result<void> set_dispensable() const { return make(SYSMEM_SET_DISPENSABLE); }
-    // The end as a collection. It stays a token here where that is refused.
+    // Turns the token into a collection. If that is refused, it stays a token in this value.
     Result<Collection> bind() && {
         auto made = make(SYSMEM_BIND);
         if (!made) return std::move(made).error();
@@ -399,10 +403,10 @@ inline Result<Token> Collection::attach_token(std::string label) const {
     return born<Token>(*account, detail::call(SYSMEM_ATTACH_TOKEN, node), std::move(label));
 }
 
-// What a client collects.
+// The content of a parcel.
 using Parcel = std::variant<Token, Collection, Handle>;
 
-// A participant, such as a thread. Its destructor is its vanishing.
+// A participant, such as a thread. The destructor makes it vanish.
 class Client {
 public:
     Client(Client &&other) noexcept : account(std::exchange(other.account, nullptr)) {}
@@ -415,12 +419,12 @@ public:
     ClientId id() const { return account->id; }
     const std::string &label() const { return account->label; }
 
-    // A new collection, by its root token.
+    // Makes a collection, and answers its root token.
     Result<Token> open_root(std::string label = {}) const {
         return End::born<Token>(*account, detail::call(SYSMEM_OPEN_ROOT), std::move(label));
     }
-    // The client is given nothing more, and makes no more ends and trackers. Answers how many
-    // parcels wait for it.
+    // Shuts the client: nobody can give it anything more, and it can make no more nodes and
+    // trackers. Answers how many parcels wait for it.
     Result<std::uint64_t> shut() const {
         detail::State &s = *account->state;
         detail::Guard guard(s);
@@ -428,12 +432,12 @@ public:
         if (!answer.is_good()) return s.why(answer);
         return answer.reply.id;
     }
-    // The first parcel that waits, or nothing.
+    // Takes the first parcel that waits for the client, or nothing.
     Result<std::optional<Parcel>> collect() const {
         detail::Guard guard(*account->state);
         return collect_one();
     }
-    // The same. Where none waits it waits for one; nothing where the time is over.
+    // Waits for a parcel if there is none, and takes it; nothing if the time is over first.
     template <class Rep, class Period>
     Result<std::optional<Parcel>> collect_for(std::chrono::duration<Rep, Period> time) const {
         {
@@ -478,7 +482,7 @@ class Service {
     friend struct Raw; // any call as any client, for tests
 
 public:
-    // A service that has seen nothing.
+    // Opens a core without an event.
     static Result<Service> open(const Options &o = {}) {
         auto state = std::make_shared<detail::State>();
         if (o.record) state->recorder = std::make_unique<detail::Recorder>(o.record);
@@ -491,7 +495,7 @@ public:
         if (code != SYSMEM_DONE) return Error::fault(code);
         return Service(std::move(state));
     }
-    // A new client.
+    // Makes a client.
     Result<Client> join(std::string label = {}) const {
         auto account = std::make_unique<detail::Account>(*state, std::move(label));
         detail::Guard guard(*state);
@@ -525,8 +529,8 @@ public:
         sysmem_is_live(&state->core, &k, &live);
         return live == 1;
     }
-    // Why the node failed, and the node whose failure took it along; nothing where it did not fail,
-    // or was forgotten.
+    // Why the node failed, and the origin: the node whose loss reached it; nothing if the node has
+    // not failed, or was forgotten.
     std::optional<std::pair<Cause, Key>> cause(Key key) const {
         detail::Guard guard(*state);
         sysmem_key k{key.slot, key.generation}, origin;
@@ -548,7 +552,7 @@ public:
         sysmem_events(&state->core, &events);
         return events;
     }
-    // Labels are for people: errors tell that of the origin.
+    // Labels are for people: an error has the label of its origin.
     void set_label(Key key, std::string text) const {
         detail::Guard guard(*state);
         state->set_label(key, std::move(text));
@@ -557,7 +561,7 @@ public:
         detail::Guard guard(*state);
         return state->label(key);
     }
-    // Whether all is done that destructors had to put off, for want of memory.
+    // Whether all calls are made that were put off because memory was refused.
     bool is_settled() const {
         detail::Guard guard(*state);
         return state->late == nullptr;

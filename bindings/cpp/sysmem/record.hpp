@@ -19,17 +19,18 @@
 namespace sysmem {
 namespace detail {
 
-// Writes the events of one core. The label of a client or a node is the program's where the language
-// has it, nobody else has it and it is not of the form of the others; else c, n or t and the number
-// of the event that made it. It keeps the labels of all clients and nodes that ever were.
+// Writes the events of one core. A client or a node has the label that the program gave it, if this
+// is a label of the language, unique, and not of the form of generated labels: c, n or t and the
+// number of the event that made it. Otherwise it has a generated label. All labels ever used are
+// kept.
 class Recorder {
 public:
     explicit Recorder(Record to) : to(std::move(to)) {}
 
-    // What the program calls what the next events make, or nothing.
+    // Suggests a label for the client or node that the next event makes; null for none.
     void suggest(const std::string *label) noexcept { wanted = label; }
 
-    // Writes one event. Where memory is refused to it, the transcript ends.
+    // Writes one event. If memory is refused, the transcript ends.
     void note(ClientId who, const sysmem_call &call, const sysmem_reply &reply) noexcept {
         if (is_over) return;
         event++;
@@ -61,7 +62,7 @@ private:
         return true;
     }
     std::string by_event(char kind) const { return kind + std::to_string(event); }
-    // The label for what this event makes, or would have made.
+    // The label of what this event makes, or would have made if it was refused.
     std::string fresh(char kind, const std::set<std::string> &used) const {
         bool fits = wanted && is_label(*wanted) && !is_generated(*wanted, kind) &&
                     (kind != 'c' || *wanted != "show") && used.count(*wanted) == 0;
@@ -86,7 +87,7 @@ private:
                kind == SYSMEM_TRACK_WEAK;
     }
 
-    // The label of a client that joins.
+    // The label of the client that joins.
     const std::string &join(const sysmem_reply &r) {
         made = fresh('c', client_labels);
         if (r.kind == SYSMEM_JOINED) {
@@ -95,7 +96,7 @@ private:
         }
         return made;
     }
-    // The label of a node that is born, or would have been.
+    // The label of the new node, or of the node that a refused call would have made.
     const std::string &birth(bool is_root, const sysmem_reply &r) {
         made = fresh('n', node_labels);
         if (r.kind == SYSMEM_NEW_TOKEN) {
@@ -105,7 +106,7 @@ private:
         }
         return made;
     }
-    // The call. What the event makes gets its label here.
+    // The line of the call. What the event makes gets its label here.
     std::string line(ClientId who, const sysmem_call &c, const sysmem_reply &r) {
         if (c.kind == SYSMEM_JOIN) return join(r) + " join";
         std::string text = client(who) + " " + verb(c.kind);

@@ -1,5 +1,5 @@
-// What lies behind the values of sysmem.hpp: the core, its mutex, and what each client has. Nothing
-// here is for callers.
+// The state behind the values of sysmem.hpp: the core, its mutex, and an account for each client.
+// Nothing here is for callers.
 #ifndef SYSMEM_STATE_HPP
 #define SYSMEM_STATE_HPP
 
@@ -18,7 +18,7 @@
 #include <unistd.h>
 #endif
 
-// What seldom happens stands apart from what each call does.
+// Functions that seldom run are compiled apart from those that each call runs.
 #ifdef __GNUC__
 #define SYSMEM_SELDOM __attribute__((noinline, cold))
 #else
@@ -30,14 +30,14 @@ namespace detail {
 
 struct State;
 
-// A tracker that was made, and what is to be done once it fires.
+// A tracker, and what happens when it fires.
 struct Watch {
     TrackerId id = 0;
-    std::atomic<Event> event{0}; // 0: it did not fire yet
+    std::atomic<Event> event{0}; // 0: it has not fired yet
     std::condition_variable changed;
     std::function<void(Event)> then;
     std::shared_ptr<Watch> next;
-    int fd = -1; // an eventfd, from when somebody asked for it until the last Tracker is gone
+    int fd = -1; // an eventfd, from the first call of Tracker::fd on
 };
 
 // What the copies of a Tracker share.
@@ -47,7 +47,7 @@ struct Reader {
     ~Reader();
 };
 
-// Somebody who waits for a change of a collection. It lies on the stack of who waits.
+// A thread that waits for a change of a collection. It lies on the stack of that thread.
 struct Waiter {
     explicit Waiter(CollectionId tree) : tree(tree) {}
     CollectionId tree;
@@ -72,11 +72,11 @@ inline sysmem_call call(std::uint32_t kind, Buffer buffer, Strength strength) {
     return c;
 }
 
-// An end or a handle that a client has: the call that lets go of it.
+// An end or a handle that a client has, as the call that gives it up.
 struct Row {
     enum : std::uint32_t { FREE = SYSMEM_JOIN };
     std::uint32_t kind = FREE; // SYSMEM_CLOSE, SYSMEM_RELEASE or SYSMEM_DROP_HANDLE
-    bool is_late = false;      // its value is gone, and the call is to be made once memory is there
+    bool is_late = false;      // its value is destroyed, and the call must still be made
     std::uint32_t a = 0, b = 0; // an end's key, a handle's index and strength, the next free row
     CollectionId tree = 0;
 
@@ -103,8 +103,8 @@ template <class T> bool reserve(std::vector<T> &list, std::uint64_t more) noexce
     }
 }
 
-// What a client has. It is there as long as its Client, a value of it or something to be made for it
-// is. The mutex guards all but what never changes.
+// The ends and handles of a client. An account lives as long as its Client, another value of the
+// client, or a call that was put off. The mutex guards the members that change.
 struct Account {
     enum : std::uint32_t { NONE = UINT32_MAX };
     Account(State &state, std::string label) : state(&state), label(std::move(label)) {}
@@ -114,19 +114,19 @@ struct Account {
     const std::string label;
     std::vector<Row> rows;
     std::uint32_t free = NONE;      // the first free row
-    std::size_t values = 1;         // how many values there are, the Client among them
-    std::uint64_t parcels = 0;      // how many wait for it
-    std::condition_variable given;  // told of each
+    std::size_t values = 1;         // the number of values, the Client included
+    std::uint64_t parcels = 0;      // the number of parcels that wait for the client
+    std::condition_variable given;  // notified of each parcel
     bool is_leaving = false;        // the client vanished
-    bool is_dead = false;           // and it could not be parted with yet
-    bool is_shut = false;           // and was shut: `parcels` are to be collected,
-    std::size_t own = 0;            // behind the rows that it had
-    bool is_late = false;           // something is to be made once memory is there
+    bool is_dead = false;           // it vanished, and its vanishing was put off
+    bool is_shut = false;           // it vanished, and its Shut was made: `parcels` must be collected
+    std::size_t own = 0;            // the number of rows at the Shut
+    bool is_late = false;           // some call was put off
     Account *next_late = nullptr;
 
     // Room for one more row.
     bool has_room() noexcept { return free != NONE || reserve(rows, 1); }
-    // Takes no memory where there is room.
+    // Takes no memory if there is room for a row.
     std::uint32_t add(const Row &row) noexcept {
         if (free == NONE) {
             rows.push_back(row);
@@ -153,20 +153,18 @@ struct Answer {
     bool is_no_memory() const { return code == SYSMEM_NO_MEMORY; }
 };
 
-// What the mutex guards. Each function but the destructor is called under it.
+// The state that the mutex guards. Each function but the destructor is called under the mutex.
 struct State : std::enable_shared_from_this<State> {
     std::mutex mutex;
     sysmem_core core{};
     std::size_t users = 0;                                // Clients, ends and handles
-    std::shared_ptr<State> self;                          // as long as there are any
-    std::vector<Account *> clients;                       // those that did not vanish, by id
-    std::vector<std::pair<TrackerId, std::shared_ptr<Watch>>> waiting; // by id
-    std::uint64_t seen = 0;                               // firings that were handed on
-    Account *late = nullptr;                              // clients with something to be made
+    std::shared_ptr<State> self;                          // set as long as there are users
+    std::vector<Account *> clients;                       // those that have not vanished, by id
+    std::vector<std::pair<TrackerId, std::shared_ptr<Watch
     std::map<Key, std::string> labels;
     Waiter *waiters = nullptr;
     std::unique_ptr<Recorder> recorder;
-    bool is_watched = false; // there is a waiter or a recorder
+    bool is_watched = false; // whether there is a waiter or a recorder
 
     ~State() {
         sysmem_close(&core);
@@ -180,22 +178,22 @@ struct State : std::enable_shared_from_this<State> {
         if (is_watched) tell(who, c, tree, answer);
         return answer;
     }
-    // Tells an event to those who wait for a change of its collection, and to the recorder.
+    // Wakes the threads that wait for a change of the event's collection, and records the event.
     SYSMEM_SELDOM void tell(ClientId who, const sysmem_call &c, CollectionId tree,
                             const Answer &answer) noexcept {
         if (answer.code != SYSMEM_DONE) return;
         if (may_change(c.kind, answer.reply.kind)) wake(tree);
         if (recorder) recorder->note(who, c, answer.reply);
     }
-    // The same for a call that makes what the program calls so.
+    // Makes a call, with this label for the client or node that it makes.
     Answer step_named(ClientId who, const sysmem_call &c, const std::string &label) noexcept {
         if (recorder) recorder->suggest(&label);
         Answer answer = step(who, c, 0);
         if (recorder) recorder->suggest(nullptr);
         return answer;
     }
-    // The same for a value of this client. Where the client vanished and could not be parted with
-    // yet, its values are dead all the same.
+    // Makes a call on a value of this client. Refuses it without an event while the vanishing of
+    // the client is put off.
     Answer ask(const Account &a, const sysmem_call &c, CollectionId tree = 0) noexcept {
         if (a.is_dead) return dead(c.kind);
         return step(a.id, c, tree);
@@ -208,7 +206,7 @@ struct State : std::enable_shared_from_this<State> {
         answer.reply.detail = on_handle ? SYSMEM_NO_SUCH_HANDLE : SYSMEM_NO_SUCH_END;
         return answer;
     }
-    // Why an answer is no good one.
+    // The error of an answer that is no success.
     SYSMEM_SELDOM Error why(const Answer &answer) const {
         const sysmem_reply &r = answer.reply;
         if (answer.code != SYSMEM_DONE) return Error::fault(answer.code);
@@ -218,7 +216,7 @@ struct State : std::enable_shared_from_this<State> {
         return Error{Error::Kind::PeerClosed, r.detail, origin, label(origin)};
     }
 
-    // Whether an allocation or a failure may come of a call that was answered so.
+    // Whether a call with this reply may cause an allocation or a failure.
     static bool may_change(std::uint32_t kind, std::uint32_t told) noexcept {
         if (told == SYSMEM_MISUSED) return true;
         return kind == SYSMEM_SET_CONSTRAINTS || kind == SYSMEM_SET_WEAK ||
@@ -250,8 +248,8 @@ struct State : std::enable_shared_from_this<State> {
             return {};
         }
     }
-    // At most 4,096 labels are kept: then those of nodes that were forgotten go, and those of the
-    // others, at most 1,024, stay.
+    // At most 4,096 labels are kept. At that number the labels of forgotten nodes are dropped, and
+    // those of kept nodes, at most 1,024, stay.
     void set_label(Key key, std::string text) noexcept {
         if (text.empty()) return;
         if (labels.size() >= 4096)
@@ -259,7 +257,7 @@ struct State : std::enable_shared_from_this<State> {
                 at = is_known(at->first) ? std::next(at) : labels.erase(at);
         SYSMEM_TRY {
             labels[key] = std::move(text);
-        } SYSMEM_CATCH { // a label less
+        } SYSMEM_CATCH { // the label is lost
         }
     }
     bool is_known(Key key) noexcept {
@@ -275,7 +273,7 @@ struct State : std::enable_shared_from_this<State> {
         sysmem_fired_from(&core, 0, &none, 0, &count);
         return count;
     }
-    // The watches that fired by now, chained, the last one first. Takes no memory.
+    // The watches of new firings, as a chain, the last firing first. Takes no memory.
     std::shared_ptr<Watch> take_fired() noexcept {
         std::shared_ptr<Watch> ready;
         std::uint64_t count = seen;
@@ -313,7 +311,7 @@ struct State : std::enable_shared_from_this<State> {
         return std::lower_bound(clients.begin(), clients.end(), id,
                                 [](const Account *a, ClientId i) { return a->id < i; });
     }
-    // A parcel waits for this client.
+    // Notes that a parcel waits for this client.
     void tell_gift(ClientId to) noexcept {
         auto at = place(to);
         if (at == clients.end() || (*at)->id != to) return;
@@ -321,7 +319,8 @@ struct State : std::enable_shared_from_this<State> {
         (*at)->given.notify_all();
     }
 
-    // Lets go of what stands in this row, whose value goes. A dead one makes no event.
+    // Gives up the end or handle in this row, whose value is destroyed. If its client vanished,
+    // there is no event.
     void part(Account &a, std::uint32_t row) noexcept {
         if (a.is_leaving) return;
         if (step(a.id, a.rows[row].words(), a.rows[row].tree).is_no_memory()) return put_off(a, row);
@@ -337,7 +336,7 @@ struct State : std::enable_shared_from_this<State> {
         a.is_late = true;
         a.next_late = std::exchange(late, &a);
     }
-    // Makes what was put off, as far as memory allows.
+    // Makes the calls that were put off, as far as memory allows.
     SYSMEM_SELDOM void catch_up() noexcept {
         while (late && settle(*late)) {
             Account *done = std::exchange(late, late->next_late);
@@ -345,19 +344,20 @@ struct State : std::enable_shared_from_this<State> {
             forget_if_gone(done);
         }
     }
-    // The client vanishes.
+    // Makes the client vanish.
     void vanish(Account &a) noexcept {
         clients.erase(place(a.id));
         a.is_leaving = true;
         if (a.is_late || !settle(a)) put_off(a);
     }
-    // Makes what is to be made for this client. Where memory is refused, it can be called again.
+    // Makes the calls that were put off for this client, and those of its vanishing. False if
+    // memory is refused: then it can be called again.
     bool settle(Account &a) noexcept {
         if (a.is_leaving && !collect_all(a)) return false;
         std::size_t count = a.rows.size();
         for (bool handles : {false, true})
             for (std::size_t i = 0; i < count; i++) {
-                std::size_t at = (a.own + i) % count; // what was collected comes first
+                std::size_t at = (a.own + i) % count; // collected ends and handles come first
                 Row &row = a.rows[at];
                 if (row.kind == Row::FREE || (row.kind == SYSMEM_DROP_HANDLE) != handles ||
                     !(a.is_leaving || row.is_late))
@@ -367,7 +367,7 @@ struct State : std::enable_shared_from_this<State> {
             }
         return true;
     }
-    // Shuts a client that vanished, and collects what waits for it.
+    // Shuts a client that vanishes, and collects its parcels. False if memory is refused.
     bool collect_all(Account &a) noexcept {
         if (!a.is_shut) {
             Answer answer = step(a.id, call(SYSMEM_SHUT), 0);
@@ -393,7 +393,7 @@ struct State : std::enable_shared_from_this<State> {
     }
 };
 
-// So long from now, or a century where that is further off than the clock counts.
+// The point of time so long from now; a century from now if the clock can't count that far.
 template <class Rep, class Period>
 std::chrono::steady_clock::time_point after(std::chrono::duration<Rep, Period> time) {
     using Clock = std::chrono::steady_clock;
@@ -402,7 +402,8 @@ std::chrono::steady_clock::time_point after(std::chrono::duration<Rep, Period> t
     return Clock::now() + longest;
 }
 
-// Holds the mutex. As it goes, the trackers that fired are told.
+// Holds the mutex. Its destructor wakes the threads that wait for a fired tracker, releases the
+// mutex, and runs the callbacks.
 class Guard {
 public:
     explicit Guard(State &state) : state(state) {
@@ -420,7 +421,7 @@ private:
     SYSMEM_SELDOM void tell() {
         std::shared_ptr<Watch> ready = state.take_fired(), first;
         state.mutex.unlock();
-        while (ready) { // turned round: the first one first
+        while (ready) { // reversed: the first firing first
             std::shared_ptr<Watch> next = std::exchange(ready->next, std::move(first));
             first = std::exchange(ready, std::move(next));
         }
@@ -433,7 +434,7 @@ private:
     State &state;
 };
 
-// The same where a value of this client goes. With the last value of all, the core is closed.
+// A Guard for a call that uses up a value of this client. The last value of all closes the core.
 class LastGuard {
 public:
     explicit LastGuard(Account &account) : account(account), guard(*account.state) {}
@@ -443,7 +444,7 @@ public:
         if (--account.values == 0) state.forget_if_gone(&account);
         if (--state.users == 0) last = std::move(state.self);
     }
-    // The value doesn't go.
+    // The call does not use up the value.
     void stay() noexcept { stays = true; }
 
 private:

@@ -83,7 +83,7 @@ struct Buffer {
     friend bool operator!=(Buffer a, Buffer b) { return !(a == b); }
 };
 
-// How many buffers a collection got, and the size of each in bytes.
+// The number of a collection's buffers, and the size of each in bytes.
 struct Allocation {
     std::uint32_t count = 0, size = 0;
 };
@@ -101,29 +101,29 @@ struct Held {
     std::uint32_t start = 0, pages = 0;
 };
 
-// A tracker that fired, and the event at which it did.
+// A tracker that fired, and the event at which it fired.
 struct Fired {
     TrackerId tracker = 0;
     Event event = 0;
 };
 
-// What is given each event as two lines of a transcript (docs/SCRIPT.md): the call, and its reply
-// behind two spaces.
+// A recorder: it is called with each event, as two lines of a transcript (docs/SCRIPT.md): the
+// call, and the reply, indented by two spaces.
 using Record = std::function<void(std::string_view)>;
 
-// What a service is opened with: the pool's pages of 4,096 bytes, and the limits of sysmem_open.
+// The options of a new service: the pool's pages of 4,096 bytes, and the limits of sysmem_open.
 struct Options {
     std::uint32_t pages = 16;
     std::uint32_t events = UINT32_MAX, nodes = 1024, collections = 256, trackers = 4096;
     std::uint32_t handles = UINT32_MAX;
-    // Random bytes, where clients are not trusted: see sysmem_open_seeded.
+    // 16 random bytes, if clients may be hostile: see sysmem_open_seeded.
     std::optional<std::array<std::uint8_t, 16>> seed = std::nullopt;
-    // It is called under the mutex, in the order of the events: it is to be quick, and must neither
-    // call the service nor throw. record_to(file) makes one.
+    // Called under the mutex, in the order of the events: it must be quick, and must neither call
+    // the service nor throw. record_to(file) makes a recorder.
     Record record = nullptr;
 };
 
-// Writes each event's lines to the file, which stays open as long as the service does.
+// A recorder that writes to the file. The caller keeps the file open as long as the service.
 inline Record record_to(std::FILE *file) {
     return [file](std::string_view lines) { std::fwrite(lines.data(), 1, lines.size(), file); };
 }
@@ -179,7 +179,7 @@ struct Error {
     static Error fault(std::uint32_t code) { return {Kind::Fault, code, {}, {}}; }
 };
 
-// What value() throws. A program without exceptions ends there.
+// The exception that value() throws. A program without exceptions aborts instead.
 struct Failure : std::runtime_error {
     explicit Failure(Error e) : std::runtime_error(e.message()), error(std::move(e)) {}
     Error error;
@@ -196,7 +196,7 @@ namespace detail {
 }
 } // namespace detail
 
-// A value or an Error, with the members that std::expected has.
+// A value or an Error, with members of std::expected.
 template <class T> class [[nodiscard]] Result {
 public:
     using value_type = T;
@@ -218,7 +218,7 @@ public:
 
     T &value() & { return check(), **this; }
     const T &value() const & { return check(), **this; }
-    // By value, so that what a temporary result held may outlive it.
+    // By value, so that the value may outlive a temporary Result.
     T value() && { return check(), std::move(**this); }
     template <class U> T value_or(U &&other) const & {
         return has_value() ? **this : static_cast<T>(std::forward<U>(other));
@@ -227,7 +227,7 @@ public:
         return has_value() ? std::move(**this) : static_cast<T>(std::forward<U>(other));
     }
 
-    // What f makes of the value, which is a Result itself; the error as it is.
+    // f of the value, which is a Result; or the error.
     template <class F> auto and_then(F &&f) & { return after<T &>(*this, std::forward<F>(f)); }
     template <class F> auto and_then(F &&f) const & {
         return after<const T &>(*this, std::forward<F>(f));
@@ -235,7 +235,7 @@ public:
     template <class F> auto and_then(F &&f) && {
         return after<T &&>(std::move(*this), std::forward<F>(f));
     }
-    // A Result of what f makes of the value; the error as it is.
+    // A Result with f of the value; or the error.
     template <class F> auto transform(F &&f) & { return mapped<T &>(*this, std::forward<F>(f)); }
     template <class F> auto transform(F &&f) const & {
         return mapped<const T &>(*this, std::forward<F>(f));
