@@ -1,13 +1,13 @@
-//! What a client has.
+//! Accounts: the ends and handles of a client.
 use crate::calls::{kind, of_buffer, of_key};
 use crate::ffi::CallWords;
 use crate::words::*;
 use std::sync::{Arc, Condvar};
 
-/// An end or a handle that a client has: what the call says that lets go of it.
+/// An end or a handle that a client has, as the call that gives it up.
 #[derive(Clone, Copy)]
 pub(crate) enum Row {
-    /// And the next free row.
+    /// A free row, with the next free row.
     Free(u32),
     End {
         key: Key,
@@ -39,7 +39,7 @@ impl Row {
         }
     }
 
-    /// Whether its value is gone, and the call is to be made once memory is there.
+    /// Whether its value is dropped, and the call was put off.
     pub fn is_late(&self) -> bool {
         matches!(self, Row::End { is_late: true, .. } | Row::Handle { is_late: true, .. })
     }
@@ -51,33 +51,33 @@ impl Row {
     }
 }
 
-/// What a client has. It is there as long as its `Client`, a value of it or something to be made
-/// for it is.
+/// The ends and handles of a client. An account lives as long as its `Client`, another value of the
+/// client, or a call that was put off.
 pub(crate) struct Account {
     pub client: ClientId,
     pub label: Arc<str>,
     pub rows: Vec<Row>,
     /// The first free row.
     pub free: u32,
-    /// How many values there are, the `Client` among them.
+    /// The number of values, the `Client` included.
     pub values: usize,
-    /// How many parcels wait.
+    /// The number of parcels that wait for the client.
     pub parcels: u64,
     pub given: Arc<Condvar>,
     pub stage: Stage,
-    /// Something is to be made once memory is there.
+    /// Whether some call was put off.
     pub is_late: bool,
 }
 
-/// How far a client is with its vanishing.
+/// How far the vanishing of a client has come.
 #[derive(Clone, Copy, PartialEq)]
 pub(crate) enum Stage {
     Here,
-    /// It vanished, and was not shut yet.
+    /// The client vanished, and its Shut is not made yet.
     Leaving,
-    /// It was shut; this many rows were its own then, and `parcels` are to be collected behind them.
+    /// Its Shut is made; it had this many rows then, and `parcels` must be collected.
     Shut(usize),
-    /// Nothing is left of it.
+    /// All calls of the vanishing are made.
     Gone,
 }
 

@@ -1,4 +1,4 @@
-//! The numbers of `sysmem.h`, and calls by them.
+//! The numbers of `sysmem.h`, and calls as numbers.
 use crate::ffi::CallWords;
 use crate::words::*;
 
@@ -57,14 +57,14 @@ pub(crate) fn of_kind(kind: u32) -> CallWords {
     CallWords { kind, ..Default::default() }
 }
 
-/// Whether an allocation or a failure may come of a call that was answered so.
+/// Whether a call with this reply may cause an allocation or a failure.
 pub(crate) fn may_change(kind: u32, told: u32) -> bool {
     use kind::*;
     told == reply::MISUSED
         || matches!(kind, SET_CONSTRAINTS | SET_WEAK | RELEASE | CLOSE | DROP_HANDLE)
 }
 
-/// How a call on a value of a client that is gone is refused.
+/// The error of a call on a value whose client vanished.
 pub(crate) fn dead(kind: u32) -> Error {
     use kind::*;
     match kind {

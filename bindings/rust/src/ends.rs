@@ -10,7 +10,7 @@ use std::marker::PhantomData;
 use std::sync::{Arc, Condvar, PoisonError};
 use std::time::{Duration, Instant};
 
-/// As long as anybody waits: no `Instant` is so far off that it is none.
+/// The longest wait, short enough that an `Instant` can be so far off.
 const FOREVER: Duration = Duration::from_secs(1 << 31);
 
 mod sealed {
@@ -27,12 +27,12 @@ pub enum OfCollection {}
 impl Kind for OfToken {}
 impl Kind for OfCollection {}
 
-/// An end that is no collection yet.
+/// An end that is not bound.
 pub type Token = End<OfToken>;
-/// An end that was bound.
+/// A bound end.
 pub type Collection = End<OfCollection>;
 
-/// What a client has of a node. Dropping it is an abrupt close.
+/// A client's end of a node. Its drop closes the end without a release: the node fails.
 pub struct End<K: Kind> {
     pub(crate) owner: Owner,
     pub(crate) row: u32,
@@ -53,7 +53,7 @@ impl<K: Kind> End<K> {
         self.collection
     }
 
-    /// Whose end it is.
+    /// The client that holds the end.
     pub fn client(&self) -> ClientId {
         self.owner.client
     }
@@ -66,29 +66,29 @@ impl<K: Kind> End<K> {
         self.owner.make(call, self.collection)
     }
 
-    /// Asks whether the node is well.
+    /// Asks only whether the node has failed.
     pub fn sync(&self) -> Result<(), Error> {
         self.make(&self.asks(kind::SYNC))
     }
 
-    /// Makes the node weak, and so the children that it gets from now on.
+    /// Makes the node weak, and each child that it gets from now on.
     pub fn set_weak(&self) -> Result<(), Error> {
         self.make(&self.asks(kind::SET_WEAK))
     }
 
-    /// The node copes with weak handles; with `children`, so do all nodes below the children that it
-    /// gets from now on, those included.
+    /// Lets the node take weak handles; with `children` also each child that it gets from now on,
+    /// and all nodes below these children.
     pub fn set_weak_ok(&self, children: bool) -> Result<(), Error> {
         let children = u8::from(children);
         self.make(&CallWords { children, ..self.asks(kind::SET_WEAK_OK) })
     }
 
-    /// A tracker that fires once the node is gone.
+    /// Makes a tracker that fires once the node is gone.
     pub fn track_node(&self) -> Result<Tracker, Error> {
         self.owner.track(&self.asks(kind::TRACK_NODE), self.collection)
     }
 
-    /// Gives the end to that client. It comes back where that is refused.
+    /// Puts the end into a parcel for the client. If that is refused, the end comes back.
     pub fn give(mut self, to: ClientId) -> Result<(), Back<Self>> {
         match self.try_give(to) {
             Ok(()) => {
@@ -107,30 +107,30 @@ impl<K: Kind> End<K> {
         Ok(())
     }
 
-    /// Leaves without a failure. The end is gone whatever is answered: `PeerClosed` tells that the
-    /// node had failed before, `NoMemory` that the release is made before the next call of anybody.
+    /// Spends the end without a failure, whatever the answer. `PeerClosed`: the node had failed
+    /// before. `NoMemory`: the release is made before the next call of any thread.
     pub fn release(mut self) -> Result<(), Error> {
         self.is_here = false;
         let mut state = self.owner.shared.lock();
         state.release(&self.owner, self.row, self.key, self.collection)
     }
 
-    /// Does what dropping does: a node that was not released fails.
+    /// Does what the drop does: the node fails.
     pub fn close(self) {}
 }
 
 impl End<OfToken> {
-    /// A child token. The label may be empty.
+    /// Makes a child token. The label may be empty.
     pub fn duplicate(&self, label: &str) -> Result<Token, Error> {
         self.owner.birth(&self.asks(kind::DUPLICATE), label)
     }
 
-    /// A failure of the node, once its unit has buffers, goes no further up.
+    /// From the allocation of the node's unit on, no failure climbs from the node to its parent.
     pub fn set_dispensable(&self) -> Result<(), Error> {
         self.make(&self.asks(kind::SET_DISPENSABLE))
     }
 
-    /// The end as a collection. The token comes back where that is refused.
+    /// Turns the token into a collection. If that is refused, the token comes back.
     pub fn bind(mut self) -> Result<Collection, Back<Token>> {
         match self.make(&self.asks(kind::BIND)) {
             Ok(()) => {
@@ -145,19 +145,20 @@ impl End<OfToken> {
 }
 
 impl End<OfCollection> {
-    /// A token of a unit of its own, whose failure goes no further up.
+    /// Makes an attached child token: it heads a unit of its own, and its failure does not climb to
+    /// this node. The label may be empty.
     pub fn attach_token(&self, label: &str) -> Result<Token, Error> {
         self.owner.birth(&self.asks(kind::ATTACH_TOKEN), label)
     }
 
-    /// Says what the node needs of the buffers.
+    /// Sends the node's constraints.
     pub fn set_constraints(&self, wanted: Constraints) -> Result<(), Error> {
         let Constraints { camping, at_least, size } = wanted;
         let call = self.asks(kind::SET_CONSTRAINTS);
         self.make(&CallWords { camping, at_least, size, ..call })
     }
 
-    /// What was allocated, or `None` yet.
+    /// The allocation, or `None` if there is none yet.
     pub fn check(&self) -> Result<Option<Allocation>, Error> {
         self.look(&mut self.owner.shared.lock())
     }
@@ -168,8 +169,9 @@ impl End<OfCollection> {
         Ok((told.kind != reply::PENDING).then_some(given))
     }
 
-    /// Waits until the buffers are there or the node is gone; `None` where the time is over. It checks
-    /// again, by an event, after each event of the collection that may have brought either.
+    /// Waits until the buffers are allocated or the node is gone; `None` if the time is over first.
+    /// Makes a Check, which is an event, and another one after each event that may have caused an
+    /// allocation or a failure in the collection.
     pub fn wait_allocated(&self, time: Duration) -> Result<Option<Allocation>, Error> {
         let until = Instant::now() + time.min(FOREVER);
         let shared = &self.owner.shared;
@@ -201,7 +203,7 @@ impl End<OfCollection> {
         }
     }
 
-    /// A handle on each buffer that something strong keeps, or `None` yet.
+    /// Opens a handle on each buffer that something strong keeps; `None` if none is allocated yet.
     pub fn take(&self) -> Result<Option<Vec<Handle>>, Error> {
         let mut state = self.owner.shared.lock();
         let told = state.ask(&self.owner, &self.asks(kind::TAKE), self.collection)?;
@@ -218,8 +220,8 @@ impl End<OfCollection> {
         Ok(Some(taken))
     }
 
-    /// A tracker that fires once at most so many buffers are left, after the allocation; or once the
-    /// node is gone before it.
+    /// Makes a tracker that fires once the node's unit is allocated and at most `left` buffers of
+    /// the collection hold pages, or once the node is gone before that allocation.
     pub fn track_lifetime(&self, left: u32) -> Result<Tracker, Error> {
         self.owner.track(&CallWords { left, ..self.asks(kind::TRACK_LIFETIME) }, self.collection)
     }

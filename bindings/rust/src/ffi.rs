@@ -1,4 +1,4 @@
-//! `sysmem.h`, as Rust sees it, and the core as a value.
+//! `sysmem.h` in Rust, and the core as a value.
 use std::ffi::c_void;
 use std::ptr::null_mut;
 
@@ -127,14 +127,14 @@ extern "C" {
 
 #[cfg(test)]
 thread_local! {
-    /// Whether calls of this thread are refused memory.
+    /// Whether memory is refused to the calls of this thread.
     pub(crate) static REFUSING: std::cell::Cell<bool> = const { std::cell::Cell::new(false) };
 }
 
-/// An open core. Each function takes `&mut`, so that one call at a time is made on it.
+/// An open core. Each function takes `&mut self`, so that at most one call at a time is made on it.
 pub(crate) struct Core(Handle);
 
-// SAFETY: the library has proved that its handle may go to another thread.
+// SAFETY: it is proved of the library that its handle may move to another thread.
 unsafe impl Send for Core {}
 
 impl Core {
@@ -155,7 +155,7 @@ impl Core {
         }
     }
 
-    /// Makes a call, and writes its reply where this answers 0.
+    /// Makes a call, and writes its reply if the code is 0.
     #[inline]
     pub fn step(&mut self, client: u64, asked: &CallWords, told: &mut ReplyWords) -> u32 {
         #[cfg(test)]
@@ -182,7 +182,7 @@ impl Core {
         let mut count = 0;
         let mut all = vec![T::default()];
         loop {
-            // SAFETY: `out` has as many places as are told.
+            // SAFETY: `out` has as many places as `room` says.
             match unsafe { look(&mut self.0, all.as_mut_ptr(), all.len(), &mut count) } {
                 0 if count as usize > all.len() => all.resize(count as usize, T::default()),
                 0 => break,
@@ -193,7 +193,7 @@ impl Core {
         Ok(all)
     }
 
-    /// The firing with this place in the list, and how many there are.
+    /// The firing at this place of the list, and the number of all firings.
     pub fn fired_at(&mut self, place: u64) -> (FiredWords, u64) {
         let (mut one, mut count) = (FiredWords::default(), 0);
         // SAFETY: `out` has one place.
@@ -232,7 +232,7 @@ impl Core {
 
 impl Drop for Core {
     fn drop(&mut self) {
-        // SAFETY: the handle is this core's; one that is not open is answered so.
+        // SAFETY: the handle is this core's. A call on a handle that is not open is safe.
         unsafe { sysmem_close(&mut self.0) };
     }
 }
@@ -240,7 +240,7 @@ impl Drop for Core {
 /// The name of a code (`about` 0), a refusal (1), a misuse (2) or a cause (3).
 pub(crate) fn name(about: u32, number: u32) -> String {
     let (mut text, mut count) = ([0; 33], 0);
-    // SAFETY: the text has room for as many bytes as are told.
+    // SAFETY: `text` has as many bytes as `room` says.
     unsafe { sysmem_name(about, number, text.as_mut_ptr(), text.len(), &mut count) };
     String::from_utf8_lossy(&text[..count as usize]).into_owned()
 }

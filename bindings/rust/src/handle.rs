@@ -4,7 +4,7 @@ use crate::state::{kind, of_buffer, Owner};
 use crate::{Back, Buffer, ClientId, Error, Strength, Tracker};
 use std::fmt;
 
-/// What keeps a buffer in use. Dropping it drops the handle.
+/// A handle, which keeps a buffer in use until the value is dropped.
 pub struct Handle {
     pub(crate) owner: Owner,
     pub(crate) row: u32,
@@ -14,17 +14,17 @@ pub struct Handle {
 }
 
 impl Handle {
-    /// The buffer that it keeps in use.
+    /// The buffer of the handle.
     pub fn buffer(&self) -> Buffer {
         self.buffer
     }
 
-    /// Whether it keeps the buffer's contents.
+    /// Whether the handle is strong, and so keeps the buffer alive, or weak.
     pub fn strength(&self) -> Strength {
         self.strength
     }
 
-    /// Whose handle it is.
+    /// The client that has the handle.
     pub fn client(&self) -> ClientId {
         self.owner.client
     }
@@ -33,14 +33,14 @@ impl Handle {
         of_buffer(kind, self.buffer, self.strength)
     }
 
-    /// One more handle like this one.
+    /// Opens one more handle of this buffer and strength.
     pub fn duplicate(&self) -> Result<Handle, Error> {
         let mut state = self.owner.shared.lock();
         state.ask(&self.owner, &self.asks(kind::DUP_HANDLE), 0)?;
         Ok(self.owner.handle(&mut state, self.buffer, self.strength))
     }
 
-    /// Gives the handle to that client. It comes back where that is refused.
+    /// Puts the handle into a parcel for the client. If that is refused, the handle comes back.
     pub fn give(mut self, to: ClientId) -> Result<(), Back<Handle>> {
         match self.try_give(to) {
             Ok(()) => {
@@ -59,8 +59,8 @@ impl Handle {
         Ok(())
     }
 
-    /// A tracker that fires once no strong handle and no strong node keeps the buffer: for weak
-    /// handles.
+    /// Makes a tracker that fires once no strong handle and no strong node keeps the buffer.
+    /// Refused unless the handle is weak.
     pub fn track_weak(&self) -> Result<Tracker, Error> {
         self.owner.track(&self.asks(kind::TRACK_WEAK), self.buffer.collection)
     }

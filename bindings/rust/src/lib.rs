@@ -1,20 +1,20 @@
-//! Who still needs a shared buffer, who falls when somebody fails, and when a buffer's pages are
-//! free: the lifetime half of `fuchsia.sysmem2`, as values whose loss means what it means there.
+//! Lifetimes of shared buffers: who still needs a buffer, whom a failure takes along, and when the
+//! pages of a buffer are free. This is the lifetime half of `fuchsia.sysmem2`.
 //!
-//! A [`Service`] is one proved core behind one lock. Its clones are the same service, and any thread
-//! may use them. What a client has is a value:
+//! A [`Service`] is one proved core behind one lock. All clones of a service are the same service,
+//! and any thread may use them. The other values belong to a client:
 //!
-//! | value | dropping it |
+//! | value | what its drop does |
 //! |---|---|
-//! | [`Token`], [`Collection`] | is an abrupt close: the node fails, and what its failure reaches fails with it. To leave in good order, [`End::release`] |
-//! | [`Handle`] | drops the handle; a buffer's pages come back with its last one |
-//! | [`Client`] | the client vanishes: it is shut, collects what waits for it, closes all its ends and drops all its handles. Its other values are dead from then on: calls on them are refused, their drops do nothing |
-//! | [`Tracker`] | does nothing: it fires whether somebody looks or not |
-//! | [`Service`] | does nothing; the core is closed with the last value of it |
+//! | [`Token`], [`Collection`] | closes the end without a release: the node fails, and all nodes that its failure reaches. To leave without a failure, call [`End::release`] |
+//! | [`Handle`] | drops the handle. A buffer gives its pages back with its last handle, if nothing else keeps it |
+//! | [`Client`] | makes the client vanish: it is shut, collects its parcels, closes all its ends and drops all its handles. From then on calls on its other values are refused, and their drops do nothing |
+//! | [`Tracker`] | nothing: the tracker fires also without a `Tracker` |
+//! | [`Service`] | nothing. The last value of a core closes it |
 //!
-//! No drop fails. Where the core was refused memory, what the drop was to do is done before the next
-//! call of anybody. Callbacks run in the thread whose call fired the tracker, once the lock was let
-//! go.
+//! No drop fails. If memory is refused to a drop, its call is made before the next call of any
+//! thread. A callback runs in the thread whose call fired the tracker, after that call has released
+//! the lock.
 //!
 //! ```
 //! use sysmem::{Cause, Constraints, Error, Options, Service};
@@ -32,7 +32,7 @@
 //! theirs.set_constraints(Constraints { camping: 1, at_least: 0, size: 6000 })?;
 //! assert_eq!(mine.check()?.unwrap().count, 3);
 //!
-//! // The display crashes: its client vanishes, and the app is told who took it along.
+//! // The display crashes: its client vanishes, and the app learns whose failure reached it.
 //! drop(display);
 //! let told = mine.check().unwrap_err();
 //! assert!(matches!(told, Error::PeerClosed { cause: Cause::Lost, .. }));
@@ -75,7 +75,7 @@ use std::marker::PhantomData;
 use std::sync::{Arc, Mutex, PoisonError};
 use std::time::Duration;
 
-/// One core that all who have a clone of this share.
+/// One core, which all clones share.
 #[derive(Clone)]
 pub struct Service(Arc<Shared>);
 
@@ -124,7 +124,7 @@ impl Owner {
 }
 
 impl Service {
-    /// A service that has seen nothing.
+    /// Opens a core without an event.
     pub fn open(options: Options) -> Result<Service, Error> {
         let Options { pages, events, nodes, collections, trackers, handles, seed, record } =
             options;
@@ -133,12 +133,12 @@ impl Service {
         Ok(Service(Arc::new(Shared(Mutex::new(state)))))
     }
 
-    /// A new client.
+    /// Makes a client.
     pub fn join(&self) -> Result<Client, Error> {
         self.join_as("")
     }
 
-    /// A new client with a label, for people and transcripts.
+    /// Makes a client with a label, for people and transcripts.
     pub fn join_as(&self, label: &str) -> Result<Client, Error> {
         let mut state = self.0.lock();
         let client = state.ask_anybody(&of_kind(kind::JOIN), label)?.id;
@@ -146,7 +146,7 @@ impl Service {
         Ok(Client { owner: Owner { shared: self.0.clone(), client, place } })
     }
 
-    /// The live nodes, by birth. Like the other views this makes no event.
+    /// The live nodes, by birth. Views make no event.
     pub fn live(&self) -> Result<Vec<Key>, Error> {
         let live = self.0.lock().core.live().map_err(Error::of)?;
         Ok(live.into_iter().map(Key::from).collect())
@@ -184,35 +184,35 @@ impl Service {
         self.0.lock().core.is_live(key.words())
     }
 
-    /// Why the node failed, and the node whose failure took it along; `None` where it did not fail,
-    /// or was forgotten.
+    /// Why the node failed, and the origin: the node whose loss reached it. `None` if the node has
+    /// not failed, or was forgotten.
     pub fn cause(&self, key: Key) -> Option<(Cause, Key)> {
         let (cause, origin) = self.0.lock().core.cause(key.words())?;
         Some((Cause::of(cause), Key::from(origin)))
     }
 
-    /// Gives the node a name that errors tell.
+    /// Sets the node's label. An error has the label of its origin.
     pub fn set_label(&self, key: Key, label: &str) {
         self.0.lock().set_label(key, label);
     }
 
-    /// The name that the node was given.
+    /// The node's label, if it has one.
     pub fn label(&self, key: Key) -> Option<String> {
         self.0.lock().labels.get(&key).cloned()
     }
 
-    /// Whether all that drops had to put off, for want of memory, is done by now.
+    /// Whether all calls are made that were put off because memory was refused.
     pub fn is_settled(&self) -> bool {
         self.0.lock().is_settled()
     }
 }
 
-/// A participant, such as a thread. Dropping it is its vanishing.
+/// A participant, such as a thread. Its drop makes it vanish.
 pub struct Client {
     owner: Owner,
 }
 
-/// What a client collects.
+/// The content of a parcel.
 #[derive(Debug)]
 pub enum Parcel {
     Token(Token),
@@ -252,23 +252,23 @@ impl Client {
         self.owner.client
     }
 
-    /// What it joined as; it may be empty.
+    /// The client's label; it may be empty.
     pub fn label(&self) -> Arc<str> {
         self.owner.shared.raw().account(self.owner.place).label.clone()
     }
 
-    /// A new collection, as its root token. The label may be empty.
+    /// Makes a collection, and answers its root token. The label may be empty.
     pub fn open_root(&self, label: &str) -> Result<Token, Error> {
         self.owner.birth(&of_kind(kind::OPEN_ROOT), label)
     }
 
-    /// Nothing more is given to the client, and it makes no more ends and trackers. Answers how many
-    /// parcels wait for it.
+    /// Shuts the client: nobody can give it anything more, and it can make no more nodes and
+    /// trackers. Answers how many parcels wait for it.
     pub fn shut(&self) -> Result<u64, Error> {
         Ok(self.owner.shared.lock().ask(&self.owner, &of_kind(kind::SHUT), 0)?.id)
     }
 
-    /// The first parcel that waits.
+    /// Takes the first parcel that waits for the client; `None` if there is none.
     pub fn collect(&self) -> Result<Option<Parcel>, Error> {
         let mut state = self.owner.shared.lock();
         let told = state.ask(&self.owner, &of_kind(kind::COLLECT), 0)?;
@@ -287,7 +287,7 @@ impl Client {
         }))
     }
 
-    /// The same. Where none waits it waits for one; `None` where the time is over.
+    /// Waits for a parcel if there is none, and takes it; `None` if the time is over first.
     pub fn collect_for(&self, time: Duration) -> Result<Option<Parcel>, Error> {
         let place = self.owner.place;
         let mut state = self.owner.shared.raw();

@@ -30,14 +30,14 @@ const VERBS: [&str; 23] = [
     "trackweak",
 ];
 
-/// Writes the events of one core. The label of a client or a node is the program's where the
-/// language has it, nobody else has it and it is not of the form of the others; else `c`, `n` or
-/// `t` and the number of the event that made it. It keeps the labels of all clients and nodes that
-/// ever were.
+/// Writes the events of one core. A client or a node has the label that the program gave it, if
+/// this is a label of the language, unique, and not of the form of generated labels: `c`, `n` or
+/// `t` and the number of the event that made it. Otherwise it has a generated label. All labels
+/// ever used are kept.
 pub(crate) struct Recorder {
     to: Record,
     event: Event,
-    /// Whether all that the line names has a label.
+    /// Whether everything that the line names has a label.
     is_known: bool,
     clients: HashMap<ClientId, String>,
     nodes: HashMap<Key, String>,
@@ -60,7 +60,7 @@ impl Recorder {
         }
     }
 
-    /// Writes one event. `wanted` is what the program calls what it makes.
+    /// Writes one event. `wanted` is the program's label for the client or node that it makes.
     pub fn note(&mut self, who: ClientId, call: &CallWords, told: &ReplyWords, wanted: &str) {
         self.event += 1;
         self.is_known = true;
@@ -74,7 +74,7 @@ impl Recorder {
         format!("{kind}{}", self.event)
     }
 
-    /// The label for what this event makes, or would have made.
+    /// The label of what this event makes, or would have made if it was refused.
     fn fresh(&self, kind: char, wanted: &str) -> String {
         let used = if kind == 'c' { &self.client_labels } else { &self.node_labels };
         let is_reserved = kind == 'c' && wanted == "show";
@@ -106,7 +106,7 @@ impl Recorder {
         format!("{}.{index}", self.known(label))
     }
 
-    /// The call, and the label of what it makes.
+    /// The line of the call. What the event makes gets its label here.
     fn line(
         &mut self,
         who: ClientId,
@@ -149,7 +149,7 @@ impl Recorder {
         (text + " " + &more, made)
     }
 
-    /// The label of a client that joins.
+    /// The label of the client that joins.
     fn join(&mut self, told: &ReplyWords, wanted: &str) -> String {
         let made = self.fresh('c', wanted);
         if told.kind == reply::JOINED {
@@ -159,7 +159,7 @@ impl Recorder {
         made
     }
 
-    /// The label of a node that is born, or would have been.
+    /// The label of the new node, or of the node that a refused call would have made.
     fn birth(&mut self, is_root: bool, told: &ReplyWords, wanted: &str) -> String {
         let made = self.fresh('n', wanted);
         if told.kind == reply::NEW_TOKEN {

@@ -1,4 +1,4 @@
-//! What lies behind the values: the core, its lock, and what each client has.
+//! The state behind the values: the core, its lock, and an account for each client.
 use crate::account::{Account, Row, Stage, NONE};
 use crate::calls::{dead, may_change};
 pub(crate) use crate::calls::{kind, of_buffer, of_key, of_kind, reply};
@@ -10,7 +10,7 @@ use std::ops::{Deref, DerefMut};
 use std::sync::atomic::{AtomicU64, Ordering};
 use std::sync::{Arc, Condvar, Mutex, MutexGuard, PoisonError};
 
-/// Whether a tracker fired.
+/// A tracker's firing.
 #[derive(Default)]
 pub(crate) struct Watch {
     pub event: AtomicU64,
@@ -24,7 +24,7 @@ pub(crate) struct Waiter {
     pub then: Option<Then>,
 }
 
-/// Somebody who waits for a change of a collection.
+/// A thread that waits for a change of a collection.
 pub(crate) struct Wait {
     pub collection: CollectionId,
     pub is_changed: bool,
@@ -38,15 +38,15 @@ pub(crate) struct State {
     pub core: Core,
     accounts: Vec<Option<Account>>,
     free_accounts: Vec<Place>,
-    /// Those that did not vanish, by id.
+    /// The clients that have not vanished, by id.
     clients: Vec<(ClientId, Place)>,
     pub waiting: BTreeMap<TrackerId, Waiter>,
-    /// How many firings were handed on.
+    /// The number of firings passed on.
     pub seen: u64,
-    /// The accounts with something to be made.
+    /// The accounts with calls put off.
     late: Vec<Place>,
     pub labels: HashMap<Key, String>,
-    /// Who waits, by numbers of their own.
+    /// The waiting threads, by numbers of their own.
     waits: BTreeMap<u64, Wait>,
     recorder: Option<Recorder>,
     /// Whether there is a wait or a recorder.
@@ -70,8 +70,8 @@ impl State {
         }
     }
 
-    /// Makes one call, which may change this collection, and writes its reply where this answers 0.
-    /// `wanted` is what the program calls what it makes.
+    /// Makes one call, which may change this collection, and writes its reply if the code is 0.
+    /// `wanted` is the program's label for the client or node that it makes.
     #[inline]
     fn step_named(
         &mut self,
@@ -88,7 +88,7 @@ impl State {
         code
     }
 
-    /// The same for a call that lets go of something.
+    /// Makes one call that gives something up.
     fn step(
         &mut self,
         who: ClientId,
@@ -102,7 +102,7 @@ impl State {
         }
     }
 
-    /// Tells an event to those who wait for a change of its collection, and to the recorder.
+    /// Wakes the threads that wait for a change of the event's collection, and records the event.
     #[cold]
     fn tell(
         &mut self,
@@ -123,7 +123,7 @@ impl State {
         }
     }
 
-    /// The same. It answers the reply, or what is no success as an error.
+    /// Makes one call. Answers the reply, or an error if it is no success.
     #[inline]
     pub fn ask_raw(
         &mut self,
@@ -139,13 +139,13 @@ impl State {
         }
     }
 
-    /// The same for a call of nobody.
+    /// Makes one call as client 0.
     pub fn ask_anybody(&mut self, call: &CallWords, wanted: &str) -> Result<ReplyWords, Error> {
         self.ask_raw(0, call, 0, wanted)
     }
 
-    /// The same for a value of an account. Where its client vanished and could not be parted with
-    /// yet, its values are dead all the same.
+    /// Makes one call on a value of an account. Refuses it without an event while the vanishing of
+    /// the client is put off.
     #[inline]
     pub fn ask(
         &mut self,
@@ -159,7 +159,7 @@ impl State {
         self.ask_raw(owner.client, call, collection, "")
     }
 
-    /// The same for a call that makes what the program calls so.
+    /// Does what `ask` does, with a label for the node that the call makes.
     pub fn ask_named(
         &mut self,
         owner: &Owner,
@@ -191,8 +191,8 @@ impl State {
         matches!(&self.accounts[place], Some(a) if a.is_late && a.stage != Stage::Here)
     }
 
-    /// At most 4,096 labels are kept: then those of nodes that were forgotten go, and those of the
-    /// others, at most 1,024, stay.
+    /// At most 4,096 labels are kept. At that number the labels of forgotten nodes are dropped, and
+    /// those of kept nodes, at most 1,024, stay.
     pub fn set_label(&mut self, key: Key, label: &str) {
         if label.is_empty() {
             return;
@@ -205,7 +205,7 @@ impl State {
         self.labels.insert(key, label.to_string());
     }
 
-    /// An account of a client that joined.
+    /// Opens an account for a client that joined.
     pub fn open_account(&mut self, client: ClientId, label: &str) -> Place {
         let account = Account {
             client,
@@ -227,12 +227,12 @@ impl State {
         place
     }
 
-    /// The account of a value that is there.
+    /// The account of an existing value.
     pub fn account(&mut self, place: Place) -> &mut Account {
         self.accounts[place].as_mut().expect("an account is there as long as a value of it")
     }
 
-    /// The client has a new end, or a new handle: answers its row.
+    /// Adds an end or a handle of the client, and answers its row.
     pub fn add_end(&mut self, place: Place, key: Key, collection: CollectionId) -> u32 {
         let account = self.account(place);
         account.values += 1;
@@ -245,7 +245,7 @@ impl State {
         account.add(Row::Handle { buffer, strength, is_late: false })
     }
 
-    /// A value was given away: a parcel waits for that client.
+    /// Notes that the value in this row was given away, and that a parcel waits for the receiver.
     pub fn given(&mut self, place: Place, row: u32, to: ClientId) {
         self.account(place).erase(row);
         self.leave(place);
@@ -256,7 +256,7 @@ impl State {
         }
     }
 
-    /// A value is gone.
+    /// Notes that a value was used up or dropped.
     pub fn leave(&mut self, place: Place) {
         let account = self.account(place);
         account.values -= 1;
@@ -266,7 +266,8 @@ impl State {
         }
     }
 
-    /// Lets go of what stands in this row, whose value goes. A dead one makes no event.
+    /// Gives up the end or handle in this row, whose value is dropped. If its client vanished,
+    /// there is no event.
     pub fn part(&mut self, place: Place, row: u32) {
         let account = self.account(place);
         if account.stage == Stage::Here {
@@ -281,7 +282,7 @@ impl State {
         self.leave(place);
     }
 
-    /// Releases the end that stands in this row, whose value goes whatever is answered.
+    /// Releases the end in this row. Its value is used up, whatever the answer.
     pub fn release(
         &mut self,
         owner: &Owner,
@@ -323,7 +324,7 @@ impl State {
         self.late.is_empty()
     }
 
-    /// Makes what was put off, as far as memory allows.
+    /// Makes the calls that were put off, as far as memory allows.
     #[cold]
     fn catch_up(&mut self) {
         while let Some(&place) = self.late.last() {
@@ -340,8 +341,8 @@ impl State {
         }
     }
 
-    /// The client vanishes: it is shut, collects what waits, closes its ends, what it collected
-    /// first, and drops its handles.
+    /// Makes the client vanish: it is shut, collects its parcels, closes its ends, the collected
+    /// ones first, and drops its handles.
     pub fn vanish(&mut self, place: Place) {
         let account = self.account(place);
         account.stage = Stage::Leaving;
@@ -353,7 +354,8 @@ impl State {
         self.leave(place);
     }
 
-    /// Makes what is to be made for this client. Where memory is refused it can be called again.
+    /// Makes the calls that were put off for this client, and those of its vanishing. False if
+    /// memory is refused: then it can be called again.
     fn settle(&mut self, place: Place) -> bool {
         let own = match self.collect_all(place) {
             Ok(own) => own,
@@ -385,8 +387,9 @@ impl State {
         true
     }
 
-    /// Shuts a client that vanished, and collects what waits for it. Answers how many rows it had as
-    /// it was shut; or, where there is nothing more to be made now, whether that is all.
+    /// Shuts a client that vanishes, and collects its parcels. Answers how many rows it had at its
+    /// Shut. On a fault, answers whether the vanishing is complete: it is not if memory was
+    /// refused.
     fn collect_all(&mut self, place: Place) -> Result<usize, bool> {
         let Account { client, stage, .. } = *self.account(place);
         if stage == Stage::Here {
@@ -424,7 +427,7 @@ impl State {
         }
     }
 
-    /// Adds one who waits for a change of a collection. Answers a number for it.
+    /// Adds a thread that waits for a change of a collection, and answers its number.
     pub fn wait(&mut self, wait: Wait) -> u64 {
         let number = self.waits.keys().last().map_or(0, |last| last + 1);
         self.waits.insert(number, wait);
@@ -441,7 +444,7 @@ impl State {
         self.is_watched = self.recorder.is_some() || !self.waits.is_empty();
     }
 
-    /// What is to be told of trackers that fired by now.
+    /// The callbacks of new firings, with their events. Wakes the threads that wait for them.
     fn take_fired(&mut self) -> Vec<(Then, Event)> {
         let mut ready = Vec::new();
         while !self.waiting.is_empty() {
@@ -463,7 +466,7 @@ impl State {
 const DONE: u32 = 0;
 const NO_MEMORY: u32 = 6;
 
-/// Whose a value is.
+/// The owner of a value.
 #[derive(Clone)]
 pub(crate) struct Owner {
     pub shared: Arc<Shared>,
@@ -487,7 +490,8 @@ impl Shared {
     }
 }
 
-/// Holds the lock. As it goes, the trackers that fired are told.
+/// Holds the lock. Its drop wakes the threads that wait for a fired tracker, releases the lock, and
+/// runs the callbacks.
 pub(crate) struct Guard<'a>(Option<MutexGuard<'a, State>>);
 
 impl Deref for Guard<'_> {

@@ -5,7 +5,7 @@ use std::sync::atomic::Ordering;
 use std::sync::{Arc, PoisonError};
 use std::time::Duration;
 
-/// A tracker: it fires once, at an event.
+/// A tracker, which fires once.
 #[derive(Clone)]
 pub struct Tracker {
     pub(crate) shared: Arc<Shared>,
@@ -14,12 +14,12 @@ pub struct Tracker {
 }
 
 impl Tracker {
-    /// Its number in the core.
+    /// The tracker's number in the core.
     pub fn id(&self) -> TrackerId {
         self.id
     }
 
-    /// The event at which it fired. It takes no lock.
+    /// The event at which the tracker fired. Takes no lock.
     pub fn poll(&self) -> Option<Event> {
         match self.watch.event.load(Ordering::Acquire) {
             0 => None,
@@ -27,7 +27,7 @@ impl Tracker {
         }
     }
 
-    /// Waits until it fires.
+    /// Waits until the tracker fires.
     pub fn wait(&self) -> Event {
         let state = self.shared.raw();
         let wait = self.watch.changed.wait_while(state, |_| self.poll().is_none());
@@ -35,7 +35,7 @@ impl Tracker {
         self.poll().unwrap()
     }
 
-    /// Waits until it fires; `None` where the time is over.
+    /// Waits until the tracker fires; `None` if the time is over first.
     pub fn wait_for(&self, time: Duration) -> Option<Event> {
         let state = self.shared.raw();
         let wait = self.watch.changed.wait_timeout_while(state, time, |_| self.poll().is_none());
@@ -43,9 +43,10 @@ impl Tracker {
         self.poll()
     }
 
-    /// Calls this once, with the event: in the thread whose call fires the tracker, without the lock,
-    /// or here and now if it fired before. It takes the place of an earlier one, and stays when the
-    /// `Tracker` is dropped. It should not panic: it may run in a drop.
+    /// Sets the callback, in place of an earlier one. It is called once, with the event, without
+    /// the lock: in the thread whose call fires the tracker, or in this call if the tracker has
+    /// fired. It stays when the `Tracker` is dropped. It should not panic, since it may run in a
+    /// drop.
     pub fn on_fired(&self, then: impl FnOnce(Event) + Send + 'static) {
         let mut state = self.shared.raw();
         let earlier = match state.waiting.get_mut(&self.id) {

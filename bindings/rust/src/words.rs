@@ -35,7 +35,7 @@ macro_rules! numbers {
 }
 
 numbers!(
-    /// Why a call was refused: nothing changed.
+    /// Why a call was refused. A refused call changes nothing but the number of events.
     Refusal, 1,
     NoSuchClient = 1, ClientShut = 2, NoSuchEnd = 3, InTransit = 4, WrongKind = 5,
     TooManyNodes = 6, TooManyCollections = 7, TrackersFull = 8, NoSuchHandle = 9,
@@ -43,7 +43,7 @@ numbers!(
 );
 
 numbers!(
-    /// What the caller did that failed its node.
+    /// The misuses: calls that fail the caller's own node.
     Misuse, 2,
     SecondConstraints = 1, LateWeak = 2, LateWeakOk = 3, WeakNotOk = 4, TooManyNodeTrackers = 5
 );
@@ -56,7 +56,7 @@ numbers!(
     FailedTooManyBuffers = 22, FailedPoolFull = 23, FailedTooFew = 24, FailedTooSmall = 25
 );
 
-/// Whether a node or a handle keeps the contents of buffers.
+/// Whether a node or a handle keeps buffers alive.
 #[derive(Clone, Copy, Debug, PartialEq, Eq, Hash)]
 #[repr(u32)]
 pub enum Strength {
@@ -106,15 +106,15 @@ pub struct Buffer {
     pub index: u8,
 }
 
-/// How many buffers a collection got, and the size of each in bytes.
+/// The number of a collection's buffers, and the size of each in bytes.
 #[derive(Clone, Copy, Debug, PartialEq, Eq)]
 pub struct Allocation {
     pub count: u32,
     pub size: u32,
 }
 
-/// What a participant asks for: the buffers that it camps on, the least number of buffers (each 0 to
-/// 64), and their size in bytes (1 to 1 << 30).
+/// What a participant asks for: the buffers that it camps on, the least number of buffers (each 0
+/// to 64), and their size in bytes (1 to 1 << 30).
 #[derive(Clone, Copy, Debug, PartialEq, Eq)]
 pub struct Constraints {
     pub camping: u8,
@@ -130,25 +130,25 @@ pub struct Held {
     pub pages: u32,
 }
 
-/// A tracker, and the event at which it fired.
+/// A tracker that fired, and the event at which it fired.
 #[derive(Clone, Copy, Debug, PartialEq, Eq)]
 pub struct Fired {
     pub tracker: TrackerId,
     pub event: Event,
 }
 
-/// What is given each event as two lines of a transcript (`docs/SCRIPT.md`): the call, and its reply
-/// behind two spaces.
+/// A recorder: it is called with each event, as two lines of a transcript (`docs/SCRIPT.md`): the
+/// call, and the reply, indented by two spaces.
 pub type Record = Arc<dyn Fn(&str) + Send + Sync>;
 
-/// Writes each event's lines to the file. What can't be written is left out.
+/// A recorder that writes to the file. It leaves out what it can't write.
 pub fn record_to(file: File) -> Record {
     Arc::new(move |lines| {
         let _ = (&file).write_all(lines.as_bytes());
     })
 }
 
-/// What a service is opened with: the pool's pages of 4,096 bytes, and the limits of `sysmem_open`.
+/// The options of a new service: the pool's pages of 4,096 bytes, and the limits of `sysmem_open`.
 #[derive(Clone)]
 pub struct Options {
     pub pages: u32,
@@ -157,10 +157,10 @@ pub struct Options {
     pub collections: u32,
     pub trackers: u32,
     pub handles: u32,
-    /// Random bytes, where clients are not trusted: see `sysmem_open_seeded`.
+    /// 16 random bytes, if clients may be hostile: see `sysmem_open_seeded`.
     pub seed: Option<[u8; 16]>,
-    /// It is called under the lock, in the order of the events: it is to be quick, and must neither
-    /// call the service nor panic. [`record_to`] makes one.
+    /// Called under the lock, in the order of the events: it must be quick, and must neither call
+    /// the service nor panic. [`record_to`] makes a recorder.
     pub record: Option<Record>,
 }
 
@@ -197,17 +197,18 @@ impl Default for Options {
 /// Why a call did not succeed.
 #[derive(Clone, Debug, PartialEq, Eq)]
 pub enum Error {
-    /// Nothing changed.
+    /// The call was refused, and nothing changed.
     Refused(Refusal),
     /// The caller's own node failed by this call.
     Misused(Misuse),
-    /// The node is gone: why, and the node whose failure took it, with its label if it has one.
+    /// The node had failed: why, and the origin, whose loss reached it, with its label if it has
+    /// one.
     PeerClosed { cause: Cause, origin: Key, label: Option<String> },
     /// A number is out of its range.
     BadLimits,
     /// Constraints are out of range.
     BadCall,
-    /// As many events were made as may be.
+    /// The limit allows no further event.
     HistoryFull,
     /// Memory was refused; the same call may succeed later.
     NoMemory,
@@ -244,8 +245,8 @@ impl fmt::Display for Error {
 
 impl std::error::Error for Error {}
 
-/// A value that a call was to spend and did not, and why. By `?` into an [`Error`] the value is dropped,
-/// which for a token or a collection is an abrupt close.
+/// A value that a refused call would have spent, and the error. The operator `?` turns it into an
+/// [`Error`] and drops the value: a token or a collection is then closed, and its node fails.
 #[derive(Debug)]
 pub struct Back<T> {
     pub error: Error,
