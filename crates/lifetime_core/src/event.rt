@@ -1,4 +1,4 @@
-//! What an event does that may be refused memory, all or nothing.
+//! The part of an event that may be refused memory: all of it is done, or nothing.
 ghost use Rattle.std.specs.Prelude.{◌≡◌, ◌<◌, IfOk, IfSome, OnErr, None, length, map, true};
 ghost use Rattle.std.specs.List.{All};
 ghost use Rattle.trackers.specs.Table.{Cell};
@@ -21,10 +21,10 @@ use core_state::task::Task;
 use sm_names::{Call, ClientId, NoMemory, NodeKey, Reply};
 use trackers::{Trackers, Waiting};
 
-/// What a core keeps that an event changes, but for the number of events.
+/// The data of a core that an event changes, except for the number of events.
 #[derive(Drop)]
 pub(crate) struct Contents {
-    // The earliest first, so that their numbers rise.
+    // The earliest first, so that their ids rise.
     pub(crate) clients: Vec<Client>,
     pub(crate) forest: Forest,
     pub(crate) pool: Pool,
@@ -32,12 +32,13 @@ pub(crate) struct Contents {
     pub(crate) trackers: Trackers,
 }
 
-/// Changes the contents as this call with this reply does, except for the trackers that fire and for
-/// what is forgotten, and answers the key of a new node, if there is one.
+/// Changes the contents as this call with this reply does, and answers the key of the new node, if there
+/// is one. The firing of trackers and the removal of nodes come later.
 ///
-/// `NoMemory` where memory is refused; then the contents are as they were, but for the order of the
-/// rows of handles. An event that opens and gives nothing, makes no tracker, changes no collection and
-/// admits no client takes none. Costs what `Forest::settle` costs for one collection, and a few look-ups.
+/// `NoMemory` if memory is refused; then the contents are as they were, except for the order of the rows
+/// of handles. An event takes no memory if it opens and gives nothing, makes no tracker, changes no
+/// collection and admits no client. Costs what `Forest::settle` costs for one collection, and a few
+/// look-ups.
 #[inline(always)]
 #[tactic(auto, using(core_state::proofs::handles::Standing::stands_tracked, core_state::proofs::handles::Standing::stands_worked, core_state::proofs::handles::Standing::stands_noted, core_state::proofs::handles::Standing::may_by_handles, core_state::proofs::handles::Standing::may_by_tracker, core_state::proofs::handles::Standing::may_by_work, core_state::proofs::handles::Standing::may_by_room))]
 pub(crate) fn take_effect(

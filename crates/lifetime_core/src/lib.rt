@@ -1,4 +1,4 @@
-//! Every call on one state: the abstract machine as a core for one thread.
+//! The abstract machine as a core for one thread: every call of every client on one state.
 #![tactic(auto)]
 
 mod by_kind;

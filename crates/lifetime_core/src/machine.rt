@@ -56,8 +56,8 @@ use trackers::{Tracker, Trackers};
 /// A core: the clients, the collections with their nodes and buffers, the open handles, the trackers,
 /// and the pool.
 ///
-/// A contract sees the state of `specs/State`, and names the histories that the state shows
-/// (`specs/Shown`): one of them determines each reply and all that is seen.
+/// Contracts speak of the core's data (`specs/State` of `core_state`) and of the histories that these
+/// data show (`specs/Shown`). Each of these histories determines every reply and every view.
 #[derive(Drop)]
 pub struct Core {
     limits: Limits,
@@ -94,11 +94,10 @@ const NO_KEY: NodeKey = NodeKey {
 };
 
 impl Core {
-    /// A core that has seen nothing, with a pool of `pages` pages of 4,096 bytes each, from 1 to
-    /// 1,048,576, and these limits. The counts of handles hash from a seed that everybody knows.
+    /// Makes a core without an event, with these limits and a pool of `pages` pages of 4,096 bytes, 1 to
+    /// 1,048,576. The seed of its hash table of handles is zeros.
     ///
-    /// `NoMemory` where the pool's first list is refused. It costs the same for any size and any
-    /// limits.
+    /// `NoMemory` if the pool's first list is refused. Costs O(1).
     pub fn new(alloc: Global, pages: u32, limits: Limits) -> Result<Core, NoMemory>
         requires { (1 ≤ pages) × (pages ≤ MAX_PAGES) }
         ensures state { IfOk result (λ core. core ≡ record {
@@ -115,9 +114,9 @@ impl Core {
         Core::with_seed(alloc, pages, limits, [0; 16])
     }
 
-    /// Does what `new` does. The counts of handles hash from this seed: with random bytes, a caller
-    /// can't choose clients and buffers whose counts collide, so that one call would cost the
-    /// square of what it opens. The seed changes what calls cost, and nothing that is answered.
+    /// Does what `new` does, with this seed for the hash table of handles. A caller who knows the seed
+    /// can choose clients and buffers that collide, and a call that opens n handles then costs O(n²):
+    /// take random bytes. The seed changes costs, but no answer.
     pub fn with_seed(
         alloc: Global,
         pages: u32,
@@ -150,8 +149,7 @@ impl Core {
         })
     }
 
-    /// How many events there were: calls that were taken, refused ones among them. It costs a
-    /// constant.
+    /// The number of events, refused calls included. Costs O(1).
     pub fn events(&self) -> u64
         ensures value { result ≡ self.now.events }
         ensures shown { (history : List Entry) → Shows self.now history →
@@ -202,7 +200,7 @@ impl Core {
         self.contents.holds.total(buffer, strength)
     }
 
-    // Whether it is known that one more handle may be opened, whichever it is.
+    // True only if one more handle of any buffer and strength may be opened.
     pub(crate) fn have_room(&self) -> bool
         ensures { result ≡ true → (buffer : Buffer) (strength : Strength) →
             is_at_limit self.now.limits (readings_of self.now) strength buffer ≡ false }
@@ -220,7 +218,7 @@ impl Core {
         self.limits.handles() <= self.contents.holds.total(buffer, strength)
     }
 
-    // The same, sought from the spot on.
+    // Does what `has_all_handles` does, and searches from this spot on.
     pub(crate) fn has_all_handles_near(
         &self,
         buffer: BufferName,
@@ -249,7 +247,7 @@ impl Core {
         self.contents.forest.strong_live(id)
     }
 
-    // Whether nothing strong keeps the buffer, where this says whether a strong node is live.
+    // Whether nothing strong keeps the buffer; `strong_live` says whether a strong node is live.
     #[inline(always)]
     pub(crate) fn is_doomed(&self, buffer: BufferName, strong_live: bool) -> bool
         ensures { result ≡ is_doomed (total self.now.holds buffer Strength.Strong) strong_live }
@@ -273,7 +271,7 @@ impl Core {
         with_end(self.contents.forest.node(key))
     }
 
-    // The node with this key, if one is named and it is there.
+    // The node with this key, if a key is named and its node is kept.
     #[inline(always)]
     fn named(&self, key: Option<NodeKey>) -> Option<&Node>
         ensures { option_copied result ≡ option_and_then (node_at self.now.forest) key }
@@ -284,14 +282,14 @@ impl Core {
         }
     }
 
-    // Whether the collection is there.
+    // Whether the collection is kept.
     pub(crate) fn has_collection(&self, id: CollectionId) -> bool
         ensures { result ≡ is_some (collection_at self.now.forest id) }
     {
         self.contents.forest.collection(id).is_some()
     }
 
-    // What the collection was given.
+    // The collection's buffers, if it is kept and allocated.
     pub(crate) fn buffers_of(&self, id: CollectionId) -> Option<Buffers>
         ensures value { result ≡ buffers_in self.now id }
         ensures few { IfSome result (λ b. b.count ≤ MAX_BUFFERS) }
@@ -326,8 +324,8 @@ impl Core {
         }
     }
 
-    // Decides the call: its answer, but for the key of a new node, and what it does. Looks the node
-    // that it names up once.
+    // Decides the call: its answer, except for the key of a new node, and its effect. Looks the named
+    // node up once.
     #[inline(always)]
     pub(crate) fn asked_of(&self, client: ClientId, call: &Call) -> Asked
         ensures { IsAsked self.now client call.now result }
@@ -345,7 +343,7 @@ impl Core {
         }
     }
 
-    // Makes the call that was decided so, as `step` says.
+    // Makes the call that `asked_of` has decided, as `step` says.
     #[inline(always)]
     pub(crate) fn take_asked(
         &mut self,
@@ -392,30 +390,29 @@ impl Core {
         Ok(with_key(asked.reply, key))
     }
 
-    /// Takes one call: answers it, makes what it changes and all that this forces, spends the end that
-    /// it spends, and removes the nodes and the collection that are no longer kept. This is one event,
-    /// also if the call is refused.
+    /// Makes one call: answers it, makes its change and all that the change forces, puts its end where
+    /// the call puts it, fires the trackers that are due, and removes the nodes and the collection that
+    /// are no longer kept. This is one event, also if the call is refused.
     ///
-    /// `HistoryFull` exactly if as many events were made as the limit allows, whatever the call is,
-    /// and `NoMemory` if memory is refused. Either leaves the core as it was, but for the order of the
-    /// rows of handles, which `NoMemory` may change. A Shut and a Collect take no memory: a gift takes
-    /// what its Collect needs.
+    /// `HistoryFull` exactly if as many events were made as the limit allows, whatever the call is;
+    /// `NoMemory` if memory is refused. Both leave the core as it was, except for the order of the rows
+    /// of handles, which `NoMemory` may change. A Shut and a Collect take no memory: a gift takes what
+    /// its Collect needs.
     ///
-    /// Costs O(log clients + log collections), a few look-ups of handles, and for the collection of
-    /// the node or the buffer that the call names, or the new one:
+    /// Costs O(log clients + log collections) and a few look-ups of handles. In the collection that the
+    /// call names or makes, with n kept nodes, it costs:
     ///
-    /// - nothing, if the call changes nothing there, or drops a handle beside which another one of
-    ///   that buffer and strength is open;
-    /// - for any other DropHandle what `Forest::settle_drop` costs, otherwise what `Forest::settle`
-    ///   costs;
-    /// - for each node that is no longer kept a binary search among the nodes and a move of the keys
-    ///   on its shorter side; or one pass over all nodes, if more than 64 are found in one event, one
-    ///   that is found twice counted twice;
-    /// - if something changed there, a test for each node and each buffer that trackers wait for, two
-    ///   for a node of which lifetimes are tracked too, however many wait for the same. A TrackLifetime
-    ///   or TrackWeak costs a test of its own tracker, unless that fires;
-    /// - for a Take at most five look-ups more for each buffer, and fewer if the counts of the buffers
-    ///   stand one after the other, as the first Take left them.
+    /// - nothing, if the call changes nothing there, or drops one of several open handles of the same
+    ///   buffer and strength;
+    /// - otherwise what `Forest::settle` costs, or for a DropHandle what `Forest::settle_drop` costs;
+    /// - O(log n + s) for each node that is no longer kept, where s is the number of keys on its shorter
+    ///   side; or O(n) once, if more than 64 such nodes are found in one event (one found twice counts
+    ///   twice);
+    /// - if something changed there, a test for each node and each buffer that trackers wait for, and a
+    ///   second test for a node that also has lifetime trackers. A TrackLifetime or TrackWeak tests only
+    ///   its own tracker, unless that is due;
+    /// - for a Take at most five more look-ups for each buffer; fewer if the counts of the buffers stand
+    ///   one after the other, as the first Take left them.
     #[inline(always)]
     pub fn step(&mut self, client: ClientId, call: Call) -> Result<Reply, StepFault>
         ensures answer { IfOk result (λ reply.
@@ -438,14 +435,14 @@ impl Core {
         take_by_kind(self, client, call)
     }
 
-    /// Takes calls in order, each as `step` does, and answers their replies in this order.
+    /// Makes calls in order, each as `step` does, and answers their replies in this order.
     ///
-    /// At a fault it answers the replies so far and the fault. The calls before it stand, and none
-    /// after it was tried. The fault is `HistoryFull` exactly if as many events were made as the limit
-    /// allows when that call comes, otherwise `NoMemory`. `NoMemory` without a reply may also say that
-    /// there was no room for the replies, which is made before the first call. The reader of each
-    /// tracker that a reply names can then be taken, beside those from before. Costs the sum of the
-    /// steps.
+    /// At a fault it answers the fault and the replies before it. The calls before the fault stand, and
+    /// no call after it was tried. The fault is `HistoryFull` exactly if as many events were made as the
+    /// limit allows when that call comes, otherwise `NoMemory`. `NoMemory` without a reply may also mean
+    /// that there was no room for the replies, which is made before the first call. Afterwards the
+    /// reader of each tracker that a reply names can be taken, and each that could be taken before.
+    /// Costs the sum of the steps.
     pub fn run(
         &mut self,
         alloc: Global,
@@ -486,8 +483,8 @@ impl Core {
         Ok(replies)
     }
 
-    /// The reader of the tracker with this id: `Some` once for each that a reply named, otherwise
-    /// `None`. Takes no memory, and costs a binary search among all trackers ever made.
+    /// Takes the reader of the tracker with this id: `Some` once for each tracker that a reply named,
+    /// otherwise `None`. Takes no memory. Costs O(log t), where t is the number of trackers ever made.
     pub fn take_tracker(&mut self, id: TrackerId) -> Option<Tracker>
         ensures tracker { result ≡ (if is_untaken self.old.trackers.untaken id
             then Some (reader_of self.old.trackers id) else None) }
@@ -504,9 +501,9 @@ impl Core {
         self.contents.trackers.take_tracker(id)
     }
 
-    /// What the call would change of a collection, before all that this forces, if it were made now;
-    /// `None` where it would change none. The change fits the collection, which is there, or is new
-    /// and empty. It changes nothing, takes no memory, and costs what the look-ups of a call cost.
+    /// The change that the call would make to a collection if it were made now, without what the change
+    /// forces; `None` if it would change no collection. The change fits the collection, which exists, or
+    /// is new and empty. This only looks, and takes no memory. Costs the look-ups of a call.
     pub fn change_of(&self, client: ClientId, call: &Call) -> Option<(CollectionId, Change)>
         ensures value { (reply : Reply) →
             IsAnswer self.now.limits (readings_of self.now) client call.now reply →
@@ -515,7 +512,7 @@ impl Core {
         ensures may { IfSome result (λ w. MayChange self.now.forest w.0 w.1) }
         ensures room { IfSome result (λ w.
             leaves_tracker_room w.1 (collection_or_new self.now.forest w.0).nodes ≡ true) }
-        // No node of the collection has a key that was given to none.
+        // A key that no node ever had is not in the collection.
         ensures fresh { IfSome result (λ w. (key : Key) → given self.now.forest key ≡ false →
             list_any (is_of key) (collection_or_new self.now.forest w.0).nodes ≡ false) }
     {

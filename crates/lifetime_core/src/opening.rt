@@ -8,7 +8,7 @@ use crate::machine::Core;
 use buffer_holds::Spot;
 use sm_names::{BufferName, CollectionId, Strength};
 
-/// The strength of handles taken through a node that is weak or not.
+/// The strength of handles that are taken through a node, which is weak or not.
 pub(crate) fn strength_of(weak: bool) -> Strength
     ensures { result ≡ strength_for weak }
 {
@@ -19,9 +19,9 @@ pub(crate) fn strength_of(weak: bool) -> Strength
     }
 }
 
-/// Whether as many handles of this strength as may be are open on one of the buffers that would be
-/// opened. It costs a constant until as many handles of one kind were open at once as may be, and then
-/// two look-ups for each buffer at most.
+/// Whether on one of the buffers that the Take would open the handles of this strength are at their
+/// limit. Costs O(1) as long as no count of handles was ever at the limit, and then at most two look-ups
+/// for each buffer.
 pub(crate) fn is_one_full(core: &Core, collection: CollectionId, strength: Strength) -> bool
     ensures { result ≡ list_any (is_at_limit core.now.limits (readings_of core.now) strength)
         (to_open_in core.now collection) }
@@ -45,8 +45,8 @@ pub(crate) fn is_one_full(core: &Core, collection: CollectionId, strength: Stren
     false
 }
 
-/// The buffers that are opened, as a set: bit i stands for buffer i. It costs a look-up for each
-/// buffer, or none where a strong node is live.
+/// The set of buffers that the Take opens: bit i stands for buffer i. Costs a look-up for each buffer,
+/// or none if a strong node is live.
 pub(crate) fn set_to_open(core: &Core, collection: CollectionId) -> u64
     ensures { result ≡ set_of (to_open_in core.now collection) }
 {

@@ -1,5 +1,5 @@
-//! The order of answers: a call is answered by the first line that has an answer, and takes effect
-//! where none has.
+//! The order of answers: the first line that has an answer answers the call. If none has, the call takes
+//! effect.
 ghost use Rattle.std.specs.Prelude.{◌≡◌, ◌∷◌, ◌&&◌, ◌||◌, [], false, if◌then◌else◌};
 ghost use Rattle.std.specs.Prelude.{IfSome, option_copied};
 ghost use Rattle.std.specs.Option.{option_and_then, option_map, option_map_or, option_or};
@@ -24,8 +24,8 @@ use sm_names::{Call, ClientId, Product, Refusal, Reply};
 
 // ---- the clients
 
-// Whether a client is unknown: a Join is made as client 0, any other call by a client that joined, and a
-// gift is to one that joined.
+// Whether the caller or the receiver is unknown. Only client 0 makes a Join. Any other call is made by a
+// client that joined, and a gift is to such a client.
 #[inline(always)]
 fn is_unknown(core: &Core, client: ClientId, call: &Call, traits: &Traits) -> bool
     requires { Describes call.now traits.now }
@@ -57,7 +57,7 @@ fn is_shut_out(core: &Core, client: ClientId, traits: &Traits) -> bool
     is_acquired(traits.makes) && core.is_shut(client) || is_receiver_shut
 }
 
-// Why the call is refused because of its clients, if it is.
+// The refusal of the call because of its clients, if there is one.
 #[inline(always)]
 fn refusal_of_clients(
     core: &Core,
@@ -81,7 +81,7 @@ fn refusal_of_clients(
 
 // ---- what is named
 
-// What is answered because of the end or the handle that the call names, if anything is.
+// The answer because of the end or the handle that the call names, if there is one.
 #[inline(always)]
 fn answer_of_named(
     core: &Core,
@@ -122,7 +122,7 @@ fn answer_of_named(
 
 // ---- the limits
 
-// Whether the handles that would be opened on what is named are too many.
+// Whether the call would open too many handles.
 #[inline(always)]
 fn opens_too_many(core: &Core, on: Named, node: Option<&Node>) -> bool
     requires { option_and_then (end_in core.now) (key_in on)
@@ -161,8 +161,8 @@ fn limit_met(core: &Core, traits: &Traits, node: Option<&Node>) -> Option<Reply>
     Some(Reply::Refused(refusal))
 }
 
-/// The first answer that stands before the effect, if there is one. Only a call that meets none of
-/// the other lines is looked at for its limits, since a Take costs a walk over its buffers there.
+/// The first answer that precedes the effect, if there is one. The limits are tested last, since this
+/// test costs a walk over the buffers of a Take.
 #[inline(always)]
 pub(crate) fn first_answer(
     core: &Core,

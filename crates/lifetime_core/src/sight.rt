@@ -1,4 +1,4 @@
-//! What trackers look at.
+//! The state by which the conditions of trackers are tested.
 ghost use Rattle.buffer_holds.specs.Counts.{total};
 ghost use Rattle.core_state.specs.Reads.{world_in};
 
@@ -7,7 +7,7 @@ use buffer_holds::Holds;
 use sm_names::{BufferName, CollectionId, NodeKey};
 use trackers::World;
 
-/// The forest before anything is forgotten, and the handles.
+/// The forest before this event forgets nodes, and the handles.
 #[derive(Drop)]
 pub(crate) struct Sight<'a> {
     pub(crate) forest: &'a Forest,

@@ -15,7 +15,7 @@ use buffer_holds::Holds;
 use sm_names::{Call, CollectionId, Condition, NoMemory, Reply};
 use trackers::{Trackers, Waiting, holds_in};
 
-/// The tracker that the call, answered so, attaches, if it attaches one. The node is the one that the
+/// The tracker that a call with this reply attaches, if it attaches one. `node` is the node that the
 /// call names.
 #[inline(always)]
 pub(crate) fn tracking_of(
@@ -48,9 +48,9 @@ pub(crate) fn tracking_of(
     })
 }
 
-/// Attaches the tracker, if there is one, where one more may wait.
+/// Attaches the tracker, if there is one. The limit allows it.
 ///
-/// `NoMemory` where memory is refused; then the trackers are as they were.
+/// `NoMemory` if memory is refused; then the trackers are as they were.
 #[inline(always)]
 pub(crate) fn attach(trackers: &mut Trackers, tracking: Option<Waiting>) -> Result<(), NoMemory>
     requires rising { IfSome tracking (λ t. All (λ (c : Cell). c.id < t.id) trackers.old.cells) }
@@ -68,7 +68,7 @@ pub(crate) fn attach(trackers: &mut Trackers, tracking: Option<Waiting>) -> Resu
     }
 }
 
-/// Undoes the attach of this tracker, if there is one. Takes no memory.
+/// Undoes the attachment of this tracker, if there is one. Takes no memory.
 pub(crate) fn detach(trackers: &mut Trackers, tracking: Option<Waiting>)
     requires { (before : TrackerTable) × GainsTracker before tracking trackers.old }
     ensures { (before : TrackerTable) →
@@ -79,8 +79,8 @@ pub(crate) fn detach(trackers: &mut Trackers, tracking: Option<Waiting>)
     }
 }
 
-/// The collection in which trackers may be due: the one that was changed; if none was, that of the new
-/// tracker, if it is due at once. Costs at most one test.
+/// The collection in which trackers may be due: the changed one; if none was changed, that of the new
+/// tracker, if the tracker is due at once. Costs at most one test.
 #[inline(always)]
 pub(crate) fn place_to_sweep(
     changed: Option<CollectionId>,
@@ -102,9 +102,9 @@ pub(crate) fn place_to_sweep(
     }
 }
 
-/// Fires the trackers that are due at this event, all of which concern this collection; without one, none
-/// is due. Takes no memory, and costs what the trackers' own sweep of one collection costs, O(1) if no
-/// tracker waits at all.
+/// Fires the trackers that are due at this event. All of them concern this collection; if there is no
+/// collection, no tracker is due. Takes no memory. Costs what `Trackers::sweep` costs for one collection,
+/// and O(1) if no tracker waits at all.
 #[inline(always)]
 pub(crate) fn sweep(
     trackers: &mut Trackers,

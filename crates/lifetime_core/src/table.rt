@@ -1,4 +1,4 @@
-//! The answer table: what is answered to a call that takes effect.
+//! The answer table: the replies to calls that take effect.
 ghost use Rattle.std.specs.Prelude.{◌≡◌, IfSome, false, option_copied};
 ghost use Rattle.std.specs.Option.{option_map};
 ghost use Rattle.sm_names.specs.Answers.{answer as answer_of, effect as effect_of, of_end};
@@ -30,7 +30,7 @@ fn token_below(core: &Core, key: NodeKey, node: Option<&Node>, new: NodeKey) -> 
     }
 }
 
-// What the node's unit was given.
+// The buffers of the node's unit, if it is allocated.
 fn check(core: &Core, client: ClientId, key: NodeKey, node: Option<&Node>, new: NodeKey) -> Reply
     requires { end_in core.now key ≡ option_map (open_end_of core.now) (option_copied node) }
     ensures { result ≡ effect_of (readings_of core.now) client new (Call.Check key) }
@@ -50,7 +50,7 @@ fn check(core: &Core, client: ClientId, key: NodeKey, node: Option<&Node>, new: 
     }
 }
 
-// What a Take gives: nothing until the node's unit is allocated.
+// The reply to a Take: Pending until the node's unit is allocated.
 fn take(core: &Core, client: ClientId, key: NodeKey, node: Option<&Node>, new: NodeKey) -> Reply
     requires { end_in core.now key ≡ option_map (open_end_of core.now) (option_copied node) }
     ensures { result ≡ effect_of (readings_of core.now) client new (Call.Take key) }
@@ -111,8 +111,7 @@ fn effect(core: &Core, client: ClientId, new: NodeKey, call: &Call, node: Option
     }
 }
 
-/// What is answered to a call with these traits, whose end is that of this node, if a new node gets
-/// this key.
+/// The answer to a call with these traits, which names this node's end, if a new node gets this key.
 #[inline(always)]
 pub(crate) fn answer(
     core: &Core,

@@ -53,8 +53,8 @@ fn birth(core: &Core, client: ClientId, call: &Call, collection: CollectionId) -
     })
 }
 
-// What a dropped handle does to the collection of its buffer: nothing if another one of this buffer and
-// strength stays open; otherwise the buffer may come home.
+// What a dropped handle does to the collection of its buffer: nothing if another handle of this buffer
+// and strength stays open; otherwise the buffer may be home.
 #[inline(always)]
 fn dropped(core: &Core, buffer: BufferName, strength: Strength) -> Option<Task>
     ensures work { work_in result ≡ drop_at core.now buffer strength }
@@ -75,7 +75,7 @@ fn dropped(core: &Core, buffer: BufferName, strength: Strength) -> Option<Task>
     })
 }
 
-// The loss of the node with this key, unless it is gone, and its end that is spent.
+// The loss of the node with this key, unless the node is gone, and the spending of its end.
 #[inline(always)]
 fn closing(key: NodeKey, node: &Node) -> Task
     ensures { result ≡ record {
@@ -141,8 +141,8 @@ fn at_node(core: &Core, key: NodeKey, node: Option<&Node>, change: Change) -> Op
     })
 }
 
-/// What the call, answered so, does to a collection, if it does anything there. The key is that of
-/// the node that it names, and the node is that one, if it is there.
+/// What a call with this reply does to a collection, if it does anything. `named` is the key of the node
+/// that the call names, `node` this node, if it is kept.
 #[inline(always)]
 pub(crate) fn task_of(
     core: &Core,
@@ -183,10 +183,10 @@ pub(crate) fn task_of(
     }
 }
 
-/// Makes the task's change, if it has one, with all that this forces. A dropped handle
-/// can bring only its own buffer home.
+/// Makes the task's change, if it has one, with all that the change forces. After a dropped handle only
+/// its own buffer can be home.
 ///
-/// `NoMemory` where memory is refused; then the forest and the pool are as they were.
+/// `NoMemory` if memory is refused; then the forest and the pool are as they were.
 #[inline(always)]
 pub(crate) fn make_change(
     forest: &mut Forest,
@@ -220,7 +220,7 @@ pub(crate) fn make_change(
     forest.settle(pool, holds, task.collection, change)
 }
 
-// Puts the end there, if one is carried.
+// Puts an end into its new place, if the event moves one.
 #[inline(always)]
 fn carry(forest: &mut Forest, carried: Option<Place>)
     requires { CanCarry forest.old carried }
@@ -231,7 +231,7 @@ fn carry(forest: &mut Forest, carried: Option<Place>)
     }
 }
 
-// Spends the end, if one is to be spent.
+// Spends an end, if the event spends one.
 #[inline(always)]
 fn spend(forest: &mut Forest, end: Option<NodeKey>)
     requires { IfSome end (λ key. is_some (node_at forest.old key) ≡ true) }
@@ -242,8 +242,8 @@ fn spend(forest: &mut Forest, end: Option<NodeKey>)
     }
 }
 
-/// Puts the end where the event puts it, and removes the nodes that are then no longer kept. Takes no
-/// memory, and costs what `forget_over` costs.
+/// Spends the end that the event spends, or puts an end into its new place, and removes the nodes that
+/// are then no longer kept. Takes no memory. Costs what `forget_over` costs.
 #[inline(always)]
 pub(crate) fn put_end(forest: &mut Forest, task: &Option<Task>, carried: Option<Place>)
     requires task { CanFinish forest.old task.now }

@@ -1,4 +1,4 @@
-//! What is seen of a core: the fired trackers, nodes, buffers and pages, collections, clients and handles.
+//! Views of a core: fired trackers, nodes, buffers and pages, collections, clients and handles.
 ghost use Rattle.std.specs.Prelude.{◌≡◌, ◌+◌, ◌≤◌, List, map, reverse, option_map, if◌then◌else◌};
 ghost use Rattle.std.specs.Prelude.{AllPairs, IfOk, IfSome, None, Some};
 ghost use Rattle.sm_names.specs.declared.outcomes.Fault.{Fault};
@@ -32,8 +32,8 @@ use sm_names::{
 };
 
 impl Core {
-    /// The trackers that fired, by event, and by rising id within one. It costs a constant and takes
-    /// no memory.
+    /// The trackers that fired, by event, and by rising id within an event. Costs O(1), and takes no
+    /// memory.
     pub fn fired(&self) -> &[Fired]
         ensures value { result.now ≡ self.now.trackers.fired }
         ensures shown { (history : List Entry) → Shows self.now history →
@@ -42,8 +42,8 @@ impl Core {
         self.contents.trackers.fired()
     }
 
-    /// Whether the node is live: neither gone nor released. A key that was given to no node, or to
-    /// one that was forgotten, is that of none. It costs one look-up.
+    /// Whether the node is live: neither gone nor released. False if no node has the key, or a forgotten
+    /// one had it. Costs one look-up.
     pub fn is_live(&self, key: NodeKey) -> bool
         ensures value { result ≡ is_live_in self.now key }
         ensures shown { (history : List Entry) → Shows self.now history →
@@ -52,8 +52,8 @@ impl Core {
         is_live(self.contents.forest.node(key))
     }
 
-    /// Why the node failed, and the node whose failure took it. `None` where it did not fail, and
-    /// where it is gone and its end spent, so that it was forgotten. It costs one look-up.
+    /// Why the node failed, and the origin: the node whose loss reached it. `None` if the node has not
+    /// failed, or was forgotten, since it is gone and its end is spent. Costs one look-up.
     pub fn cause(&self, key: NodeKey) -> Option<(Cause, NodeKey)>
         ensures value { result
             ≡ option_map (λ (f : Fault). (f.cause, f.origin)) (fault_in self.now key) }
@@ -68,8 +68,7 @@ impl Core {
 
     /// The live nodes of all collections, by birth.
     ///
-    /// `NoMemory` where the list is refused. It costs a walk over the kept nodes and a sort of
-    /// those that are live.
+    /// `NoMemory` if the list is refused. Costs O(n + l log l) for n kept nodes, of which l are live.
     pub fn live(&self) -> Result<Vec<NodeKey>, NoMemory>
         ensures value { IfOk result (λ keys. keys.items ≡ live_keys self.now.forest) }
         ensures shown { IfOk result (λ keys. (history : List Entry) → Shows self.now history →
@@ -78,9 +77,9 @@ impl Core {
         self.contents.forest.live()
     }
 
-    /// The buffers of all collections whose pages were not given back, with those pages, by page.
+    /// The buffers of all collections that hold pages, with these pages, by page.
     ///
-    /// `NoMemory` where the list is refused. It costs a sort of these buffers.
+    /// `NoMemory` if the list is refused. Costs a sort of these buffers.
     pub fn held(&self) -> Result<Vec<HeldBuffer>, NoMemory>
         ensures value { IfOk result (λ held.
             held.items ≡ held_by_page self.now.forest) }
@@ -97,7 +96,7 @@ impl Core {
         self.contents.forest.held()
     }
 
-    /// How many pages of the pool no buffer holds. It costs a constant.
+    /// The number of the pool's pages that no buffer holds. Costs O(1).
     pub fn free_pages(&self) -> u32
         ensures value { result ≡ (views_of self.now).free }
         ensures shown { (history : List Entry) → Shows self.now history →
@@ -106,11 +105,10 @@ impl Core {
         self.contents.pool.free_pages()
     }
 
-    /// The kept nodes of all collections with their ends, as they stand: collection by collection, the
-    /// earliest first, and by birth within each. A node is kept while it is not gone or its end is not
-    /// spent.
+    /// The kept nodes of all collections with their ends: collection by collection, the earliest first,
+    /// and by birth within each. A node is kept while it is not gone or its end is not spent.
     ///
-    /// `NoMemory` where the list is refused. It costs a copy of these nodes.
+    /// `NoMemory` if the list is refused. Costs a copy of these nodes.
     pub fn nodes(&self) -> Result<Vec<Node>, NoMemory>
         ensures value { IfOk result (λ nodes. nodes.items ≡ all_nodes self.now.forest) }
         ensures shown { IfOk result (λ nodes. (history : List Entry) → Shows self.now history →
@@ -119,10 +117,10 @@ impl Core {
         self.contents.forest.nodes()
     }
 
-    /// The ids of the collections that are kept, rising, which is the order in which their roots were
-    /// born: each has a kept node, or a buffer that is not home.
+    /// The ids of the kept collections, rising, which is the order in which their roots were born. Each
+    /// has a kept node, or a buffer that is not home.
     ///
-    /// `NoMemory` where the list is refused. It costs their number.
+    /// `NoMemory` if the list is refused. Costs O(collections).
     pub fn kept_collections(&self) -> Result<Vec<CollectionId>, NoMemory>
         ensures value { IfOk result (λ ids. ids.items
             ≡ map (λ (c : Shelved). c.id) self.now.forest.collections) }
@@ -132,10 +130,10 @@ impl Core {
         self.contents.forest.ids()
     }
 
-    /// The pages of the buffers of all kept collections but this one: collection by collection, by
+    /// The pages of the buffers of all kept collections except this one: collection by collection, by
     /// rising id, and by index within each.
     ///
-    /// `NoMemory` where the list is refused. It costs the number of collections and of their buffers.
+    /// `NoMemory` if the list is refused. Costs O(collections + their buffers).
     pub fn pages_beside(&self, collection: CollectionId) -> Result<Vec<Interval>, NoMemory>
         ensures value { IfOk result (λ pages. pages.items ≡ beside self.now.forest collection) }
         ensures shown { IfOk result (λ pages. (history : List Entry) → Shows self.now history →
@@ -145,15 +143,15 @@ impl Core {
         self.contents.forest.pages_beside(collection)
     }
 
-    /// How many pages the pool has, held or free. It costs a constant.
+    /// The number of the pool's pages, held or free. Costs O(1).
     pub fn pages(&self) -> u32
         ensures { result ≡ self.now.pool }
     {
         self.contents.pool.pages()
     }
 
-    /// What the collection was given. `None` where it was given no buffers, and where it is not kept:
-    /// it has no kept node, and no buffer that is not home. It costs a binary search.
+    /// The collection's buffers. `None` if the collection is not allocated, or not kept: then it has no
+    /// kept node, and each of its buffers is home. Costs O(log collections).
     pub fn given(&self, collection: CollectionId) -> Option<Buffers>
         ensures value { result ≡ buffers_in self.now collection }
         ensures shown { (history : List Entry) → Shows self.now history →
@@ -164,8 +162,8 @@ impl Core {
         self.buffers_of(collection)
     }
 
-    /// The clients that joined, the earliest first. `NoMemory` where the list is refused. It costs
-    /// their number.
+    /// The clients that joined, the earliest first. `NoMemory` if the list is refused. Costs
+    /// O(clients).
     pub fn clients(&self) -> Result<Vec<ClientId>, NoMemory>
         ensures value { IfOk result (λ ids. ids.items
             ≡ map (λ (c : ClientRow). c.id) self.now.clients) }
@@ -178,8 +176,8 @@ impl Core {
         }
     }
 
-    /// How many handles of this buffer and strength the client has open: those in parcels are
-    /// nobody's. It costs one look-up.
+    /// The number of handles of this buffer and strength that the client has open. Handles in parcels
+    /// belong to nobody. Costs one look-up.
     pub fn open_handles(&self, client: ClientId, buffer: BufferName, strength: Strength) -> u32
         ensures value { result ≡ of self.now.holds client buffer strength }
         ensures shown { (history : List Entry) → Shows self.now history →
@@ -188,7 +186,7 @@ impl Core {
         self.contents.holds.of(client, buffer, strength)
     }
 
-    /// How many handles of this buffer and strength are in parcels. It costs one look-up.
+    /// The number of handles of this buffer and strength in parcels. Costs one look-up.
     pub fn handles_in_parcels(&self, buffer: BufferName, strength: Strength) -> u32
         ensures value { result ≡ moving_count self.now.holds buffer strength }
         ensures shown { (history : List Entry) → Shows self.now history →
@@ -197,8 +195,8 @@ impl Core {
         self.contents.holds.moving_count(buffer, strength)
     }
 
-    /// How many handles of this buffer and strength are open, those in parcels among them. It costs a
-    /// look at the clients that have some.
+    /// The number of open handles of this buffer and strength, those in parcels included. Costs O(k),
+    /// where k is the number of clients that have some.
     pub fn total_handles(&self, buffer: BufferName, strength: Strength) -> u32
         ensures value { result ≡ total self.now.holds buffer strength }
         ensures shown { (history : List Entry) → Shows self.now history →
@@ -207,10 +205,10 @@ impl Core {
         self.open_total(buffer, strength)
     }
 
-    /// The collection as it stands: its kept nodes by birth, what it was given, and those of its
-    /// buffers, by index, whose pages were not given back. `None` where it is not kept.
+    /// A copy of the collection: its kept nodes by birth, its buffers, and by index those that hold
+    /// pages. `None` if the collection is not kept.
     ///
-    /// `NoMemory` where the lists are refused. It costs a binary search, and a copy.
+    /// `NoMemory` if the lists are refused. Costs O(log collections), and the copy.
     pub fn collection(&self, id: CollectionId) -> Result<Option<Snapshot>, NoMemory>
         ensures value { IfOk result (λ copied. option_map collection_of copied
             ≡ shelved_at self.now.forest id) }
@@ -224,8 +222,8 @@ impl Core {
         self.contents.forest.snapshot(id)
     }
 
-    /// The node as it stands, with its end. `None` where no kept node has the key: it was given to
-    /// none, or to one that is gone and whose end is spent. It costs one look-up.
+    /// A copy of the node with its end. `None` if no kept node has the key: no node ever had it, or that
+    /// node is gone and its end is spent. Costs one look-up.
     pub fn node(&self, key: NodeKey) -> Option<Node>
         ensures value { result ≡ node_at self.now.forest key }
         ensures shown { (history : List Entry) → Shows self.now history →
