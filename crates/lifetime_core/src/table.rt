@@ -30,7 +30,7 @@ fn token_below(core: &Core, key: NodeKey, node: Option<&Node>, new: NodeKey) -> 
     }
 }
 
-// The buffers of the node's unit, if it is allocated.
+// The reply to a Check: Pending until the node's unit is allocated.
 fn check(core: &Core, client: ClientId, key: NodeKey, node: Option<&Node>, new: NodeKey) -> Reply
     requires { end_in core.now key ≡ option_map (open_end_of core.now) (option_copied node) }
     ensures { result ≡ effect_of (readings_of core.now) client new (Call.Check key) }

@@ -1,11 +1,11 @@
 //! The books before they are opened.
 use std::sync::ledger::Blank;
 
-/// Into how many shares each book is divided. Each `Units` has one share of each book, and one is
-/// kept under the lock: so many clients and open handles there can be at once, less one.
+/// The number of parts of each book. Each `Units` has one part of each book, and the lock keeps one: so
+/// the number of clients and open handles together is below this number at any time.
 pub const MAX_SHARES: u64 = 1 << 40;
 
-/// A blank for each book: of the events, of the open strong handles and of the open weak ones.
+/// A blank for each book: that of the events, of the open strong handles and of the open weak handles.
 #[derive(Drop)]
 pub struct BlankBooks {
     pub events: Blank,

@@ -23,16 +23,15 @@ const ONE_EVENT: HandleMoves = HandleMoves {
     got: 0,
 };
 
-/// Makes one event of the client: the core takes the call, the record gets one entry, and the books
-/// and the caller's units count it. For a call that drops or gives a handle the units have that
-/// handle's unit; it stays with them unless the answer is Done.
+/// Makes one event of the client: the core makes the call, the record gets one entry, and the books and
+/// `units` count the event. For a call that drops or gives a handle, `units` has a count of 1 for this
+/// handle, and keeps it unless the answer is Done.
 ///
-/// A fault is no event, and leaves the state and the units as they were: `HistoryFull` exactly where
-/// the record has as many entries as may be, also where memory would be refused, and `NoMemory`
-/// where memory is refused.
+/// A fault is no event, and changes neither the state nor `units`: `HistoryFull` exactly if the record
+/// is full, also if memory would be refused; otherwise `NoMemory` if memory is refused.
 ///
-/// It costs the core's step and a place at the end of the record, which grows by doubling. A Take
-/// that is answered Taken costs a look at each of 64 bits more.
+/// Costs the core's step and a place at the end of the record, which grows by doubling. A Take that is
+/// answered Taken also costs a look at each of 64 bits.
 #[tactic(auto, using(crate::proofs::MoveLaws::opened_le, crate::proofs::MoveLaws::lost_le_needed))]
 pub fn apply<E: Setup, S: Ledger, W: Ledger>(
     state: &mut State<E, S, W>,

@@ -6,8 +6,7 @@ ghost use Rattle.service_lock.specs.Counting.{moves_by};
 use event_laws::amounts::{count_one, count_set};
 use sm_names::{Call, Reply, Strength};
 
-/// How many handles of one strength an event opens and drops, puts into parcels and takes out of
-/// them.
+/// How many handles of one strength an event opens, drops, puts into parcels, and takes out of parcels.
 #[derive(Clone, Copy)]
 pub(crate) struct HandleMoves {
     pub opened: u64,
@@ -23,7 +22,7 @@ const NO_MOVES: HandleMoves = HandleMoves {
     got: 0,
 };
 
-// What the call does to the handles of this strength where it is answered Done.
+// What the call does to the handles of this strength if it is answered Done.
 fn moves_when_done(strength: Strength, call: &Call) -> HandleMoves
     ensures { result ≡ moves_by strength call.now Reply.Done }
 {
@@ -44,7 +43,7 @@ fn moves_when_done(strength: Strength, call: &Call) -> HandleMoves
     }
 }
 
-/// What the call that was answered so does to the handles of this strength. Takes a constant time.
+/// What the call with this reply does to the handles of this strength. Costs O(1).
 pub(crate) fn moves_of(strength: Strength, call: &Call, reply: &Reply) -> HandleMoves
     ensures { result ≡ moves_by strength call.now reply.now }
 {

@@ -13,26 +13,27 @@ use std::sync::{Mutex, MutexGuard, Wait};
 
 /// The service: one lock round its state. It must be ended.
 ///
-/// Whenever the lock is taken, the record under it is a legal history, the core shows it, and the
-/// books count it: `entries`, `core` and `books` say so of each state.
+/// Whenever a thread takes the lock, the record under it is a legal history, the core shows this history,
+/// and the books count its events and open handles. The contracts of `entries`, `core` and `books` state
+/// this of each state.
 pub struct Service<E: Setup, S: Ledger, W: Ledger> {
     state: Mutex<State<E, S, W>>,
 }
 
-/// The lock, held. It is free again once the guard is dropped.
+/// The held lock. The drop of the guard releases it.
 ///
-/// A type of its own, so that no crate above works with a guard over the state's own fields.
+/// It is a type of its own, so that no crate above works with a guard over the state's own fields.
 pub struct Guard<'a, E: Setup, S: Ledger, W: Ledger> {
     lock: MutexGuard<'a, State<E, S, W>>,
 }
 
 impl<'a, E: Setup, S: Ledger, W: Ledger> Guard<'a, E, S, W> {
-    /// The state, to be read. It costs nothing.
+    /// The state, to read it. Costs nothing.
     pub fn state(&self) -> &State<E, S, W> {
         &*self.lock
     }
 
-    /// The state, to be changed. It costs nothing.
+    /// The state, to change it. Costs nothing.
     pub fn state_mut(&mut self) -> &mut State<E, S, W> {
         &mut *self.lock
     }
@@ -46,12 +47,10 @@ impl<E: Setup, S: Ledger, W: Ledger> Drop for Guard<'_, E, S, W> {
 }
 
 impl<E: Setup, S: Ledger, W: Ledger> Service<E, S, W> {
-    /// A service that has seen nothing, with a pool of `pages` pages of 4,096 bytes each, from 1 to
-    /// 1,048,576, these limits, and books of `MAX_SHARES` shares each. The counts of handles hash
-    /// from a seed that everybody knows.
+    /// Makes a service without an event, with these limits, a pool of `pages` pages of 4,096 bytes, 1 to
+    /// 1,048,576, and books of `MAX_SHARES` parts each. The seed of its hash table of handles is zeros.
     ///
-    /// `NoMemory` where the pool's first list is refused. It costs the same for any size and any
-    /// limits.
+    /// `NoMemory` if the pool's first list is refused. Costs O(1).
     pub fn new(
         alloc: Global,
         blanks: BlankBooks,
@@ -65,7 +64,7 @@ impl<E: Setup, S: Ledger, W: Ledger> Service<E, S, W> {
         Service::with_seed(alloc, blanks, pages, limits, [0; 16])
     }
 
-    /// Does what `new` does. The counts of handles hash from this seed, as in `Core::with_seed`.
+    /// Does what `new` does, with this seed for the hash table of handles, as in `Core::with_seed`.
     pub fn with_seed(
         alloc: Global,
         blanks: BlankBooks,
@@ -82,15 +81,15 @@ impl<E: Setup, S: Ledger, W: Ledger> Service<E, S, W> {
         })
     }
 
-    /// Waits for the lock. The thread that holds it has the state. It costs an exchange of one word
-    /// where nobody holds it.
+    /// Waits for the lock. The thread that holds the lock has the state. Costs an exchange of one word if
+    /// no thread holds the lock.
     pub fn lock<R: Wait>(&self, rt: &R) -> Guard<'_, E, S, W> {
         Guard {
             lock: self.state.lock(rt),
         }
     }
 
-    /// Ends the service, and drops the record and the core. It takes no lock, since nobody else has
+    /// Ends the service, and drops the record and the core. It takes no lock, since no other thread has
     /// the service any more.
     pub fn end(self) {
         let Service { state } = self;

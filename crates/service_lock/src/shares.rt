@@ -8,10 +8,10 @@ use sm_names::Strength;
 use std::marker::Model;
 use std::sync::ledger::{Ledger, Share};
 
-/// A share of each book: what its owner counts. A contract sees the amounts.
+/// A share of each book, with the amounts that its owner counts. A contract sees these amounts.
 ///
-/// The amounts of all shares and of what the state carries add up to the books, so that nobody can
-/// make a share that counts an event or a handle which is not there.
+/// The amounts of all shares, those that the state carries included, add up to the sums of the books. So
+/// no share can count an event or a handle that does not exist.
 #[derive(Drop)]
 pub struct Units<E: Ledger, S: Ledger, W: Ledger> {
     pub(crate) events: Share<E>,
@@ -35,8 +35,8 @@ impl<E: Ledger, S: Ledger, W: Ledger> Model for Units<E, S, W> {
         (u.events.parts ≡ 1) × (u.strong.parts ≡ 1) × (u.weak.parts ≡ 1) };
 }
 
-/// Moves the unit of one handle of this strength, which `from` has, under the lock. It takes no
-/// memory, and does nothing when it runs.
+/// Moves the count of one handle of this strength from `from` to `to`, under the lock. It takes no
+/// memory, and does nothing at run time.
 pub fn pass<E: Setup, S: Ledger, W: Ledger>(
     _state: &mut State<E, S, W>,
     from: &mut Units<E, S, W>,

@@ -1,4 +1,4 @@
-//! What lies under the lock.
+//! The state under the lock.
 ghost use Rattle.std.specs.Prelude.{◌≡◌, ◌+◌, ◌<◌, ◌≤◌, ◌^◌, [], IfOk, IfSome, OnErr, OnOk, is_some, length, nat_le};
 ghost use Rattle.sm_names.specs.Legality.{IsLegal};
 ghost use Rattle.sm_names.specs.Timelines.{timeline};
@@ -22,10 +22,10 @@ use std::marker::Model;
 use std::sync::ledger::Ledger;
 use trackers::Tracker;
 
-/// What lies under the lock: the core, the record of all events, and the three books.
+/// The state under the lock: the core, the record of all events, and the three books.
 ///
-/// A contract sees the record, which is a legal history at all times, and which trackers are still to
-/// be taken. The core shows the record, and the books are what it counts.
+/// A contract sees the record, which is a legal history at all times, and the trackers whose readers were
+/// not taken yet. The core shows the record, and the books count its events and open handles.
 pub struct State<E: Setup, S: Ledger, W: Ledger> {
     pub(crate) core: Core,
     pub(crate) limits: Limits,
@@ -53,7 +53,7 @@ impl<E: Setup, S: Ledger, W: Ledger> Model for State<E, S, W> {
 }
 
 impl<E: Setup, S: Ledger, W: Ledger> State<E, S, W> {
-    /// What lies under the lock at first: a core that hashes from this seed.
+    /// The first state: an empty record, and a core with this seed.
     pub(crate) fn new(
         alloc: Global,
         blanks: BlankBooks,
@@ -101,17 +101,17 @@ impl<E: Setup, S: Ledger, W: Ledger> State<E, S, W> {
     }
 }
 
-/// How many units can still be handed out. It costs a constant and takes no memory.
+/// The number of `Units` that can still be handed out. Costs O(1), and takes no memory.
 pub fn parts<E: Setup, S: Ledger, W: Ledger>(state: &State<E, S, W>) -> u64
     ensures { result ≡ state.now.parts }
 {
     state.events.left()
 }
 
-/// Empty shares of the books. `NoMemory` where the books have no part left, whatever the record is: a
-/// caller for whom a full record comes first asks `is_full` before.
+/// Hands out an empty share of each book. `NoMemory` if the books have no part left, also if the record
+/// is full: a caller for whom a full record comes first asks `is_full` before.
 ///
-/// It costs a constant and takes no memory.
+/// Costs O(1), and takes no memory.
 pub fn units<E: Setup, S: Ledger, W: Ledger>(
     state: &mut State<E, S, W>,
 ) -> Result<Units<E, S, W>, NoMemory>
@@ -130,8 +130,8 @@ pub fn units<E: Setup, S: Ledger, W: Ledger>(
     })
 }
 
-/// Takes empty shares back: their parts can be handed out again, but for those that would be more than
-/// there are. It costs a constant and takes no memory.
+/// Takes empty shares back. Their parts can be handed out again, up to the number that the books have.
+/// Costs O(1), and takes no memory.
 pub fn take_back<E: Setup, S: Ledger, W: Ledger>(state: &mut State<E, S, W>, units: Units<E, S, W>)
     requires { units ≡ record { events = 0; strong = 0; weak = 0 } }
     ensures part { state.old.parts + 1 < 2 ^ 40 → state.new ≡ with_parts 1 state.old }
@@ -148,7 +148,7 @@ pub fn take_back<E: Setup, S: Ledger, W: Ledger>(state: &mut State<E, S, W>, uni
 }
 
 /// The record: each event's client, call and reply, in order. It is a legal history at all times, with
-/// the pool and the limits that the service was asked for. It costs a constant and takes no memory.
+/// the pool and the limits that the service was asked for. Costs O(1), and takes no memory.
 pub fn entries<E: Setup, S: Ledger, W: Ledger>(state: &State<E, S, W>) -> &[(ClientId, Call, Reply)]
     ensures value { result.now ≡ state.now.history }
     ensures legal { IsLegal state.now.pool state.now.limits state.now.history }
@@ -157,7 +157,7 @@ pub fn entries<E: Setup, S: Ledger, W: Ledger>(state: &State<E, S, W>) -> &[(Cli
     state.log.as_slice()
 }
 
-/// The core, which shows the record. It costs a constant and takes no memory.
+/// The core, which shows the record. Costs O(1), and takes no memory.
 pub fn core<E: Setup, S: Ledger, W: Ledger>(state: &State<E, S, W>) -> &Core
     ensures shows { Shows result.now state.now.history }
     ensures pool { result.now.pool ≡ state.now.pool }
@@ -166,8 +166,8 @@ pub fn core<E: Setup, S: Ledger, W: Ledger>(state: &State<E, S, W>) -> &Core
     &state.core
 }
 
-/// The sums of the books: the events of the record, and the handles of each strength that are open
-/// on all buffers after it, those in parcels among them. It costs a constant and takes no memory.
+/// The sums of the books: the events of the record, and the handles of each strength that are then open
+/// on all buffers, those in parcels included. Costs O(1), and takes no memory.
 pub fn books<E: Setup, S: Ledger, W: Ledger>(state: &State<E, S, W>) -> Books
     ensures events { result.events ≡ length state.now.history }
     ensures strong { result.strong
@@ -182,16 +182,17 @@ pub fn books<E: Setup, S: Ledger, W: Ledger>(state: &State<E, S, W>) -> Books
     }
 }
 
-/// Whether the record has as many entries as may be. It costs a constant and takes no memory.
+/// Whether the record is full: it has as many entries as the limit allows. Costs O(1), and takes no
+/// memory.
 pub fn is_full<E: Setup, S: Ledger, W: Ledger>(state: &State<E, S, W>) -> bool
     ensures { result ≡ nat_le state.now.limits.events (length state.now.history) }
 {
     state.limits.events() as u64 <= state.core.events()
 }
 
-/// The reader of the tracker with this id: `Some` once for each that a reply named, and else `None`.
-/// It knows the firing if there was one, and learns of a later one without the lock. It takes no
-/// memory, and costs a binary search among all trackers that were made.
+/// Takes the reader of the tracker with this id: `Some` once for each tracker that a reply named,
+/// otherwise `None`. The reader knows the firing if there was one, and sees a later one without the lock.
+/// Takes no memory. Costs O(log t), where t is the number of trackers ever made.
 pub fn take_tracker<E: Setup, S: Ledger, W: Ledger>(
     state: &mut State<E, S, W>,
     id: TrackerId,

@@ -7,8 +7,8 @@ use crate::moves::HandleMoves;
 use std::marker::Model;
 use std::sync::ledger::{Blank, Book, Ledger, Share};
 
-/// A book with its sum, and a share of it that has the parts that were not handed out and carries
-/// what is in parcels.
+/// A book with its sum, and a share of the book that has the parts that were not handed out, and that
+/// counts the handles in parcels.
 #[derive(Drop)]
 pub(crate) struct Tally<L: Ledger> {
     book: Book<L>,
@@ -30,7 +30,7 @@ impl<L: Ledger> Model for Tally<L> {
 }
 
 impl<L: Ledger> Tally<L> {
-    /// A book in which nothing stands, of so many parts, of which one is kept for the parcels.
+    /// Makes an empty book of so many parts, and keeps one of them for the parcels.
     pub fn new(blank: Blank, parts: u64) -> Tally<L>
         requires name { blank.name ≡ L.name }
         requires parts { (blank.parts ≡ L.parts) × (parts ≡ L.parts) }
@@ -55,7 +55,7 @@ impl<L: Ledger> Tally<L> {
         self.total
     }
 
-    /// How many shares can still be handed out.
+    /// The number of shares that can still be handed out.
     pub fn left(&self) -> u64
         ensures value { result ≡ self.now.left }
         ensures few { result < 2 ^ 40 }
@@ -63,7 +63,7 @@ impl<L: Ledger> Tally<L> {
         self.left
     }
 
-    /// Writes what an event does into the book and into the share of the client whose event it is.
+    /// Counts an event in the book and in the share of the event's client.
     pub fn write(&mut self, share: &mut Share<L>, moves: HandleMoves)
         requires part { 0 < share.old.parts }
         requires fits { self.old.total + moves.opened < 2 ^ 64 }
@@ -82,7 +82,7 @@ impl<L: Ledger> Tally<L> {
         self.total = self.total - moves.dropped + moves.opened;
     }
 
-    /// An empty share.
+    /// Hands out an empty share.
     pub fn share(&mut self) -> Share<L>
         requires { 0 < self.old.left }
         ensures share { (result.parts ≡ 1) × (result.amount ≡ 0) }
@@ -93,7 +93,8 @@ impl<L: Ledger> Tally<L> {
         self.rest.split_off(1, 0)
     }
 
-    /// Takes an empty share back, which can be handed out again. No more than all parts can come back.
+    /// Takes an empty share back, so that its part can be handed out again. No more parts than the book
+    /// has can come back.
     pub fn take_back(&mut self, share: Share<L>)
         requires { (share.parts ≡ 1) × (share.amount ≡ 0) }
         ensures same { (self.new.total ≡ self.old.total) × (self.new.carried ≡ self.old.carried) }
