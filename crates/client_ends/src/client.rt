@@ -27,7 +27,7 @@ use std::sync::Wait;
 use std::sync::ledger::Ledger;
 use trackers::Tracker;
 
-/// A client. It must be spent: at the end of the service, at the latest.
+/// A client: a linear value, which must be spent, at the latest after the end of the service.
 ///
 /// A contract sees its id, the amount of its share of the book of events, and its own list.
 pub struct Client<E: Setup, S: Ledger, W: Ledger> {
@@ -50,10 +50,9 @@ impl<E: Setup, S: Ledger, W: Ledger> Model for Client<E, S, W> {
     ghost invariant = { λ c. (c.account.units.strong ≡ 0) × (c.account.units.weak ≡ 0) };
 }
 
-/// A new client, which made one event, its Join: it has no entry of its own yet.
+/// Makes a client by one event, its Join. Its own list is empty, since a Join is not in it.
 ///
-/// A fault is no event: `HistoryFull` where the record has as many entries as may be, and else
-/// `NoMemory`. Costs one event.
+/// A fault is no event: `HistoryFull` if the record is full, otherwise `NoMemory`. Costs one event.
 pub fn join<E: Setup, S: Ledger, W: Ledger, R: Wait>(
     rt: &R,
     alloc: Global,
@@ -65,7 +64,7 @@ pub fn join<E: Setup, S: Ledger, W: Ledger, R: Wait>(
     join_in(alloc, guard.state_mut())
 }
 
-// The same, under a lock that was taken: the event is the client's Join.
+// Does what `join` does, under a lock that is held.
 fn join_in<E: Setup, S: Ledger, W: Ledger>(
     alloc: Global,
     state: &mut State<E, S, W>,
@@ -92,15 +91,15 @@ fn join_in<E: Setup, S: Ledger, W: Ledger>(
 }
 
 impl<E: Setup, S: Ledger, W: Ledger> Client<E, S, W> {
-    /// Its id: the number of its Join. It takes no lock, nor do `own` and `last`.
+    /// The client's id: the number of its Join. Takes no lock, nor do `own` and `last`.
     pub fn id(&self) -> ClientId
         ensures { result ≡ self.now.id }
     {
         self.id
     }
 
-    /// Its own list: the events that it made after its Join, in order. Its share of the book of
-    /// events is the length of the list and one more, for the Join.
+    /// The client's own list: the events that it made after its Join, in order. Its share of the book of
+    /// events is the length of the list, plus one for the Join.
     pub fn own(&self) -> &[Own]
         ensures value { result.now ≡ self.now.own }
         ensures share { self.now.share ≡ length self.now.own + 1 }
@@ -108,7 +107,7 @@ impl<E: Setup, S: Ledger, W: Ledger> Client<E, S, W> {
         self.account.own()
     }
 
-    /// The reply of the last event of its own list, `None` where that is empty.
+    /// The reply of the last event of the own list; `None` if the list is empty.
     pub fn last(&self) -> Option<Reply>
         ensures value { result ≡ last_reply self.now.own }
         ensures share { self.now.share ≡ length self.now.own + 1 }
@@ -119,7 +118,7 @@ impl<E: Setup, S: Ledger, W: Ledger> Client<E, S, W> {
         }
     }
 
-    // Makes an event that opens and moves no handle, under a lock that was taken.
+    // Makes an event that opens and moves no handle, under a lock that is held.
     pub(crate) fn event_in(
         &mut self,
         state: &mut State<E, S, W>,
@@ -136,7 +135,7 @@ impl<E: Setup, S: Ledger, W: Ledger> Client<E, S, W> {
         self.account.apply_and_count(state, self.id, call)
     }
 
-    // The same, which takes the lock.
+    // Takes the lock, and makes an event that opens and moves no handle.
     pub(crate) fn event<R: Wait>(
         &mut self,
         rt: &R,
@@ -151,7 +150,7 @@ impl<E: Setup, S: Ledger, W: Ledger> Client<E, S, W> {
         self.event_in(guard.state_mut(), call)
     }
 
-    // The new end that the event makes.
+    // Makes an event, and answers the new end that it makes.
     pub(crate) fn new_end<R: Wait>(
         &mut self,
         rt: &R,
@@ -171,7 +170,7 @@ impl<E: Setup, S: Ledger, W: Ledger> Client<E, S, W> {
         }
     }
 
-    // Whether the event was answered Done.
+    // Makes an event. Any answer but Done is an error.
     pub(crate) fn answered_done<R: Wait>(
         &mut self,
         rt: &R,
@@ -190,7 +189,7 @@ impl<E: Setup, S: Ledger, W: Ledger> Client<E, S, W> {
         }
     }
 
-    // The answer of the event, if it spends the end that it releases.
+    // Makes a Release, and answers its reply if it spends the end.
     pub(crate) fn released<R: Wait>(
         &mut self,
         rt: &R,
@@ -210,7 +209,7 @@ impl<E: Setup, S: Ledger, W: Ledger> Client<E, S, W> {
         }
     }
 
-    // The tracker that the event makes.
+    // Makes an event, and answers the tracker that it makes.
     #[tactic(auto, using(crate::proofs::ReplyLaws::untaken_last))]
     pub(crate) fn tracker<R: Wait>(
         &mut self,
@@ -235,7 +234,7 @@ impl<E: Setup, S: Ledger, W: Ledger> Client<E, S, W> {
         }
     }
 
-    // Makes the event that drops or gives a handle, whose unit comes back unless the answer is
+    // Makes the event that drops or gives a handle. The handle's share comes back unless the answer is
     // Done.
     pub(crate) fn let_go<R: Wait>(
         &mut self,
@@ -255,7 +254,7 @@ impl<E: Setup, S: Ledger, W: Ledger> Client<E, S, W> {
         self.let_go_in(guard.state_mut(), call, strength, unit)
     }
 
-    // The same, under a lock that was taken.
+    // Does what `let_go` does, under a lock that is held.
     fn let_go_in(
         &mut self,
         state: &mut State<E, S, W>,
@@ -286,7 +285,7 @@ impl<E: Setup, S: Ledger, W: Ledger> Client<E, S, W> {
         }
     }
 
-    // One more handle of this buffer and strength.
+    // Opens one more handle of this buffer and strength.
     pub(crate) fn doubled<R: Wait>(
         &mut self,
         rt: &R,
@@ -303,7 +302,7 @@ impl<E: Setup, S: Ledger, W: Ledger> Client<E, S, W> {
         self.doubled_in(guard.state_mut(), buffer, strength)
     }
 
-    // The same, under a lock that was taken.
+    // Does what `doubled` does, under a lock that is held.
     #[tactic(auto, using(crate::proofs::ReplyLaws::none_doubled))]
     fn doubled_in(
         &mut self,
@@ -329,7 +328,7 @@ impl<E: Setup, S: Ledger, W: Ledger> Client<E, S, W> {
         }
     }
 
-    // The handles that the Take opens.
+    // Makes a Take, and answers the handles that it opens.
     pub(crate) fn taken<R: Wait>(
         &mut self,
         rt: &R,
@@ -345,7 +344,7 @@ impl<E: Setup, S: Ledger, W: Ledger> Client<E, S, W> {
         self.taken_in(alloc, guard.state_mut(), key)
     }
 
-    // The same, under a lock that was taken.
+    // Does what `taken` does, under a lock that is held.
     fn taken_in(
         &mut self,
         alloc: Global,
@@ -377,8 +376,8 @@ impl<E: Setup, S: Ledger, W: Ledger> Client<E, S, W> {
         }
     }
 
-    /// Takes the first parcel that waits for the client: an end or a handle, which is the client's
-    /// from now on, or `None` where no parcel waits. Costs one event.
+    /// Takes the first parcel that waits for the client: an end or a handle, which then belongs to the
+    /// client; `None` if no parcel waits. Costs one event.
     pub fn collect<R: Wait>(
         &mut self,
         rt: &R,
@@ -392,7 +391,7 @@ impl<E: Setup, S: Ledger, W: Ledger> Client<E, S, W> {
         self.collect_in(guard.state_mut())
     }
 
-    // The same, under a lock that was taken.
+    // Does what `collect` does, under a lock that is held.
     #[tactic(auto, using(crate::proofs::ReplyLaws::none_collected))]
     fn collect_in(&mut self, state: &mut State<E, S, W>) -> Result<Option<End<E, S, W>>, Why>
         ensures made { MatchResult result
@@ -435,8 +434,8 @@ impl<E: Setup, S: Ledger, W: Ledger> Client<E, S, W> {
         }
     }
 
-    /// Shuts the client: it is given nothing more, and asks for no more ends or trackers. Answered
-    /// Shut with the number of parcels that wait for it. Costs one event.
+    /// Shuts the client: nobody can give it anything more, and it can make no more nodes and trackers.
+    /// The reply has the number of parcels that wait for it. Costs one event.
     pub fn shut<R: Wait>(&mut self, rt: &R, service: &Service<E, S, W>) -> Result<Reply, StepFault>
         ensures { MatchResult result
             (λ r. Made self.old self.new Asked.Shut r) (λ _. self.new ≡ self.old) }
@@ -459,7 +458,7 @@ impl<E: Setup, S: Ledger, W: Ledger> Client<E, S, W> {
         self.new_end(rt, service, Call::OpenRoot)
     }
 
-    /// Spends the client without an event, after the service was ended.
+    /// Spends the client without an event, after the end of the service.
     pub fn spend(self, _ended: &Ended<E, S, W>) {
         let Client { id: _, account } = self;
         account.spend();

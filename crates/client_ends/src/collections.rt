@@ -1,4 +1,4 @@
-//! What collections alone can do.
+//! The calls of collections.
 ghost use Rattle.std.specs.Prelude.{◌≡◌, MatchResult};
 ghost use Rattle.sm_names.specs.declared.messages.Call.{Call as Asked};
 ghost use Rattle.sm_names.specs.declared.messages.Reply.{Reply as Told};
@@ -67,12 +67,12 @@ impl CollectionEnd {
         client.event(rt, service, Call::Check(self.key()))
     }
 
-    /// Opens a handle on each buffer that is not doomed, in the order of their indices
-    /// (`fuchsia.sysmem2.BufferCollection.WaitForAllBuffersAllocated`, without the wait): strong or
-    /// weak, as the node is. Where the unit is not allocated, the reason is the reply Pending.
+    /// Opens a handle on each buffer that is not doomed, and answers the handles by index
+    /// (`fuchsia.sysmem2.BufferCollection.WaitForAllBuffersAllocated`, without the wait). The handles are
+    /// strong or weak, as the node is. If the unit is not allocated, the reason is the reply Pending.
     ///
-    /// `NoMemory` also where there is no room for `MAX_BUFFERS` handles, asked for before the event. Costs one
-    /// event and a look at each bit of a set.
+    /// `NoMemory` also if there is no room for `MAX_BUFFERS` handles, which the call asks for before the
+    /// event. Costs one event and a look at each bit of a set.
     pub fn take<E: Setup, S: Ledger, W: Ledger, R: Wait>(
         &self,
         rt: &R,
@@ -89,9 +89,9 @@ impl CollectionEnd {
     }
 
     /// Makes a tracker that fires once the node's unit is allocated and at most so many buffers of
-    /// the collection are not home, or once the node is gone before that
-    /// (`fuchsia.sysmem2.BufferCollection.AttachLifetimeTracking`). It is read without the lock.
-    /// Costs one event, and a binary search among all trackers.
+    /// the collection are not home, or once the node is gone before that allocation
+    /// (`fuchsia.sysmem2.BufferCollection.AttachLifetimeTracking`). Its reader takes no lock. Costs one
+    /// event, and a binary search among all trackers.
     pub fn track_lifetime<E: Setup, S: Ledger, W: Ledger, R: Wait>(
         &self,
         rt: &R,

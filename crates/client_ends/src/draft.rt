@@ -1,4 +1,4 @@
-//! Calls of a token that are made later, all under one lock.
+//! Drafts: calls of a token that are made later, all under one lock.
 ghost use Rattle.std.specs.Prelude.{◌≡◌, ◌≤◌, ◌↔◌, [], IfErr, MatchResult, length};
 ghost use Rattle.sm_names.specs.declared.messages.Call.{Call as Asked};
 ghost use Rattle.sm_names.specs.declared.outcomes.StepFault.{StepFault as Fault};
@@ -25,10 +25,10 @@ pub(crate) enum Drafted {
     SetWeakOk(bool),
 }
 
-/// A token with calls that are still to be made. It must be spent.
+/// A token with calls that are not made yet: a linear value, which must be spent.
 ///
-/// A contract sees the token, and the calls in their order. Drafting takes no lock and is no event:
-/// the calls are events once `sync` makes them.
+/// A contract sees the token, and the calls in order. Drafting takes no lock and makes no event: `sync`
+/// makes the calls.
 pub struct Draft {
     token: TokenEnd,
     calls: VecDeque<Drafted>,
@@ -45,14 +45,14 @@ impl Model for Draft {
     } };
 }
 
-/// What the calls that were made answered: the new ends, and all replies, in order.
+/// The results of the calls that were made: the new ends, and all replies, in order.
 pub struct Part {
     pub made: Vec<TokenEnd>,
     pub replies: Vec<Reply>,
 }
 
-/// What a draft that was made whole answered: its token, the new ends, and all replies in order,
-/// that of the Sync last.
+/// The results of a whole draft: its token, the new ends, and all replies in order, that of the Sync
+/// last.
 pub struct Synced {
     pub token: TokenEnd,
     pub made: Vec<TokenEnd>,
@@ -60,7 +60,7 @@ pub struct Synced {
 }
 
 impl TokenEnd {
-    /// A draft of the token, with no call yet. It takes no lock and no memory, and is no event.
+    /// Makes a draft of the token, without a call. Takes no lock and no memory, and makes no event.
     pub fn draft(self, alloc: Global) -> Draft
         ensures { result ≡ record { token = self; calls = [] } }
     {
@@ -72,15 +72,15 @@ impl TokenEnd {
 }
 
 impl Draft {
-    /// Who holds its token. It takes no lock.
+    /// The client that holds the token. Takes no lock.
     pub fn client(&self) -> ClientId
         ensures { result ≡ self.now.token.client }
     {
         self.token.client()
     }
 
-    /// Drafts a Duplicate (`fuchsia.sysmem2.BufferCollectionToken.Duplicate`): the child is made by
-    /// `sync`. `NoMemory` leaves the draft as it was. It takes no lock; the calls grow by doubling.
+    /// Drafts a Duplicate (`fuchsia.sysmem2.BufferCollectionToken.Duplicate`): `sync` makes the child.
+    /// `NoMemory` leaves the draft as it was. Takes no lock; the list of calls grows by doubling.
     pub fn duplicate(&mut self) -> Result<(), NoMemory>
         ensures { MatchResult result
             (λ _. self.new ≡ with_call self.old (Asked.Duplicate self.old.token.key))
@@ -117,7 +117,7 @@ impl Draft {
         self.add(Drafted::SetWeakOk(children))
     }
 
-    // Drafts a call, behind all others.
+    // Drafts a call, after all others.
     #[tactic(auto, using(crate::proofs::DraftLaws::calls_push))]
     fn add(&mut self, drafted: Drafted) -> Result<(), NoMemory>
         ensures { MatchResult result
@@ -130,8 +130,7 @@ impl Draft {
         }
     }
 
-    /// Gives the token back. The drafted calls are not made, and there is no event. It takes no
-    /// lock.
+    /// Gives the token back, without making the drafted calls. Makes no event, and takes no lock.
     pub fn abandon(self) -> TokenEnd
         ensures { result ≡ self.token }
     {
@@ -142,10 +141,10 @@ impl Draft {
     /// Makes the drafted calls in order, and then a Sync (`fuchsia.sysmem2.Node.Sync`), all under
     /// one lock, one event each.
     ///
-    /// At a fault the calls before it were made: their ends and replies are handed out, and the
-    /// draft that comes back has the others. `HistoryFull` and `NoMemory` come as for one event;
-    /// `NoMemory` also, before all events, where there is no room for the ends and replies. Costs
-    /// one event for each call, and one for the Sync.
+    /// At a fault the calls before it were made: their ends and replies come back, and with them a draft
+    /// that has the other calls. `HistoryFull` and `NoMemory` are answered as for one event, `NoMemory`
+    /// also, before all events, if there is no room for the ends and replies. Costs one event for each
+    /// call, and one for the Sync.
     pub fn sync<E: Setup, S: Ledger, W: Ledger, R: Wait>(
         self,
         rt: &R,
@@ -162,7 +161,7 @@ impl Draft {
         self.sync_in(alloc, guard.state_mut(), client)
     }
 
-    // The same, under a lock that was taken.
+    // Does what `sync` does, under a lock that is held.
     #[tactic(auto, using(crate::proofs::DraftLaws::stopped_none))]
     fn sync_in<E: Setup, S: Ledger, W: Ledger>(
         self,

@@ -1,4 +1,4 @@
-//! Ends: what both kinds can do.
+//! Ends, and the calls of both kinds of ends.
 ghost use Rattle.std.specs.Prelude.{◌≡◌, MatchResult, true};
 ghost use Rattle.sm_names.specs.declared.messages.Call.{Call as Asked};
 ghost use Rattle.sm_names.specs.declared.messages.Reply.{Reply as Told};
@@ -15,22 +15,22 @@ use std::sync::Wait;
 use std::sync::ledger::Ledger;
 use trackers::Tracker;
 
-/// The kind of an end that is not bound.
+/// The kind of a token.
 pub struct Unbound;
 
-/// The kind of an end that is bound.
+/// The kind of a bound end, a collection.
 pub struct Bound;
 
-/// A token (`fuchsia.sysmem2.BufferCollectionToken`). It must be spent.
+/// A token (`fuchsia.sysmem2.BufferCollectionToken`), which must be spent.
 pub type TokenEnd = EndOf<Unbound>;
 
-/// A collection (`fuchsia.sysmem2.BufferCollection`). It must be spent.
+/// A collection (`fuchsia.sysmem2.BufferCollection`), which must be spent.
 pub type CollectionEnd = EndOf<Bound>;
 
-/// An end of this kind (`fuchsia.sysmem2.Node`). It must be spent.
+/// An end of this kind (`fuchsia.sysmem2.Node`): a linear value, which must be spent.
 ///
-/// A contract sees its holder, its node, and the node's collection. Each call of an end takes its
-/// holder's `Client`, and makes one event of that client.
+/// A contract sees its holder, its node, and the node's collection. Each call of an end takes the
+/// `Client` of its holder, and makes one event of that client.
 pub struct EndOf<K> {
     client: ClientId,
     key: NodeKey,
@@ -58,12 +58,12 @@ impl<K> EndOf<K> {
         }
     }
 
-    /// Spends the end without an event, after a service was ended.
+    /// Spends the end without an event, after the end of a service.
     pub fn spend<E: Setup, S: Ledger, W: Ledger>(self, _ended: &Ended<E, S, W>) {
         self.used_up();
     }
 
-    // The end is spent by an event.
+    // Uses up an end that an event has spent.
     pub(crate) fn used_up(self) {
         let EndOf {
             client: _,
@@ -73,15 +73,15 @@ impl<K> EndOf<K> {
         } = self;
     }
 
-    /// Its holder. It takes no lock.
+    /// The client that holds the end. Takes no lock.
     pub fn client(&self) -> ClientId
         ensures { result ≡ self.now.client }
     {
         self.client
     }
 
-    /// Asks only whether the node has failed; all earlier calls were made before it
-    /// (`fuchsia.sysmem2.Node.Sync`). Costs one event.
+    /// Asks only whether the node has failed (`fuchsia.sysmem2.Node.Sync`). All earlier calls were made
+    /// before it. Costs one event.
     pub fn sync<E: Setup, S: Ledger, W: Ledger, R: Wait>(
         &self,
         rt: &R,
@@ -96,7 +96,7 @@ impl<K> EndOf<K> {
         client.event(rt, service, Call::Sync(self.key))
     }
 
-    /// The node, and children made from now on, keep no buffer alive
+    /// Makes the node weak, and each child that it gets from now on: they keep no buffer alive
     /// (`fuchsia.sysmem2.Node.SetWeak`). Costs one event.
     pub fn set_weak<E: Setup, S: Ledger, W: Ledger, R: Wait>(
         &self,
@@ -112,8 +112,8 @@ impl<K> EndOf<K> {
         client.event(rt, service, Call::SetWeak(self.key))
     }
 
-    /// The node knows how to treat weak handles, with `children` also those made from now on
-    /// (`fuchsia.sysmem2.Node.SetWeakOk`). Costs one event.
+    /// Lets the node take weak handles, with `children` also each child that it gets from now on, and
+    /// all nodes below these children (`fuchsia.sysmem2.Node.SetWeakOk`). Costs one event.
     pub fn set_weak_ok<E: Setup, S: Ledger, W: Ledger, R: Wait>(
         &self,
         rt: &R,
@@ -129,9 +129,8 @@ impl<K> EndOf<K> {
         client.event(rt, service, Call::SetWeakOk(self.key, children))
     }
 
-    /// Makes a tracker that fires once the node is gone
-    /// (`fuchsia.sysmem2.Node.AttachNodeTracking`). It is read without the lock. Costs one event,
-    /// and a binary search among all trackers.
+    /// Makes a tracker that fires once the node is gone (`fuchsia.sysmem2.Node.AttachNodeTracking`). Its
+    /// reader takes no lock. Costs one event, and a binary search among all trackers.
     pub fn track_node<E: Setup, S: Ledger, W: Ledger, R: Wait>(
         &self,
         rt: &R,
@@ -147,8 +146,8 @@ impl<K> EndOf<K> {
         client.tracker(rt, service, Call::TrackNode(self.key))
     }
 
-    /// Gives the end to another client, who collects it. Where the answer is not Done the end comes
-    /// back with the reason. Costs one event.
+    /// Puts the end into a parcel for the client `to`. If the answer is not Done, the end comes back
+    /// with the reason. Costs one event.
     pub fn give<E: Setup, S: Ledger, W: Ledger, R: Wait>(
         self,
         rt: &R,
@@ -171,9 +170,8 @@ impl<K> EndOf<K> {
         }
     }
 
-    /// Leaves without a failure, and spends the end (`fuchsia.sysmem2.Node.Release`): answered
-    /// Done, or PeerClosed where its node is gone. Else the end comes back with the reason. Costs
-    /// one event.
+    /// Spends the end without a failure (`fuchsia.sysmem2.Node.Release`): the answer is Done, or
+    /// PeerClosed if the node is gone. Otherwise the end comes back with the reason. Costs one event.
     pub fn release<E: Setup, S: Ledger, W: Ledger, R: Wait>(
         self,
         rt: &R,
@@ -195,8 +193,8 @@ impl<K> EndOf<K> {
         }
     }
 
-    /// Closes the end: the node fails. Where the answer is not Done the end comes back with the
-    /// reason. Costs one event.
+    /// Closes the end: a node that is not gone fails. If the answer is not Done, the end comes back with
+    /// the reason. Costs one event.
     pub fn close<E: Setup, S: Ledger, W: Ledger, R: Wait>(
         self,
         rt: &R,
@@ -218,7 +216,7 @@ impl<K> EndOf<K> {
         }
     }
 
-    /// Its node.
+    /// The end's node.
     pub(crate) fn key(&self) -> NodeKey
         ensures { result ≡ self.now.key }
     {

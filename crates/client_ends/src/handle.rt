@@ -15,10 +15,10 @@ use std::sync::Wait;
 use std::sync::ledger::Ledger;
 use trackers::Tracker;
 
-/// An open handle, with its unit of the book of its strength. It must be spent.
+/// An open handle, with a share of 1 of the book of its strength: a linear value, which must be spent.
 ///
-/// A contract sees who has it, its buffer, and its strength. Each call of a handle takes its
-/// holder's `Client`, and makes one event of that client.
+/// A contract sees its client, its buffer, and its strength. Each call of a handle takes this `Client`, and
+/// makes one event of it.
 pub struct Handle<E: Setup, S: Ledger, W: Ledger> {
     client: ClientId,
     buffer: BufferName,
@@ -56,7 +56,7 @@ impl<E: Setup, S: Ledger, W: Ledger> Handle<E, S, W> {
         }
     }
 
-    /// Spends the handle without an event, after the service was ended.
+    /// Spends the handle without an event, after the end of the service.
     pub fn spend(self, _ended: &Ended<E, S, W>) {
         let Handle {
             client: _,
@@ -66,28 +66,28 @@ impl<E: Setup, S: Ledger, W: Ledger> Handle<E, S, W> {
         } = self;
     }
 
-    /// Who has it. It takes no lock, nor do `buffer` and `strength`.
+    /// The client that has the handle. Takes no lock, nor do `buffer` and `strength`.
     pub fn client(&self) -> ClientId
         ensures { result ≡ self.now.client }
     {
         self.client
     }
 
-    /// The buffer that it keeps: its collection and index.
+    /// The buffer that the handle keeps: its collection and index.
     pub fn buffer(&self) -> BufferName
         ensures { result ≡ self.now.buffer }
     {
         self.buffer
     }
 
-    /// Whether it is strong or weak: for good, as it was opened.
+    /// Whether the handle is strong or weak, which never changes.
     pub fn strength(&self) -> Strength
         ensures { result ≡ self.now.strength }
     {
         self.strength
     }
 
-    /// One more handle like this one. Costs one event.
+    /// Opens one more handle of this buffer and strength. Costs one event.
     pub fn duplicate<R: Wait>(
         &self,
         rt: &R,
@@ -105,8 +105,9 @@ impl<E: Setup, S: Ledger, W: Ledger> Handle<E, S, W> {
     }
 
     /// Makes a tracker that fires once the buffer is doomed (the field `close_weak_asap` of
-    /// `fuchsia.sysmem2.VmoBuffer`). Only a weak handle has one: else the call is refused. It is
-    /// read without the lock. Costs one event, and a binary search among all trackers.
+    /// `fuchsia.sysmem2.VmoBuffer`). The call is refused if the client has no weak handle on the
+    /// buffer. The tracker's reader takes no lock. Costs one event, and a binary search among all
+    /// trackers.
     pub fn track_weak<R: Wait>(
         &self,
         rt: &R,
@@ -123,7 +124,7 @@ impl<E: Setup, S: Ledger, W: Ledger> Handle<E, S, W> {
         client.tracker(rt, service, Call::TrackWeak(self.buffer))
     }
 
-    /// Drops the handle: its unit leaves its book. Where the answer is not Done the handle comes
+    /// Drops the handle, and takes its share off the book. If the answer is not Done, the handle comes
     /// back with the reason. Costs one event.
     pub fn drop_handle<R: Wait>(
         self,
@@ -142,9 +143,8 @@ impl<E: Setup, S: Ledger, W: Ledger> Handle<E, S, W> {
         self.let_go(rt, service, client, call)
     }
 
-    /// Gives the handle to another client, which collects it: the handle and its unit lie under the
-    /// lock until then. Where the answer is not Done the handle comes back with the reason. Costs
-    /// one event.
+    /// Puts the handle into a parcel for the client `to`. Until the Collect, the handle's share lies under
+    /// the lock. If the answer is not Done, the handle comes back with the reason. Costs one event.
     pub fn give<R: Wait>(
         self,
         rt: &R,

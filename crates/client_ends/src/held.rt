@@ -1,4 +1,4 @@
-//! What a client holds.
+//! The values that a client holds.
 ghost use Rattle.std.specs.Prelude.{◌≡◌, []};
 
 use crate::ends::{CollectionEnd, TokenEnd};
@@ -7,14 +7,14 @@ use service_lock::Setup;
 use std::alloc::Global;
 use std::sync::ledger::Ledger;
 
-/// What comes out of a parcel: an end of either kind, or a handle. It must be spent.
+/// The content of a parcel: an end of either kind, or a handle. It must be spent.
 pub enum End<E: Setup, S: Ledger, W: Ledger> {
     Token(TokenEnd),
     Collection(CollectionEnd),
     Handle(Handle<E, S, W>),
 }
 
-/// What a client holds: each of its values must be spent.
+/// The values that a client holds. Each of them must be spent.
 pub struct Held<E: Setup, S: Ledger, W: Ledger> {
     pub tokens: Vec<TokenEnd>,
     pub collections: Vec<CollectionEnd>,
@@ -22,8 +22,7 @@ pub struct Held<E: Setup, S: Ledger, W: Ledger> {
 }
 
 impl<E: Setup, S: Ledger, W: Ledger> Held<E, S, W> {
-    /// What a client holds that has been given nothing: three empty lists. Takes a constant time, and
-    /// no memory.
+    /// No values: three empty lists. Costs O(1), and takes no memory.
     pub fn new(alloc: Global) -> Held<E, S, W>
         ensures tokens { result.tokens.items ≡ [] }
         ensures collections { result.collections.items ≡ [] }

@@ -1,13 +1,13 @@
-//! Clients of the service, and what they hold: values that must be spent.
+//! Clients of the service, and the values that they hold: linear values, which must be spent.
 //!
-//! Each call that takes the service makes one event, unless it says otherwise: the event counts in
-//! the client's share of the book, stands last in the client's own list with the call and the
-//! reply, and the answer is that reply. A call that ends in a `StepFault` is no event, and changes
-//! neither share nor list: `HistoryFull` comes where the record has as many entries as may be, also
-//! where memory would be refused, and `NoMemory` where memory is refused.
+//! Each call that takes the service makes one event, unless its comment says otherwise. The client's share
+//! of the book counts the event, the client's own list gets an entry with the call and the reply, and the
+//! call answers by this reply. A call that ends in a `StepFault` is no event, and changes neither share
+//! nor list: `HistoryFull` if the record is full, also if memory would be refused; otherwise `NoMemory` if
+//! memory is refused.
 //!
-//! One event costs the lock, the core's step, and a place at the end of the record and of the own
-//! list, which grow by doubling. No call searches a list.
+//! One event costs the lock, the core's step, and a place at the end of the record and of the own list,
+//! which grow by doubling. No call searches a list.
 #![tactic(auto)]
 
 mod client;

@@ -29,7 +29,7 @@ pub(crate) fn make_room(part: &mut Part, events: usize) -> Result<(), AllocError
     Ok(())
 }
 
-// The call of the node that was drafted.
+// The drafted call, on the draft's node.
 fn call_of(key: NodeKey, drafted: Drafted) -> Call
     ensures call { result ≡ drafted_call key drafted }
     ensures plain { moves_no_handle result ≡ true }
@@ -85,7 +85,7 @@ fn make_next<E: Setup, S: Ledger, W: Ledger>(
     Ok(())
 }
 
-// Makes the first of the calls, which leaves them.
+// Makes the first of the calls, and removes it from them.
 fn make_first<E: Setup, S: Ledger, W: Ledger>(
     state: &mut State<E, S, W>,
     client: &mut Client<E, S, W>,
@@ -115,7 +115,7 @@ fn make_first<E: Setup, S: Ledger, W: Ledger>(
     Ok(())
 }
 
-// Makes the calls in order, until a fault, and leaves those that were not made.
+// Makes the calls in order, until a fault. Those that were not made remain.
 fn make_drafted<E: Setup, S: Ledger, W: Ledger>(
     state: &mut State<E, S, W>,
     client: &mut Client<E, S, W>,
@@ -141,7 +141,7 @@ fn make_drafted<E: Setup, S: Ledger, W: Ledger>(
     Ok(())
 }
 
-/// Makes the calls in order, and then a Sync, until a fault, and leaves those that were not made.
+/// Makes the calls in order, and then a Sync, until a fault. Those that were not made remain.
 #[tactic(auto, using(crate::proofs::DraftLaws::went_all))]
 pub(crate) fn make_all<E: Setup, S: Ledger, W: Ledger>(
     state: &mut State<E, S, W>,

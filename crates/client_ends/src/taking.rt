@@ -20,8 +20,8 @@ use std::sync::ledger::Ledger;
 // How many bits the set of a Take has, one for each buffer.
 pub(crate) const SET_BITS: u8 = 64;
 
-/// A list with room for the handles that a Take may bring, `MAX_BUFFERS` at most, once as many units can be handed
-/// out.
+/// A list with room for the handles that a Take may open, at most `MAX_BUFFERS`, if as many `Units` can be
+/// handed out.
 pub(crate) fn make_room<E: Setup, S: Ledger, W: Ledger>(
     alloc: Global,
     state: &State<E, S, W>,
@@ -41,7 +41,7 @@ pub(crate) fn make_room<E: Setup, S: Ledger, W: Ledger>(
     }
 }
 
-// One handle, which takes its unit.
+// One handle, with its share, which the account gives up.
 fn hand_one<E: Setup, S: Ledger, W: Ledger>(
     account: &mut Account<E, S, W>,
     state: &mut State<E, S, W>,
@@ -69,7 +69,7 @@ fn hand_one<E: Setup, S: Ledger, W: Ledger>(
     }
 }
 
-// Gives each handle that was taken its unit, in the order of the buffers.
+// Makes the handles that were taken, by index, each with its share.
 fn hand_out<E: Setup, S: Ledger, W: Ledger>(
     account: &mut Account<E, S, W>,
     state: &mut State<E, S, W>,
@@ -120,7 +120,7 @@ fn hand_out_if<E: Setup, S: Ledger, W: Ledger>(
     }
 }
 
-/// Makes a Take, whose handles go where room was made for them.
+/// Makes a Take, and puts its handles into the list that has room for them.
 pub(crate) fn make_taking<E: Setup, S: Ledger, W: Ledger>(
     account: &mut Account<E, S, W>,
     state: &mut State<E, S, W>,

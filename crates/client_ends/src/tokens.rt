@@ -1,4 +1,4 @@
-//! What tokens alone can do.
+//! The calls of tokens.
 ghost use Rattle.std.specs.Prelude.{◌≡◌, MatchResult};
 ghost use Rattle.sm_names.specs.declared.messages.Call.{Call as Asked};
 ghost use Rattle.sm_names.specs.declared.messages.Reply.{Reply as Told};
@@ -30,7 +30,7 @@ impl TokenEnd {
         client.new_end(rt, service, Call::Duplicate(self.key()))
     }
 
-    /// Once the node's unit is allocated, its failure climbs no further
+    /// Once the node's unit is allocated, no failure climbs from the node to its parent
     /// (`fuchsia.sysmem2.BufferCollectionToken.SetDispensable`). Costs one event.
     pub fn set_dispensable<E: Setup, S: Ledger, W: Ledger, R: Wait>(
         &self,
@@ -46,8 +46,8 @@ impl TokenEnd {
         client.event(rt, service, Call::SetDispensable(self.key()))
     }
 
-    /// Turns the token into a collection (`fuchsia.sysmem2.Allocator.BindSharedCollection`). Where
-    /// the answer is not Done the token comes back with the reason. Costs one event.
+    /// Turns the token into a collection (`fuchsia.sysmem2.Allocator.BindSharedCollection`). If the
+    /// answer is not Done, the token comes back with the reason. Costs one event.
     pub fn bind<E: Setup, S: Ledger, W: Ledger, R: Wait>(
         self,
         rt: &R,

@@ -1,10 +1,11 @@
-//! Why a call did not do what it was asked to.
+//! Why a call did not succeed.
 use sm_names::{Reply, StepFault};
 
-/// Why a call did not do what it was asked to: it was made and answered so, or it was not made.
+/// Why a call did not succeed: it was made, and has another reply than the caller wants; or it was not
+/// made.
 #[derive(Clone, Copy, Debug, PartialEq, Eq)]
 pub enum Why {
-    /// The event was made, and this is its reply: none of those that the call hopes for.
+    /// The event was made, and this is its reply, which is no success.
     Reply(Reply),
     /// No event was made.
     Fault(StepFault),
