@@ -3,16 +3,16 @@ use sm_names::ClientId;
 use std::fmt;
 use thiserror::Error;
 
-/// Why parts are not all that there is, or not what is on record.
+/// Why the parts of clients do not match the record. A part is what one client has at the end.
 #[derive(Clone, Copy, Debug, PartialEq, Eq, Error)]
 pub enum GatherFault {
     /// Memory was refused.
     NoMemory,
-    /// The first client that joined and has no part here.
+    /// This client joined, and has no part here. It is the first such client.
     MissingClient(ClientId),
-    /// How many more handles of each strength are open than are here, those in parcels among them.
+    /// So many more handles of each strength are open than the parts have, those in parcels included.
     OpenValues { strong: u64, weak: u64 },
-    /// A client's own list is not its part of the record: the first event where they differ.
+    /// A client's own list is not its part of the record; this is the first event where they differ.
     RecordMismatch(u64),
 }
 

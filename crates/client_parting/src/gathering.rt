@@ -1,4 +1,4 @@
-//! What all clients have at the end, against the record under the lock.
+//! What all clients have at the end, compared with the record under the lock.
 ghost use Rattle.std.specs.Prelude.{◌≡◌, ◌+◌, ◌<◌, IfOk, IfErr, MatchOption};
 ghost use Rattle.std.specs.List.{All, count_by};
 ghost use Rattle.service_lock.specs.States.{IsSetUpWith, View};
@@ -15,14 +15,14 @@ use std::alloc::Global;
 use std::sync::Wait;
 use std::sync::ledger::Ledger;
 
-/// A client at the end: either with what it holds, or as the wreck of one that vanished.
+/// A part of the service at its end: a client with what it holds, or the wreck of a client that vanished.
 pub enum Holding<E: Setup, S: Ledger, W: Ledger> {
     Present(Client<E, S, W>, Held<E, S, W>),
     Wrecked(Wreck<E, S, W>),
 }
 
-/// What was gathered: how many events the record has, a line for each client that joined, in order,
-/// and how many handles of each strength are open.
+/// The report of a gathering: the number of events of the record, a line for each client that joined, in
+/// order, and the number of open handles of each strength.
 #[derive(Drop)]
 pub struct Report {
     pub events: u64,
@@ -52,7 +52,7 @@ fn count<E: Setup, S: Ledger, W: Ledger>(held: &Held<E, S, W>, strength: Strengt
 }
 
 impl<E: Setup, S: Ledger, W: Ledger> Holding<E, S, W> {
-    /// The client's id. Takes a constant time.
+    /// The client's id. Costs O(1).
     pub fn id(&self) -> ClientId
         ensures { result ≡ id_of self.now }
     {
@@ -62,7 +62,7 @@ impl<E: Setup, S: Ledger, W: Ledger> Holding<E, S, W> {
         }
     }
 
-    // Its own list.
+    // The client's own list.
     fn own(&self) -> &[Own]
         ensures { result.now ≡ own_of self.now }
     {
@@ -72,7 +72,7 @@ impl<E: Setup, S: Ledger, W: Ledger> Holding<E, S, W> {
         }
     }
 
-    // How many handles of this strength it has.
+    // How many handles of this strength the client has.
     fn handles(&self, strength: Strength) -> u64
         ensures { result ≡ present_handles strength self.now }
     {
@@ -83,7 +83,7 @@ impl<E: Setup, S: Ledger, W: Ledger> Holding<E, S, W> {
     }
 }
 
-// The ids of all.
+// The ids of all clients.
 fn ids<E: Setup, S: Ledger, W: Ledger>(
     alloc: Global,
     parts: &[Holding<E, S, W>],
@@ -101,7 +101,7 @@ fn ids<E: Setup, S: Ledger, W: Ledger>(
     Ok(ids)
 }
 
-// How many handles are left of this total, if those that are here are no more.
+// The total less the handles that the parts have, if these are not more.
 fn left_of<E: Setup, S: Ledger, W: Ledger>(
     total: u64,
     parts: &[Holding<E, S, W>],
@@ -119,7 +119,7 @@ fn left_of<E: Setup, S: Ledger, W: Ledger>(
     Some(left)
 }
 
-// What was found, or this, if its client is the lesser one.
+// The pair found before, or this pair, if its client is the lesser one.
 fn earlier(found: Option<(ClientId, u64)>, client: ClientId, event: u64) -> (ClientId, u64)
     ensures { IsFound found client event result }
 {
@@ -151,19 +151,21 @@ fn first_mismatch<E: Setup, S: Ledger, W: Ledger>(
     }
 }
 
-/// Compares the parts with what lies under the lock, client by client, in one pass over the record.
-/// It makes no event, merges no shares and changes nothing.
+/// Compares the parts with the record under the lock, client by client. Makes no event, merges no shares
+/// and changes nothing.
 ///
-/// Answered Ok, the record is a legal history of so many events, each client that joined has its part
-/// here, each own list is just that client's part of the record, and all open handles are here. Else,
-/// in this order: `NoMemory` where memory is refused; `MissingClient` with the first client that
-/// joined and has no part here; `OpenValues` where more or fewer handles of a strength are open than
-/// are here, with how many are missing, 0 where none are; `RecordMismatch` for the least client whose
-/// list is not its part, with the event of the part at the first place where they differ, or of the
-/// list, if the part has no further one.
+/// At Ok the record is a legal history of so many events, `parts` has each client that joined and all open
+/// handles, and each own list is that client's part of the record. Otherwise the first of these faults:
+/// - `NoMemory`: memory was refused.
+/// - `MissingClient`: this client, the first of such, joined and is not in `parts`.
+/// - `OpenValues`: of a strength more or fewer handles are open than `parts` has; with the number that
+///   `parts` lacks, 0 if it lacks none.
+/// - `RecordMismatch`: the own list of some client, of which this is the least, is not its part of the
+///   record; with the event of that part at the first place where they differ, or the event of the list,
+///   if the part ends there.
 ///
-/// Costs three passes over the record, one over each own list, and one over all handles; memory for
-/// two numbers and a bit for each event, a number for each part, and a line for each client.
+/// Costs three passes over the record, one over each own list, and one over all handles; memory for two
+/// numbers and a bit for each event, a number for each part, and a line for each client.
 pub fn compare<E: Setup, S: Ledger, W: Ledger>(
     alloc: Global,
     state: &State<E, S, W>,
@@ -208,8 +210,8 @@ pub fn compare<E: Setup, S: Ledger, W: Ledger>(
     }
 }
 
-/// Compares all parts with the record under the lock, and hands them all back, whatever the answer,
-/// which is that of `compare`. It makes no event. Costs the lock and what `compare` does.
+/// Takes the lock, and answers as `compare` does. Returns all parts, whatever the answer. Makes no event.
+/// Costs the lock and what `compare` costs.
 pub fn gather<E: Setup, S: Ledger, W: Ledger, R: Wait>(
     rt: &R,
     alloc: Global,
@@ -227,7 +229,7 @@ pub fn gather<E: Setup, S: Ledger, W: Ledger, R: Wait>(
     (parts, answer)
 }
 
-// Lets ends go.
+// Spends ends.
 fn spend_ends<K, E: Setup, S: Ledger, W: Ledger>(ended: &Ended<E, S, W>, ends: Vec<EndOf<K>>) {
     let mut ends = ends;
     while let Some(end) = ends.pop() {
@@ -236,7 +238,7 @@ fn spend_ends<K, E: Setup, S: Ledger, W: Ledger>(ended: &Ended<E, S, W>, ends: V
     ends.destroy_empty();
 }
 
-// Lets all that a client has go, and the client.
+// Spends a client and all that it holds.
 fn spend<E: Setup, S: Ledger, W: Ledger>(
     ended: &Ended<E, S, W>,
     client: Client<E, S, W>,
@@ -257,8 +259,7 @@ fn spend<E: Setup, S: Ledger, W: Ledger>(
     client.spend(ended);
 }
 
-/// Ends the service, and drops all parts without events. It takes no lock and no memory. Costs a
-/// constant for each value.
+/// Ends the service, and spends all parts without events. Takes no lock and no memory. Costs O(values).
 pub fn end_service<E: Setup, S: Ledger, W: Ledger>(
     service: Service<E, S, W>,
     parts: Vec<Holding<E, S, W>>,

@@ -14,7 +14,7 @@ use std::alloc::Global;
 use std::sync::Wait;
 use std::sync::ledger::Ledger;
 
-// How many parcels the reply to a Shut counts.
+// The number of parcels that the reply to a Shut counts.
 fn parcels_told(reply: &Reply) -> u64
     ensures { result ≡ parcels_told reply.now }
 {
@@ -24,14 +24,14 @@ fn parcels_told(reply: &Reply) -> u64
     }
 }
 
-// Lists with room for what the client collects, and for all that it has then.
+// Lists with room for the objects that the client collects, and for all that it then has.
 struct Room<E: Setup, S: Ledger, W: Ledger> {
     ends: Vec<End<E, S, W>>,
     handles: Vec<End<E, S, W>>,
     stack: Vec<End<E, S, W>>,
 }
 
-// How many objects there are at most, if that is a number.
+// The most objects that there can be, unless the sum overflows.
 fn most<E: Setup, S: Ledger, W: Ledger>(held: &Held<E, S, W>, waiting: usize) -> Option<usize>
     ensures { IfSome result (λ most. most ≡ vec_len held.now.tokens
         + vec_len held.now.collections + vec_len held.now.handles + waiting + waiting) }
@@ -41,7 +41,7 @@ fn most<E: Setup, S: Ledger, W: Ledger>(held: &Held<E, S, W>, waiting: usize) ->
     all.checked_add(waiting)?.checked_add(waiting)
 }
 
-// Makes the room, also in the lists of what the client holds.
+// Makes this room, also in the lists of what the client holds.
 fn make_room<E: Setup, S: Ledger, W: Ledger>(
     alloc: Global,
     state: &State<E, S, W>,
@@ -83,7 +83,7 @@ fn make_room<E: Setup, S: Ledger, W: Ledger>(
     }
 }
 
-// The same, which takes the lock.
+// Takes the lock, and makes this room.
 fn room_for<E: Setup, S: Ledger, W: Ledger, R: Wait>(
     rt: &R,
     alloc: Global,
@@ -190,7 +190,7 @@ fn part_with<E: Setup, S: Ledger, W: Ledger, R: Wait>(
     }
 }
 
-// Parts with all that is on the stack, and keeps what is refused.
+// Gives up all objects on the stack, and keeps those whose call is refused.
 fn part_with_all<E: Setup, S: Ledger, W: Ledger, R: Wait>(
     rt: &R,
     service: &Service<E, S, W>,
@@ -219,7 +219,7 @@ fn part_with_all<E: Setup, S: Ledger, W: Ledger, R: Wait>(
     Ok(())
 }
 
-// The same, once all was collected.
+// Gives up all objects on the stack, if all parcels were collected.
 fn part_if<E: Setup, S: Ledger, W: Ledger, R: Wait>(
     rt: &R,
     service: &Service<E, S, W>,
@@ -273,15 +273,17 @@ fn stack_all<E: Setup, S: Ledger, W: Ledger>(
     stack
 }
 
-/// Ends a client: it is shut, collects each parcel that waited for it, and gives up all that it
-/// has, in this order: a Close of each end that it collected, of each token and of each collection,
-/// then a DropHandle of each handle that it collected and of each other. What it holds is its own.
+/// Makes a client vanish: it is shut, collects each parcel that waited for it, and gives up all that it
+/// has. It makes a Close of each end that it collected, of each of its tokens and of each of its
+/// collections, then a DropHandle of each handle that it collected and of each of its others, in this
+/// order. All values that it holds must be its own. A value whose Close or DropHandle is not answered Done
+/// stays with the wreck.
 ///
-/// On a fault, `HistoryFull` or `NoMemory` as for one event, the events before it stand, and the client comes back with what it still has, what it
-/// collected before the rest in each list: a further call ends it, beginning with a Shut of its own.
-/// A value whose Close or DropHandle is not answered Done stays with the wreck.
+/// At a fault (`HistoryFull` or `NoMemory`, as for one event) the events before it stand. The client comes
+/// back with the values that it still has, in each list the collected ones first. Another call makes it
+/// vanish, and begins with another Shut.
 ///
-/// Costs one event for each of these calls, and memory for as many values as the client has then.
+/// Costs one event for each of these calls, and memory for as many values as the client then has.
 pub fn vanish<E: Setup, S: Ledger, W: Ledger, R: Wait>(
     rt: &R,
     alloc: Global,

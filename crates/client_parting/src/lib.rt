@@ -1,5 +1,5 @@
-//! How clients vanish, and what is compared at the end: clients that vanish with all that they hold,
-//! and all parts gathered against the record under the lock.
+//! How clients vanish with all that they hold, and how all clients are compared at the end with the
+//! record under the lock.
 #![tactic(auto)]
 
 mod fault;

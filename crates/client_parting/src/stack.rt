@@ -1,4 +1,4 @@
-//! What a client that vanishes has still to give up: a stack, whose top comes first.
+//! The objects that a vanishing client still has to give up: a stack, whose top comes first.
 ghost use Rattle.std.specs.Prelude.{◌≡◌, ◌+◌, ◌<◌, ◌≤◌, ◌∷◌, ◌++◌, [], map, vec_len, vec_capacity};
 ghost use Rattle.client_parting.specs.Partings.{Collection, Handle as Handed, Token, held_in, object_of};
 ghost use Rattle.client_parting.specs.Stacks.{HasRoomFor, both, sorted_one, top_first};
@@ -8,7 +8,7 @@ use client_ends::{CollectionEnd, End, Handle, Held, TokenEnd};
 use service_lock::Setup;
 use std::sync::ledger::Ledger;
 
-/// Puts these on the stack, the first one last, and leaves none.
+/// Moves these ends to the stack, the last one first, so that the first one comes first.
 pub(crate) fn stack_ends<E: Setup, S: Ledger, W: Ledger>(
     stack: &mut Vec<End<E, S, W>>,
     ends: &mut Vec<End<E, S, W>>,
@@ -25,7 +25,7 @@ pub(crate) fn stack_ends<E: Setup, S: Ledger, W: Ledger>(
     }
 }
 
-/// The same of tokens, whose list keeps its room.
+/// Does the same with tokens. Their list keeps its room.
 pub(crate) fn stack_tokens<E: Setup, S: Ledger, W: Ledger>(
     stack: &mut Vec<End<E, S, W>>,
     tokens: &mut Vec<TokenEnd>,
@@ -43,7 +43,7 @@ pub(crate) fn stack_tokens<E: Setup, S: Ledger, W: Ledger>(
     }
 }
 
-/// The same of collections.
+/// Does the same with collections.
 pub(crate) fn stack_collections<E: Setup, S: Ledger, W: Ledger>(
     stack: &mut Vec<End<E, S, W>>,
     collections: &mut Vec<CollectionEnd>,
@@ -61,7 +61,7 @@ pub(crate) fn stack_collections<E: Setup, S: Ledger, W: Ledger>(
     }
 }
 
-/// The same of handles.
+/// Does the same with handles.
 pub(crate) fn stack_handles<E: Setup, S: Ledger, W: Ledger>(
     stack: &mut Vec<End<E, S, W>>,
     handles: &mut Vec<Handle<E, S, W>>,
@@ -79,7 +79,7 @@ pub(crate) fn stack_handles<E: Setup, S: Ledger, W: Ledger>(
     }
 }
 
-/// Puts one object last into the list of its kind.
+/// Appends one object to the list of its kind.
 pub(crate) fn put<E: Setup, S: Ledger, W: Ledger>(held: &mut Held<E, S, W>, object: End<E, S, W>)
     requires { HasRoomFor held.old (object_of object ∷ []) }
     ensures put { held_in held.new ≡ both (held_in held.old) (sorted_one (object_of object)) }
@@ -94,7 +94,7 @@ pub(crate) fn put<E: Setup, S: Ledger, W: Ledger>(held: &mut Held<E, S, W>, obje
     }
 }
 
-/// Puts all that is on the stack into the lists of its kinds, in order.
+/// Moves all objects from the stack to the lists of their kinds, in order.
 pub(crate) fn put_all<E: Setup, S: Ledger, W: Ledger>(
     held: &mut Held<E, S, W>,
     stack: Vec<End<E, S, W>>,

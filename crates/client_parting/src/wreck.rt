@@ -8,8 +8,8 @@ use sm_names::ClientId;
 use std::marker::Model;
 use std::sync::ledger::Ledger;
 
-/// What remains of a client that vanished: its own list, and what it could not give up. It must be
-/// spent, at the latest once the service has ended.
+/// What remains of a client that vanished: its own list, and the values that it could not give up. It must
+/// be spent, at the latest after the end of the service.
 pub struct Wreck<E: Setup, S: Ledger, W: Ledger> {
     client: Client<E, S, W>,
     refused: Held<E, S, W>,
@@ -30,7 +30,7 @@ impl<E: Setup, S: Ledger, W: Ledger> Wreck<E, S, W> {
         Wreck { client, refused }
     }
 
-    /// The id of the client that vanished. It takes no lock, nor do the other readers.
+    /// The id of the client that vanished. Takes no lock, nor do the other readers.
     pub fn id(&self) -> ClientId
         ensures { result ≡ self.now.client.id }
     {
@@ -44,7 +44,7 @@ impl<E: Setup, S: Ledger, W: Ledger> Wreck<E, S, W> {
         self.client.own()
     }
 
-    /// How many events the client's own list has.
+    /// The number of events in the client's own list.
     pub fn events(&self) -> u64
         ensures value { result ≡ length self.now.client.own }
         ensures share { self.now.client.share ≡ result + 1 }
@@ -52,14 +52,14 @@ impl<E: Setup, S: Ledger, W: Ledger> Wreck<E, S, W> {
         self.client.own().len() as u64
     }
 
-    /// What the client could not give up: its Close or DropHandle was not answered Done.
+    /// The values that the client could not give up: their Close or DropHandle was not answered Done.
     pub(crate) fn refused(&self) -> &Held<E, S, W>
         ensures { held_in result.now ≡ self.now.refused }
     {
         &self.refused
     }
 
-    /// Takes it apart.
+    /// Takes the wreck apart.
     pub(crate) fn into_parts(self) -> (Client<E, S, W>, Held<E, S, W>) {
         let Wreck { client, refused } = self;
         (client, refused)
