@@ -14,15 +14,15 @@ pub enum ScriptFault {
     WriteFault,
     /// The line of this number, from 1, is the first bad one.
     BadLine(u64),
-    /// As many events were made as may be.
+    /// As many events were made as the limit allows.
     HistoryFull,
     /// Memory was refused.
     NoMemory,
 }
 
 impl ScriptFault {
-    /// The status that a program ends with on this fault: 1 where reading or writing failed, 3 for a
-    /// bad line, 4 where the history is full or memory was refused.
+    /// The exit status of a program at this fault: 1 if reading or writing failed, 3 at a bad line, 4 if
+    /// the history is full or memory was refused.
     pub fn status(self) -> u8
         ensures { result ≡ script_fault_status self }
     {

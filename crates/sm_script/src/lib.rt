@@ -1,4 +1,4 @@
-//! Scripts: lines in, one line out for each call, poll and view.
+//! Scripts: for each line with a call, a poll or a view, one line is answered.
 #![tactic(auto)]
 
 mod fault;

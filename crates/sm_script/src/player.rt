@@ -13,21 +13,21 @@ use sm_names::{Limits, MAX_PAGES, NoMemory};
 use std::alloc::Global;
 use std::io::Write;
 
-// Text is written once there is so much of it.
+// Text is written once it has so many bytes.
 const ENOUGH: usize = 65_536;
 
-// A session, how many lines were answered, and their text that is still to go out.
+// A session, the number of answered lines, and the text of these lines that is not written yet.
 #[derive(Drop)]
 pub(crate) struct Player {
     pub(crate) session: Session,
     pub(crate) lines: u64,
     pub(crate) out: Vec<u8>,
-    // The text of the line at hand.
+    // The text of the current line.
     reply: Vec<u8>,
 }
 
 impl Player {
-    // No line was answered.
+    // A player that has answered no line.
     pub(crate) fn new(
         alloc: Global,
         seed: [u8; 16],
@@ -49,7 +49,7 @@ impl Player {
         })
     }
 
-    // Writes the text that is still to go out.
+    // Writes the text that is not written yet.
     pub(crate) fn put_out<W: Write>(&mut self, writer: &mut W) -> Result<(), ScriptFault>
         ensures ok { OnOk result ((setting : Setting) (old : Option (List ℕ))
             (lines : List (List ℕ)) → SoFar setting self.old old (W.contents writer.old) lines →
@@ -102,7 +102,7 @@ impl Player {
         self.put_out(writer)
     }
 
-    // Gives up for want of memory, at the next line or behind the last.
+    // Stops since memory was refused, at the next line or after the last.
     pub(crate) fn give_up_for_memory<W: Write>(&self, writer: &mut W) -> ScriptFault
         ensures at { (line : List ℕ) →
             Failed self.now (W.contents writer.old) (W.contents writer.new) (line ∷ []) result }

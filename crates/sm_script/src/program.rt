@@ -1,4 +1,4 @@
-//! A script as a program runs it: to an exit status.
+//! A script as a program runs it, up to the exit status.
 ghost use Rattle.std.specs.Process.{exit_status};
 ghost use Rattle.sm_script.specs.Endings.{Ends};
 
@@ -10,10 +10,9 @@ use std::alloc::Global;
 use std::io::{Read, Write};
 use std::process::ExitCode;
 
-/// Runs the script that the reader holds, with these pages and the greatest limits, as `run_script`
-/// does, and answers the status that a program is to end with: 0 where the script came to its end,
-/// and else the status of the fault, which is reported as one line on `faults`, as far as that takes
-/// it.
+/// Runs the reader's script as `run_script` does, with these pages and the greatest limits, and answers
+/// the exit status: 0 if the script came to its end, otherwise that of the fault. Writes the fault as one
+/// line to `faults`, as far as this writer takes it.
 pub fn run_to_exit<R: Read, W: Write, F: Write>(
     alloc: Global,
     seed: [u8; 16],

@@ -1,4 +1,4 @@
-//! Bytes come in, in pieces that end anywhere.
+//! Reading: bytes come in pieces, which may end within a line.
 ghost use Rattle.std.specs.Prelude.{◌≡◌, ◌+◌, ◌^◌, ◌<◌, ◌≤◌, [], ◌∷◌, ◌++◌, length, IfErr, OnOk};
 ghost use Rattle.script_lines.specs.Pieces.{lines_from, rest_from};
 ghost use Rattle.sm_script.specs.Players.{Answered, Broken, Failed};
@@ -8,7 +8,7 @@ use crate::player::Player;
 use script_lines::line_end;
 use std::io::Write;
 
-// Answers the line whose front came before, and whose end came now.
+// Answers the line whose front came in earlier pieces, and whose end came in this one.
 pub(crate) fn end_line<W: Write>(
     player: &mut Player,
     writer: &mut W,
@@ -39,7 +39,7 @@ pub(crate) fn end_line<W: Write>(
     }
 }
 
-// Answers all lines that end in the piece, and keeps the front of the line that does not.
+// Answers all lines that end in the piece, and keeps the front of the line that does not end.
 pub(crate) fn take_piece<W: Write>(
     player: &mut Player,
     writer: &mut W,

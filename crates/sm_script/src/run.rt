@@ -17,14 +17,13 @@ use std::io::{Read, Write};
 // How many bytes are asked for at a time.
 const BLOCK: usize = 65_536;
 
-/// Runs the script that the reader holds against a new core with a pool of `pages` pages, and writes
-/// one line for each call, poll and view. All whole lines that were read are answered before the
-/// next read, and the writer is flushed at the end. It keeps a reader of each tracker that is made;
-/// a poll answers what the reader knows, if the core knows it too. Labels and the core's counts are
-/// hashed from the seed, best of random bytes: it changes what a line costs, and nothing that is
-/// written.
+/// Runs the reader's script on a new core with a pool of `pages` pages, and writes one line for each
+/// call, poll and view. All whole lines that were read are answered before the next read, and the writer
+/// is flushed at the end. The run keeps the reader of each tracker that it makes; a poll answers the
+/// firing that this reader knows, if the core knows it too. `seed` is that of the hash tables of labels
+/// and handles, best of random bytes: it changes costs, but no output.
 ///
-/// The output is the text of all lines if the run comes to the end of the script. Else:
+/// If the run comes to the end of the script, the output is the text of all lines. Otherwise:
 /// - `ReadFault`: the reader failed, or the script has more than `MOST_BYTES` bytes. The output is
 ///   the text of the whole lines among the bytes that were read.
 /// - `WriteFault`: the writer failed, or took nothing, or could not be flushed. The output is a
@@ -32,12 +31,11 @@ const BLOCK: usize = 65_536;
 /// - `BadLine`, `HistoryFull`: this line is bad, or makes a call when the history is full. The
 ///   output is the text of the lines before it.
 /// - `NoMemory`: memory was refused. The output is the text of the lines before the current one,
-///   which is a whole line, or the front of the line after all whole lines that were read. It is
-///   nothing if memory was refused before the first read.
+///   which is a whole line, or the front of the line after all whole lines that were read. There is no
+///   output if memory was refused before the first read.
 ///
-/// Each line takes a time in proportion to its length and that of its text, a look into a table
-/// for each label, and the time of its call; a poll takes a look for its reader, and a binary
-/// search among the firings.
+/// A line of n bytes with a text of t bytes costs O(n + t), a look-up for each label, and its call; a poll
+/// costs a look-up of its reader, and O(log firings).
 pub fn run_script<R: Read, W: Write>(
     alloc: Global,
     seed: [u8; 16],
@@ -96,7 +94,7 @@ fn read_on<R: Read, W: Write>(
     }
 }
 
-// Answers all lines that end in the last piece that may come, behind which more came.
+// Answers all lines that end in the last piece that the greatest size allows, after which more bytes came.
 fn too_long<W: Write>(
     writer: &mut W,
     player: &mut Player,
@@ -139,7 +137,7 @@ fn answer_all<W: Write>(
     }
 }
 
-// Ends a run after so many lines, where this is left of the last one.
+// Ends a run after so many lines, with this front of a further line, if it is not empty.
 fn end_run<W: Write>(writer: &mut W, front: &[u8], lines: u64) -> Result<(), ScriptFault>
     requires { lines + 1 < 2 ^ 64 }
     ensures kept { Keeps (W.contents writer.old) (W.contents writer.new) }

@@ -1,4 +1,4 @@
-//! A script's core, and what its labels stand for.
+//! A script's core, and the tables of what its labels stand for.
 ghost use Rattle.std.specs.Prelude.{◌≡◌, ◌≢◌, ◌≤◌, ◌++◌, List, IfOk, IfErr, IfSome, OnOk};
 ghost use Rattle.std.specs.Bool.{OnTrue};
 ghost use Rattle.std.specs.List.{Contains};
@@ -24,7 +24,7 @@ use trackers::Tracker;
 /// A core, what the labels of the lines so far stand for, and the readers of all trackers.
 #[derive(Drop)]
 pub struct Session {
-    /// What the calls of the lines so far made.
+    /// The core that the calls of the lines so far have made.
     pub core: Core,
     /// What labels stand for.
     pub tables: Tables,
@@ -32,9 +32,9 @@ pub struct Session {
 }
 
 impl Session {
-    /// A session that has seen no line. Counts and labels hash from the seed.
+    /// Makes a session that has seen no line. The seed is that of the hash tables of labels and handles.
     ///
-    /// `NoMemory` where the core is refused its first tables. Takes a constant time.
+    /// `NoMemory` if the core's first lists are refused. Costs O(1).
     pub fn new(
         alloc: Global,
         seed: [u8; 16],
@@ -54,11 +54,11 @@ impl Session {
         })
     }
 
-    /// Answers a line, without its end, into `reply`, which is emptied first.
+    /// Answers a line, given without its end, into `reply`, which is emptied first.
     ///
-    /// On an error the line was not answered, and `reply` holds nothing that is to be read. Where memory
-    /// was refused its call may have been made. Takes a time in proportion to the line and its text, a
-    /// look into a table for each label, and the time of its call.
+    /// On an error the line was not answered, and the content of `reply` means nothing; if memory was
+    /// refused, the line's call may have been made. Costs O(line + text), a look-up for each label, and
+    /// the call.
     pub fn answer(&mut self, line: &[u8], reply: &mut Vec<u8>) -> Result<(), Stop>
         ensures ok { OnOk result ((scene : Scene) → IsAt self.old scene →
             Advances self.old self.new line.now reply.new.items scene) }
@@ -81,8 +81,8 @@ impl Session {
         }
     }
 
-    /// What the line asks for, without its end, or `None` if it is bad. Takes a time in proportion to
-    /// its length, and a look into a table for each label.
+    /// What the line asks for, given without its end; `None` if the line is bad. Costs O(line), and a
+    /// look-up for each label.
     pub fn read(&self, line: &[u8]) -> Option<Act>
         ensures { (scene : Scene) → IsAt self.now scene →
             result ≡ act_in scene.names line.now }
@@ -116,11 +116,11 @@ impl Session {
         Ok(())
     }
 
-    /// Takes note of the reply that the core gave to a call: puts its text as a line behind what is
-    /// there, binds what it made, and keeps the reader of a tracker.
+    /// Notes the core's reply to a call: appends the reply to `text` as a line, binds the label of what
+    /// the call made, and keeps the reader of a tracker.
     ///
-    /// `AllocError` where memory is refused: then some of this may be left out. Takes a time in
-    /// proportion to the text, and a look into a table for each label.
+    /// `AllocError` if memory is refused: then some of this may be left out. Costs O(text), and a look-up
+    /// for each label.
     pub fn note(&mut self, binds: Binds, reply: Reply, text: &mut Vec<u8>) -> Result<(), AllocError>
         ensures text { OnOk result ((names : Names) → Keeps self.old.tables names →
             text.new.items ≡ text.old.items ++ as_line (reply_text names binds reply)) }
@@ -137,7 +137,7 @@ impl Session {
         keep_reader(&mut self.core, &mut self.readers, reply)
     }
 
-    // Appends what is read of the tracker as a line.
+    // Appends the state of the tracker, as its reader knows it, as a line.
     fn poll(&mut self, tracker: TrackerId, text: &mut Vec<u8>) -> Result<(), Stop>
         ensures ok { OnOk result ((scene : Scene) → IsAt self.old scene →
             Gains self.old self.new (Act.Poll tracker) text.old.items text.new.items scene) }
@@ -151,7 +151,7 @@ impl Session {
         Ok(())
     }
 
-    // Appends what is seen as a line.
+    // Appends the view as a line.
     fn show(&self, view: View, text: &mut Vec<u8>) -> Result<(), Stop>
         ensures ok { OnOk result ((scene : Scene) → IsAt self.now scene →
             Gains self.now self.now (Act.Show view) text.old.items text.new.items scene) }
@@ -195,7 +195,7 @@ fn firing(readers: &mut HashMap<TrackerId, Tracker>, core: &Core, tracker: Track
     }
 }
 
-// Whether the firing is one of these, which stand by event, and then by tracker.
+// Whether the firing is one of these, which are sorted by event, and then by tracker.
 fn stands_in(firings: &[Fired], firing: Fired) -> bool
     ensures { OnTrue result (Contains firings.now firing) }
 {

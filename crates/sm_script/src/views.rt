@@ -1,4 +1,4 @@
-//! The texts of what is seen.
+//! The texts of views.
 ghost use Rattle.std.specs.Prelude.{◌≡◌, ◌++◌, List, OnOk, IfErr};
 ghost use Rattle.std.specs.List.{flat_map};
 ghost use Rattle.sm_names.specs.Marks.{Entry};

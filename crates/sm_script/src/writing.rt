@@ -1,4 +1,4 @@
-//! Text is written before a run stops.
+//! Writing before a run stops.
 ghost use Rattle.sm_script.specs.Players.{GivesUp};
 
 use crate::fault::ScriptFault;
@@ -6,7 +6,7 @@ use script_labels::Stop;
 use script_lines::write_out;
 use std::io::Write;
 
-// Writes the text of the lines before the one of this number, which was not answered, and gives the
+// Writes the text of the lines before the line with this number, which was not answered, and answers the
 // fault to report.
 pub(crate) fn give_up<W: Write>(writer: &mut W, text: &[u8], number: u64, stop: Stop) -> ScriptFault
     ensures { GivesUp (W.contents writer.old) (W.contents writer.new) text.now number stop result }
