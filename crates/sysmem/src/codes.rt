@@ -1,4 +1,4 @@
-//! What an exported function answers.
+//! The codes that exported functions return.
 
 pub(crate) const DONE: u32 = 0;
 

@@ -1,7 +1,7 @@
-//! What is written for C.
+//! Values as words for C.
 ghost use Rattle.std.specs.Prelude.{◌≡◌};
 
-/// What is written for a value.
+/// The words that are written for a value.
 pub(crate) trait Encode<T>: Copy {
     ghost encoded: { T → Self };
 

@@ -1,4 +1,4 @@
-//! A client that vanishes.
+//! The exit of a client.
 ghost use Rattle.std.specs.Prelude.{◌≡◌, ◌↔◌, ◌≢◌, None, IsSomeAnd};
 ghost use Rattle.client_exit.specs.Parting.{Exits};
 ghost use Rattle.sysmem.specs.Exits.{IsExitStopped, StoppedBy, fault_code};
@@ -23,7 +23,7 @@ fn fault_code(fault: PartFault) -> u32
     }
 }
 
-// Parts with the client.
+// Makes the client's exit.
 fn part(core: &mut Core, client: ClientId, events: &mut u64) -> u32
     ensures done { result ≡ 0 → Exits core.old core.new client events.new }
     ensures stopped { result ≢ 0 → StoppedBy core.old core.new client events.new result }
@@ -41,14 +41,14 @@ fn part(core: &mut Core, client: ClientId, events: &mut u64) -> u32
     }
 }
 
-/// Parts with all that a client has, as if it were lost: it is shut, collects each parcel that waits
-/// for it, closes each end that it holds and drops each handle that it has open. Writes how many
-/// events were made, also where it stops.
+/// Gives up all that a client has, as if it had crashed: the client is shut, collects each parcel that
+/// waits for it, closes each end that it holds and drops each handle that it has open. Writes the number
+/// of these events, also if it stops early.
 ///
-/// `NOT_OPEN` where the handle has no core: nothing is written then. `NO_CLIENT` where no such client
-/// joined: its Shut was refused, which is one event. `HISTORY_FULL` where as many events were made as
-/// may be, and `NO_MEMORY` where memory is refused: the events before stand, and a further call makes
-/// the rest. It costs what `client_exit::part_with` does.
+/// `NOT_OPEN` if the handle has no core: nothing is written then. `NO_CLIENT` if no such client joined:
+/// its Shut was refused, which is one event. `HISTORY_FULL` if the limit allows no further event,
+/// `NO_MEMORY` if memory is refused: the earlier events stand, and another call makes the rest. Costs what
+/// `client_exit::part_with` costs.
 #[unsafe(no_mangle)]
 pub extern "C" fn sysmem_vanish(
     alloc: Global,

@@ -1,4 +1,4 @@
-//! A core that C keeps between its calls.
+//! The handle by which a program in C keeps a core between its calls.
 ghost use Rattle.std.specs.Prelude.{◌≡◌, true, false, is_some, option_map, Some, None};
 
 use crate::place::{Place, keep, nowhere, out_of};
@@ -7,7 +7,7 @@ use lifetime_core::Core;
 use std::alloc::Global;
 use std::mem;
 
-/// A core that C keeps, or none, as a handle of zeros is.
+/// A core that a program in C keeps, or none: a handle of zeros has none.
 #[repr(C)]
 #[derive(Drop)]
 pub struct Handle {
@@ -16,7 +16,7 @@ pub struct Handle {
     ghost told: { is_open ≡ is_some place.core },
 }
 
-// Whether there is a core.
+// Whether the handle has a core.
 pub(crate) fn is_open(handle: &Handle) -> bool
     ensures { result ≡ is_some handle.now.place.core }
 {
@@ -47,7 +47,8 @@ fn for_any_thread<T: Send>(value: T) -> T
     value
 }
 
-// Puts the core in. What was there is forgotten. The next call may be another thread's.
+// Puts the core into the handle, over its old content, which is not dropped. Another thread may make the
+// next call.
 pub(crate) fn put(handle: &mut Handle, core: Box<Core>)
     ensures core { handle.new.place.core ≡ Some core.value }
 {

@@ -1,9 +1,9 @@
-//! The core for programs in C, C++ and Rust: `include/sysmem.h` declares these functions and says
-//! what their callers keep.
+//! The core for programs in C, C++ and Rust. `include/sysmem.h` declares these functions, and has the
+//! rules for their callers.
 //!
-//! No function has a premise of its own: any number may stand in a call, and a handle may be open
-//! or not. Where a function answers another code than `DONE`, what it was given to write is as it
-//! was; `sysmem_vanish` alone then still writes how many events it made before.
+//! No function has a `requires`: any number may stand in a call, and a handle may be open or not. A
+//! function that returns another code than `DONE` has written nothing. `sysmem_vanish` is the exception:
+//! it then still writes how many events it made.
 #![tactic(auto)]
 
 mod arrays;

@@ -81,7 +81,7 @@ fn cause_name(number: u32) -> &'static str
     }
 }
 
-// The name of the number, or nothing.
+// The name of the number, or an empty name.
 fn name(about: u32, number: u32) -> &'static str
     ensures { result.now ≡ name about number }
 {
@@ -103,7 +103,7 @@ fn name(about: u32, number: u32) -> &'static str
 /// Writes the name of a code (`about` 0), a refusal (1), a misuse (2) or a cause (3), and a zero
 /// after it, as many of these bytes as `out` has room for, and how many bytes the name has.
 ///
-/// `NO_NAME` where there is no such number: nothing is written then. It costs what it writes.
+/// `NO_NAME` if there is no such number: nothing is written then. Costs what it writes.
 #[unsafe(no_mangle)]
 pub extern "C" fn sysmem_name(about: u32, number: u32, out: &mut [u8], count: &mut u64) -> u32
     ensures done { result ≡ 0 → (out.new ≡ written_over (name about number ++ 0 ∷ []) out.old)

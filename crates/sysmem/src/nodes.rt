@@ -1,4 +1,4 @@
-//! What a core shows of its nodes, of what collections were given, and of open handles.
+//! Views of a core's nodes, of the buffers of a collection, and of open handles.
 ghost use Rattle.std.specs.Prelude.{◌≡◌, ◌≢◌, ◌≤◌, ◌↔◌, ◌⊎◌, None, IsSomeAnd, length, map, option_map, if◌then◌else◌};
 ghost use Rattle.std.specs.Option.{option_map_or};
 ghost use Rattle.sm_names.specs.declared.outcomes.Buffers.{Buffers};
@@ -20,7 +20,7 @@ use lifetime_core::Core;
 use sm_names::BufferName;
 use std::alloc::Global;
 
-/// A node. What a flag says is not so is 0.
+/// A node. A field is 0 if its flag is not set.
 #[repr(C)]
 #[derive(Clone, Copy)]
 pub struct NodeWords {
@@ -71,7 +71,7 @@ fn flags_word(node: &Node) -> u32
     low + high
 }
 
-// The client that holds the node's end, or gave it away, or 0.
+// The client that holds the node's end, or that gave it away; 0 if the end is spent.
 fn holder_word(end: End) -> u64
     ensures { result ≡ holder_number end }
 {
@@ -125,12 +125,12 @@ fn put_nodes(core: &Core, out: &mut [NodeWords], count: &mut u64) -> u32
     DONE
 }
 
-/// Writes the kept nodes, collection by collection, the earliest first, and by birth within each, as
-/// many as `out` has room for, and how many there are. A node is kept while it is not gone or its end
-/// is not spent.
+/// Writes the kept nodes, as many as `out` has room for, and the number of all: collection by collection,
+/// the earliest first, and by birth within each. A node is kept while it is not gone or its end is not
+/// spent.
 ///
-/// `NOT_OPEN` where the handle has no core, and `NO_MEMORY` where memory is refused: nothing is
-/// written then. It costs a copy of the kept nodes.
+/// `NOT_OPEN` if the handle has no core, `NO_MEMORY` if memory is refused: nothing is written then. Costs
+/// a copy of the kept nodes.
 #[unsafe(no_mangle)]
 pub extern "C" fn sysmem_nodes(
     alloc: Global,
@@ -153,10 +153,10 @@ pub extern "C" fn sysmem_nodes(
     code
 }
 
-/// Writes how many buffers the collection was given, and how many bytes each has: 0 and 0 where it
-/// was given none, or is not kept.
+/// Writes how many buffers the collection has, and how many bytes each has: 0 and 0 if the collection is
+/// not allocated, or not kept.
 ///
-/// `NOT_OPEN` where the handle has no core: nothing is written then. It costs a binary search.
+/// `NOT_OPEN` if the handle has no core: nothing is written then. Costs O(log collections).
 #[unsafe(no_mangle)]
 pub extern "C" fn sysmem_given(
     alloc: Global,
@@ -190,11 +190,11 @@ pub extern "C" fn sysmem_given(
     DONE
 }
 
-/// Writes how many handles of this buffer and strength the client has open: those in parcels are
-/// nobody's.
+/// Writes how many handles of this buffer and strength the client has open. Handles in parcels belong to
+/// nobody.
 ///
-/// `NOT_OPEN` where the handle has no core, and `BAD_CALL` where the number is no strength: nothing
-/// is written then. It costs one look-up.
+/// `NOT_OPEN` if the handle has no core, `BAD_CALL` if the number is no strength: nothing is written then.
+/// Costs one look-up.
 #[unsafe(no_mangle)]
 pub extern "C" fn sysmem_open_handles(
     alloc: Global,
@@ -221,14 +221,14 @@ pub extern "C" fn sysmem_open_handles(
     write_count(found, count)
 }
 
-// How many the client has open, if the number is a strength.
+// How many of these handles the client has open, if the number is a strength.
 fn open_handles(core: &Core, client: u64, buffer: BufferName, strength: u32) -> Option<u32>
     ensures { result ≡ option_map (of core.now.holds client buffer) (said_strength strength) }
 {
     Some(core.open_handles(client, buffer, strength_of(strength)?))
 }
 
-// Writes what was found, if something was.
+// Writes the count, if there is one.
 fn write_count(found: Option<u32>, count: &mut u32) -> u32
     ensures done { result ≡ 0 → IsSomeAnd found (λ n. count.new ≡ n) }
     ensures bad { result ≡ 4 → found ≡ None }
@@ -246,8 +246,8 @@ fn write_count(found: Option<u32>, count: &mut u32) -> u32
 
 /// Writes how many handles of this buffer and strength are in parcels.
 ///
-/// `NOT_OPEN` where the handle has no core, and `BAD_CALL` where the number is no strength: nothing
-/// is written then. It costs one look-up.
+/// `NOT_OPEN` if the handle has no core, `BAD_CALL` if the number is no strength: nothing is written then.
+/// Costs one look-up.
 #[unsafe(no_mangle)]
 pub extern "C" fn sysmem_handles_in_parcels(
     alloc: Global,
@@ -273,7 +273,7 @@ pub extern "C" fn sysmem_handles_in_parcels(
     write_count(found, count)
 }
 
-// How many are in parcels, if the number is a strength.
+// How many of these handles are in parcels, if the number is a strength.
 fn handles_in_parcels(core: &Core, buffer: BufferName, strength: u32) -> Option<u32>
     ensures { result ≡ option_map (moving_count core.now.holds buffer) (said_strength strength) }
 {

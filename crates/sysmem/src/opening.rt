@@ -8,13 +8,11 @@ use lifetime_core::Core;
 use sm_names::{Limits, MAX_PAGES};
 use std::alloc::Global;
 
-/// Opens a core with a pool of `pages` pages of 4,096 bytes each and with these limits, on a
-/// handle of zeros or on one that was closed. The core has seen nothing, and its counts of handles
-/// hash from a seed that everybody knows.
+/// Opens a core without an event, with these limits and a pool of `pages` pages of 4,096 bytes, on a handle
+/// of zeros or one that was closed. The seed of its hash table of handles is zeros.
 ///
-/// `ALREADY_OPEN` where the handle has a core, `BAD_LIMITS` where a number is out of its range,
-/// and `NO_MEMORY` where memory is refused: the handle is then as it was. It costs the same for
-/// any numbers.
+/// `ALREADY_OPEN` if the handle has a core, `BAD_LIMITS` if a number is out of its range, `NO_MEMORY` if
+/// memory is refused: the handle is then as it was. Costs O(1).
 #[unsafe(no_mangle)]
 pub extern "C" fn sysmem_open(
     alloc: Global,
@@ -49,8 +47,7 @@ pub extern "C" fn sysmem_open(
     )
 }
 
-/// Does what `sysmem_open` does. The core's counts of handles hash from this seed, as in
-/// `Core::with_seed`.
+/// Does what `sysmem_open` does, with this seed for the hash table of handles, as in `Core::with_seed`.
 #[unsafe(no_mangle)]
 pub extern "C" fn sysmem_open_seeded(
     alloc: Global,
@@ -93,8 +90,8 @@ pub extern "C" fn sysmem_open_seeded(
     }
 }
 
-/// Closes the core, and frees all that it has. `NOT_OPEN` where there is none. It costs a walk
-/// over all that the core has.
+/// Closes the core, and frees its memory. `NOT_OPEN` if the handle has no core. Costs a walk over all that
+/// the core has.
 #[unsafe(no_mangle)]
 pub extern "C" fn sysmem_close(alloc: Global, handle: &mut Handle) -> u32
     ensures closed { handle.new.place.core ≡ None }

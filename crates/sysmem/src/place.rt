@@ -1,4 +1,4 @@
-//! Where C keeps a core.
+//! The memory of a core that a program in C keeps.
 ghost use Rattle.std.specs.Prelude.{◌≡◌, true, is_some, Option, Some, None};
 ghost use Rattle.core_state.specs.State.{State};
 ghost use Rattle.sysmem.specs.Ownership.{owns_core, state_coded};
@@ -8,7 +8,7 @@ use lifetime_core::Core;
 use std::alloc::Global;
 use std::marker::Model;
 
-/// What C sees of a core: nothing.
+/// A core as a program in C sees it: without fields.
 #[repr(C)]
 #[derive(Clone, Copy)]
 pub struct Opaque {
@@ -28,7 +28,7 @@ impl Model for Place {
     ghost also_owns = { λ p. owns_core p.alloc p.at p.core };
 }
 
-// A core keeps nothing of a thread, and any thread may free its block.
+// A core has no data of a thread, and any thread may free its block.
 unsafe impl Send for Place {}
 
 // No core.
@@ -41,7 +41,7 @@ pub(crate) fn nowhere(alloc: Global) -> Place
     }
 }
 
-// What the parts of a box own, kept by C.
+// Gives the parts of a box to a program in C.
 pub(crate) fn keep(core: Unboxed<Core, Global>) -> Place
     ensures { result.core ≡ Some core.value }
 {
@@ -52,7 +52,7 @@ pub(crate) fn keep(core: Unboxed<Core, Global>) -> Place
     }
 }
 
-// What C kept, as the parts of a box.
+// Takes back the parts of a box that a program in C kept.
 pub(crate) fn out_of(place: Place) -> Unboxed<Core, Global>
     requires { is_some place.core ≡ true }
     ensures { place.core ≡ Some result.value }

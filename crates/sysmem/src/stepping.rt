@@ -10,7 +10,7 @@ use lifetime_core::Core;
 use sm_names::{ClientId, StepFault};
 use std::alloc::Global;
 
-// Makes the call that the words say.
+// Makes the call that the words encode.
 fn step_by_words(core: &mut Core, client: ClientId, asked: &CallWords, told: &mut ReplyWords) -> u32
     ensures done { result ≡ 0 → IsCoreCall core.old core.new client asked.now told.new }
     ensures failed { result ≢ 0 → StaysAs core.old core.new }
@@ -33,13 +33,11 @@ fn step_by_words(core: &mut Core, client: ClientId, asked: &CallWords, told: &mu
     }
 }
 
-/// Makes one call as this client, and writes its reply. That is one event, also where the call is
-/// refused.
+/// Makes one call of this client, and writes its reply. This is one event, also if the call is refused.
 ///
-/// `NOT_OPEN` where the handle has no core; `BAD_CALL` exactly where the numbers say no call, and
-/// nothing changed; `HISTORY_FULL` where as many events were made as may be, and `NO_MEMORY` where
-/// memory is refused: either leaves the core as it was, and `told` too. It costs what
-/// `Core::step` does.
+/// `NOT_OPEN` if the handle has no core; `BAD_CALL` exactly if the numbers encode no call; `HISTORY_FULL`
+/// if the limit allows no further event, `NO_MEMORY` if memory is refused. Each of these leaves the core
+/// and `told` as they were. Costs what `Core::step` costs.
 #[unsafe(no_mangle)]
 pub extern "C" fn sysmem_step(
     alloc: Global,

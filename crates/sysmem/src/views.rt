@@ -1,4 +1,4 @@
-//! What a core shows.
+//! Views of a core.
 ghost use Rattle.std.specs.Prelude.{◌≡◌, ◌≢◌, ◌↔◌, None, IsSomeAnd, drop, length, map};
 ghost use Rattle.std.specs.Prelude.{if◌then◌else◌, ◌⊎◌};
 ghost use Rattle.core_state.specs.Reads.{views_of, is_live_in, fault_in};
@@ -106,10 +106,10 @@ fn put_held(core: &Core, out: &mut [HeldWords], count: &mut u64) -> u32
     DONE
 }
 
-/// Writes the live nodes, by birth, as many as `out` has room for, and how many there are.
+/// Writes the live nodes, by birth, as many as `out` has room for, and the number of all.
 ///
-/// `NOT_OPEN` where the handle has no core, and `NO_MEMORY` where memory is refused: nothing is
-/// written then. It costs a walk over the kept nodes and a sort of those that are live.
+/// `NOT_OPEN` if the handle has no core, `NO_MEMORY` if memory is refused: nothing is written then. Costs
+/// O(n + l log l) for n kept nodes, of which l are live.
 #[unsafe(no_mangle)]
 pub extern "C" fn sysmem_live(
     alloc: Global,
@@ -132,11 +132,10 @@ pub extern "C" fn sysmem_live(
     code
 }
 
-/// Writes the buffers whose pages were not given back, by page, as many as `out` has room for, and
-/// how many there are.
+/// Writes the buffers that hold pages, by page, as many as `out` has room for, and the number of all.
 ///
-/// `NOT_OPEN` where the handle has no core, and `NO_MEMORY` where memory is refused: nothing is
-/// written then. It costs a sort of these buffers.
+/// `NOT_OPEN` if the handle has no core, `NO_MEMORY` if memory is refused: nothing is written then. Costs
+/// a sort of these buffers.
 #[unsafe(no_mangle)]
 pub extern "C" fn sysmem_held(
     alloc: Global,
@@ -159,11 +158,11 @@ pub extern "C" fn sysmem_held(
     code
 }
 
-/// Writes the trackers that fired, by event, and by rising number within one, as many as `out` has
-/// room for, and how many there are.
+/// Writes the trackers that fired, by event, and by rising id within an event, as many as `out` has room
+/// for, and the number of all.
 ///
-/// `NOT_OPEN` where the handle has no core: nothing is written then. It takes no memory, and costs
-/// what it writes.
+/// `NOT_OPEN` if the handle has no core: nothing is written then. Takes no memory, and costs what it
+/// writes.
 #[unsafe(no_mangle)]
 pub extern "C" fn sysmem_fired(
     alloc: Global,
@@ -181,11 +180,11 @@ pub extern "C" fn sysmem_fired(
     sysmem_fired_from(alloc, handle, 0, out, count)
 }
 
-/// Writes the trackers that fired, but for the first `from`, as `sysmem_fired` does. The count is of
+/// Writes the trackers that fired, without the first `from`, as `sysmem_fired` does. The count is that of
 /// all.
 ///
-/// `NOT_OPEN` where the handle has no core: nothing is written then. It takes no memory, and costs
-/// what it writes.
+/// `NOT_OPEN` if the handle has no core: nothing is written then. Takes no memory, and costs what it
+/// writes.
 #[unsafe(no_mangle)]
 pub extern "C" fn sysmem_fired_from(
     alloc: Global,
@@ -212,7 +211,7 @@ pub extern "C" fn sysmem_fired_from(
     DONE
 }
 
-// What is behind the first items.
+// The items after the first `from`.
 fn after(items: &[Fired], from: u64) -> &[Fired]
     ensures { result.now ≡ drop from items.now }
 {
@@ -223,8 +222,7 @@ fn after(items: &[Fired], from: u64) -> &[Fired]
     }
 }
 
-/// Writes 1 where the node is live, and else 0. `NOT_OPEN` where the handle has no core. It costs
-/// one look-up.
+/// Writes 1 if the node is live, 0 if not. `NOT_OPEN` if the handle has no core. Costs one look-up.
 #[unsafe(no_mangle)]
 pub extern "C" fn sysmem_is_live(
     alloc: Global,
@@ -246,10 +244,10 @@ pub extern "C" fn sysmem_is_live(
     DONE
 }
 
-/// Writes why the node failed, and the node whose failure took it.
+/// Writes why the node failed, and the origin: the node whose loss reached it.
 ///
-/// `NOT_OPEN` where the handle has no core, and `NOT_FAILED` where the node did not fail, or is
-/// gone and was forgotten: nothing is written then. It costs one look-up.
+/// `NOT_OPEN` if the handle has no core, `NOT_FAILED` if the node has not failed, or was forgotten:
+/// nothing is written then. Costs one look-up.
 #[unsafe(no_mangle)]
 pub extern "C" fn sysmem_cause(
     alloc: Global,
@@ -283,8 +281,7 @@ pub extern "C" fn sysmem_cause(
     }
 }
 
-/// Writes how many pages no buffer holds. `NOT_OPEN` where the handle has no core. It costs a
-/// constant.
+/// Writes the number of pages that no buffer holds. `NOT_OPEN` if the handle has no core. Costs O(1).
 #[unsafe(no_mangle)]
 pub extern "C" fn sysmem_free_pages(alloc: Global, handle: &mut Handle, pages: &mut u32) -> u32
     ensures same { handle.new.place.core ≡ handle.old.place.core }
@@ -301,7 +298,7 @@ pub extern "C" fn sysmem_free_pages(alloc: Global, handle: &mut Handle, pages: &
     DONE
 }
 
-/// Writes how many events there were. `NOT_OPEN` where the handle has no core. It costs a constant.
+/// Writes the number of events. `NOT_OPEN` if the handle has no core. Costs O(1).
 #[unsafe(no_mangle)]
 pub extern "C" fn sysmem_events(alloc: Global, handle: &mut Handle, events: &mut u64) -> u32
     ensures same { handle.new.place.core ≡ handle.old.place.core }
@@ -318,7 +315,7 @@ pub extern "C" fn sysmem_events(alloc: Global, handle: &mut Handle, events: &mut
     DONE
 }
 
-// The key that the words say.
+// The key that the words encode.
 fn node_key(words: &KeyWords) -> NodeKey
     ensures { result ≡ key_from_words words.now }
 {

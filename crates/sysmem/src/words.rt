@@ -59,7 +59,7 @@ fn constraints_of(camping: u8, at_least: u8, size: u32) -> Option<Constraints>
     Constraints::new(camping, at_least, size)
 }
 
-// What the words name that a call is made on.
+// The object that the call is made on.
 fn object_of(words: &CallWords, on: Target) -> Object<NodeKey, BufferName>
     ensures { result ≡ object_said words.now on }
 {
@@ -76,7 +76,7 @@ fn object_of(words: &CallWords, on: Target) -> Object<NodeKey, BufferName>
     }
 }
 
-// What else they say. `None` where they say nothing of this form.
+// The call's argument. `None` if the words encode no argument of this form.
 fn argument_of(words: &CallWords, form: ArgumentForm) -> Option<Argument<ClientId>>
     ensures { result ≡ argument_said words.now form }
 {
@@ -93,7 +93,7 @@ fn argument_of(words: &CallWords, form: ArgumentForm) -> Option<Argument<ClientI
     })
 }
 
-// The call that the words say. `None` where they say none.
+// The call that the words encode. `None` if they encode none.
 pub(crate) fn call_of(words: &CallWords) -> Option<Call>
     ensures { result ≡ said words.now }
 {
