@@ -8,7 +8,7 @@ use crate::outcomes::{Cause, Misuse, Refusal};
 pub enum Call {
     /// Makes a client. It is made as client 0.
     Join,
-    /// Shuts the caller: it is given nothing more, and asks for no more ends or trackers.
+    /// Shuts the caller: nobody can give it anything more, and it can make no more nodes and trackers.
     Shut,
     /// Makes a collection and its root token
     /// (`fuchsia.sysmem2.Allocator.AllocateSharedCollection`).
@@ -18,9 +18,9 @@ pub enum Call {
     /// Makes an attached child token of a collection
     /// (`fuchsia.sysmem2.BufferCollection.AttachToken`).
     AttachToken(NodeKey),
-    /// Answers once the earlier calls were received (`fuchsia.sysmem2.Node.Sync`).
+    /// Asks only whether the node is gone (`fuchsia.sysmem2.Node.Sync`).
     Sync(NodeKey),
-    /// Gives the end to another client.
+    /// Puts the end into a parcel for a client.
     Give(NodeKey, ClientId),
     /// Takes the first parcel that waits for the caller.
     Collect,
@@ -29,11 +29,11 @@ pub enum Call {
     /// Once the node's unit is allocated, the node's failure does not propagate to its parent
     /// (`fuchsia.sysmem2.BufferCollectionToken.SetDispensable`).
     SetDispensable(NodeKey),
-    /// The node, and children made from now on, keep no buffer alive
+    /// Makes the node weak, and each child that it gets from now on: they keep no buffer alive
     /// (`fuchsia.sysmem2.Node.SetWeak`).
     SetWeak(NodeKey),
-    /// The node knows how to treat weak handles; with `true` also children made from now on
-    /// (`fuchsia.sysmem2.Node.SetWeakOk`).
+    /// Lets the node take weak handles; with `true` also each child that it gets from now on, and all
+    /// nodes below these children (`fuchsia.sysmem2.Node.SetWeakOk`).
     SetWeakOk(NodeKey, bool),
     /// Says what the node asks of the buffers (`fuchsia.sysmem2.BufferCollection.SetConstraints`).
     SetConstraints(NodeKey, Constraints),
@@ -45,13 +45,13 @@ pub enum Call {
     Take(NodeKey),
     /// Releases the node, which does not fail, and spends the end (`fuchsia.sysmem2.Node.Release`).
     Release(NodeKey),
-    /// Closes the end: without a Release before it, the node fails.
+    /// Spends the end: a node that is not gone fails.
     Close(NodeKey),
     /// Opens one more handle like one that the caller has.
     DupHandle(BufferName, Strength),
     /// Drops a handle.
     DropHandle(BufferName, Strength),
-    /// Gives a handle to another client.
+    /// Puts a handle into a parcel for a client.
     GiveHandle(BufferName, Strength, ClientId),
     /// Makes a tracker that fires once the node is gone
     /// (`fuchsia.sysmem2.Node.AttachNodeTracking`).
@@ -111,14 +111,14 @@ pub enum Reply {
     Refused(Refusal),
     /// The call was a misuse, and failed its node.
     Misused(Misuse),
-    /// The node is gone: why, and the node whose failure took it.
+    /// The node has failed: why, and the origin, the node whose loss reached it.
     PeerClosed {
         cause: Cause,
         origin: NodeKey,
     },
 }
 
-/// What one client gives to another: an end, or a handle.
+/// A parcel: an end or a handle, which a client gave to a client.
 #[derive(Clone, Copy, Debug, PartialEq, Eq)]
 pub enum Parcel {
     End(NodeKey),

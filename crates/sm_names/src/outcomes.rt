@@ -31,7 +31,7 @@ pub enum Misuse {
     LateWeak,
     /// SetWeakOk after a Take on the node gave handles.
     LateWeakOk,
-    /// Take on a weak node for which nobody sent SetWeakOk.
+    /// Take on a weak node that is not weak-ok.
     WeakNotOk,
     /// TrackNode on a node that has 64 node trackers.
     TooManyNodeTrackers,
@@ -74,7 +74,7 @@ pub enum Cause {
     Misused(Misuse),
     /// An allocation failed.
     Failed(Failure),
-    /// The collection is allocated, and no strong node or handle keeps its buffers any more.
+    /// The collection is allocated, no strong node is live, and no strong handle is open.
     NoStrong,
 }
 
@@ -99,7 +99,7 @@ pub enum Refusal {
     NoSuchClient,
     /// The receiver is shut, or a shut client asks for an end or a tracker.
     ClientShut,
-    /// The key names no unspent end that the caller holds.
+    /// There is no such end, it was spent, or another client holds it and it is in no parcel.
     NoSuchEnd,
     /// The end lies in a parcel.
     InTransit,
@@ -118,8 +118,8 @@ pub enum Refusal {
 }
 
 impl Refusal {
-    /// The refusal's number, from 1, in the order in which a call is checked for them. Takes a
-    /// constant time.
+    /// The refusal's number, from 1. Takes a constant time. A call is checked in another order, which
+    /// `answers_first` defines: NoSuchHandle precedes the limits.
     pub fn number(self) -> u8
         ensures { result ≡ refusal_number self }
     {
