@@ -1,4 +1,4 @@
--- What one more mark does to the nodes of a collection, as they stand.
+-- What one more mark changes in the nodes of a collection.
 use Rattle.std.specs.Prelude.{Bool, true, false, ◌||◌, ◌&&◌, not, List}
 use Rattle.std.specs.List.{list_any, filter}
 use Rattle.sm_names.specs.Forced.{Standing}

@@ -1,4 +1,4 @@
--- What a list has.
+-- The elements of a list.
 use Rattle.std.specs.Prelude.{◌≡◌, ◌⊎◌, List, [], ◌∷◌}
 
 -- x is an element of the list

@@ -1,4 +1,4 @@
--- What an event leaves the same in a collection that is not its own.
+-- What an event does not change in another collection than its own.
 use Rattle.std.specs.Prelude.{ℕ, true, ◌==◌, ◌∷◌, Option, Some, ◌≡◌}
 use Rattle.std.specs.List.{filter, list_any}
 use Rattle.std.specs.Option.{option_map}

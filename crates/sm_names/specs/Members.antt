@@ -1,4 +1,4 @@
--- The nodes of one collection, as they stand.
+-- The nodes of one collection, in the state after a timeline.
 -- `constraints` and `is_ready` restate `fuchsia.sysmem2.BufferCollection.SetConstraints`.
 use Rattle.std.specs.Prelude.{ℕ, max, Bool, ◌||◌, ◌&&◌, ◌==◌, not, if◌then◌else◌, List, [], ◌∷◌, map, reverse, Option, Some, None, is_some, is_none}
 use Rattle.std.specs.List.{list_any, list_all, filter, filter_map, find, sum_by, fold}

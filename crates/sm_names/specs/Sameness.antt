@@ -1,4 +1,4 @@
--- Tests of whether two names are one.
+-- Tests whether two names are equal.
 use Rattle.std.specs.Prelude.{Bool, true, false, ◌==◌, ◌&&◌}
 use Rattle.sm_names.specs.declared.keys.NodeKey.{NodeKey}
 use Rattle.sm_names.specs.declared.keys.BufferName.{BufferName}

@@ -1,4 +1,4 @@
--- What is seen after a history.
+-- The views of a history.
 use Rattle.std.specs.Prelude.{ℕ, ◌-◌, List, map, reverse}
 use Rattle.std.specs.List.{filter, sum_by}
 use Rattle.sm_names.specs.declared.keys.NodeKey.{NodeKey}

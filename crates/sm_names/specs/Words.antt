@@ -1,4 +1,4 @@
--- Words on lists and options that the other files share.
+-- Functions on lists and options that the other files share.
 use Rattle.std.specs.Prelude.{ℕ, ◌+◌, Bool, nat_lt, if◌then◌else◌, List, [], ◌∷◌, Option, Some, None}
 use Rattle.std.specs.Option.{option_map_or}
 
