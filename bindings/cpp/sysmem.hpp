@@ -155,7 +155,7 @@ public:
         return {};
     }
     // Makes a tracker that fires once no strong handle and no strong node keeps the buffer. Refused
-    // unless the handle is weak.
+    // unless the client has a weak handle on the buffer.
     Result<Tracker> track_weak() const {
         return Tracker::make(*account, words(SYSMEM_TRACK_WEAK), 0);
     }
