@@ -60,7 +60,7 @@ impl Handle {
     }
 
     /// Makes a tracker that fires once no strong handle and no strong node keeps the buffer.
-    /// Refused unless the handle is weak.
+    /// Refused unless the client has a weak handle on the buffer.
     pub fn track_weak(&self) -> Result<Tracker, Error> {
         self.owner.track(&self.asks(kind::TRACK_WEAK), self.buffer.collection)
     }
