@@ -1,2 +1,3 @@
 -- Forced steps that are made in their places, one after another.
 pub mod Births
+pub mod MoreSlots

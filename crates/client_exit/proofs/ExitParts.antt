@@ -19,7 +19,7 @@ use Rattle.sm_names.specs.Timelines.{timeline}
 use Rattle.sm_names.proofs.SamenessLaws.{false_if}
 use Rattle.core_state.specs.State.{State}
 use Rattle.client_exit.specs.declared.exit.PartFault.{PartFault}
-use Rattle.client_exit.specs.Events.{Collecting, Collects, Gathered, GetsNothing, IsRest, IsShut, Leaves, Leaving, Lets, Whatever}
+use Rattle.client_exit.specs.Events.{Collecting, Collects, Gathered, GetsNothing, IsRest, IsShut, PartsWithAll, Leaving, Lets, Whatever}
 use Rattle.client_exit.specs.Exits.{HasExited, IsClose, IsCollect, IsDrop, IsExit, holds_end}
 use Rattle.client_exit.specs.Parting.{Exits, IsBegun, ExitStops}
 use Rattle.client_exit.specs.Phases.{HasAmong, HasLeft, HoldsAmong, IsUnshut, Phase, part_fault}
@@ -78,9 +78,9 @@ lets_all client old mid new p q =
 -- all was parted with
 pub leaves : (client waiting : ℕ) (old one two new : State) → Phase old one (Collecting client waiting waiting) →
     Phase one two (Lets (IsClose client) client (HoldsAmong client [])) →
-    Phase two new (Lets (IsDrop client) client (HasAmong client [])) → Phase old new (Leaves client waiting)
+    Phase two new (Lets (IsDrop client) client (HasAmong client [])) → Phase old new (PartsWithAll client waiting)
 leaves client waiting old one two new p q r =
-    phase_then old one new (Collecting client waiting waiting) (LettingAll client) (Leaves client waiting) p
+    phase_then old one new (Collecting client waiting waiting) (LettingAll client) (PartsWithAll client waiting) p
     (lets_all client one two new q r) (λ marks midway later first more a b joined shut many.
     let x : Collects client waiting waiting marks first midway = a joined many in
     let y : LetsAll client midway more later = b x.joined in
@@ -232,9 +232,9 @@ rest_exit client waiting first more is r = record {
 
 -- the client exited
 pub has_left : (client waiting : ℕ) (old one new : State) → Phase old one (λ marks events later. IsShut client waiting events later) →
-    Phase one new (Leaves client waiting) → Phase old new (λ marks events later. HasLeft client events later)
+    Phase one new (PartsWithAll client waiting) → Phase old new (λ marks events later. HasLeft client events later)
 has_left client waiting old one new p q =
-    phase_then old one new (λ marks events later. IsShut client waiting events later) (Leaves client waiting) (λ marks events later.
+    phase_then old one new (λ marks events later. IsShut client waiting events later) (PartsWithAll client waiting) (λ marks events later.
     HasLeft client events later) p q (λ marks midway later first more a b.
     let x = b a.joined a.shut a.waits in
     record { is_exit = rest_exit client waiting first more a.are x.0; has_exited = x.1 })

@@ -32,7 +32,7 @@ use Rattle.core_state.specs.Shown.{Shows}
 use Rattle.core_state.specs.State.{State}
 use Rattle.core_state.proofs.lists.ByNumber.{mixed_sorted}
 use Rattle.core_state.proofs.lists.Reorderings.{In-mixed_back}
-use Rattle.core_state.proofs.views.Answers.{readings_are}
+use Rattle.core_state.proofs.views.Readings.{readings_are}
 use Rattle.client_exit.specs.Exits.{holds_end}
 use Rattle.client_exit.specs.Phases.{HasAmong, HoldsAmong}
 

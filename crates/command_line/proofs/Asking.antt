@@ -7,7 +7,7 @@ use Rattle.sm_names.specs.declared.rules.TheConstants.{MAX_PAGES}
 use Rattle.clap.specs.Words.{Row, ReadsOne, Text, first_of, first_value, found_of, one_of, one_text, rows_of, subcommand_rows_of}
 use Rattle.clap.specs.declared.parser.matches.ArgMatches.{ArgMatches}
 use Rattle.clap.proofs.WalkLemmas.{first_value-rows, one_text-rows}
-use Rattle.command_line.specs.Asked.{AreAsked, IsCount, IsRead, text_of, value_text, written_number}
+use Rattle.command_line.specs.Asked.{AreAsked, IsCount, IsNumberRead, subcommand_text, value_text, written_number}
 
 -- the text is that of the subcommand's own matches
 pub its_text : (id : List ℕ) (matches inner : ArgMatches) (o : Option (Text × List Row)) →
@@ -21,7 +21,7 @@ its_text id matches inner (Some p) rows is =
 -- another text is that of the subcommand's own matches too
 pub first_text : (id : List ℕ) (matches inner : ArgMatches) (o : Option (Text × List Row)) →
     Some (rows_of (found_of inner)) ≡ option_map (λ p. p.1) o → subcommand_rows_of matches ≡ o →
-    text_of id matches ≡ first_value (found_of inner) id
+    subcommand_text id matches ≡ first_value (found_of inner) id
 first_text id matches inner None rows is = cc
 first_text id matches inner (Some p) rows is =
     let same : rows_of (found_of inner) ≡ p.1 = cc in
@@ -66,7 +66,7 @@ module _ {E : Type 0} (gives : List ℕ → Result ℕ E → Type 0) (only : (t 
     ParsesUnsigned 64 10 t r) where
   -- u64 accepts exactly the numerals that fit 64 bits, so the number read is the one written
   pub is_read : (text : Option (List ℕ)) (read : Option ℕ) → (text ≡ None → read ≡ None) → ((t : List ℕ) → text ≡ Some t →
-      ReadsOne gives t read) → IsRead text read
+      ReadsOne gives t read) → IsNumberRead text read
   is_read None read none value = none refl
   is_read (Some t) (Some n) none value =
       let p = only t (Ok n) (value t refl) in

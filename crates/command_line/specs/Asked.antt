@@ -26,8 +26,8 @@ AreAsked None count = count ≡ None
 AreAsked (Some text) count = SomeIff count (IsCount text) (written_number text)
 
 -- the text of an option or argument of the subcommand, in the same way
-abbrev pub text_of : List ℕ → ArgMatches → Option (List ℕ)
-text_of id matches = option_and_then (λ sub. first_of id sub.1) (subcommand_rows_of matches)
+abbrev pub subcommand_text : List ℕ → ArgMatches → Option (List ℕ)
+subcommand_text id matches = option_and_then (λ sub. first_of id sub.1) (subcommand_rows_of matches)
 
 -- what the subcommand of this name does with a script: it answers each line if it has none of the other names
 abbrev pub IsTask : Option (List ℕ) → Task → Type 0
@@ -55,13 +55,13 @@ pub record IsNumber (text : List ℕ) : Type 0 where
   pub fits : written_number text < 2 ^ 64
 
 -- the number that is read of a text: none if there is no text or it is no number
-abbrev pub IsRead : Option (List ℕ) → Option ℕ → Type 0
-IsRead None number = number ≡ None
-IsRead (Some text) number = SomeIff number (IsNumber text) (written_number text)
+abbrev pub IsNumberRead : Option (List ℕ) → Option ℕ → Type 0
+IsNumberRead None number = number ≡ None
+IsNumberRead (Some text) number = SomeIff number (IsNumber text) (written_number text)
 
 -- the event of a picture, if one is asked for
 abbrev pub HasEvent : Option (List ℕ) → Task → Type 0
-HasEvent text (Task.Draw view) = IsRead text view.at
+HasEvent text (Task.Draw view) = IsNumberRead text view.at
 HasEvent text task = ⊤
 
 -- a flag is set if it was given

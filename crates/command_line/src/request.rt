@@ -1,7 +1,7 @@
 //! What the words of the command line ask for.
 ghost use Rattle.std.specs.Prelude.{◌≡◌, IfSome, codes, option_map};
 ghost use Rattle.clap.specs.Matches.{subcommand_name_of};
-ghost use Rattle.command_line.specs.Asked.{AreAsked, HasEvent, HasFormat, HasRecord, IsTask, text_of, value_text};
+ghost use Rattle.command_line.specs.Asked.{AreAsked, HasEvent, HasFormat, HasRecord, IsTask, subcommand_text, value_text};
 
 use crate::commands::{FILE, PAGES};
 use crate::task::{Task, task_of};
@@ -25,14 +25,14 @@ pub fn request_of<'a>(matches: &ArgMatches<'a>) -> Option<Request<'a>>
     ensures pages { AreAsked (value_text (codes "pages") matches.now)
         (option_map (λ request. request.pages.count) result) }
     ensures task { IfSome result (λ request. IsTask (subcommand_name_of matches.now) request.task) }
-    ensures format { IfSome result (λ request. HasFormat (text_of (codes "format") matches.now)
+    ensures format { IfSome result (λ request. HasFormat (subcommand_text (codes "format") matches.now)
         request.task) }
     ensures event { IfSome result (λ request. HasEvent (value_text (codes "at") matches.now)
         request.task) }
     ensures record { IfSome result (λ request. HasRecord (value_text (codes "record") matches.now)
         request.task) }
     ensures file { IfSome result (λ request. option_map (λ name. name.now) request.file
-        ≡ text_of (codes "file") matches.now) }
+        ≡ subcommand_text (codes "file") matches.now) }
 {
     match pages_of(matches) {
         Some(pages) => Some(Request {
@@ -58,7 +58,7 @@ fn pages_of(matches: &ArgMatches<'_>) -> Option<Pages>
 
 // The file that is read instead of standard input, if one is named.
 fn file_of<'a>(matches: &ArgMatches<'a>) -> Option<&'a str>
-    ensures { option_map (λ name. name.now) result ≡ text_of (codes "file") matches.now }
+    ensures { option_map (λ name. name.now) result ≡ subcommand_text (codes "file") matches.now }
 {
     let (_, inner) = matches.subcommand()?;
     inner.get_str(FILE)

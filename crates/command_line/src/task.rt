@@ -1,7 +1,7 @@
 //! What a command does with a script.
 ghost use Rattle.std.specs.Prelude.{codes, option_map};
 ghost use Rattle.clap.specs.Matches.{first_value, found_of, one_text, subcommand_name_of};
-ghost use Rattle.command_line.specs.Asked.{HasEvent, HasFormat, HasRecord, IsFormat, IsRead, IsTask, text_of, value_text};
+ghost use Rattle.command_line.specs.Asked.{HasEvent, HasFormat, HasRecord, IsFormat, IsNumberRead, IsTask, subcommand_text, value_text};
 
 use crate::commands::{AT, CHECK, DOT, DRAW, EXPLAIN, FORMAT, RECORD, SVG, THREADS};
 use clap::ArgMatches;
@@ -44,7 +44,7 @@ pub enum Task {
 /// name. Takes a time in proportion to the words.
 pub fn task_of(matches: &ArgMatches<'_>) -> Task
     ensures task { IsTask (subcommand_name_of matches.now) result }
-    ensures format { HasFormat (text_of (codes "format") matches.now) result }
+    ensures format { HasFormat (subcommand_text (codes "format") matches.now) result }
     ensures event { HasEvent (value_text (codes "at") matches.now) result }
     ensures record { HasRecord (value_text (codes "record") matches.now) result }
 {
@@ -72,7 +72,7 @@ pub fn task_of(matches: &ArgMatches<'_>) -> Task
 // The picture that the matches of `draw` ask for.
 fn view_of(matches: &ArgMatches<'_>) -> View
     ensures format { IsFormat (first_value (found_of matches.now) (codes "format")) result.format }
-    ensures event { IsRead (one_text (found_of matches.now) (codes "at")) result.at }
+    ensures event { IsNumberRead (one_text (found_of matches.now) (codes "at")) result.at }
 {
     View {
         format: format_of(matches.get_str(FORMAT)),

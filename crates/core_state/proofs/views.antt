@@ -1,6 +1,5 @@
 -- What is read and seen of a core is what the marks tell.
 pub mod AfterEvents
-pub mod Answers
 pub mod Ends
 pub mod ForTrackers
 pub mod Forests
@@ -8,5 +7,7 @@ pub mod Held
 pub mod HeldApart
 pub mod Live
 pub mod Nodes
+pub mod Readings
+pub mod SameAnswers
 pub mod Seen
 pub mod Shown

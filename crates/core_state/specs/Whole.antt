@@ -112,8 +112,8 @@ pub record StillWaits (f : Forest) (handles : Handles) (t : Waiting) : Type 0 wh
   pub undue : is_due (world_in f handles) t ≡ false
 
 -- each held buffer is one of its collection, and not home
-abbrev pub AreOut : Handles → Forest → Type 0
-AreOut handles f = (c : Collection) → In c f.collections → (h : HeldBuffer) → In h c.held →
+abbrev pub NoBufferHome : Handles → Forest → Type 0
+NoBufferHome handles f = (c : Collection) → In c f.collections → (h : HeldBuffer) → In h c.held →
     (h.buffer.collection ≡ c.id) × (is_home_in handles c h.buffer ≡ false)
 
 -- no id is above this number
@@ -137,4 +137,4 @@ pub record IsWholeCore (pool : Holdings) (limits : Bound) (events : ℕ) (client
   pub tracker_limit : trackers.limit ≡ limits.trackers
   pub numbered : All (λ (c : Cell). c.id ≤ events) trackers.cells
   pub waiting : All (StillWaits forest (total holds)) trackers.unfired
-  pub out : AreOut (total holds) forest
+  pub out : NoBufferHome (total holds) forest

@@ -18,6 +18,7 @@ use Rattle.core_state.specs.Reads.{is_live_in}
 use Rattle.core_state.specs.State.{State}
 use Rattle.core_state.specs.Steps.{Work, work_of}
 use Rattle.event_facts.specs.declared.before.Before.{Before}
+use Rattle.event_facts.specs.declared.pages.TheConstants.{SET_BITS}
 use Rattle.event_facts.specs.Facts.{is_keeper}
 
 -- ---- which collection
@@ -55,7 +56,7 @@ is_doomed_in holds collection nodes given index =
 
 -- bit i of the set is one exactly for the buffers that the test holds of
 abbrev pub IsSetOf : (ℕ → Bool) → ℕ → Type 0
-IsSetOf test set = (index : ℕ) → index < 64 → bit_at set index ≡ (if test index then 1 else 0)
+IsSetOf test set = (index : ℕ) → index < SET_BITS → bit_at set index ≡ (if test index then 1 else 0)
 
 -- ---- the collection after the event
 

@@ -21,5 +21,5 @@ abbrev pub value_at : {V : Type 0} → KeyMap V → NodeKey → Option V
 value_at map key = get (key_order.ghosts).cmp map.values key
 
 -- the values of this key, in the order in which they were added
-abbrev pub row_at : {V : Type 0} → KeyRows V → NodeKey → List V
-row_at {V} rows key = option_map_or (λ (row : Vec V Global). row.items) (get (key_order.ghosts).cmp rows.rows key) []
+abbrev pub values_at : {V : Type 0} → KeyRows V → NodeKey → List V
+values_at {V} rows key = option_map_or (λ (row : Vec V Global). row.items) (get (key_order.ghosts).cmp rows.rows key) []

@@ -1,7 +1,7 @@
 //! Who keeps the pages of a buffer.
 ghost use Rattle.std.specs.Prelude.{◌≡◌, ◌++◌, IfOk, OnOk, map};
 ghost use Rattle.std.specs.List.{filter};
-ghost use Rattle.forest_store.specs.declared.node.Node.{Node as Kept};
+ghost use Rattle.forest_store.specs.declared.node.Node.{Node as NodeValue};
 ghost use Rattle.event_facts.specs.Facts.{client_holds, holders_with, holders_in, is_keeper};
 
 use alloc_event::Node;
@@ -21,7 +21,7 @@ pub struct Holder {
 /// The strong nodes that are live, by birth. Costs O(n) for n nodes.
 pub fn strong_live(nodes: &Vec<Node>) -> Result<Vec<NodeKey>, AllocError>
     ensures { IfOk result (λ keys. keys.items
-        ≡ map (λ (n : Kept). n.key) (filter is_keeper nodes.now.items)) }
+        ≡ map (λ (n : NodeValue). n.key) (filter is_keeper nodes.now.items)) }
 {
     let mut keys = Vec::new(*nodes.allocator());
     for node in nodes {

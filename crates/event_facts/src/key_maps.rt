@@ -3,7 +3,7 @@ ghost use Rattle.std.specs.Prelude.{◌≡◌, ◌++◌, ◌∷◌, [], None, So
 ghost use Rattle.std.specs.Option.{option_copied, option_or};
 ghost use Rattle.sm_names.specs.declared.keys.NodeKey.{NodeKey as Key};
 ghost use Rattle.sm_names.specs.Sameness.{same_key};
-ghost use Rattle.event_facts.specs.KeyMaps.{HasKeys, row_at, value_at};
+ghost use Rattle.event_facts.specs.KeyMaps.{HasKeys, values_at, value_at};
 
 use event_marks::key_sets::KeySet;
 use sm_names::NodeKey;
@@ -70,7 +70,7 @@ pub struct KeyRows<V> {
 impl<V: Copy + Drop> KeyRows<V> {
     /// Each row is empty. Takes a constant time.
     pub fn new(alloc: Global) -> KeyRows<V>
-        ensures { (key : Key) → row_at result key ≡ [] }
+        ensures { (key : Key) → values_at result key ≡ [] }
     {
         KeyRows {
             rows: BTreeMap::new(alloc),
@@ -79,7 +79,7 @@ impl<V: Copy + Drop> KeyRows<V> {
 
     /// The row of this key. Costs O(log n) for n rows that are not empty.
     pub fn row(&self, key: NodeKey) -> &[V]
-        ensures { result.now ≡ row_at self.now key }
+        ensures { result.now ≡ values_at self.now key }
     {
         match self.rows.get(&key) {
             Some(row) => row.as_slice(),
@@ -91,8 +91,8 @@ impl<V: Copy + Drop> KeyRows<V> {
     ///
     /// `AllocError` where memory is refused.
     pub fn add(&mut self, alloc: Global, key: NodeKey, value: V) -> Result<(), AllocError>
-        ensures { OnOk result ((other : Key) → row_at self.new other
-            ≡ row_at self.old other ++ (if same_key key other then value ∷ [] else [])) }
+        ensures { OnOk result ((other : Key) → values_at self.new other
+            ≡ values_at self.old other ++ (if same_key key other then value ∷ [] else [])) }
     {
         let mut row = self.cut(alloc, key);
         row.push(value)?;
@@ -101,9 +101,9 @@ impl<V: Copy + Drop> KeyRows<V> {
 
     // The row of this key, which is empty then.
     fn cut(&mut self, alloc: Global, key: NodeKey) -> Vec<V>
-        ensures row { result.items ≡ row_at self.old key }
-        ensures others { (other : Key) → row_at self.new other
-            ≡ (if same_key key other then [] else row_at self.old other) }
+        ensures row { result.items ≡ values_at self.old key }
+        ensures others { (other : Key) → values_at self.new other
+            ≡ (if same_key key other then [] else values_at self.old other) }
     {
         match self.rows.remove(&key) {
             Some(row) => row,
@@ -113,8 +113,8 @@ impl<V: Copy + Drop> KeyRows<V> {
 
     // The key has this row.
     fn put(&mut self, key: NodeKey, row: Vec<V>) -> Result<(), AllocError>
-        ensures { OnOk result ((other : Key) → row_at self.new other
-            ≡ (if same_key key other then row.items else row_at self.old other)) }
+        ensures { OnOk result ((other : Key) → values_at self.new other
+            ≡ (if same_key key other then row.items else values_at self.old other)) }
     {
         self.rows.insert(key, row)?;
         Ok(())

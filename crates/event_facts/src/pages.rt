@@ -11,6 +11,9 @@ use lifetime_core::Core;
 use sm_names::{BufferName, Buffers, CollectionId, HeldBuffer, Strength};
 use std::alloc::AllocError;
 
+// How many bits a set has, one for each buffer.
+const SET_BITS: u8 = 64;
+
 /// Those of the buffers that are not among the later ones: they gave their pages back. Costs the product
 /// of both numbers.
 pub fn given_back(
@@ -60,7 +63,7 @@ pub fn doomed_of(
     if some_strong_live(nodes) {
         return 0;
     }
-    for index in 0..64u8 {
+    for index in 0..SET_BITS {
         let is_given = (index as u32) < buffers.count;
         let buffer = BufferName { collection, index };
         let open = core.total_handles(buffer, Strength::Strong);
@@ -71,7 +74,7 @@ pub fn doomed_of(
 
 // The set, and this index too if it is to be in it.
 fn add_if(set: u64, index: u8, is_in: bool) -> u64
-    requires { index < 64 }
+    requires { index < SET_BITS }
     ensures same { bit_at result index ≡ (if is_in then 1 else bit_at set index) }
     ensures other { (i : ℕ) → i ≢ index → bit_at result i ≡ bit_at set i }
 {
@@ -80,7 +83,7 @@ fn add_if(set: u64, index: u8, is_in: bool) -> u64
 
 // Those of the set that are not in the other.
 pub(crate) fn without(set: u64, other: u64) -> u64
-    ensures { (i : ℕ) → i < 64 → bit_at result i ≡ min (bit_at set i) (1 - bit_at other i) }
+    ensures { (i : ℕ) → i < SET_BITS → bit_at result i ≡ min (bit_at set i) (1 - bit_at other i) }
 {
     set & !other
 }

@@ -2,10 +2,10 @@
 ghost use Rattle.std.specs.Prelude.{◌≡◌, ◌++◌, ◌∷◌, [], if◌then◌else◌, IfOk, OnOk, map};
 ghost use Rattle.std.specs.List.{filter};
 ghost use Rattle.sm_names.specs.declared.keys.NodeKey.{NodeKey as Key};
-ghost use Rattle.forest_store.specs.declared.node.Node.{Node as Kept};
+ghost use Rattle.forest_store.specs.declared.node.Node.{Node as NodeValue};
 ghost use Rattle.event_marks.specs.KeySets.{has};
 ghost use Rattle.event_facts.specs.Facts.{is_handed, is_handed_past, is_lost_with, is_taken_of};
-ghost use Rattle.event_facts.specs.KeyMaps.{row_at};
+ghost use Rattle.event_facts.specs.KeyMaps.{values_at};
 
 use crate::key_maps::{KeyRows, keys_of};
 use alloc_event::Node;
@@ -50,8 +50,8 @@ fn takes(under: &KeySet, node: &Node) -> bool
 ///
 /// `AllocError` where memory is refused.
 pub fn handed_on(taken: &Vec<Node>, way: &[NodeKey]) -> Result<KeyRows<NodeKey>, AllocError>
-    ensures { IfOk result (λ rows. (above : Key) → row_at rows above
-        ≡ map (λ (n : Kept). n.key) (filter (is_handed way.now above) taken.now.items)) }
+    ensures { IfOk result (λ rows. (above : Key) → values_at rows above
+        ≡ map (λ (n : NodeValue). n.key) (filter (is_handed way.now above) taken.now.items)) }
 {
     let passed = keys_of(*taken.allocator(), way)?;
     let rows = handed_past(taken, &passed)?;
@@ -60,8 +60,8 @@ pub fn handed_on(taken: &Vec<Node>, way: &[NodeKey]) -> Result<KeyRows<NodeKey>,
 
 // The same, where a failure came up by these.
 fn handed_past(taken: &Vec<Node>, passed: &KeySet) -> Result<KeyRows<NodeKey>, AllocError>
-    ensures { IfOk result (λ rows. (above : Key) → row_at rows above
-        ≡ map (λ (n : Kept). n.key) (filter (is_handed_past (has passed.now) above) taken.now.items)) }
+    ensures { IfOk result (λ rows. (above : Key) → values_at rows above
+        ≡ map (λ (n : NodeValue). n.key) (filter (is_handed_past (has passed.now) above) taken.now.items)) }
 {
     let alloc = *taken.allocator();
     let mut rows = KeyRows::new(alloc);
@@ -78,7 +78,7 @@ fn hand_on(
     passed: &KeySet,
     node: &Node,
 ) -> Result<(), AllocError>
-    ensures { OnOk result ((above : Key) → row_at rows.new above ≡ row_at rows.old above
+    ensures { OnOk result ((above : Key) → values_at rows.new above ≡ values_at rows.old above
         ++ (if is_handed_past (has passed.now) above node.now then node.now.key ∷ [] else [])) }
 {
     match node.parent {

@@ -1,4 +1,5 @@
 -- What is forgotten.
+pub mod EntryAt
 pub mod Forgotten
 pub mod KeyMoves
 pub mod Noted

@@ -3,6 +3,7 @@ pub mod Bearing
 pub mod Calmness
 pub mod Entries
 pub mod Forest
+pub mod Inserted
 pub mod Members
 pub mod Newborn
 pub mod NothingForced

@@ -8,7 +8,7 @@ ghost use Rattle.core_state.specs.Hands.{MayMove, collects_handle};
 ghost use Rattle.core_state.specs.State.{Client as Row, counts_of};
 ghost use Rattle.core_state.specs.Tasks.{AsksOnly, MayDo, TakesEffect, may_take_memory, takes_room};
 ghost use Rattle.core_state.specs.Tasks.{with_key};
-ghost use Rattle.core_state.specs.Whole.{AreOut, Rise};
+ghost use Rattle.core_state.specs.Whole.{NoBufferHome, Rise};
 
 use crate::sweeping::{attach, detach};
 use crate::task::make_change;
@@ -53,7 +53,7 @@ pub(crate) fn take_effect(
     requires handles { MayMove contents.old.holds client call.now asked.now }
     requires may { IfSome task.now (MayDo contents.old.forest) }
     requires asks { AsksOnly call.now task.now }
-    requires out { AreOut (total contents.old.holds) contents.old.forest }
+    requires out { NoBufferHome (total contents.old.holds) contents.old.forest }
     requires pool { IsPoolOf contents.old.pool contents.old.forest }
     requires rising { IfSome tracking (λ t.
         All (λ (c : Cell). c.id < t.id) contents.old.trackers.cells) }

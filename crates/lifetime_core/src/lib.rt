@@ -5,11 +5,11 @@ mod by_kind;
 mod event;
 pub mod machine;
 mod opening;
-mod order;
-mod sight;
+mod refusals;
+mod replies;
 mod sweeping;
-mod table;
 mod task;
+mod tracker_world;
 
 pub use core_state::laws;
 pub use machine::Core;

@@ -16,7 +16,7 @@ ghost use Rattle.std.specs.List.{cons_option, list_any};
 ghost use Rattle.std.specs.Option.{option_and_then, option_map_or};
 ghost use Rattle.trackers.specs.Table.{empty, is_untaken, reader_of, cell_of, without_id};
 ghost use Rattle.forest_store.specs.Forest.{empty_forest, given, node_count, node_at};
-ghost use Rattle.forest_store.specs.Forest.{Collection as Shelved, collection_at};
+ghost use Rattle.forest_store.specs.Forest.{Collection as CollectionValue, collection_at};
 ghost use Rattle.forest_store.specs.Nodes.{is_of, is_spent, members_of};
 ghost use Rattle.forest_store.specs.Settling.{MayChange, collection_or_new};
 ghost use Rattle.buffer_holds.specs.Counts.{total};
@@ -34,8 +34,8 @@ mod views;
 
 use crate::by_kind::take_by_kind;
 use crate::event::{Contents, take_effect};
+use crate::replies::answer;
 use crate::sweeping::{place_to_sweep, sweep, tracking_of};
-use crate::table::answer;
 use crate::task::{put_end, task_of};
 use alloc_event::{Change, Forest, Node};
 use buffer_holds::{Holds, Spot};
@@ -241,7 +241,7 @@ impl Core {
     // Whether a strong node of the collection is live.
     pub(crate) fn strong_live(&self, id: CollectionId) -> bool
         ensures { result ≡ option_map_or
-            (λ (c : Shelved). some_strong_live (members_of c.nodes))
+            (λ (c : CollectionValue). some_strong_live (members_of c.nodes))
             (collection_at self.now.forest id) false }
     {
         self.contents.forest.strong_live(id)

@@ -9,7 +9,7 @@ ghost use Rattle.core_state.specs.Tasks.{looked_in};
 ghost use Rattle.buffer_holds.specs.Counts.{total};
 
 use crate::machine::Core;
-use crate::sight::Sight;
+use crate::tracker_world::TrackerWorld;
 use alloc_event::{Forest, Node};
 use buffer_holds::Holds;
 use sm_names::{Call, CollectionId, Condition, NoMemory, Reply};
@@ -95,7 +95,7 @@ pub(crate) fn place_to_sweep(
         return changed;
     }
     let tracker = tracking?;
-    if holds_in(tracker.condition, &Sight { forest, holds }) {
+    if holds_in(tracker.condition, &TrackerWorld { forest, holds }) {
         Some(tracker.collection)
     } else {
         None
@@ -122,6 +122,6 @@ pub(crate) fn sweep(
         return;
     }
     if let Some(id) = collection {
-        trackers.sweep(event, id, &Sight { forest, holds });
+        trackers.sweep(event, id, &TrackerWorld { forest, holds });
     }
 }

@@ -16,7 +16,7 @@ use Rattle.event_facts.specs.Facts.{holders_in}
 use Rattle.script_lines.specs.Labels.{label_text}
 use Rattle.script_labels.specs.Names.{Names, label_of_node, label_of_tracker}
 use Rattle.script_labels.specs.Texts.{node_text}
-use Rattle.script_tales.specs.FactTexts.{buffer_name, holders_text, joined}
+use Rattle.script_tales.specs.FactTexts.{buffer_name, holders_text, concat}
 use Rattle.script_pictures.specs.declared.features.Class.{Class}
 use Rattle.script_pictures.specs.declared.picture.Tree.{Tree}
 use Rattle.script_pictures.specs.declared.travel.Travel.{Travel}
@@ -41,7 +41,7 @@ link_words = codes "  edge [fontname=\"DejaVu Sans Mono\", fontsize=11, color=\"
 
 -- the begin of the graph, with the number of the event and its line
 unfoldable pub graph_head : ℕ → List ℕ → List ℕ
-graph_head event line = joined
+graph_head event line = concat
     (codes "digraph sysmem {\n  graph [label=\"" ∷ header_text event line ∷ graph_words ∷ box_words ∷ link_words ∷ [])
 
 -- ---- the box of a node
@@ -61,7 +61,7 @@ width_text left key =
 
 -- how the box of a node looks
 unfoldable pub look_text : List NodeKey → Node → List ℕ
-look_text left n = joined (
+look_text left n = concat (
     codes ">, style=\"filled"
     ∷ border_text (class_of n)
     ∷ codes "\", fillcolor=\""
@@ -77,16 +77,16 @@ look_text left n = joined (
 -- the line of what the node asks for, if it said so
 abbrev pub asked_line : Option Demand → List ℕ
 asked_line None = []
-asked_line (Some asked) = joined (codes "<br/>" ∷ asked_words asked ∷ [])
+asked_line (Some asked) = concat (codes "<br/>" ∷ asked_words asked ∷ [])
 
 -- the begin of a box, with the label of its node
 unfoldable pub box_head : Names → Node → List ℕ
-box_head names n = joined
+box_head names n = concat
     (codes "    n" ∷ decimal n.event ∷ codes " [label=<<b>" ∷ label_text (label_of_node names n.key) ∷ codes "</b>" ∷ [])
 
 -- the lines of a box
 unfoldable pub box_lines : Names → Node → List ℕ
-box_lines names n = joined (
+box_lines names n = concat (
     codes "<br/>"
     ∷ state_words names n
     ∷ codes "<br/>"
@@ -99,13 +99,13 @@ box_lines names n = joined (
 
 -- the box of a node, in a tree of which these nodes left at the event
 unfoldable pub box_text : Names → List NodeKey → Node → List ℕ
-box_text names left n = joined (box_head names n ∷ box_lines names n ∷ look_text left n ∷ [])
+box_text names left n = concat (box_head names n ∷ box_lines names n ∷ look_text left n ∷ [])
 
 -- ---- the table of the buffers
 
 -- the cells of the buffer's name and pages, each begun so, and the begin of one more
 unfoldable pub cells_text : Names → List ℕ → HeldBuffer → List ℕ
-cells_text names begin held = joined (
+cells_text names begin held = concat (
     codes "<tr>"
     ∷ begin
     ∷ buffer_name names held.buffer
@@ -118,11 +118,11 @@ cells_text names begin held = joined (
 
 -- the live nodes that keep a buffer
 abbrev pub dot_live_words : Names → List NodeKey → List ℕ
-dot_live_words names nodes = if length nodes == 0 then [] else joined (codes "live:" ∷ flat_map (node_text names) nodes ∷ [])
+dot_live_words names nodes = if length nodes == 0 then [] else concat (codes "live:" ∷ flat_map (node_text names) nodes ∷ [])
 
 -- the row of a buffer with pages
 unfoldable pub held_row : State → Names → List ℕ → List NodeKey → HeldBuffer → List ℕ
-held_row s names clients strong held = joined (
+held_row s names clients strong held = concat (
     cells_text names (codes "<td bgcolor=\"#FAF2CC\">") held
     ∷ dot_live_words names strong
     ∷ holders_text names (gap_behind strong) (holders_in s.holds clients held.buffer)
@@ -132,7 +132,7 @@ held_row s names clients strong held = joined (
 
 -- the row of a buffer that gave its pages back at the event
 unfoldable pub freed_row : Names → HeldBuffer → List ℕ
-freed_row names held = joined (cells_text names (codes "<td>") held ∷ codes "free again</td></tr>" ∷ [])
+freed_row names held = concat (cells_text names (codes "<td>") held ∷ codes "free again</td></tr>" ∷ [])
 
 -- what is set for the table, and its first row
 unfoldable pub table_words : List ℕ
@@ -145,7 +145,7 @@ has_table tree = not (length tree.held.items == 0) || not (length tree.freed.ite
 
 -- the table
 unfoldable pub table_text : State → Names → List ℕ → Tree → List ℕ
-table_text s names clients tree = joined (
+table_text s names clients tree = concat (
     codes "    b"
     ∷ decimal tree.id
     ∷ table_words
@@ -161,7 +161,7 @@ buffers_table s names clients tree = if has_table tree then table_text s names c
 
 -- the boxes of a tree and its table
 unfoldable pub cluster_text : State → Names → List ℕ → Tree → List ℕ
-cluster_text s names clients tree = joined (
+cluster_text s names clients tree = concat (
     codes "  subgraph cluster_"
     ∷ decimal tree.id
     ∷ codes " {\n    color=\"#BBBBBB\"; label=\"\";\n"
@@ -176,23 +176,23 @@ cluster_text s names clients tree = joined (
 -- when a tracker fired
 abbrev pub when_text : ℕ → ℕ → List ℕ
 when_text event fired =
-    let before = joined (codes " fired at event " ∷ decimal fired ∷ []) in
+    let before = concat (codes " fired at event " ∷ decimal fired ∷ []) in
     if fired == event then codes " fired now" else before
 
 -- that a tracker fired, now or before
 unfoldable pub firing_text : Names → ℕ → Fired → List ℕ
-firing_text names event firing = joined
+firing_text names event firing = concat
     (codes "\\ntracker " ∷ label_text (label_of_tracker names firing.tracker) ∷ when_text event firing.event ∷ [])
 
 -- that the foot stands below the table of the tree, if it has one
 unfoldable pub rank_text : Tree → List ℕ
 rank_text tree =
-    let below = joined (codes "  b" ∷ decimal tree.id ∷ codes " -> foot [style=invis];\n" ∷ []) in
+    let below = concat (codes "  b" ∷ decimal tree.id ∷ codes " -> foot [style=invis];\n" ∷ []) in
     if has_table tree then below else []
 
 -- how many pages are free
 unfoldable pub pool_words : State → List ℕ
-pool_words s = joined (
+pool_words s = concat (
     codes "  foot [shape=plaintext, label=\"pool: "
     ∷ decimal (views_of s).free
     ∷ codes " of "
@@ -203,7 +203,7 @@ pool_words s = joined (
 
 -- the pool, the firings, and the end of the graph
 unfoldable pub graph_foot : State → Names → List Tree → List ℕ
-graph_foot s names trees = joined (
+graph_foot s names trees = concat (
     pool_words s
     ∷ flat_map (firing_text names s.events) s.trackers.fired
     ∷ codes "\"];\n"
@@ -215,12 +215,12 @@ graph_foot s names trees = joined (
 -- ---- the links
 
 -- the parent of the node, if it has one
-abbrev pub parent_in : List Node → Node → Option Node
-parent_in nodes n = option_and_then (node_of nodes) n.parent
+abbrev pub parent_among : List Node → Node → Option Node
+parent_among nodes n = option_and_then (node_of nodes) n.parent
 
 -- how an arrow looks that a failure went along, at this step
 abbrev pub arrow_text : List ℕ → List ℕ → ℕ → List ℕ
-arrow_text direction width step = joined (
+arrow_text direction width step = concat (
     direction
     ∷ codes ", color=\"#D55E00\", penwidth="
     ∷ width
@@ -243,19 +243,19 @@ dot_way_text (Some (Way.Down step)) = arrow_text (codes "dir=forward") (codes "2
 dot_way_text (Some Way.Stop) = stop_words
 
 -- what stands before that
-abbrev pub begin_text : Node → List ℕ
-begin_text n = if n.attached then codes " [style=dashed, " else codes " ["
+abbrev pub link_begin : Node → List ℕ
+link_begin n = if n.attached then codes " [style=dashed, " else codes " ["
 
 -- the link from a parent that was born at this event
 abbrev pub link_text : ℕ → Node → Option Way → List ℕ
-link_text above n way = joined (
-    codes "  n" ∷ decimal above ∷ codes " -> n" ∷ decimal n.event ∷ begin_text n ∷ dot_way_text way ∷ codes "];\n" ∷ []
+link_text above n way = concat (
+    codes "  n" ∷ decimal above ∷ codes " -> n" ∷ decimal n.event ∷ link_begin n ∷ dot_way_text way ∷ codes "];\n" ∷ []
     )
 
 -- the link of the node to its parent, if it has one
 abbrev pub link_of : List Node → List Travel → Node → List ℕ
 link_of nodes travels n =
-    option_map_or (λ (above : Node). link_text above.event n (way_in travels n.key)) (parent_in nodes n) []
+    option_map_or (λ (above : Node). link_text above.event n (way_in travels n.key)) (parent_among nodes n) []
 
 -- whether the node has no child among these
 abbrev pub is_leaf : List Node → Node → Bool
@@ -271,7 +271,7 @@ middle_of events = slice_get events (length events / 2)
 
 -- the link from the middle leaf to the table
 abbrev pub table_link : ℕ → ℕ → List ℕ
-table_link id event = joined
+table_link id event = concat
     (codes "  n" ∷ decimal event ∷ codes " -> b" ∷ decimal id ∷ codes " [style=invis];\n" ∷ [])
 
 -- the same, if there are a table and a leaf
@@ -281,17 +281,17 @@ table_link_of tree =
 
 -- the links of a tree, and one that keeps its table below it
 unfoldable pub links_text : List Travel → Tree → List ℕ
-links_text travels tree = joined (flat_map (link_of tree.nodes.items travels) tree.nodes.items ∷ table_link_of tree ∷ [])
+links_text travels tree = concat (flat_map (link_of tree.nodes.items travels) tree.nodes.items ∷ table_link_of tree ∷ [])
 
 -- ---- the picture
 
 -- a tree: its boxes, its table and its links
 unfoldable pub dot_tree : State → Names → List ℕ → List Travel → Tree → List ℕ
-dot_tree s names clients travels tree = joined (cluster_text s names clients tree ∷ links_text travels tree ∷ [])
+dot_tree s names clients travels tree = concat (cluster_text s names clients tree ∷ links_text travels tree ∷ [])
 
 -- the picture of these trees behind the last event, of which this is the line, where failures went along these links
 unfoldable pub dot_text : State → Names → List ℕ → List Tree → List Travel → List ℕ
-dot_text s names last trees travels = joined (
+dot_text s names last trees travels = concat (
     graph_head s.events last
     ∷ flat_map (dot_tree s names (map (λ (c : Client). c.id) s.clients) travels) trees
     ∷ graph_foot s names trees

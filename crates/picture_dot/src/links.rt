@@ -1,11 +1,11 @@
 //! The links of a tree in the language of Graphviz.
 ghost use Rattle.std.specs.Prelude.{◌≡◌, ◌++◌, IfOk, List, OnOk};
 ghost use Rattle.std.specs.List.{flat_map};
-ghost use Rattle.forest_store.specs.declared.node.Node.{Node as Kept};
+ghost use Rattle.forest_store.specs.declared.node.Node.{Node as NodeValue};
 ghost use Rattle.script_pictures.specs.declared.travel.Travel.{Travel as Link};
 ghost use Rattle.script_pictures.specs.Kin.{AreParents, FindsNodes};
 ghost use Rattle.script_pictures.specs.Travels.{FindsTravels};
-ghost use Rattle.picture_dot.specs.DotPictures.{arrow_text, begin_text, dot_way_text, leaves_of as leaves_in, link_of, link_text, links_text, middle_of, parent_in, stop_words, table_link, table_link_of};
+ghost use Rattle.picture_dot.specs.DotPictures.{arrow_text, link_begin, dot_way_text, leaves_of as leaves_in, link_of, link_text, links_text, middle_of, parent_among, stop_words, table_link, table_link_of};
 
 use crate::tables::has_table;
 use alloc_event::Node;
@@ -50,7 +50,7 @@ fn push_each_link(
     by_key: &KeyMap<Node>,
     travels: &KeyMap<Travel>,
 ) -> Result<(), AllocError>
-    ensures { OnOk result ((all : List Kept) → FindsNodes by_key.now all →
+    ensures { OnOk result ((all : List NodeValue) → FindsNodes by_key.now all →
         (links : List Link) → FindsTravels travels.now links →
         text.new.items ≡ text.old.items ++ flat_map (link_of all links) nodes.now) }
 {
@@ -67,7 +67,7 @@ fn push_link_of(
     node: &Node,
     travels: &KeyMap<Travel>,
 ) -> Result<(), AllocError>
-    ensures { OnOk result ((all : List Kept) → FindsNodes by_key.now all →
+    ensures { OnOk result ((all : List NodeValue) → FindsNodes by_key.now all →
         (links : List Link) → FindsTravels travels.now links →
         text.new.items ≡ text.old.items ++ link_of all links node.now) }
 {
@@ -79,7 +79,7 @@ fn push_link_of(
 
 // The parent of the node, if it has one.
 fn parent_of(by_key: &KeyMap<Node>, node: &Node) -> Option<Node>
-    ensures { (all : List Kept) → FindsNodes by_key.now all → result ≡ parent_in all node.now }
+    ensures { (all : List NodeValue) → FindsNodes by_key.now all → result ≡ parent_among all node.now }
 {
     match node.parent {
         Some(parent) => by_key.get(parent).copied(),
@@ -113,7 +113,7 @@ fn push_link(
 
 // What stands before how a link looks.
 fn begin_of(node: &Node) -> &'static str
-    ensures { result.now ≡ begin_text node.now }
+    ensures { result.now ≡ link_begin node.now }
 {
     if node.attached {
         " [style=dashed, "

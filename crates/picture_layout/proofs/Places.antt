@@ -6,7 +6,7 @@ use Rattle.forest_store.specs.declared.node.Node.{Node}
 use Rattle.forest_store.specs.Nodes.{is_of}
 use Rattle.picture_layout.specs.declared.layout.Corner.{Corner}
 use Rattle.picture_layout.specs.declared.layout.NodeBox.{NodeBox}
-use Rattle.picture_layout.specs.Layouts.{box_of, boxes_from, column_of, columns_from, parent_at, place_from, taken_columns}
+use Rattle.picture_layout.specs.Layouts.{box_of, boxes_from, column_of, columns_from, parent_place, place_from, taken_columns}
 
 -- one more comes last
 pub place-more : (key : NodeKey) (at : ℕ) (ns : List Node) (n : Node) →
@@ -26,13 +26,13 @@ place-more key at (m ∷ ns) n =
 
 -- one more column, and the columns behind it are those that are left
 pub column-more : (parents : List (Option ℕ)) (widths : List ℕ) (n at : ℕ) (old new columns more : List ℕ) → at < n →
-    more ≡ columns ++ column_of old (parent_at parents at) ∷ [] → new ≡ taken_columns parents widths at old →
+    more ≡ columns ++ column_of old (parent_place parents at) ∷ [] → new ≡ taken_columns parents widths at old →
     more ++ columns_from parents widths (n - (at + 1)) (at + 1) new ≡ columns ++ columns_from parents widths (n - at) at old
 column-more parents widths n at old new columns more within pushed taken =
     let left : ℕ = n - (at + 1) in
     let one : n - at ≡ suc left = omega arith in
     (λ i. pushed i ++ columns_from parents widths left (at + 1) (taken i))
-    ∙ (append_assoc columns (column_of old (parent_at parents at) ∷ []) (columns_from parents widths left (at + 1) (taken_columns parents widths at old))
+    ∙ (append_assoc columns (column_of old (parent_place parents at) ∷ []) (columns_from parents widths left (at + 1) (taken_columns parents widths at old))
     ∙ sym (ap (λ (k : ℕ). columns ++ columns_from parents widths k at old) one))
 
 -- none is left

@@ -40,8 +40,8 @@ abbrev pub with_number : List ℕ → ℕ → ℕ → List ℕ
 with_number numbers at n = if nat_lt at (length numbers) then set numbers at n else numbers
 
 -- the place that is there at this one
-abbrev pub parent_at : List (Option ℕ) → ℕ → Option ℕ
-parent_at parents at = option_map_or (λ p. p) (slice_get parents at) None
+abbrev pub parent_place : List (Option ℕ) → ℕ → Option ℕ
+parent_place parents at = option_map_or (λ p. p) (slice_get parents at) None
 
 -- ---- columns
 
@@ -55,7 +55,7 @@ abbrev pub own_width : List ℕ → ℕ → ℕ
 own_width widths at = max (number_at widths at) 1
 
 unfoldable pub widened : List (Option ℕ) → ℕ → List ℕ → List ℕ
-widened parents at widths = more_above (own_width widths at) (with_number widths at (own_width widths at)) (parent_at parents at)
+widened parents at widths = more_above (own_width widths at) (with_number widths at (own_width widths at)) (parent_place parents at)
 
 -- the same of so many nodes, the last first
 abbrev pub widened_all : ℕ → List (Option ℕ) → List ℕ → List ℕ
@@ -84,13 +84,13 @@ less_above width free (Some parent) = with_number free parent (capped_sum (numbe
 
 unfoldable pub taken_columns : List (Option ℕ) → List ℕ → ℕ → List ℕ → List ℕ
 taken_columns parents widths at free =
-    with_number (less_above (number_at widths at) free (parent_at parents at)) at (column_of free (parent_at parents at))
+    with_number (less_above (number_at widths at) free (parent_place parents at)) at (column_of free (parent_place parents at))
 
 -- the first column of each of so many nodes, from this place on
 abbrev pub columns_from : List (Option ℕ) → List ℕ → ℕ → ℕ → List ℕ → List ℕ
 columns_from parents widths zero at free = []
 columns_from parents widths (suc n) at free =
-    column_of free (parent_at parents at) ∷ columns_from parents widths n (at + 1) (taken_columns parents widths at free)
+    column_of free (parent_place parents at) ∷ columns_from parents widths n (at + 1) (taken_columns parents widths at free)
 
 unfoldable pub columns_of : List (Option ℕ) → List ℕ → List ℕ
 columns_of parents widths = columns_from parents widths (length parents) 0 (replicate (length parents) 0)
@@ -124,7 +124,7 @@ abbrev pub box_of : Corner → List (Option ℕ) → List Corner → List NodeKe
 box_of start parents corners left at n = record {
   node = n;
   corner = corner_or start corners at;
-  above = option_map (corner_or start corners) (parent_at parents at);
+  above = option_map (corner_or start corners) (parent_place parents at);
   left = list_any (same_key n.key) left;
 }
 

@@ -6,7 +6,7 @@ ghost use Rattle.std.specs.Option.{option_map};
 ghost use Rattle.sm_names.specs.declared.keys.NodeKey.{NodeKey as Key};
 ghost use Rattle.forest_store.specs.declared.node.Node.{Node as Kept};
 ghost use Rattle.event_facts.specs.KeyMaps.{HasKeys};
-ghost use Rattle.picture_layout.specs.Layouts.{FindsPlaces, box_of, boxes_from, boxes_of as all_boxes, column_of, columns_of as all_columns, corner_at as corner_in, corner_of, corner_or as corner_in_or, corners_of as all_corners, depth_below, depths_of as all_depths, lowest_of, number_at as number_in, parent_at as parent_in, place_above, places_above, rightmost_of, taken_columns, widened, widths_of as all_widths, with_number as with_number_in};
+ghost use Rattle.picture_layout.specs.Layouts.{FindsPlaces, box_of, boxes_from, boxes_of as all_boxes, column_of, columns_of as all_columns, corner_at as corner_in, corner_of, corner_or as corner_in_or, corners_of as all_corners, depth_below, depths_of as all_depths, lowest_of, number_at as number_in, parent_place, place_above, places_above, rightmost_of, taken_columns, widened, widths_of as all_widths, with_number as with_number_in};
 
 use crate::lengths::{minus, plus, times};
 use alloc_event::Node;
@@ -148,7 +148,7 @@ fn set_number(numbers: &mut Vec<u64>, at: usize, number: u64)
 
 // The place of the parent of the node at this one.
 fn parent_at(parents: &[Option<usize>], at: usize) -> Option<usize>
-    ensures { result ≡ parent_in parents.now at }
+    ensures { result ≡ parent_place parents.now at }
 {
     match parents.get(at) {
         Some(parent) => *parent,

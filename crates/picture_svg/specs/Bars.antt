@@ -3,11 +3,12 @@ use Rattle.std.specs.Prelude.{ℕ, ◌+◌, ◌==◌, max, Bool, false, if◌the
 use Rattle.std.specs.List.{filter, flat_map, fold, range_with_len}
 use Rattle.sm_names.specs.declared.keys.HeldBuffer.{HeldBuffer}
 use Rattle.sm_names.specs.declared.keys.NodeKey.{NodeKey}
+use Rattle.sm_names.specs.declared.rules.TheConstants.{MAX_BUFFERS}
 use Rattle.core_state.specs.State.{State}
 use Rattle.event_facts.specs.Facts.{holders_in}
 use Rattle.script_labels.specs.Names.{Names}
 use Rattle.script_labels.specs.Texts.{node_text}
-use Rattle.script_tales.specs.FactTexts.{buffer_name, holders_text, joined}
+use Rattle.script_tales.specs.FactTexts.{buffer_name, holders_text, concat}
 use Rattle.script_pictures.specs.declared.picture.Tree.{Tree}
 use Rattle.script_pictures.specs.Features.{pages_text}
 use Rattle.picture_layout.specs.declared.layout.TheConstants.{COLUMN_GAP}
@@ -35,18 +36,18 @@ shown_in b = record {
 
 -- its name and pages
 unfoldable pub buffer_line : Names → HeldBuffer → List ℕ
-buffer_line names held = joined (buffer_name names held.buffer ∷ codes "  " ∷ pages_text held.pages ∷ [])
+buffer_line names held = concat (buffer_name names held.buffer ∷ codes "  " ∷ pages_text held.pages ∷ [])
 
 -- the live nodes that keep it, if there are some, and what stands before the handles
 abbrev pub live_part : Names → List NodeKey → List ℕ
-live_part names nodes = if length nodes == 0 then [] else joined (codes "live nodes" ∷ flat_map (node_text names) nodes ∷ [])
+live_part names nodes = if length nodes == 0 then [] else concat (codes "live nodes" ∷ flat_map (node_text names) nodes ∷ [])
 
 abbrev pub words_before : List NodeKey → List ℕ
 words_before nodes = if length nodes == 0 then codes "handles: " else codes "; handles: "
 
 -- who keeps it
 unfoldable pub kept_line : State → Names → List ℕ → List NodeKey → HeldBuffer → List ℕ
-kept_line s names clients strong held = joined (
+kept_line s names clients strong held = concat (
     codes "kept by "
     ∷ live_part names strong
     ∷ holders_text names (words_before strong) (holders_in s.holds clients held.buffer)
@@ -86,7 +87,7 @@ unfoldable pub shown_to : State → Names → List ℕ → Tree → ℕ → List
 shown_to s names clients tree count = flat_map (λ shown. shown) (map (shown_at s names clients tree) (range_with_len 0 count))
 
 abbrev pub shown_of : State → Names → List ℕ → Tree → List Shown
-shown_of s names clients tree = shown_to s names clients tree 64
+shown_of s names clients tree = shown_to s names clients tree MAX_BUFFERS
 
 -- ---- how they are drawn
 
@@ -94,15 +95,15 @@ abbrev pub bar_paint : Shown → Paint
 bar_paint b = record { rounded = 3; fill = b.fill; stroke = codes "#7A6A00"; stroke_width = []; dashes = b.dashes }
 
 -- the column of the words beside a buffer, where a box is so wide
-abbrev pub beside : ℕ → ℕ
-beside width = capped_sum (MARGIN + COLUMN_GAP) width
+abbrev pub words_column : ℕ → ℕ
+words_column width = capped_sum (MARGIN + COLUMN_GAP) width
 
 -- a buffer in this row, where a box is so wide
 unfoldable pub bar_text : ℕ → ℕ → Shown → List ℕ
-bar_text width y b = joined (
+bar_text width y b = concat (
     rect_text MARGIN y 216 22 (bar_paint b)
     ∷ words_text (MARGIN + 10) (capped_sum y 15) (look 12 false (codes "#222222") false) b.name
-    ∷ words_text (beside width) (capped_sum y 15) (look 12 false (codes "#222222") false) b.keepers
+    ∷ words_text (words_column width) (capped_sum y 15) (look 12 false (codes "#222222") false) b.keepers
     ∷ []
     )
 
@@ -113,7 +114,7 @@ bars_text width y (b ∷ bs) = bar_text width y b ++ bars_text width (capped_sum
 
 -- the last column of the words beside them, or this one
 unfoldable pub bars_right : ℕ → ℕ → List Shown → ℕ
-bars_right width right bars = fold (λ x b. max x (capped_sum (beside width) (capped_product 8 b.letters))) right bars
+bars_right width right bars = fold (λ x b. max x (capped_sum (words_column width) (capped_product 8 b.letters))) right bars
 
 -- the first row below them
 abbrev pub bars_bottom : ℕ → List Shown → ℕ

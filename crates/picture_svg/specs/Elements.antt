@@ -1,12 +1,12 @@
 -- The elements of a vector graphic.
 use Rattle.std.specs.Prelude.{ℕ, ◌==◌, nat_lt, Bool, if◌then◌else◌, List, [], ◌∷◌, codes, decimal, length}
-use Rattle.script_tales.specs.FactTexts.{joined}
+use Rattle.script_tales.specs.FactTexts.{concat}
 use Rattle.picture_svg.specs.declared.elements.Rect.{Rect}
 use Rattle.picture_svg.specs.declared.elements.Style.{Style}
 
 -- an attribute with this value, if it has one
 abbrev pub attribute : List ℕ → List ℕ → List ℕ
-attribute name value = if length value == 0 then [] else joined (codes " " ∷ name ∷ codes "=\"" ∷ value ∷ codes "\"" ∷ [])
+attribute name value = if length value == 0 then [] else concat (codes " " ∷ name ∷ codes "=\"" ∷ value ∷ codes "\"" ∷ [])
 
 -- ---- words
 
@@ -31,7 +31,7 @@ anchor_text middle = if middle then codes "\" text-anchor=\"middle\">" else code
 
 -- words that begin at this place, or have it in their middle
 unfoldable pub words_text : ℕ → ℕ → Look → List ℕ → List ℕ
-words_text x y l words = joined (
+words_text x y l words = concat (
     codes "<text x=\""
     ∷ decimal x
     ∷ codes "\" y=\""
@@ -67,10 +67,10 @@ paint_of r = record {
 }
 
 abbrev pub rounded_text : ℕ → List ℕ
-rounded_text rounded = if nat_lt 0 rounded then joined (codes " rx=\"" ∷ decimal rounded ∷ codes "\"" ∷ []) else []
+rounded_text rounded = if nat_lt 0 rounded then concat (codes " rx=\"" ∷ decimal rounded ∷ codes "\"" ∷ []) else []
 
 unfoldable pub paint_text : Paint → List ℕ
-paint_text p = joined (
+paint_text p = concat (
     rounded_text p.rounded
     ∷ attribute (codes "fill") p.fill
     ∷ attribute (codes "stroke") p.stroke
@@ -81,7 +81,7 @@ paint_text p = joined (
     )
 
 unfoldable pub corner_text : ℕ → ℕ → ℕ → ℕ → List ℕ
-corner_text x y width height = joined (
+corner_text x y width height = concat (
     codes "<rect x=\""
     ∷ decimal x
     ∷ codes "\" y=\""
@@ -96,12 +96,12 @@ corner_text x y width height = joined (
 
 -- a rectangle with this corner, so wide and so high, that looks so
 unfoldable pub rect_text : ℕ → ℕ → ℕ → ℕ → Paint → List ℕ
-rect_text x y width height paint = joined (corner_text x y width height ∷ paint_text paint ∷ [])
+rect_text x y width height paint = concat (corner_text x y width height ∷ paint_text paint ∷ [])
 
 -- ---- the number of a step, in a circle
 
 unfoldable pub circle_text : ℕ → ℕ → ℕ → ℕ → List ℕ
-circle_text x y below step = joined (
+circle_text x y below step = concat (
     codes "<circle cx=\""
     ∷ decimal x
     ∷ codes "\" cy=\""

@@ -2,7 +2,7 @@
 use Rattle.std.specs.Prelude.{ℕ, ◌-◌, ◌/◌, if◌then◌else◌, List, [], ◌∷◌, codes, decimal, Option, Some, None}
 use Rattle.std.specs.Option.{option_map_or}
 use Rattle.forest_store.specs.declared.node.Node.{Node}
-use Rattle.script_tales.specs.FactTexts.{joined}
+use Rattle.script_tales.specs.FactTexts.{concat}
 use Rattle.script_pictures.specs.declared.travel.Travel.{Travel}
 use Rattle.script_pictures.specs.declared.travel.Way.{Way}
 use Rattle.script_pictures.specs.Travels.{way_in}
@@ -16,7 +16,7 @@ use Rattle.picture_svg.specs.Elements.{attribute, circle_text}
 
 -- a path from a corner down or up to a row, along it, and on to its end
 unfoldable pub path_text : ℕ → ℕ → ℕ → ℕ → ℕ → List ℕ
-path_text a b middle x y = joined (
+path_text a b middle x y = concat (
     codes "<path d=\"M"
     ∷ decimal a
     ∷ codes " "
@@ -62,23 +62,23 @@ abbrev pub line_dashes : Node → List ℕ
 line_dashes n = if n.attached then codes "7 5" else []
 
 unfoldable pub line_start : Option Way → List ℕ
-line_start way = joined
+line_start way = concat
     (codes "\" fill=\"none\" stroke=\"" ∷ line_color way ∷ codes "\" stroke-width=\"" ∷ line_width way ∷ codes "\"" ∷ [])
 
-unfoldable pub line_text : Node → Option Way → List ℕ
-line_text n way = joined (line_start way ∷ attribute (codes "stroke-dasharray") (line_dashes n) ∷ [])
+unfoldable pub svg_line : Node → Option Way → List ℕ
+svg_line n way = concat (line_start way ∷ attribute (codes "stroke-dasharray") (line_dashes n) ∷ [])
 
 -- ---- its end
 
 -- an arrow, and the number of the step at which a failure went along the link
-unfoldable pub arrow_text : Corner → ℕ → List ℕ
-arrow_text to step =
+unfoldable pub svg_arrow : Corner → ℕ → List ℕ
+svg_arrow to step =
     let row = capped_sum (middle_row to.y) 13 in
-    joined (codes " marker-end=\"url(#a)\"/>\n" ∷ circle_text to.x row (capped_sum row 4) step ∷ [])
+    concat (codes " marker-end=\"url(#a)\"/>\n" ∷ circle_text to.x row (capped_sum row 4) step ∷ [])
 
 -- the bar where a failure stopped
-unfoldable pub stop_text : ℕ → ℕ → ℕ → ℕ → ℕ → List ℕ
-stop_text left row right x y = joined (
+unfoldable pub svg_stop : ℕ → ℕ → ℕ → ℕ → ℕ → List ℕ
+svg_stop left row right x y = concat (
     codes "<path d=\"M"
     ∷ decimal left
     ∷ codes " "
@@ -97,30 +97,30 @@ stop_text left row right x y = joined (
     ∷ []
     )
 
-unfoldable pub bar_text : Corner → List ℕ
-bar_text to = joined
-    (codes "/>\n" ∷ stop_text (to.x - 16) (to.y - 10) (capped_sum to.x 16) (capped_sum to.x 22) (to.y - 6) ∷ [])
+unfoldable pub svg_stop_end : Corner → List ℕ
+svg_stop_end to = concat
+    (codes "/>\n" ∷ svg_stop (to.x - 16) (to.y - 10) (capped_sum to.x 16) (capped_sum to.x 22) (to.y - 6) ∷ [])
 
-abbrev pub end_text : Corner → Option Way → List ℕ
-end_text to None = codes "/>\n"
-end_text to (Some (Way.Up step)) = arrow_text to step
-end_text to (Some (Way.Down step)) = arrow_text to step
-end_text to (Some Way.Stop) = bar_text to
+abbrev pub svg_end : Corner → Option Way → List ℕ
+svg_end to None = codes "/>\n"
+svg_end to (Some (Way.Up step)) = svg_arrow to step
+svg_end to (Some (Way.Down step)) = svg_arrow to step
+svg_end to (Some Way.Stop) = svg_stop_end to
 
 -- ---- the link
 
 -- the link of a node, from below its parent's box to above its own, along which failures went so
-unfoldable pub link_text : Node → Corner → Corner → Option Way → List ℕ
-link_text n from to way = joined (way_path from to way ∷ line_text n way ∷ end_text to way ∷ [])
+unfoldable pub svg_link : Node → Corner → Corner → Option Way → List ℕ
+svg_link n from to way = concat (way_path from to way ∷ svg_line n way ∷ svg_end to way ∷ [])
 
 -- the middle below a box that is so wide, and that above it
-abbrev pub foot_of : ℕ → Corner → Corner
-foot_of width c = record { x = capped_sum c.x (width / 2); y = capped_sum c.y BOX_HEIGHT }
+abbrev pub foot_corner : ℕ → Corner → Corner
+foot_corner width c = record { x = capped_sum c.x (width / 2); y = capped_sum c.y BOX_HEIGHT }
 
-abbrev pub head_of : ℕ → Corner → Corner
-head_of width c = record { x = capped_sum c.x (width / 2); y = c.y }
+abbrev pub head_corner : ℕ → Corner → Corner
+head_corner width c = record { x = capped_sum c.x (width / 2); y = c.y }
 
 -- the link of the node to its parent, if it has one
 unfoldable pub box_link : List Travel → ℕ → NodeBox → List ℕ
 box_link travels width s = option_map_or
-    (λ above. link_text s.node (foot_of width above) (head_of width s.corner) (way_in travels s.node.key)) s.above []
+    (λ above. svg_link s.node (foot_corner width above) (head_corner width s.corner) (way_in travels s.node.key)) s.above []

@@ -9,7 +9,7 @@ use Rattle.core_state.specs.Reads.{views_of}
 use Rattle.core_state.specs.State.{Client, State}
 use Rattle.script_lines.specs.Labels.{label_text}
 use Rattle.script_labels.specs.Names.{Names, label_of_node, label_of_tracker}
-use Rattle.script_tales.specs.FactTexts.{buffer_name, joined}
+use Rattle.script_tales.specs.FactTexts.{buffer_name, concat}
 use Rattle.script_pictures.specs.declared.features.Class.{Class}
 use Rattle.script_pictures.specs.declared.picture.Picture.{Picture}
 use Rattle.script_pictures.specs.declared.picture.ToldMark.{ToldMark}
@@ -19,7 +19,7 @@ use Rattle.script_pictures.specs.Colors.{edge_text, fill_text}
 use Rattle.picture_layout.specs.Lengths.{capped_product, capped_sum}
 use Rattle.picture_svg.specs.declared.elements.TheConstants.{MARGIN}
 use Rattle.picture_svg.specs.Elements.{Look, Paint, look, rect_text, words_text}
-use Rattle.picture_svg.specs.Trees.{dashes_text, node_lines, trees_bottom, trees_right, trees_text}
+use Rattle.picture_svg.specs.Trees.{dashes_text, node_lines, trees_bottom, trees_right, svg_trees}
 
 -- ---- the width of a box
 
@@ -53,9 +53,9 @@ fact_text y l words = words_text MARGIN (y - 12) l words
 abbrev pub mark_look : ToldMark → Look
 mark_look m = look 13 false (if m.fails then codes "#A84300" else codes "#222222") false
 
-abbrev pub marks_text : ℕ → List ToldMark → List ℕ
-marks_text y [] = []
-marks_text y (m ∷ ms) = fact_text y (mark_look m) m.line.items ++ marks_text (capped_sum y 18) ms
+abbrev pub svg_marks : ℕ → List ToldMark → List ℕ
+svg_marks y [] = []
+svg_marks y (m ∷ ms) = fact_text y (mark_look m) m.line.items ++ svg_marks (capped_sum y 18) ms
 
 abbrev pub marks_bottom : ℕ → List ToldMark → ℕ
 marks_bottom y [] = y
@@ -63,12 +63,12 @@ marks_bottom y (m ∷ ms) = marks_bottom (capped_sum y 18) ms
 
 -- the trackers that fired, from this row on
 abbrev pub fires_line : Names → Fired → List ℕ
-fires_line names firing = joined (codes "tracker " ∷ label_text (label_of_tracker names firing.tracker) ∷ codes " fires" ∷ [])
+fires_line names firing = concat (codes "tracker " ∷ label_text (label_of_tracker names firing.tracker) ∷ codes " fires" ∷ [])
 
-abbrev pub fires_text : Names → ℕ → List Fired → List ℕ
-fires_text names y [] = []
-fires_text names y (f ∷ fs) =
-    fact_text y (look 13 false (codes "#222222") false) (fires_line names f) ++ fires_text names (capped_sum y 18) fs
+abbrev pub svg_fires : Names → ℕ → List Fired → List ℕ
+svg_fires names y [] = []
+svg_fires names y (f ∷ fs) =
+    fact_text y (look 13 false (codes "#222222") false) (fires_line names f) ++ svg_fires names (capped_sum y 18) fs
 
 abbrev pub fires_bottom : ℕ → List Fired → ℕ
 fires_bottom y [] = y
@@ -94,11 +94,11 @@ unfoldable pub held_cell : Names → ℕ → ℕ → HeldBuffer → List ℕ
 held_cell names cell y held =
     let x = capped_sum (MARGIN + 48) (capped_product cell held.pages.start) in
     let width = capped_product cell held.pages.pages in
-    joined (rect_text x y width 20 (cell_paint (codes "#FAF2CC") (codes "#7A6A00")) ∷ cell_name names x y width held ∷ [])
+    concat (rect_text x y width 20 (cell_paint (codes "#FAF2CC") (codes "#7A6A00")) ∷ cell_name names x y width held ∷ [])
 
 -- so many pages in this row, and which buffers hold them
-unfoldable pub held_text : Names → ℕ → List HeldBuffer → ℕ → List ℕ
-held_text names y held pages = joined (
+unfoldable pub svg_held : Names → ℕ → List HeldBuffer → ℕ → List ℕ
+svg_held names y held pages = concat (
     words_text MARGIN (capped_sum y 14) (look 12 true (codes "#222222") false) (codes "pool")
     ∷ rect_text (MARGIN + 48) y (capped_product (page_width pages) pages) 20 (cell_paint (codes "#FFFFFF") (codes "#808080"))
     ∷ flat_map (held_cell names (page_width pages) y) held
@@ -107,15 +107,15 @@ held_text names y held pages = joined (
 
 -- how many pages are free, behind the pool
 abbrev pub free_line_text : ℕ → ℕ → List ℕ
-free_line_text free pages = joined (decimal free ∷ codes " of " ∷ decimal pages ∷ codes " pages free" ∷ [])
+free_line_text free pages = concat (decimal free ∷ codes " of " ∷ decimal pages ∷ codes " pages free" ∷ [])
 
 unfoldable pub free_words : ℕ → ℕ → ℕ → List ℕ
 free_words y free pages = words_text (capped_sum (MARGIN + 60) (capped_product (page_width pages) pages)) (capped_sum y 14)
     (look 12 false (codes "#222222") false) (free_line_text free pages)
 
 -- the pool in this row
-unfoldable pub pool_text : Names → ℕ → List HeldBuffer → ℕ → ℕ → List ℕ
-pool_text names y held free pages = joined (held_text names y held pages ∷ free_words y free pages ∷ [])
+unfoldable pub svg_pool : Names → ℕ → List HeldBuffer → ℕ → ℕ → List ℕ
+svg_pool names y held free pages = concat (svg_held names y held pages ∷ free_words y free pages ∷ [])
 
 -- ---- the legend
 
@@ -131,7 +131,7 @@ sample_paint class = record {
 
 -- that box, and the word for it
 unfoldable pub sample_text : ℕ → ℕ → Class → List ℕ → List ℕ
-sample_text x y class word = joined (
+sample_text x y class word = concat (
     rect_text x y 18 14 (sample_paint class)
     ∷ words_text (capped_sum x 26) (capped_sum y 12) (look 12 false (codes "#222222") false) word
     ∷ []
@@ -139,7 +139,7 @@ sample_text x y class word = joined (
 
 -- what each kind of box stands for
 unfoldable pub legend_text : ℕ → List ℕ
-legend_text y = joined (
+legend_text y = concat (
     sample_text MARGIN y Class.Live (codes "live")
     ∷ sample_text (MARGIN + 78) y Class.Orphan (codes "released")
     ∷ sample_text (MARGIN + 188) y Class.Origin (codes "failed first")
@@ -153,7 +153,7 @@ legend_text y = joined (
 
 -- the begin of a picture of this size
 unfoldable pub frame_text : ℕ → ℕ → List ℕ
-frame_text width height = joined (
+frame_text width height = concat (
     codes "<svg xmlns=\"http://www.w3.org/2000/svg\" width=\""
     ∷ decimal width
     ∷ codes "\" height=\""
@@ -172,24 +172,24 @@ frame_text width height = joined (
 abbrev pub clients_of : State → List ℕ
 clients_of s = map (λ (c : Client). c.id) s.clients
 
-abbrev pub fired_in : State → Picture → List Fired
-fired_in s picture = drop picture.fired s.trackers.fired
+abbrev pub fired_then : State → Picture → List Fired
+fired_then s picture = drop picture.fired s.trackers.fired
 
 -- the row of the first tree
 unfoldable pub trees_row : State → Picture → ℕ
-trees_row s picture = capped_sum (fires_bottom (marks_bottom (MARGIN + 50) picture.told.items) (fired_in s picture)) 8
+trees_row s picture = capped_sum (fires_bottom (marks_bottom (MARGIN + 50) picture.told.items) (fired_then s picture)) 8
 
 -- what the event did, below the title
-unfoldable pub told_text : State → Names → Picture → List ℕ
-told_text s names picture = joined (
-    marks_text (MARGIN + 50) picture.told.items
-    ∷ fires_text names (marks_bottom (MARGIN + 50) picture.told.items) (fired_in s picture)
+unfoldable pub svg_told : State → Names → Picture → List ℕ
+svg_told s names picture = concat (
+    svg_marks (MARGIN + 50) picture.told.items
+    ∷ svg_fires names (marks_bottom (MARGIN + 50) picture.told.items) (fired_then s picture)
     ∷ []
     )
 
 -- the trees
 unfoldable pub all_trees : State → Names → Picture → List ℕ
-all_trees s names picture = trees_text s names (clients_of s) picture.travels.items
+all_trees s names picture = svg_trees s names (clients_of s) picture.travels.items
     (box_width names picture.trees.items) (trees_row s picture) picture.trees.items
 
 -- the row of the pool, that of the legend, and the height of the picture
@@ -216,18 +216,18 @@ width_of s names picture = capped_sum (right_of s.pool (last_column s names pict
 
 -- what stands in the frame
 unfoldable pub body_text : State → Names → List ℕ → Picture → List ℕ
-body_text s names line picture = joined (
+body_text s names line picture = concat (
     title_text s.events line
-    ∷ told_text s names picture
+    ∷ svg_told s names picture
     ∷ all_trees s names picture
-    ∷ pool_text names (pool_row s names picture) (held_by_page s.forest) (views_of s).free s.pool
+    ∷ svg_pool names (pool_row s names picture) (held_by_page s.forest) (views_of s).free s.pool
     ∷ legend_text (legend_row s names picture)
     ∷ []
     )
 
 -- the picture behind the last event, of which this is the line
 unfoldable pub svg_text : State → Names → List ℕ → Picture → List ℕ
-svg_text s names line picture = joined (
+svg_text s names line picture = concat (
     frame_text (width_of s names picture) (height_of s names picture)
     ∷ body_text s names line picture
     ∷ codes "</svg>\n"

@@ -7,7 +7,7 @@ use Rattle.forest_store.specs.declared.node.Node.{Node}
 use Rattle.core_state.specs.State.{State}
 use Rattle.script_lines.specs.Labels.{label_text}
 use Rattle.script_labels.specs.Names.{Names, label_of_node}
-use Rattle.script_tales.specs.FactTexts.{joined}
+use Rattle.script_tales.specs.FactTexts.{concat}
 use Rattle.script_pictures.specs.declared.features.Class.{Class}
 use Rattle.script_pictures.specs.declared.picture.Tree.{Tree}
 use Rattle.script_pictures.specs.declared.travel.Travel.{Travel}
@@ -58,7 +58,7 @@ sign_text Class.Ended = 226 ∷ 151 ∷ 139 ∷ 32 ∷ []
 
 -- the name of the node
 abbrev pub name_words : Names → Node → List ℕ
-name_words names n = joined (sign_text (class_of n) ∷ label_text (label_of_node names n.key) ∷ [])
+name_words names n = concat (sign_text (class_of n) ∷ label_text (label_of_node names n.key) ∷ [])
 
 -- what it asks for, and where its end is
 abbrev pub lines_below : Names → Node → Option Demand → List (List ℕ)
@@ -74,22 +74,22 @@ abbrev pub line_items : Vec ℕ Global → List ℕ
 line_items line = line.items
 
 -- lines in a box, from this row on
-abbrev pub lines_text : ℕ → ℕ → List ℕ → List (List ℕ) → List ℕ
-lines_text x y fill [] = []
-lines_text x y fill (line ∷ lines) = words_text x y (look 12 false fill false) line ++ lines_text x (capped_sum y 16) fill lines
+abbrev pub svg_lines : ℕ → ℕ → List ℕ → List (List ℕ) → List ℕ
+svg_lines x y fill [] = []
+svg_lines x y fill (line ∷ lines) = words_text x y (look 12 false fill false) line ++ svg_lines x (capped_sum y 16) fill lines
 
 -- the name of a node and the lines below it, in a box with this corner
-unfoldable pub box_words : Names → Corner → Node → List ℕ
-box_words names c n = joined (
+unfoldable pub svg_box_words : Names → Corner → Node → List ℕ
+svg_box_words names c n = concat (
     words_text (capped_sum c.x 10) (capped_sum c.y 20) (look 15 true (ink_text (class_of n)) false) (name_words names n)
-    ∷ lines_text (capped_sum c.x 10) (capped_sum c.y 38) (ink_text (class_of n)) (node_lines names n)
+    ∷ svg_lines (capped_sum c.x 10) (capped_sum c.y 38) (ink_text (class_of n)) (node_lines names n)
     ∷ []
     )
 
 -- the box of a node, so wide, with its words
-unfoldable pub box_text : Names → ℕ → NodeBox → List ℕ
-box_text names width s =
-    joined (rect_text s.corner.x s.corner.y width BOX_HEIGHT (box_paint s.left s.node) ∷ box_words names s.corner s.node ∷ [])
+unfoldable pub svg_box : Names → ℕ → NodeBox → List ℕ
+svg_box names width s =
+    concat (rect_text s.corner.x s.corner.y width BOX_HEIGHT (box_paint s.left s.node) ∷ svg_box_words names s.corner s.node ∷ [])
 
 -- ---- trees
 
@@ -102,10 +102,10 @@ abbrev pub bars_row : ℕ → ℕ → Tree → ℕ
 bars_row width y tree = capped_sum (lowest_of y (tree_boxes width y tree)) (BOX_HEIGHT + 30)
 
 -- a tree from this row on: its links, its boxes, and its buffers
-unfoldable pub tree_text : State → Names → List ℕ → List Travel → ℕ → ℕ → Tree → List ℕ
-tree_text s names clients travels width y tree = joined (
+unfoldable pub svg_tree : State → Names → List ℕ → List Travel → ℕ → ℕ → Tree → List ℕ
+svg_tree s names clients travels width y tree = concat (
     flat_map (box_link travels width) (tree_boxes width y tree)
-    ∷ flat_map (box_text names width) (tree_boxes width y tree)
+    ∷ flat_map (svg_box names width) (tree_boxes width y tree)
     ∷ bars_text width (bars_row width y tree) (shown_of s names clients tree)
     ∷ []
     )
@@ -120,11 +120,11 @@ tree_right s names clients width y right tree =
     bars_right width (max right (rightmost_of width (tree_boxes width y tree))) (shown_of s names clients tree)
 
 -- the trees from this row on, one below the other
-abbrev pub trees_text : State → Names → List ℕ → List Travel → ℕ → ℕ → List Tree → List ℕ
-trees_text s names clients travels width y [] = []
-trees_text s names clients travels width y (t ∷ ts) =
-    tree_text s names clients travels width y t
-    ++ trees_text s names clients travels width (tree_bottom s names clients width y t) ts
+abbrev pub svg_trees : State → Names → List ℕ → List Travel → ℕ → ℕ → List Tree → List ℕ
+svg_trees s names clients travels width y [] = []
+svg_trees s names clients travels width y (t ∷ ts) =
+    svg_tree s names clients travels width y t
+    ++ svg_trees s names clients travels width (tree_bottom s names clients width y t) ts
 
 abbrev pub trees_bottom : State → Names → List ℕ → ℕ → ℕ → List Tree → ℕ
 trees_bottom s names clients width y [] = y

@@ -4,7 +4,7 @@ ghost use Rattle.std.specs.List.{filter};
 ghost use Rattle.script_labels.specs.Names.{Names};
 ghost use Rattle.script_labels.specs.Tables.{Keeps};
 ghost use Rattle.script_tales.specs.Called.{Calls};
-ghost use Rattle.picture_svg.specs.Bars.{bar_text, bars_bottom, bars_right, bars_text, beside as beside_box, buffer_line as line_of_buffer, freed_shown, has_index as has_index_in, held_shown, kept_line as line_of_keepers, live_part, shown_at, shown_in, shown_of, words_before as words_before_handles};
+ghost use Rattle.picture_svg.specs.Bars.{bar_text, bars_bottom, bars_right, bars_text, words_column, buffer_line as line_of_buffer, freed_shown, has_index as has_index_in, held_shown, kept_line as line_of_keepers, live_part, shown_at, shown_in, shown_of, words_before as words_before_handles};
 
 use crate::elements::{MARGIN, Rect, plain, push_rect, push_words};
 use picture_layout::{COLUMN_GAP, plus, times};
@@ -14,8 +14,11 @@ use script_pictures::colors::{EARTH, SAND, WHITE};
 use script_pictures::{Tree, push_pages};
 use script_tales::words::push_nodes;
 use script_tales::{Teller, push_holders};
-use sm_names::{ClientId, HeldBuffer, NodeKey};
+use sm_names::{ClientId, HeldBuffer, MAX_BUFFERS, NodeKey};
 use std::alloc::{AllocError, Global};
+
+// How many indices the buffers of a collection may have.
+const INDICES: u8 = MAX_BUFFERS as u8;
 
 // What is drawn of a buffer: its name and pages, who keeps it, for how many letters that has room, and its
 // colours.
@@ -46,7 +49,7 @@ pub(crate) fn bars_of(
         ≡ shown_of teller.now.session.core names clients.now.items tree.now) }
 {
     let mut bars = Vec::new(*clients.allocator());
-    for index in 0..64u8 {
+    for index in 0..INDICES {
         add_index(&mut bars, teller, clients, tree, index)?;
     }
     Ok(bars)
@@ -280,7 +283,7 @@ fn right_of(bars: &[Bar], width: u64, start: u64) -> u64
 
 // The column of the words beside a buffer, where a box is so wide.
 fn beside(width: u64) -> u64
-    ensures { result ≡ beside_box width }
+    ensures { result ≡ words_column width }
 {
     plus(MARGIN + COLUMN_GAP, width)
 }

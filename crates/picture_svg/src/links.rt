@@ -3,7 +3,7 @@ ghost use Rattle.std.specs.Prelude.{◌≡◌, ◌++◌, List, OnOk};
 ghost use Rattle.std.specs.List.{flat_map};
 ghost use Rattle.script_pictures.specs.declared.travel.Travel.{Travel as Step};
 ghost use Rattle.script_pictures.specs.Travels.{FindsTravels};
-ghost use Rattle.picture_svg.specs.Links.{arrow_text, bar_text, box_link, end_text, foot_of as foot_in, head_of as head_in, line_color, line_dashes, line_start, line_text, line_width, link_text, path_text, stop_text, way_path};
+ghost use Rattle.picture_svg.specs.Links.{svg_arrow, svg_stop_end, box_link, svg_end, foot_corner, head_corner, line_color, line_dashes, line_start, svg_line, line_width, svg_link, path_text, svg_stop, way_path};
 
 use crate::elements::{push_step, push_word};
 use alloc_event::Node;
@@ -56,7 +56,7 @@ fn push_box_link(
 
 // Where a link begins, below the middle of a box.
 fn foot_of(corner: Corner, width: u64) -> Corner
-    ensures { result ≡ foot_in width corner }
+    ensures { result ≡ foot_corner width corner }
 {
     Corner {
         x: plus(corner.x, width / 2),
@@ -66,7 +66,7 @@ fn foot_of(corner: Corner, width: u64) -> Corner
 
 // Where a link ends, above the middle of a box.
 fn head_of(corner: Corner, width: u64) -> Corner
-    ensures { result ≡ head_in width corner }
+    ensures { result ≡ head_corner width corner }
 {
     Corner {
         x: plus(corner.x, width / 2),
@@ -75,7 +75,7 @@ fn head_of(corner: Corner, width: u64) -> Corner
 }
 
 // Draws a link from above to a node, and how a failure followed it.
-#[tactic(auto, unfolding(crate::specs::Links::link_text))]
+#[tactic(auto, unfolding(crate::specs::Links::svg_link))]
 fn push_link(
     body: &mut Vec<u8>,
     node: &Node,
@@ -83,7 +83,7 @@ fn push_link(
     to: Corner,
     way: Option<Way>,
 ) -> Result<(), AllocError>
-    ensures { OnOk result (body.new.items ≡ body.old.items ++ link_text node.now from to way) }
+    ensures { OnOk result (body.new.items ≡ body.old.items ++ svg_link node.now from to way) }
 {
     push_way(body, from, to, way)?;
     push_line(body, node, way)?;
@@ -91,9 +91,9 @@ fn push_link(
 }
 
 // Appends how a link looks.
-#[tactic(auto, unfolding(crate::specs::Links::line_text))]
+#[tactic(auto, unfolding(crate::specs::Links::svg_line))]
 fn push_line(body: &mut Vec<u8>, node: &Node, way: Option<Way>) -> Result<(), AllocError>
-    ensures { OnOk result (body.new.items ≡ body.old.items ++ line_text node.now way) }
+    ensures { OnOk result (body.new.items ≡ body.old.items ++ svg_line node.now way) }
 {
     push_stroke(body, way)?;
     push_word(body, "stroke-dasharray", dashes_of(node))
@@ -149,7 +149,7 @@ fn dashes_of(node: &Node) -> &'static str
 
 // Draws the end of a link, and the step at which a failure followed it.
 fn push_end(body: &mut Vec<u8>, to: Corner, way: Option<Way>) -> Result<(), AllocError>
-    ensures { OnOk result (body.new.items ≡ body.old.items ++ end_text to way) }
+    ensures { OnOk result (body.new.items ≡ body.old.items ++ svg_end to way) }
 {
     match way {
         Some(Way::Up(step)) => push_arrow(body, to, step),
@@ -160,18 +160,18 @@ fn push_end(body: &mut Vec<u8>, to: Corner, way: Option<Way>) -> Result<(), Allo
 }
 
 // Draws the end of a link that a failure followed at this step.
-#[tactic(auto, unfolding(crate::specs::Links::arrow_text))]
+#[tactic(auto, unfolding(crate::specs::Links::svg_arrow))]
 fn push_arrow(body: &mut Vec<u8>, to: Corner, step: u64) -> Result<(), AllocError>
-    ensures { OnOk result (body.new.items ≡ body.old.items ++ arrow_text to step) }
+    ensures { OnOk result (body.new.items ≡ body.old.items ++ svg_arrow to step) }
 {
     push(body, " marker-end=\"url(#a)\"/>\n")?;
     push_step(body, to.x, plus(minus(to.y, ROW_GAP / 2), 13), step)
 }
 
 // Draws the end of a link at which a failure stopped.
-#[tactic(auto, unfolding(crate::specs::Links::bar_text))]
+#[tactic(auto, unfolding(crate::specs::Links::svg_stop_end))]
 fn push_bar(body: &mut Vec<u8>, to: Corner) -> Result<(), AllocError>
-    ensures { OnOk result (body.new.items ≡ body.old.items ++ bar_text to) }
+    ensures { OnOk result (body.new.items ≡ body.old.items ++ svg_stop_end to) }
 {
     push(body, "/>\n")?;
     push_stop(
@@ -243,10 +243,10 @@ fn push_bends(
 }
 
 // Draws a bar from this corner to this column, and at the other corner that a failure stopped.
-#[tactic(auto, unfolding(crate::specs::Links::stop_text))]
+#[tactic(auto, unfolding(crate::specs::Links::svg_stop))]
 fn push_stop(body: &mut Vec<u8>, start: Corner, right: u64, words: Corner) -> Result<(), AllocError>
     ensures { OnOk result (body.new.items
-        ≡ body.old.items ++ stop_text start.x start.y right words.x words.y) }
+        ≡ body.old.items ++ svg_stop start.x start.y right words.x words.y) }
 {
     push_parts(
         body,

@@ -8,7 +8,7 @@ ghost use Rattle.script_labels.specs.Tables.{Keeps};
 ghost use Rattle.script_tales.specs.Called.{Calls};
 ghost use Rattle.picture_svg.specs.Elements.{look, look_of, rect_text};
 ghost use Rattle.picture_svg.specs.Trees.{line_items};
-ghost use Rattle.picture_svg.specs.SvgPictures.{all_trees, body_text, box_width as width_of_box, cell_name, cell_paint, fact_text, fires_bottom, fires_line, fires_text, frame_text, free_line_text, free_words, height_of, held_cell, held_text, last_column, legend_text, longest_of as longest_in, mark_look, marks_bottom, marks_text, node_tenths as tenths_of_node, page_width as width_of_page, pool_row, pool_text, right_of, sample_paint, sample_text, svg_text, title_text, told_text, tree_tenths as tenths_of_tree, trees_row, width_of};
+ghost use Rattle.picture_svg.specs.SvgPictures.{all_trees, body_text, box_width as width_of_box, cell_name, cell_paint, fact_text, fires_bottom, fires_line, svg_fires, frame_text, free_line_text, free_words, height_of, held_cell, svg_held, last_column, legend_text, longest_of as longest_in, mark_look, marks_bottom, svg_marks, node_tenths as tenths_of_node, page_width as width_of_page, pool_row, svg_pool, right_of, sample_paint, sample_text, svg_text, title_text, svg_told, tree_tenths as tenths_of_tree, trees_row, width_of};
 
 use crate::bars::Extent;
 use crate::box_lines::node_lines;
@@ -196,10 +196,10 @@ fn push_title(body: &mut Vec<u8>, event: u64, line: &[u8]) -> Result<(), AllocEr
 }
 
 // Draws what the event did, in a line for each mark and each firing; answers the row of the trees.
-#[tactic(auto, unfolding(crate::specs::SvgPictures::told_text))]
+#[tactic(auto, unfolding(crate::specs::SvgPictures::svg_told))]
 fn push_told(body: &mut Vec<u8>, teller: &Teller, picture: &Picture) -> Result<u64, AllocError>
     ensures text { OnOk result ((names : Names) → Keeps teller.now.session.tables names →
-        body.new.items ≡ body.old.items ++ told_text teller.now.session.core names picture.now) }
+        body.new.items ≡ body.old.items ++ svg_told teller.now.session.core names picture.now) }
     ensures row { IfOk result (λ row. row ≡ trees_row teller.now.session.core picture.now) }
 {
     let row = push_marks(body, &picture.told, MARGIN + 50)?;
@@ -210,7 +210,7 @@ fn push_told(body: &mut Vec<u8>, teller: &Teller, picture: &Picture) -> Result<u
 
 // Draws these marks from this row on; answers the row below them.
 fn push_marks(body: &mut Vec<u8>, marks: &[ToldMark], row: u64) -> Result<u64, AllocError>
-    ensures text { OnOk result (body.new.items ≡ body.old.items ++ marks_text row marks.now) }
+    ensures text { OnOk result (body.new.items ≡ body.old.items ++ svg_marks row marks.now) }
     ensures row { IfOk result (λ below. below ≡ marks_bottom row marks.now) }
 {
     let mut y = row;
@@ -242,7 +242,7 @@ fn push_fires(
     row: u64,
 ) -> Result<u64, AllocError>
     ensures text { OnOk result ((names : Names) → Keeps tables.now names →
-        body.new.items ≡ body.old.items ++ fires_text names row fired.now) }
+        body.new.items ≡ body.old.items ++ svg_fires names row fired.now) }
     ensures row { IfOk result (λ below. below ≡ fires_bottom row fired.now) }
 {
     let mut y = row;
@@ -301,10 +301,10 @@ fn page_width(pages: u32) -> u64
 }
 
 // Draws the pages of the pool in this row, and which buffers hold them.
-#[tactic(auto, unfolding(crate::specs::SvgPictures::pool_text))]
+#[tactic(auto, unfolding(crate::specs::SvgPictures::svg_pool))]
 fn push_pool(body: &mut Vec<u8>, teller: &Teller, y: u64) -> Result<(), Stop>
     ensures { OnOk result ((names : Names) → Keeps teller.now.session.tables names →
-        body.new.items ≡ body.old.items ++ pool_text names y
+        body.new.items ≡ body.old.items ++ svg_pool names y
         (held_by_page teller.now.session.core.forest)
         (views_of teller.now.session.core).free teller.now.session.core.pool) }
 {
@@ -316,7 +316,7 @@ fn push_pool(body: &mut Vec<u8>, teller: &Teller, y: u64) -> Result<(), Stop>
 }
 
 // Draws so many pages in this row, and which buffers hold them.
-#[tactic(auto, unfolding(crate::specs::SvgPictures::held_text))]
+#[tactic(auto, unfolding(crate::specs::SvgPictures::svg_held))]
 fn push_held(
     body: &mut Vec<u8>,
     teller: &Teller,
@@ -325,7 +325,7 @@ fn push_held(
     y: u64,
 ) -> Result<(), AllocError>
     ensures { OnOk result ((names : Names) → Keeps teller.now.session.tables names →
-        body.new.items ≡ body.old.items ++ held_text names y held.now pages) }
+        body.new.items ≡ body.old.items ++ svg_held names y held.now pages) }
 {
     push_words(body, MARGIN, plus(y, 14), bold(12, INK), b"pool")?;
     push_row(body, times(page_width(pages), pages as u64), y)?;

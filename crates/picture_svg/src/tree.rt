@@ -6,7 +6,7 @@ ghost use Rattle.script_labels.specs.Tables.{Keeps};
 ghost use Rattle.script_pictures.specs.declared.travel.Travel.{Travel as Step};
 ghost use Rattle.script_pictures.specs.Travels.{FindsTravels};
 ghost use Rattle.script_tales.specs.Called.{Calls};
-ghost use Rattle.picture_svg.specs.Trees.{border_width, box_paint, box_text, box_words, dashes_text, line_items, lines_text, sign_text, tree_bottom, tree_boxes, tree_right, tree_text, trees_bottom, trees_right, trees_text};
+ghost use Rattle.picture_svg.specs.Trees.{border_width, box_paint, svg_box, svg_box_words, dashes_text, line_items, svg_lines, sign_text, tree_bottom, tree_boxes, tree_right, svg_tree, trees_bottom, trees_right, svg_trees};
 ghost use Rattle.picture_svg.specs.Elements.{rect_text};
 
 use crate::bars::{Extent, bars_of, push_bars};
@@ -57,7 +57,7 @@ pub(crate) fn push_trees(
 ) -> Result<Extent, AllocError>
     ensures text { OnOk result ((names : Names) → Keeps teller.now.session.tables names →
         Calls teller.now.labels names → (steps : List Step) → FindsTravels travels.now steps →
-        body.new.items ≡ body.old.items ++ trees_text teller.now.session.core names
+        body.new.items ≡ body.old.items ++ svg_trees teller.now.session.core names
         clients.now.items steps width row trees.now) }
     ensures bottom { IfOk result (λ extent. (names : Names) → Keeps teller.now.session.tables names →
         Calls teller.now.labels names → extent.bottom
@@ -99,7 +99,7 @@ fn push_tree(
 ) -> Result<Extent, AllocError>
     ensures text { OnOk result ((names : Names) → Keeps teller.now.session.tables names →
         Calls teller.now.labels names → (steps : List Step) → FindsTravels travels.now steps →
-        body.new.items ≡ body.old.items ++ tree_text teller.now.session.core names
+        body.new.items ≡ body.old.items ++ svg_tree teller.now.session.core names
         clients.now.items steps width above.bottom tree.now) }
     ensures bottom { IfOk result (λ extent. (names : Names) → Keeps teller.now.session.tables names →
         Calls teller.now.labels names → extent.bottom
@@ -138,7 +138,7 @@ fn push_boxes(
 ) -> Result<(), AllocError>
     ensures { OnOk result ((names : Names) → Keeps teller.now.session.tables names →
         Calls teller.now.labels names →
-        body.new.items ≡ body.old.items ++ flat_map (box_text names width) boxes.now) }
+        body.new.items ≡ body.old.items ++ flat_map (svg_box names width) boxes.now) }
 {
     for node_box in boxes {
         push_box(body, teller, node_box, width)?;
@@ -147,7 +147,7 @@ fn push_boxes(
 }
 
 // Draws the box of a node, and puts its words into it.
-#[tactic(auto, unfolding(crate::specs::Trees::box_text))]
+#[tactic(auto, unfolding(crate::specs::Trees::svg_box))]
 fn push_box(
     body: &mut Vec<u8>,
     teller: &Teller,
@@ -156,7 +156,7 @@ fn push_box(
 ) -> Result<(), AllocError>
     ensures { OnOk result ((names : Names) → Keeps teller.now.session.tables names →
         Calls teller.now.labels names →
-        body.new.items ≡ body.old.items ++ box_text names width node_box.now) }
+        body.new.items ≡ body.old.items ++ svg_box names width node_box.now) }
 {
     push_border(body, node_box, width)?;
     push_box_words(body, teller, &node_box.node, node_box.corner)
@@ -193,7 +193,7 @@ fn border_of(left: bool) -> &'static str
 }
 
 // Puts the words of a box into it.
-#[tactic(auto, unfolding(crate::specs::Trees::box_words))]
+#[tactic(auto, unfolding(crate::specs::Trees::svg_box_words))]
 fn push_box_words(
     body: &mut Vec<u8>,
     teller: &Teller,
@@ -202,7 +202,7 @@ fn push_box_words(
 ) -> Result<(), AllocError>
     ensures { OnOk result ((names : Names) → Keeps teller.now.session.tables names →
         Calls teller.now.labels names →
-        body.new.items ≡ body.old.items ++ box_words names corner node.now) }
+        body.new.items ≡ body.old.items ++ svg_box_words names corner node.now) }
 {
     let alloc = *body.allocator();
     let name = node_name(alloc, &teller.session.tables, node)?;
@@ -222,7 +222,7 @@ fn push_lines(
     lines: &[Vec<u8>],
 ) -> Result<(), AllocError>
     ensures { OnOk result (body.new.items
-        ≡ body.old.items ++ lines_text x row fill.now (map line_items lines.now)) }
+        ≡ body.old.items ++ svg_lines x row fill.now (map line_items lines.now)) }
 {
     let mut y = row;
     let mut rest = lines;

@@ -5,7 +5,7 @@ use Rattle.std.specs.List.{flat_map}
 use Rattle.script_labels.specs.Names.{Names}
 use Rattle.forest_store.specs.declared.node.Node.{Node}
 use Rattle.picture_text.specs.declared.outline.Row.{Row}
-use Rattle.picture_text.specs.Outlines.{Line, Twig, first_branches, is_end, line_of, line_of_branch, lines_from, outline, twig, twigs, twigs_below}
+use Rattle.picture_text.specs.Outlines.{Line, Twig, first_branches, is_end, line_of_row, line_of_branch, outline_from, outline, twig, twigs, twigs_below}
 use Rattle.picture_text.specs.TextPictures.{row_width, widest, widest_row}
 
 -- a node that another comes behind is not the last
@@ -40,56 +40,56 @@ child_more stem depth last all left c old new rest top =
     ∙ ap (λ (ts : List Twig). ts ++ reverse old) (sym (ap (twigs stem depth last) rest ∙ twigs_more stem depth last left c)))
 
 -- the root alone stands first and last
-pub begun : (nodes : List Node) (ts : List Twig) → ts ≡ first_branches nodes → lines_from (length nodes - 0) nodes (reverse ts) ≡ outline nodes
+pub begun : (nodes : List Node) (ts : List Twig) → ts ≡ first_branches nodes → outline_from (length nodes - 0) nodes (reverse ts) ≡ outline nodes
 begun nodes ts is =
     let all : length nodes - 0 ≡ length nodes = omega arith in
-    (λ i. lines_from (all i) nodes (reverse (is i))) ∙ alone nodes
+    (λ i. outline_from (all i) nodes (reverse (is i))) ∙ alone nodes
   where
-    alone : (ns : List Node) → lines_from (length nodes) nodes (reverse (first_branches ns)) ≡ lines_from (length nodes) nodes (first_branches ns)
+    alone : (ns : List Node) → outline_from (length nodes) nodes (reverse (first_branches ns)) ≡ outline_from (length nodes) nodes (first_branches ns)
     alone [] = refl
     alone (root ∷ others) = refl
 
 -- one more line, and the children of its node wait in front of the others
 pub line_more : (nodes : List Node) (at : ℕ) (lines : List Line) (t : Twig) (old left new : List Twig) → at < length nodes →
     old ≡ left ++ t ∷ [] → reverse new ≡ twigs_below nodes t ++ reverse left →
-    (lines ++ line_of_branch t ∷ []) ++ lines_from (length nodes - (at + 1)) nodes (reverse new)
-    ≡ lines ++ lines_from (length nodes - at) nodes (reverse old)
+    (lines ++ line_of_branch t ∷ []) ++ outline_from (length nodes - (at + 1)) nodes (reverse new)
+    ≡ lines ++ outline_from (length nodes - at) nodes (reverse old)
 line_more nodes at lines t old left new more top below =
     let n : ℕ = length nodes - (at + 1) in
     let one : length nodes - at ≡ suc n = omega arith in
     let first : reverse old ≡ t ∷ reverse left = ap reverse top ∙ turned left t in
-    append_assoc lines (line_of_branch t ∷ []) (lines_from n nodes (reverse new))
-    ∙ (ap (λ (ts : List Twig). lines ++ line_of_branch t ∷ lines_from n nodes ts) below
-    ∙ sym (λ i. lines ++ lines_from (one i) nodes (first i)))
+    append_assoc lines (line_of_branch t ∷ []) (outline_from n nodes (reverse new))
+    ∙ (ap (λ (ts : List Twig). lines ++ line_of_branch t ∷ outline_from n nodes ts) below
+    ∙ sym (λ i. lines ++ outline_from (one i) nodes (first i)))
 
 -- no line is left where no node waits
-lines_none : (n : ℕ) (nodes : List Node) → lines_from n nodes [] ≡ []
+lines_none : (n : ℕ) (nodes : List Node) → outline_from n nodes [] ≡ []
 lines_none zero nodes = refl
 lines_none (suc n) nodes = refl
 
 -- the lines so far are all lines where no node waits
-pub none_waits : (n : ℕ) (nodes : List Node) (lines : List Line) (ts : List Twig) → ts ≡ [] → lines ++ lines_from n nodes (reverse ts) ≡ lines
+pub none_waits : (n : ℕ) (nodes : List Node) (lines : List Line) (ts : List Twig) → ts ≡ [] → lines ++ outline_from n nodes (reverse ts) ≡ lines
 none_waits n nodes lines ts none =
-    ap (λ (l : List Twig). lines ++ lines_from n nodes (reverse l)) none
+    ap (λ (l : List Twig). lines ++ outline_from n nodes (reverse l)) none
     ∙ (ap (λ (l : List Line). lines ++ l) (lines_none n nodes) ∙ append-nil lines)
 
 -- nor behind as many as there are nodes
 pub lines_end : (nodes : List Node) (at : ℕ) (lines : List Line) (ts : List Twig) → length nodes ≤ at →
-    lines ++ lines_from (length nodes - at) nodes ts ≡ lines
+    lines ++ outline_from (length nodes - at) nodes ts ≡ lines
 lines_end nodes at lines ts all =
     let none : length nodes - at ≡ 0 = omega arith in
-    ap (λ (n : ℕ). lines ++ lines_from n nodes ts) none ∙ append-nil lines
+    ap (λ (n : ℕ). lines ++ outline_from n nodes ts) none ∙ append-nil lines
 
 -- the widest row is the widest line
-pub widest_lines : (names : Names) (rows : List Row) → widest_row names rows ≡ widest names (map line_of rows)
+pub widest_lines : (names : Names) (rows : List Row) → widest_row names rows ≡ widest names (map line_of_row rows)
 widest_lines names rows = from rows 0
   where
-    from : (rs : List Row) (width : ℕ) → fold (λ width r. max width (row_width names (line_of r))) width rs
-        ≡ fold (λ width l. max width (row_width names l)) width (map line_of rs)
+    from : (rs : List Row) (width : ℕ) → fold (λ width r. max width (row_width names (line_of_row r))) width rs
+        ≡ fold (λ width l. max width (row_width names l)) width (map line_of_row rs)
     from [] width = refl
-    from (r ∷ rs) width = from rs (max width (row_width names (line_of r)))
+    from (r ∷ rs) width = from rs (max width (row_width names (line_of_row r)))
 
 -- texts of rows are texts of their lines
-pub texts_of_lines : (f : Line → List ℕ) (rows : List Row) → flat_map (λ r. f (line_of r)) rows ≡ flat_map f (map line_of rows)
+pub texts_of_lines : (f : Line → List ℕ) (rows : List Row) → flat_map (λ r. f (line_of_row r)) rows ≡ flat_map f (map line_of_row rows)
 texts_of_lines f [] = refl
-texts_of_lines f (r ∷ rs) = ap (λ (t : List ℕ). f (line_of r) ++ t) (texts_of_lines f rs)
+texts_of_lines f (r ∷ rs) = ap (λ (t : List ℕ). f (line_of_row r) ++ t) (texts_of_lines f rs)

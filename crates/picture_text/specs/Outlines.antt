@@ -13,8 +13,8 @@ pub record Line : Type 0 where
   pub columns : ℕ
 
 -- a row as that
-abbrev pub line_of : Row → Line
-line_of r = record { node = r.node; lines = r.lines.items; columns = r.columns }
+abbrev pub line_of_row : Row → Line
+line_of_row r = record { node = r.node; lines = r.lines.items; columns = r.columns }
 
 -- a node without a line: what leads to the lines of its parent's children, how deep it hangs, and whether it is the last of them
 pub record Twig : Type 0 where
@@ -75,11 +75,11 @@ first_branches [] = []
 first_branches (root ∷ others) = twig root [] 0 true ∷ []
 
 -- so many lines of these nodes: that of the first that waits, and then those of its children in front of the others that wait
-abbrev pub lines_from : ℕ → List Node → List Twig → List Line
-lines_from zero nodes waiting = []
-lines_from (suc n) nodes [] = []
-lines_from (suc n) nodes (next ∷ others) = line_of_branch next ∷ lines_from n nodes (twigs_below nodes next ++ others)
+abbrev pub outline_from : ℕ → List Node → List Twig → List Line
+outline_from zero nodes waiting = []
+outline_from (suc n) nodes [] = []
+outline_from (suc n) nodes (next ∷ others) = line_of_branch next ∷ outline_from n nodes (twigs_below nodes next ++ others)
 
 -- the outline of these nodes: the root first, and behind each node the lines of its children, by birth
 abbrev pub outline : List Node → List Line
-outline nodes = lines_from (length nodes) nodes (first_branches nodes)
+outline nodes = outline_from (length nodes) nodes (first_branches nodes)

@@ -16,12 +16,12 @@ use Rattle.script_lines.specs.Labels.{label_text}
 use Rattle.script_labels.specs.Names.{Names, label_of_node}
 use Rattle.script_labels.specs.Texts.{cause_text, fired_text, node_text}
 use Rattle.script_tales.specs.Called.{last_label, other_text}
-use Rattle.script_tales.specs.FactTexts.{buffer_name, holders_text, joined}
+use Rattle.script_tales.specs.FactTexts.{buffer_name, holders_text, concat}
 use Rattle.script_pictures.specs.declared.features.Class.{Class}
 use Rattle.script_pictures.specs.declared.picture.Tree.{Tree}
 use Rattle.script_pictures.specs.Features.{class_of, gap_behind, kind_text, pages_text, place_text}
 use Rattle.picture_text.specs.declared.outline.Row.{Row}
-use Rattle.picture_text.specs.Outlines.{Line, line_of, outline}
+use Rattle.picture_text.specs.Outlines.{Line, line_of_row, outline}
 use Rattle.picture_text.specs.declared.picture.TheConstants.{MOST_DRAWN}
 
 -- ---- the first line
@@ -32,13 +32,13 @@ colon event = if event == 0 then [] else codes ": "
 
 -- the number of the event and its line
 abbrev pub head_text : ℕ → List ℕ → List ℕ
-head_text event line = joined (codes "event " ∷ decimal event ∷ colon event ∷ line ∷ codes "\n" ∷ [])
+head_text event line = concat (codes "event " ∷ decimal event ∷ colon event ∷ line ∷ codes "\n" ∷ [])
 
 -- ---- the row of a node
 
 -- the words in parentheses, if there are some
 abbrev pub in_parentheses : List ℕ → List ℕ
-in_parentheses words = if length words == 0 then [] else joined (codes " (" ∷ words ∷ codes ")" ∷ [])
+in_parentheses words = if length words == 0 then [] else concat (codes " (" ∷ words ∷ codes ")" ∷ [])
 
 -- the label of the node's birth, and in parentheses the last under which its end was collected, if that is another
 abbrev pub full_name : Names → NodeKey → List ℕ
@@ -54,7 +54,7 @@ widest names rows = fold (λ width r. max width (row_width names r)) 0 rows
 
 -- the same of rows as they are kept
 abbrev pub widest_row : Names → List Row → ℕ
-widest_row names rows = fold (λ width r. max width (row_width names (line_of r))) 0 rows
+widest_row names rows = fold (λ width r. max width (row_width names (line_of_row r))) 0 rows
 
 -- spaces from so many columns up to this width
 abbrev pub spaces : ℕ → ℕ → List ℕ
@@ -62,7 +62,7 @@ spaces taken width = replicate (width - taken) 32
 
 -- the lines that lead to the node, and its name, up to this width
 abbrev pub name_cell : Names → ℕ → Line → List ℕ
-name_cell names width r = joined (r.lines ∷ full_name names r.node.key ∷ spaces (row_width names r) width ∷ [])
+name_cell names width r = concat (r.lines ∷ full_name names r.node.key ∷ spaces (row_width names r) width ∷ [])
 
 -- the sign of a node that left: a cross or a dot, in UTF-8
 abbrev pub sign_of_class : Class → List ℕ
@@ -82,7 +82,7 @@ released_text n = if n.released && n.gone then codes "released; " else []
 
 -- with whom the node fell, and why
 abbrev pub fallen_text : Names → Fault → List ℕ
-fallen_text names fault = joined (cause_text fault.cause ∷ codes ", origin " ∷ label_text (label_of_node names fault.origin) ∷ [])
+fallen_text names fault = concat (cause_text fault.cause ∷ codes ", origin " ∷ label_text (label_of_node names fault.origin) ∷ [])
 
 -- the state of a node of this class that failed so, if it failed
 abbrev pub state_of_class : Names → Class → Option Fault → List ℕ
@@ -109,36 +109,36 @@ weak_text n = if n.weak then codes "; weak" else []
 -- what the node asks for
 abbrev pub asked_text : Option Demand → List ℕ
 asked_text None = []
-asked_text (Some asked) = joined
+asked_text (Some asked) = concat
     (codes "; asks " ∷ decimal asked.camping ∷ codes " " ∷ decimal asked.at_least ∷ codes " " ∷ decimal asked.size ∷ [])
 
 -- what is said of the node behind its state
 abbrev pub facts_text : Names → Node → List ℕ
-facts_text names n = joined
+facts_text names n = concat
     (codes "; " ∷ kind_text n ∷ dispensable_text n ∷ weak_text n ∷ asked_text n.constraints ∷ codes "; " ∷ place_text names n.end ∷ codes "\n" ∷ [])
 
 -- the signs of a node
 abbrev pub signs_of_node : List NodeKey → Node → List ℕ
-signs_of_node left n = joined (codes "  " ∷ sign_of_class (class_of n) ∷ node_mark left n.key ∷ released_text n ∷ [])
+signs_of_node left n = concat (codes "  " ∷ sign_of_class (class_of n) ∷ node_mark left n.key ∷ released_text n ∷ [])
 
 -- the row of a node, in a tree of this width, of which these nodes left at the event
 abbrev pub row_text : Names → ℕ → List NodeKey → Line → List ℕ
-row_text names width left r = joined
+row_text names width left r = concat
     (name_cell names width r ∷ signs_of_node left r.node ∷ state_text names r.node ∷ facts_text names r.node ∷ [])
 
 -- the same, of what the program has as a row
 abbrev pub told_row : Names → ℕ → List NodeKey → Row → List ℕ
-told_row names width left r = row_text names width left (line_of r)
+told_row names width left r = row_text names width left (line_of_row r)
 
 -- ---- the row of a buffer
 
 -- the live nodes that keep a buffer
 abbrev pub live_text : Names → List NodeKey → List ℕ
-live_text names nodes = if length nodes == 0 then [] else joined (codes "live" ∷ flat_map (node_text names) nodes ∷ [])
+live_text names nodes = if length nodes == 0 then [] else concat (codes "live" ∷ flat_map (node_text names) nodes ∷ [])
 
 -- who keeps the buffer: live nodes, these clients and parcels
 abbrev pub keepers_text : State → Names → List ℕ → List NodeKey → HeldBuffer → List ℕ
-keepers_text s names clients strong held = joined (
+keepers_text s names clients strong held = concat (
     codes "; kept by "
     ∷ live_text names strong
     ∷ holders_text names (gap_behind strong) (holders_in s.holds clients held.buffer)
@@ -148,7 +148,7 @@ keepers_text s names clients strong held = joined (
 
 -- the name of the buffer, up to this width, and its pages
 abbrev pub pages_row : Names → ℕ → HeldBuffer → List ℕ
-pages_row names width held = joined (
+pages_row names width held = concat (
     buffer_name names held.buffer
     ∷ spaces (length (buffer_name names held.buffer)) width
     ∷ codes "     "
@@ -159,7 +159,7 @@ pages_row names width held = joined (
 -- the row of a buffer, in a tree of this width, of which these nodes are strong and live
 abbrev pub buffer_row : State → Names → List ℕ → ℕ → List NodeKey → HeldBuffer → List ℕ
 buffer_row s names clients width strong held =
-    joined (pages_row names width held ∷ keepers_text s names clients strong held ∷ [])
+    concat (pages_row names width held ∷ keepers_text s names clients strong held ∷ [])
 
 -- ---- the picture
 
@@ -168,7 +168,7 @@ abbrev pub tree_text : State → Names → List ℕ → Tree → List ℕ
 tree_text s names clients tree =
     let rows : List Line = outline tree.nodes.items in
     let width = widest names rows in
-    joined (
+    concat (
     codes "\n"
     ∷ flat_map (row_text names width tree.left.items) rows
     ∷ flat_map (buffer_row s names clients width tree.strong.items) tree.held.items
@@ -185,28 +185,28 @@ sign_of_page held page = if list_any (has_page page) held then 226 ∷ 150 ∷ 1
 
 -- the signs of so many pages
 abbrev pub signs_of_pages : List HeldBuffer → ℕ → List ℕ
-signs_of_pages held pages = joined (map (sign_of_page held) (range_with_len 0 pages))
+signs_of_pages held pages = concat (map (sign_of_page held) (range_with_len 0 pages))
 
 -- the signs of all pages of the pool, unless it has many
 abbrev pub pool_signs : List HeldBuffer → ℕ → List ℕ
-pool_signs held pages = if nat_lt MOST_DRAWN pages then [] else joined (signs_of_pages held pages ∷ codes " " ∷ [])
+pool_signs held pages = if nat_lt MOST_DRAWN pages then [] else concat (signs_of_pages held pages ∷ codes " " ∷ [])
 
 -- how many pages are free
 abbrev pub free_text : State → List ℕ
-free_text s = joined (decimal (views_of s).free ∷ codes " of " ∷ decimal s.pool ∷ codes " free\n" ∷ [])
+free_text s = concat (decimal (views_of s).free ∷ codes " of " ∷ decimal s.pool ∷ codes " free\n" ∷ [])
 
 -- the pool behind an empty line
 abbrev pub pool_text : State → List ℕ
-pool_text s = joined (codes "\npool " ∷ pool_signs (held_by_page s.forest) s.pool ∷ free_text s ∷ [])
+pool_text s = concat (codes "\npool " ∷ pool_signs (held_by_page s.forest) s.pool ∷ free_text s ∷ [])
 
 -- the trackers that fired, if some did
 abbrev pub fired_line : Names → List Fired → List ℕ
 fired_line names fired =
-    if length fired == 0 then [] else joined (codes "fired" ∷ flat_map (fired_text names) fired ∷ codes "\n" ∷ [])
+    if length fired == 0 then [] else concat (codes "fired" ∷ flat_map (fired_text names) fired ∷ codes "\n" ∷ [])
 
 -- the picture of these trees behind the last event, of which this is the line
 unfoldable pub picture_text : State → Names → List ℕ → List Tree → List ℕ
-picture_text s names last trees = joined (
+picture_text s names last trees = concat (
     head_text s.events last
     ∷ flat_map (tree_text s names (map (λ (c : Client). c.id) s.clients)) trees
     ∷ pool_text s

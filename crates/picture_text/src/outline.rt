@@ -2,7 +2,7 @@
 ghost use Rattle.std.specs.Prelude.{◌≡◌, ◌++◌, ◌∷◌, [], true, IfOk, OnOk, List, map, reverse};
 ghost use Rattle.forest_store.specs.declared.node.Node.{Node as Kept};
 ghost use Rattle.script_pictures.specs.Kin.{FindsChildren};
-ghost use Rattle.picture_text.specs.Outlines.{begin_text, branch_of, first_branches, line_of, line_of_branch, outline, stem_text, twig, twigs, twigs_below};
+ghost use Rattle.picture_text.specs.Outlines.{begin_text, branch_of, first_branches, line_of_row, line_of_branch, outline, stem_text, twig, twigs, twigs_below};
 
 use alloc_event::Node;
 use event_facts::KeyRows;
@@ -32,7 +32,7 @@ struct Branch {
 // O(n log n) for n nodes, and the lines.
 #[tactic(auto, using(crate::proofs::Branches::lines_end))]
 pub(crate) fn outline_of(nodes: &Vec<Node>) -> Result<Vec<Row>, AllocError>
-    ensures { IfOk result (λ rows. map line_of rows.items ≡ outline nodes.now.items) }
+    ensures { IfOk result (λ rows. map line_of_row rows.items ≡ outline nodes.now.items) }
 {
     let children = children_by_key(nodes)?;
     let mut rows = Vec::new(*nodes.allocator());
@@ -165,7 +165,7 @@ fn stem_words(depth: u64, last: bool) -> &'static str
 
 // The row of the node.
 fn row_of(next: Branch) -> Result<Row, AllocError>
-    ensures { IfOk result (λ row. line_of row ≡ line_of_branch (branch_of next)) }
+    ensures { IfOk result (λ row. line_of_row row ≡ line_of_branch (branch_of next)) }
 {
     let Branch {
         node,

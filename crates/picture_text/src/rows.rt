@@ -6,7 +6,7 @@ ghost use Rattle.event_facts.specs.KeyMaps.{HasKeys};
 ghost use Rattle.script_labels.specs.Names.{Names, label_of_node};
 ghost use Rattle.script_labels.specs.Tables.{Keeps};
 ghost use Rattle.script_tales.specs.Called.{Calls, last_label, other_text};
-ghost use Rattle.picture_text.specs.Outlines.{line_of};
+ghost use Rattle.picture_text.specs.Outlines.{line_of_row};
 ghost use Rattle.picture_text.specs.TextPictures.{asked_text, buffer_row, dispensable_text, facts_text, fallen_text, full_name as full_name_of, in_parentheses, keepers_text, live_text, name_cell, node_mark as mark_in, pages_row, released_text, row_text, row_width as width_of_row, sign_of_class, signs_of_node, state_text, told_row, weak_text, widest_row};
 
 use crate::outline::Row;
@@ -37,7 +37,7 @@ pub(crate) fn width_of(teller: &Teller, rows: &Vec<Row>) -> Result<u64, AllocErr
 // The columns of the lines that lead to the row's node, and of its name.
 fn row_width(teller: &Teller, row: &Row) -> Result<u64, AllocError>
     ensures { IfOk result (λ width. (names : Names) → Keeps teller.now.session.tables names →
-        Calls teller.now.labels names → width ≡ width_of_row names (line_of row.now)) }
+        Calls teller.now.labels names → width ≡ width_of_row names (line_of_row row.now)) }
 {
     let name = full_name(teller, row)?;
     Ok(row.columns.saturating_add(name.len() as u64))
@@ -101,7 +101,7 @@ pub(crate) fn push_rows(
 ) -> Result<(), AllocError>
     ensures { OnOk result ((names : Names) → Keeps teller.now.session.tables names →
         Calls teller.now.labels names → text.new.items ≡ text.old.items
-        ++ flat_map (λ r. row_text names width left.now (line_of r)) rows.now) }
+        ++ flat_map (λ r. row_text names width left.now (line_of_row r)) rows.now) }
 {
     let left = keys_of(*text.allocator(), left)?;
     push_each_row(text, teller, rows, &left, width)
@@ -148,7 +148,7 @@ fn push_row(
 fn push_name(text: &mut Vec<u8>, teller: &Teller, row: &Row, width: u64) -> Result<(), AllocError>
     ensures { OnOk result ((names : Names) → Keeps teller.now.session.tables names →
         Calls teller.now.labels names → text.new.items ≡ text.old.items
-        ++ name_cell names width (line_of row.now)) }
+        ++ name_cell names width (line_of_row row.now)) }
 {
     let name = full_name(teller, row)?;
     let taken = row.columns.saturating_add(name.len() as u64);

@@ -9,13 +9,14 @@ use Rattle.std.specs.Prelude.{IfSome, codes}
 use Rattle.std.specs.List.{list_all, flat_map}
 use Rattle.std.specs.Option.{option_map, option_and_then}
 use Rattle.std.specs.Str.{bytes_eq}
+use Rattle.script_lines.specs.declared.TheConstants.{MOST_LINE_BYTES}
 use Rattle.script_lines.specs.declared.buffer_label.BufferLabel.{BufferLabel}
 use Rattle.script_lines.specs.declared.label.Label.{Label}
 use Rattle.script_lines.specs.declared.line.Line.{Line}
 use Rattle.script_lines.specs.declared.line.Request.{Request}
 use Rattle.script_lines.specs.declared.line.View.{View}
 use Rattle.script_lines.specs.Labels.{is_digit, is_label, is_letter, label_of, packed, spelled, text_of_label}
-use Rattle.script_lines.specs.Lines.{argument_read, ask_of, asked_of, at_end, binds_read, call_of, first_read, is_silent, line_of, object_read, poll_of, request_of, said_of, show_of, view_of}
+use Rattle.script_lines.specs.Lines.{argument_read, ask_of, asked_of, at_end, binds_read, call_read, first_read, is_silent, line_of, object_read, poll_of, request_of, said_of, show_of, view_of}
 use Rattle.script_lines.specs.Words.{words}
 use Rattle.script_lines.proofs.Digits.{spelled-word}
 
@@ -168,7 +169,7 @@ poll-clean client (word ∷ rest) =
     some-end IsCleanLine rest _ (some-map IsCleanLine (λ tracker. Line.Poll client tracker) (label_of word) (λ tracker. tt))
 
 -- a client's join binds the client's own clean label; its polls and its other calls are clean too
-call-clean : (client : Label) (word : List ℕ) (rest : List (List ℕ)) → IsClean client → IfSome (call_of client word rest) IsCleanLine
+call-clean : (client : Label) (word : List ℕ) (rest : List (List ℕ)) → IsClean client → IfSome (call_read client word rest) IsCleanLine
 call-clean client word rest clean =
     some-if IsCleanLine (bytes_eq word (codes "join")) _ _ (some-end IsCleanLine rest (Some (Line.Join client)) clean)
     (some-if IsCleanLine (bytes_eq word (codes "poll")) _ _ (poll-clean client rest) (ask-clean client word rest))
@@ -195,5 +196,5 @@ said-clean (first ∷ rest) =
 -- the labels of a line are spelled within a line
 pub line-clean : (bytes : List ℕ) → IfSome (line_of bytes) IsCleanLine
 line-clean bytes =
-    some-if IsCleanLine (nat_lt 256 (length bytes)) None _ tt
+    some-if IsCleanLine (nat_lt MOST_LINE_BYTES (length bytes)) None _ tt
     (some-if IsCleanLine (is_silent bytes) (Some Line.Nothing) _ tt (said-clean (words bytes)))

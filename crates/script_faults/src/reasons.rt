@@ -1,13 +1,10 @@
 //! What is wrong with a bad line, in words.
 use script_labels::Tables;
-use script_lines::{BufferLabel, Label, push};
+use script_lines::{BufferLabel, Label, MOST_LINE_BYTES, push};
 use sm_names::{
     ArgumentForm, MAX_AT_LEAST, MAX_CAMPING, MAX_SIZE, Product, Target, kind_named, row_of,
 };
 use std::alloc::AllocError;
-
-// How long a line may be.
-const LONGEST: usize = 256;
 
 // What a word behind a verb is to be.
 #[derive(Clone, Copy)]
@@ -74,7 +71,7 @@ pub(crate) fn push_reason(
     tables: &Tables,
     line: &[u8],
 ) -> Result<(), AllocError> {
-    if LONGEST < line.len() {
+    if MOST_LINE_BYTES < line.len() {
         return push(text, "the line is longer than 256 bytes");
     }
     if line.last() == Some(&13) {

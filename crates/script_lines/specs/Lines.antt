@@ -12,6 +12,7 @@ use Rattle.sm_names.specs.declared.call_rows.CallKind.{CallKind}
 use Rattle.sm_names.specs.declared.keys.Strength.{Strength}
 use Rattle.sm_names.specs.CallRows.{brings_end, is_tracker, kind_named, row_of}
 use Rattle.sm_names.specs.Demands.{Demand}
+use Rattle.script_lines.specs.declared.TheConstants.{MOST_LINE_BYTES}
 use Rattle.script_lines.specs.declared.buffer_label.BufferLabel.{BufferLabel}
 use Rattle.script_lines.specs.declared.label.Label.{Label}
 use Rattle.script_lines.specs.declared.line.Line.{Line}
@@ -138,8 +139,8 @@ poll_of client [] = None
 poll_of client (word ∷ rest) = at_end rest (option_map (λ tracker. Line.Poll client tracker) (label_of word))
 
 -- what a client does, by the word behind its label and the words behind that: it joins, polls, or makes another call
-abbrev pub call_of : Label → List ℕ → List (List ℕ) → Option Line
-call_of client word rest =
+abbrev pub call_read : Label → List ℕ → List (List ℕ) → Option Line
+call_read client word rest =
     let ask : Option Line = ask_of client word rest in
     let poll : Option Line = if bytes_eq word (codes "poll") then poll_of client rest else ask in
     if bytes_eq word (codes "join") then at_end rest (Some (Line.Join client)) else poll
@@ -147,7 +148,7 @@ call_of client word rest =
 -- what a client asks, by the words behind its label
 abbrev pub asked_of : Label → List (List ℕ) → Option Line
 asked_of client [] = None
-asked_of client (word ∷ rest) = call_of client word rest
+asked_of client (word ∷ rest) = call_read client word rest
 
 -- what the words say: `show` is no client
 abbrev pub said_of : List (List ℕ) → Option Line
@@ -165,4 +166,4 @@ is_silent (first ∷ others) = first == 35
 abbrev pub line_of : List ℕ → Option Line
 line_of bytes =
     let said : Option Line = if is_silent bytes then Some Line.Nothing else said_of (words bytes) in
-    if nat_lt 256 (length bytes) then None else said
+    if nat_lt MOST_LINE_BYTES (length bytes) then None else said

@@ -27,3 +27,6 @@ pub use writing::{WriteFault, write_line, write_out};
 
 /// The greatest size of a script, in bytes.
 pub const MOST_BYTES: usize = 16_777_216;
+
+/// The greatest size of a line, in bytes, without its end.
+pub const MOST_LINE_BYTES: usize = 256;

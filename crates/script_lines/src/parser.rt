@@ -1,8 +1,9 @@
 //! What a line of bytes says.
 ghost use Rattle.std.specs.Prelude.{◌≡◌, ◌∷◌};
-ghost use Rattle.script_lines.specs.Lines.{argument_read, ask_of, binds_read, call_of, children_read, constraints_read, demand_in_range, demand_of, gift_read, line_of, object_read, poll_of, request_of, said_of, show_of, strength_named as strength_told, view_of};
+ghost use Rattle.script_lines.specs.Lines.{argument_read, ask_of, binds_read, call_read, children_read, constraints_read, demand_in_range, demand_of, gift_read, line_of, object_read, poll_of, request_of, said_of, show_of, strength_named as strength_told, view_of};
 ghost use Rattle.script_lines.specs.Words.{Reads, words_left};
 
+use crate::MOST_LINE_BYTES;
 use crate::buffer_label::BufferLabel;
 use crate::label::Label;
 use crate::line::{Line, Request, View};
@@ -13,15 +14,12 @@ use sm_names::{
     Strength, Target, kind_named, row_of,
 };
 
-// The most bytes of a line, without its end.
-const LONGEST: usize = 256;
-
 /// What the line says, without its end, or `None` if it is bad. Takes a time in proportion to the
 /// line's length.
 pub fn line(bytes: &[u8]) -> Option<Line>
     ensures { result ≡ line_of bytes.now }
 {
-    if LONGEST < bytes.len() {
+    if MOST_LINE_BYTES < bytes.len() {
         return None;
     }
     match bytes.first() {
@@ -79,7 +77,7 @@ fn view(word: &[u8]) -> Option<View>
 
 // What the client does, by the word behind its label and those behind that.
 fn call(client: Label, word: &[u8], rest: Option<&[u8]>) -> Option<Line>
-    ensures { result ≡ call_of client word.now (words_left rest.entry) }
+    ensures { result ≡ call_read client word.now (words_left rest.entry) }
 {
     if is(word, "join") {
         return match next_word(rest) {

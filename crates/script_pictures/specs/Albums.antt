@@ -11,7 +11,7 @@ use Rattle.sm_names.specs.declared.outcomes.Fault.{Fault}
 use Rattle.forest_store.specs.declared.node.End.{End}
 use Rattle.forest_store.specs.declared.node.Node.{Node}
 use Rattle.forest_store.specs.Forest.{node_at}
-use Rattle.forest_store.specs.Nodes.{above_among, node_of}
+use Rattle.forest_store.specs.Nodes.{above_among, is_spent, node_of}
 use Rattle.forest_store.specs.Questions.{blocks_here, is_below}
 use Rattle.core_state.specs.State.{State}
 use Rattle.event_marks.specs.declared.decision.Forced.{Forced}
@@ -61,11 +61,6 @@ abbrev pub walked : List Moment → List Node
 walked moments = walked_from [] moments
 
 -- ---- behind an event
-
-abbrev pub is_spent : End → Bool
-is_spent (End.Held client) = false
-is_spent (End.InTransit client) = false
-is_spent End.Spent = true
 
 -- the node once it was forgotten: as the walk has it, if it has it, gone, and its end spent
 abbrev pub forgotten : List Node → Node → Node

@@ -8,15 +8,15 @@ use Rattle.script_lines.specs.Labels.{label_text}
 use Rattle.script_labels.specs.Names.{Names, label_of_node}
 use Rattle.script_labels.specs.Texts.{cause_text}
 use Rattle.script_tales.specs.Called.{last_label, other_text}
-use Rattle.script_tales.specs.FactTexts.{joined}
+use Rattle.script_tales.specs.FactTexts.{concat}
 use Rattle.script_pictures.specs.declared.features.Class.{Class}
 use Rattle.script_pictures.specs.Features.{class_of, kind_text}
 
 -- the number of the event and its line
 abbrev pub header_text : ℕ → List ℕ → List ℕ
 header_text event line =
-    let said = joined (codes "event " ∷ decimal event ∷ []) in
-    let more = joined (said ∷ codes ":  " ∷ line ∷ []) in
+    let said = concat (codes "event " ∷ decimal event ∷ []) in
+    let more = concat (said ∷ codes ":  " ∷ line ∷ []) in
     if event == 0 then said else more
 
 -- that the node was released before it left
@@ -32,7 +32,7 @@ own_cause Cause.NoStrong = cause_text Cause.NoStrong
 
 -- with whom the node fell
 abbrev pub fallen_words : Names → Fault → List ℕ
-fallen_words names fault = joined (codes "fell with " ∷ label_text (label_of_node names fault.origin) ∷ [])
+fallen_words names fault = concat (codes "fell with " ∷ label_text (label_of_node names fault.origin) ∷ [])
 
 -- the state of a node of this class that failed so, if it failed
 abbrev pub words_of_class : Names → Class → Option Fault → List ℕ
@@ -46,7 +46,7 @@ words_of_class names Class.Taken (Some fault) = fallen_words names fault
 
 -- the state of the node
 abbrev pub state_words : Names → Node → List ℕ
-state_words names n = joined (released_words n ∷ words_of_class names (class_of n) n.fault ∷ [])
+state_words names n = concat (released_words n ∷ words_of_class names (class_of n) n.fault ∷ [])
 
 -- that the node is dispensable
 abbrev pub dispensable_words : Node → List ℕ
@@ -58,11 +58,11 @@ weak_words n = if n.weak then codes ", weak" else []
 
 -- another name, if there is one
 abbrev pub also_text : List ℕ → List ℕ
-also_text name = if length name == 0 then [] else joined (codes " as " ∷ name ∷ [])
+also_text name = if length name == 0 then [] else concat (codes " as " ∷ name ∷ [])
 
 -- what the node is, and what it was collected as
 abbrev pub kind_words : Names → Node → List ℕ
-kind_words names n = joined (
+kind_words names n = concat (
     kind_text n
     ∷ dispensable_words n
     ∷ weak_words n
@@ -71,10 +71,10 @@ kind_words names n = joined (
     )
 
 -- how many buffers there are to be at least, if some are
-abbrev pub least_text : ℕ → List ℕ
-least_text at_least = if at_least == 0 then [] else joined (codes " of " ∷ decimal at_least ∷ [])
+abbrev pub least_words : ℕ → List ℕ
+least_words at_least = if at_least == 0 then [] else concat (codes " of " ∷ decimal at_least ∷ [])
 
 -- what is asked for
 abbrev pub asked_words : Demand → List ℕ
-asked_words asked = joined
-    (codes "camps on " ∷ decimal asked.camping ∷ least_text asked.at_least ∷ codes ", " ∷ decimal asked.size ∷ codes " bytes" ∷ [])
+asked_words asked = concat
+    (codes "camps on " ∷ decimal asked.camping ∷ least_words asked.at_least ∷ codes ", " ∷ decimal asked.size ∷ codes " bytes" ∷ [])

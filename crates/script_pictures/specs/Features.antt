@@ -10,7 +10,7 @@ use Rattle.forest_store.specs.declared.node.Node.{Node}
 use Rattle.script_lines.specs.Labels.{label_text}
 use Rattle.script_labels.specs.Names.{Names}
 use Rattle.script_tales.specs.Called.{client_label}
-use Rattle.script_tales.specs.FactTexts.{joined}
+use Rattle.script_tales.specs.FactTexts.{concat}
 use Rattle.script_pictures.specs.declared.features.Class.{Class}
 
 -- what the node is drawn as
@@ -26,15 +26,15 @@ kind_text n = if n.bound then codes "collection" else codes "token"
 
 -- where the end is
 abbrev pub place_text : Names → End → List ℕ
-place_text names (End.Held client) = joined (codes "held by " ∷ label_text (client_label names client) ∷ [])
+place_text names (End.Held client) = concat (codes "held by " ∷ label_text (client_label names client) ∷ [])
 place_text names (End.InTransit client) = codes "end in a parcel"
 place_text names End.Spent = codes "end spent"
 
 -- the pages
 abbrev pub pages_text : Interval → List ℕ
 pages_text i =
-    let one = joined (codes "page " ∷ decimal i.start ∷ []) in
-    let more = joined (codes "pages " ∷ decimal i.start ∷ codes " to " ∷ decimal (i.start + i.pages - 1) ∷ []) in
+    let one = concat (codes "page " ∷ decimal i.start ∷ []) in
+    let more = concat (codes "pages " ∷ decimal i.start ∷ codes " to " ∷ decimal (i.start + i.pages - 1) ∷ []) in
     if i.pages == 1 then one else more
 
 -- what stands between the live nodes that keep a buffer and the handles

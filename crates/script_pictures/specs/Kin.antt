@@ -8,7 +8,7 @@ use Rattle.event_marks.specs.declared.key_sets.KeySet.{KeySet}
 use Rattle.event_marks.specs.KeySets.{has}
 use Rattle.event_facts.specs.declared.key_maps.KeyMap.{KeyMap}
 use Rattle.event_facts.specs.declared.key_maps.KeyRows.{KeyRows}
-use Rattle.event_facts.specs.KeyMaps.{row_at, value_at}
+use Rattle.event_facts.specs.KeyMaps.{values_at, value_at}
 use Rattle.script_pictures.specs.Travels.{is_child_of}
 
 -- each of these nodes is found by its key
@@ -17,7 +17,7 @@ FindsNodes map nodes = (key : NodeKey) → value_at map key ≡ node_of nodes ke
 
 -- the children of each node are found among these by its key
 abbrev pub FindsChildren : KeyRows Node → List Node → Type 0
-FindsChildren rows nodes = (above : NodeKey) → row_at rows above ≡ filter (is_child_of above) nodes
+FindsChildren rows nodes = (above : NodeKey) → values_at rows above ≡ filter (is_child_of above) nodes
 
 -- the keys are those on which some of these nodes hang
 abbrev pub AreParents : KeySet → List Node → Type 0

@@ -3,11 +3,12 @@ ghost use Rattle.std.specs.Prelude.{◌≡◌, ◌==◌, ◌&&◌, [], Bool, IfO
 ghost use Rattle.std.specs.List.{list_any};
 ghost use Rattle.std.specs.Option.{option_map};
 ghost use Rattle.sm_names.specs.declared.keys.NodeKey.{NodeKey as Key};
-ghost use Rattle.forest_store.specs.declared.node.Node.{Node as Kept};
+ghost use Rattle.forest_store.specs.declared.node.Node.{Node as NodeValue};
 ghost use Rattle.forest_store.specs.Forest.{node_at};
+ghost use Rattle.forest_store.specs.Nodes.{is_spent};
 ghost use Rattle.event_marks.specs.declared.decision.Forced.{Forced};
 ghost use Rattle.event_marks.specs.KeySets.{has};
-ghost use Rattle.script_pictures.specs.Albums.{after_mark, forgotten, is_born_with, is_spent, known_after, known_in, left_below, left_if as left_as, marked, refreshed, seen_again, seen_for, top_of, walked, with_named, with_seen, with_told};
+ghost use Rattle.script_pictures.specs.Albums.{after_mark, forgotten, is_born_with, known_after, known_in, left_below, left_if as left_as, marked, refreshed, seen_again, seen_for, top_of, walked, with_named, with_seen, with_told};
 ghost use Rattle.script_pictures.specs.Kin.{FindsNodes};
 ghost use Rattle.script_pictures.specs.Seen.{named_in};
 
@@ -332,7 +333,7 @@ fn see_again(core: &Core, nodes: &Vec<Node>, later: &Vec<Node>) -> Result<Vec<No
 
 // The same, where the nodes of the walk are found by their keys.
 fn see_each(core: &Core, nodes: &Vec<Node>, walk: &KeyMap<Node>) -> Result<Vec<Node>, AllocError>
-    ensures { IfOk result (λ again. (later : List Kept) → FindsNodes walk.now later →
+    ensures { IfOk result (λ again. (later : List NodeValue) → FindsNodes walk.now later →
         again.items ≡ map (seen_again core.now later) nodes.now.items) }
 {
     let mut again = Vec::new(*nodes.allocator());
@@ -345,7 +346,7 @@ fn see_each(core: &Core, nodes: &Vec<Node>, walk: &KeyMap<Node>) -> Result<Vec<N
 // The node as it is seen behind an event. One that was forgotten at the event has the state that the walk
 // gave it last, if there was a walk, and its end is spent.
 fn seen_after(core: &Core, node: &Node, walk: &KeyMap<Node>) -> Node
-    ensures { (later : List Kept) → FindsNodes walk.now later →
+    ensures { (later : List NodeValue) → FindsNodes walk.now later →
         result ≡ seen_again core.now later node.now }
 {
     if node.gone && has_spent(node) {
@@ -369,7 +370,7 @@ fn has_spent(node: &Node) -> bool
 
 // The node once it was forgotten.
 fn forget(node: &Node, walk: &KeyMap<Node>) -> Node
-    ensures { (later : List Kept) → FindsNodes walk.now later →
+    ensures { (later : List NodeValue) → FindsNodes walk.now later →
         result ≡ forgotten later node.now }
 {
     let mut behind = match walk.get(node.key) {

@@ -3,7 +3,7 @@ ghost use Rattle.std.specs.Prelude.{◌≡◌, ◌++◌, OnOk};
 ghost use Rattle.script_labels.specs.Names.{Names, label_of_node};
 ghost use Rattle.script_labels.specs.Tables.{Keeps};
 ghost use Rattle.script_tales.specs.Called.{Calls, last_label, other_text};
-ghost use Rattle.script_pictures.specs.BoxLines.{also_text, asked_words, dispensable_words as dispensable_text, fallen_words, header_text, kind_words, least_text, own_cause, released_words as released_text, state_words, weak_words as weak_text};
+ghost use Rattle.script_pictures.specs.BoxLines.{also_text, asked_words, dispensable_words as dispensable_text, fallen_words, header_text, kind_words, least_words, own_cause, released_words as released_text, state_words, weak_words as weak_text};
 
 use crate::features::{Class, class_of, kind_name, push_place};
 use alloc_event::Node;
@@ -161,7 +161,7 @@ pub fn push_asked_line(text: &mut Vec<u8>, asked: Constraints) -> Result<(), All
 
 // Appends how many buffers there are to be at least, if some are.
 fn push_least(text: &mut Vec<u8>, at_least: u64) -> Result<(), AllocError>
-    ensures { OnOk result (text.new.items ≡ text.old.items ++ least_text at_least) }
+    ensures { OnOk result (text.new.items ≡ text.old.items ++ least_words at_least) }
 {
     if at_least == 0 {
         return Ok(());

@@ -106,14 +106,14 @@ fn follow(trail: &mut Trail, moments: &[Moment]) -> Result<(), AllocError> {
     let mut step: u64 = 0;
     for moment in moments {
         if let Forced::Loss(fault) = moment.mark {
-            step = go_on(trail, &moment.before, fault, step)?;
+            step = trace_failure(trail, &moment.before, fault, step)?;
         }
     }
     Ok(())
 }
 
 // The failure climbs, and falls to all that it takes; answers the last step.
-fn go_on(
+fn trace_failure(
     trail: &mut Trail,
     scene: &Snapshot,
     fault: Fault,
@@ -122,17 +122,17 @@ fn go_on(
     let way = way_up(&scene.nodes, fault.origin)?;
     match way.split_last() {
         Some((top, below)) => {
-            let step = go_up(trail, below, before)?;
+            let step = trace_up(trail, below, before)?;
             note_stop(trail, &scene.nodes, *top)?;
             let taken = taken_under(&scene.nodes, *top)?;
-            go_down(trail, &taken, step)
+            trace_down(trail, &taken, step)
         }
         None => Ok(before),
     }
 }
 
 // The failure climbs from each of these; answers the last step.
-fn go_up(trail: &mut Trail, below: &[NodeKey], before: u64) -> Result<u64, AllocError> {
+fn trace_up(trail: &mut Trail, below: &[NodeKey], before: u64) -> Result<u64, AllocError> {
     let mut step = before;
     for node in below {
         step = step.saturating_add(1);
@@ -166,7 +166,7 @@ struct Reached {
 
 // The failure falls to all that are taken, which stand by birth, the top one first, one generation a
 // step; answers the last step. A generation whose links failures followed already takes no step.
-fn go_down(trail: &mut Trail, taken: &Vec<Node>, before: u64) -> Result<u64, AllocError> {
+fn trace_down(trail: &mut Trail, taken: &Vec<Node>, before: u64) -> Result<u64, AllocError> {
     let reached = reached_below(trail, taken)?;
     let steps = steps_of(&reached, taken.len(), before)?;
     for node in &reached {

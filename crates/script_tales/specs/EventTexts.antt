@@ -17,14 +17,14 @@ use Rattle.script_lines.specs.Labels.{label_text}
 use Rattle.script_labels.specs.Names.{Names, label_of_tracker}
 use Rattle.script_labels.specs.Texts.{buffer_text, held_text, member_text, node_text}
 use Rattle.script_tales.specs.Called.{client_label}
-use Rattle.script_tales.specs.FactTexts.{joined}
+use Rattle.script_tales.specs.FactTexts.{concat}
 use Rattle.script_tales.specs.LossTexts.{counted, name_text, reserved_in, shown}
 
 -- ---- allocations
 
 -- the buffers that the unit of the root was given
 abbrev pub given_text : Names → NodeKey → Buffers → List ℕ
-given_text names head given = joined (
+given_text names head given = concat (
     name_text names head
     ∷ codes " is allocated: "
     ∷ counted given.count (codes "buffer")
@@ -45,7 +45,7 @@ camped_in head nodes = fold (λ sum n. min (sum + camping_in head n) (2 ^ 64 - 1
 -- a node of the unit that camps on some
 abbrev pub camp_text : Names → NodeKey → Node → List ℕ
 camp_text names head n =
-    let told = joined (codes " " ∷ name_text names n.key ∷ codes " " ∷ decimal (camping_in head n) ∷ []) in
+    let told = concat (codes " " ∷ name_text names n.key ∷ codes " " ∷ decimal (camping_in head n) ∷ []) in
     if nat_lt 0 (camping_in head n) then told else []
 
 -- that nobody camps
@@ -54,22 +54,22 @@ nobody_text sum = if sum == 0 then codes " nobody" else []
 
 -- who of the unit camps
 abbrev pub camps_text : Names → NodeKey → List Node → List ℕ
-camps_text names head nodes = joined
+camps_text names head nodes = concat
     (codes "  camps  " ∷ flat_map (camp_text names head) nodes ∷ nobody_text (camped_in head nodes) ∷ [])
 
 -- that so many were asked for at least, where fewer are camped on
 abbrev pub at_least_text : ℕ → ℕ → List ℕ
 at_least_text camped count =
-    let told = joined (codes "; at least " ∷ decimal count ∷ []) in
+    let told = concat (codes "; at least " ∷ decimal count ∷ []) in
     if nat_lt camped count then told else []
 
 -- the pages of these buffers
 abbrev pub pages_line : Names → List HeldBuffer → List ℕ
-pages_line names held = joined (codes "\n  pages  " ∷ flat_map (held_text names) held ∷ codes "\n" ∷ [])
+pages_line names held = concat (codes "\n  pages  " ∷ flat_map (held_text names) held ∷ codes "\n" ∷ [])
 
 -- that the unit of the root was given these buffers
 abbrev pub initial_text : Names → List Node → NodeKey → Buffers → List HeldBuffer → List ℕ
-initial_text names nodes head given held = joined (
+initial_text names nodes head given held = concat (
     given_text names head given
     ∷ camps_text names head nodes
     ∷ at_least_text (camped_in head nodes) given.count
@@ -79,17 +79,17 @@ initial_text names nodes head given held = joined (
 
 -- that the unit of an attached head is allocated
 abbrev pub shared_text : Names → NodeKey → List ℕ
-shared_text names head = joined (name_text names head ∷ codes " is allocated out of the buffers that there are\n" ∷ [])
+shared_text names head = concat (name_text names head ∷ codes " is allocated out of the buffers that there are\n" ∷ [])
 
 -- how many of the buffers were reserved before
 abbrev pub reserved_text : List Node → ℕ → List ℕ
-reserved_text nodes count = joined
+reserved_text nodes count = concat
     (codes "; " ∷ decimal (shown (reserved_in nodes)) ∷ codes " of " ∷ decimal count ∷ codes " were reserved\n" ∷ [])
 
 -- that the unit of an attached head shares the buffers that there are
 abbrev pub logical_text : Names → List Node → NodeKey → Buffers → List ℕ
 logical_text names nodes head given =
-    joined (shared_text names head ∷ camps_text names head nodes ∷ reserved_text nodes given.count ∷ [])
+    concat (shared_text names head ∷ camps_text names head nodes ∷ reserved_text nodes given.count ∷ [])
 
 -- ---- what an event left
 
@@ -105,7 +105,7 @@ want_text n = if n.bound then codes " (no constraints, held by " else codes " (a
 
 -- a node that is waited for
 abbrev pub waited_text : Names → Node → List ℕ
-waited_text names n = joined (codes " " ∷ name_text names n.key ∷ want_text n ∷ end_holder names n.end ∷ codes ")" ∷ [])
+waited_text names n = concat (codes " " ∷ name_text names n.key ∷ want_text n ∷ end_holder names n.end ∷ codes ")" ∷ [])
 
 -- the same, behind a comma
 abbrev pub next_waited : Names → Node → List ℕ
@@ -114,7 +114,7 @@ next_waited names n = codes "," ++ waited_text names n
 -- a node that is waited for, and others
 abbrev pub listed_text : Names → Node → List Node → List ℕ
 listed_text names first others =
-    joined (codes "waits   for" ∷ waited_text names first ∷ flat_map (next_waited names) others ∷ codes "\n" ∷ [])
+    concat (codes "waits   for" ∷ waited_text names first ∷ flat_map (next_waited names) others ∷ codes "\n" ∷ [])
 
 -- the nodes that are waited for
 abbrev pub waits_text : Names → List Node → List ℕ
@@ -124,7 +124,7 @@ waits_text names (first ∷ others) = listed_text names first others
 -- the buffers of the set, as doomed
 unfoldable pub some_doomed : Names → ℕ → ℕ → List ℕ
 some_doomed names collection set =
-    joined (codes "doomed " ∷ flat_map (member_text names set) (names_of collection MAX_BUFFERS) ∷ codes "\n" ∷ [])
+    concat (codes "doomed " ∷ flat_map (member_text names set) (names_of collection MAX_BUFFERS) ∷ codes "\n" ∷ [])
 
 -- the same, if there are some
 abbrev pub doomed_text : Names → ℕ → ℕ → List ℕ
@@ -133,17 +133,17 @@ doomed_text names collection set = if set == 0 then [] else some_doomed names co
 -- the buffers that gave their pages back, if there are some
 abbrev pub freed_text : Names → List HeldBuffer → List ℕ
 freed_text names freed =
-    let told = joined (codes "free   " ∷ flat_map (held_text names) freed ∷ codes "\n" ∷ []) in
+    let told = concat (codes "free   " ∷ flat_map (held_text names) freed ∷ codes "\n" ∷ []) in
     if length freed == 0 then [] else told
 
 -- a tracker that fired
 abbrev pub tracker_text : Names → Fired → List ℕ
-tracker_text names firing = joined (codes " " ∷ label_text (label_of_tracker names firing.tracker) ∷ [])
+tracker_text names firing = concat (codes " " ∷ label_text (label_of_tracker names firing.tracker) ∷ [])
 
 -- the trackers that fired, if there are some
 abbrev pub fires_text : Names → List Fired → List ℕ
 fires_text names fired =
-    let told = joined (codes "fires  " ∷ flat_map (tracker_text names) fired ∷ codes "\n" ∷ []) in
+    let told = concat (codes "fires  " ∷ flat_map (tracker_text names) fired ∷ codes "\n" ∷ []) in
     if length fired == 0 then [] else told
 
 -- one live node or more
@@ -152,9 +152,9 @@ live_words nodes = if length nodes == 1 then codes " by the live node" else code
 
 -- that these live nodes keep the buffer
 abbrev pub kept_by_nodes : Names → BufferName → List NodeKey → List ℕ
-kept_by_nodes names buffer nodes = joined
+kept_by_nodes names buffer nodes = concat
     (codes "kept   " ∷ buffer_text names buffer ∷ live_words nodes ∷ flat_map (node_text names) nodes ∷ codes "\n" ∷ [])
 
 -- the line whose event made the loss
 abbrev pub since_text : ℕ → List ℕ → List ℕ
-since_text number line = joined (codes "since   line " ∷ decimal number ∷ codes ": " ∷ line ∷ codes "\n" ∷ [])
+since_text number line = concat (codes "since   line " ∷ decimal number ∷ codes ": " ∷ line ∷ codes "\n" ∷ [])

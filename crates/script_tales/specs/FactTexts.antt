@@ -9,13 +9,13 @@ use Rattle.script_lines.specs.LineTexts.{strength_name}
 use Rattle.script_tales.specs.Called.{client_label}
 
 -- the texts, one after another
-abbrev pub joined : List (List ℕ) → List ℕ
-joined texts = flat_map (λ text. text) texts
+abbrev pub concat : List (List ℕ) → List ℕ
+concat texts = flat_map (λ text. text) texts
 
 -- the buffer, by the label of its collection's root
 abbrev pub buffer_name : Names → BufferName → List ℕ
 buffer_name names buffer =
-    joined (label_text (label_of_root names buffer.collection) ∷ codes "." ∷ decimal buffer.index ∷ [])
+    concat (label_text (label_of_root names buffer.collection) ∷ codes "." ∷ decimal buffer.index ∷ [])
 
 -- the client, or the word for parcels
 abbrev pub keeper_name : Names → Option ℕ → List ℕ
@@ -25,7 +25,7 @@ keeper_name names None = codes "parcels"
 -- who holds so many handles of which strength
 abbrev pub holder_text : Names → Holder → List ℕ
 holder_text names holder =
-    joined (keeper_name names holder.client ∷ codes " " ∷ strength_name holder.strength ∷ codes " " ∷ decimal holder.count ∷ [])
+    concat (keeper_name names holder.client ∷ codes " " ∷ strength_name holder.strength ∷ codes " " ∷ decimal holder.count ∷ [])
 
 -- the same, behind a comma
 abbrev pub next_holder : Names → Holder → List ℕ
@@ -34,4 +34,4 @@ next_holder names holder = codes ", " ++ holder_text names holder
 -- the holders behind these words, commas between them; nothing where there is none
 abbrev pub holders_text : Names → List ℕ → List Holder → List ℕ
 holders_text names before [] = []
-holders_text names before (first ∷ others) = joined (before ∷ holder_text names first ∷ flat_map (next_holder names) others ∷ [])
+holders_text names before (first ∷ others) = concat (before ∷ holder_text names first ∷ flat_map (next_holder names) others ∷ [])

@@ -1,5 +1,5 @@
 -- The texts of failures and ends, as functions of the collection before them and of what labels stand for.
-use Rattle.std.specs.Prelude.{ℕ, ◌+◌, ◌-◌, ◌*◌, ◌/◌, ◌^◌, min, max, Bool, not, ◌==◌, nat_lt, if◌then◌else◌, List, [], ◌∷◌, ◌++◌, codes, decimal, length, map, reverse, slice_get, Option, Some, None}
+use Rattle.std.specs.Prelude.{ℕ, ◌+◌, ◌-◌, ◌*◌, ◌^◌, min, max, Bool, not, ◌==◌, nat_lt, if◌then◌else◌, List, [], ◌∷◌, ◌++◌, codes, decimal, length, map, reverse, slice_get, Option, Some, None}
 use Rattle.std.specs.List.{filter, flat_map, list_any, sum_by}
 use Rattle.std.specs.Option.{option_map_or}
 use Rattle.sm_names.specs.declared.keys.NodeKey.{NodeKey}
@@ -10,6 +10,8 @@ use Rattle.sm_names.specs.declared.outcomes.Fault.{Fault}
 use Rattle.sm_names.specs.declared.outcomes.Misuse.{Misuse}
 use Rattle.sm_names.specs.Demands.{Demand}
 use Rattle.sm_names.specs.Members.{greatest}
+use Rattle.sm_names.specs.Pages.{pages_of}
+use Rattle.sm_names.specs.declared.rules.TheConstants.{MAX_BUFFERS}
 use Rattle.forest_store.specs.declared.node.Node.{Node}
 use Rattle.forest_store.specs.Nodes.{above_among}
 use Rattle.forest_store.specs.Questions.{blocks_here, demands_of, has_buffers, is_in_unit}
@@ -20,7 +22,7 @@ use Rattle.event_facts.specs.Facts.{is_handed, is_lost_with, stop_of}
 use Rattle.script_lines.specs.Labels.{label_text}
 use Rattle.script_labels.specs.Names.{Names, label_of_node}
 use Rattle.script_labels.specs.Texts.{cause_text, node_text}
-use Rattle.script_tales.specs.FactTexts.{joined}
+use Rattle.script_tales.specs.FactTexts.{concat}
 
 -- the label of the node's birth
 abbrev pub name_text : Names → NodeKey → List ℕ
@@ -46,15 +48,21 @@ misuse_text Misuse.TooManyNodeTrackers = codes "it has 64 node trackers"
 
 -- too many buffers are asked for
 abbrev pub many_text : ℕ → List ℕ
-many_text count = joined (codes "its unit asks for " ∷ decimal count ∷ codes " buffers, and 64 are the most" ∷ [])
+many_text count = concat (
+    codes "its unit asks for "
+    ∷ decimal count
+    ∷ codes " buffers, and "
+    ∷ decimal MAX_BUFFERS
+    ∷ codes " are the most"
+    ∷ [])
 
 -- the pool has no room
 abbrev pub full_text : ℕ → ℕ → ℕ → List ℕ
-full_text count size free = joined (
+full_text count size free = concat (
     codes "no room for "
     ∷ counted count (codes "buffer")
     ∷ codes " of "
-    ∷ counted ((size + 4096 - 1) / 4096) (codes "page")
+    ∷ counted (pages_of size) (codes "page")
     ∷ codes "; "
     ∷ decimal free
     ∷ codes " free"
@@ -67,7 +75,7 @@ size_in given = option_map_or (λ (b : Buffers). b.size) given 0
 
 -- the buffers that there are have fewer bytes
 abbrev pub small_text : Option Buffers → ℕ → List ℕ
-small_text given size = joined (
+small_text given size = concat (
     codes "it asks for "
     ∷ decimal size
     ∷ codes " bytes, and each buffer has "
@@ -81,7 +89,7 @@ count_of given = option_map_or (λ (b : Buffers). b.count) given 0
 
 -- it camps on so many of the buffers, of which so many are taken
 abbrev pub camped_text : ℕ → ℕ → ℕ → List ℕ
-camped_text camping taken count = joined (
+camped_text camping taken count = concat (
     codes "it camps on "
     ∷ decimal camping
     ∷ codes ", and "
@@ -94,7 +102,7 @@ camped_text camping taken count = joined (
 
 -- it asks for so many at least, and there are so many
 abbrev pub least_text : ℕ → ℕ → List ℕ
-least_text at_least count = joined (
+least_text at_least count = concat (
     codes "it asks for at least " ∷ decimal at_least ∷ codes ", and there are " ∷ counted count (codes "buffer") ∷ []
     )
 
@@ -143,7 +151,7 @@ why_text nodes given free origin (Cause.Failed failure) = failed_text nodes give
 
 -- that the node where the fault began fails, and why
 abbrev pub fault_text : Names → List Node → Option Buffers → ℕ → Fault → List ℕ
-fault_text names nodes given free fault = joined (
+fault_text names nodes given free fault = concat (
     name_text names fault.origin
     ∷ codes " fails, "
     ∷ cause_text fault.cause
@@ -157,13 +165,13 @@ fault_text names nodes given free fault = joined (
 
 -- a node further up
 abbrev pub next_above : Names → NodeKey → List ℕ
-next_above names node = joined (codes " > " ∷ name_text names node ∷ [])
+next_above names node = concat (codes " > " ∷ name_text names node ∷ [])
 
 -- the way up
 abbrev pub up_text : Names → List NodeKey → List ℕ
 up_text names [] = []
 up_text names (first ∷ others) =
-    joined (codes "  up      " ∷ name_text names first ∷ flat_map (next_above names) others ∷ codes "\n" ∷ [])
+    concat (codes "  up      " ∷ name_text names first ∷ flat_map (next_above names) others ∷ codes "\n" ∷ [])
 
 -- the way up, if it has a link
 abbrev pub way_text : Names → List NodeKey → List ℕ
@@ -172,7 +180,7 @@ way_text names way = if nat_lt (length way) 2 then [] else up_text names way
 -- why a failure goes no further than the node, if it is no root
 abbrev pub stop_text : Names → Stop → NodeKey → List ℕ
 stop_text names Stop.AtRoot top = []
-stop_text names (Stop.AtAttached parent) top = joined (
+stop_text names (Stop.AtAttached parent) top = concat (
     codes "  stops   at "
     ∷ name_text names top
     ∷ codes ", which is attached: "
@@ -180,7 +188,7 @@ stop_text names (Stop.AtAttached parent) top = joined (
     ∷ codes " stays\n"
     ∷ []
     )
-stop_text names (Stop.AtDispensable parent) top = joined (
+stop_text names (Stop.AtDispensable parent) top = concat (
     codes "  stops   at "
     ∷ name_text names top
     ∷ codes ", which is dispensable and has its buffers: "
@@ -192,7 +200,7 @@ stop_text names (Stop.AtDispensable parent) top = joined (
 -- a node and those that it hands on to, if there are some
 abbrev pub handing_text : Names → NodeKey → List NodeKey → List ℕ
 handing_text names above below =
-    let told = joined (codes "  down    " ∷ name_text names above ∷ codes " >" ∷ flat_map (node_text names) below ∷ codes "\n" ∷ []) in
+    let told = concat (codes "  down    " ∷ name_text names above ∷ codes " >" ∷ flat_map (node_text names) below ∷ codes "\n" ∷ []) in
     if length below == 0 then [] else told
 
 -- what this node hands on to, where each hands on to these
@@ -212,7 +220,7 @@ down_text names nodes top way =
 -- that the node ends, and what goes with it
 abbrev pub end_text : Names → List Node → NodeKey → List ℕ
 end_text names nodes top =
-    joined (name_text names top ∷ codes " ends: no node at or below it is live\n" ∷ down_text names nodes top [] ∷ [])
+    concat (name_text names top ∷ codes " ends: no node at or below it is live\n" ∷ down_text names nodes top [] ∷ [])
 
 -- the last node of a way
 abbrev pub last_of : List NodeKey → Option NodeKey
@@ -220,7 +228,7 @@ last_of way = slice_get way (length way - 1)
 
 -- why a failure goes no further than the top one, and the way down
 abbrev pub under_text : Names → List Node → List NodeKey → NodeKey → List ℕ
-under_text names nodes way top = joined (stop_text names (stop_of nodes top) top ∷ down_text names nodes top way ∷ [])
+under_text names nodes way top = concat (stop_text names (stop_of nodes top) top ∷ down_text names nodes top way ∷ [])
 
 -- the same, of a failure that came up this way
 abbrev pub below_text : Names → List Node → List NodeKey → List ℕ
@@ -232,7 +240,7 @@ way_of nodes origin = climb (λ k. list_any (blocks_here k) nodes) origin (above
 
 -- that the node where the fault began fails, why, and where the failure goes
 abbrev pub loss_text : Names → List Node → Option Buffers → ℕ → Fault → List ℕ
-loss_text names nodes given free fault = joined (
+loss_text names nodes given free fault = concat (
     fault_text names nodes given free fault
     ∷ way_text names (way_of nodes fault.origin)
     ∷ below_text names nodes (way_of nodes fault.origin)

@@ -3,7 +3,7 @@ ghost use Rattle.std.specs.Prelude.{◌≡◌, ◌++◌, [], OnOk};
 ghost use Rattle.std.specs.List.{flat_map};
 ghost use Rattle.script_labels.specs.Names.{Names};
 ghost use Rattle.script_labels.specs.Tables.{Keeps};
-ghost use Rattle.event_facts.specs.KeyMaps.{row_at};
+ghost use Rattle.event_facts.specs.KeyMaps.{values_at};
 ghost use Rattle.script_tales.specs.LossTexts.{below_text, camped_text, down_text, end_text, failed_text, failure_text, fault_text, few_text, full_text, handed_by, handing_text, last_of, least_text, loss_text, many_text, next_above, size_in, small_text, stop_text, up_text, way_text, why_text};
 
 use crate::words::{PAGE, misuse_words, push_name, push_nodes, shown};
@@ -14,7 +14,7 @@ use event_facts::ways::{Stop, stop_at, way_up};
 use event_marks::demand::{TotalDemand, reserved, total_demand};
 use script_labels::{Tables, push_cause};
 use script_lines::push;
-use sm_names::{Buffers, Cause, Failure, Fault, NodeKey};
+use sm_names::{Buffers, Cause, Failure, Fault, MAX_BUFFERS, NodeKey};
 use std::alloc::AllocError;
 use text_parts::{Part, push_parts};
 
@@ -168,7 +168,9 @@ fn push_many(text: &mut Vec<u8>, count: u64) -> Result<(), AllocError>
         &[
             Part::Word("its unit asks for "),
             Part::Number(count),
-            Part::Word(" buffers, and 64 are the most"),
+            Part::Word(" buffers, and "),
+            Part::Number(MAX_BUFFERS as u64),
+            Part::Word(" are the most"),
         ],
     )
 }
@@ -183,7 +185,7 @@ fn push_full(text: &mut Vec<u8>, count: u64, size: u32, free: u32) -> Result<(),
             Part::Word("no room for "),
             Part::Counted(count, "buffer"),
             Part::Word(" of "),
-            Part::Counted((size as u64 + PAGE - 1) / PAGE, "page"),
+            Part::Counted((size as u64 + (PAGE - 1)) / PAGE, "page"),
             Part::Word("; "),
             Part::Number(free as u64),
             Part::Word(" free"),
@@ -378,7 +380,7 @@ fn push_handings(
     rows: &KeyRows<NodeKey>,
 ) -> Result<(), AllocError>
     ensures { OnOk result ((names : Names) → Keeps tables.now names → text.new.items
-        ≡ text.old.items ++ flat_map (handed_by names (row_at rows.now)) taken.now) }
+        ≡ text.old.items ++ flat_map (handed_by names (values_at rows.now)) taken.now) }
 {
     for above in taken {
         push_handing(text, tables, above.key, rows.row(above.key))?;

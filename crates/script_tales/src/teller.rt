@@ -22,8 +22,8 @@ use event_marks::{Forced, Moment};
 use script_labels::{Act, Binds, Stop};
 use script_lines::{Label, push_label};
 use sm_names::{
-    BufferName, Buffers, Call, ClientId, HeldBuffer, Limits, NoMemory, NodeKey, Reply, StepFault,
-    object_key, parts_of,
+    BufferName, Buffers, Call, ClientId, HeldBuffer, Limits, MAX_PAGES, NoMemory, NodeKey, Reply,
+    StepFault, object_key, parts_of,
 };
 use sm_script::Session;
 use std::alloc::{AllocError, Global};
@@ -58,7 +58,7 @@ impl Teller {
         pages: u32,
         limits: Limits,
     ) -> Result<Teller, NoMemory>
-        requires { (1 ≤ pages) × (pages ≤ 1048576) }
+        requires { (1 ≤ pages) × (pages ≤ MAX_PAGES) }
         ensures pool { IfOk result (λ teller. teller.session.core.pool ≡ pages) }
         ensures limits { IfOk result (λ teller. teller.session.core.limits ≡ limits) }
         ensures start { IfOk result (λ teller. IsAt teller.session first_scene) }

@@ -12,11 +12,13 @@ ghost use Rattle.script_tales.specs.LossTexts.{misuse_text, shown as shown_numbe
 use crate::labels::Labels;
 use script_labels::{Tables, push_buffer, push_node};
 use script_lines::push_label;
-use sm_names::{BufferName, ClientId, CollectionId, MAX_BUFFERS, Misuse, NodeKey, has_buffer};
+use sm_names::{
+    BufferName, ClientId, CollectionId, MAX_BUFFERS, Misuse, NodeKey, PAGE_SIZE, has_buffer,
+};
 use std::alloc::AllocError;
 
 // How many bytes a page has.
-pub(crate) const PAGE: u64 = 4096;
+pub(crate) const PAGE: u64 = PAGE_SIZE as u64;
 
 // How many bits a set has, one for each buffer.
 const SET_BITS: u8 = 64;

@@ -11,14 +11,14 @@ use Rattle.thread_runs.specs.Gathered.{IsLate}
 use Rattle.thread_runs.specs.Runs.{HasNoReport, IsRead, RunFails}
 
 module _ (output : Output) (pages : ℕ) (limits : Bound) (before after old : Option (List ℕ)) where
-  module _ (cast : ActorList) (so : IsReadAs before after cast) where
+  module _ (list : ActorList) (so : IsReadAs before after list) where
     -- the actors that the reader returns are those of the script that it read
-    pub read-as : IsRead before after (actors_of cast)
-    read-as = record { script = so.script; whole = so.whole; is_cast = so.is_list }
+    pub read-as : IsRead before after (actors_of list)
+    read-as = record { script = so.script; whole = so.whole; is_list = so.is_list }
 
     -- the script was read, and nothing was written
     none : HasNoReport before after old old
-    none = record { company = actors_of cast; read = read-as; silent = refl }
+    none = record { company = actors_of list; read = read-as; silent = refl }
 
     -- nothing is told of the actors
     pub fails-late : (told : ThreadsFault) → IsLate told → RunFails output pages limits before after old old told

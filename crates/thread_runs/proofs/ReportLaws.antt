@@ -71,18 +71,18 @@ module _ {E S W : Type 0} where
     were-played (script ∷ scripts) (ActorEnd.Stopped client held fault ∷ ends) (part ∷ parts) ran left well own = cc
     were-played (script ∷ scripts) (ActorEnd.NotStarted client ∷ ends) (part ∷ parts) ran left well own = cc
 
-  -- it is told of the cast
-  pub is-told : (output : Output) (pages : ℕ) (limits : Bound) (cast : ActorList) (ends : List (ActorEnd E S W)) (parts : List (Holding E S W)) → HaveRun cast.scripts.items ends →
-      AllZip IsLeft ends parts → first_fault ends ≡ None → (text : List ℕ) → ((s : View) × TellsRecord output pages limits s cast.labels.items parts text) →
-      IsRunText output pages limits (actors_of cast) text
-  is-told output pages limits cast ends parts ran left well text (s, so) = record {
+  -- it is told of the list
+  pub is-told : (output : Output) (pages : ℕ) (limits : Bound) (list : ActorList) (ends : List (ActorEnd E S W)) (parts : List (Holding E S W)) → HaveRun list.scripts.items ends →
+      AllZip IsLeft ends parts → first_fault ends ≡ None → (text : List ℕ) → ((s : View) × TellsRecord output pages limits s list.labels.items parts text) →
+      IsRunText output pages limits (actors_of list) text
+  is-told output pages limits list ends parts ran left well text (s, so) = record {
     history = s.history;
     legal = so.legal;
     played =
         let their : map end_id ends ≡ joined s.history = ids-left ends parts left ∙ sym so.ordered in
-        let played = were-played s.history (joined s.history) cast.scripts.items ends parts
-        (subst (λ (ids : List ℕ). AllZip (IsEndOf ids) cast.scripts.items ends) their ran) left well
+        let played = were-played s.history (joined s.history) list.scripts.items ends parts
+        (subst (λ (ids : List ℕ). AllZip (IsEndOf ids) list.scripts.items ends) their ran) left well
         (recursion_from_All (Matches s.history) parts so.own_lists) in
-        subst (AllZip (IsPlayed s.history (joined s.history)) (map steps_of cast.scripts.items)) (sym so.ordered) played;
+        subst (AllZip (IsPlayed s.history (joined s.history)) (map steps_of list.scripts.items)) (sym so.ordered) played;
     told = so.told;
   }

@@ -34,10 +34,10 @@ threads_fault_status (ThreadsFault.Gather (GatherFault.OpenValues strong weak)) 
 threads_fault_status (ThreadsFault.Gather (GatherFault.RecordMismatch event)) = 5
 
 -- why no run began, as a fault of it
-abbrev pub cast_fault : ActorScriptFault → ThreadsFault
-cast_fault ActorScriptFault.ReadFault = ThreadsFault.ReadFault
-cast_fault (ActorScriptFault.BadLine number) = ThreadsFault.BadLine number
-cast_fault ActorScriptFault.NoMemory = ThreadsFault.NoMemory
+abbrev pub list_fault : ActorScriptFault → ThreadsFault
+list_fault ActorScriptFault.ReadFault = ThreadsFault.ReadFault
+list_fault (ActorScriptFault.BadLine number) = ThreadsFault.BadLine number
+list_fault ActorScriptFault.NoMemory = ThreadsFault.NoMemory
 
 -- what was found at the end, as a fault of the run: refused memory is told as such
 abbrev pub gather_fault : GatherFault → ThreadsFault

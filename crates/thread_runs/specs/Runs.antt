@@ -50,7 +50,7 @@ pub record IsRunText (output : Output) (pages : ℕ) (limits : Bound) (company :
 pub record IsRead (before after : Option (List ℕ)) (company : Actors) : Type 0 where
   pub script : List ℕ
   pub whole : ReadsWhole before after script
-  pub is_cast : script_actors script ≡ Ok company
+  pub is_list : script_actors script ≡ Ok company
 
 -- all of a script was read, its actors ran, and what was written is said of what is told of them
 pub record HasRunActors (output : Output) (pages : ℕ) (limits : Bound) (before after : Option (List ℕ)) (Written : List ℕ → Type 0) : Type 0 where

@@ -47,9 +47,9 @@ impl ThreadsFault {
 
 impl From<ActorScriptFault> for ThreadsFault {
     ghost use Rattle.std.specs.Prelude.{◌≡◌};
-    ghost use Rattle.thread_runs.specs.Faults.{cast_fault};
+    ghost use Rattle.thread_runs.specs.Faults.{list_fault};
 
-    ghost from_gives = { λ fault told. told ≡ cast_fault fault };
+    ghost from_gives = { λ fault told. told ≡ list_fault fault };
 
     fn from(fault: ActorScriptFault) -> ThreadsFault {
         match fault {

@@ -1,5 +1,6 @@
 //! What a run of actors is asked for.
 use script_lines::Pages;
+use sm_names::Limits;
 
 /// What a run of actors writes at its end.
 #[derive(Clone, Copy, Debug)]
@@ -17,4 +18,12 @@ pub struct Job {
     pub pages: Pages,
     /// What is written once all actors have ended.
     pub output: Output,
+}
+
+/// What a run is made with: the seed of what is hashed, the job, and the limits.
+#[derive(Clone, Copy, Debug)]
+pub(crate) struct Setting {
+    pub(crate) seed: [u8; 16],
+    pub(crate) job: Job,
+    pub(crate) limits: Limits,
 }

@@ -10,7 +10,7 @@ ghost use Rattle.thread_runs.specs.Runs.{IsRunText, told_text};
 
 use crate::actor_parts::{fault_of, part_all};
 use crate::fault::ThreadsFault;
-use crate::job::{Job, Output};
+use crate::job::{Output, Setting};
 use actor_reports::push_report;
 use actor_scripts::ActorList;
 use client_actors::{Gate, run_actors};
@@ -19,13 +19,20 @@ use event_laws::ClientLine;
 use record_texts::push_record;
 use script_lines::{Label, LabelHash};
 use service_lock::{BlankBooks, MAX_SHARES, Service, Setup, State, entries};
-use sm_names::{Call, ClientId, Limits, Reply};
+use sm_names::{Call, ClientId, Reply};
 use std::alloc::{AllocError, Global};
 use std::marker::Brand;
 use std::sync::Wait;
 use std::sync::ledger::{Blank, Ledger};
 use std::thread::Threads;
 use std::time::Clock;
+
+// How the end of a run is written: what is asked for, and how labels are hashed meanwhile.
+#[derive(Clone, Copy)]
+struct OutputStyle {
+    output: Output,
+    hash: LabelHash,
+}
 
 // Tells nobody of steps.
 struct Silent;
@@ -63,8 +70,7 @@ fn first_stray<E: Setup, S: Ledger, W: Ledger>(
 // Appends the report of the record, after its transcript if that is asked for.
 fn push_output(
     alloc: Global,
-    hash: LabelHash,
-    output: Output,
+    style: OutputStyle,
     text: &mut Vec<u8>,
     labels: &[Label],
     entries: &[(ClientId, Call, Reply)],
@@ -73,13 +79,13 @@ fn push_output(
     requires events { report.now.events ≡ length entries.now }
     requires lines { report.now.lines.items ≡ lines_of entries.now }
     ensures { OnOk result (text.new.items
-        ≡ text.old.items ++ told_text output labels.now entries.now) }
+        ≡ text.old.items ++ told_text style.output labels.now entries.now) }
 {
     let lines = report.lines.as_slice();
-    match output {
+    match style.output {
         Output::Report => push_report(text, "", labels, report.events, lines),
         Output::Transcript => {
-            push_record(alloc, hash, text, labels, entries)?;
+            push_record(alloc, style.hash, text, labels, entries)?;
             push_report(text, "# ", labels, report.events, lines)
         }
     }
@@ -89,13 +95,12 @@ fn push_output(
 // that joined, in order.
 fn text_of<E: Setup, S: Ledger, W: Ledger>(
     alloc: Global,
-    hash: LabelHash,
-    output: Output,
+    style: OutputStyle,
     labels: &[Label],
     state: &State<E, S, W>,
     parts: &[Holding<E, S, W>],
 ) -> Result<Vec<u8>, ThreadsFault>
-    ensures ok { IfOk result (λ text. TellsRecord output E.pages E.limits state.now labels.now
+    ensures ok { IfOk result (λ text. TellsRecord style.output E.pages E.limits state.now labels.now
         parts.now text.items) }
     ensures late { IfErr result IsLate }
 {
@@ -107,15 +112,7 @@ fn text_of<E: Setup, S: Ledger, W: Ledger>(
         return Err(ThreadsFault::Gather(GatherFault::MissingClient(client)));
     }
     let mut text = Vec::new(alloc);
-    match push_output(
-        alloc,
-        hash,
-        output,
-        &mut text,
-        labels,
-        entries(state),
-        &report,
-    ) {
+    match push_output(alloc, style, &mut text, labels, entries(state), &report) {
         Ok(()) => Ok(text),
         Err(_) => Err(ThreadsFault::NoMemory),
     }
@@ -127,18 +124,17 @@ fn tell<E: Setup, S: Ledger, W: Ledger, R: Wait>(
     rt: &R,
     alloc: Global,
     service: &Service<E, S, W>,
-    hash: LabelHash,
-    output: Output,
+    style: OutputStyle,
     labels: &[Label],
     parts: Vec<Holding<E, S, W>>,
 ) -> (Vec<Holding<E, S, W>>, Result<Vec<u8>, ThreadsFault>)
     ensures parts { result.0 ≡ parts }
     ensures ok { IfOk result.1 (λ text. (s : View)
-        × TellsRecord output E.pages E.limits s labels.now parts.items text.items) }
+        × TellsRecord style.output E.pages E.limits s labels.now parts.items text.items) }
     ensures late { IfErr result.1 IsLate }
 {
     let guard = service.lock(rt);
-    let told = text_of(alloc, hash, output, labels, guard.state(), parts.as_slice());
+    let told = text_of(alloc, style, labels, guard.state(), parts.as_slice());
     (parts, told)
 }
 
@@ -152,30 +148,21 @@ fn run_all<
     rt: &R,
     alloc: Global,
     service: &Service<E, S, W>,
-    hash: LabelHash,
-    output: Output,
-    cast: &ActorList,
+    style: OutputStyle,
+    list: &ActorList,
 ) -> (Vec<Holding<E, S, W>>, Result<Vec<u8>, ThreadsFault>)
     ensures ok { IfOk result.1 (λ text.
-        IsRunText output E.pages E.limits (actors_of cast.now) text.items) }
+        IsRunText style.output E.pages E.limits (actors_of list.now) text.items) }
     ensures late { IfErr result.1 IsLate }
 {
-    let mut parts = match Vec::with_capacity(alloc, cast.scripts.len()) {
+    let mut parts = match Vec::with_capacity(alloc, list.scripts.len()) {
         Ok(parts) => parts,
         Err(_) => return (Vec::new(alloc), Err(ThreadsFault::NoMemory)),
     };
-    match run_actors(rt, alloc, service, &Silent, cast.scripts.as_slice()) {
+    match run_actors(rt, alloc, service, &Silent, list.scripts.as_slice()) {
         Ok(ends) => match part_all(alloc, ends, &mut parts) {
             Some(fault) => (parts, Err(fault)),
-            None => tell(
-                rt,
-                alloc,
-                service,
-                hash,
-                output,
-                cast.labels.as_slice(),
-                parts,
-            ),
+            None => tell(rt, alloc, service, style, list.labels.as_slice(), parts),
         },
         Err((left, fault)) => {
             parts.destroy_empty();
@@ -194,21 +181,23 @@ fn run_on<
     rt: &R,
     alloc: Global,
     blanks: BlankBooks,
-    seed: [u8; 16],
-    cast: &ActorList,
-    job: Job,
-    limits: Limits,
+    setting: Setting,
+    list: &ActorList,
 ) -> Result<Vec<u8>, ThreadsFault>
     requires blanks { AreFor E.name E.parts S.name S.parts W.name W.parts blanks }
-    requires asked { IsSetUpWith E.pages E.limits job.pages.count limits }
-    ensures ok { IfOk result (λ text.
-        IsRunText job.output job.pages.count limits (actors_of cast.now) text.items) }
+    requires asked { IsSetUpWith E.pages E.limits setting.job.pages.count setting.limits }
+    ensures ok { IfOk result (λ text. IsRunText setting.job.output setting.job.pages.count
+        setting.limits (actors_of list.now) text.items) }
     ensures late { IfErr result IsLate }
 {
+    let Setting { seed, job, limits } = setting;
     match Service::<E, S, W>::with_seed(alloc, blanks, job.pages.count, limits, seed) {
         Ok(service) => {
-            let hash = LabelHash::new(seed);
-            let (parts, told) = run_all(rt, alloc, &service, hash, job.output, cast);
+            let style = OutputStyle {
+                output: job.output,
+                hash: LabelHash::new(seed),
+            };
+            let (parts, told) = run_all(rt, alloc, &service, style, list);
             end_service(service, parts);
             told
         }
@@ -220,13 +209,11 @@ fn run_on<
 pub(crate) fn tell_all<R: Threads + Wait + Clock + Sync>(
     rt: &R,
     alloc: Global,
-    seed: [u8; 16],
-    cast: &ActorList,
-    job: Job,
-    limits: Limits,
+    setting: Setting,
+    list: &ActorList,
 ) -> Result<Vec<u8>, ThreadsFault>
-    ensures ok { IfOk result (λ text.
-        IsRunText job.output job.pages.count limits (actors_of cast.now) text.items) }
+    ensures ok { IfOk result (λ text. IsRunText setting.job.output setting.job.pages.count
+        setting.limits (actors_of list.now) text.items) }
     ensures late { IfErr result IsLate }
 {
     let blanks = BlankBooks {
@@ -234,5 +221,5 @@ pub(crate) fn tell_all<R: Threads + Wait + Clock + Sync>(
         strong: Blank::new(MAX_SHARES),
         weak: Blank::new(MAX_SHARES),
     };
-    run_on::<Brand, Brand, Brand, _>(rt, alloc, blanks, seed, cast, job, limits)
+    run_on::<Brand, Brand, Brand, _>(rt, alloc, blanks, setting, list)
 }

@@ -5,7 +5,7 @@ ghost use Rattle.script_lines.specs.Written.{WritesPart};
 ghost use Rattle.thread_runs.specs.Runs.{RunsThreads};
 
 use crate::fault::ThreadsFault;
-use crate::job::Job;
+use crate::job::{Job, Setting};
 use crate::report::tell_all;
 use actor_scripts::read_actors;
 use script_lines::{LabelHash, write_out};
@@ -55,11 +55,12 @@ pub fn run_threads<I: Read, O: Write, R: Threads + Wait + Clock + Sync>(
     ensures { RunsThreads job.output job.pages.count limits (I.remaining reader.old)
         (I.remaining reader.new) (O.contents writer.old) (O.contents writer.new) result }
 {
-    let cast = match read_actors(alloc, LabelHash::new(seed), reader) {
-        Ok(cast) => cast,
+    let list = match read_actors(alloc, LabelHash::new(seed), reader) {
+        Ok(list) => list,
         Err(fault) => return Err(ThreadsFault::from(fault)),
     };
-    match tell_all(rt, alloc, seed, &cast, job, limits) {
+    let setting = Setting { seed, job, limits };
+    match tell_all(rt, alloc, setting, &list) {
         Ok(text) => put_out(writer, text.as_slice()),
         Err(fault) => Err(fault),
     }

@@ -1,8 +1,11 @@
 -- What stays true of a forest where the end of a node is put elsewhere.
-use Rattle.alloc_event.proofs.Common.{◌≡◌, ◌≢◌, map, Some, option_map, refl, sym, ap, subst, List, NodeKey, Table, node_at, Node, with_nodes, Shelf, forest_of, IsStored, Writes, table_with_node, same_key-equal, on_collections, with_end}
+use Rattle.alloc_event.proofs.Common.{◌≡◌, ◌≢◌, true, map, Some, option_map, refl, sym, ap, subst, List, AllByRecursion, NodeKey, Table, node_at, Entry, Node, with_nodes, Shelf, are_filed, forest_of, shelves_of, is_over, IsStored, Writes, table_with_node, same_key-equal, on_collections, with_end}
 use Rattle.node_table.proofs.Keys.{same_key-apart}
 use Rattle.forest_store.specs.declared.node.End.{End}
+use Rattle.forest_store.specs.Calm.{AreCounted}
+use Rattle.forest_store.specs.Garbage.{IsNotedIn}
 use Rattle.forest_store.proofs.quiescence.Together.{together_same}
+use Rattle.forest_store.proofs.shelves.Counted.{ends_tidy, mapped_all}
 use Rattle.forest_store.proofs.tables.Writing.{IsSameNode, look-changed, kept-map, collections-map, parents-written}
 
 module _ (key : NodeKey) (end : End) where
@@ -42,3 +45,22 @@ module _ (key : NodeKey) (end : End) where
       collections = (collections-map _ same_node t now (ends-look ok.named) es) i;
       nexts = (ap (λ (x : Table Node). x.nexts) becomes) i;
     }
+
+    -- what is counted of a node is not its end; a node that is dead by that is noted by its own entry
+    pub ends-counted : ((k : NodeKey) (m : Node) → node_at t k ≡ Some m → m.key ≡ k) → (es : List Entry) →
+        are_filed t (shelves_of es) ≡ true → AreCounted t es →
+        (is_over (record n { end = end }) ≡ true → AllByRecursion (λ (e : Entry). e.id ≡ n.collection → IsNotedIn e key) es) →
+        AreCounted now es
+    ends-counted knows es filed counted noted =
+        mapped_all t now (with_end key end)
+        (λ m. record {
+          key = refl;
+          parent = refl;
+          attached = refl;
+          head = refl;
+          allocated = refl;
+          gone = refl;
+          released = refl;
+          asks = refl;
+        })
+        (λ m. refl) (λ m. refl) (ends-look knows) es (ends_tidy t knows key end n was es filed counted noted) counted

@@ -35,7 +35,7 @@ use Rattle.core_state.specs.Hands.{MovesHandles}
 use Rattle.core_state.specs.State.{State}
 use Rattle.core_state.specs.Steps.{Work, with_place, without_over, work_of}
 use Rattle.core_state.specs.Tasks.{AsksOnly, MayDo, OthersStay, Reworked, work_in}
-use Rattle.core_state.specs.Whole.{AreOut, CanFinish, IsSound}
+use Rattle.core_state.specs.Whole.{NoBufferHome, CanFinish, IsSound}
 use Rattle.core_state.proofs.collections.ById.{put_there}
 use Rattle.core_state.proofs.firing.Fields.{Starts, kept_at}
 use Rattle.core_state.proofs.firing.Worlds.{amid_named, found_collection, left_from, same_strong, sound_named}
@@ -131,7 +131,7 @@ still_away strong strong_now weak weak_now live s w was = from (strong == 0) (st
 -- ---- the event
 
 module _ (s : State) (client : ℕ) (call : Call) (asked : Reply) (task : Option Task) (tracking : Option Waiting)
-    (starts : Starts s client call asked task tracking) (out : AreOut (total s.holds) s.forest)
+    (starts : Starts s client call asked task tracking) (out : NoBufferHome (total s.holds) s.forest)
     (holds : Counts) (moves : MovesHandles s.holds holds (Called client asked call)) where
   -- so is none of another collection
   others_out : (c : Collection) → In c s.forest.collections → (changed_by task ≡ Some c.id → ⊥) → IsOut (total holds) c
@@ -179,7 +179,7 @@ module _ (s : State) (client : ℕ) (call : Call) (asked : Reply) (task : Option
         some_is e = cc
 
     -- so none is home
-    out_worked : AreOut (total holds) worked
+    out_worked : NoBufferHome (total holds) worked
     out_worked c on = elim (either_way (is_changed (changed_by task))) [
       | inl e ↦ here task starts.may work (changes (changed_by task) e)
       | inr e ↦
@@ -215,7 +215,7 @@ module _ (s : State) (client : ℕ) (call : Call) (asked : Reply) (task : Option
 
     -- nor once an end is put elsewhere and what is over is forgotten
     pub out_after : (place : Option Place) (g : Forest) → g.collections ≡ without_over (with_place place worked).collections → IsSound g →
-        AreOut (total holds) g
+        NoBufferHome (total holds) g
     out_after place g left sound d on =
         let from = left_from worked g place (amid_named worked task amid) (sound_named g sound) left d on in
         subst (IsOut (total holds)) (sym from.2) (λ h held.
@@ -272,7 +272,7 @@ all_of test (h ∷ hs) each =
 
 -- and no other buffer of its collection is home
 pub others_stay : (old new : Counts) (f : Forest) (client : ℕ) (call : Call) (asked : Reply) (task : Option Task) →
-    AreOut (total old) f → MovesHandles old new (Called client asked call) → IfSome task (MayDo f) → AsksOnly call task →
+    NoBufferHome (total old) f → MovesHandles old new (Called client asked call) → IfSome task (MayDo f) → AsksOnly call task →
     OthersStay (total new) f call task
 others_stay old new f client (Call.DropHandle buffer strength) asked task out moves may asks = by task may asks
   where

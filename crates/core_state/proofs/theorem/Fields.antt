@@ -24,7 +24,7 @@ use Rattle.core_state.specs.Reads.{readings_of, world_in}
 use Rattle.core_state.specs.State.{Client, HandleCounts, State, counts_of}
 use Rattle.core_state.specs.Steps.{GainsTracker, Work, clients_by, handles_by, new_client, swept, with_place, without_over}
 use Rattle.core_state.specs.Tasks.{Parts, Reworked, TakesEffect, looked_in, work_in}
-use Rattle.core_state.specs.Whole.{AreOut, AreSent, AreUpTo, IsSound, IsWholeCore, Rise, StillWaits}
+use Rattle.core_state.specs.Whole.{NoBufferHome, AreSent, AreUpTo, IsSound, IsWholeCore, Rise, StillWaits}
 use Rattle.core_state.proofs.theorem.EventParts.{Begins, finishes}
 use Rattle.core_state.proofs.handles.Movable.{may_move}
 use Rattle.core_state.proofs.handles.Parcels.{still_sent}
@@ -65,7 +65,7 @@ whole_same pool now limits events clients clients_now forest forest_now holds ho
       tracker_limit = whole.tracker_limit;
       numbered = whole.numbered;
       waiting = subst (λ (h : Handles). All (StillWaits forest h) trackers.unfired) totals whole.waiting;
-      out = subst (λ (h : Handles). AreOut h forest) totals whole.out;
+      out = subst (λ (h : Handles). NoBufferHome h forest) totals whole.out;
     })
 
 -- ---- the clients

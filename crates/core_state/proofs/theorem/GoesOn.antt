@@ -39,7 +39,7 @@ use Rattle.core_state.proofs.collections.Elsewhere.{came}
 use Rattle.core_state.proofs.handles.Counts.{handles_called, handles_event}
 use Rattle.core_state.proofs.forced.NothingForced.{idle_after, idle_collections}
 use Rattle.core_state.proofs.theorem.Follows.{Counts}
-use Rattle.core_state.proofs.views.Answers.{answer_is}
+use Rattle.core_state.proofs.views.SameAnswers.{answer_is}
 use Rattle.core_state.proofs.views.AfterEvents.{idle_seen, work_seen}
 use Rattle.core_state.proofs.views.ForTrackers.{IsSeen}
 use Rattle.core_state.proofs.firing.NextTrackers.{trackers_follow}

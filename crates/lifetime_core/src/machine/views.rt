@@ -14,7 +14,7 @@ ghost use Rattle.sm_names.specs.Trackers.{fired as fired_after};
 ghost use Rattle.sm_names.specs.Views.{live_nodes, held_by_page as held_after};
 ghost use Rattle.sm_names.specs.Views.{free_pages as free_after};
 ghost use Rattle.forest_store.specs.Forest.{all_nodes, beside, live_keys, node_at, held_by_page};
-ghost use Rattle.forest_store.specs.Forest.{Collection as Shelved, collection_at as shelved_at};
+ghost use Rattle.forest_store.specs.Forest.{Collection as CollectionValue, collection_at as collection_told};
 ghost use Rattle.forest_store.specs.Scenes.{IsSound as IsSoundCollection};
 ghost use Rattle.forest_store.specs.Snapshots.{collection_of};
 ghost use Rattle.buffer_holds.specs.Counts.{moving_count, of, total};
@@ -123,7 +123,7 @@ impl Core {
     /// `NoMemory` if the list is refused. Costs O(collections).
     pub fn kept_collections(&self) -> Result<Vec<CollectionId>, NoMemory>
         ensures value { IfOk result (λ ids. ids.items
-            ≡ map (λ (c : Shelved). c.id) self.now.forest.collections) }
+            ≡ map (λ (c : CollectionValue). c.id) self.now.forest.collections) }
         ensures shown { IfOk result (λ ids. (history : List Entry) → Shows self.now history →
             ids.items ≡ kept_ids (timeline self.now.pool history)) }
     {
@@ -211,7 +211,7 @@ impl Core {
     /// `NoMemory` if the lists are refused. Costs O(log collections), and the copy.
     pub fn collection(&self, id: CollectionId) -> Result<Option<Snapshot>, NoMemory>
         ensures value { IfOk result (λ copied. option_map collection_of copied
-            ≡ shelved_at self.now.forest id) }
+            ≡ collection_told self.now.forest id) }
         ensures sound { IfOk result (λ copied.
             IfSome copied (λ s. IsSoundCollection (collection_of s))) }
         ensures shown { IfOk result (λ copied. (history : List Entry) → Shows self.now history →

@@ -1,31 +1,10 @@
 -- The node is inserted, and then what is left to be done is done at the place of its collection.
-use Rattle.alloc_event.proofs.Common.{◌≡◌, ◌∙◌, List, ◌∷◌, [], map, Some, None, refl, sym, arith, AllByRecursion, Table, Node, Entry, Unit, AreUnits, Collection, collection_in, shelves_of, Result, Ok, Err, IsForest}
+use Rattle.alloc_event.proofs.Common.{◌≡◌, ◌∙◌, List, Some, None, refl, sym, Entry, Result, Ok, Err}
 use Rattle.std.proofs.Common.{OnErr}
-use Rattle.forest_store.specs.Counts.{Extends, HasUnit}
 use Rattle.forest_store.specs.Insertion.{IsUnborn}
 use Rattle.alloc_event.proofs.mid_event.Births.{born_close, born_closed, child_there, kept_born, pool_born}
+use Rattle.alloc_event.proofs.mid_event.MoreSlots.{forest_longer}
 use Rattle.alloc_event.proofs.settle.settle_birth.Goals as goal
-
--- the slots count what they did
-counts_stay : (us next : List Unit) → Extends us next → (whole xs : List Node) → AllByRecursion (HasUnit us whole) xs →
-    AllByRecursion (HasUnit next whole) xs
-counts_stay us next longer whole [] all = tt
-counts_stay us next longer whole (n ∷ ns) all =
-    ((omega (arith, longer.longer, all.0.0), longer.same n.key.slot ∙ all.0.1), counts_stay us next longer whole ns all.1)
-
--- so of each collection
-units_stay : (us next : List Unit) → Extends us next → (cs : List Collection) → AreUnits us cs → AreUnits next cs
-units_stay us next longer [] all = tt
-units_stay us next longer (c ∷ cs) all = (counts_stay us next longer c.nodes c.nodes all.0, units_stay us next longer cs all.1)
-
--- slots that count nothing keep what holds of a forest
-forest_longer : (t : Table Node) (es : List Entry) (us next : List Unit) → IsForest t es us → Extends us next → IsForest t es next
-forest_longer t es us next forest longer = record {
-  kept = forest.kept;
-  counted = forest.counted;
-  units = units_stay us next longer (map (collection_in t) (shelves_of es)) forest.units;
-  given = forest.given;
-}
 
 -- what holds where a fault is answered
 at_fault : {T E : Type 0} (r : Result T E) (P : Type 0) → P → OnErr r P

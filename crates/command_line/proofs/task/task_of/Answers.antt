@@ -1,5 +1,5 @@
 use Rattle.std.proofs.Common.{Option, List, ℕ, refl, sym, subst, codes}
-use Rattle.command_line.specs.Asked.{IsFlag, IsFormat, IsRead}
+use Rattle.command_line.specs.Asked.{IsFlag, IsFormat, IsNumberRead}
 use Rattle.command_line.proofs.Asking.{first_text, its_text}
 use Rattle.command_line.proofs.task.task_of.Goals as goal
 
@@ -12,7 +12,7 @@ returns-then-eq-3-clause-format c =
 
 pub returns-then-eq-3-clause-event : goal.returns-then-eq-3-clause-event
 returns-then-eq-3-clause-event c =
-    subst (λ (text : Option (List ℕ)). IsRead text c.view_of.result.at)
+    subst (λ (text : Option (List ℕ)). IsNumberRead text c.view_of.result.at)
     (sym (its_text (codes "at") c.args.matches.now c.in-Some.inner.now _ c.in-Some.ensures.rows refl))
     c.view_of.ensures.event
 

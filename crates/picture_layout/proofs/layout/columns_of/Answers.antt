@@ -1,5 +1,5 @@
 use Rattle.std.proofs.Common.{◌≡◌, ◌∙◌, sym, ℕ, ◌+◌, ◌-◌, ◌<◌, ◌≤◌, List, [], ◌∷◌, ◌++◌, arith, length, Option}
-use Rattle.picture_layout.specs.Layouts.{column_of, parent_at, taken_columns}
+use Rattle.picture_layout.specs.Layouts.{column_of, parent_place, taken_columns}
 use Rattle.picture_layout.proofs.Places.{column-more, columns-end}
 use Rattle.picture_layout.proofs.layout.columns_of.Goals as goal
 
@@ -11,7 +11,7 @@ loop-at-preserved c =
     let free : List ℕ = c.loop-at.free.items in
     let columns : List ℕ = c.loop-at.columns.items in
     let within : at < length parents = omega arith in
-    let pushed : c.push.new.self.items ≡ columns ++ column_of free (parent_at parents at) ∷ [] = grind arith in
+    let pushed : c.push.new.self.items ≡ columns ++ column_of free (parent_place parents at) ∷ [] = grind arith in
     let taken : c.take_columns.new.free.items ≡ taken_columns parents c.args.widths.now at free = grind arith in
     column-more parents c.args.widths.now (length parents) at free c.take_columns.new.free.items columns c.push.new.self.items within pushed taken
     ∙ c.loop-at.invariant

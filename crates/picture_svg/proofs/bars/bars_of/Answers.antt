@@ -1,5 +1,6 @@
 use Rattle.std.proofs.Common.{◌≡◌, ◌∙◌, ap, sym, List, ◌++◌, arith}
 use Rattle.picture_svg.specs.Bars.{Shown, shown_at, shown_to}
+use Rattle.picture_svg.specs.declared.bars.TheConstants.{INDICES}
 use Rattle.picture_svg.proofs.Indexes.{shown-more, shown-none}
 use Rattle.picture_svg.proofs.bars.bars_of.Goals as goal
 
@@ -24,5 +25,5 @@ returns c = λ names keeps calls.
     c.loop-index.invariant names keeps calls
     ∙ ap (shown_to c.args.teller.now.session.core names c.args.clients.now.items c.args.tree.now) all
   where
-    all : c.loop-index.index ≡ 64
+    all : c.loop-index.index ≡ INDICES
     all = omega (arith, c.loop-index.auto.index-end, c.loop-index-test.false)

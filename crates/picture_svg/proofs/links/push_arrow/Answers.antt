@@ -3,12 +3,12 @@ use Rattle.std.proofs.lemmas.Result.{on_ok_weaker}
 use Rattle.script_pictures.proofs.Texts.{after, last}
 use Rattle.picture_layout.specs.Lengths.{capped_sum}
 use Rattle.picture_svg.specs.Elements.{circle_text}
-use Rattle.picture_svg.specs.Links.{arrow_text, middle_row}
+use Rattle.picture_svg.specs.Links.{svg_arrow, middle_row}
 use Rattle.picture_svg.proofs.links.push_arrow.Goals as goal
 
 -- the arrow, and the number
 pub returns : goal.returns
-unfolding arrow_text
+unfolding svg_arrow
 returns c =
     let row = capped_sum (middle_row c.args.to.y) 13 in
     on_ok_weaker c.push_step.result

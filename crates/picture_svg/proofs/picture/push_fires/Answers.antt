@@ -3,7 +3,7 @@ use Rattle.std.specs.Prelude.{codes}
 use Rattle.std.proofs.lemmas.List.{nil_from_length}
 use Rattle.picture_layout.specs.Lengths.{capped_sum}
 use Rattle.picture_svg.specs.Elements.{look}
-use Rattle.picture_svg.specs.SvgPictures.{fact_text, fires_bottom, fires_line, fires_text}
+use Rattle.picture_svg.specs.SvgPictures.{fact_text, fires_bottom, fires_line, svg_fires}
 use Rattle.picture_svg.proofs.Rows.{more, none}
 use Rattle.picture_svg.proofs.picture.push_fires.Goals as goal
 
@@ -14,12 +14,12 @@ firings-preserved c =
     let firing = c.in-Some.firing.now in
     let later = c.in-Some.later.now in (
       λ names keeps.
-          ap (λ (row : ℕ). c.push_fired.new.body.items ++ fires_text names row later) c.plus-y.ensures
+          ap (λ (row : ℕ). c.push_fired.new.body.items ++ svg_fires names row later) c.plus-y.ensures
           ∙ (more c.firings.body.items c.push_fired.new.body.items
           (fact_text y (look 13 false (codes "#222222") false) (fires_line names firing))
-          (fires_text names (capped_sum y 18) later) (fires_text names y c.firings.rest.now)
+          (svg_fires names (capped_sum y 18) later) (svg_fires names y c.firings.rest.now)
           (c.in_ok-push_fired.ensures names keeps)
-          (ap (fires_text names y) c.in-Some.ensures.cases.0)
+          (ap (svg_fires names y) c.in-Some.ensures.cases.0)
           ∙ c.firings.invariant.0 names keeps),
       ap (λ (row : ℕ). fires_bottom row later) c.plus-y.ensures
           ∙ (sym (ap (fires_bottom y) c.in-Some.ensures.cases.0) ∙ c.firings.invariant.1),
@@ -28,8 +28,8 @@ firings-preserved c =
 -- none is left
 pub returns-clause-text : goal.returns-clause-text
 returns-clause-text c = λ names keeps.
-    none c.firings.body.items (fires_text names c.firings.y c.firings.rest.now)
-    (ap (fires_text names c.firings.y) (nil_from_length c.firings.rest.now c.in_default.ensures.cases))
+    none c.firings.body.items (svg_fires names c.firings.y c.firings.rest.now)
+    (ap (svg_fires names c.firings.y) (nil_from_length c.firings.rest.now c.in_default.ensures.cases))
     ∙ c.firings.invariant.0 names keeps
 
 pub returns-clause-row : goal.returns-clause-row

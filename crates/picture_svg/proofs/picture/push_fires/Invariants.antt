@@ -1,13 +1,13 @@
 use Rattle.std.proofs.Common.{◌≡◌, ◌++◌, length}
 use Rattle.script_labels.specs.Names.{Names}
 use Rattle.script_labels.specs.Tables.{Keeps}
-use Rattle.picture_svg.specs.SvgPictures.{fires_bottom, fires_text}
+use Rattle.picture_svg.specs.SvgPictures.{fires_bottom, svg_fires}
 use Rattle.picture_svg.proofs.picture.push_fires.Given as goal
 
 -- those so far, and those that are left, are all
 abbrev pub invariant-firings : goal.invariant-firings
 invariant-firings l = ((names : Names) → Keeps l.tables names →
-    l.body.items ++ fires_text names l.y l.rest ≡ l.initial.body.items ++ fires_text names l.row l.initial.rest)
+    l.body.items ++ svg_fires names l.y l.rest ≡ l.initial.body.items ++ svg_fires names l.row l.initial.rest)
     × (fires_bottom l.y l.rest ≡ fires_bottom l.row l.initial.rest)
 
 abbrev pub decreases-firings : goal.decreases-firings

@@ -1,7 +1,7 @@
 use Rattle.std.proofs.Common.{◌∙◌, ap, arith, sym, ℕ, ◌++◌}
 use Rattle.std.proofs.lemmas.List.{nil_from_length}
 use Rattle.picture_layout.specs.Lengths.{capped_sum}
-use Rattle.picture_svg.specs.SvgPictures.{fact_text, mark_look, marks_bottom, marks_text}
+use Rattle.picture_svg.specs.SvgPictures.{fact_text, mark_look, marks_bottom, svg_marks}
 use Rattle.picture_svg.proofs.Rows.{more, none}
 use Rattle.picture_svg.proofs.picture.push_marks.Goals as goal
 
@@ -11,11 +11,11 @@ marks-preserved c =
     let y : ℕ = c.marks.y in
     let mark = c.in-Some.mark.now in
     let later = c.in-Some.later.now in (
-      ap (λ (row : ℕ). c.push_fact.new.body.items ++ marks_text row later) c.plus-y.ensures
+      ap (λ (row : ℕ). c.push_fact.new.body.items ++ svg_marks row later) c.plus-y.ensures
           ∙ (more c.marks.body.items c.push_fact.new.body.items (fact_text y (mark_look mark) mark.line.items)
-          (marks_text (capped_sum y 18) later) (marks_text y c.marks.rest.now)
+          (svg_marks (capped_sum y 18) later) (svg_marks y c.marks.rest.now)
           (grind (arith, c.in_ok-push_fact.ensures, c.style_of.ensures, c.deref.ensures.value))
-          (ap (marks_text y) c.in-Some.ensures.cases.0)
+          (ap (svg_marks y) c.in-Some.ensures.cases.0)
           ∙ c.marks.invariant.0),
       ap (λ (row : ℕ). marks_bottom row later) c.plus-y.ensures
           ∙ (sym (ap (marks_bottom y) c.in-Some.ensures.cases.0) ∙ c.marks.invariant.1),
@@ -24,8 +24,8 @@ marks-preserved c =
 -- none is left
 pub returns-clause-text : goal.returns-clause-text
 returns-clause-text c =
-    none c.marks.body.items (marks_text c.marks.y c.marks.rest.now)
-    (ap (marks_text c.marks.y) (nil_from_length c.marks.rest.now c.in_default.ensures.cases))
+    none c.marks.body.items (svg_marks c.marks.y c.marks.rest.now)
+    (ap (svg_marks c.marks.y) (nil_from_length c.marks.rest.now c.in_default.ensures.cases))
     ∙ c.marks.invariant.0
 
 pub returns-clause-row : goal.returns-clause-row

@@ -1,10 +1,10 @@
 use Rattle.std.proofs.Common.{◌≡◌, ◌++◌, length}
-use Rattle.picture_svg.specs.SvgPictures.{marks_bottom, marks_text}
+use Rattle.picture_svg.specs.SvgPictures.{marks_bottom, svg_marks}
 use Rattle.picture_svg.proofs.picture.push_marks.Given as goal
 
 -- those so far, and those that are left, are all
 abbrev pub invariant-marks : goal.invariant-marks
-invariant-marks l = (l.body.items ++ marks_text l.y l.rest ≡ l.initial.body.items ++ marks_text l.row l.initial.rest)
+invariant-marks l = (l.body.items ++ svg_marks l.y l.rest ≡ l.initial.body.items ++ svg_marks l.row l.initial.rest)
     × (marks_bottom l.y l.rest ≡ marks_bottom l.row l.initial.rest)
 
 abbrev pub decreases-marks : goal.decreases-marks

@@ -2,7 +2,7 @@ use Rattle.std.proofs.Common.{◌∙◌, ap, arith, List, ℕ, ◌++◌, false, 
 use Rattle.std.proofs.lemmas.List.{nil_from_length}
 use Rattle.picture_layout.specs.Lengths.{capped_sum}
 use Rattle.picture_svg.specs.Elements.{look, words_text}
-use Rattle.picture_svg.specs.Trees.{line_items, lines_text}
+use Rattle.picture_svg.specs.Trees.{line_items, svg_lines}
 use Rattle.picture_svg.proofs.Rows.{more, none}
 use Rattle.picture_svg.proofs.tree.push_lines.Goals as goal
 
@@ -13,17 +13,17 @@ lines-preserved c =
     let y : ℕ = c.lines.y in
     let fill : List ℕ = c.args.fill.now in
     let later = map line_items c.in-Some.later.now in
-    ap (λ (row : ℕ). c.push_words.new.body.items ++ lines_text x row fill later) c.plus-y.ensures
+    ap (λ (row : ℕ). c.push_words.new.body.items ++ svg_lines x row fill later) c.plus-y.ensures
     ∙ (more c.lines.body.items c.push_words.new.body.items (words_text x y (look 12 false fill false) (line_items c.in-Some.line.now))
-    (lines_text x (capped_sum y 16) fill later) (lines_text x y fill (map line_items c.lines.rest.now))
+    (svg_lines x (capped_sum y 16) fill later) (svg_lines x y fill (map line_items c.lines.rest.now))
     (grind (arith, c.in_ok-push_words.ensures, c.colored.ensures, c.as_slice.ensures.value))
-    (ap (λ rest. lines_text x y fill (map line_items rest)) c.in-Some.ensures.cases.0)
+    (ap (λ rest. svg_lines x y fill (map line_items rest)) c.in-Some.ensures.cases.0)
     ∙ c.lines.invariant)
 
 -- none is left
 pub returns : goal.returns
 returns c =
-    none c.lines.body.items (lines_text c.args.x c.lines.y c.args.fill.now (map line_items c.lines.rest.now))
-    (ap (λ rest. lines_text c.args.x c.lines.y c.args.fill.now (map line_items rest))
+    none c.lines.body.items (svg_lines c.args.x c.lines.y c.args.fill.now (map line_items c.lines.rest.now))
+    (ap (λ rest. svg_lines c.args.x c.lines.y c.args.fill.now (map line_items rest))
     (nil_from_length c.lines.rest.now c.in_default.ensures.cases))
     ∙ c.lines.invariant

@@ -6,12 +6,12 @@ use Rattle.picture_layout.specs.Lengths.{capped_sum}
 use Rattle.picture_layout.specs.Layouts.{lowest_of, rightmost_of}
 use Rattle.picture_svg.specs.Bars.{bars_bottom, bars_right, bars_text, shown_in, shown_of}
 use Rattle.picture_svg.specs.Links.{box_link}
-use Rattle.picture_svg.specs.Trees.{bars_row, box_text, tree_bottom, tree_boxes, tree_right, tree_text}
+use Rattle.picture_svg.specs.Trees.{bars_row, svg_box, tree_bottom, tree_boxes, tree_right, svg_tree}
 use Rattle.picture_svg.proofs.tree.push_tree.Goals as goal
 
 -- the links, the boxes, and the buffers in the row below the lowest box
 pub returns-clause-text : goal.returns-clause-text
-unfolding tree_text
+unfolding svg_tree
 returns-clause-text c = λ names keeps calls steps finds.
     let s = c.args.teller.now.session.core in
     let width : ℕ = c.args.width in
@@ -25,8 +25,8 @@ returns-clause-text c = λ names keeps calls steps finds.
     let boxed = c.deref-2.ensures.value ∙ c.in_ok-boxes.ensures in
     after _ (flat_map (box_link steps width) (tree_boxes width y tree)) _ _ _
     (c.in_ok-push_links.ensures steps finds ∙ (λ i. c.args.body.now.items ++ flat_map (box_link steps width) (linked i)))
-    (after _ (flat_map (box_text names width) (tree_boxes width y tree)) _ _ _
-    (c.in_ok-push_boxes.ensures names keeps calls ∙ (λ i. c.push_links.new.body.items ++ flat_map (box_text names width) (boxed i)))
+    (after _ (flat_map (svg_box names width) (tree_boxes width y tree)) _ _ _
+    (c.in_ok-push_boxes.ensures names keeps calls ∙ (λ i. c.push_links.new.body.items ++ flat_map (svg_box names width) (boxed i)))
     (last _ (bars_text width (bars_row width y tree) (shown_of s names c.args.clients.now.items tree)) _
     (c.in_ok-extent.ensures.text ∙ (λ i. c.push_boxes.new.body.items ++ bars_text width (row i) (shown i)))))
 

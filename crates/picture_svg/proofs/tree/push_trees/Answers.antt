@@ -1,6 +1,6 @@
 use Rattle.std.proofs.Common.{◌∙◌, ap, sym, ℕ, ◌++◌}
 use Rattle.std.proofs.lemmas.List.{nil_from_length}
-use Rattle.picture_svg.specs.Trees.{tree_bottom, tree_text, trees_bottom, trees_right, trees_text}
+use Rattle.picture_svg.specs.Trees.{tree_bottom, svg_tree, trees_bottom, trees_right, svg_trees}
 use Rattle.picture_svg.proofs.Rows.{more, none}
 use Rattle.picture_svg.proofs.tree.push_trees.Goals as goal
 
@@ -18,12 +18,12 @@ trees-preserved c = λ names keeps calls.
     let first = c.in-Some.ensures.cases.0 in
     let rest = c.trees.invariant names keeps calls in (
       λ steps finds.
-          ap (λ (row : ℕ). c.push_tree.new.body.items ++ trees_text s names clients steps width row later) below
-          ∙ (more c.trees.body.items c.push_tree.new.body.items (tree_text s names clients steps width y tree)
-          (trees_text s names clients steps width (tree_bottom s names clients width y tree) later)
-          (trees_text s names clients steps width y c.trees.rest.now)
+          ap (λ (row : ℕ). c.push_tree.new.body.items ++ svg_trees s names clients steps width row later) below
+          ∙ (more c.trees.body.items c.push_tree.new.body.items (svg_tree s names clients steps width y tree)
+          (svg_trees s names clients steps width (tree_bottom s names clients width y tree) later)
+          (svg_trees s names clients steps width y c.trees.rest.now)
           (c.in_ok-extent.ensures.text names keeps calls steps finds)
-          (ap (trees_text s names clients steps width y) first)
+          (ap (svg_trees s names clients steps width y) first)
           ∙ rest.0 steps finds),
       ap (λ (row : ℕ). trees_bottom s names clients width row later) below
           ∙ (sym (ap (trees_bottom s names clients width y) first) ∙ rest.1),
@@ -34,7 +34,7 @@ trees-preserved c = λ names keeps calls.
 -- none is left
 pub returns-clause-text : goal.returns-clause-text
 returns-clause-text c = λ names keeps calls steps finds.
-    let text = trees_text c.args.teller.now.session.core names c.args.clients.now.items steps c.args.width c.trees.bottom in
+    let text = svg_trees c.args.teller.now.session.core names c.args.clients.now.items steps c.args.width c.trees.bottom in
     none c.trees.body.items (text c.trees.rest.now) (ap text (nil_from_length c.trees.rest.now c.in_default.ensures.cases))
     ∙ (c.trees.invariant names keeps calls).0 steps finds
 

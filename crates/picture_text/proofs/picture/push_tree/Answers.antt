@@ -3,7 +3,7 @@ use Rattle.std.proofs.lemmas.Result.{on_ok_weaker}
 use Rattle.std.specs.List.{flat_map}
 use Rattle.std.specs.Prelude.{codes}
 use Rattle.script_pictures.proofs.Texts.{after, last}
-use Rattle.picture_text.specs.Outlines.{Line, line_of, outline}
+use Rattle.picture_text.specs.Outlines.{Line, line_of_row, outline}
 use Rattle.picture_text.specs.TextPictures.{buffer_row, row_text, widest}
 use Rattle.picture_text.proofs.Branches.{texts_of_lines, widest_lines}
 use Rattle.picture_text.proofs.picture.push_tree.Goals as goal
@@ -20,7 +20,7 @@ returns c = on_ok_weaker c.push_held_rows.result
     c.args.tree.now.held.items in
     let wide : c.in_ok-width.width ≡ width =
     c.in_ok-width.ensures names keeps calls ∙ (widest_lines names rows ∙ ap (widest names) c.in_ok-rows.ensures) in
-    let texts : flat_map (λ r. row_text names c.in_ok-width.width left (line_of r)) rows ≡ flat_map (row_text names width left) lines =
+    let texts : flat_map (λ r. row_text names c.in_ok-width.width left (line_of_row r)) rows ≡ flat_map (row_text names width left) lines =
     texts_of_lines (row_text names c.in_ok-width.width left) rows
     ∙ (λ i. flat_map (row_text names (wide i) left) (c.in_ok-rows.ensures i)) in
     after _ (codes "\n") _ _ _ c.in_ok-push.ensures.ok

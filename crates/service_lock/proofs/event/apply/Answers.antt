@@ -1,4 +1,5 @@
-use Rattle.std.proofs.Common.{List, [], ◌∷◌, ◌++◌, length-append, ◌≡◌, ◌∙◌, ◌<◌, ◌^◌, ap, arith, length, subst, sym}
+-- The record, the core and the books go on together by one event.
+use Rattle.std.proofs.Common.{List, [], ◌∷◌, ◌++◌, length-append, ◌≡◌, ◌∙◌, ap, arith, subst, sym}
 use Rattle.sm_names.specs.declared.keys.Strength.{Strength}
 use Rattle.sm_names.specs.declared.keys.Strength.TheVariants.{Strong, Weak}
 use Rattle.sm_names.specs.Marks.{Entry}
@@ -9,52 +10,42 @@ use Rattle.service_lock.specs.States.{StateInvariant, View, view_after}
 use Rattle.service_lock.proofs.SoundLaws.{fits, pushed, there, written}
 use Rattle.service_lock.proofs.event.apply.Goals as goal
 
+-- the books of handles have room for what the event opens, and hold what it takes out of a parcel
+
 pub write-requires-2-clause-fits : goal.write-requires-2-clause-fits
 write-requires-2-clause-fits g c =
-    let log : List Entry = c.state.inside.log.items in
-    let few : length log < c.events-2.result = omega (arith, c.events.ensures.shown log c.state.invariant.shown, c.if-events.false) in
-    let small : c.events-2.result < 2 ^ 32 = omega arith in
-    fits c.state.inside.core.pool c.state.inside.core.limits Strong c.args.client c.args.call c.in_ok-reply.reply log c.moves_of.result
-    c.state.inside.strong c.events-2.result
-    c.state.invariant.shown.legal c.moves_of.ensures c.state.invariant.strong few small
+    fits _ _ Strong c.args.client c.args.call c.in_ok-reply.reply c.state.inside.log.items _ _ c.events-2.result
+    c.state.invariant.shown.legal c.moves_of.ensures c.state.invariant.strong
+    (omega (arith, c.events.ensures.shown c.state.inside.log.items c.state.invariant.shown, c.if-events.false)) (omega arith)
 
 pub write-requires-2-clause-there : goal.write-requires-2-clause-there
 write-requires-2-clause-there g c =
-    let log : List Entry = c.state.inside.log.items in
-    let shown = c.in_ok-reply.ensures.goes_on log c.state.invariant.shown in
-    there c.state.inside.core.pool c.step.new.self.pool c.state.inside.core.limits c.step.new.self.limits Strong c.args.client c.args.call
-    c.in_ok-reply.reply log c.moves_of.result
-    c.in_ok-reply.ensures.after.pool c.state.invariant.shown.legal shown.legal c.moves_of.ensures c.state.inside.strong
-    c.state.invariant.strong
+    let shown = c.in_ok-reply.ensures.goes_on c.state.inside.log.items c.state.invariant.shown in
+    there _ _ _ _ Strong c.args.client c.args.call c.in_ok-reply.reply c.state.inside.log.items _ c.in_ok-reply.ensures.after.pool
+    c.state.invariant.shown.legal shown.legal c.moves_of.ensures _ c.state.invariant.strong
 
 pub write-requires-3-clause-fits : goal.write-requires-3-clause-fits
 write-requires-3-clause-fits g c =
-    let log : List Entry = c.state.inside.log.items in
-    let few : length log < c.events-2.result = omega (arith, c.events.ensures.shown log c.state.invariant.shown, c.if-events.false) in
-    let small : c.events-2.result < 2 ^ 32 = omega arith in
-    fits c.state.inside.core.pool c.state.inside.core.limits Weak c.args.client c.args.call c.in_ok-reply.reply log c.moves_of-2.result
-    c.state.inside.weak c.events-2.result
-    c.state.invariant.shown.legal c.moves_of-2.ensures c.state.invariant.weak few small
+    fits _ _ Weak c.args.client c.args.call c.in_ok-reply.reply c.state.inside.log.items _ _ c.events-2.result
+    c.state.invariant.shown.legal c.moves_of-2.ensures c.state.invariant.weak
+    (omega (arith, c.events.ensures.shown c.state.inside.log.items c.state.invariant.shown, c.if-events.false)) (omega arith)
 
 pub write-requires-3-clause-there : goal.write-requires-3-clause-there
 write-requires-3-clause-there g c =
-    let log : List Entry = c.state.inside.log.items in
-    let shown = c.in_ok-reply.ensures.goes_on log c.state.invariant.shown in
-    there c.state.inside.core.pool c.step.new.self.pool c.state.inside.core.limits c.step.new.self.limits Weak c.args.client c.args.call
-    c.in_ok-reply.reply log c.moves_of-2.result
-    c.in_ok-reply.ensures.after.pool c.state.invariant.shown.legal shown.legal c.moves_of-2.ensures c.state.inside.weak
-    c.state.invariant.weak
+    let shown = c.in_ok-reply.ensures.goes_on c.state.inside.log.items c.state.invariant.shown in
+    there _ _ _ _ Weak c.args.client c.args.call c.in_ok-reply.reply c.state.inside.log.items _ c.in_ok-reply.ensures.after.pool
+    c.state.invariant.shown.legal shown.legal c.moves_of-2.ensures _ c.state.invariant.weak
 
+-- the record has one entry more, which the core shows, and each book counts it
 pub invariant_of-state-2 : goal.invariant_of-state-2
 invariant_of-state-2 g c =
     let log : List Entry = c.state.inside.log.items in
     let e : Entry = (c.args.client, c.args.call, c.in_ok-reply.reply) in
     let items : c.push_reserved.new.self.items ≡ log ++ e ∷ [] =
-    pushed log c.reserve.new.self.items c.push_reserved.new.self.items e c.reserve.ensures.items c.push_reserved.ensures.items in
+    pushed _ _ _ _ c.reserve.ensures.items c.push_reserved.ensures.items in
     let shown = c.in_ok-reply.ensures.goes_on log c.state.invariant.shown in
     let goes = λ (strength : Strength) (moves : HandleMoves) (is : moves ≡ moves_by strength e.1 e.2).
-    written c.state.inside.core.pool c.step.new.self.pool c.state.inside.core.limits c.step.new.self.limits strength e.0 e.1 e.2 log moves
-    c.in_ok-reply.ensures.after.pool c.state.invariant.shown.legal shown.legal is in
+    written _ _ _ _ strength e.0 e.1 e.2 log moves c.in_ok-reply.ensures.after.pool c.state.invariant.shown.legal shown.legal is in
     let sound : StateInvariant g.E.Setup.pages g.E.Setup.limits c.step.new.self c.state.inside.limits (log ++ e ∷ []) c.write.new.self c.write-2.new.self c.write-3.new.self =
     record {
       asked = (c.in_ok-reply.ensures.after.pool ∙ c.state.invariant.asked.0, c.state.invariant.asked.1);
@@ -77,7 +68,7 @@ returns-clause-made g c =
     let log : List Entry = c.state.inside.log.items in
     let e : Entry = (c.args.client, c.args.call, c.in_ok-reply.reply) in
     let items : c.push_reserved.new.self.items ≡ log ++ e ∷ [] =
-    pushed log c.reserve.new.self.items c.push_reserved.new.self.items e c.reserve.ensures.items c.push_reserved.ensures.items in
+    pushed _ _ _ _ c.reserve.ensures.items c.push_reserved.ensures.items in
     let ids = c.in_ok-reply.ensures.untaken in
     let pools = c.in_ok-reply.ensures.after.pool in
     let seen : View = record {
@@ -102,8 +93,8 @@ returns-clause-legal g c =
     let log : List Entry = c.state.inside.log.items in
     let e : Entry = (c.args.client, c.args.call, c.in_ok-reply.reply) in
     let items : c.push_reserved.new.self.items ≡ log ++ e ∷ [] =
-    pushed log c.reserve.new.self.items c.push_reserved.new.self.items e c.reserve.ensures.items c.push_reserved.ensures.items in
+    pushed _ _ _ _ c.reserve.ensures.items c.push_reserved.ensures.items in
     let shown = c.in_ok-reply.ensures.goes_on log c.state.invariant.shown in
     let limited : c.step.new.self.limits ≡ c.state.inside.limits = c.in_ok-reply.ensures.after.limits ∙ c.state.invariant.limited in
-    subst (λ l. IsLegal c.step.new.self.pool c.state.inside.limits l) (sym items) (subst (λ b.
-    IsLegal c.step.new.self.pool b (log ++ e ∷ [])) limited shown.legal)
+    subst (λ l. IsLegal c.step.new.self.pool c.state.inside.limits l) (sym items)
+    (subst (λ b. IsLegal c.step.new.self.pool b (log ++ e ∷ [])) limited shown.legal)

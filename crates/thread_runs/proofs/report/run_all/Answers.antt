@@ -24,6 +24,6 @@ returns-in-Some-clause-late g c = late-first c.in-Ok-run_actors.ends.items c.in-
 pub returns-in-None-clause-ok : goal.returns-in-None-clause-ok
 returns-in-None-clause-ok g c =
     IfOk-weaker c.tell.result.1 _ _
-    (λ text told. is-told _ _ _ c.args.cast.now _ _ (rw c.as_slice.ensures.value at c.in-Ok-run_actors.ensures.ran) c.part_all.ensures.left
+    (λ text told. is-told _ _ _ c.args.list.now _ _ (rw c.as_slice.ensures.value at c.in-Ok-run_actors.ensures.ran) c.part_all.ensures.left
     (sym c.part_all.ensures.fault ∙ c.in-None.is) text.items told)
     (rw c.as_slice-in-None.ensures.value at c.tell.ensures.ok)

@@ -12,4 +12,4 @@ ghosts-run_on-W-Ledger g a = record { name = a.blanks.weak.name; parts = a.blank
 
 -- and the service is what was asked for
 abbrev pub ghosts-run_on-E-Setup : goal.ghosts-run_on-E-Setup
-ghosts-run_on-E-Setup g a = record { pages = a.job.pages.count; limits = a.limits }
+ghosts-run_on-E-Setup g a = record { pages = a.setting.job.pages.count; limits = a.setting.limits }

@@ -1,8 +1,7 @@
 -- One node is written, and the others stay.
 use Rattle.alloc_event.proofs.Common.{refl, sym, ◌∙◌, ◌≡◌, true, false, List, Some, is_some, map, ap, subst, false≢true, NodeKey, option_map_or, Table, node_at, Node, AreUnits, with_nodes, IsStored, Shelf, are_filed, forest_of, shelves_of, is_over, Forest, AreServedByGiven, node_is, Writes, table_with_node, on_collections, with_end}
 use Rattle.forest_store.specs.Forest.{node_at as forest_node}
-use Rattle.forest_store.proofs.shelves.Counted.{ends_tidy, mapped_all}
-use Rattle.alloc_event.proofs.leaving.Ends.{ends-kept, ends-look, ends-shown}
+use Rattle.alloc_event.proofs.leaving.Ends.{ends-counted, ends-kept, ends-shown}
 use Rattle.forest_store.proofs.tallies.Slots.{units_with}
 use Rattle.sm_names.proofs.SamenessLaws.{some_is}
 use Rattle.forest_steps.proofs.mid_event.GivenKept.{given_mapped}
@@ -61,27 +60,11 @@ invariant_of-self c =
       kept = subst (IsStored c.put_end.new.table) (sym c.list_garbage.ensures.shelves)
           (ends-kept _ _ now.1 (named c) (writes c)
           (becomes c) c.self.invariant.kept);
-      counted = mapped_all _ _ _
-          (λ n. record {
-            key = refl;
-            parent = refl;
-            attached = refl;
-            head = refl;
-            allocated = refl;
-            gone = refl;
-            released = refl;
-            asks = refl;
-          })
-          (λ n. refl) (λ n. refl)
-          (ends-look _ _ now.1 (named c) (writes c)
-          c.self.invariant.kept.named)
-          _
-          (ends_tidy _ c.self.invariant.kept.named _ c.args.end _ now.1
-          _
-          (ap (are_filed c.self.inside.store.nodes.table) c.list_garbage.ensures.shelves ∙ c.self.invariant.kept.filed)
-          (c.list_garbage.ensures.counted c.self.inside.store.nodes.table c.self.invariant.counted)
-          (λ over. rw (id_is c) at (c.list_garbage.ensures.garbage (over_is c ∙ over))))
-          (c.list_garbage.ensures.counted c.self.inside.store.nodes.table c.self.invariant.counted);
+      counted =
+          let all = c.list_garbage.ensures.counted c.self.inside.store.nodes.table c.self.invariant.counted in
+          ends-counted _ _ now.1 (named c) (writes c) c.self.invariant.kept.named _
+          (ap (are_filed c.self.inside.store.nodes.table) c.list_garbage.ensures.shelves ∙ c.self.invariant.kept.filed) all
+          (λ over. rw (id_is c) at (c.list_garbage.ensures.garbage (over_is c ∙ over)));
       units = subst (AreUnits c.self.inside.store.nodes.units.items) (sym (ap (λ (f : Forest). f.collections) (shown c)))
           (units_with _ _
           (λ n. record { key = refl; parent = refl; attached = refl; collection = refl; head = refl }) (λ n. refl) (λ k n. refl)

@@ -3,7 +3,7 @@ use Rattle.std.proofs.lemmas.Result.{on_ok_weaker}
 use Rattle.sm_names.specs.declared.keys.NodeKey.{NodeKey}
 use Rattle.sm_names.specs.Sameness.{same_key}
 use Rattle.sm_names.proofs.SamenessLaws.{either_way, same_key-true}
-use Rattle.event_facts.specs.KeyMaps.{row_at}
+use Rattle.event_facts.specs.KeyMaps.{values_at}
 use Rattle.event_facts.proofs.key_maps.KeyRows.add.Goals as goal
 
 -- one more in this row, where the others stay
@@ -27,6 +27,6 @@ grown key other value old mid new cut put row others pushed is =
 -- the row without the value is taken out, and put back with it
 pub returns : goal.returns
 returns g c = on_ok_weaker c.put.result
-    (λ is other. grown c.args.key other c.args.value (row_at c.args.self.now) (row_at c.cut-row.new.self) (row_at c.put.new.self)
+    (λ is other. grown c.args.key other c.args.value (values_at c.args.self.now) (values_at c.cut-row.new.self) (values_at c.put.new.self)
     c.cut-row.result.items c.push.new.self.items c.cut-row.ensures.row c.cut-row.ensures.others c.in_ok-push.ensures.items (is other))
     c.put.ensures

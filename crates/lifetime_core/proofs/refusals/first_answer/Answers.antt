@@ -6,7 +6,7 @@ use Rattle.sm_names.specs.Answers.{limits_met, shut_client, unknown_client}
 use Rattle.sm_names.specs.Words.{first_some}
 use Rattle.core_state.specs.Reads.{readings_of}
 use Rattle.core_state.proofs.answers.Order.{lines_in_order, of_named, same_limits}
-use Rattle.lifetime_core.proofs.order.first_answer.Goals as goal
+use Rattle.lifetime_core.proofs.refusals.first_answer.Goals as goal
 
 -- the clients are not known, or shut
 pub returns-in-Some : goal.returns-in-Some

@@ -1,14 +1,11 @@
--- What answers read of a core's state is what they read of the marks, so they are the same.
-use Rattle.std.proofs.Common.{ℕ, ◌≡◌, refl, ap, sym, ◌∙◌, Bool, true, false, cond, ◌&&◌, ◌||◌, ◌==◌, inl, inr, List, [], ◌∷◌, reverse, length, Option, Some, None, is_none}
+-- What answers read of a core's state is what they read of the marks.
+use Rattle.std.proofs.Common.{ℕ, ◌≡◌, refl, ap, sym, ◌∙◌, Bool, true, false, cond, ◌&&◌, ◌||◌, ◌==◌, List, [], ◌∷◌, reverse, length, Option, Some, None, is_none}
 use Rattle.std.proofs.lemmas.List.{reverse-append, length-map, length-reverse}
 use Rattle.std.proofs.lemmas.List.Sums.{length-filter}
 use Rattle.std.specs.List.{find, filter, list_any}
 use Rattle.std.specs.Option.{option_map, option_map_or}
 use Rattle.std.proofs.lemmas.List.Folds.{list_any-append}
 use Rattle.sm_names.specs.declared.keys.NodeKey.{NodeKey}
-use Rattle.sm_names.specs.declared.messages.Call.{Call}
-use Rattle.sm_names.specs.declared.messages.Reply.{Reply}
-use Rattle.sm_names.specs.Answers.{Readings, IsAnswer, answer, new_key, key_told}
 use Rattle.sm_names.specs.Births.{Birth, births}
 use Rattle.sm_names.specs.Bounds.{Bound}
 use Rattle.sm_names.specs.Ends.{has_joined, clients, is_shut, parcels}
@@ -19,7 +16,6 @@ use Rattle.sm_names.specs.Sameness.{same_key}
 use Rattle.sm_names.specs.Trackers.{unfired}
 use Rattle.sm_names.proofs.GrowthLaws.{Grows}
 use Rattle.sm_names.proofs.ListLaws.{is_some-find}
-use Rattle.sm_names.proofs.SamenessLaws.{either_way, both_ways}
 use Rattle.event_laws.proofs.ParcelEventLaws.{stranger_waits_for_none}
 use Rattle.event_laws.proofs.WaitingLaws.{counted}
 use Rattle.forest_store.specs.Forest.{node_count}
@@ -32,9 +28,7 @@ use Rattle.core_state.proofs.lists.Reorderings.{length-mixed}
 use Rattle.core_state.proofs.views.Ends.{end_is}
 use Rattle.core_state.proofs.views.Nodes.{kept_births, kept_by_collection, all_nodes_are, mixed_births}
 
--- ---- a list turned round passes as it stands
-
--- and of one turned round
+-- a test that some element passes does not see the order
 any-reverse : {A : Type 0} (p : A → Bool) (xs : List A) → list_any p (reverse xs) ≡ list_any p xs
 any-reverse p [] = refl
 any-reverse p (x ∷ xs) =
@@ -133,35 +127,3 @@ module _ (s : State) (marks : Timeline) (shown : IsAfter s marks) where
       kept_collections = collections_are i;
       unfired = unfired_is i;
     }
-
--- ---- the answers
-
--- no answer reads which keys were given
-answer-given : (limits : Bound) (r : Readings) (told : NodeKey → Bool) (client : ℕ) (new : NodeKey) (call : Call) →
-    answer limits r client new call ≡ answer limits (record r { was_given = told }) client new call
-answer-given limits r told client new Call.Join = refl
-answer-given limits r told client new _ = refl
-
-module _ (s : State) (marks : Timeline) (shown : IsAfter s marks) (bounds : Bound) (grown : Grows s.pool bounds [] marks) where
-  -- so the state and the marks answer alike
-  pub answers_are : (limits : Bound) (client : ℕ) (new : NodeKey) (call : Call) →
-      answer limits (readings_of s) client new call ≡ answer limits (readings marks) client new call
-  answers_are limits client new call =
-      answer-given limits (readings_of s) (readings marks).was_given client new call
-      ∙ ap (λ (r : Readings). answer limits r client new call) (readings_are s marks shown bounds grown)
-
-  -- and an answer to the state is one to the marks
-  pub answer_is : (limits : Bound) (client : ℕ) (call : Call) (reply : Reply) → IsAnswer limits (readings_of s) client call reply →
-      IsAnswer limits (readings marks) client call reply
-  answer_is limits client call reply is = record {
-    told = is.told ∙ answers_are limits client (key_told reply) call;
-    is_new = new (new_key reply) is.is_new;
-  }
-    where
-      new : (o : Option NodeKey) → option_map_or (readings_of s).was_given o false ≡ false →
-          option_map_or (readings marks).was_given o false ≡ false
-      new None h = refl
-      new (Some key) h = elim (either_way ((readings marks).was_given key)) [
-        | inl e ↦ both_ways ((readings_of s).was_given key) (was_given s marks shown key e) h
-        | inr e ↦ e
-      ]

@@ -9,7 +9,7 @@ ghost use Rattle.core_state.specs.Traits.{Describes};
 
 use crate::machine::Core;
 use crate::opening::{set_to_open, strength_of};
-use crate::order::first_answer;
+use crate::refusals::first_answer;
 use alloc_event::Node;
 use core_state::end_answers::kind_of;
 use core_state::traits::Traits;

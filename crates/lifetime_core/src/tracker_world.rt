@@ -9,12 +9,12 @@ use trackers::World;
 
 /// The forest before this event forgets nodes, and the handles.
 #[derive(Drop)]
-pub(crate) struct Sight<'a> {
+pub(crate) struct TrackerWorld<'a> {
     pub(crate) forest: &'a Forest,
     pub(crate) holds: &'a Holds,
 }
 
-impl<'a> World for Sight<'a> {
+impl<'a> World for TrackerWorld<'a> {
     ghost seen = { λ s. world_in s.forest.now (total s.holds.now) };
 
     fn gone(&self, key: NodeKey) -> bool {
