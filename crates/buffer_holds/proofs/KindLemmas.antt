@@ -9,8 +9,7 @@ use Rattle.buffer_holds.specs.declared.kinds.HandleKind.{HandleKind}
 use Rattle.buffer_holds.specs.declared.kinds.Hold.{Hold}
 use Rattle.buffer_holds.specs.Kinds.{same_handle_kind, same_hold}
 use Rattle.sm_names.specs.contracts.keys.StrengthPartialEq.TheImpl as strength
-use Rattle.sm_names.proofs.HandleLaws.{same_buffer-true, same_strength-true}
-use Rattle.sm_names.proofs.TakeLaws.{same_strength-refl}
+use Rattle.sm_names.proofs.SamenessLaws.{same_buffer-true, same_strength-true, same_strength-refl}
 use Rattle.buffer_holds.specs.contracts.kinds.HandleKindPartialEq.TheImpl as kind
 use Rattle.buffer_holds.specs.contracts.kinds.HoldPartialEq.TheImpl as hold
 

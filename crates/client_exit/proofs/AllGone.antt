@@ -20,14 +20,13 @@ use Rattle.sm_names.specs.Reading.{readings}
 use Rattle.sm_names.specs.Sameness.{same_key}
 use Rattle.sm_names.specs.Timelines.{timeline}
 use Rattle.sm_names.specs.Words.{times}
-use Rattle.sm_names.proofs.AnswerLaws.{took_effect_all}
-use Rattle.sm_names.proofs.CountLaws.{clients_have, counted, moving_is, total_is}
-use Rattle.sm_names.proofs.GrowthLaws.{Grows, legal_grows}
-use Rattle.sm_names.proofs.ListLaws.{In-list_any, when-Some}
+use Rattle.history_laws.proofs.AnswerLaws.{took_effect_all}
+use Rattle.history_laws.proofs.CountLaws.{clients_have, counted, moving_is, total_is}
+use Rattle.history_laws.proofs.GrowthLaws.{Grows, legal_grows}
+use Rattle.sm_names.proofs.ListLaws.{In-list_any, when-Some, In-any}
 use Rattle.sm_names.proofs.SamenessLaws.{both_ways, either_way, or_first, same_key-true}
-use Rattle.sm_names.proofs.StandingLaws.{In-any}
-use Rattle.sm_names.proofs.SumLaws.{sum_by-same, sum_by-zero}
-use Rattle.sm_names.proofs.TakeLaws.{none_key}
+use Rattle.history_laws.proofs.SumLaws.{sum_by-same, sum_by-zero}
+use Rattle.history_laws.proofs.TakeLaws.{none_key}
 use Rattle.event_laws.specs.ByEvent.{entry_mark}
 use Rattle.event_laws.proofs.EndEventLaws.{born_event, holder_event}
 use Rattle.event_laws.proofs.FreeEndLaws.{FreeEnd, passed}

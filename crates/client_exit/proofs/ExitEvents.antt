@@ -22,13 +22,12 @@ use Rattle.sm_names.specs.Marks.{Called, Entry, Mark, Timeline, events}
 use Rattle.sm_names.specs.Reading.{readings}
 use Rattle.sm_names.specs.Sameness.{same_key}
 use Rattle.sm_names.specs.Timelines.{timeline}
-use Rattle.sm_names.proofs.AnswerLaws.{took_effect_all}
-use Rattle.sm_names.proofs.GrowthLaws.{AreAnswers-append}
-use Rattle.sm_names.proofs.HandleLaws.{dup_was_open}
-use Rattle.sm_names.proofs.ListLaws.{when-Some}
-use Rattle.sm_names.proofs.RestLaws.{when-None}
+use Rattle.history_laws.proofs.AnswerLaws.{took_effect_all}
+use Rattle.history_laws.proofs.GrowthLaws.{AreAnswers-append}
+use Rattle.history_laws.proofs.HandleLaws.{dup_was_open}
+use Rattle.sm_names.proofs.ListLaws.{when-Some, when-None}
 use Rattle.sm_names.proofs.SamenessLaws.{and_left, both_ways, either_way, false_if, none_or_some, or_first, or_none_left, or_none_right, or_right, same_key-true}
-use Rattle.sm_names.proofs.TakeLaws.{none_key}
+use Rattle.history_laws.proofs.TakeLaws.{none_key}
 use Rattle.event_laws.specs.ByEvent.{GoesBy, collected_at, delivers, gains, loses, entry_mark, one_if, only, sends}
 use Rattle.event_laws.proofs.EndEventLaws.{born_event, holder_event, spent_event, transit_event}
 use Rattle.event_laws.proofs.FreeEndLaws.{FreeEnd, free_end, passed}

@@ -21,7 +21,7 @@ use Rattle.sm_names.specs.Marks.{Called, Entry, Timeline, events}
 use Rattle.sm_names.specs.Reading.{open_end, readings}
 use Rattle.sm_names.specs.Sameness.{same_buffer, same_key, same_strength}
 use Rattle.sm_names.specs.Timelines.{timeline}
-use Rattle.sm_names.proofs.BirthLaws.{birth_is}
+use Rattle.history_laws.proofs.BirthLaws.{birth_is}
 use Rattle.sm_names.proofs.ListLaws.{is_some-find}
 use Rattle.sm_names.proofs.SamenessLaws.{either_way, or_left, or_right, same_key-refl, some_is}
 use Rattle.event_laws.specs.ByEvent.{GoesBy, collected_at, gains, loses, entry_mark, one_if, only}

@@ -9,7 +9,7 @@ use Rattle.sm_names.specs.Ends.{spent, in_transit, holder}
 use Rattle.sm_names.specs.Marks.{Timeline}
 use Rattle.sm_names.specs.Reading.{readings, open_end}
 use Rattle.sm_names.specs.Sameness.{same_key}
-use Rattle.sm_names.proofs.BirthLaws.{birth_is, birth_was_born}
+use Rattle.history_laws.proofs.BirthLaws.{birth_is, birth_was_born}
 use Rattle.sm_names.proofs.ListLaws.{is_some-find}
 use Rattle.sm_names.proofs.SamenessLaws.{and_left, and_right, and_both, some_is}
 use Rattle.event_laws.proofs.FreeEndLaws.{FreeEnd}

@@ -18,8 +18,7 @@ use Rattle.sm_names.specs.Reading.{readings}
 use Rattle.sm_names.specs.Sameness.{same_buffer, same_key}
 use Rattle.sm_names.specs.Timelines.{timeline}
 use Rattle.sm_names.specs.Views.{held_by_page}
-use Rattle.sm_names.proofs.HandleLaws.{same_buffer-true}
-use Rattle.sm_names.proofs.SamenessLaws.{both_ways, or_cases, same_key-true}
+use Rattle.sm_names.proofs.SamenessLaws.{same_buffer-true, both_ways, or_cases, same_key-true}
 use Rattle.forest_store.specs.declared.node.Node.{Node}
 use Rattle.forest_store.specs.Forest.{all_nodes}
 use Rattle.core_state.specs.Reads.{readings_of}

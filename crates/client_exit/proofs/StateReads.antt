@@ -16,13 +16,12 @@ use Rattle.sm_names.specs.Reading.{readings}
 use Rattle.sm_names.specs.Sameness.{same_buffer}
 use Rattle.sm_names.specs.Timelines.{held, timeline}
 use Rattle.sm_names.specs.Views.{held_by_page}
-use Rattle.sm_names.proofs.CountLaws.{client-le-total, counted}
-use Rattle.sm_names.proofs.DoomLaws.{IsDoomed, doomed_parts}
-use Rattle.sm_names.proofs.GrowthLaws.{Grows, legal_grows}
-use Rattle.sm_names.proofs.HeldLaws.{stands_held}
-use Rattle.sm_names.proofs.ListLaws.{In-list_any, is_some-find}
+use Rattle.history_laws.proofs.CountLaws.{client-le-total, counted}
+use Rattle.history_laws.proofs.DoomLaws.{IsDoomed, doomed_parts}
+use Rattle.history_laws.proofs.GrowthLaws.{Grows, legal_grows}
+use Rattle.history_laws.proofs.HeldLaws.{stands_held}
+use Rattle.sm_names.proofs.ListLaws.{In-list_any, is_some-find, In-any}
 use Rattle.sm_names.proofs.SamenessLaws.{and_both, and_left, and_right, either_way, false_if}
-use Rattle.sm_names.proofs.StandingLaws.{In-any}
 use Rattle.event_laws.proofs.HandleBufferLaws.{has_named, stranger_has_none}
 use Rattle.forest_store.specs.declared.node.Node.{Node}
 use Rattle.forest_store.specs.Forest.{all_nodes, node_at}

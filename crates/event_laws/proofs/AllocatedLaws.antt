@@ -7,10 +7,10 @@ use Rattle.sm_names.specs.Bounds.{Bound}
 use Rattle.sm_names.specs.Losses.{allocated, is_allocation}
 use Rattle.sm_names.specs.Marks.{Timeline, Called, events}
 use Rattle.sm_names.specs.Sameness.{same_key}
-use Rattle.sm_names.proofs.BirthLaws.{comes, head_old}
-use Rattle.sm_names.proofs.GrowthLaws.{Grows, Stays, Answers, Loses, Allocates, Ends}
+use Rattle.history_laws.proofs.BirthLaws.{comes, head_old}
+use Rattle.history_laws.proofs.GrowthLaws.{Grows, Stays, Answers, Loses, Allocates, Ends}
 use Rattle.sm_names.proofs.SamenessLaws.{or_right}
-use Rattle.sm_names.proofs.LifeLaws.{born_old}
+use Rattle.history_laws.proofs.LifeLaws.{born_old}
 
 module _ (pool : ℕ) (limits : Bound) (start : Timeline) (node : NodeKey) where
   -- so is it as the marks go on

@@ -18,19 +18,19 @@ use Rattle.sm_names.specs.Timelines.{after}
 use Rattle.sm_names.specs.Trackers.{Tracked, tracked, tracked_at, collection_of_node, fired_at, world}
 use Rattle.event_laws.specs.Waiting.{unfired_trackers, tracker_made, trackers_to_test, is_tracked_met}
 use Rattle.sm_names.specs.Words.{first_some}
-use Rattle.sm_names.proofs.AnswerLaws.{took_effect_all}
-use Rattle.sm_names.proofs.ApartLaws.{as_before}
-use Rattle.sm_names.proofs.BirthLaws.{Named, named, birth_was_born, comes}
+use Rattle.history_laws.proofs.AnswerLaws.{took_effect_all}
+use Rattle.history_laws.proofs.ApartLaws.{as_before}
+use Rattle.history_laws.proofs.BirthLaws.{Named, named, birth_was_born, comes}
 use Rattle.event_laws.proofs.FiringLaws.{not_due}
-use Rattle.sm_names.proofs.GrowthLaws.{Grows, kept-grown}
-use Rattle.sm_names.proofs.KeptLaws.{kept-after}
-use Rattle.sm_names.proofs.LifeLaws.{In_new, In_old}
-use Rattle.sm_names.proofs.ListLaws.{In, In-append}
+use Rattle.history_laws.proofs.GrowthLaws.{Grows, kept-grown}
+use Rattle.history_laws.proofs.KeptLaws.{kept-after}
+use Rattle.history_laws.proofs.LifeLaws.{In_new, In_old}
+use Rattle.sm_names.proofs.ListLaws.{In, In-append, In-any}
 use Rattle.event_laws.proofs.MomentLaws.{only_events, tracked_after}
-use Rattle.sm_names.proofs.ReachLaws.{other_key}
-use Rattle.sm_names.proofs.SettledLaws.{map-Some, same_births}
-use Rattle.sm_names.proofs.StandingLaws.{In-any}
-use Rattle.sm_names.proofs.TakeLaws.{none_key}
+use Rattle.history_laws.proofs.ReachLaws.{other_key}
+use Rattle.sm_names.proofs.SamenessLaws.{map-Some}
+use Rattle.history_laws.proofs.SettledLaws.{same_births}
+use Rattle.history_laws.proofs.TakeLaws.{none_key}
 use Rattle.event_laws.proofs.WaitingLaws.{In-waiting}
 
 -- the event that attaches a tracker is of the collection that it concerns

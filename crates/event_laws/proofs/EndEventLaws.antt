@@ -17,15 +17,15 @@ use Rattle.sm_names.specs.Reading.{readings}
 use Rattle.sm_names.specs.Sameness.{same_key}
 use Rattle.sm_names.specs.Timelines.{timeline}
 use Rattle.sm_names.specs.Words.{times}
-use Rattle.sm_names.proofs.BirthLaws.{Comes, comes}
-use Rattle.sm_names.proofs.CountLaws.{counted}
+use Rattle.history_laws.proofs.BirthLaws.{Comes, comes}
+use Rattle.history_laws.proofs.CountLaws.{counted}
 use Rattle.event_laws.proofs.FreeEndLaws.{FreeEnd, sends_free, spends_free}
-use Rattle.sm_names.proofs.GrowthLaws.{Grows}
+use Rattle.history_laws.proofs.GrowthLaws.{Grows}
 use Rattle.event_laws.proofs.HandLaws.{NextEvent, next_event}
-use Rattle.sm_names.proofs.ParcelLaws.{IsDrawn}
-use Rattle.sm_names.proofs.ReachLaws.{other_key}
+use Rattle.history_laws.proofs.ParcelLaws.{IsDrawn}
+use Rattle.history_laws.proofs.ReachLaws.{other_key}
 use Rattle.sm_names.proofs.SamenessLaws.{either_way, and_right, both_ways, or_both, same_key-refl}
-use Rattle.sm_names.proofs.SumLaws.{any_one, sum_by-same, sum_once}
+use Rattle.history_laws.proofs.SumLaws.{any_one, sum_by-same, sum_once}
 use Rattle.event_laws.proofs.TransitLaws.{EndAt, end_at, transit_mark, delivers_waited, unborn_idle}
 
 -- ---- who holds an end

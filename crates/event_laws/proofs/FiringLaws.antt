@@ -11,14 +11,13 @@ use Rattle.sm_names.specs.Timelines.{after}
 use Rattle.sm_names.specs.Trackers.{Tracked, tracked, tracked_at, earlier_moments, moments, fires_at, fired_at, holds, world}
 use Rattle.event_laws.specs.Waiting.{is_tracked_met}
 use Rattle.sm_names.specs.Words.{last_match}
-use Rattle.sm_names.proofs.GoneLaws.{earlier_after}
-use Rattle.sm_names.proofs.GrowthLaws.{Grows}
-use Rattle.sm_names.proofs.ListLaws.{In, In-list_any}
+use Rattle.history_laws.proofs.GoneLaws.{earlier_after}
+use Rattle.history_laws.proofs.GrowthLaws.{Grows}
+use Rattle.sm_names.proofs.ListLaws.{In, In-list_any, In-any}
 use Rattle.event_laws.proofs.MomentLaws.{moment_earlier, last_match-kept, events_after}
 use Rattle.event_laws.proofs.NumberLaws.{numbered, made_id}
 use Rattle.sm_names.proofs.SamenessLaws.{and_left, false_if}
-use Rattle.sm_names.proofs.StandingLaws.{In-any}
-use Rattle.sm_names.proofs.FiredLaws.{fired_early}
+use Rattle.history_laws.proofs.FiredLaws.{fired_early}
 
 -- ---- after any marks
 

@@ -14,8 +14,8 @@ use Rattle.sm_names.specs.Ends.{spent, spends, binds, in_transit, holder}
 use Rattle.sm_names.specs.Marks.{Timeline, Called}
 use Rattle.sm_names.specs.Reading.{readings}
 use Rattle.sm_names.specs.Timelines.{key_of}
-use Rattle.sm_names.proofs.BirthLaws.{HasEnd, has_end, birth_is, birth_was_born}
-use Rattle.sm_names.proofs.RejectLaws.{is_refusal, strip, unknown_rejects, shut_rejects, no_end_rejects, in_transit_rejects}
+use Rattle.history_laws.proofs.BirthLaws.{HasEnd, has_end, birth_is, birth_was_born}
+use Rattle.history_laws.proofs.RejectLaws.{is_refusal, strip, unknown_rejects, shut_rejects, no_end_rejects, in_transit_rejects}
 use Rattle.sm_names.proofs.SamenessLaws.{same_key-true}
 
 -- the end is there, not spent, in no parcel, and the client holds it

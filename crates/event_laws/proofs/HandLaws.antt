@@ -7,9 +7,9 @@ use Rattle.sm_names.specs.Legality.{IsLegal}
 use Rattle.sm_names.specs.Marks.{Entry, Mark, Timeline, Called, Loss, Allocated, Ended, is_event}
 use Rattle.sm_names.specs.Reading.{readings}
 use Rattle.sm_names.specs.Timelines.{after, timeline}
-use Rattle.sm_names.proofs.GrowthLaws.{Grows, Stays, grows_history}
-use Rattle.sm_names.proofs.HistoryLaws.{AreAnswers-last, timeline-push}
-use Rattle.sm_names.proofs.KeptLaws.{kept-after}
+use Rattle.history_laws.proofs.GrowthLaws.{Grows, Stays, grows_history}
+use Rattle.history_laws.proofs.HistoryLaws.{AreAnswers-last, timeline-push}
+use Rattle.history_laws.proofs.KeptLaws.{kept-after}
 
 -- such a mark leaves them
 pub same_hands : (marks : Timeline) (mark : Mark) → is_event mark ≡ false → SameHands marks (mark ∷ marks)

@@ -17,14 +17,14 @@ use Rattle.sm_names.specs.Marks.{Mark, Timeline, Called, Allocated}
 use Rattle.sm_names.specs.Reading.{readings}
 use Rattle.sm_names.specs.Sameness.{same_buffer, same_strength}
 use Rattle.sm_names.specs.Words.{times}
-use Rattle.sm_names.proofs.CountLaws.{counted, caller_joined, client-le-total, total_is}
-use Rattle.sm_names.proofs.GrowthLaws.{Grows, Stays, Answers, Loses, Allocates, Ends}
+use Rattle.history_laws.proofs.CountLaws.{counted, caller_joined, client-le-total, total_is}
+use Rattle.history_laws.proofs.GrowthLaws.{Grows, Stays, Answers, Loses, Allocates, Ends}
 use Rattle.event_laws.proofs.HandleEventLaws.{open_of_mark}
-use Rattle.sm_names.proofs.HandleLaws.{same_buffer-true, same_strength-true, dup_was_open}
-use Rattle.sm_names.proofs.HeldLaws.{Lays, Nothing_new, New, allocation_lays}
-use Rattle.sm_names.proofs.SamenessLaws.{either_way, and_left, and_right, both_ways, or_right, false_if}
-use Rattle.sm_names.proofs.SettledLaws.{forced_why}
-use Rattle.sm_names.proofs.TakeLaws.{take_opens}
+use Rattle.sm_names.proofs.SamenessLaws.{same_buffer-true, same_strength-true, either_way, and_left, and_right, both_ways, or_right, false_if}
+use Rattle.history_laws.proofs.HandleLaws.{dup_was_open}
+use Rattle.history_laws.proofs.HeldLaws.{Lays, Nothing_new, New, allocation_lays}
+use Rattle.history_laws.proofs.SettledLaws.{forced_why}
+use Rattle.history_laws.proofs.TakeLaws.{take_opens}
 
 -- ---- who has not joined has no handle
 

@@ -15,9 +15,7 @@ use Rattle.sm_names.specs.Marks.{Entry, Timeline}
 use Rattle.sm_names.specs.Sameness.{same_buffer, same_strength}
 use Rattle.sm_names.specs.Timelines.{timeline}
 use Rattle.event_laws.proofs.HandleEventLaws.{open_of_event, open_total_event, moving_event, idle_gains, idle_loses, idle_opens, idle_drops, idle_lifts, idle_lands}
-use Rattle.sm_names.proofs.HandleLaws.{same_buffer-true, same_strength-true}
-use Rattle.sm_names.proofs.SamenessLaws.{either_way, and_left, and_right, or_false, and_both}
-use Rattle.sm_names.proofs.TakeLaws.{same_strength-refl}
+use Rattle.sm_names.proofs.SamenessLaws.{same_buffer-true, same_strength-true, either_way, and_left, and_right, or_false, and_both, same_strength-refl}
 
 -- ---- how a count goes
 

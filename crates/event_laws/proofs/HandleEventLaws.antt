@@ -11,10 +11,10 @@ use Rattle.sm_names.specs.Legality.{IsLegal}
 use Rattle.sm_names.specs.Marks.{Entry, Mark, Timeline, Called}
 use Rattle.sm_names.specs.Timelines.{timeline}
 use Rattle.sm_names.specs.Words.{times}
-use Rattle.sm_names.proofs.CountLaws.{IsCounted, counted, drops-le-opens, lands-le-lifts}
-use Rattle.sm_names.proofs.GrowthLaws.{Answers}
+use Rattle.history_laws.proofs.CountLaws.{IsCounted, counted, drops-le-opens, lands-le-lifts}
+use Rattle.history_laws.proofs.GrowthLaws.{Answers}
 use Rattle.event_laws.proofs.HandLaws.{NextEvent, next_event}
-use Rattle.sm_names.proofs.SumLaws.{times-cons}
+use Rattle.history_laws.proofs.SumLaws.{times-cons}
 
 -- ---- a mark does one thing only
 

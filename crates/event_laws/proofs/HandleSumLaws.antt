@@ -16,11 +16,11 @@ use Rattle.sm_names.specs.Marks.{Entry, Mark, Timeline, Called, is_event}
 use Rattle.sm_names.specs.Sameness.{same_buffer, same_strength}
 use Rattle.sm_names.specs.Timelines.{after, timeline}
 use Rattle.sm_names.specs.Words.{times}
-use Rattle.sm_names.proofs.CountLaws.{IsCounted, counted, drops-le-opens, lands-le-lifts}
-use Rattle.sm_names.proofs.GrowthLaws.{Grows, legal_grows}
-use Rattle.sm_names.proofs.KeptLaws.{kept-after}
+use Rattle.history_laws.proofs.CountLaws.{IsCounted, counted, drops-le-opens, lands-le-lifts}
+use Rattle.history_laws.proofs.GrowthLaws.{Grows, legal_grows}
+use Rattle.history_laws.proofs.KeptLaws.{kept-after}
 use Rattle.sm_names.proofs.SamenessLaws.{and_both, and_left, and_right, and_swap, either_way}
-use Rattle.sm_names.proofs.SumLaws.{one, one_of, AreOnce, times-cons, sum_by-same, sum_by-add, sum_by-zero, sum_once}
+use Rattle.history_laws.proofs.SumLaws.{one, one_of, AreOnce, times-cons, sum_by-same, sum_by-add, sum_by-zero, sum_once}
 use Rattle.event_laws.specs.ByEvent.{anyone, only, entry_mark}
 use Rattle.event_laws.specs.HandleSums.{ListsAllocated, all_moving, all_open, all_open_of, allocated_collections, opened_at, dropped_at, sent_at, got_at, opened, dropped, sent, got, indices_in, over_buffers}
 use Rattle.event_laws.proofs.HandleSumNamedLaws.{IsThere, lists_allocated, opens_there, drops_there, lifts_there, lands_there}

@@ -24,15 +24,15 @@ use Rattle.sm_names.specs.Pages.{places, pages_of}
 use Rattle.sm_names.specs.Sameness.{same_buffer}
 use Rattle.sm_names.specs.Timelines.{standing}
 use Rattle.sm_names.specs.Words.{first_some, times, when}
-use Rattle.sm_names.proofs.BitLaws.{named_below}
-use Rattle.sm_names.proofs.CountLaws.{counted, client-le-total, drops-le-opens, lands-le-lifts}
-use Rattle.sm_names.proofs.GrowthLaws.{Grows, Stays, Answers, Loses, Allocates, Ends}
-use Rattle.sm_names.proofs.HeldLaws.{given_root}
-use Rattle.sm_names.proofs.LifeLaws.{IsOrdered, ordered}
+use Rattle.history_laws.proofs.BitLaws.{named_below}
+use Rattle.history_laws.proofs.CountLaws.{counted, client-le-total, drops-le-opens, lands-le-lifts}
+use Rattle.history_laws.proofs.GrowthLaws.{Grows, Stays, Answers, Loses, Allocates, Ends}
+use Rattle.history_laws.proofs.HeldLaws.{given_root}
+use Rattle.history_laws.proofs.LifeLaws.{IsOrdered, ordered}
 use Rattle.sm_names.proofs.ListLaws.{times-le}
 use Rattle.sm_names.proofs.SamenessLaws.{and_both, and_right, both_ways, either_way, false_if, not_none}
-use Rattle.sm_names.proofs.SettledLaws.{find_birth, Why, Initial, Logical, forced_why}
-use Rattle.sm_names.proofs.SumLaws.{one, any_one, times-cons, sum_by-same}
+use Rattle.history_laws.proofs.SettledLaws.{find_birth, Why, Initial, Logical, forced_why}
+use Rattle.history_laws.proofs.SumLaws.{one, any_one, times-cons, sum_by-same}
 use Rattle.event_laws.specs.ByEvent.{anyone, only, gains, loses, GoesBy}
 use Rattle.event_laws.specs.HandleSums.{ListsAllocated, allocated_collections, over_buffers}
 use Rattle.event_laws.proofs.HandleBufferLaws.{opened_named, some_opened, stranger_has_none}

@@ -6,11 +6,11 @@ use Rattle.sm_names.specs.Marks.{Entry, Mark, Timeline, Called, Loss, Allocated,
 use Rattle.sm_names.specs.Timelines.{after}
 use Rattle.sm_names.specs.Trackers.{Tracked, tracked, tracked_at, earlier_moments, moments}
 use Rattle.sm_names.specs.Words.{last_match}
-use Rattle.sm_names.proofs.KeptLaws.{kept-after}
-use Rattle.sm_names.proofs.LifeLaws.{In_old}
+use Rattle.history_laws.proofs.KeptLaws.{kept-after}
+use Rattle.history_laws.proofs.LifeLaws.{In_old}
 use Rattle.sm_names.proofs.ListLaws.{In}
 use Rattle.sm_names.proofs.SamenessLaws.{either_way}
-use Rattle.sm_names.proofs.SumLaws.{times-cons}
+use Rattle.history_laws.proofs.SumLaws.{times-cons}
 
 -- what holds of each element that passes, holds of the last one
 pub last_match-kept : {A : Type 0} (P : A → Type 0) (test : A → Bool) (xs : List A) → ((x : A) → In x xs → test x ≡ true → P x) → (y : A) →

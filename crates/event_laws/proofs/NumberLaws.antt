@@ -10,13 +10,13 @@ use Rattle.sm_names.specs.Bounds.{Bound}
 use Rattle.sm_names.specs.Marks.{Entry, Mark, Timeline, Called, events, is_event}
 use Rattle.sm_names.specs.Reading.{readings}
 use Rattle.sm_names.specs.Trackers.{Tracked, tracked, tracked_at}
-use Rattle.sm_names.proofs.AnswerLaws.{took_effect_all}
-use Rattle.sm_names.proofs.GrowthLaws.{Grows, kept-grown}
+use Rattle.history_laws.proofs.AnswerLaws.{took_effect_all}
+use Rattle.history_laws.proofs.GrowthLaws.{Grows, kept-grown}
 use Rattle.event_laws.specs.Waiting.{tracker_made}
-use Rattle.sm_names.proofs.LifeLaws.{In_new}
+use Rattle.history_laws.proofs.LifeLaws.{In_new}
 use Rattle.sm_names.proofs.ListLaws.{In, In-reverse}
 use Rattle.event_laws.proofs.MomentLaws.{only_events}
-use Rattle.sm_names.proofs.TakeLaws.{none_key}
+use Rattle.history_laws.proofs.TakeLaws.{none_key}
 use Rattle.std.proofs.lemmas.List.Elements.{All-nil, All-cons, All-head, All-tail}
 
 -- ---- elements

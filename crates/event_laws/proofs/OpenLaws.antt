@@ -18,8 +18,8 @@ use Rattle.sm_names.specs.Legality.{AreAnswers, IsLegal}
 use Rattle.sm_names.specs.Marks.{Called, Entry, Mark, Timeline, events}
 use Rattle.sm_names.specs.Sameness.{same_strength}
 use Rattle.sm_names.specs.Timelines.{after, timeline}
-use Rattle.sm_names.proofs.GrowthLaws.{legal_grows}
-use Rattle.sm_names.proofs.SumLaws.{sum_by-same, sum_by-zero}
+use Rattle.history_laws.proofs.GrowthLaws.{legal_grows}
+use Rattle.history_laws.proofs.SumLaws.{sum_by-same, sum_by-zero}
 use Rattle.event_laws.specs.ByEvent.{entry_mark, only}
 use Rattle.event_laws.specs.HandleSums.{all_open_of, allocated_collections, dropped_at, got_at, indices_in, opened_at, sent_at}
 use Rattle.event_laws.proofs.HandleBufferLaws.{stranger_has_none}

@@ -16,17 +16,16 @@ use Rattle.sm_names.specs.Marks.{Entry, Mark, Timeline, Called, events}
 use Rattle.sm_names.specs.Reading.{readings}
 use Rattle.sm_names.specs.Timelines.{timeline}
 use Rattle.sm_names.specs.Words.{times}
-use Rattle.sm_names.proofs.AnswerLaws.{TookEffect, took_effect_all}
-use Rattle.sm_names.proofs.CountLaws.{AreClients, counted}
-use Rattle.sm_names.proofs.GrowthLaws.{Grows, Stays, Answers, Loses, Allocates, Ends}
+use Rattle.history_laws.proofs.AnswerLaws.{TookEffect, took_effect_all}
+use Rattle.history_laws.proofs.CountLaws.{AreClients, counted}
+use Rattle.history_laws.proofs.GrowthLaws.{Grows, Stays, Answers, Loses, Allocates, Ends}
 use Rattle.event_laws.proofs.HandLaws.{NextEvent, next_event}
 use Rattle.event_laws.proofs.HandleBufferLaws.{still_joined}
-use Rattle.sm_names.proofs.ListLaws.{In-list_any, when-Some}
-use Rattle.sm_names.proofs.ParcelLaws.{IsDrawn, parcels-given, parcels-collected, parcels-kept}
+use Rattle.sm_names.proofs.ListLaws.{In-list_any, when-Some, when-None}
+use Rattle.history_laws.proofs.ParcelLaws.{IsDrawn, parcels-given, parcels-collected, parcels-kept}
 use Rattle.sm_names.proofs.SamenessLaws.{both_ways, false_if, none_or_some}
-use Rattle.sm_names.proofs.SumLaws.{times-cons, times_push}
-use Rattle.sm_names.proofs.TakeLaws.{none_key}
-use Rattle.sm_names.proofs.RestLaws.{when-None}
+use Rattle.history_laws.proofs.SumLaws.{times-cons, times_push}
+use Rattle.history_laws.proofs.TakeLaws.{none_key}
 
 -- ---- what is collected
 

@@ -20,17 +20,16 @@ use Rattle.sm_names.specs.Reading.{readings}
 use Rattle.sm_names.specs.Trackers.{Tracked, World, tracked_at, collection_of_node, holds, world}
 use Rattle.event_laws.specs.Waiting.{unfired_trackers, tracker_made, trackers_to_test, is_tracked_met, IsRecalled, IsWaitedFor}
 use Rattle.event_laws.proofs.AllocatedLaws.{allocated_on}
-use Rattle.sm_names.proofs.AnswerLaws.{took_effect_all}
-use Rattle.sm_names.proofs.BirthLaws.{Named, named, birth_was_born}
+use Rattle.history_laws.proofs.AnswerLaws.{took_effect_all}
+use Rattle.history_laws.proofs.BirthLaws.{Named, named, birth_was_born}
 use Rattle.event_laws.proofs.ConcernLaws.{concerned}
-use Rattle.sm_names.proofs.CountLaws.{counted, client-le-total}
-use Rattle.sm_names.proofs.GrowthLaws.{Grows}
-use Rattle.sm_names.proofs.HandleLaws.{some_open}
-use Rattle.sm_names.proofs.LifeLaws.{ordered, In_new}
+use Rattle.history_laws.proofs.CountLaws.{counted, client-le-total}
+use Rattle.history_laws.proofs.GrowthLaws.{Grows}
+use Rattle.history_laws.proofs.HandleLaws.{some_open}
+use Rattle.history_laws.proofs.LifeLaws.{ordered, In_new}
 use Rattle.sm_names.proofs.ListLaws.{In, In-append}
-use Rattle.sm_names.proofs.SamenessLaws.{false_if, and_right, both_ways}
-use Rattle.sm_names.proofs.SettledLaws.{map-Some}
-use Rattle.sm_names.proofs.TakeLaws.{none_key}
+use Rattle.sm_names.proofs.SamenessLaws.{false_if, and_right, both_ways, map-Some}
+use Rattle.history_laws.proofs.TakeLaws.{none_key}
 use Rattle.event_laws.proofs.WaitingLaws.{In-waiting, waited_for}
 
 -- what is waited for is known: its node was born, and was allocated if it was gone, and its buffer was not home

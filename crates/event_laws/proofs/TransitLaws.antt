@@ -17,16 +17,15 @@ use Rattle.sm_names.specs.Marks.{Mark, Timeline, Called, events}
 use Rattle.sm_names.specs.Reading.{readings}
 use Rattle.sm_names.specs.Sameness.{same_key}
 use Rattle.sm_names.specs.Words.{times}
-use Rattle.sm_names.proofs.CountLaws.{counted}
+use Rattle.history_laws.proofs.CountLaws.{counted}
 use Rattle.event_laws.proofs.FreeEndLaws.{FreeEnd, sends_free, spends_free, binds_free}
-use Rattle.sm_names.proofs.GrowthLaws.{Grows, Stays, Answers, Loses, Allocates, Ends}
+use Rattle.history_laws.proofs.GrowthLaws.{Grows, Stays, Answers, Loses, Allocates, Ends}
 use Rattle.event_laws.proofs.HandleBufferLaws.{still_joined}
-use Rattle.sm_names.proofs.ListLaws.{In-list_any}
+use Rattle.sm_names.proofs.ListLaws.{In-list_any, In-any}
 use Rattle.event_laws.proofs.ParcelEventLaws.{given_joined, parcels_count}
-use Rattle.sm_names.proofs.ParcelLaws.{IsDrawn}
+use Rattle.history_laws.proofs.ParcelLaws.{IsDrawn}
 use Rattle.sm_names.proofs.SamenessLaws.{either_way, and_left, and_both, both_ways, or_right, or_both, false_if}
-use Rattle.sm_names.proofs.StandingLaws.{In-any}
-use Rattle.sm_names.proofs.SumLaws.{any_one}
+use Rattle.history_laws.proofs.SumLaws.{any_one}
 
 -- ---- which parcels an event adds and takes
 

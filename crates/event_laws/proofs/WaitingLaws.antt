@@ -18,8 +18,8 @@ use Rattle.sm_names.specs.Timelines.{after}
 use Rattle.sm_names.specs.Trackers.{Tracked, tracked, tracked_at, moments, fired_at, fired_in, fired, unfired, holds, world}
 use Rattle.event_laws.specs.Waiting.{unfired_trackers, tracker_made, trackers_to_test, is_tracked_met, tracked_firing, IsWaitedFor}
 use Rattle.event_laws.proofs.FiringLaws.{not_due, waits_next, fires_now, fired_then, made_waits}
-use Rattle.sm_names.proofs.GoneLaws.{earlier_after}
-use Rattle.sm_names.proofs.GrowthLaws.{Grows}
+use Rattle.history_laws.proofs.GoneLaws.{earlier_after}
+use Rattle.history_laws.proofs.GrowthLaws.{Grows}
 use Rattle.sm_names.proofs.ListLaws.{In, In-reverse, In-filter, filter-In}
 use Rattle.event_laws.proofs.MomentLaws.{moment_earlier, tracked_after}
 use Rattle.sm_names.proofs.SamenessLaws.{either_way}

@@ -5,9 +5,8 @@ use Rattle.std.specs.List.{list_any}
 use Rattle.std.specs.Option.{option_map_or}
 use Rattle.sm_names.specs.declared.keys.NodeKey.{NodeKey}
 use Rattle.sm_names.specs.Sameness.{same_key}
-use Rattle.sm_names.proofs.ListLaws.{In, In-list_any, In-reverse, In-reverse-back}
-use Rattle.sm_names.proofs.SamenessLaws.{and_both, and_left, and_right, both_ways, either_way, or_cases, or_left, or_none_left, or_none_right, or_right, same_key-refl, same_key-true}
-use Rattle.sm_names.proofs.StandingLaws.{In-any, both_tests}
+use Rattle.sm_names.proofs.ListLaws.{In, In-list_any, In-reverse, In-reverse-back, In-any}
+use Rattle.sm_names.proofs.SamenessLaws.{and_both, and_left, and_right, both_ways, either_way, or_cases, or_left, or_none_left, or_none_right, or_right, same_key-refl, same_key-true, both_tests}
 use Rattle.forest_store.specs.declared.node.Node.{Node}
 use Rattle.forest_store.specs.Nodes.{above_among, is_of}
 use Rattle.forest_store.specs.Questions.{is_below, is_live_node, lives_below}

@@ -11,8 +11,7 @@ use Rattle.sm_names.specs.declared.outcomes.Cause.{Cause}
 use Rattle.sm_names.specs.Answers.{IsAnswer, new_key}
 use Rattle.sm_names.specs.Bounds.{Bound}
 use Rattle.sm_names.specs.Timelines.{key_of}
-use Rattle.sm_names.proofs.SamenessLaws.{both_ways, some-injective}
-use Rattle.sm_names.proofs.SettledLaws.{and_then-Some, map-Some}
+use Rattle.sm_names.proofs.SamenessLaws.{both_ways, some-injective, and_then-Some, map-Some}
 use Rattle.buffer_holds.specs.Counts.{total}
 use Rattle.forest_store.specs.declared.change.Change.{Change}
 use Rattle.forest_store.specs.declared.change.Effect.{Effect}

@@ -14,10 +14,9 @@ use Rattle.sm_names.specs.Losses.{gone, live, released}
 use Rattle.sm_names.specs.Marks.{Timeline}
 use Rattle.sm_names.specs.Members.{Member, is_live, member, members, some_strong_live}
 use Rattle.sm_names.specs.Weakness.{weak}
-use Rattle.sm_names.proofs.ListLaws.{In, In-filter, In-list_any, In-reverse, In-reverse-back, is_some-find, list_any-map}
+use Rattle.sm_names.proofs.ListLaws.{In, In-filter, In-list_any, In-reverse, In-reverse-back, is_some-find, list_any-map, In-any}
 use Rattle.sm_names.specs.Sameness.{same_key}
-use Rattle.sm_names.proofs.SamenessLaws.{either_way, false_if, or_cases, or_left, or_right, same_key-refl}
-use Rattle.sm_names.proofs.StandingLaws.{In-any, both_tests}
+use Rattle.sm_names.proofs.SamenessLaws.{either_way, false_if, or_cases, or_left, or_right, same_key-refl, both_tests}
 use Rattle.event_marks.specs.Explanations.{Holder, holders, keepers, strengths}
 
 -- ---- lists

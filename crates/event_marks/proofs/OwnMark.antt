@@ -12,9 +12,8 @@ use Rattle.sm_names.specs.Losses.{gone}
 use Rattle.sm_names.specs.Marks.{Mark, Timeline, Loss}
 use Rattle.sm_names.specs.Timelines.{key_of, own_loss}
 use Rattle.sm_names.specs.Words.{when}
-use Rattle.sm_names.proofs.GrowthLaws.{Grows}
-use Rattle.sm_names.proofs.SamenessLaws.{some-injective}
-use Rattle.sm_names.proofs.SettledLaws.{and_then-Some, map-Some}
+use Rattle.history_laws.proofs.GrowthLaws.{Grows}
+use Rattle.sm_names.proofs.SamenessLaws.{some-injective, and_then-Some, map-Some}
 use Rattle.forest_store.specs.declared.change.Change.{Change}
 use Rattle.forest_store.specs.declared.change.Effect.{Effect}
 use Rattle.forest_store.specs.declared.node.Node.{Node}

@@ -10,9 +10,9 @@ use Rattle.sm_names.specs.Losses.{blocked, gone, parent_of, takes, top}
 use Rattle.sm_names.specs.Marks.{Timeline, Loss, Ended}
 use Rattle.sm_names.specs.Sameness.{same_key}
 use Rattle.sm_names.proofs.ListLaws.{In, In-filter, In-filter-back, In-list_any, In-map, In-map-back, In-reverse, In-reverse-back}
-use Rattle.sm_names.proofs.ReachLaws.{parent_born}
+use Rattle.history_laws.proofs.ReachLaws.{parent_born}
 use Rattle.sm_names.proofs.SamenessLaws.{and_left, and_right, either_way, none_or_some, same_key-refl, same_key-true, some-injective}
-use Rattle.sm_names.proofs.StandingLaws.{and_both}
+use Rattle.history_laws.proofs.StandingLaws.{and_both}
 use Rattle.event_marks.specs.Explanations.{Handing, Moment, handed, handings, taken_at, way_of_loss}
 use Rattle.event_marks.proofs.Reasons.{reason_below, root_reason, top_on_way}
 

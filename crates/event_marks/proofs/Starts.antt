@@ -4,9 +4,8 @@ use Rattle.std.proofs.lemmas.Bool.{leb-false, lt-leb, lt-ltb, ltb-true, ltb-fals
 use Rattle.std.specs.List.{find, list_any, range_with_len}
 use Rattle.sm_names.specs.declared.keys.Interval.{Interval}
 use Rattle.sm_names.specs.Pages.{has_room, meets}
-use Rattle.sm_names.proofs.ListLaws.{In-find, is_some-find}
+use Rattle.sm_names.proofs.ListLaws.{In-find, is_some-find, In-any}
 use Rattle.sm_names.proofs.SamenessLaws.{and_both, and_left, and_right, either_way}
-use Rattle.sm_names.proofs.StandingLaws.{In-any}
 use Rattle.buffer_pool.specs.Holes.{end_of}
 use Rattle.event_marks.proofs.Ranges.{find_from, find_nothing, find_to}
 

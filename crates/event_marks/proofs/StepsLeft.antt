@@ -14,7 +14,7 @@ use Rattle.sm_names.specs.Pages.{places, pages_of}
 use Rattle.sm_names.specs.Sameness.{same_key}
 use Rattle.sm_names.specs.Words.{when}
 use Rattle.sm_names.proofs.ListLaws.{In-list_any}
-use Rattle.sm_names.proofs.ReachLaws.{top_on}
+use Rattle.sm_names.proofs.ChainLaws.{top_on}
 use Rattle.sm_names.proofs.SamenessLaws.{and_left, and_right, or_left, or_right, same_key-refl, same_key-true}
 use Rattle.forest_store.specs.declared.node.Node.{Node}
 use Rattle.forest_store.specs.Decisions.{Decision, Ends, Loses, Places, Allocates, IsStep, has_waiting, is_left_of, mark_of}

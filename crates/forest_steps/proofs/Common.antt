@@ -3,10 +3,8 @@ pub use Rattle.std.proofs.Common.{Bool, Contains, Err, IsSome, List, None, Ok, O
 pub use Rattle.std.proofs.lemmas.Bool.{eq-eqb, eqb-false, eqb-true, le-ltb, lt-ltb, ltb-false, not-true}
 pub use Rattle.std.specs.List.{AllByRecursion, cons_option, filter, filter_map, find, flat_map, fold, list_all, list_any, range_with_len, sum_by}
 pub use Rattle.std.specs.Option.{option_and_then, option_map_or, unwrap_or}
-pub use Rattle.sm_names.proofs.ListLaws.{In, In-filter, In-filter-back, In-find, In-get_or, In-list_any, In-map, In-map-back, In-reverse, In-reverse-back, filter-list_all, list_any-map, map-In, when-Some}
-pub use Rattle.sm_names.proofs.SamenessLaws.{and_both, and_left, and_right, both_ways, either_way, false_if, or_both, or_cases, or_false, or_first, or_left, or_none_left, or_none_right, or_right, same_key-comm, same_key-refl, same_key-true, some-injective}
-pub use Rattle.sm_names.proofs.SizeLaws.{all_on}
-pub use Rattle.sm_names.proofs.StandingLaws.{In-any}
+pub use Rattle.sm_names.proofs.ListLaws.{In, In-filter, In-filter-back, In-find, In-get_or, In-list_any, In-map, In-map-back, In-reverse, In-reverse-back, filter-list_all, list_any-map, map-In, when-Some, all_on, In-any}
+pub use Rattle.sm_names.proofs.SamenessLaws.{and_both, and_left, and_right, both_ways, either_way, false_if, or_both, or_cases, or_false, or_first, or_left, or_none_left, or_none_right, or_right, same_key-comm, same_key-refl, same_key-true, some-injective, same_buffer-true, none_if}
 pub use Rattle.sm_names.specs.Demands.{Demand}
 pub use Rattle.sm_names.specs.Forced.{forced, outcome}
 pub use Rattle.sm_names.specs.Sameness.{same_key}
@@ -74,7 +72,7 @@ pub use Rattle.forest_store.specs.declared.loss_marks.Going.{Going}
 pub use Rattle.node_table.specs.Changes.{Writes}
 pub use Rattle.node_table.specs.Forest.{IsForest}
 pub use Rattle.node_table.specs.Lending.{table_with_node}
-pub use Rattle.sm_names.proofs.ReachLaws.{IsChain}
+pub use Rattle.sm_names.proofs.ChainLaws.{IsChain}
 pub use Rattle.sm_names.specs.Changes.{blocks}
 pub use Rattle.sm_names.specs.Handles.{is_home, names}
 pub use Rattle.sm_names.specs.Losses.{Reach, Up}
@@ -111,7 +109,5 @@ pub use Rattle.forest_store.proofs.quiescence.Keeping.{below_held, either_holds,
 pub use Rattle.forest_store.proofs.tables.Chains.{one_line}
 pub use Rattle.forest_store.proofs.tallies.Hung.{below_mapped, hangs_mapped}
 pub use Rattle.forest_store.specs.Given.{IsServedByGiven}
-pub use Rattle.sm_names.proofs.HandleLaws.{same_buffer-true}
 pub use Rattle.sm_names.specs.Timelines.{laid_out}
 pub use Rattle.sm_names.specs.declared.rules.TheConstants.{MAX_CAMPING}
-pub use Rattle.sm_names.proofs.SettledLaws.{none_if}

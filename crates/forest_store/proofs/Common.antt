@@ -3,10 +3,8 @@ pub use Rattle.std.proofs.Common.{Bool, Err, IfOk, IfSome, IsSome, List, None, O
 pub use Rattle.std.proofs.lemmas.Bool.{cases_eq, cases_lt, eq-eqb, eqb-false, eqb-true, false≢true, le-ltb, leb-true, lt-ltb, ltb-false, ltb-true, ne_eqb, not-true, not_from_false, not-false, le-leb}
 pub use Rattle.std.specs.List.{AllByRecursion, AllPairs, cons_option, filter, filter_map, find, flat_map, fold, insert, list_all, list_any, remove, slice_get, sum_by, copy_within, prefix_len}
 pub use Rattle.std.specs.Option.{option_and_then, option_map_or, unwrap_or, MatchOption, option_or}
-pub use Rattle.sm_names.proofs.ListLaws.{In, In-append, In-behind, In-front, In-filter, In-filter-back, In-find, In-get_or, In-list_any, In-map, In-map-back, In-reverse, In-reverse-back, filter-In, filter-list_all, list_all-filter, map-In, times-append, times-le-length, times-zero, filter-swap, filter-all, is_some-find, none-find, find-none, list_any-map}
-pub use Rattle.sm_names.proofs.SamenessLaws.{and_both, and_left, and_right, both_ways, either_way, false_if, none_is, or_both, or_cases, or_false, or_left, or_none_left, or_none_right, or_parts, or_right, same_key-refl, same_key-true, some-injective, same_key-comm, none_or_some}
-pub use Rattle.sm_names.proofs.SizeLaws.{all_on}
-pub use Rattle.sm_names.proofs.StandingLaws.{In-any, filter-less, both_tests}
+pub use Rattle.sm_names.proofs.ListLaws.{In, In-append, In-behind, In-front, In-filter, In-filter-back, In-find, In-get_or, In-list_any, In-map, In-map-back, In-reverse, In-reverse-back, filter-In, filter-list_all, list_all-filter, map-In, times-append, times-le-length, times-zero, filter-swap, filter-all, is_some-find, none-find, find-none, list_any-map, all_on, In-any, filter-less}
+pub use Rattle.sm_names.proofs.SamenessLaws.{and_both, and_left, and_right, both_ways, either_way, false_if, none_is, or_both, or_cases, or_false, or_left, or_none_left, or_none_right, or_parts, or_right, same_key-refl, same_key-true, some-injective, same_key-comm, none_or_some, both_tests, map-None}
 pub use Rattle.sm_names.specs.Demands.{Demand}
 pub use Rattle.sm_names.specs.Forced.{Standing, abandoned, ending, forced, is_allocated, is_deserted, is_next_head, logical_allocation, logical_failure, outcome, initial_allocation, initial_failure}
 pub use Rattle.sm_names.specs.Sameness.{same_key}
@@ -43,9 +41,8 @@ pub use Rattle.forest_store.specs.declared.loss_marks.Going.{Going}
 pub use Rattle.node_table.proofs.Keys.{key_cases, same_key-apart, same_key-equal, false-same_key}
 pub use Rattle.node_table.specs.Changes.{SameKeys, Writes, at_parent, with_node, Cuts, Removes, without_child, without_parent, Births, with_child}
 pub use Rattle.node_table.specs.Lending.{table_with_node}
-pub use Rattle.sm_names.proofs.PlaceLaws.{map-None}
-pub use Rattle.sm_names.proofs.ReachLaws.{IsChain, climbs, descends, top_on}
-pub use Rattle.sm_names.proofs.RestLaws.{AtRest}
+pub use Rattle.sm_names.proofs.ChainLaws.{IsChain, climbs, descends, top_on}
+pub use Rattle.sm_names.proofs.ForcedLaws.{AtRest}
 pub use Rattle.sm_names.specs.Marks.{Allocated, Called, Ended, Loss, Mark}
 pub use Rattle.sm_names.specs.Members.{Member, demands, is_live, is_ready, is_root, is_settled, is_under, reserved, root_left, some_live, some_strong_live, subtree, unit, greatest, wanted, asked}
 pub use Rattle.sm_names.specs.declared.outcomes.Failure.{Failure}

@@ -2,7 +2,7 @@
 use Rattle.std.proofs.Common.{ℕ, zero, suc, ◌≡◌, ◌≤◌, ◌<◌, ◌+◌, refl, ap, sym, ◌∙◌, Bool, true, false, ◌&&◌, ◌||◌, cond, ◌⊎◌, inl, inr, List, [], ◌∷◌, ◌++◌, length, get_or, map, reverse, Option, Some, None, is_some, arith}
 use Rattle.std.proofs.lemmas.List.{reverse-append}
 use Rattle.std.specs.List.{list_all, list_any, find, filter}
-use Rattle.sm_names.proofs.SamenessLaws.{and_both, and_left, and_right, either_way, none_is, or_none_left, or_none_right}
+use Rattle.sm_names.proofs.SamenessLaws.{and_both, and_left, and_right, either_way, none_is, or_left, or_right, or_none_left, or_none_right}
 pub use Rattle.sm_names.specs.Elements.{In}
 use Rattle.sm_names.specs.Words.{first_some, times, when}
 use mathlib.Core.List.{reverse_aux}
@@ -134,6 +134,17 @@ In-list_any test (y ∷ ys) h =
       | inr e ↦ let r = In-list_any test ys (rw e at h) in (r.0, inr r.1, r.2)
     ]
 
+-- where an element passes, some do
+pub In-any : {A : Type 0} (test : A → Bool) (xs : List A) (x : A) → In x xs → test x ≡ true → list_any test xs ≡ true
+In-any test [] x on is = absurd on
+In-any test (y ∷ ys) x (inl here) is = or_left _ _ (ap test (sym here) ∙ is)
+In-any test (y ∷ ys) x (inr on) is = or_right (test y) _ (In-any test ys x on is)
+
+-- where each element passes, all do
+pub all_on : {A : Type 0} (test : A → Bool) (xs : List A) → ((x : A) → In x xs → test x ≡ true) → list_all test xs ≡ true
+all_on test [] passes = refl
+all_on test (x ∷ xs) passes = rw (passes x (inl refl)) (all_on test xs (λ y on. passes y (inr on)))
+
 -- some of a mapped list pass where some pass the same test before
 pub list_any-map : {A B : Type 0} (p : B → Bool) (q : A → Bool) (f : A → B) (xs : List A) → ((x : A) → In x xs → p (f x) ≡ q x) →
     list_any p (map f xs) ≡ list_any q xs
@@ -156,6 +167,11 @@ In-first_some (Some y ∷ os) x h = inl (sym h)
 pub when-Some : {A : Type 0} (b : Bool) (x y : A) → when b x ≡ Some y → (b ≡ true) × (x ≡ y)
 when-Some true x y h = (refl, cc)
 when-Some false x y h = cc
+
+-- what is not there failed its test
+pub when-None : {A : Type 0} (b : Bool) (x : A) → when b x ≡ None → b ≡ false
+when-None true x h = cc
+when-None false x h = refl
 
 -- if no element passes, the filtered list is empty
 pub filter-none : {A : Type 0} (test : A → Bool) (xs : List A) → ((x : A) → In x xs → test x ≡ false) → filter test xs ≡ []
@@ -184,6 +200,19 @@ filter-swap {A = A} p q (x ∷ xs) =
       | inr e ↦ elim (either_way (q x)) [
         | inl f ↦ rw (e, f, e) (filter-swap p q xs)
         | inr f ↦ rw (e, f) (filter-swap p q xs)
+      ]
+    ]
+
+-- what passes the narrower test may first be kept by the wider one
+pub filter-less : {A : Type 0} (p q : A → Bool) (xs : List A) → ((x : A) → p x ≡ true → q x ≡ true) → filter p xs ≡ filter p (filter q xs)
+filter-less p q [] less = refl
+filter-less p q (x ∷ xs) less =
+    let on : filter p xs ≡ filter p (filter q xs) = filter-less p q xs less in
+    elim (either_way (p x)) [
+      | inl e ↦ let f : q x ≡ true = less x e in rw (f, e) (ap (λ (ys : List _). x ∷ ys) on)
+      | inr e ↦ elim (either_way (q x)) [
+        | inl f ↦ rw (f, e) on
+        | inr f ↦ rw (f, e) on
       ]
     ]
 

@@ -18,15 +18,14 @@ use Rattle.sm_names.specs.Marks.{Timeline, Called, Loss}
 use Rattle.sm_names.specs.Reading.{readings}
 use Rattle.sm_names.specs.Timelines.{collection_of, key_of, own_loss}
 use Rattle.sm_names.specs.Words.{when}
-use Rattle.sm_names.proofs.AnswerLaws.{took_effect_all}
-use Rattle.sm_names.proofs.BirthLaws.{HasEnd, birth_is}
-use Rattle.sm_names.proofs.CountLaws.{caller_joined, client-le-total, counted}
-use Rattle.sm_names.proofs.GrowthLaws.{Grows}
-use Rattle.sm_names.proofs.HandleLaws.{some_open}
-use Rattle.sm_names.proofs.LifeLaws.{whole}
-use Rattle.sm_names.proofs.RejectLaws.{is_refusal, not_refused_end}
-use Rattle.sm_names.proofs.SamenessLaws.{either_way, none_or_some, or_right}
-use Rattle.sm_names.proofs.SettledLaws.{and_then-Some, map-Some}
+use Rattle.history_laws.proofs.AnswerLaws.{took_effect_all}
+use Rattle.history_laws.proofs.BirthLaws.{HasEnd, birth_is}
+use Rattle.history_laws.proofs.CountLaws.{caller_joined, client-le-total, counted}
+use Rattle.history_laws.proofs.GrowthLaws.{Grows}
+use Rattle.history_laws.proofs.HandleLaws.{some_open}
+use Rattle.history_laws.proofs.LifeLaws.{whole}
+use Rattle.history_laws.proofs.RejectLaws.{is_refusal, not_refused_end}
+use Rattle.sm_names.proofs.SamenessLaws.{either_way, none_or_some, or_right, and_then-Some, map-Some}
 use Rattle.buffer_holds.specs.Counts.{total}
 use Rattle.forest_store.specs.declared.change.Change.{Change}
 use Rattle.forest_store.specs.declared.change.Effect.{Effect}

@@ -14,7 +14,7 @@ use Rattle.sm_names.specs.Answers.{OpenEnd, Readings, answer, answers_first, clo
 use Rattle.sm_names.specs.Bounds.{Bound}
 use Rattle.sm_names.specs.Timelines.{key_of}
 use Rattle.sm_names.specs.Words.{first_some}
-use Rattle.sm_names.proofs.RejectLaws.{Rejects, is_refusal, rejects_if, unknown_rejects, shut_rejects, no_end_rejects, in_transit_rejects, wrong_kind_rejects}
+use Rattle.history_laws.proofs.RejectLaws.{Rejects, is_refusal, rejects_if, unknown_rejects, shut_rejects, no_end_rejects, in_transit_rejects, wrong_kind_rejects}
 use Rattle.core_state.specs.Kinds.{fits_call, is_answered}
 
 -- ---- what the table says

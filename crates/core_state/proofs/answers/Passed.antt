@@ -10,7 +10,7 @@ use Rattle.sm_names.specs.declared.outcomes.Refusal.{Refusal}
 use Rattle.sm_names.specs.Bounds.{Bound}
 use Rattle.sm_names.specs.Timelines.{key_of}
 use Rattle.sm_names.specs.Words.{first_some}
-use Rattle.sm_names.proofs.RejectLaws.{is_refusal, strip, unknown_rejects, shut_rejects, no_end_rejects, in_transit_rejects}
+use Rattle.history_laws.proofs.RejectLaws.{is_refusal, strip, unknown_rejects, shut_rejects, no_end_rejects, in_transit_rejects}
 
 -- the reply tells why the node is gone
 abbrev pub is_closed : Reply → Bool

@@ -20,16 +20,16 @@ use Rattle.sm_names.specs.Sameness.{same_key}
 use Rattle.sm_names.specs.declared.keys.HeldBuffer.{HeldBuffer}
 use Rattle.sm_names.specs.Timelines.{after, collection_of, own_loss, key_of, buffer_of, opened_by, settled, placed}
 use Rattle.sm_names.specs.Words.{first_some}
-use Rattle.sm_names.proofs.BirthLaws.{HasEnd, birth_is, Comes, comes, ancestors_old}
-use Rattle.sm_names.proofs.GrowthLaws.{Grows, Answers, own_loss_origin, grows_lost}
-use Rattle.sm_names.proofs.IsolationLaws.{birth_of_collection, of_ours}
-use Rattle.sm_names.proofs.LifeLaws.{whole, In_old}
+use Rattle.history_laws.proofs.BirthLaws.{HasEnd, birth_is, Comes, comes, ancestors_old}
+use Rattle.history_laws.proofs.GrowthLaws.{Grows, Answers, own_loss_origin, grows_lost}
+use Rattle.history_laws.proofs.IsolationLaws.{birth_of_collection, of_ours}
+use Rattle.history_laws.proofs.LifeLaws.{whole, In_old}
 use Rattle.sm_names.proofs.ListLaws.{In, In-filter, map-In, filter-In, filter-swap}
-use Rattle.sm_names.proofs.ReachLaws.{other_key}
-use Rattle.sm_names.proofs.RejectLaws.{not_refused_end}
+use Rattle.history_laws.proofs.ReachLaws.{other_key}
+use Rattle.history_laws.proofs.RejectLaws.{not_refused_end}
 use Rattle.sm_names.proofs.SamenessLaws.{both_ways, false_if, none_or_some, same_key-true}
-use Rattle.sm_names.proofs.SettledLaws.{In-was_born, find_birth}
-use Rattle.sm_names.proofs.WholeLaws.{IsWhole}
+use Rattle.history_laws.proofs.SettledLaws.{In-was_born, find_birth}
+use Rattle.history_laws.proofs.WholeLaws.{IsWhole}
 use Rattle.forest_store.specs.declared.node.End.{End}
 use Rattle.forest_store.specs.Nodes.{is_over}
 use Rattle.core_state.specs.declared.task.Place.{Place}

@@ -6,11 +6,11 @@ use Rattle.sm_names.specs.Bounds.{Bound}
 use Rattle.sm_names.specs.Handles.{buffers_of, home}
 use Rattle.sm_names.specs.Marks.{Mark, Timeline}
 use Rattle.sm_names.specs.Timelines.{held, settled, Settles, Rests, Forces, next_forced}
-use Rattle.sm_names.proofs.GrowthLaws.{Grows, grows_forced}
-use Rattle.sm_names.proofs.IsolationLaws.{of_ours}
-use Rattle.sm_names.proofs.LifeLaws.{whole}
-use Rattle.sm_names.proofs.SettledLaws.{Why, No_live, Fails, Initial, Logical, forced_why, settled_rests}
-use Rattle.sm_names.proofs.WholeLaws.{IsWhole}
+use Rattle.history_laws.proofs.GrowthLaws.{Grows, grows_forced}
+use Rattle.history_laws.proofs.IsolationLaws.{of_ours}
+use Rattle.history_laws.proofs.LifeLaws.{whole}
+use Rattle.history_laws.proofs.SettledLaws.{Why, No_live, Fails, Initial, Logical, forced_why, settled_rests}
+use Rattle.history_laws.proofs.WholeLaws.{IsWhole}
 use Rattle.core_state.specs.Shown.{nodes_after, held_after}
 use Rattle.core_state.proofs.collections.MarksApart.{IsIn, is_beside, buffers_apart, nodes_apart, held_apart, home_apart, beside_apart}
 

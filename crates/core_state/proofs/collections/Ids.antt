@@ -8,12 +8,12 @@ use Rattle.sm_names.specs.Births.{Birth, births, birth_at}
 use Rattle.sm_names.specs.Bounds.{Bound}
 use Rattle.sm_names.specs.Kept.{is_kept_collection}
 use Rattle.sm_names.specs.Marks.{Timeline, Called, events}
-use Rattle.sm_names.proofs.BirthLaws.{comes}
-use Rattle.sm_names.proofs.GrowthLaws.{Grows, Stays, Answers, Loses, Allocates, Ends}
-use Rattle.sm_names.proofs.LifeLaws.{ordered}
+use Rattle.history_laws.proofs.BirthLaws.{comes}
+use Rattle.history_laws.proofs.GrowthLaws.{Grows, Stays, Answers, Loses, Allocates, Ends}
+use Rattle.history_laws.proofs.LifeLaws.{ordered}
 use Rattle.sm_names.proofs.ListLaws.{In, In-filter, In-filter-back, In-map, In-map-back, In-reverse, In-reverse-back}
-use Rattle.sm_names.proofs.SettledLaws.{none_if}
-use Rattle.sm_names.proofs.WholeLaws.{IsWhole}
+use Rattle.sm_names.proofs.SamenessLaws.{none_if}
+use Rattle.history_laws.proofs.WholeLaws.{IsWhole}
 use Rattle.core_state.specs.Shown.{kept_ids}
 use Rattle.core_state.proofs.collections.Replacing.{IsRising, rising-push, filter-map_asked}
 use Rattle.core_state.proofs.collections.Roots.{HasRoot, has_root}

@@ -13,13 +13,12 @@ use Rattle.sm_names.specs.Marks.{Mark, Timeline, Called, Loss, Allocated, Ended}
 use Rattle.sm_names.specs.Members.{member, members, births_in, some_strong_live}
 use Rattle.sm_names.specs.declared.keys.HeldBuffer.{HeldBuffer}
 use Rattle.sm_names.specs.Timelines.{held, placed, layout_at}
-use Rattle.sm_names.proofs.IsolationLaws.{fault_loss, of_ours, not_initial, members_loss, members_end, members_allocation, buffers_allocation, birth_of_collection}
-use Rattle.sm_names.proofs.LayoutLaws.{layout_given}
-use Rattle.sm_names.proofs.ListLaws.{In, In-filter, map-In, map-at, filter-swap, filter-In, filter-none}
+use Rattle.history_laws.proofs.IsolationLaws.{fault_loss, of_ours, not_initial, members_loss, members_end, members_allocation, buffers_allocation, birth_of_collection}
+use Rattle.history_laws.proofs.LayoutLaws.{layout_given}
+use Rattle.sm_names.proofs.ListLaws.{In, In-filter, map-In, map-at, filter-swap, filter-In, filter-none, filter-less}
 use Rattle.sm_names.proofs.SamenessLaws.{either_way, both_ways}
-use Rattle.sm_names.proofs.WholeLaws.{IsWhole}
-use Rattle.sm_names.proofs.StandingLaws.{filter-less}
-use Rattle.sm_names.proofs.SumLaws.{swap_eq}
+use Rattle.history_laws.proofs.WholeLaws.{IsWhole}
+use Rattle.history_laws.proofs.SumLaws.{swap_eq}
 use Rattle.core_state.specs.Shown.{node_after, nodes_after, held_after}
 
 -- the mark is no event, and is at a node of the collection

@@ -12,14 +12,13 @@ use Rattle.sm_names.specs.Kept.{is_kept, is_kept_collection}
 use Rattle.sm_names.specs.Marks.{Mark, Timeline, Called, Loss, Allocated, Ended, events}
 use Rattle.sm_names.specs.Sameness.{same_key}
 use Rattle.sm_names.specs.Words.{times}
-use Rattle.sm_names.proofs.BirthLaws.{birth_is}
-use Rattle.sm_names.proofs.GrowthLaws.{Grows}
-use Rattle.sm_names.proofs.LifeLaws.{IsOrdered, ordered, whole, In_old}
-use Rattle.sm_names.proofs.ListLaws.{In, In-find, In-list_any, times-map_filter, times-reverse, times-zero}
-use Rattle.sm_names.proofs.SamenessLaws.{either_way, both_ways, and_left, and_right, and_both, or_left}
-use Rattle.sm_names.proofs.SettledLaws.{In-was_born, none_if, map-Some}
-use Rattle.sm_names.proofs.SumLaws.{one}
-use Rattle.sm_names.proofs.StandingLaws.{In-any}
+use Rattle.history_laws.proofs.BirthLaws.{birth_is}
+use Rattle.history_laws.proofs.GrowthLaws.{Grows}
+use Rattle.history_laws.proofs.LifeLaws.{IsOrdered, ordered, whole, In_old}
+use Rattle.sm_names.proofs.ListLaws.{In, In-find, In-list_any, times-map_filter, times-reverse, times-zero, In-any}
+use Rattle.sm_names.proofs.SamenessLaws.{either_way, both_ways, and_left, and_right, and_both, or_left, none_if, map-Some}
+use Rattle.history_laws.proofs.SettledLaws.{In-was_born}
+use Rattle.history_laws.proofs.SumLaws.{one}
 use Rattle.core_state.specs.Shown.{kept_ids}
 
 -- the collection of a kept node is kept

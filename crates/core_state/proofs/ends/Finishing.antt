@@ -11,8 +11,8 @@ use Rattle.sm_names.specs.Ends.{spends, spent}
 use Rattle.sm_names.specs.Losses.{gone}
 use Rattle.sm_names.specs.Marks.{Mark, Timeline, Called, Loss, Allocated, Ended}
 use Rattle.sm_names.specs.Members.{births_in}
-use Rattle.sm_names.proofs.GoneLaws.{gone_stays}
-use Rattle.sm_names.proofs.GrowthLaws.{Grows, Stays, Answers, Loses, Allocates, Ends}
+use Rattle.history_laws.proofs.GoneLaws.{gone_stays}
+use Rattle.history_laws.proofs.GrowthLaws.{Grows, Stays, Answers, Loses, Allocates, Ends}
 use Rattle.sm_names.proofs.ListLaws.{In, In-map, filter-In, map-map}
 use Rattle.sm_names.proofs.SamenessLaws.{and_left, and_right, either_way, or_right}
 use Rattle.forest_store.specs.declared.node.Node.{Node}

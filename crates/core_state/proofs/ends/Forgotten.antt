@@ -14,14 +14,12 @@ use Rattle.sm_names.specs.Members.{births_in}
 use Rattle.sm_names.specs.Sameness.{same_buffer}
 use Rattle.sm_names.specs.declared.keys.HeldBuffer.{HeldBuffer}
 use Rattle.sm_names.specs.Timelines.{held}
-use Rattle.sm_names.proofs.DoomLaws.{doomed_parts}
-use Rattle.sm_names.proofs.GrowthLaws.{Grows}
-use Rattle.sm_names.proofs.HandleLaws.{same_buffer-true}
-use Rattle.sm_names.proofs.HeldLaws.{stands_held}
-use Rattle.sm_names.proofs.IsolationLaws.{birth_of_collection}
-use Rattle.sm_names.proofs.ListLaws.{In-list_any, In-map, In-map-back}
-use Rattle.sm_names.proofs.SamenessLaws.{and_left, and_right, and_both, false_if}
-use Rattle.sm_names.proofs.StandingLaws.{both_tests, In-any}
+use Rattle.history_laws.proofs.DoomLaws.{doomed_parts}
+use Rattle.history_laws.proofs.GrowthLaws.{Grows}
+use Rattle.sm_names.proofs.SamenessLaws.{same_buffer-true, and_left, and_right, and_both, false_if, both_tests}
+use Rattle.history_laws.proofs.HeldLaws.{stands_held}
+use Rattle.history_laws.proofs.IsolationLaws.{birth_of_collection}
+use Rattle.sm_names.proofs.ListLaws.{In-list_any, In-map, In-map-back, In-any}
 use Rattle.event_laws.proofs.HandleBufferLaws.{open_named}
 use Rattle.forest_store.specs.declared.node.Node.{Node}
 use Rattle.forest_store.specs.Forest.{is_left}

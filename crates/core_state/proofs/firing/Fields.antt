@@ -16,11 +16,9 @@ use Rattle.sm_names.specs.Handles.{drops, opens}
 use Rattle.sm_names.specs.Marks.{Called}
 use Rattle.sm_names.specs.Sameness.{same_buffer}
 use Rattle.sm_names.specs.Trackers.{World, holds}
-use Rattle.sm_names.proofs.AnswerLaws.{took_effect_all}
-use Rattle.sm_names.proofs.HandleLaws.{same_buffer-true, same_strength-true}
+use Rattle.history_laws.proofs.AnswerLaws.{took_effect_all}
+use Rattle.sm_names.proofs.SamenessLaws.{same_buffer-true, same_strength-true, and_left, and_right, either_way, map-Some}
 use Rattle.sm_names.proofs.ListLaws.{In, In-append, In-filter}
-use Rattle.sm_names.proofs.SamenessLaws.{and_left, and_right, either_way}
-use Rattle.sm_names.proofs.SettledLaws.{map-Some}
 use Rattle.event_laws.specs.ByEvent.{anyone, one_if}
 use Rattle.event_laws.proofs.NumberLaws.{all-In, In-all}
 use Rattle.event_laws.proofs.FreeEndLaws.{passed}

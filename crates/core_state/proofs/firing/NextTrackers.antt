@@ -15,12 +15,12 @@ use Rattle.sm_names.specs.Marks.{Entry, Timeline, Called, events}
 use Rattle.sm_names.specs.Reading.{readings}
 use Rattle.sm_names.specs.Timelines.{after}
 use Rattle.sm_names.specs.Trackers.{Tracked, World, fired, tracked, tracked_at, world}
-use Rattle.sm_names.proofs.AnswerLaws.{took_effect_all}
-use Rattle.sm_names.proofs.BirthLaws.{Named, named}
-use Rattle.sm_names.proofs.GrowthLaws.{Grows, Stays, grows_after}
+use Rattle.history_laws.proofs.AnswerLaws.{took_effect_all}
+use Rattle.history_laws.proofs.BirthLaws.{Named, named}
+use Rattle.history_laws.proofs.GrowthLaws.{Grows, Stays, grows_after}
 use Rattle.sm_names.proofs.ListLaws.{In, filter-In, map-map}
 use Rattle.sm_names.proofs.SamenessLaws.{or_cases, or_first, or_left, or_right}
-use Rattle.sm_names.proofs.TakeLaws.{none_key}
+use Rattle.history_laws.proofs.TakeLaws.{none_key}
 use Rattle.event_laws.specs.Waiting.{IsRecalled, trackers_to_test, tracked_firing, is_tracked_met, unfired_trackers}
 use Rattle.event_laws.proofs.MomentLaws.{events_after, tracked_after}
 use Rattle.event_laws.proofs.RecallLaws.{recalled_due}

@@ -11,9 +11,8 @@ use Rattle.sm_names.specs.Handles.{is_doomed}
 use Rattle.sm_names.specs.Members.{Member, is_live, some_strong_live}
 use Rattle.sm_names.specs.Sameness.{same_key}
 use Rattle.sm_names.specs.Trackers.{holds}
-use Rattle.sm_names.proofs.ListLaws.{In, In-filter, In-filter-back, In-find, In-map, In-map-back}
+use Rattle.sm_names.proofs.ListLaws.{In, In-filter, In-filter-back, In-find, In-map, In-map-back, filter-less}
 use Rattle.sm_names.proofs.SamenessLaws.{and_left, and_right, both_ways, either_way, none_or_some, same_key-refl, same_key-true}
-use Rattle.sm_names.proofs.StandingLaws.{filter-less}
 use Rattle.trackers.specs.declared.waiting.Waiting.{Waiting}
 use Rattle.trackers.specs.Table.{is_due}
 use Rattle.forest_store.specs.declared.node.Node.{Node}

@@ -15,12 +15,11 @@ use Rattle.sm_names.specs.Losses.{fault, gone}
 use Rattle.sm_names.specs.Marks.{Mark, Timeline, Called, Loss, events}
 use Rattle.sm_names.specs.Reading.{readings}
 use Rattle.sm_names.specs.Timelines.{collection_of, own_loss}
-use Rattle.sm_names.proofs.BirthLaws.{birth_is, Comes}
-use Rattle.sm_names.proofs.GrowthLaws.{Grows, Answers}
-use Rattle.sm_names.proofs.LifeLaws.{In_old, whole}
+use Rattle.history_laws.proofs.BirthLaws.{birth_is, Comes}
+use Rattle.history_laws.proofs.GrowthLaws.{Grows, Answers}
+use Rattle.history_laws.proofs.LifeLaws.{In_old, whole}
 use Rattle.sm_names.proofs.ListLaws.{In, map-map}
-use Rattle.sm_names.proofs.SamenessLaws.{or_right}
-use Rattle.sm_names.proofs.SettledLaws.{map-Some}
+use Rattle.sm_names.proofs.SamenessLaws.{or_right, map-Some}
 use Rattle.forest_store.specs.declared.change.Change.{Change}
 use Rattle.forest_store.specs.declared.change.Effect.{Effect}
 use Rattle.forest_store.specs.declared.node.Node.{Node}

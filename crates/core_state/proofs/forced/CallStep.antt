@@ -19,7 +19,7 @@ use Rattle.sm_names.specs.Members.{Member, births_in, member, members, some_stro
 use Rattle.sm_names.specs.Reading.{readings}
 use Rattle.sm_names.specs.declared.keys.HeldBuffer.{HeldBuffer}
 use Rattle.sm_names.specs.Timelines.{collection_of, held, own_loss, placed}
-use Rattle.sm_names.proofs.GrowthLaws.{Grows, Stays, Answers}
+use Rattle.history_laws.proofs.GrowthLaws.{Grows, Stays, Answers}
 use Rattle.sm_names.proofs.ListLaws.{In-filter, filter-In, filter-swap, map-In}
 use Rattle.sm_names.proofs.SamenessLaws.{either_way, both_ways, or_left}
 use Rattle.forest_store.specs.declared.node.End.{End}

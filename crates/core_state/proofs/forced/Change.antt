@@ -3,7 +3,7 @@ use Rattle.std.proofs.Common.{ℕ, ◌≡◌, refl, sym, ◌∙◌, subst, ◌�
 use Rattle.std.specs.Option.{option_map}
 use Rattle.sm_names.specs.declared.keys.NodeKey.{NodeKey}
 use Rattle.sm_names.proofs.ListLaws.{In}
-use Rattle.sm_names.proofs.SettledLaws.{map-Some}
+use Rattle.sm_names.proofs.SamenessLaws.{map-Some}
 use Rattle.forest_store.specs.declared.change.Change.{Change}
 use Rattle.forest_store.specs.declared.node.Node.{Node}
 use Rattle.forest_store.specs.Forest.{Forest, node_at}

@@ -12,9 +12,8 @@ use Rattle.sm_names.specs.Answers.{IsAnswer, OpenEnd, answer, answers_first, eff
 use Rattle.sm_names.specs.Elements.{In}
 use Rattle.sm_names.specs.Sameness.{same_key}
 use Rattle.sm_names.specs.Words.{first_some}
-use Rattle.sm_names.proofs.ListLaws.{In-find, In-list_any}
+use Rattle.sm_names.proofs.ListLaws.{In-find, In-list_any, all_on}
 use Rattle.sm_names.proofs.SamenessLaws.{and_left, both_ways, either_way, same_key-true}
-use Rattle.sm_names.proofs.SizeLaws.{all_on}
 use Rattle.buffer_pool.specs.Holdings.{Holdings}
 use Rattle.forest_store.specs.declared.change.Change.{Change}
 use Rattle.forest_store.specs.declared.change.Effect.{Effect}

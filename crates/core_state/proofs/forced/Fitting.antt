@@ -14,8 +14,7 @@ use Rattle.sm_names.specs.Members.{is_live, is_under, some_live, subtree, root_l
 use Rattle.sm_names.specs.Sameness.{same_key}
 use Rattle.sm_names.specs.Timelines.{layout}
 use Rattle.sm_names.proofs.ListLaws.{In, In-append, In-filter-back, In-find, In-first_some, In-front, In-map, In-map-back, none-In, when-Some}
-use Rattle.sm_names.proofs.SamenessLaws.{and_right, or_right}
-use Rattle.sm_names.proofs.SettledLaws.{and_then-Some, map-Some}
+use Rattle.sm_names.proofs.SamenessLaws.{and_right, or_right, and_then-Some, map-Some}
 use Rattle.forest_store.specs.declared.change.Change.{Change}
 use Rattle.forest_store.specs.declared.change.Effect.{Effect}
 use Rattle.forest_store.specs.declared.node.Node.{Node}

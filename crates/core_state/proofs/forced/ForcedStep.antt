@@ -17,19 +17,18 @@ use Rattle.sm_names.specs.Members.{members, asked}
 use Rattle.sm_names.specs.Pages.{places, pages_of}
 use Rattle.sm_names.specs.declared.keys.HeldBuffer.{HeldBuffer}
 use Rattle.sm_names.specs.Timelines.{held, placed, layout, layout_at, laid_out, still_out, next_forced}
-use Rattle.sm_names.proofs.DoomLaws.{home_on}
-use Rattle.sm_names.proofs.GrowthLaws.{Grows, Stays, Loses, grows_forced}
-use Rattle.sm_names.proofs.HeldLaws.{given_root, not_turned}
-use Rattle.sm_names.proofs.IsolationLaws.{of_ours}
-use Rattle.sm_names.proofs.LayoutLaws.{placed_given}
-use Rattle.sm_names.proofs.LifeLaws.{whole}
-use Rattle.sm_names.proofs.ListLaws.{In, In-append, filter-swap, filter-none, filter-all}
+use Rattle.history_laws.proofs.DoomLaws.{home_on}
+use Rattle.history_laws.proofs.GrowthLaws.{Grows, Stays, Loses, grows_forced}
+use Rattle.history_laws.proofs.HeldLaws.{given_root, not_turned}
+use Rattle.history_laws.proofs.IsolationLaws.{of_ours}
+use Rattle.history_laws.proofs.LayoutLaws.{placed_given}
+use Rattle.history_laws.proofs.LifeLaws.{whole}
+use Rattle.sm_names.proofs.ListLaws.{In, In-append, filter-swap, filter-none, filter-all, filter-less}
 use Rattle.sm_names.proofs.PlaceLaws.{places_same}
 use Rattle.sm_names.proofs.SamenessLaws.{false_if, both_ways}
-use Rattle.sm_names.proofs.SettledLaws.{In-was_born, find_birth, Why, No_live, Fails, Initial, Logical, forced_why}
-use Rattle.sm_names.proofs.WholeLaws.{IsWhole}
-use Rattle.sm_names.proofs.ForgetLaws.{asked-left}
-use Rattle.sm_names.proofs.StandingLaws.{filter-less}
+use Rattle.history_laws.proofs.SettledLaws.{In-was_born, find_birth, Why, No_live, Fails, Initial, Logical, forced_why}
+use Rattle.history_laws.proofs.WholeLaws.{IsWhole}
+use Rattle.history_laws.proofs.ForgetLaws.{asked-left}
 use Rattle.forest_store.specs.declared.node.Node.{Node}
 use Rattle.forest_store.specs.Forest.{Collection, pages_in, with_nodes}
 use Rattle.forest_store.specs.Nodes.{node_of, members_of, after_loss, after_allocation, after_end}

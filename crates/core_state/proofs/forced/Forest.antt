@@ -5,9 +5,8 @@ use Rattle.std.specs.List.{flat_map}
 use Rattle.std.specs.Option.{option_map_or, unwrap_or}
 use Rattle.sm_names.specs.declared.keys.NodeKey.{NodeKey}
 use Rattle.sm_names.specs.Sameness.{same_key}
-use Rattle.sm_names.proofs.ListLaws.{In, In-append, In-behind, In-find, In-front, is_some-find}
+use Rattle.sm_names.proofs.ListLaws.{In, In-append, In-behind, In-find, In-front, is_some-find, In-any}
 use Rattle.sm_names.proofs.SamenessLaws.{or_left, or_right, both_ways, same_key-refl, same_key-true}
-use Rattle.sm_names.proofs.StandingLaws.{In-any}
 use Rattle.forest_store.specs.declared.change.Change.{Change}
 use Rattle.forest_store.specs.declared.node.Node.{Node}
 use Rattle.forest_store.specs.Forest.{Collection, Forest, all_nodes, collection_at, beside, given, node_at}

@@ -3,8 +3,7 @@ use Rattle.std.proofs.Common.{◌≡◌, ap, sym, ◌∙◌, Bool, false, cond, 
 use Rattle.std.specs.Option.{option_map}
 use Rattle.sm_names.specs.declared.keys.NodeKey.{NodeKey}
 use Rattle.sm_names.specs.declared.outcomes.Cause.{Cause}
-use Rattle.sm_names.proofs.SamenessLaws.{either_way}
-use Rattle.sm_names.proofs.SettledLaws.{and_then-Some}
+use Rattle.sm_names.proofs.SamenessLaws.{either_way, and_then-Some}
 use Rattle.forest_store.specs.declared.change.Change.{Change}
 use Rattle.forest_store.specs.declared.node.Node.{Node}
 use Rattle.forest_store.specs.Forest.{Forest, node_at}

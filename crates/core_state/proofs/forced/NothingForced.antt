@@ -18,8 +18,8 @@ use Rattle.sm_names.specs.Marks.{Mark, Timeline, Called}
 use Rattle.sm_names.specs.Reading.{readings}
 use Rattle.sm_names.specs.declared.keys.HeldBuffer.{HeldBuffer}
 use Rattle.sm_names.specs.Timelines.{after, collection_of, next_forced, settled}
-use Rattle.sm_names.proofs.GrowthLaws.{Grows, Stays, Answers}
-use Rattle.sm_names.proofs.LifeLaws.{whole}
+use Rattle.history_laws.proofs.GrowthLaws.{Grows, Stays, Answers}
+use Rattle.history_laws.proofs.LifeLaws.{whole}
 use Rattle.sm_names.proofs.SamenessLaws.{either_way}
 use Rattle.forest_store.specs.Forest.{Collection, beside, is_left}
 use Rattle.forest_store.specs.Settling.{Handles, buffer_names, standing}

@@ -11,13 +11,12 @@ use Rattle.sm_names.specs.Marks.{Mark, Timeline, Called, Loss, Allocated, Ended,
 use Rattle.sm_names.specs.Members.{members, some_strong_live}
 use Rattle.sm_names.specs.declared.keys.HeldBuffer.{HeldBuffer}
 use Rattle.sm_names.specs.Timelines.{still_out, settled, Settles, Rests, Forces, next_forced}
-use Rattle.sm_names.proofs.ForgetLaws.{strong-left}
-use Rattle.sm_names.proofs.GrowthLaws.{Grows, grows_forced}
-use Rattle.sm_names.proofs.LifeLaws.{whole}
-use Rattle.sm_names.proofs.ListLaws.{In, In-filter, filter-In}
-use Rattle.sm_names.proofs.SettledLaws.{Settles-one, settled_rests, forced_no_event}
-use Rattle.sm_names.proofs.WholeLaws.{IsWhole}
-use Rattle.sm_names.proofs.StandingLaws.{filter-less}
+use Rattle.history_laws.proofs.ForgetLaws.{strong-left}
+use Rattle.history_laws.proofs.GrowthLaws.{Grows, grows_forced}
+use Rattle.history_laws.proofs.LifeLaws.{whole}
+use Rattle.sm_names.proofs.ListLaws.{In, In-filter, filter-In, filter-less}
+use Rattle.history_laws.proofs.SettledLaws.{Settles-one, settled_rests, forced_no_event}
+use Rattle.history_laws.proofs.WholeLaws.{IsWhole}
 use Rattle.forest_store.specs.Forest.{Collection}
 use Rattle.forest_store.specs.Nodes.{members_of}
 use Rattle.forest_store.specs.Settling.{Handles, made, is_home_in, given_back, Settles as SettlesIn, Rests as RestsIn, Forces as ForcesIn}

@@ -16,14 +16,13 @@ use Rattle.sm_names.specs.Marks.{Timeline, events}
 use Rattle.sm_names.specs.Members.{births_in}
 use Rattle.sm_names.specs.declared.keys.HeldBuffer.{HeldBuffer}
 use Rattle.sm_names.specs.Timelines.{held, placed, still_out}
-use Rattle.sm_names.proofs.DoomLaws.{buffers_early}
-use Rattle.sm_names.proofs.GrowthLaws.{Grows}
-use Rattle.sm_names.proofs.IsolationLaws.{birth_of_collection}
-use Rattle.sm_names.proofs.LayoutLaws.{placed_given}
-use Rattle.sm_names.proofs.LifeLaws.{ordered}
-use Rattle.sm_names.proofs.ListLaws.{In, In-filter, In-list_any, In-map, filter-In, filter-none, filter-all}
-use Rattle.sm_names.proofs.SamenessLaws.{either_way, false_if, both_ways, or_left}
-use Rattle.sm_names.proofs.StandingLaws.{both_tests, In-any}
+use Rattle.history_laws.proofs.DoomLaws.{buffers_early}
+use Rattle.history_laws.proofs.GrowthLaws.{Grows}
+use Rattle.history_laws.proofs.IsolationLaws.{birth_of_collection}
+use Rattle.history_laws.proofs.LayoutLaws.{placed_given}
+use Rattle.history_laws.proofs.LifeLaws.{ordered}
+use Rattle.sm_names.proofs.ListLaws.{In, In-filter, In-list_any, In-map, filter-In, filter-none, filter-all, In-any}
+use Rattle.sm_names.proofs.SamenessLaws.{either_way, false_if, both_ways, or_left, both_tests}
 use Rattle.forest_store.specs.declared.node.Node.{Node}
 use Rattle.forest_store.specs.Forest.{Collection, all_held, beside, pages_in}
 use Rattle.forest_store.specs.Nodes.{is_over}

@@ -17,9 +17,8 @@ use Rattle.sm_names.specs.Pages.{pages_of, places}
 use Rattle.sm_names.specs.Sameness.{same_buffer}
 use Rattle.sm_names.specs.declared.keys.HeldBuffer.{HeldBuffer}
 use Rattle.sm_names.specs.Timelines.{laid_out, layout}
-use Rattle.sm_names.proofs.HandleLaws.{same_buffer-true}
+use Rattle.sm_names.proofs.SamenessLaws.{same_buffer-true, and_both, both_ways, either_way, false_if}
 use Rattle.sm_names.proofs.ListLaws.{In, In-append, In-filter, In-find}
-use Rattle.sm_names.proofs.SamenessLaws.{and_both, both_ways, either_way, false_if}
 use Rattle.event_laws.specs.ByEvent.{anyone, one_if}
 use Rattle.buffer_holds.specs.Counts.{Counts, total}
 use Rattle.trackers.specs.declared.waiting.Waiting.{Waiting}

@@ -18,11 +18,10 @@ use Rattle.sm_names.specs.Bounds.{Bound}
 use Rattle.sm_names.specs.Marks.{took_effect}
 use Rattle.sm_names.specs.Timelines.{key_of}
 use Rattle.sm_names.specs.Words.{when}
-use Rattle.sm_names.proofs.AnswerLaws.{took_effect_all}
+use Rattle.history_laws.proofs.AnswerLaws.{took_effect_all}
 use Rattle.sm_names.proofs.ListLaws.{In, In-find}
-use Rattle.sm_names.proofs.RejectLaws.{is_refusal}
-use Rattle.sm_names.proofs.SamenessLaws.{none_or_some}
-use Rattle.sm_names.proofs.SettledLaws.{and_then-Some, map-Some}
+use Rattle.history_laws.proofs.RejectLaws.{is_refusal}
+use Rattle.sm_names.proofs.SamenessLaws.{none_or_some, and_then-Some, map-Some}
 use Rattle.buffer_pool.specs.Holdings.{Holdings}
 use Rattle.forest_store.specs.declared.change.Change.{Change}
 use Rattle.forest_store.specs.declared.change.Effect.{Effect}

@@ -16,10 +16,10 @@ use Rattle.sm_names.specs.Members.{births_in}
 use Rattle.sm_names.specs.Reading.{readings}
 use Rattle.sm_names.specs.Sameness.{same_key}
 use Rattle.sm_names.specs.Timelines.{after, collection_of, key_of, own_loss, settled}
-use Rattle.sm_names.proofs.GrowthLaws.{Grows, Stays, Answers, grows_after, grows_lost}
-use Rattle.sm_names.proofs.IsolationLaws.{birth_of_collection}
-use Rattle.sm_names.proofs.LegalLaws.{births-after, own_loss_no_event}
-use Rattle.sm_names.proofs.LifeLaws.{whole}
+use Rattle.history_laws.proofs.GrowthLaws.{Grows, Stays, Answers, grows_after, grows_lost}
+use Rattle.history_laws.proofs.IsolationLaws.{birth_of_collection}
+use Rattle.history_laws.proofs.LegalLaws.{births-after, own_loss_no_event}
+use Rattle.history_laws.proofs.LifeLaws.{whole}
 use Rattle.sm_names.proofs.ListLaws.{In, In-filter, In-map, filter-all}
 use Rattle.sm_names.proofs.SamenessLaws.{either_way, both_ways, false_if, same_key-true}
 use Rattle.forest_store.specs.declared.node.Node.{Node}

@@ -13,12 +13,12 @@ use Rattle.sm_names.specs.Reading.{readings}
 use Rattle.sm_names.specs.Sameness.{same_buffer}
 use Rattle.sm_names.specs.Timelines.{after, collection_of}
 use Rattle.sm_names.specs.Words.{times}
-use Rattle.sm_names.proofs.CountLaws.{IsCounted, counted, caller_joined, client-le-total, drops-le-opens, lands-le-lifts}
-use Rattle.sm_names.proofs.EventLaws.{same_after as same_in}
-use Rattle.sm_names.proofs.GrowthLaws.{Grows, Answers}
-use Rattle.sm_names.proofs.HandleLaws.{same_buffer-true, same_strength-true, dup_was_open}
-use Rattle.sm_names.proofs.SamenessLaws.{either_way, and_left, and_right, false_if}
-use Rattle.sm_names.proofs.SumLaws.{times-cons}
+use Rattle.history_laws.proofs.CountLaws.{IsCounted, counted, caller_joined, client-le-total, drops-le-opens, lands-le-lifts}
+use Rattle.history_laws.proofs.EventLaws.{same_after as same_in}
+use Rattle.history_laws.proofs.GrowthLaws.{Grows, Answers}
+use Rattle.sm_names.proofs.SamenessLaws.{same_buffer-true, same_strength-true, either_way, and_left, and_right, false_if}
+use Rattle.history_laws.proofs.HandleLaws.{dup_was_open}
+use Rattle.history_laws.proofs.SumLaws.{times-cons}
 use Rattle.event_laws.specs.ByEvent.{SameHands, one_if, anyone, only, gains, loses}
 use Rattle.event_laws.proofs.HandLaws.{same_after}
 use Rattle.event_laws.proofs.HandleEventLaws.{open_of_mark}

@@ -15,12 +15,12 @@ use Rattle.sm_names.specs.Marks.{Mark, Timeline, Allocated}
 use Rattle.sm_names.specs.Pages.{pages_of}
 use Rattle.sm_names.specs.declared.keys.HeldBuffer.{HeldBuffer}
 use Rattle.sm_names.specs.Timelines.{laid_out, placed}
-use Rattle.sm_names.proofs.GrowthLaws.{Grows, Stays, Answers, Loses, Allocates, Ends}
-use Rattle.sm_names.proofs.HeldLaws.{Lays, Nothing_new, New, allocation_lays}
+use Rattle.history_laws.proofs.GrowthLaws.{Grows, Stays, Answers, Loses, Allocates, Ends}
+use Rattle.history_laws.proofs.HeldLaws.{Lays, Nothing_new, New, allocation_lays}
 use Rattle.sm_names.proofs.ListLaws.{In, In-map, In-map-back, filter-none, filter-swap, filter-all}
-use Rattle.sm_names.proofs.PageLaws.{placed_apart}
+use Rattle.history_laws.proofs.PageLaws.{placed_apart}
 use Rattle.sm_names.proofs.SamenessLaws.{either_way}
-use Rattle.sm_names.proofs.SettledLaws.{forced_why}
+use Rattle.history_laws.proofs.SettledLaws.{forced_why}
 use Rattle.core_state.specs.Shown.{held_after}
 use Rattle.core_state.proofs.lists.Maps.{filter-map}
 

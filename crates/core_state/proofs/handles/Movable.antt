@@ -22,13 +22,12 @@ use Rattle.sm_names.specs.Handles.{is_doomed, names}
 use Rattle.sm_names.specs.Marks.{took_effect}
 use Rattle.sm_names.specs.Members.{some_strong_live}
 use Rattle.sm_names.specs.Sameness.{same_buffer}
-use Rattle.sm_names.proofs.AnswerLaws.{TookEffect, took_effect_all}
-use Rattle.sm_names.proofs.BitLaws.{bit_of_set, named_below, one_is}
-use Rattle.sm_names.proofs.HandleLaws.{same_buffer-true, some_open}
+use Rattle.history_laws.proofs.AnswerLaws.{TookEffect, took_effect_all}
+use Rattle.history_laws.proofs.BitLaws.{bit_of_set, named_below, one_is}
+use Rattle.sm_names.proofs.SamenessLaws.{same_buffer-true, and_left, and_right, either_way, and_then-Some}
+use Rattle.history_laws.proofs.HandleLaws.{some_open}
 use Rattle.sm_names.proofs.ListLaws.{In, In-find, In-list_any, none-In}
-use Rattle.sm_names.proofs.SamenessLaws.{and_left, and_right, either_way}
-use Rattle.sm_names.proofs.SettledLaws.{and_then-Some}
-use Rattle.sm_names.proofs.SumLaws.{In-le-sum_by, one}
+use Rattle.history_laws.proofs.SumLaws.{In-le-sum_by, one}
 use Rattle.buffer_holds.specs.Counts.{moving_count, total}
 use Rattle.forest_store.specs.declared.node.Node.{Node}
 use Rattle.forest_store.specs.Forest.{Collection, collection_at, node_at}

@@ -17,10 +17,10 @@ use Rattle.sm_names.specs.Ends.{collects, given_at, is_handle_of, joined_at}
 use Rattle.sm_names.specs.Handles.{lands, lifts}
 use Rattle.sm_names.specs.Marks.{Mark, Called}
 use Rattle.sm_names.specs.Sameness.{same_buffer, same_strength}
-use Rattle.sm_names.proofs.AnswerLaws.{took_effect_all}
+use Rattle.history_laws.proofs.AnswerLaws.{took_effect_all}
 use Rattle.sm_names.proofs.ListLaws.{In}
 use Rattle.sm_names.proofs.SamenessLaws.{either_way, false_if, or_none_right, or_right}
-use Rattle.sm_names.proofs.SumLaws.{AreOnce, one, one_of, sum_by-zero, sum_once}
+use Rattle.history_laws.proofs.SumLaws.{AreOnce, one, one_of, sum_by-zero, sum_once}
 use Rattle.event_laws.specs.ByEvent.{anyone, one_if}
 use Rattle.event_laws.proofs.FreeEndLaws.{passed}
 use Rattle.forest_store.specs.Settling.{no_key}

@@ -31,20 +31,20 @@ use Rattle.sm_names.specs.Sameness.{same_buffer, same_key, same_strength}
 use Rattle.sm_names.specs.Timelines.{standing, next_forced, timeline}
 use Rattle.sm_names.specs.Weakness.{weak}
 use Rattle.sm_names.specs.Words.{first_some, when}
-use Rattle.sm_names.proofs.AnswerLaws.{took_effect_all}
-use Rattle.sm_names.proofs.BirthLaws.{named}
-use Rattle.sm_names.proofs.BitLaws.{bit_of_set, named_below}
-use Rattle.sm_names.proofs.CountLaws.{anyone}
-use Rattle.sm_names.proofs.GrowthLaws.{Grows, Stays, Answers, Loses, Allocates, Ends, grows_history, AreAnswers-append}
-use Rattle.sm_names.proofs.HeldLaws.{given_root}
-use Rattle.sm_names.proofs.LifeLaws.{IsOrdered, ordered, members_on, whole}
-use Rattle.sm_names.proofs.ListLaws.{In, In-find, In-list_any, In-map, is_some-find}
-use Rattle.sm_names.proofs.RestLaws.{at_rest, every_rests}
-use Rattle.sm_names.proofs.SamenessLaws.{and_left, and_right, both_ways, either_way, false_if, none_or_some, not_none, same_key-true}
-use Rattle.sm_names.proofs.SettledLaws.{find_birth, map-Some, member_birth, none_if, Why, Initial, Logical, forced_why}
-use Rattle.sm_names.proofs.StandingLaws.{In-any}
-use Rattle.sm_names.proofs.SumLaws.{one}
-use Rattle.sm_names.proofs.TakeLaws.{took, none_key, same_strength-refl}
+use Rattle.history_laws.proofs.AnswerLaws.{took_effect_all}
+use Rattle.history_laws.proofs.BirthLaws.{named}
+use Rattle.history_laws.proofs.BitLaws.{bit_of_set, named_below}
+use Rattle.history_laws.proofs.CountLaws.{anyone}
+use Rattle.history_laws.proofs.GrowthLaws.{Grows, Stays, Answers, Loses, Allocates, Ends, grows_history, AreAnswers-append}
+use Rattle.history_laws.proofs.HeldLaws.{given_root}
+use Rattle.history_laws.proofs.LifeLaws.{IsOrdered, ordered, members_on, whole}
+use Rattle.sm_names.proofs.ListLaws.{In, In-find, In-list_any, In-map, is_some-find, In-any}
+use Rattle.sm_names.proofs.ForcedLaws.{at_rest}
+use Rattle.history_laws.proofs.RestLaws.{every_rests}
+use Rattle.sm_names.proofs.SamenessLaws.{and_left, and_right, both_ways, either_way, false_if, none_or_some, not_none, same_key-true, map-Some, none_if, same_strength-refl}
+use Rattle.history_laws.proofs.SettledLaws.{find_birth, member_birth, Why, Initial, Logical, forced_why}
+use Rattle.history_laws.proofs.SumLaws.{one}
+use Rattle.history_laws.proofs.TakeLaws.{took, none_key}
 use Rattle.event_laws.proofs.HandleCaseLaws.{same_buffer-refl}
 use Rattle.core_state.proofs.collections.Roots.{HasRoot, has_root}
 

@@ -12,13 +12,13 @@ use Rattle.sm_names.specs.Ends.{clients, joined_at, has_joined, shuts, is_shut, 
 use Rattle.sm_names.specs.Marks.{Mark, Timeline, Called}
 use Rattle.sm_names.specs.Reading.{readings}
 use Rattle.sm_names.specs.Timelines.{after}
-use Rattle.sm_names.proofs.AnswerLaws.{TookEffect, took_effect_all}
-use Rattle.sm_names.proofs.CountLaws.{AreClients, counted}
-use Rattle.sm_names.proofs.GrowthLaws.{Grows, Stays, Answers, Loses, Allocates, Ends}
-use Rattle.sm_names.proofs.ParcelLaws.{IsDrawn, parcels-given, parcels-collected, parcels-kept}
+use Rattle.history_laws.proofs.AnswerLaws.{TookEffect, took_effect_all}
+use Rattle.history_laws.proofs.CountLaws.{AreClients, counted}
+use Rattle.history_laws.proofs.GrowthLaws.{Grows, Stays, Answers, Loses, Allocates, Ends}
+use Rattle.history_laws.proofs.ParcelLaws.{IsDrawn, parcels-given, parcels-collected, parcels-kept}
 use Rattle.sm_names.proofs.SamenessLaws.{both_ways, either_way, false_if, none_or_some}
-use Rattle.sm_names.proofs.SumLaws.{AreOnce}
-use Rattle.sm_names.proofs.TakeLaws.{none_key}
+use Rattle.history_laws.proofs.SumLaws.{AreOnce}
+use Rattle.history_laws.proofs.TakeLaws.{none_key}
 use Rattle.sm_names.proofs.ListLaws.{map-map}
 use Rattle.event_laws.specs.ByEvent.{SameHands, one_if}
 use Rattle.event_laws.proofs.HandLaws.{same_after}

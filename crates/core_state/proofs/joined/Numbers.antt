@@ -6,8 +6,8 @@ use Rattle.sm_names.specs.declared.messages.Reply.{Reply}
 use Rattle.sm_names.specs.Answers.{Readings, answer, effect}
 use Rattle.sm_names.specs.Bounds.{Bound}
 use Rattle.sm_names.specs.Marks.{took_effect}
-use Rattle.sm_names.proofs.AnswerLaws.{took_effect_all}
-use Rattle.sm_names.proofs.RejectLaws.{is_refusal}
+use Rattle.history_laws.proofs.AnswerLaws.{took_effect_all}
+use Rattle.history_laws.proofs.RejectLaws.{is_refusal}
 use Rattle.sm_names.proofs.SamenessLaws.{both_ways}
 use Rattle.core_state.proofs.answers.Passed.{passed}
 use Rattle.core_state.proofs.answers.Kinds.{reply-fits}

@@ -11,10 +11,11 @@ use Rattle.sm_names.specs.Marks.{Timeline}
 use Rattle.sm_names.specs.Members.{births_in}
 use Rattle.sm_names.specs.Sameness.{same_key}
 use Rattle.sm_names.proofs.ListLaws.{In, In-list_any}
-use Rattle.sm_names.proofs.ReachLaws.{IsChain, parent_in, ancestors_chain}
+use Rattle.sm_names.proofs.ChainLaws.{IsChain}
+use Rattle.history_laws.proofs.ReachLaws.{parent_in, ancestors_chain}
 use Rattle.sm_names.proofs.SamenessLaws.{either_way, same_key-true, both_ways, false_if, or_left, or_right}
-use Rattle.sm_names.proofs.SettledLaws.{find_birth}
-use Rattle.sm_names.proofs.WholeLaws.{IsWhole, line_collection}
+use Rattle.history_laws.proofs.SettledLaws.{find_birth}
+use Rattle.history_laws.proofs.WholeLaws.{IsWhole, line_collection}
 use Rattle.forest_store.specs.declared.node.Node.{Node}
 use Rattle.forest_store.specs.Nodes.{above_among}
 use Rattle.core_state.specs.Shown.{node_after, nodes_after}

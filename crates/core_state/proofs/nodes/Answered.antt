@@ -11,7 +11,7 @@ use Rattle.sm_names.specs.Members.{births_in}
 use Rattle.sm_names.specs.Reading.{readings}
 use Rattle.sm_names.specs.Sameness.{same_key}
 use Rattle.sm_names.specs.Timelines.{key_of}
-use Rattle.sm_names.proofs.GrowthLaws.{Grows}
+use Rattle.history_laws.proofs.GrowthLaws.{Grows}
 use Rattle.forest_store.specs.declared.change.Effect.{Effect}
 use Rattle.forest_store.specs.declared.node.Node.{Node}
 use Rattle.forest_store.proofs.changes.Effecting.{alone_affected}

@@ -16,8 +16,8 @@ use Rattle.sm_names.specs.Members.{constraints}
 use Rattle.sm_names.specs.Reading.{readings}
 use Rattle.sm_names.specs.Sameness.{same_key}
 use Rattle.sm_names.specs.Weakness.{sets_weak, sets_weak_ok, covered, covers_children}
-use Rattle.sm_names.proofs.CountLaws.{counted}
-use Rattle.sm_names.proofs.GrowthLaws.{Grows}
+use Rattle.history_laws.proofs.CountLaws.{counted}
+use Rattle.history_laws.proofs.GrowthLaws.{Grows}
 use Rattle.event_laws.specs.ByEvent.{sends, delivers}
 use Rattle.event_laws.proofs.FreeEndLaws.{FreeEnd, sends_free}
 use Rattle.event_laws.proofs.TransitLaws.{EndAt, end_at, transit_mark, delivers_waited}

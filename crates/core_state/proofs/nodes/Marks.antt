@@ -8,10 +8,10 @@ use Rattle.sm_names.specs.Births.{Birth, births, is_at_or_below}
 use Rattle.sm_names.specs.Losses.{gone, fault, reaches}
 use Rattle.sm_names.specs.Marks.{Mark, Timeline, Loss, Allocated, Ended}
 use Rattle.sm_names.specs.Members.{births_in, is_under}
-use Rattle.sm_names.proofs.GoneLaws.{gone_stays}
+use Rattle.history_laws.proofs.GoneLaws.{gone_stays}
 use Rattle.sm_names.proofs.ListLaws.{In, In-filter}
 use Rattle.sm_names.proofs.SamenessLaws.{false_if, both_ways}
-use Rattle.sm_names.proofs.WholeLaws.{IsWhole}
+use Rattle.history_laws.proofs.WholeLaws.{IsWhole}
 use Rattle.forest_store.specs.declared.node.Node.{Node}
 use Rattle.forest_store.specs.Nodes.{member_of, lost, is_taken, after_loss, given_buffers, after_allocation, ended, after_end}
 use Rattle.core_state.specs.Shown.{node_after}

@@ -9,13 +9,14 @@ use Rattle.sm_names.specs.Losses.{top, gone, blocked, reaches}
 use Rattle.sm_names.specs.Marks.{Timeline}
 use Rattle.sm_names.specs.Members.{Member, member, members, births_in, is_under}
 use Rattle.sm_names.specs.Sameness.{same_key}
-use Rattle.sm_names.proofs.ForgetLaws.{is_left, left_of, any-left}
-use Rattle.sm_names.proofs.IsolationLaws.{birth_of_collection}
-use Rattle.sm_names.proofs.ListLaws.{In, In-filter, In-filter-back, In-map, In-map-back, In-reverse-back}
+use Rattle.history_laws.proofs.ForgetLaws.{is_left, left_of, any-left}
+use Rattle.history_laws.proofs.IsolationLaws.{birth_of_collection}
+use Rattle.sm_names.proofs.ListLaws.{In, In-filter, In-filter-back, In-map, In-map-back, In-reverse-back, filter-less}
 use Rattle.sm_names.proofs.SamenessLaws.{either_way, same_key-true, same_key-refl, both_ways}
-use Rattle.sm_names.proofs.SettledLaws.{find_birth, member_birth}
-use Rattle.sm_names.proofs.StandingLaws.{highest-members, top-same, filter-less}
-use Rattle.sm_names.proofs.WholeLaws.{IsWhole}
+use Rattle.history_laws.proofs.SettledLaws.{find_birth, member_birth}
+use Rattle.history_laws.proofs.StandingLaws.{highest-members}
+use Rattle.sm_names.proofs.ChainLaws.{top-same}
+use Rattle.history_laws.proofs.WholeLaws.{IsWhole}
 use Rattle.forest_store.specs.declared.node.Node.{Node}
 use Rattle.forest_store.specs.Nodes.{is_of, node_of, member_of, members_of, is_taken}
 use Rattle.core_state.specs.Shown.{node_after}

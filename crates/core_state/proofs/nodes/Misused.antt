@@ -14,12 +14,12 @@ use Rattle.sm_names.specs.Marks.{Timeline}
 use Rattle.sm_names.specs.Reading.{readings}
 use Rattle.sm_names.specs.Timelines.{key_of}
 use Rattle.sm_names.specs.Words.{first_some}
-use Rattle.sm_names.proofs.BirthLaws.{HasEnd, has_no_fault}
-use Rattle.sm_names.proofs.GrowthLaws.{Grows}
-use Rattle.sm_names.proofs.LifeLaws.{ordered}
-use Rattle.sm_names.proofs.RejectLaws.{not_refused_end}
+use Rattle.history_laws.proofs.BirthLaws.{HasEnd, has_no_fault}
+use Rattle.history_laws.proofs.GrowthLaws.{Grows}
+use Rattle.history_laws.proofs.LifeLaws.{ordered}
+use Rattle.history_laws.proofs.RejectLaws.{not_refused_end}
 use Rattle.sm_names.proofs.SamenessLaws.{both_ways, false_if}
-use Rattle.sm_names.proofs.TakeLaws.{from_closing}
+use Rattle.history_laws.proofs.TakeLaws.{from_closing}
 
 -- ---- a misuse
 

@@ -15,11 +15,11 @@ use Rattle.sm_names.specs.Marks.{Mark, Timeline, Called, events}
 use Rattle.sm_names.specs.Members.{births_in}
 use Rattle.sm_names.specs.Sameness.{same_key}
 use Rattle.sm_names.specs.Weakness.{weak, covered, covers_children, sets_weak, sets_weak_ok}
-use Rattle.sm_names.proofs.GrowthLaws.{Grows}
+use Rattle.history_laws.proofs.GrowthLaws.{Grows}
 use Rattle.sm_names.proofs.ListLaws.{In, In-filter, In-reverse, map-In}
-use Rattle.sm_names.proofs.ReachLaws.{other_key}
+use Rattle.history_laws.proofs.ReachLaws.{other_key}
 use Rattle.sm_names.proofs.SamenessLaws.{or_false, same_key-refl}
-use Rattle.sm_names.proofs.SettledLaws.{In-was_born}
+use Rattle.history_laws.proofs.SettledLaws.{In-was_born}
 use Rattle.event_laws.proofs.TransitLaws.{end_at}
 use Rattle.forest_store.specs.declared.node.End.{End}
 use Rattle.forest_store.specs.declared.node.Node.{Node}

@@ -15,14 +15,14 @@ use Rattle.sm_names.specs.Sameness.{same_key}
 use Rattle.sm_names.specs.Timelines.{key_of}
 use Rattle.sm_names.specs.Weakness.{born_to, sets_weak, sets_weak_ok, covers_children, weak, covered}
 use Rattle.sm_names.specs.Words.{times}
-use Rattle.sm_names.proofs.BirthLaws.{HasEnd, birth_was_born}
-use Rattle.sm_names.proofs.GoneLaws.{fault_gone}
-use Rattle.sm_names.proofs.GrowthLaws.{Grows, Stays, Answers, Loses, Allocates, Ends}
-use Rattle.sm_names.proofs.LifeLaws.{ordered}
-use Rattle.sm_names.proofs.RejectLaws.{is_refusal, not_refused_end}
+use Rattle.history_laws.proofs.BirthLaws.{HasEnd, birth_was_born}
+use Rattle.history_laws.proofs.GoneLaws.{fault_gone}
+use Rattle.history_laws.proofs.GrowthLaws.{Grows, Stays, Answers, Loses, Allocates, Ends}
+use Rattle.history_laws.proofs.LifeLaws.{ordered}
+use Rattle.history_laws.proofs.RejectLaws.{is_refusal, not_refused_end}
 use Rattle.sm_names.proofs.SamenessLaws.{either_way, same_key-true, both_ways, false_if, none_or_some, or_none_left, or_none_right, or_both}
-use Rattle.sm_names.proofs.SettledLaws.{In-was_born, Why, Initial, Logical, forced_why}
-use Rattle.sm_names.proofs.EventLaws.{is_none_if}
+use Rattle.history_laws.proofs.SettledLaws.{In-was_born, Why, Initial, Logical, forced_why}
+use Rattle.history_laws.proofs.EventLaws.{is_none_if}
 
 -- ---- which node a mark speaks of
 

@@ -8,7 +8,7 @@ use Rattle.sm_names.specs.declared.outcomes.Refusal.{Refusal}
 use Rattle.sm_names.specs.Answers.{IsAnswer, OpenEnd, Readings, answer, closing, effect, makes_node, new_key}
 use Rattle.sm_names.specs.Bounds.{Bound}
 use Rattle.sm_names.specs.Marks.{Called}
-use Rattle.sm_names.proofs.AnswerLaws.{TookEffect, took_effect_all}
+use Rattle.history_laws.proofs.AnswerLaws.{TookEffect, took_effect_all}
 use Rattle.sm_names.proofs.SamenessLaws.{both_ways}
 use Rattle.forest_store.specs.declared.change.Change.{Change}
 use Rattle.forest_store.specs.Forest.{Forest, given}

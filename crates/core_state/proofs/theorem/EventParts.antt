@@ -7,8 +7,8 @@ use Rattle.sm_names.specs.declared.messages.Parcel.{Parcel}
 use Rattle.sm_names.specs.declared.messages.Reply.{Reply}
 use Rattle.sm_names.specs.Answers.{IsAnswer, OpenEnd, answer, collected}
 use Rattle.sm_names.specs.Marks.{Called}
-use Rattle.sm_names.proofs.AnswerLaws.{took_effect_all}
-use Rattle.sm_names.proofs.SettledLaws.{and_then-Some}
+use Rattle.history_laws.proofs.AnswerLaws.{took_effect_all}
+use Rattle.sm_names.proofs.SamenessLaws.{and_then-Some}
 use Rattle.trackers.specs.declared.waiting.Waiting.{Waiting}
 use Rattle.trackers.specs.Table.{TrackerTable}
 use Rattle.buffer_holds.specs.Counts.{total}

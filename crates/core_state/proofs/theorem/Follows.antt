@@ -21,16 +21,16 @@ use Rattle.sm_names.specs.Pages.{places, pages_of}
 use Rattle.sm_names.specs.declared.keys.HeldBuffer.{HeldBuffer}
 use Rattle.sm_names.specs.Timelines.{held, placed, still_out, standing, next_forced}
 use Rattle.sm_names.specs.Words.{first_some, when}
-use Rattle.sm_names.proofs.ForgetLaws.{is_left, left_of, next-left}
-use Rattle.sm_names.proofs.GrowthLaws.{Grows}
-use Rattle.sm_names.proofs.HeldLaws.{given_root}
-use Rattle.sm_names.proofs.LayoutLaws.{placed_given}
-use Rattle.sm_names.proofs.LifeLaws.{whole}
+use Rattle.history_laws.proofs.ForgetLaws.{is_left, left_of, next-left}
+use Rattle.history_laws.proofs.GrowthLaws.{Grows}
+use Rattle.history_laws.proofs.HeldLaws.{given_root}
+use Rattle.history_laws.proofs.LayoutLaws.{placed_given}
+use Rattle.history_laws.proofs.LifeLaws.{whole}
 use Rattle.sm_names.proofs.ListLaws.{In, In-filter, In-find, filter-all}
 use Rattle.sm_names.proofs.PlaceLaws.{places_same}
-use Rattle.sm_names.proofs.SamenessLaws.{either_way, and_left, both_ways}
-use Rattle.sm_names.proofs.SettledLaws.{member_birth, none_if}
-use Rattle.sm_names.proofs.WholeLaws.{IsWhole}
+use Rattle.sm_names.proofs.SamenessLaws.{either_way, and_left, both_ways, none_if}
+use Rattle.history_laws.proofs.SettledLaws.{member_birth}
+use Rattle.history_laws.proofs.WholeLaws.{IsWhole}
 use Rattle.forest_store.specs.Forest.{Collection, pages_in}
 use Rattle.forest_store.specs.Nodes.{members_of}
 use Rattle.forest_store.specs.Settling.{Handles, standing as standing_in}

@@ -14,12 +14,11 @@ use Rattle.sm_names.specs.Reading.{readings}
 use Rattle.sm_names.specs.Sameness.{same_key}
 use Rattle.sm_names.specs.Timelines.{after, timeline, next_forced}
 use Rattle.sm_names.specs.Views.{views}
-use Rattle.sm_names.proofs.GrowthLaws.{Grows, legal_grows}
-use Rattle.sm_names.proofs.HistoryLaws.{legal_on, timeline-push}
-use Rattle.sm_names.proofs.ListLaws.{In-filter, In-list_any}
-use Rattle.sm_names.proofs.RestLaws.{every_rests}
+use Rattle.history_laws.proofs.GrowthLaws.{Grows, legal_grows}
+use Rattle.history_laws.proofs.HistoryLaws.{legal_on, timeline-push}
+use Rattle.sm_names.proofs.ListLaws.{In-filter, In-list_any, In-any}
+use Rattle.history_laws.proofs.RestLaws.{every_rests}
 use Rattle.sm_names.proofs.SamenessLaws.{or_cases, or_left, or_right}
-use Rattle.sm_names.proofs.StandingLaws.{In-any}
 use Rattle.buffer_holds.specs.Counts.{total}
 use Rattle.trackers.specs.Table.{empty, without_id}
 use Rattle.forest_store.specs.Forest.{Forest, given, empty_forest}

@@ -14,10 +14,10 @@ use Rattle.sm_names.specs.Marks.{Timeline, Called, events}
 use Rattle.sm_names.specs.Members.{births_in, members, some_strong_live}
 use Rattle.sm_names.specs.Reading.{readings}
 use Rattle.sm_names.specs.Timelines.{after, next_forced}
-use Rattle.sm_names.proofs.ForgetLaws.{strong-left}
-use Rattle.sm_names.proofs.GrowthLaws.{Grows}
-use Rattle.sm_names.proofs.KeptLaws.{kept-after}
-use Rattle.sm_names.proofs.LifeLaws.{In_old, whole}
+use Rattle.history_laws.proofs.ForgetLaws.{strong-left}
+use Rattle.history_laws.proofs.GrowthLaws.{Grows}
+use Rattle.history_laws.proofs.KeptLaws.{kept-after}
+use Rattle.history_laws.proofs.LifeLaws.{In_old, whole}
 use Rattle.sm_names.proofs.ListLaws.{In, In-filter, In-filter-back, In-map, In-map-back}
 use Rattle.sm_names.proofs.SamenessLaws.{both_ways, or_none_left, or_none_right, or_cases}
 use Rattle.forest_store.specs.declared.node.Node.{Node}

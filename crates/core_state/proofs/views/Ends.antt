@@ -19,10 +19,10 @@ use Rattle.sm_names.specs.Members.{Member, member, members, births_in, constrain
 use Rattle.sm_names.specs.Reading.{readings, open_end, is_taking, is_tracking}
 use Rattle.sm_names.specs.Weakness.{weak, weak_ok}
 use Rattle.sm_names.specs.Words.{times}
-use Rattle.sm_names.proofs.BirthLaws.{birth_is}
-use Rattle.sm_names.proofs.GrowthLaws.{Grows}
+use Rattle.history_laws.proofs.BirthLaws.{birth_is}
+use Rattle.history_laws.proofs.GrowthLaws.{Grows}
 use Rattle.sm_names.proofs.ListLaws.{In, In-map, filter-In}
-use Rattle.sm_names.proofs.ForgetLaws.{any-left}
+use Rattle.history_laws.proofs.ForgetLaws.{any-left}
 use Rattle.buffer_holds.specs.Counts.{total}
 use Rattle.forest_store.specs.declared.node.End.{End}
 use Rattle.forest_store.specs.declared.node.Node.{Node}

@@ -14,10 +14,10 @@ use Rattle.sm_names.specs.Losses.{gone, allocated}
 use Rattle.sm_names.specs.Marks.{Entry, Timeline, Called}
 use Rattle.sm_names.specs.Members.{members, some_strong_live}
 use Rattle.sm_names.specs.Timelines.{after}
-use Rattle.sm_names.proofs.DoomLaws.{StrongLive, strong_live, doomed_whole}
-use Rattle.sm_names.proofs.GoneLaws.{gone_stays}
-use Rattle.sm_names.proofs.GrowthLaws.{Grows}
-use Rattle.sm_names.proofs.KeptLaws.{kept-after}
+use Rattle.history_laws.proofs.DoomLaws.{StrongLive, strong_live, doomed_whole}
+use Rattle.history_laws.proofs.GoneLaws.{gone_stays}
+use Rattle.history_laws.proofs.GrowthLaws.{Grows}
+use Rattle.history_laws.proofs.KeptLaws.{kept-after}
 use Rattle.sm_names.proofs.SamenessLaws.{either_way, and_left, and_both, or_none_right, or_left, both_ways, false_if}
 use Rattle.sm_names.specs.Trackers.{World}
 use Rattle.event_laws.specs.Waiting.{IsRecalled}

@@ -8,9 +8,8 @@ use Rattle.sm_names.specs.Kept.{is_kept, is_kept_collection}
 use Rattle.sm_names.specs.Losses.{gone, allocated}
 use Rattle.sm_names.specs.Marks.{Timeline}
 use Rattle.sm_names.specs.Sameness.{same_key}
-use Rattle.sm_names.proofs.ListLaws.{In, In-filter, In-filter-back, In-find, In-map, In-map-back, is_some-find, In-list_any}
+use Rattle.sm_names.proofs.ListLaws.{In, In-filter, In-filter-back, In-find, In-map, In-map-back, is_some-find, In-list_any, In-any}
 use Rattle.sm_names.proofs.SamenessLaws.{either_way, both_ways, same_key-true, same_key-refl}
-use Rattle.sm_names.proofs.StandingLaws.{In-any}
 use Rattle.forest_store.specs.declared.node.Node.{Node}
 use Rattle.forest_store.specs.Forest.{Collection, Forest, all_nodes, collection_at, node_at}
 use Rattle.forest_store.specs.Nodes.{is_of}

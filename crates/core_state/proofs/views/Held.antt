@@ -17,13 +17,11 @@ use Rattle.sm_names.specs.declared.keys.HeldBuffer.{HeldBuffer}
 use Rattle.sm_names.specs.Timelines.{held}
 use Rattle.sm_names.specs.Views.{held_by_page}
 use Rattle.sm_names.specs.Words.{sorted_by}
-use Rattle.sm_names.proofs.GrowthLaws.{Grows}
-use Rattle.sm_names.proofs.HandleLaws.{same_buffer-true}
-use Rattle.sm_names.proofs.HeldLaws.{are_held, stands_held}
-use Rattle.sm_names.proofs.ListLaws.{In, In-list_any, In-map-back}
-use Rattle.sm_names.proofs.SamenessLaws.{false_if, both_ways, and_left, and_right, and_both, or_right}
-use Rattle.sm_names.proofs.SumLaws.{one, In-le-sum_by}
-use Rattle.sm_names.proofs.StandingLaws.{In-any}
+use Rattle.history_laws.proofs.GrowthLaws.{Grows}
+use Rattle.sm_names.proofs.SamenessLaws.{same_buffer-true, false_if, both_ways, and_left, and_right, and_both, or_right}
+use Rattle.history_laws.proofs.HeldLaws.{are_held, stands_held}
+use Rattle.sm_names.proofs.ListLaws.{In, In-list_any, In-map-back, In-any}
+use Rattle.history_laws.proofs.SumLaws.{one, In-le-sum_by}
 use Rattle.buffer_pool.specs.Holdings.{Holdings, IsSound, in_order}
 use Rattle.buffer_pool.specs.Holes.{end_of}
 use Rattle.forest_store.specs.Forest.{Collection, Forest, IsPoolOf, all_held, held_by_page as held_in}

@@ -14,13 +14,13 @@ use Rattle.sm_names.specs.Marks.{Mark, Timeline, Called, events, is_event}
 use Rattle.sm_names.specs.Sameness.{same_key}
 use Rattle.sm_names.specs.Views.{live_nodes}
 use Rattle.sm_names.specs.Words.{sorted_by}
-use Rattle.sm_names.proofs.BirthLaws.{birth_is}
-use Rattle.sm_names.proofs.GoneLaws.{fault_gone, live_born, not_live}
-use Rattle.sm_names.proofs.GrowthLaws.{Grows}
-use Rattle.sm_names.proofs.LifeLaws.{ordered, In_new}
+use Rattle.history_laws.proofs.BirthLaws.{birth_is}
+use Rattle.history_laws.proofs.GoneLaws.{fault_gone, live_born, not_live}
+use Rattle.history_laws.proofs.GrowthLaws.{Grows}
+use Rattle.history_laws.proofs.LifeLaws.{ordered, In_new}
 use Rattle.sm_names.proofs.ListLaws.{In, In-reverse, filter-In, is_some-find, map-map}
 use Rattle.sm_names.proofs.SamenessLaws.{both_ways, none_or_some}
-use Rattle.sm_names.proofs.SettledLaws.{In-was_born}
+use Rattle.history_laws.proofs.SettledLaws.{In-was_born}
 use Rattle.forest_store.specs.declared.node.Node.{Node}
 use Rattle.forest_store.specs.Forest.{node_at, live_keys}
 use Rattle.core_state.proofs.lists.Sorted.{sorted_by-map}

@@ -12,13 +12,13 @@ use Rattle.sm_names.specs.Losses.{gone}
 use Rattle.sm_names.specs.Marks.{Timeline}
 use Rattle.sm_names.specs.Members.{births_in}
 use Rattle.sm_names.specs.Sameness.{same_key}
-use Rattle.sm_names.proofs.BirthLaws.{birth_is}
-use Rattle.sm_names.proofs.GrowthLaws.{Grows}
-use Rattle.sm_names.proofs.LifeLaws.{ordered}
+use Rattle.history_laws.proofs.BirthLaws.{birth_is}
+use Rattle.history_laws.proofs.GrowthLaws.{Grows}
+use Rattle.history_laws.proofs.LifeLaws.{ordered}
 use Rattle.sm_names.proofs.ListLaws.{In, In-filter, In-filter-back, filter-swap}
 use Rattle.sm_names.proofs.SamenessLaws.{either_way, both_ways, same_key-true, same_key-refl}
-use Rattle.sm_names.proofs.SettledLaws.{find_birth}
-use Rattle.sm_names.proofs.SumLaws.{any_one}
+use Rattle.history_laws.proofs.SettledLaws.{find_birth}
+use Rattle.history_laws.proofs.SumLaws.{any_one}
 use Rattle.forest_store.specs.declared.node.End.{End}
 use Rattle.forest_store.specs.declared.node.Node.{Node}
 use Rattle.forest_store.specs.Forest.{Collection, collection_at, node_at, all_nodes}

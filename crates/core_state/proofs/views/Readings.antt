@@ -14,7 +14,7 @@ use Rattle.sm_names.specs.Marks.{Timeline}
 use Rattle.sm_names.specs.Reading.{readings}
 use Rattle.sm_names.specs.Sameness.{same_key}
 use Rattle.sm_names.specs.Trackers.{unfired}
-use Rattle.sm_names.proofs.GrowthLaws.{Grows}
+use Rattle.history_laws.proofs.GrowthLaws.{Grows}
 use Rattle.sm_names.proofs.ListLaws.{is_some-find}
 use Rattle.event_laws.proofs.ParcelEventLaws.{stranger_waits_for_none}
 use Rattle.event_laws.proofs.WaitingLaws.{counted}

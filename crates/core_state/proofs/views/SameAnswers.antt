@@ -8,7 +8,7 @@ use Rattle.sm_names.specs.Answers.{Readings, IsAnswer, answer, new_key, key_told
 use Rattle.sm_names.specs.Bounds.{Bound}
 use Rattle.sm_names.specs.Marks.{Timeline}
 use Rattle.sm_names.specs.Reading.{readings}
-use Rattle.sm_names.proofs.GrowthLaws.{Grows}
+use Rattle.history_laws.proofs.GrowthLaws.{Grows}
 use Rattle.sm_names.proofs.SamenessLaws.{either_way, both_ways}
 use Rattle.core_state.specs.Reads.{readings_of}
 use Rattle.core_state.specs.Shown.{IsAfter}

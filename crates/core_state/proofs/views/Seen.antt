@@ -3,7 +3,7 @@ use Rattle.std.proofs.Common.{ℕ, ◌≡◌, ◌-◌, ap, []}
 use Rattle.sm_names.specs.Bounds.{Bound}
 use Rattle.sm_names.specs.Marks.{Timeline}
 use Rattle.sm_names.specs.Views.{free_pages}
-use Rattle.sm_names.proofs.GrowthLaws.{Grows}
+use Rattle.history_laws.proofs.GrowthLaws.{Grows}
 use Rattle.core_state.specs.Reads.{views_of}
 use Rattle.core_state.specs.Shown.{IsAfter}
 use Rattle.core_state.specs.State.{State}

@@ -16,7 +16,7 @@ use Rattle.sm_names.specs.Losses.{fault, live}
 use Rattle.sm_names.specs.Marks.{Entry}
 use Rattle.sm_names.specs.Timelines.{timeline}
 use Rattle.sm_names.specs.Views.{live_nodes, held_by_page, free_pages}
-use Rattle.sm_names.proofs.GrowthLaws.{Grows, legal_grows}
+use Rattle.history_laws.proofs.GrowthLaws.{Grows, legal_grows}
 use Rattle.buffer_holds.specs.Counts.{of, moving_count, total}
 use Rattle.sm_names.specs.Births.{birth_of}
 use Rattle.forest_store.specs.Forest.{Collection, all_nodes, beside, collection_at, node_at, live_keys, held_by_page as held_in, pages_in}

@@ -5,8 +5,8 @@ use Rattle.std.specs.Cmp.{IsEquivalence}
 use Rattle.sm_names.specs.Changes.{highest}
 use Rattle.sm_names.specs.Losses.{top}
 use Rattle.sm_names.proofs.ListLaws.{is_some-find}
-use Rattle.sm_names.proofs.ReachLaws.{top_on}
-use Rattle.sm_names.proofs.StandingLaws.{both_tests, top-same}
+use Rattle.sm_names.proofs.ChainLaws.{top_on, top-same}
+use Rattle.sm_names.proofs.SamenessLaws.{both_tests}
 use Rattle.forest_store.proofs.tables.Chains.{reached_by_line}
 use Rattle.forest_store.specs.Ties.{IsFall}
 

@@ -3,7 +3,7 @@ use Rattle.forest_steps.proofs.Common.{◌≡◌, ◌<◌, ℕ, ◌==◌, refl, 
 use Rattle.forest_store.proofs.quiescence.Calming.{later, AreNone, calm_none}
 use Rattle.std.proofs.Math.Bool.{and-true}
 use Rattle.sm_names.proofs.ListLaws.{find-none, none-find}
-use Rattle.sm_names.proofs.PlaceLaws.{map-None}
+use Rattle.sm_names.proofs.SamenessLaws.{map-None}
 use Rattle.forest_store.proofs.tallies.Holding.{held_where, none_deserted}
 use Rattle.forest_steps.proofs.mid_event.Joining.{shelf_here}
 

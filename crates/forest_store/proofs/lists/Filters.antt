@@ -1,6 +1,6 @@
 -- Tests over lists that were filtered and mapped.
 use Rattle.forest_store.proofs.Common.{ℕ, ◌≡◌, nat_lt, refl, ap, sym, ◌∙◌, Bool, not, ◌&&◌, ◌||◌, if◌then◌else◌, List, [], ◌∷◌, map, Option, None, arith, list_any, list_all, find, filter, max, filter_map, fold, or_false, option_map, or_assoc}
-use Rattle.sm_names.proofs.BitLaws.{none_below}
+use Rattle.sm_names.proofs.SamenessLaws.{none_below}
 use Rattle.forest_store.proofs.lists.Elements.{map-same}
 
 module _ {A B : Type 0} (asked : A → Bool) (f : A → B) (p : B → Bool) where

@@ -3,8 +3,8 @@ use Rattle.std.specs.List.{sum_by}
 use Rattle.sm_names.specs.Births.{births}
 use Rattle.sm_names.specs.declared.keys.HeldBuffer.{HeldBuffer}
 use Rattle.sm_names.specs.Timelines.{timeline, held}
-use Rattle.sm_names.proofs.EndLaws.{no_live_nodes, none_held}
-use Rattle.sm_names.proofs.SettledLaws.{In-was_born}
+use Rattle.history_laws.proofs.EndLaws.{no_live_nodes, none_held}
+use Rattle.history_laws.proofs.SettledLaws.{In-was_born}
 use Rattle.client_exit.proofs.AllGone.{all_spent, none_open}
 use Rattle.client_exit.proofs.laws.all_goes_with_its_clients.Goals as goal
 

@@ -1,5 +1,5 @@
 use Rattle.sm_names.specs.Timelines.{timeline}
-use Rattle.sm_names.proofs.GrowthLaws.{legal_grows}
+use Rattle.history_laws.proofs.GrowthLaws.{legal_grows}
 use Rattle.core_state.proofs.views.SameAnswers.{answer_is, answers_are}
 use Rattle.core_state.proofs.laws.a_core_answers_as_its_history.Goals as goal
 

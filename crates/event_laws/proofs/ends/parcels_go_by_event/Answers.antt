@@ -1,5 +1,5 @@
 use Rattle.sm_names.specs.Timelines.{timeline}
-use Rattle.sm_names.proofs.GrowthLaws.{legal_grows}
+use Rattle.history_laws.proofs.GrowthLaws.{legal_grows}
 use Rattle.event_laws.proofs.ParcelEventLaws.{given_event, collected_event, idle_event, stranger_waits_for_none}
 use Rattle.event_laws.proofs.ends.parcels_go_by_event.Goals as goal
 

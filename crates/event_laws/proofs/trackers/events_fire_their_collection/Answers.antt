@@ -6,8 +6,8 @@ use Rattle.sm_names.specs.Timelines.{after, timeline}
 use Rattle.sm_names.specs.Trackers.{Tracked, world}
 use Rattle.event_laws.specs.Waiting.{trackers_to_test, is_tracked_met}
 use Rattle.event_laws.proofs.ConcernLaws.{others_not_due}
-use Rattle.sm_names.proofs.GrowthLaws.{legal_grows_on}
-use Rattle.sm_names.proofs.HistoryLaws.{AreAnswers-last, timeline-push}
+use Rattle.history_laws.proofs.GrowthLaws.{legal_grows_on}
+use Rattle.history_laws.proofs.HistoryLaws.{AreAnswers-last, timeline-push}
 use Rattle.event_laws.proofs.NumberLaws.{all-In}
 use Rattle.event_laws.proofs.trackers.events_fire_their_collection.Goals as goal
 

@@ -4,8 +4,8 @@ use Rattle.sm_names.specs.Marks.{Timeline, events}
 use Rattle.sm_names.specs.Timelines.{timeline}
 use Rattle.sm_names.specs.Trackers.{fired, world}
 use Rattle.event_laws.specs.Waiting.{trackers_to_test, tracked_firing, is_tracked_met, unfired_trackers}
-use Rattle.sm_names.proofs.GrowthLaws.{legal_grows_on}
-use Rattle.sm_names.proofs.HistoryLaws.{AreAnswers-last, timeline-push}
+use Rattle.history_laws.proofs.GrowthLaws.{legal_grows_on}
+use Rattle.history_laws.proofs.HistoryLaws.{AreAnswers-last, timeline-push}
 use Rattle.event_laws.proofs.WaitingLaws.{fired_next, waiting_next}
 use Rattle.event_laws.proofs.trackers.events_fire_what_is_due.Goals as goal
 

@@ -4,8 +4,8 @@ use Rattle.sm_names.specs.Marks.{Timeline, events}
 use Rattle.sm_names.specs.Timelines.{timeline}
 use Rattle.sm_names.specs.Trackers.{Tracked, tracked, fired_at}
 use Rattle.event_laws.specs.Waiting.{tracker_made, unfired_trackers}
-use Rattle.sm_names.proofs.GrowthLaws.{legal_grows, legal_grows_on}
-use Rattle.sm_names.proofs.HistoryLaws.{AreAnswers-last, timeline-push}
+use Rattle.history_laws.proofs.GrowthLaws.{legal_grows, legal_grows_on}
+use Rattle.history_laws.proofs.HistoryLaws.{AreAnswers-last, timeline-push}
 use Rattle.event_laws.proofs.MomentLaws.{events_after}
 use Rattle.event_laws.proofs.NumberLaws.{IsBefore, all-In, made_numbered, numbered}
 use Rattle.event_laws.proofs.WaitingLaws.{In-waiting}

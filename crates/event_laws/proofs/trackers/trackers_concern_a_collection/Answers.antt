@@ -5,8 +5,8 @@ use Rattle.sm_names.specs.Timelines.{timeline}
 use Rattle.sm_names.specs.Trackers.{Tracked, tracked}
 use Rattle.event_laws.specs.Waiting.{tracker_made}
 use Rattle.event_laws.proofs.ConcernLaws.{concerned, made_together, of_after}
-use Rattle.sm_names.proofs.GrowthLaws.{legal_grows}
-use Rattle.sm_names.proofs.HistoryLaws.{AreAnswers-last, timeline-push}
+use Rattle.history_laws.proofs.GrowthLaws.{legal_grows}
+use Rattle.history_laws.proofs.HistoryLaws.{AreAnswers-last, timeline-push}
 use Rattle.event_laws.proofs.NumberLaws.{all-In}
 use Rattle.event_laws.proofs.trackers.trackers_concern_a_collection.Goals as goal
 

@@ -3,8 +3,8 @@ use Rattle.sm_names.specs.Marks.{Timeline}
 use Rattle.sm_names.specs.Timelines.{timeline}
 use Rattle.sm_names.specs.Trackers.{Tracked, world}
 use Rattle.event_laws.specs.Waiting.{trackers_to_test, is_tracked_met}
-use Rattle.sm_names.proofs.GrowthLaws.{GrowsOn, legal_grows_on}
-use Rattle.sm_names.proofs.HistoryLaws.{AreAnswers-last}
+use Rattle.history_laws.proofs.GrowthLaws.{GrowsOn, legal_grows_on}
+use Rattle.history_laws.proofs.HistoryLaws.{AreAnswers-last}
 use Rattle.event_laws.proofs.NumberLaws.{all-In}
 use Rattle.event_laws.proofs.RecallLaws.{recalled_due}
 use Rattle.event_laws.proofs.trackers.what_is_over_may_be_forgotten.Goals as goal

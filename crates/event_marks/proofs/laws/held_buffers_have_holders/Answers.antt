@@ -1,6 +1,6 @@
 use Rattle.sm_names.specs.Timelines.{timeline}
-use Rattle.sm_names.proofs.CountLaws.{counted, total_is}
-use Rattle.sm_names.proofs.GrowthLaws.{legal_grows}
+use Rattle.history_laws.proofs.CountLaws.{counted, total_is}
+use Rattle.history_laws.proofs.GrowthLaws.{legal_grows}
 use Rattle.event_marks.proofs.Holders.{held_by}
 use Rattle.event_marks.proofs.laws.held_buffers_have_holders.Goals as goal
 

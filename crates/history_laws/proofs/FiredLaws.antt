@@ -1,0 +1,134 @@
+-- If a call changes nothing that the conditions of trackers depend on, no tracker fires.
+use Rattle.std.proofs.Common.{ℕ, ◌≡◌, ◌≤◌, ◌+◌, refl, ap, sym, ◌∙◌, Bool, true, false, cond, ◌&&◌, ◌==◌, inl, inr, List, [], ◌∷◌, ◌++◌, map, reverse, Option, Some, None, is_none, arith}
+use Rattle.std.proofs.lemmas.Bool.{eqb-true}
+use Rattle.std.proofs.lemmas.List.{reverse-append, append-nil}
+use Rattle.std.proofs.lemmas.List.Concat.{flat_map-append}
+use Rattle.std.specs.List.{list_any, filter, flat_map, count_by}
+use Rattle.std.specs.Option.{option_map, option_map_or}
+use Rattle.sm_names.specs.declared.messages.Call.{Call}
+use Rattle.sm_names.specs.declared.messages.Reply.{Reply}
+use Rattle.sm_names.specs.Marks.{Timeline, Called, events, is_event}
+use Rattle.sm_names.specs.Trackers.{world, holds, Tracked, tracked, earlier_moments, moments, fires_at, fired_at, fired_in, fired, unfired}
+use Rattle.sm_names.specs.Words.{last_match}
+use Rattle.sm_names.proofs.ListLaws.{In}
+use Rattle.sm_names.proofs.SamenessLaws.{either_way}
+use Rattle.history_laws.proofs.SumLaws.{times-cons}
+
+-- ---- the last match
+
+-- one more in front that passes only where the first of the others does changes nothing
+last_match-again : {A : Type 0} (test : A → Bool) (x y : A) (ys : List A) → test x ≡ test y →
+    last_match test (x ∷ y ∷ ys) ≡ last_match test (y ∷ ys)
+last_match-again test x y ys same = from (last_match test ys) (test x) (test y) same
+  where
+    from : (o : Option _) (a b : Bool) → a ≡ b →
+        option_map_or Some (option_map_or Some o (cond b (Some y) None)) (cond a (Some x) None) ≡ option_map_or Some o
+        (cond b (Some y) None)
+    from (Some z) a b same = refl
+    from None a true same = refl
+    from None true false same = cc
+    from None false false same = refl
+
+-- the last match is one of the elements
+last_match-In : {A : Type 0} (test : A → Bool) (xs : List A) (x : A) → last_match test xs ≡ Some x → In x xs
+last_match-In test [] x h = cc
+last_match-In test (y ∷ ys) x h = from (last_match test ys) (last_match-In test ys x) (test y) h
+  where
+    from : (o : Option _) → (o ≡ Some x → In x ys) → (b : Bool) → option_map_or Some o (cond b (Some y) None) ≡ Some x → In x (y ∷ ys)
+    from (Some z) later b h = inr (later h)
+    from None later true h = let is : y ≡ x = cc in inl (sym is)
+    from None later false h = cc
+
+-- ---- no tracker fires at an event that is yet to come
+
+-- an earlier moment has no more events
+moment_early : (marks moment : Timeline) → In moment (earlier_moments marks) → events moment ≤ events marks
+moment_early [] moment on = absurd on
+moment_early (mark ∷ before) moment on =
+    let more : events before ≤ events (mark ∷ before) = omega (arith, times-cons is_event mark before) in
+    elim (either_way (is_event mark)) [
+      | inl e ↦ elim (at_event (rw e at on)) [
+        | inl is ↦ let same : events moment ≡ events before = ap events is in omega (arith, more, same)
+        | inr there ↦ let less : events moment ≤ events before = moment_early before moment there in omega (arith, more, less)
+      ]
+      | inr e ↦ let there : In moment (earlier_moments before) = rw e at on in
+          let less : events moment ≤ events before = moment_early before moment there in omega (arith, more, less)
+    ]
+  where
+    at_event : In moment (before ∷ earlier_moments before) → In moment (before ∷ earlier_moments before)
+    at_event h = h
+
+-- a tracker fired at an event that was
+pub fired_early : (marks : Timeline) (t : Tracked) (event : ℕ) → fired_at marks t ≡ Some event → event ≤ events marks
+fired_early marks t event h = from (last_match (fires_at t) (moments marks)) refl h
+  where
+    from : (o : Option Timeline) → last_match (fires_at t) (moments marks) ≡ o → option_map events o ≡ Some event → event ≤ events marks
+    from None e h = cc
+    from (Some moment) e h =
+        let is : events moment ≡ event = cc in
+        elim (last_match-In (fires_at t) (moments marks) moment e) [
+          | inl here ↦ let same : events moment ≡ events marks = ap events here in omega (arith, is, same)
+          | inr there ↦ let less : events moment ≤ events marks = moment_early marks moment there in omega (arith, is, less)
+        ]
+
+-- if no element passes, the filtered list is empty
+filter_none : {A : Type 0} (test : A → Bool) (xs : List A) → ((x : A) → test x ≡ false) → filter test xs ≡ []
+filter_none test [] fails = refl
+filter_none test (x ∷ xs) fails = rw (fails x) (filter_none test xs fails)
+
+-- so none has fired at the next event
+none_to_come : (marks : Timeline) → fired_in marks (events marks + 1) ≡ []
+none_to_come marks =
+    ap (map (λ (t : Tracked). record { tracker = t.id; event = events marks + 1 }))
+    (filter_none (λ t. option_map_or (λ e. e == events marks + 1) (fired_at marks t) false) (reverse (tracked marks)) (λ t.
+    not_now t (fired_at marks t) refl))
+  where
+    not_now : (t : Tracked) (o : Option ℕ) → fired_at marks t ≡ o → option_map_or (λ e. e == events marks + 1) o false ≡ false
+    not_now t None e = refl
+    not_now t (Some event) e = elim (either_way (event == events marks + 1)) [
+      | inl same ↦
+          let is : event ≡ events marks + 1 = eqb-true event (events marks + 1) same in
+          let early : event ≤ events marks = fired_early marks t event e in
+          absurd (omega (arith, is, early))
+      | inr other ↦ other
+    ]
+
+-- ---- a call that changes nothing for trackers
+
+module _ (marks : Timeline) (client : ℕ) (reply : Reply) (call : Call)
+    (same_world : world (Called client reply call ∷ marks) ≡ world marks)
+    (same_tracked : tracked (Called client reply call ∷ marks) ≡ tracked marks) where
+  -- the timeline after the call
+  abbrev now : Timeline
+  now = Called client reply call ∷ marks
+
+  -- the call changes neither the world nor the trackers, so each condition holds as before
+  fires_same : (t : Tracked) → fires_at t now ≡ fires_at t marks
+  fires_same t i = let one_tracked : Bool =
+      list_any (λ (u : Tracked). u.id == t.id) (same_tracked i) in one_tracked && holds (same_world i) t.condition
+
+  -- the call makes no condition true, so each tracker has fired at the same event as before
+  pub fired_at-same : (t : Tracked) → fired_at now t ≡ fired_at marks t
+  fired_at-same t = ap (option_map events) (last_match-again (fires_at t) now marks (earlier_moments marks) (fires_same t))
+
+  -- no tracker fires by the call, so as many wait as before
+  pub unfired-same : unfired now ≡ unfired marks
+  unfired-same = λ i. count_by (λ t. is_none (fired_at-same t i)) (same_tracked i)
+
+  -- each event fires the same trackers, as each tracker fires at the same event
+  fired_in-same : (event : ℕ) → fired_in now event ≡ fired_in marks event
+  fired_in-same event = λ i.
+      map (λ (t : Tracked). record { tracker = t.id; event = event })
+      (filter (λ t. option_map_or (λ e. e == event) (fired_at-same t i) false) (reverse (same_tracked i)))
+
+  -- the call adds one moment, and no tracker fires at it
+  pub fired-same : fired now ≡ fired marks
+  fired-same =
+      let each : flat_map (λ moment. fired_in now (events moment)) (reverse (moments now)) ≡ flat_map (λ moment.
+      fired_in marks (events moment)) (reverse (moments now)) =
+      λ i. flat_map (λ moment. fired_in-same (events moment) i) (reverse (moments now)) in
+      let split : flat_map (λ moment. fired_in marks (events moment)) (reverse (moments now)) ≡ fired
+      marks ++ (fired_in marks (events marks + 1) ++ []) =
+      ap (flat_map (λ moment. fired_in marks (events moment))) (reverse-append (now ∷ []) (moments marks))
+      ∙ flat_map-append (λ moment. fired_in marks (events moment)) (reverse (moments marks)) (now ∷ []) in
+      each ∙ (split ∙ (ap (λ l. fired marks ++ (l ++ [])) (none_to_come marks) ∙ append-nil (fired marks)))

@@ -1,0 +1,26 @@
+use Rattle.std.proofs.Common.{◌≡◌, ◌∙◌, ◌-◌, [], ap, arith, List}
+use Rattle.std.specs.List.{sum_by}
+use Rattle.sm_names.specs.Births.{births}
+use Rattle.sm_names.specs.declared.keys.HeldBuffer.{HeldBuffer}
+use Rattle.sm_names.specs.Timelines.{timeline, held}
+use Rattle.history_laws.proofs.EndLaws.{spent_left, no_live_nodes, none_held}
+use Rattle.history_laws.proofs.SettledLaws.{In-was_born}
+use Rattle.history_laws.proofs.lives.all_goes.Goals as goal
+
+pub returns-clause-spent : goal.returns-clause-spent
+returns-clause-spent c = spent_left
+
+pub returns-clause-live : goal.returns-clause-live
+returns-clause-live c pool limits history legal all =
+    no_live_nodes pool limits history legal (λ b on. all b.node (In-was_born (births (timeline pool history)) b on))
+
+pub returns-clause-held : goal.returns-clause-held
+returns-clause-held c pool limits history legal all none =
+    none_held pool limits history legal (λ b on. all b.node (In-was_born (births (timeline pool history)) b on)) none
+
+pub returns-clause-free : goal.returns-clause-free
+returns-clause-free c pool limits history legal all none =
+    let e : held pool (timeline pool history) ≡ [] =
+    none_held pool limits history legal (λ b on. all b.node (In-was_born (births (timeline pool history)) b on)) none in
+    let whole : pool - 0 ≡ pool = omega arith in
+    ap (λ (l : List HeldBuffer). pool - sum_by (λ (h : HeldBuffer). h.pages.pages) l) e ∙ whole

@@ -1,0 +1,8 @@
+use Rattle.history_laws.proofs.RefusedLaws.{readings-Refused, fired-Refused}
+use Rattle.history_laws.proofs.marks.refused_calls_change_nothing.Goals as goal
+
+pub returns-clause-read : goal.returns-clause-read
+returns-clause-read c = readings-Refused
+
+pub returns-clause-fired : goal.returns-clause-fired
+returns-clause-fired c = fired-Refused

@@ -1,5 +1,0 @@
-use Rattle.sm_names.proofs.CallLaws.{made}
-use Rattle.sm_names.proofs.laws.calls.calls_have_rows.Goals as goal
-
-pub returns-clause-parts : goal.returns-clause-parts
-returns-clause-parts c parts call is = made parts.kind parts.object parts.argument call is

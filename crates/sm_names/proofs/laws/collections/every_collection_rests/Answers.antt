@@ -1,5 +1,0 @@
-use Rattle.sm_names.proofs.RestLaws.{every_rests}
-use Rattle.sm_names.proofs.laws.collections.every_collection_rests.Goals as goal
-
-pub returns : goal.returns
-returns c pool limits history legal = every_rests pool limits history legal.answers

@@ -1,6 +1,0 @@
-use Rattle.std.proofs.Common.{[]}
-use Rattle.sm_names.proofs.LegalLaws.{sound_history}
-use Rattle.sm_names.proofs.laws.histories.births_are_sound.Goals as goal
-
-pub returns : goal.returns
-returns c pool limits history legal = sound_history pool limits [] history legal.answers tt

@@ -1,6 +1,0 @@
-use Rattle.std.proofs.Common.{[]}
-use Rattle.sm_names.proofs.HandleLaws.{paid_history, paid_nothing}
-use Rattle.sm_names.proofs.laws.histories.handles_are_paid_for.Goals as goal
-
-pub returns : goal.returns
-returns c pool limits history legal = paid_history pool limits [] history legal.answers paid_nothing

@@ -1,8 +1,0 @@
-use Rattle.sm_names.proofs.RefusedLaws.{readings-Refused, fired-Refused}
-use Rattle.sm_names.proofs.laws.marks.refused_calls_change_nothing.Goals as goal
-
-pub returns-clause-read : goal.returns-clause-read
-returns-clause-read c = readings-Refused
-
-pub returns-clause-fired : goal.returns-clause-fired
-returns-clause-fired c = fired-Refused
