@@ -160,7 +160,9 @@ struct State : std::enable_shared_from_this<State> {
     std::size_t users = 0;                                // Clients, ends and handles
     std::shared_ptr<State> self;                          // set as long as there are users
     std::vector<Account *> clients;                       // those that have not vanished, by id
-    std::vector<std::pair<TrackerId, std::shared_ptr<Watch
+    std::vector<std::pair<TrackerId, std::shared_ptr<Watch>>> waiting; // by id
+    std::uint64_t seen = 0;                               // the number of firings passed on
+    Account *late = nullptr;                              // the accounts with calls put off
     std::map<Key, std::string> labels;
     Waiter *waiters = nullptr;
     std::unique_ptr<Recorder> recorder;

@@ -16,9 +16,10 @@ pub enum Failure {
     TooManyBuffers,
     /// Some buffer has no place in the pool.
     PoolFull,
-    /// An attached subtree asks for more buffers than are there and not camped on by others.
+    /// An attached unit and the nodes of allocated units camp on more buffers than there are, or a
+    /// node of the unit wants at least more than there are.
     TooFew,
-    /// An attached subtree asks for larger buffers than are there.
+    /// A node of an attached unit asks for larger buffers than the collection has.
     TooSmall,
 }
 

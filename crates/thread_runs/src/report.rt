@@ -43,7 +43,8 @@ impl Gate for Silent {
     fn after(&self, _client: ClientId, _step: u64, _reply: &Option<Reply>) {}
 }
 
-// The first client that has a line where it has no part, or a part where it has no line.
+// The first client that has a line and no part, or a part and no line. No contract relates the ids of two
+// joins, since each took the lock for itself: so the lines are compared with the parts.
 fn first_stray<E: Setup, S: Ledger, W: Ledger>(
     lines: &[ClientLine],
     parts: &[Holding<E, S, W>],
