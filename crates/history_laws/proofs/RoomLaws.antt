@@ -62,7 +62,9 @@ module _ (pool pages : ℕ) (held : List Interval) where
   full_no_start full =
       elim (none_or_some (least_start pool pages held)) [
         | inl e ↦ e
-        | inr found ↦ let first = start_is_first pool pages held found.0 found.1 in both_ways (fits_at found.0) first.fits (full found.0 first.below)
+        | inr found ↦
+            let first = start_is_first pool pages held found.0 found.1 in
+            both_ways (fits_at found.0) first.fits (full found.0 first.below)
       ]
 
 -- ---- the starts of several buffers

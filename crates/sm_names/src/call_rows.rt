@@ -2,7 +2,7 @@
 ghost use Rattle.std.specs.Prelude.{◌≡◌, slice_get};
 ghost use Rattle.std.specs.List.{position};
 ghost use Rattle.std.specs.Str.{bytes_eq};
-ghost use Rattle.sm_names.specs.CallRows.{call_of as made_of, children_in as children_said, client_in as client_said, constraints_in as constraints_said, gift_in as gift_said, kind_at as kind_numbered, kind_named as kind_spelled, most_in as most_said, object_buffer as buffer_in, object_key as key_in, only as only_call, parts as parts_told, parts_of as parts_made, plain_buffer as plain_buffer_in, plain_key as plain_key_in, row as row_told, row_of as row_at, strength_in as strength_said, word_of as word_spelled};
+ghost use Rattle.sm_names.specs.CallRows.{call_made, call_of as made_of, children_in as children_said, client_in as client_said, constraints_in as constraints_said, gift_in as gift_said, kind_at as kind_numbered, kind_named as kind_spelled, most_in as most_said, object_buffer as buffer_in, object_key as key_in, only as only_call, parts as parts_told, parts_of as parts_made, plain_buffer as plain_buffer_in, plain_key as plain_key_in, row as row_told, row_of as row_at, strength_in as strength_said, word_of as word_spelled};
 
 use crate::call_parts::{
     Answer, Argument, ArgumentForm, CallParts, CallRow, Object, Product, Spends, Target,
@@ -271,8 +271,29 @@ fn gift_in(argument: Argument<ClientId>) -> Option<(Strength, ClientId)>
     }
 }
 
+// The call of this kind on a node, if it is one that says nothing else.
+fn plain_call(kind: CallKind, key: NodeKey) -> Option<Call>
+    ensures { result ≡ call_made kind (Object.Node key) Argument.Nothing }
+{
+    match kind {
+        CallKind::Duplicate => Some(Call::Duplicate(key)),
+        CallKind::AttachToken => Some(Call::AttachToken(key)),
+        CallKind::Sync => Some(Call::Sync(key)),
+        CallKind::Bind => Some(Call::Bind(key)),
+        CallKind::SetDispensable => Some(Call::SetDispensable(key)),
+        CallKind::SetWeak => Some(Call::SetWeak(key)),
+        CallKind::Check => Some(Call::Check(key)),
+        CallKind::Take => Some(Call::Take(key)),
+        CallKind::Release => Some(Call::Release(key)),
+        CallKind::Close => Some(Call::Close(key)),
+        CallKind::TrackNode => Some(Call::TrackNode(key)),
+        _ => None,
+    }
+}
+
 /// The call of these parts, or `None` if the object or the argument does not fit the kind. Takes a
 /// constant time.
+#[tactic(auto, using(crate::proofs::CallLaws::plain_made))]
 pub fn call_of(parts: CallParts) -> Option<Call>
     ensures { result ≡ made_of parts }
 {
@@ -282,23 +303,14 @@ pub fn call_of(parts: CallParts) -> Option<Call>
         CallKind::Join => only(on, says, Call::Join),
         CallKind::Shut => only(on, says, Call::Shut),
         CallKind::OpenRoot => only(on, says, Call::OpenRoot),
-        CallKind::Duplicate => Some(Call::Duplicate(plain_key(on, says)?)),
-        CallKind::AttachToken => Some(Call::AttachToken(plain_key(on, says)?)),
-        CallKind::Sync => Some(Call::Sync(plain_key(on, says)?)),
-        CallKind::Give => Some(Call::Give(object_key(on)?, client_in(says)?)),
         CallKind::Collect => only(on, says, Call::Collect),
-        CallKind::Bind => Some(Call::Bind(plain_key(on, says)?)),
-        CallKind::SetDispensable => Some(Call::SetDispensable(plain_key(on, says)?)),
-        CallKind::SetWeak => Some(Call::SetWeak(plain_key(on, says)?)),
+        CallKind::Give => Some(Call::Give(object_key(on)?, client_in(says)?)),
         CallKind::SetWeakOk => Some(Call::SetWeakOk(object_key(on)?, children_in(says)?)),
         CallKind::SetConstraints => Some(Call::SetConstraints(
             object_key(on)?,
             constraints_in(says)?,
         )),
-        CallKind::Check => Some(Call::Check(plain_key(on, says)?)),
-        CallKind::Take => Some(Call::Take(plain_key(on, says)?)),
-        CallKind::Release => Some(Call::Release(plain_key(on, says)?)),
-        CallKind::Close => Some(Call::Close(plain_key(on, says)?)),
+        CallKind::TrackLifetime => Some(Call::TrackLifetime(object_key(on)?, most_in(says)?)),
         CallKind::DupHandle => Some(Call::DupHandle(object_buffer(on)?, strength_in(says)?)),
         CallKind::DropHandle => Some(Call::DropHandle(object_buffer(on)?, strength_in(says)?)),
         CallKind::GiveHandle => {
@@ -306,9 +318,8 @@ pub fn call_of(parts: CallParts) -> Option<Call>
             let (strength, to) = gift_in(says)?;
             Some(Call::GiveHandle(buffer, strength, to))
         }
-        CallKind::TrackNode => Some(Call::TrackNode(plain_key(on, says)?)),
-        CallKind::TrackLifetime => Some(Call::TrackLifetime(object_key(on)?, most_in(says)?)),
         CallKind::TrackWeak => Some(Call::TrackWeak(plain_buffer(on, says)?)),
+        kind => plain_call(kind, plain_key(on, says)?),
     }
 }
 

@@ -18,21 +18,21 @@ pub struct NodeKey {
 }
 
 /// A buffer: its collection, and its index in it, from 0 to 63.
-#[derive(Clone, Copy, Debug, PartialEq, Eq, PartialOrd, Ord, Hash)]
+#[derive(Clone, Copy, Debug, PartialEq, Eq, Hash)]
 pub struct BufferName {
     pub collection: CollectionId,
     pub index: u8,
 }
 
 /// Whether a node or a handle keeps buffers alive (`fuchsia.sysmem2.Node.SetWeak`).
-#[derive(Clone, Copy, Debug, PartialEq, Eq, PartialOrd, Ord, Hash)]
+#[derive(Clone, Copy, Debug, PartialEq, Eq, Hash)]
 pub enum Strength {
     Strong,
     Weak,
 }
 
 /// What an end is: a token until it is bound, then a collection.
-#[derive(Clone, Copy, Debug, PartialEq, Eq, PartialOrd, Ord, Hash)]
+#[derive(Clone, Copy, Debug, PartialEq, Eq)]
 pub enum Kind {
     Token,
     Collection,
