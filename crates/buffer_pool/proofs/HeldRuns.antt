@@ -6,7 +6,7 @@ use Rattle.std.specs.List.Sorted.{IsNonDecreasingBy}
 use Rattle.std.proofs.Math.Nat.{suc-mul, add-mul, mul-le-mul_right}
 use Rattle.std.proofs.lemmas.Bool.{cases_Bool, ltb-true, ltb-false, lt-ltb, le-ltb}
 use Rattle.std.proofs.lemmas.List.{length-append, length-take-le}
-use Rattle.std.proofs.lemmas.List.Elements.{All-append, All-take, All-drop}
+use Rattle.std.proofs.lemmas.List.Elements.{All-append}
 use Rattle.sm_names.specs.declared.keys.Interval.{Interval}
 use Rattle.buffer_pool.specs.Fitting.{run_starts}
 use Rattle.buffer_pool.specs.Holes.{end_of, holes_from}
@@ -70,15 +70,13 @@ length-with start pages n at is le =
     let front : length (take at is) ≡ at = length-take-le at is le in
     omega (arith, length-append (take at is ++ R) (drop at is), length-append (take at is) R, length-drop at is, length-run_of start pages n)
 
--- and none has more pages than the bound, if they have not
-pub bound-with : (bound more start pages n at : ℕ) (is : List Interval) → bound ≤ more → pages ≤ more →
-    All (λ (h : Interval). h.pages ≤ bound) is → All (λ (h : Interval). h.pages ≤ more) (insert_slice is at (run_of start pages n))
-bound-with bound more start pages n at is grows le all =
-    let R : List Interval = run_of start pages n in
+-- if none has more pages than the bound, none has with a run behind them
+pub bound-behind : (bound more start pages n : ℕ) (is : List Interval) → bound ≤ more → pages ≤ more →
+    All (λ (h : Interval). h.pages ≤ bound) is → All (λ (h : Interval). h.pages ≤ more) (is ++ run_of start pages n)
+bound-behind bound more start pages n is grows le all =
     let P : Interval → Type 0 = λ h. h.pages ≤ more in
     let wide : All P is = λ k d lt. let few : (get_or is k d).pages ≤ bound = all k d lt in omega arith in
-    All-append P (take at is ++ R) (drop at is) (All-append P (take at is) R (All-take P at is wide) (run_of-bound start pages n more le))
-    (All-drop P at is wide)
+    All-append P is (run_of start pages n) wide (run_of-bound start pages n more le)
 
 -- a run that is put in its place adds its count to the length
 pub length-with_run : (start pages n : ℕ) (is : List Interval) → length (with_run start pages n is) ≡ n + length is

@@ -5,3 +5,4 @@ pub mod Looks
 pub mod Merging
 pub mod Placing
 pub mod Rows
+pub mod Runs

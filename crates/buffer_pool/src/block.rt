@@ -91,15 +91,44 @@ impl Block {
     }
 
     /// Puts so many intervals of as many pages in before the one at this place, side by side, of which
-    /// this is the first. Those behind the place move once.
-    pub(crate) fn insert_run(&mut self, at: usize, first: Interval, count: usize)
+    /// this is the first. Those behind the place move into another block, which has none, and back.
+    pub(crate) fn insert_run(&mut self, at: usize, first: Interval, count: usize, other: &mut Block)
         requires within { at ≤ length self.old }
         requires room { length self.old + count ≤ FULL }
         requires fits { first.start + count * first.pages < 2 ^ 32 }
-        ensures { self.new ≡ insert_slice self.old at (run_of first.start first.pages count) }
+        requires none { other.old ≡ [] }
+        ensures items { self.new ≡ insert_slice self.old at (run_of first.start first.pages count) }
+        ensures none { other.new ≡ [] }
+    {
+        if at < self.len() {
+            self.insert_between(at, first, count, other);
+        } else {
+            self.append_run(first, count);
+        }
+    }
+
+    // The same where others lie behind the place.
+    fn insert_between(&mut self, at: usize, first: Interval, count: usize, other: &mut Block)
+        requires within { at ≤ length self.old }
+        requires room { length self.old + count ≤ FULL }
+        requires fits { first.start + count * first.pages < 2 ^ 32 }
+        requires none { other.old ≡ [] }
+        ensures items { self.new ≡ insert_slice self.old at (run_of first.start first.pages count) }
+        ensures none { other.new ≡ [] }
+    {
+        self.cut_into(at, other);
+        self.append_run(first, count);
+        self.take_in(other);
+    }
+
+    // Puts so many intervals of as many pages behind all, side by side, of which this is the first.
+    fn append_run(&mut self, first: Interval, count: usize)
+        requires room { length self.old + count ≤ FULL }
+        requires fits { first.start + count * first.pages < 2 ^ 32 }
+        ensures { self.new ≡ self.old ++ run_of first.start first.pages count }
     {
         self.greatest = self.greatest.max(first.pages);
-        put_run(&mut self.cells, at, first, count);
+        push_run(&mut self.cells, first, count);
     }
 
     /// Takes so many intervals from this place on out.
@@ -117,16 +146,16 @@ impl Block {
         self.cells.truncate(left);
     }
 
-    /// Moves the second half of a full block into one of none.
-    pub(crate) fn cut_into(&mut self, other: &mut Block)
-        requires long { HALF ≤ length self.old }
+    /// Moves those from a place on into a block of none.
+    pub(crate) fn cut_into(&mut self, at: usize, other: &mut Block)
+        requires within { at ≤ length self.old }
         requires none { other.old ≡ [] }
-        ensures front { self.new ≡ take HALF self.old }
-        ensures back { other.new ≡ drop HALF self.old }
+        ensures front { self.new ≡ take at self.old }
+        ensures back { other.new ≡ drop at self.old }
     {
-        other.cells.extend_from_slice(&self.cells[HALF..]).unwrap();
+        other.cells.extend_from_slice(&self.cells[at..]).unwrap();
         other.greatest = self.greatest;
-        self.cells.truncate(HALF);
+        self.cells.truncate(at);
     }
 
     /// Moves all of another block behind those of this one.
@@ -195,30 +224,6 @@ impl Block {
         }
         left
     }
-}
-
-// Puts so many intervals of as many pages in before the one at this place, side by side, of which this is
-// the first. There is room for them.
-fn put_run(cells: &mut Vec<Interval>, at: usize, first: Interval, count: usize)
-    requires within { at ≤ length cells.old.items }
-    requires room { length cells.old.items + count ≤ vec_capacity cells.old }
-    requires fits { first.start + count * first.pages < 2 ^ 32 }
-    ensures items { cells.new.items
-        ≡ insert_slice cells.old.items at (run_of first.start first.pages count) }
-    ensures capacity { vec_capacity cells.new ≡ vec_capacity cells.old }
-{
-    push_run(cells, first, count);
-    move_last(cells, at, count);
-}
-
-// Moves the last so many intervals before the one at this place.
-fn move_last(cells: &mut Vec<Interval>, at: usize, count: usize)
-    requires { at + count ≤ length cells.old.items }
-    ensures items { (front last : List Interval) → cells.old.items ≡ front ++ last →
-        length last ≡ count → cells.new.items ≡ insert_slice front at last }
-    ensures capacity { vec_capacity cells.new ≡ vec_capacity cells.old }
-{
-    cells[at..].rotate_right(count);
 }
 
 // Pushes so many intervals of as many pages, side by side, of which this is the first.

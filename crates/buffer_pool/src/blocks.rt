@@ -1,20 +1,17 @@
 //! Intervals in blocks, so that a change moves no more than a block of them.
-ghost use Rattle.std.specs.Prelude.{◌≡◌, true, false, ◌+◌, ◌-◌, ◌*◌, ◌++◌, ◌∷◌, [], ◌<◌, ◌≤◌, ◌^◌, length, take, drop, set, get_or, slice_index_or, nat_lt, nat_le, All, IfOk, OnOk};
+ghost use Rattle.std.specs.Prelude.{◌≡◌, true, false, ◌+◌, ◌-◌, ◌*◌, ◌++◌, ◌∷◌, [], ◌<◌, ◌≤◌, ◌^◌, length, take, drop, set, get_or, slice_index_or, nat_lt, nat_le, min, max, All, IfOk, OnOk};
 ghost use Rattle.std.specs.List.{insert, insert_slice, remove, remove_range, prefix_len};
 ghost use Rattle.std.specs.List.Sorted.{IsNonDecreasingBy};
 ghost use Rattle.sm_names.specs.declared.keys.Interval.{Interval};
 ghost use Rattle.buffer_pool.specs.Fitting.{too_small, rooms};
 ghost use Rattle.buffer_pool.specs.Holdings.{run_of};
 ghost use Rattle.buffer_pool.specs.Rows.{capacity_of, all_in, spot_index, HasIntervalAt, IsInsertSpot, IsNextOrEnd, IsChanged, IsPassed, edge_of};
+ghost use Rattle.buffer_pool.specs.Runs.{room_in};
 
 use crate::block::{Block, FULL, HALF, edge, next_guess, place_to_look};
 use sm_names::{Interval, MAX_PAGES};
 use std::alloc::{AllocError, Global};
 use std::marker::Model;
-
-// From this many on, intervals side by side are inserted at once. To begin that in the midst of a block is
-// expensive.
-const LONG_RUN: usize = 32;
 
 /// Where an interval lies: in which block, and behind how many of it.
 #[derive(Clone, Copy)]
@@ -209,20 +206,19 @@ impl Blocks {
         requires some { 1 ≤ most }
         requires fits { first.start + most * first.pages < 2 ^ 32 }
         ensures count { (1 ≤ result) × (result ≤ most) }
+        ensures no_fewer { result ≡ max 1 (min most (room_in self.old.lists spot.block)) }
         ensures items { all_in self.new.lists
             ≡ insert_slice (all_in self.old.lists) (spot_index self.old.lists spot)
             (run_of first.start first.pages result) }
         ensures capacity { capacity_of self.new ≡ capacity_of self.old }
     {
-        if most >= LONG_RUN {
-            let count = most.min(self.room_at(spot.block));
-            if count > 0 {
-                self.put_run(spot, first, count);
-                return count;
-            }
+        let count = self.at_once(spot.block, most);
+        if count > 1 {
+            self.put_run(spot, first, count);
+        } else {
+            self.insert(spot, first);
         }
-        self.insert(spot, first);
-        1
+        count
     }
 
     /// Takes the interval at a spot out.
@@ -240,6 +236,8 @@ impl Blocks {
         requires there { HasIntervalAt self.old.lists spot }
         requires some { 1 ≤ most }
         ensures count { (1 ≤ result) × (result ≤ most) }
+        ensures no_fewer { result
+            ≡ min most (length (get_or self.old.lists spot.block []) - spot.offset) }
         ensures changed { IsChanged self.old self.new spot (remove_range (all_in self.old.lists)
             (spot_index self.old.lists spot) (spot_index self.old.lists spot + result)) }
         ensures within { IsInsertSpot self.new.lists spot }
@@ -270,31 +268,41 @@ impl Blocks {
         };
     }
 
-    // How many more intervals the block at this place can have, if there is one.
-    fn room_at(&self, at: usize) -> usize
-        ensures there { 0 < result → at < length self.now.lists }
-        ensures room { 0 < result →
+    // How many of so many intervals come into the block at this place at once: one where it is full or
+    // there is none.
+    fn at_once(&self, at: usize, most: usize) -> usize
+        requires { 1 ≤ most }
+        ensures there { 1 < result → at < length self.now.lists }
+        ensures room { 1 < result →
             length (get_or self.now.lists at []) + result ≤ FULL }
+        ensures count { result ≡ max 1 (min most (room_in self.now.lists at)) }
     {
+        if most == 1 {
+            return 1;
+        }
         if at < self.used.len() {
-            FULL - self.used[at].len()
+            most.min(FULL - self.used[at].len()).max(1)
         } else {
-            0
+            1
         }
     }
 
-    // Puts so many intervals side by side into a block that has room for them.
+    // Puts so many intervals side by side into a block that has room for them. Those behind them move into
+    // a spare block, and back.
     fn put_run(&mut self, spot: Spot, first: Interval, count: usize)
         requires there { spot.block < length self.old.lists }
         requires within { spot.offset ≤ length (get_or self.old.lists spot.block []) }
         requires room { length (get_or self.old.lists spot.block []) + count ≤ FULL }
         requires fits { first.start + count * first.pages < 2 ^ 32 }
+        requires spare { 0 < self.old.spares }
         ensures lists { self.new.lists ≡ set self.old.lists spot.block
             (insert_slice (get_or self.old.lists spot.block []) spot.offset
             (run_of first.start first.pages count)) }
         ensures spares { self.new.spares ≡ self.old.spares }
     {
-        self.used[spot.block].insert_run(spot.offset, first, count);
+        let last = self.spare.len() - 1;
+        let other = &mut self.spare[last];
+        self.used[spot.block].insert_run(spot.offset, first, count, other);
         self.near = Spot {
             block: spot.block,
             offset: spot.offset + count,
@@ -328,7 +336,7 @@ impl Blocks {
         ensures spares { self.new.spares + 1 ≡ self.old.spares }
     {
         let mut block = self.spare.pop().unwrap();
-        self.used[at].cut_into(&mut block);
+        self.used[at].cut_into(HALF, &mut block);
         self.used.insert(at + 1, block).unwrap();
     }
 

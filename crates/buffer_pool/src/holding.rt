@@ -9,8 +9,8 @@ use crate::blocks::Blocks;
 use sm_names::{Interval, MAX_PAGES};
 
 /// Inserts `count` intervals that lie side by side, each as long as `first`, which is the first of them. No
-/// held interval begins among them. One search and one move for each block that they come into, if they
-/// are 32 or more; otherwise for each of them.
+/// held interval begins among them. At most two searches and two inserts for each block that they come
+/// into.
 pub(crate) fn hold_run(held: &mut Blocks, first: Interval, count: u32)
     requires up { IsNonDecreasingBy (λ i. i.start) (all_in held.old.lists) }
     requires some { 1 ≤ first.pages }

@@ -6,6 +6,7 @@ ghost use Rattle.buffer_pool.specs.Holes.{end_of};
 ghost use Rattle.buffer_pool.specs.Fitting.{too_small, rooms, first_fit, holes_after, FitsInFirst};
 ghost use Rattle.buffer_pool.specs.Merging.{spaced, first_ends, first_begins, with_merged, with_released};
 ghost use Rattle.buffer_pool.specs.Rows.{all_in, spot_index, capacity_of, HasIntervalAt, IsInsertSpot, IsNextOrEnd, IsChanged, IsPassed};
+ghost use Rattle.buffer_pool.specs.Runs.{FillsFirst};
 
 use crate::block::edge;
 use crate::blocks::{Blocks, Reach, Spot};
@@ -107,6 +108,7 @@ impl Holes {
         ensures before { result.before ≡ prefix_len (too_small pages_each) self.old.items }
         ensures count { (1 ≤ result.count) × (result.count ≤ most) }
         ensures in_first { FitsInFirst pages_each result.count self.old.items }
+        ensures no_fewer { FillsFirst pages_each most result.count self.old.items }
         ensures items { self.new.items ≡ holes_after pages_each result.count self.old.items }
         ensures capacity { self.new.capacity ≡ self.old.capacity }
     {
@@ -207,6 +209,7 @@ fn shorten(blocks: &mut Blocks, spot: Spot, pages_each: u32, most: u32) -> Front
     ensures start { result.start ≡ first_fit pages_each (all_in blocks.old.lists) }
     ensures count { (1 ≤ result.count) × (result.count ≤ most) }
     ensures in_first { FitsInFirst pages_each result.count (all_in blocks.old.lists) }
+    ensures no_fewer { FillsFirst pages_each most result.count (all_in blocks.old.lists) }
     ensures changed { IsChanged blocks.old blocks.new spot
         (holes_after pages_each result.count (all_in blocks.old.lists)) }
     ensures within { IsInsertSpot blocks.new.lists spot }

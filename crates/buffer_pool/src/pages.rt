@@ -72,11 +72,11 @@ impl Pool {
     /// blocks of holes, from where the last search ended if that was for as many pages or fewer and
     /// no pages came back before, up to the last start, or to the end where the pool is full: a block
     /// whose greatest hole is too small is passed at once. The buffers that lie in one hole leave it
-    /// together; 32 or more also become held together. For each hole and each further block that they
-    /// come into, or for each buffer if they are fewer, it costs two looks at the held intervals where
-    /// they lie next to those before, and else two binary searches, one among the blocks and one in a
-    /// block, and a move of at most a block; where a block becomes full or empty, also of the part of
-    /// the list of blocks behind it. Each buffer costs a constant besides.
+    /// together, and become held together. For each hole and each further block that they come into, it
+    /// costs two looks at the held intervals where they lie next to those before, and else two binary
+    /// searches, one among the blocks and one in a block, and a move of at most a block, out and back; where
+    /// a block becomes full or empty, the same once more, and a move of the part of the list of blocks
+    /// behind it. Each buffer costs a constant besides.
     pub fn place(&mut self, count: u32, pages_each: u32) -> Result<Placed, PoolFault>
         requires { (1 ≤ count) × (1 ≤ pages_each) }
 

@@ -8,299 +8,21 @@ ghost use Rattle.sm_names.specs.declared.messages.Call.{Call as Made};
 ghost use Rattle.core_state.specs.Theorem.{Stepped};
 
 use crate::machine::Core;
-use sm_names::{BufferName, Call, ClientId, Constraints, NodeKey, Reply, StepFault, Strength};
+use sm_names::{Call, ClientId, Reply, StepFault};
 
-/// What is named in a call of one kind, which the compiler knows.
-trait KnownCall {
-    ghost made: { Self → Made };
-
-    /// The call of this kind that names this.
-    fn call(self) -> Call
-        ensures { result ≡ made self };
-}
-
-struct Join;
-
-impl KnownCall for Join {
-    ghost made = { λ k. Made.Join };
-
-    #[inline(always)]
-    fn call(self) -> Call {
-        let Join = self;
-        Call::Join
-    }
-}
-
-struct Shut;
-
-impl KnownCall for Shut {
-    ghost made = { λ k. Made.Shut };
-
-    #[inline(always)]
-    fn call(self) -> Call {
-        let Shut = self;
-        Call::Shut
-    }
-}
-
-struct OpenRoot;
-
-impl KnownCall for OpenRoot {
-    ghost made = { λ k. Made.OpenRoot };
-
-    #[inline(always)]
-    fn call(self) -> Call {
-        let OpenRoot = self;
-        Call::OpenRoot
-    }
-}
-
-struct Duplicate(NodeKey);
-
-impl KnownCall for Duplicate {
-    ghost made = { λ k. Made.Duplicate k.0 };
-
-    #[inline(always)]
-    fn call(self) -> Call {
-        let Duplicate(key) = self;
-        Call::Duplicate(key)
-    }
-}
-
-struct AttachToken(NodeKey);
-
-impl KnownCall for AttachToken {
-    ghost made = { λ k. Made.AttachToken k.0 };
-
-    #[inline(always)]
-    fn call(self) -> Call {
-        let AttachToken(key) = self;
-        Call::AttachToken(key)
-    }
-}
-
-struct Sync(NodeKey);
-
-impl KnownCall for Sync {
-    ghost made = { λ k. Made.Sync k.0 };
-
-    #[inline(always)]
-    fn call(self) -> Call {
-        let Sync(key) = self;
-        Call::Sync(key)
-    }
-}
-
-struct Give(NodeKey, ClientId);
-
-impl KnownCall for Give {
-    ghost made = { λ k. Made.Give k.0 k.1 };
-
-    #[inline(always)]
-    fn call(self) -> Call {
-        let Give(key, to) = self;
-        Call::Give(key, to)
-    }
-}
-
-struct Collect;
-
-impl KnownCall for Collect {
-    ghost made = { λ k. Made.Collect };
-
-    #[inline(always)]
-    fn call(self) -> Call {
-        let Collect = self;
-        Call::Collect
-    }
-}
-
-struct Bind(NodeKey);
-
-impl KnownCall for Bind {
-    ghost made = { λ k. Made.Bind k.0 };
-
-    #[inline(always)]
-    fn call(self) -> Call {
-        let Bind(key) = self;
-        Call::Bind(key)
-    }
-}
-
-struct SetDispensable(NodeKey);
-
-impl KnownCall for SetDispensable {
-    ghost made = { λ k. Made.SetDispensable k.0 };
-
-    #[inline(always)]
-    fn call(self) -> Call {
-        let SetDispensable(key) = self;
-        Call::SetDispensable(key)
-    }
-}
-
-struct SetWeak(NodeKey);
-
-impl KnownCall for SetWeak {
-    ghost made = { λ k. Made.SetWeak k.0 };
-
-    #[inline(always)]
-    fn call(self) -> Call {
-        let SetWeak(key) = self;
-        Call::SetWeak(key)
-    }
-}
-
-struct SetWeakOk(NodeKey, bool);
-
-impl KnownCall for SetWeakOk {
-    ghost made = { λ k. Made.SetWeakOk k.0 k.1 };
-
-    #[inline(always)]
-    fn call(self) -> Call {
-        let SetWeakOk(key, children) = self;
-        Call::SetWeakOk(key, children)
-    }
-}
-
-struct SetConstraints(NodeKey, Constraints);
-
-impl KnownCall for SetConstraints {
-    ghost made = { λ k. Made.SetConstraints k.0 k.1 };
-
-    #[inline(always)]
-    fn call(self) -> Call {
-        let SetConstraints(key, constraints) = self;
-        Call::SetConstraints(key, constraints)
-    }
-}
-
-struct Check(NodeKey);
-
-impl KnownCall for Check {
-    ghost made = { λ k. Made.Check k.0 };
-
-    #[inline(always)]
-    fn call(self) -> Call {
-        let Check(key) = self;
-        Call::Check(key)
-    }
-}
-
-struct Take(NodeKey);
-
-impl KnownCall for Take {
-    ghost made = { λ k. Made.Take k.0 };
-
-    #[inline(always)]
-    fn call(self) -> Call {
-        let Take(key) = self;
-        Call::Take(key)
-    }
-}
-
-struct Release(NodeKey);
-
-impl KnownCall for Release {
-    ghost made = { λ k. Made.Release k.0 };
-
-    #[inline(always)]
-    fn call(self) -> Call {
-        let Release(key) = self;
-        Call::Release(key)
-    }
-}
-
-struct Close(NodeKey);
-
-impl KnownCall for Close {
-    ghost made = { λ k. Made.Close k.0 };
-
-    #[inline(always)]
-    fn call(self) -> Call {
-        let Close(key) = self;
-        Call::Close(key)
-    }
-}
-
-struct DupHandle(BufferName, Strength);
-
-impl KnownCall for DupHandle {
-    ghost made = { λ k. Made.DupHandle k.0 k.1 };
-
-    #[inline(always)]
-    fn call(self) -> Call {
-        let DupHandle(buffer, strength) = self;
-        Call::DupHandle(buffer, strength)
-    }
-}
-
-struct DropHandle(BufferName, Strength);
-
-impl KnownCall for DropHandle {
-    ghost made = { λ k. Made.DropHandle k.0 k.1 };
-
-    #[inline(always)]
-    fn call(self) -> Call {
-        let DropHandle(buffer, strength) = self;
-        Call::DropHandle(buffer, strength)
-    }
-}
-
-struct GiveHandle(BufferName, Strength, ClientId);
-
-impl KnownCall for GiveHandle {
-    ghost made = { λ k. Made.GiveHandle k.0 k.1 k.2 };
-
-    #[inline(always)]
-    fn call(self) -> Call {
-        let GiveHandle(buffer, strength, to) = self;
-        Call::GiveHandle(buffer, strength, to)
-    }
-}
-
-struct TrackNode(NodeKey);
-
-impl KnownCall for TrackNode {
-    ghost made = { λ k. Made.TrackNode k.0 };
-
-    #[inline(always)]
-    fn call(self) -> Call {
-        let TrackNode(key) = self;
-        Call::TrackNode(key)
-    }
-}
-
-struct TrackLifetime(NodeKey, u32);
-
-impl KnownCall for TrackLifetime {
-    ghost made = { λ k. Made.TrackLifetime k.0 k.1 };
-
-    #[inline(always)]
-    fn call(self) -> Call {
-        let TrackLifetime(key, most) = self;
-        Call::TrackLifetime(key, most)
-    }
-}
-
-struct TrackWeak(BufferName);
-
-impl KnownCall for TrackWeak {
-    ghost made = { λ k. Made.TrackWeak k.0 };
-
-    #[inline(always)]
-    fn call(self) -> Call {
-        let TrackWeak(buffer) = self;
-        Call::TrackWeak(buffer)
-    }
-}
-
-/// Makes one call of a kind that the compiler knows, as `Core::step` says.
+/// Makes the call that the closure answers, as `Core::step` says. Each closure has a type of its own, so
+/// this function is compiled once for each.
 #[inline(never)]
-fn take_one<K: KnownCall>(core: &mut Core, client: ClientId, kind: K) -> Result<Reply, StepFault>
-    ensures { Stepped core.old core.new client (K.made kind) result }
+fn take_one<F: FnOnce() -> Call>(
+    core: &mut Core,
+    client: ClientId,
+    known: F,
+) -> Result<Reply, StepFault>
+    requires { F.pre known }
+    ensures { (call : Made) → ((made : Made) → F.post known made → made ≡ call) →
+        Stepped core.old core.new client call result }
 {
-    let call = kind.call();
+    let call = known();
     let asked = core.asked_of(client, &call);
     core.take_asked(client, &call, &asked)
 }
@@ -315,36 +37,40 @@ pub(crate) fn take_by_kind(
     ensures { Stepped core.old core.new client call result }
 {
     match call {
-        Call::Join => take_one(core, client, Join),
-        Call::Shut => take_one(core, client, Shut),
-        Call::OpenRoot => take_one(core, client, OpenRoot),
-        Call::Duplicate(key) => take_one(core, client, Duplicate(key)),
-        Call::AttachToken(key) => take_one(core, client, AttachToken(key)),
-        Call::Sync(key) => take_one(core, client, Sync(key)),
-        Call::Give(key, to) => take_one(core, client, Give(key, to)),
-        Call::Collect => take_one(core, client, Collect),
-        Call::Bind(key) => take_one(core, client, Bind(key)),
-        Call::SetDispensable(key) => take_one(core, client, SetDispensable(key)),
-        Call::SetWeak(key) => take_one(core, client, SetWeak(key)),
-        Call::SetWeakOk(key, children) => take_one(core, client, SetWeakOk(key, children)),
-        Call::SetConstraints(key, constraints) => take_one(
-            core,
-            client,
-            SetConstraints(key, constraints),
-        ),
-        Call::Check(key) => take_one(core, client, Check(key)),
-        Call::Take(key) => take_one(core, client, Take(key)),
-        Call::Release(key) => take_one(core, client, Release(key)),
-        Call::Close(key) => take_one(core, client, Close(key)),
-        Call::DupHandle(buffer, strength) => take_one(core, client, DupHandle(buffer, strength)),
-        Call::DropHandle(buffer, strength) => take_one(core, client, DropHandle(buffer, strength)),
-        Call::GiveHandle(buffer, strength, to) => take_one(
-            core,
-            client,
-            GiveHandle(buffer, strength, to),
-        ),
-        Call::TrackNode(key) => take_one(core, client, TrackNode(key)),
-        Call::TrackLifetime(key, most) => take_one(core, client, TrackLifetime(key, most)),
-        Call::TrackWeak(buffer) => take_one(core, client, TrackWeak(buffer)),
+        Call::Join => take_one(core, client, || Call::Join),
+        Call::Shut => take_one(core, client, || Call::Shut),
+        Call::OpenRoot => take_one(core, client, || Call::OpenRoot),
+        Call::Duplicate(key) => take_one(core, client, move || Call::Duplicate(key)),
+        Call::AttachToken(key) => take_one(core, client, move || Call::AttachToken(key)),
+        Call::Sync(key) => take_one(core, client, move || Call::Sync(key)),
+        Call::Give(key, to) => take_one(core, client, move || Call::Give(key, to)),
+        Call::Collect => take_one(core, client, || Call::Collect),
+        Call::Bind(key) => take_one(core, client, move || Call::Bind(key)),
+        Call::SetDispensable(key) => take_one(core, client, move || Call::SetDispensable(key)),
+        Call::SetWeak(key) => take_one(core, client, move || Call::SetWeak(key)),
+        Call::SetWeakOk(key, children) => {
+            take_one(core, client, move || Call::SetWeakOk(key, children))
+        }
+        Call::SetConstraints(key, constraints) => {
+            take_one(core, client, move || Call::SetConstraints(key, constraints))
+        }
+        Call::Check(key) => take_one(core, client, move || Call::Check(key)),
+        Call::Take(key) => take_one(core, client, move || Call::Take(key)),
+        Call::Release(key) => take_one(core, client, move || Call::Release(key)),
+        Call::Close(key) => take_one(core, client, move || Call::Close(key)),
+        Call::DupHandle(buffer, strength) => {
+            take_one(core, client, move || Call::DupHandle(buffer, strength))
+        }
+        Call::DropHandle(buffer, strength) => {
+            take_one(core, client, move || Call::DropHandle(buffer, strength))
+        }
+        Call::GiveHandle(buffer, strength, to) => {
+            take_one(core, client, move || Call::GiveHandle(buffer, strength, to))
+        }
+        Call::TrackNode(key) => take_one(core, client, move || Call::TrackNode(key)),
+        Call::TrackLifetime(key, most) => {
+            take_one(core, client, move || Call::TrackLifetime(key, most))
+        }
+        Call::TrackWeak(buffer) => take_one(core, client, move || Call::TrackWeak(buffer)),
     }
 }

@@ -1,10 +1,12 @@
 -- The hole is the first that is not too small, and they lie at its front.
-use Rattle.std.proofs.Common.{ℕ, ◌∙◌, ◌<◌, ◌≤◌, ◌+◌, ◌-◌, ◌*◌, arith, rules, sym, subst, ap, length, get_or, set, [], List, length-set}
+use Rattle.std.proofs.Common.{ℕ, ◌≡◌, ◌∙◌, ◌<◌, ◌≤◌, ◌+◌, ◌-◌, ◌*◌, ◌/◌, min, arith, rules, sym, subst, ap, length, get_or, set, [], List, length-set}
+use Rattle.std.specs.List.{prefix_len}
 use Rattle.std.proofs.lemmas.List.{get_or_default}
 use Rattle.sm_names.specs.declared.keys.Interval.{Interval}
-use Rattle.buffer_pool.specs.Fitting.{FitsInFirst}
+use Rattle.buffer_pool.specs.Fitting.{too_small, FitsInFirst}
 use Rattle.buffer_pool.specs.Holes.{end_of}
 use Rattle.buffer_pool.specs.Rows.{all_in, spot_index}
+use Rattle.buffer_pool.specs.Runs.{FillsFirst}
 use Rattle.buffer_pool.proofs.Fits.{IsFirstFit, fit_is}
 use Rattle.buffer_pool.proofs.TakenRuns.{IsFirstRun, first_run_is, pages-fit, room_for_one, shortened_whole, shortened_part}
 use Rattle.buffer_pool.proofs.Joins.{place-within, same-size}
@@ -39,13 +41,23 @@ the_run c =
     (spot_index c.args.blocks.now.lists c.args.spot) c.get-hole.result c.requires.pages (count c).0 c.requires.first (some m)
     c.get-hole.ensures (count c).2
 
-in_first : (c : After-min-count) → FitsInFirst c.args.pages_each c.min-count.result (all_in c.args.blocks.now.lists)
-in_first c d =
-    let m = (goal.at.After-min-count c).After-get-hole in
+-- it is the first that is not too small
+there : (c : After-get-hole) → (d : Interval) → c.get-hole.result ≡ get_or (all_in c.args.blocks.now.lists)
+    (prefix_len (too_small c.args.pages_each) (all_in c.args.blocks.now.lists)) d
+there c d =
     let all : List Interval = all_in c.args.blocks.now.lists in
     let at = spot_index c.args.blocks.now.lists c.args.spot in
-    let there = c.get-hole.ensures ∙ get_or_default all at c.get-hole.result d (some m) ∙ ap (λ k. get_or all k d) c.requires.first in
-    subst (λ (h : Interval). c.min-count.result * c.args.pages_each ≤ h.pages) there (count c).2
+    c.get-hole.ensures ∙ get_or_default all at c.get-hole.result d (some c) ∙ ap (λ k. get_or all k d) c.requires.first
+
+in_first : (c : After-min-count) → FitsInFirst c.args.pages_each c.min-count.result (all_in c.args.blocks.now.lists)
+in_first c d =
+    subst (λ (h : Interval). c.min-count.result * c.args.pages_each ≤ h.pages)
+    (there (goal.at.After-min-count c).After-get-hole d) (count c).2
+
+no_fewer : (c : After-min-count) → FillsFirst c.args.pages_each c.args.most c.min-count.result (all_in c.args.blocks.now.lists)
+no_fewer c d =
+    c.min-count.ensures
+    ∙ ap (λ (h : Interval). min c.args.most (h.pages / c.args.pages_each)) (there (goal.at.After-min-count c).After-get-hole d)
 
 pub overflow_mul-pages : goal.overflow_mul-pages
 overflow_mul-pages c = let k = count (goal.at.overflow_mul-pages c).After-min-count in omega (arith, k.2)
@@ -68,6 +80,7 @@ returns-then-hole-pages c =
       start = sym (the_fit (goal.at.After-min-count m).After-get-hole).start;
       count = (k.0, k.1);
       in_first = in_first m;
+      no_fewer = no_fewer m;
       changed = record {
         items_are = c.remove.ensures.changed.items_are
             ∙ shortened_whole (c.min-count.result * c.args.pages_each) (all_in c.args.blocks.now.lists)
@@ -95,6 +108,7 @@ returns-else-hole-pages c =
       start = sym (the_fit h).start;
       count = (k.0, k.1);
       in_first = in_first m;
+      no_fewer = no_fewer m;
       changed = record {
         items_are = c.set.ensures.changed.items_are
             ∙ shortened_part all (all_in c.args.blocks.now.lists) (spot_index c.args.blocks.now.lists c.args.spot) c.get-hole.result

@@ -1,28 +1,27 @@
--- The second half moves.
+-- Those from the place on move.
 use Rattle.std.proofs.Common.{◌≡◌, ◌∙◌, ◌++◌, ◌≤◌, drop, ap, arith, length-drop, []}
 use Rattle.std.specs.Prelude.{All}
 use Rattle.std.proofs.lemmas.List.{take_rest}
 use Rattle.std.proofs.lemmas.List.Elements.{All-drop}
-use Rattle.buffer_pool.specs.declared.block.TheConstants.{HALF}
 use Rattle.sm_names.specs.declared.keys.Interval.{Interval}
 use Rattle.buffer_pool.proofs.block.Block.cut_into.Goals as goal
 use Rattle.buffer_pool.proofs.block.Block.cut_into.Goals.{After-truncate}
 
-moved : (c : After-truncate) → c.extend_from_slice.new.self.items ≡ drop HALF c.self.inside.cells.items
+moved : (c : After-truncate) → c.extend_from_slice.new.self.items ≡ drop c.args.at c.self.inside.cells.items
 moved c =
     let e = rw c.unwrap.ensures at c.extend_from_slice.ensures.items in
     let n : c.other.inside.cells.items ≡ [] = c.other.view_is ∙ c.requires.none in
-    e ∙ (λ i. n i ++ take_rest c.deref.result.now HALF i) ∙ ap (drop HALF) c.deref.ensures.value
+    e ∙ (λ i. n i ++ take_rest c.deref.result.now c.args.at i) ∙ ap (drop c.args.at) c.deref.ensures.value
 
 pub invariant_of-other : goal.invariant_of-other
 invariant_of-other c =
-    let all : All (λ (h : Interval). h.pages ≤ c.self.inside.greatest) (drop HALF c.self.inside.cells.items) =
-    All-drop (λ (h : Interval). h.pages ≤ c.self.inside.greatest) HALF c.self.inside.cells.items c.self.invariant.bound in
+    let all : All (λ (h : Interval). h.pages ≤ c.self.inside.greatest) (drop c.args.at c.self.inside.cells.items) =
+    All-drop (λ (h : Interval). h.pages ≤ c.self.inside.greatest) c.args.at c.self.inside.cells.items c.self.invariant.bound in
     record {
       has_room = omega (arith, c.other.invariant.has_room, c.extend_from_slice.ensures.capacity);
-      few = rw (moved c) (omega (arith, length-drop HALF c.self.inside.cells.items, c.self.invariant.few));
+      few = rw (moved c) (omega (arith, length-drop c.args.at c.self.inside.cells.items, c.self.invariant.few));
       bound = rw (moved c) all;
     }
 
 pub returns-clause-back : goal.returns-clause-back
-returns-clause-back c = moved c ∙ ap (drop HALF) c.self.view_is
+returns-clause-back c = moved c ∙ ap (drop c.args.at) c.self.view_is

@@ -1,17 +1,14 @@
--- No interval of the run has more pages than the greatest number then.
-use Rattle.std.proofs.Common.{ap, arith, length}
-use Rattle.buffer_pool.proofs.HeldRuns.{bound-with, length-with}
+-- None lie behind the place at the end.
+use Rattle.std.proofs.Common.{◌≡◌, ◌≤◌, ◌∙◌, ◌++◌, arith, length, sym, List}
+use Rattle.std.proofs.lemmas.List.{append-nil, take_all, drop_all}
+use Rattle.sm_names.specs.declared.keys.Interval.{Interval}
+use Rattle.buffer_pool.specs.Holdings.{run_of}
 use Rattle.buffer_pool.proofs.block.Block.insert_run.Goals as goal
 
-pub invariant_of-self : goal.invariant_of-self
-invariant_of-self c =
-    let within = rw (← c.self.view_is) at c.requires.within in
-    let room = rw (← c.self.view_is) at c.requires.room in
-    let long = length-with c.args.first.start c.args.first.pages c.args.count c.args.at c.self.inside.cells.items within in
-    record {
-      has_room = omega (arith, c.self.invariant.has_room, c.put_run.ensures.capacity);
-      few = omega (arith, ap length c.put_run.ensures.items, long, room);
-      bound = rw c.put_run.ensures.items
-          (bound-with c.self.inside.greatest c.max-self-inside.result c.args.first.start c.args.first.pages c.args.count c.args.at
-          c.self.inside.cells.items (omega arith) (omega arith) c.self.invariant.bound);
-    }
+pub returns-else-at-len-clause-items : goal.returns-else-at-len-clause-items
+returns-else-at-len-clause-items c =
+    let all : List Interval = c.args.self.now in
+    let run : List Interval = run_of c.args.first.start c.args.first.pages c.args.count in
+    let past : length all ≤ c.args.at = omega (arith, c.if-at-len.false, c.len.ensures.count) in
+    c.append_run.ensures
+    ∙ sym ((λ i. (take_all c.args.at all past i ++ run) ++ drop_all c.args.at all past i) ∙ append-nil (all ++ run))

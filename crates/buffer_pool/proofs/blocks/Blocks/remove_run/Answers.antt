@@ -1,5 +1,5 @@
 -- The intervals lie in one block, which goes with its last.
-use Rattle.std.proofs.Common.{◌≡◌, ◌<◌, ◌≤◌, ◌+◌, ◌-◌, ◌*◌, ◌∙◌, ap, arith, sym, length, get_or, set, take, [], List}
+use Rattle.std.proofs.Common.{◌≡◌, ◌<◌, ◌≤◌, ◌+◌, ◌-◌, ◌*◌, ◌∙◌, ap, arith, sym, min, length, get_or, set, take, [], List}
 use Rattle.std.specs.List.{remove_range}
 use Rattle.std.proofs.lemmas.List.{get_or_read, length-set, take-set, length_push, get_or-set_same, nil_from_length}
 use Rattle.std.proofs.lemmas.List.Edits.{length-remove}
@@ -16,6 +16,12 @@ here c =
     let taken = rw (← c.self.view_is) at c.requires.there in
     get_or_read c.self.inside.used.items c.args.spot.block c.index_mut.result.now taken.0 c.index_mut.ensures.value []
 
+size : (c : After-remove_run) → c.len.result ≡ length (get_or c.self.inside.used.items c.args.spot.block [])
+size c =
+    let taken = rw (← c.self.view_is) at c.requires.there in
+    c.len.ensures.count
+    ∙ ap length (get_or_read c.self.inside.used.items c.args.spot.block c.index.result.now taken.0 c.index.ensures [])
+
 items : (c : After-remove_run) → all_in (set c.self.inside.used.items c.args.spot.block c.remove_run.new.self)
     ≡ remove_range (all_in c.self.inside.used.items)
     (length (all_in (take c.args.spot.block c.self.inside.used.items)) + c.args.spot.offset)
@@ -23,13 +29,15 @@ items : (c : After-remove_run) → all_in (set c.self.inside.used.items c.args.s
 items c =
     let taken = rw (← c.self.view_is) at c.requires.there in
     let B : List Interval = get_or c.self.inside.used.items c.args.spot.block [] in
-    let first : c.index.result.now ≡ B =
-    get_or_read c.self.inside.used.items c.args.spot.block c.index.result.now taken.0 c.index.ensures [] in
-    let size : c.len.result ≡ length B = c.len.ensures.count ∙ ap length first in
-    let fits : c.args.spot.offset + c.min-count.result ≤ length B = omega arith in
+    let fits : c.args.spot.offset + c.min-count.result ≤ length B = omega (arith, size c) in
     ap (λ (X : List Interval). all_in (set c.self.inside.used.items c.args.spot.block X)) (c.remove_run.ensures
     ∙ ap (λ (X : List Interval). remove_range X c.args.spot.offset (c.args.spot.offset + c.min-count.result)) (here c))
     ∙ remove_range_in c.self.inside.used.items c.args.spot.block c.args.spot.offset c.min-count.result taken.0 fits
+
+-- as many as there are in the block, and at most so many
+no_fewer : (c : After-remove_run) → c.min-count.result
+    ≡ min c.args.most (length (get_or c.self.inside.used.items c.args.spot.block []) - c.args.spot.offset)
+no_fewer c = c.min-count.ensures ∙ ap (λ n. min c.args.most (n - c.args.spot.offset)) (size c)
 
 -- the block that went is empty
 gone : (c : After-unwrap) → c.remove-block.result ≡ []
@@ -50,6 +58,14 @@ invariant_of-self c =
     c.self.inside.spare.cap _ _ (gone c) taken.0
     (c.remove-block.ensures.items ∙ remove-set c.self.inside.used.items c.args.spot.block c.remove_run.new.self)
     (rw c.unwrap.ensures at c.push.ensures.items) (omega (arith, c.remove-block.ensures.capacity)) c.push.ensures.capacity c.self.invariant
+
+pub returns-then-len-eq0-clause-no_fewer : goal.returns-then-len-eq0-clause-no_fewer
+returns-then-len-eq0-clause-no_fewer c =
+    rw (← c.self.view_is) (no_fewer (goal.at.returns-then-len-eq0-clause-no_fewer c).After-remove_run)
+
+pub returns-else-len-eq0-clause-no_fewer : goal.returns-else-len-eq0-clause-no_fewer
+returns-else-len-eq0-clause-no_fewer c =
+    rw (← c.self.view_is) (no_fewer (goal.at.returns-else-len-eq0-clause-no_fewer c).After-remove_run)
 
 pub returns-then-len-eq0-clause-changed : goal.returns-then-len-eq0-clause-changed
 returns-then-len-eq0-clause-changed c =
