@@ -8,6 +8,7 @@ ghost use Rattle.buffer_holds.specs.Counts.{of, moving_count, total, has_handle_
 ghost use Rattle.buffer_holds.specs.Kinds.{same_hold};
 ghost use Rattle.buffer_holds.specs.Changes.{Sets, Tidies};
 
+use crate::at_spot::{is_at_spot, open_at};
 use crate::fault::HoldFault;
 use crate::hashing::CountHash;
 use crate::kinds::{HandleKind, Hold};
@@ -40,7 +41,7 @@ use std::marker::Model;
 #[derive(Drop)]
 pub struct Holds {
     limit: u32,
-    // No more than so many of one kind were ever open.
+    // No more than so many of one kind were ever open: the limit at most.
     most: u32,
     // No handle was ever opened on a buffer of a collection with a greater id.
     newest: CollectionId,
@@ -56,6 +57,7 @@ impl Model for Holds {
 
     ghost Value = { Counts };
 
+    ghost use Rattle.std.specs.Prelude.{◌≤◌};
     ghost use Rattle.buffer_holds.specs.Sound.{NoneIsNewer, TotalsAreUpTo, HasPlaces, CountsInvariant, parcels_in};
     ghost use Rattle.indexmap.specs.IndexMap.{spare};
 
@@ -68,7 +70,8 @@ impl Model for Holds {
     ghost invariant = { λ h. CountsInvariant h.limit h.rows.entries h.tallies.entries
         × TotalsAreUpTo h.most h.tallies.entries
         × HasPlaces h.sent (spare h.rows) h.tallies.entries
-        × NoneIsNewer h.newest h.tallies.entries };
+        × NoneIsNewer h.newest h.tallies.entries
+        × (h.most ≤ h.limit) };
 }
 
 impl Holds {
@@ -230,12 +233,66 @@ impl Holds {
         ensures err { OnErr result (self.new ≡ self.old) }
     {
         let mut near = self.last.spot(strength);
-        self.add_near(client, buffer, strength, &mut near)
+        self.add_by_search(client, buffer, strength, &mut near)
     }
 
     /// Does what `add` does. It looks at the spot first, and then moves the spot behind what it
     /// finds. It takes look-ups only if the row or the tally stands elsewhere or is new.
+    #[inline(always)]
     pub fn add_near(
+        &mut self,
+        client: ClientId,
+        buffer: BufferName,
+        strength: Strength,
+        near: &mut Spot,
+    ) -> Result<(), HoldFault>
+        ensures opened { OnOk result (Sets self.old self.new client buffer strength
+            (of self.old client buffer strength + 1) (moving_count self.old buffer strength)
+            (total self.old buffer strength + 1)) }
+        ensures too_many { IsErrOf result HoldFault.TooMany
+            ↔ (total self.old buffer strength ≡ self.old.limit) }
+        ensures room { IsTrue (has_handle_room self.old client buffer strength) →
+            IsOkUnless result HoldFault.TooMany }
+        ensures err { OnErr result (self.new ≡ self.old) }
+    {
+        if self.add_at_spot(client, buffer, strength, near) {
+            return Ok(());
+        }
+        self.add_by_search(client, buffer, strength, near)
+    }
+
+    // Does what `add` does, where the row and the tally stand at the spot, and more handles of one kind than of
+    // this one were ever open. Then the spot moves behind them. Elsewhere nothing changes.
+    #[inline(always)]
+    fn add_at_spot(
+        &mut self,
+        client: ClientId,
+        buffer: BufferName,
+        strength: Strength,
+        near: &mut Spot,
+    ) -> bool
+        ensures opened { OnTrue result (Sets self.old self.new client buffer strength
+            (of self.old client buffer strength + 1) (moving_count self.old buffer strength)
+            (total self.old buffer strength + 1)) }
+        ensures fewer { result ≡ true → total self.old buffer strength < self.old.limit }
+        ensures unchanged { OnFalse result (self.new ≡ self.old) }
+    {
+        let kind = HandleKind { buffer, strength };
+        let hold = Hold { client, kind };
+        if self.newest < buffer.collection {
+            return false;
+        }
+        if !is_at_spot(&self.rows, &self.tallies, hold, self.most, *near) {
+            return false;
+        }
+        open_at(&mut self.rows, &mut self.tallies, hold, near);
+        true
+    }
+
+    // Does what `add` does. The row and the tally are looked for at the spot, where the last look-ups ended and by
+    // their hashes. The spot moves behind what was found.
+    #[inline(never)]
+    fn add_by_search(
         &mut self,
         client: ClientId,
         buffer: BufferName,

@@ -2,6 +2,7 @@
 //! keeps alive.
 #![tactic(auto)]
 
+mod at_spot;
 mod fault;
 mod hashing;
 mod holds;

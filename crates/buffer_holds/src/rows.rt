@@ -1,5 +1,5 @@
 //! The rows of counts: one for each client and kind of handle.
-ghost use Rattle.std.specs.Prelude.{◌≡◌, ◌+◌, ◌-◌, ◌^◌, ◌<◌, ◌≤◌, ◌↔◌, true, IsTrue, Some, None, IfSome, IfNone, OnOk, OnErr, IsSome, IsOk};
+ghost use Rattle.std.specs.Prelude.{◌≡◌, ◌+◌, ◌-◌, ◌^◌, ◌<◌, ◌≤◌, ◌↔◌, true, length, IsTrue, Some, None, IfSome, IfNone, OnOk, OnErr, IsSome, IsOk};
 ghost use Rattle.std.specs.Bool.{OnTrue, OnFalse};
 ghost use Rattle.indexmap.specs.IndexMap.{spare};
 ghost use Rattle.buffer_holds.specs.Kinds.{same_hold};
@@ -31,7 +31,7 @@ fn find_row(rows: &Rows, hold: Hold, last: &Cell<usize>) -> Option<usize>
 
 // Whether the row at this place is that of the hold.
 #[inline(always)]
-fn is_row_at(rows: &Rows, hold: Hold, place: usize) -> bool
+pub(crate) fn is_row_at(rows: &Rows, hold: Hold, place: usize) -> bool
     ensures { result ≡ true → StandsAt rows.now.entries place hold }
 {
     match rows.get_index(place) {
@@ -102,6 +102,19 @@ pub(crate) fn add_row(
     Ok(())
 }
 
+// One handle more in the row of this hold, which stands at the place.
+#[inline(always)]
+pub(crate) fn raise_at(rows: &mut Rows, hold: Hold, place: usize)
+    requires stands { StandsAt rows.old.entries place hold }
+    requires fits { count_at rows.old.entries hold + 1 < 2 ^ 32 }
+    ensures raised { Raises rows.old.entries rows.new.entries hold }
+    ensures longer { length rows.new.entries ≡ length rows.old.entries }
+    ensures places { spare rows.new ≡ spare rows.old }
+{
+    let count = rows.get_index_mut(place).unwrap();
+    *count += 1;
+}
+
 // One handle more. Only a new row takes memory, where no more places are free than are to stay so. The row is looked for at
 // the place first, which becomes the one behind it.
 #[inline(always)]
@@ -122,8 +135,7 @@ pub(crate) fn raise(
     let Some(found) = row_place_near(rows, hold, *place, last) else {
         return add_row(rows, hold, place, free);
     };
-    let count = rows.get_index_mut(found).unwrap();
-    *count += 1;
+    raise_at(rows, hold, found);
     *place = found.wrapping_add(1);
     Ok(())
 }

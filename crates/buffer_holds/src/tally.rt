@@ -61,7 +61,7 @@ fn find_tally(tallies: &Tallies, kind: HandleKind, hint: &Hint) -> Option<usize>
 
 // Whether the tally at this place is that of the kind.
 #[inline(always)]
-fn is_tally_at(tallies: &Tallies, kind: HandleKind, place: usize) -> bool
+pub(crate) fn is_tally_at(tallies: &Tallies, kind: HandleKind, place: usize) -> bool
     ensures { result ≡ true → StandsAt tallies.now.entries place kind }
 {
     match tallies.get_index(place) {
@@ -202,6 +202,7 @@ fn open_first(
 ) -> Result<(), HoldFault>
     requires first { tally_row tallies.old.entries hold.kind ≡ None }
     requires none { row_at rows.old.entries hold ≡ None }
+    requires bounded { most.old ≤ limit }
     ensures raised { OnOk result (Raises rows.old.entries rows.new.entries hold) }
     ensures tallied { OnOk result
         (OpensOne rows.old.entries rows.new.entries
@@ -209,6 +210,7 @@ fn open_first(
     ensures too_many { IsErrOf result HoldFault.TooMany ↔ (0 ≡ limit) }
     ensures more { most.old ≤ most.new }
     ensures most { OnOk result ((tally_at tallies.old.entries hold.kind).total + 1 ≤ most.new) }
+    ensures bounded { most.new ≤ limit }
     ensures places { free ≤ spare rows.old → free ≤ spare rows.new }
     ensures err_rows { OnErr result (rows.new.entries ≡ rows.old.entries) }
     ensures err_tallies { OnErr result (tallies.new.entries ≡ tallies.old.entries) }
@@ -251,6 +253,7 @@ pub(crate) fn open(
     requires with { tally_row tallies.old.entries hold.kind ≡ None →
         row_at rows.old.entries hold ≡ None }
     requires listed { (tally_at tallies.old.entries hold.kind).clients ≤ length rows.old.entries }
+    requires bounded { most.old ≤ limit }
     ensures raised { OnOk result (Raises rows.old.entries rows.new.entries hold) }
     ensures tallied { OnOk result
         (OpensOne rows.old.entries rows.new.entries
@@ -262,6 +265,7 @@ pub(crate) fn open(
         → IsOkUnless result HoldFault.TooMany }
     ensures more { most.old ≤ most.new }
     ensures most { OnOk result ((tally_at tallies.old.entries hold.kind).total + 1 ≤ most.new) }
+    ensures bounded { most.new ≤ limit }
     ensures places { free ≤ spare rows.old → free ≤ spare rows.new }
     ensures err_rows { OnErr result (rows.new.entries ≡ rows.old.entries) }
     ensures err_tallies { OnErr result (tallies.new.entries ≡ tallies.old.entries) }

@@ -100,3 +100,9 @@ returns-clause-most c =
     let kept = tally_lent_at c.args.tallies.now c.args.hold.kind c.in-Some.place c.in-Some.ensures.found c.get_index_mut.result
     c.get_index_mut.ensures.value c.get_index_mut.ensures.unique c.unwrap-tally.result c.unwrap-tally.ensures in
     grind (arith, common_steps, ap (λ (t : Tally). t.total) kept)
+
+pub returns-clause-bounded : goal.returns-clause-bounded
+returns-clause-bounded c =
+    let kept = tally_lent_at c.args.tallies.now c.args.hold.kind c.in-Some.place c.in-Some.ensures.found c.get_index_mut.result
+    c.get_index_mut.ensures.value c.get_index_mut.ensures.unique c.unwrap-tally.result c.unwrap-tally.ensures in
+    grind (arith, common_steps, c.requires.within, c.requires.bounded, c.if-tally-limit.false, ap (λ (t : Tally). t.total) kept)

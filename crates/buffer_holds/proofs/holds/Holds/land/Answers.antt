@@ -133,6 +133,7 @@ invariant_of-self c =
           (c.raise.ensures.places (omega (arith, c.self.invariant.2.enough))) c.self.invariant.2,
       newer_after inside.newest inside.newest inside.tallies.entries _ hold.kind _ (Some landed) after (omega arith)
           (λ later. omega (arith, c.self.invariant.3 hold.kind later, ap (λ (t : Tally). t.total) kept)) c.self.invariant.3,
+      c.self.invariant.4,
     )
 
 pub returns : goal.returns

@@ -63,6 +63,7 @@ invariant_of-self-2 c =
           (omega (arith, c.self.invariant.2.enough, c.if-not-lower.ensures.places)) c.self.invariant.2,
       newer_after inside.newest inside.newest inside.tallies.entries _ hold.kind _ (Some left) after (omega arith)
           (λ later. omega (arith, c.self.invariant.3 hold.kind later, ap (λ (t : Tally). t.total) kept)) c.self.invariant.3,
+      c.self.invariant.4,
     )
 
 pub returns-clause-closed : goal.returns-clause-closed

@@ -20,6 +20,7 @@ invariant_of-self c =
           ))
           (omega (arith, c.self.invariant.2.enough, c.if-forget.ensures.places)) c.self.invariant.2,
       newer_without inside.newest inside.tallies.entries c.leave.new.tallies.entries hold.kind c.leave.ensures c.self.invariant.3,
+      c.self.invariant.4,
     )
 
 pub returns-then-forget : goal.returns-then-forget
