@@ -97,12 +97,13 @@ module _ (c : After-finish_event-arg-3-1) where
       told_new handles c.requires.ready.place c.index-entry.ensures c.requires.ready.ready under planned comes affects
       c.args.pool.now c.place_wanted.new.pool c.in_ok-verdict.verdict found c.assert_disjoint.ensures c.requires.pool rooted
 
-  -- once what comes last is made, all is
+  -- once what comes last is made, all is; the type has no abbreviation, since the id is rewritten in it
   pub outcome_then : {last : Table Node} {behind : List Entry} {left : List Unit} {pool : Holdings} →
-      Closes handles c.place_wanted.new.pool pool c.settle_first.new.nodes.table last (set es c.args.at new) behind left
-      c.requires.ready.id →
+      Closes (total c.args.holds.now) c.place_wanted.new.pool pool c.settle_first.new.nodes.table last
+      (set c.args.store.now.entries.items c.args.at c.settle_first.new.entry) behind left c.requires.ready.id →
       pool.size ≡ c.place_wanted.new.pool.size →
-      IsOutcomeIn true handles c.args.pool.now pool t last es behind c.requires.ready.id (Change.Effect key effect)
+      IsOutcomeIn true (total c.args.holds.now) c.args.pool.now pool c.args.store.now.nodes.table last c.args.store.now.entries.items
+      behind c.requires.ready.id (Change.Effect c.args.made.now.key c.args.made.now.effect)
   outcome_then closes size =
       outcome_root handles c.requires.ready.place c.index-entry.ensures c.requires.ready.ready under planned comes affects
       c.args.pool.now c.place_wanted.new.pool c.in_ok-verdict.verdict found c.assert_disjoint.ensures c.requires.pool rooted closes
