@@ -1,6 +1,5 @@
 -- A handle in a parcel that lands with a client.
-use Rattle.std.proofs.Common.{◌≡◌, ◌+◌, ◌-◌, ◌≤◌, ◌<◌, ℕ, ap, List, Option, None, Some, IfNone, IsSome, length, arith}
-use Rattle.std.specs.HashMap.{HashMap}
+use Rattle.std.proofs.Common.{◌≡◌, ◌+◌, ◌-◌, ◌<◌, ℕ, ap, List, Some, length, arith}
 use Rattle.sm_names.specs.declared.keys.BufferName.{BufferName}
 use Rattle.sm_names.specs.declared.keys.Strength.{Strength}
 use Rattle.buffer_holds.specs.declared.kinds.HandleKind.{HandleKind}

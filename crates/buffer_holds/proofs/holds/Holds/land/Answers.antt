@@ -1,4 +1,4 @@
-use Rattle.std.proofs.Common.{◌≡◌, ◌-◌, ◌+◌, ◌<◌, refl, sym, ap, arith, length}
+use Rattle.std.proofs.Common.{◌≡◌, ◌-◌, ◌+◌, refl, sym, ap, arith}
 use Rattle.buffer_holds.specs.declared.tally.Tally.{Tally}
 use Rattle.buffer_holds.specs.Kinds.{kind_of, hold_of}
 use Rattle.buffer_holds.specs.Sound.{tally_at}
