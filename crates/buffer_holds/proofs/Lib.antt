@@ -1,4 +1,6 @@
+pub mod Invariant
 pub mod KindLemmas
+pub mod Landing
 pub mod Most
 pub mod Opening
 pub mod Outcomes

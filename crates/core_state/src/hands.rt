@@ -1,5 +1,5 @@
 //! The handles that an event opens, drops or moves.
-ghost use Rattle.std.specs.Prelude.{◌≡◌, ◌+◌, ◌<◌, ◌≤◌, OnOk, OnErr, true, false};
+ghost use Rattle.std.specs.Prelude.{◌≡◌, ◌+◌, ◌/◌, ◌%◌, ◌^◌, ◌<◌, ◌≤◌, ℕ, OnOk, OnErr, true, false};
 ghost use Rattle.std.specs.Int.{bit_at};
 ghost use Rattle.sm_names.specs.Marks.{Called};
 ghost use Rattle.buffer_holds.specs.Counts.{Counts, of, total};
@@ -137,12 +137,17 @@ fn open_all(
     ensures limit { holds.new.limit ≡ holds.old.limit }
 {
     let mut near = Spot::new();
+    let mut rest = set;
     let mut end = 0;
-    while end < SET_BITS && set >> end != 0 {
-        if let Err(NoMemory) = open_at(holds, client, collection, strength, set, end, &mut near) {
-            close_below(holds, client, collection, strength, set, end);
-            return Err(NoMemory);
+    while end < SET_BITS && rest != 0 {
+        match open_at(holds, client, collection, strength, rest, end, &mut near) {
+            Ok(()) => {}
+            Err(NoMemory) => {
+                close_below(holds, client, collection, strength, set, end);
+                return Err(NoMemory);
+            }
         }
+        rest /= 2;
         end += 1;
     }
     Ok(())
@@ -169,27 +174,26 @@ fn close_below(
     }
 }
 
-// Opens a handle on the buffer with this index, if the set has it.
+// Opens a handle on the buffer with this index, if a set has it of which the rest is that from the index on.
 fn open_at(
     holds: &mut Holds,
     client: ClientId,
     collection: CollectionId,
     strength: Strength,
-    set: u64,
+    rest: u64,
     index: u8,
     near: &mut Spot,
 ) -> Result<(), NoMemory>
-    requires in_range { index < SET_BITS }
-    requires room { bit_at set index ≡ 1 →
+    requires room { rest % 2 ≡ 1 →
         total holds.old (record { collection = collection; index = index }) strength
         < holds.old.limit }
-    ensures ok { OnOk result ((before : Counts) →
+    ensures ok { OnOk result ((before : Counts) (set : ℕ) → set / 2 ^ index ≡ rest →
         Opens before holds.old client (is_in_set_below collection strength set index) →
         Opens before holds.new client (is_in_set_below collection strength set (index + 1))) }
     ensures err { OnErr result (holds.new ≡ holds.old) }
     ensures limit { holds.new.limit ≡ holds.old.limit }
 {
-    if !has_buffer(set, index) {
+    if rest % 2 == 0 {
         return Ok(());
     }
     open(

@@ -175,6 +175,15 @@ module _ (collection : ℕ) (strength : Strength) (set : ℕ) where
       let never : nat_lt b.index 0 ≡ false = grind (arith, common_steps) in
       rw never (and_false (collection == b.collection) (same_strength strength s) (bit_at set b.index == 1))
 
+  -- nor is one below itself, so a buffer at the end has as many handles as before
+  pub none_at_end : (before new : Counts) (client index : ℕ) → Opens before new client (is_in_set_below collection strength set index) →
+      total new (at index) strength ≡ total before (at index) strength
+  none_at_end before new client index opened =
+      let never : nat_lt index index ≡ false = grind (arith, common_steps) in
+      let none : is_in_set_below collection strength set index (at index) strength ≡ false =
+      rw never (and_false (collection == collection) (same_strength strength strength) (bit_at set index == 1)) in
+      omega (arith, opened.totals (at index) strength, ap one_if none)
+
   -- no handle was opened yet
   pub opens_none : (holds : Counts) (client : ℕ) → Opens holds holds client (is_in_set_below collection strength set 0)
   opens_none holds client = record {

@@ -1,11 +1,11 @@
-use Rattle.std.proofs.Common.{◌≡◌, ◌≤◌, ◌-◌}
+use Rattle.std.proofs.Common.{◌≡◌, ◌≤◌, ◌-◌, ◌/◌, ◌^◌}
 use Rattle.core_state.specs.declared.hands.TheConstants.{SET_BITS}
 use Rattle.core_state.specs.Hands.{Opens, is_in_set_below}
 use Rattle.core_state.proofs.hands.open_all.Given as goal
 
--- the handles below the end are open
+-- the handles below the end are open, and the rest of the set is that from there on
 abbrev pub invariant-loop-end : goal.invariant-loop-end
-invariant-loop-end l = (l.end ≤ SET_BITS) × (l.holds.limit ≡ l.fn.holds.limit) ×
+invariant-loop-end l = (l.end ≤ SET_BITS) × (l.holds.limit ≡ l.fn.holds.limit) × (l.set / 2 ^ l.end ≡ l.rest) ×
     Opens l.fn.holds l.holds l.client (is_in_set_below l.collection l.strength l.set l.end)
 
 abbrev pub decreases-loop-end : goal.decreases-loop-end

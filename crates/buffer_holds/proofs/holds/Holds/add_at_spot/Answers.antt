@@ -1,4 +1,4 @@
-use Rattle.std.proofs.Common.{◌≡◌, ◌+◌, ◌<◌, ◌≢◌, refl, sym, ap, subst, ◌∙◌, arith}
+use Rattle.std.proofs.Common.{◌+◌, refl, sym, ap, ◌∙◌, arith}
 use Rattle.buffer_holds.specs.Counts.{total}
 use Rattle.buffer_holds.specs.Kinds.{hold_of}
 use Rattle.indexmap.specs.IndexMap.{spare}
