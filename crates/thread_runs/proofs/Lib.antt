@@ -1,3 +1,4 @@
 pub mod EndLaws
 pub mod Failing
 pub mod ReportLaws
+pub mod StrayLaws

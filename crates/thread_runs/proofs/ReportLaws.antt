@@ -1,5 +1,5 @@
 -- What was gathered of actors that all vanished is what is told of them.
-use Rattle.std.proofs.Common.{◌≡◌, ℕ, List, [], ◌∷◌, None, refl, sym, ap, ◌∙◌, subst, map, length}
+use Rattle.std.proofs.Common.{◌≡◌, ℕ, List, [], ◌∷◌, None, Some, inl, inr, refl, sym, ap, ◌∙◌, subst, map, length}
 use Rattle.std.specs.List.{AllZip, AllByRecursion}
 use Rattle.std.proofs.lemmas.List.Elements.{recursion_from_All}
 use Rattle.sm_names.specs.Bounds.{Bound}
@@ -11,7 +11,8 @@ use Rattle.event_laws.specs.Parts.{part}
 use Rattle.service_lock.specs.States.{IsSetUpWith, View}
 use Rattle.client_parting.specs.declared.gathering.Holding.{Holding}
 use Rattle.client_parting.specs.declared.gathering.Report.{Report}
-use Rattle.client_parting.specs.Gatherings.{IsGatherReport, Matches, ids_of}
+use Rattle.client_parting.specs.declared.fault.GatherFault.{GatherFault}
+use Rattle.client_parting.specs.Gatherings.{IsGatherReport, IsSo, Matches, ids_of}
 use Rattle.client_parting.specs.Partings.{Remains}
 use Rattle.actor_scripts.specs.declared.step.ActorScript.{ActorScript}
 use Rattle.actor_scripts.specs.declared.actor_list.ActorList.{ActorList}
@@ -20,7 +21,9 @@ use Rattle.script_lines.specs.declared.label.Label.{Label}
 use Rattle.client_actors.specs.declared.gate.ActorEnd.{ActorEnd}
 use Rattle.client_actors.specs.ActorSteps.{HasFinished}
 use Rattle.client_actors.specs.ActorEnds.{HaveRun, IsEndOf, end_id}
-use Rattle.thread_runs.specs.Gathered.{IsLeft, TellsRecord, line_client, first_fault}
+use Rattle.thread_runs.specs.declared.fault.ThreadsFault.{ThreadsFault}
+use Rattle.thread_runs.specs.Faults.{gather_fault}
+use Rattle.thread_runs.specs.Gathered.{IsLeft, IsUntold, TellsRecord, first_fault, first_stray, line_client}
 use Rattle.thread_runs.specs.declared.job.Output.{Output}
 use Rattle.thread_runs.specs.Runs.{IsPlayed, IsRunText, told_text}
 use Rattle.thread_runs.proofs.EndLaws.{ids-left}
@@ -53,6 +56,23 @@ module _ {E S W : Type 0} where
     own_lists = so.own_lists;
     told = told;
   }
+
+  -- what was found when the parts were compared is why nothing is told
+  pub untold : (s : View) (parts : List (Holding E S W)) (fault : GatherFault) → IsSo s parts fault →
+      IsUntold s parts (gather_fault fault)
+  untold s parts GatherFault.NoMemory so = tt
+  untold s parts (GatherFault.MissingClient client) so = inl so
+  untold s parts (GatherFault.OpenValues strong weak) so = inl so
+  untold s parts (GatherFault.RecordMismatch event) so = inl so
+
+  -- the lines are those of the clients that joined, so that the first that differs from the parts is one
+  pub stray_told : (s : View) (parts : List (Holding E S W)) (report : Report) (client : ℕ) → IsGatherReport s parts report →
+      first_stray (map line_client report.lines.items) (ids_of parts) ≡ Some client →
+      IsUntold s parts (ThreadsFault.Gather (GatherFault.MissingClient client))
+  stray_told s parts report client so stray =
+      let lines : map line_client report.lines.items ≡ joined s.history = ap (map line_client) so.lines
+      ∙ clients-of s.history (joined s.history) in
+      inr (subst (λ (ids : List ℕ). first_stray ids (ids_of parts) ≡ Some client) lines stray)
 
   module _ (history : List Entry) (clients : List ℕ) where
     -- each of the actors is such a one

@@ -1,5 +1,5 @@
 -- From the ends of actors to what is gathered. No public clause cites this module.
-use Rattle.std.specs.Prelude.{◌≡◌, ℕ, List, [], ◌∷◌, ◌++◌, length, reverse, Option, Some, None, ⊤}
+use Rattle.std.specs.Prelude.{◌≡◌, ℕ, ◌==◌, if◌then◌else◌, List, [], ◌∷◌, ◌++◌, length, reverse, Option, Some, None, ◌⊎◌, ⊤}
 use Rattle.std.specs.List.{All, AllZip}
 use Rattle.std.specs.Option.{option_or}
 use Rattle.sm_names.specs.declared.outcomes.StepFault.{StepFault}
@@ -11,7 +11,7 @@ use Rattle.service_lock.specs.States.{View}
 use Rattle.script_lines.specs.declared.label.Label.{Label}
 use Rattle.client_parting.specs.declared.fault.GatherFault.{GatherFault}
 use Rattle.client_parting.specs.declared.gathering.Holding.{Holding}
-use Rattle.client_parting.specs.Gatherings.{Matches, ids_of}
+use Rattle.client_parting.specs.Gatherings.{IsSo, Matches, ids_of}
 use Rattle.client_parting.specs.Partings.{held_in, sorted}
 use Rattle.client_actors.specs.declared.gate.ActorEnd.{ActorEnd}
 use Rattle.thread_runs.specs.declared.fault.ThreadsFault.{ThreadsFault}
@@ -53,6 +53,15 @@ pub record PartedTo {E S W : Type 0} (all rest : List (ActorEnd E S W)) (parts :
 abbrev pub line_client : ClientLine → ℕ
 line_client line = line.client
 
+-- the first client at which the clients of the lines and those of the parts differ: that of the part, or that of the line if all
+-- parts come before it
+abbrev pub first_stray : List ℕ → List ℕ → Option ℕ
+first_stray [] [] = None
+first_stray [] (part ∷ parts) = Some part
+first_stray (line ∷ lines) [] = Some line
+first_stray (line ∷ lines) (part ∷ parts) =
+    let later = first_stray lines parts in if line == part then later else Some part
+
 -- the record is a legal history with this pool and these limits, those who joined are just those of the parts, in order, each own list is its client's part, and
 -- the text is what is told of it
 pub record TellsRecord {E S W : Type 0} (output : Output) (pages : ℕ) (limits : Bound) (s : View) (labels : List Label)
@@ -61,6 +70,17 @@ pub record TellsRecord {E S W : Type 0} (output : Output) (pages : ℕ) (limits 
   pub ordered : joined s.history ≡ ids_of parts
   pub own_lists : All (Matches s.history) parts
   pub told : text ≡ told_text output labels s.history
+
+-- one of those who joined has no part at its place, or a part has another client's line beside it: this is the first such client
+abbrev pub IsStray : {E S W : Type 0} → View → List (Holding E S W) → GatherFault → Type 0
+IsStray s parts (GatherFault.MissingClient client) = first_stray (joined s.history) (ids_of parts) ≡ Some client
+IsStray s parts _ = ⊥
+
+-- why nothing is told of the record and these parts
+abbrev pub IsUntold : {E S W : Type 0} → View → List (Holding E S W) → ThreadsFault → Type 0
+IsUntold s parts ThreadsFault.NoMemory = ⊤
+IsUntold s parts (ThreadsFault.Gather fault) = IsSo s parts fault ⊎ IsStray s parts fault
+IsUntold s parts _ = ⊥
 
 -- a fault of a run whose script was read
 abbrev pub IsLate : ThreadsFault → Type 0

@@ -1,11 +1,11 @@
 //! The actors run, and what they leave is reported.
-ghost use Rattle.std.specs.Prelude.{◌≡◌, ◌++◌, IfErr, IfOk, IfNone, OnOk, length, map};
+ghost use Rattle.std.specs.Prelude.{◌≡◌, ◌++◌, IfErr, IfOk, OnOk, length, map};
 ghost use Rattle.actor_scripts.specs.ActorLists.{actors_of};
 ghost use Rattle.client_parting.specs.Gatherings.{ids_of};
 ghost use Rattle.event_laws.specs.Lines.{lines_of};
 ghost use Rattle.service_lock.specs.States.{IsSetUpWith, View};
 ghost use Rattle.service_lock.specs.Units.{AreFor};
-ghost use Rattle.thread_runs.specs.Gathered.{IsLate, TellsRecord, line_client};
+ghost use Rattle.thread_runs.specs.Gathered.{IsLate, IsUntold, TellsRecord, first_stray, line_client};
 ghost use Rattle.thread_runs.specs.Runs.{IsRunText, told_text};
 
 use crate::actor_parts::{fault_of, part_all};
@@ -43,24 +43,26 @@ impl Gate for Silent {
     fn after(&self, _client: ClientId, _step: u64, _reply: &Option<Reply>) {}
 }
 
-// The first client that has a line and no part, or a part and no line. No contract relates the ids of two
-// joins, since each took the lock for itself: so the lines are compared with the parts.
+// The first client at which the lines and the parts differ: that of the part, or that of the line if all
+// parts come before it. No contract relates the ids of two joins, since each took the lock for itself: so
+// the lines are compared with the parts.
 fn first_stray<E: Setup, S: Ledger, W: Ledger>(
     lines: &[ClientLine],
     parts: &[Holding<E, S, W>],
 ) -> Option<ClientId>
-    ensures { IfNone result (map line_client lines.now ≡ ids_of parts.now) }
+    ensures { result ≡ first_stray (map line_client lines.now) (ids_of parts.now) }
 {
     let mut left = lines;
     let mut rest = parts;
     'comparing: while let Some((part, others)) = rest.split_first() {
-        match left.split_first() {
-            Some((line, more)) if line.client == part.id() => {
-                left = more;
-                rest = others;
-            }
-            _ => return Some(part.id()),
+        let Some((line, more)) = left.split_first() else {
+            return Some(part.id());
+        };
+        if line.client != part.id() {
+            return Some(part.id());
         }
+        left = more;
+        rest = others;
     }
     match left.first() {
         Some(line) => Some(line.client),
@@ -104,6 +106,7 @@ fn text_of<E: Setup, S: Ledger, W: Ledger>(
     ensures ok { IfOk result (λ text. TellsRecord style.output E.pages E.limits state.now labels.now
         parts.now text.items) }
     ensures late { IfErr result IsLate }
+    ensures untold { IfErr result (IsUntold state.now parts.now) }
 {
     let report = match compare(alloc, state, parts) {
         Ok(report) => report,

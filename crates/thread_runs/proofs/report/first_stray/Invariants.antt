@@ -1,11 +1,12 @@
 use Rattle.std.proofs.Common.{◌≡◌, length, map}
 use Rattle.client_parting.specs.Gatherings.{ids_of}
-use Rattle.thread_runs.specs.Gathered.{line_client}
+use Rattle.thread_runs.specs.Gathered.{first_stray, line_client}
 use Rattle.thread_runs.proofs.report.first_stray.Given as goal
 
--- if the rests match, so do the wholes
+-- what is left has the answer
 abbrev pub invariant-comparing : goal.invariant-comparing
-invariant-comparing g l = map line_client l.left ≡ ids_of l.rest → map line_client l.lines ≡ ids_of l.parts
+invariant-comparing g l =
+    first_stray (map line_client l.lines) (ids_of l.parts) ≡ first_stray (map line_client l.left) (ids_of l.rest)
 
 abbrev pub decreases-comparing : goal.decreases-comparing
 decreases-comparing g l = length l.rest
