@@ -6,6 +6,7 @@ use Rattle.std.specs.Io.KnownBytes.{Appends, Consumes, IsAtEnd, Keeps}
 use Rattle.script_lines.specs.declared.TheConstants.{MOST_BYTES}
 use Rattle.script_lines.specs.Pieces.{whole_lines, last_part}
 use Rattle.script_faults.specs.declared.fault.ReportFault.{ReportFault}
+use Rattle.script_faults.specs.Faults.{IsReported}
 use Rattle.script_faults.specs.Streams.{IsUnread}
 use Rattle.script_labels.specs.Names.{Names}
 use Rattle.sm_script.specs.Scenes.{Setting}
@@ -240,9 +241,10 @@ module _ (setting : Setting) (view : View) (left_before left old : Option (List 
     draws-told (Err (ReportFault.NoEvent event)) drawn = record { script = script; taken = taken; outcome = (end, drawn) }
     draws-told (Err ReportFault.NoMemory) drawn = record { script = script; taken = taken; outcome = drawn }
 
--- a status that tells the outcome
-pub ends_drawn : (setting : Setting) (view : View) (left_before left old new : Option (List ℕ))
+-- a status that tells the outcome, and a line that tells its fault
+pub ends_drawn : (setting : Setting) (view : View) (left_before left old new told_before told : Option (List ℕ))
     (outcome : Result (Unit {0}) ReportFault) (status : ℕ) → Draws setting view left_before left old new outcome →
-    status ≡ drawing_status outcome → EndsDrawn setting view left_before left old new status
-ends_drawn setting view left_before left old new outcome status draws is =
-    record { outcome = outcome; draws = draws; status_is = is }
+    status ≡ drawing_status outcome → IsReported told_before told outcome →
+    EndsDrawn setting view left_before left old new told_before told status
+ends_drawn setting view left_before left old new told_before told outcome status draws is reported =
+    record { outcome = outcome; draws = draws; status_is = is; reported = reported }

@@ -7,7 +7,7 @@ use Rattle.script_lines.specs.declared.TheConstants.{MOST_BYTES}
 use Rattle.script_lines.specs.Pieces.{whole_lines, last_part}
 use Rattle.script_lines.specs.Written.{WritesPart}
 use Rattle.script_faults.specs.declared.fault.ReportFault.{ReportFault}
-use Rattle.script_faults.specs.Faults.{fault_status}
+use Rattle.script_faults.specs.Faults.{IsReported, fault_status}
 use Rattle.script_faults.specs.IndentedLines.{is_indented}
 use Rattle.script_labels.specs.Names.{Names, act_in}
 use Rattle.sm_script.specs.Runs.{IsOver}
@@ -166,8 +166,10 @@ abbrev pub drawing_status : Result (Unit {0}) ReportFault → ℕ
 drawing_status (Ok done) = 0
 drawing_status (Err fault) = fault_status fault
 
--- a script was drawn, with this outcome, whose status is told
-pub record EndsDrawn (setting : Setting) (view : View) (left_before left old new : Option (List ℕ)) (status : ℕ) : Type 0 where
-  pub outcome : Result (Unit {0}) ReportFault
-  pub draws : Draws setting view left_before left old new outcome
-  pub status_is : status ≡ drawing_status outcome
+-- a script was drawn, with this outcome: the status is its status, and its fault, if there is one, was told
+pub record EndsDrawn (setting : Setting) (view : View) (left_before left old new told_before told : Option (List ℕ)) (status : ℕ) : Type 0
+  where
+    pub outcome : Result (Unit {0}) ReportFault
+    pub draws : Draws setting view left_before left old new outcome
+    pub status_is : status ≡ drawing_status outcome
+    pub reported : IsReported told_before told outcome

@@ -36,7 +36,8 @@ pub fn draw_to_exit<R: Read, W: Write, F: Write>(
       };
     }) view
         (R.remaining reader.old) (R.remaining reader.new)
-        (W.contents writer.old) (W.contents writer.new) (exit_status result) }
+        (W.contents writer.old) (W.contents writer.new)
+        (F.contents faults.old) (F.contents faults.new) (exit_status result) }
 {
     match draw_script(
         alloc,

@@ -6,7 +6,7 @@ use Rattle.std.specs.Io.KnownBytes.{Consumes, IsAtEnd, Keeps}
 use Rattle.script_lines.specs.declared.TheConstants.{MOST_BYTES}
 use Rattle.script_lines.specs.Pieces.{whole_lines, last_part}
 use Rattle.script_faults.specs.declared.fault.ReportFault.{ReportFault}
-use Rattle.script_faults.specs.Faults.{IsBadLine, IsFaultOf}
+use Rattle.script_faults.specs.Faults.{IsBadLine, IsFaultOf, IsReported}
 use Rattle.script_faults.specs.IndentedLines.{behind_indent, indented, is_indented, unindented}
 use Rattle.script_faults.specs.Streams.{IsUnread}
 use Rattle.sm_script.proofs.Settings.{legal-in, over-in}
@@ -332,12 +332,13 @@ module _ (setting : Setting) (left_before left old : Option (List ℕ)) where
     checks-told (Ok verdict) judged stop = record { script = script; taken = taken; outcome = (end, within, judged) }
     checks-told (Err fault) judged stop = checks-stopped fault stop
 
--- a status that tells the outcome
-pub ends_checked : (setting : Setting) (left_before left old new : Option (List ℕ)) (outcome : Result Verdict ReportFault)
-    (status : ℕ) → Checks setting left_before left old new outcome → status ≡ checking_status outcome →
-    EndsChecked setting left_before left old new status
-ends_checked setting left_before left old new outcome status checks is =
-    record { outcome = outcome; checks = checks; status_is = is }
+-- a status that tells the outcome, and a line that tells its fault
+pub ends_checked : (setting : Setting) (left_before left old new told_before told : Option (List ℕ))
+    (outcome : Result Verdict ReportFault) (status : ℕ) → Checks setting left_before left old new outcome →
+    status ≡ checking_status outcome → IsReported told_before told outcome →
+    EndsChecked setting left_before left old new told_before told status
+ends_checked setting left_before left old new told_before told outcome status checks is reported =
+    record { outcome = outcome; checks = checks; status_is = is; reported = reported }
 
 -- no line was compared
 pub compared-none : (setting : Setting) (c : Comparison) → c.teller.session.core.pool ≡ setting.pool →

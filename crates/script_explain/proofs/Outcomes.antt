@@ -7,7 +7,7 @@ use Rattle.script_lines.specs.declared.TheConstants.{MOST_BYTES}
 use Rattle.script_lines.specs.Pieces.{whole_lines, last_part}
 use Rattle.script_lines.specs.Written.{WritesPart}
 use Rattle.script_faults.specs.declared.fault.ReportFault.{ReportFault}
-use Rattle.script_faults.specs.Faults.{IsBadLine, fault_status}
+use Rattle.script_faults.specs.Faults.{IsBadLine, IsReported, fault_status}
 use Rattle.script_faults.specs.Streams.{Came, IsUnread}
 use Rattle.sm_script.specs.declared.session.Session.{Session}
 use Rattle.sm_script.specs.Scenes.{Rests, Setting, first_scene}
@@ -250,9 +250,10 @@ module _ (setting : Setting) (left_before left old : Option (List ℕ)) where
     explains-told (Err ReportFault.HistoryFull) told = record { script = script; taken = taken; outcome = (end, told) }
     explains-told (Err ReportFault.NoMemory) told = record { script = script; taken = taken; outcome = told }
 
--- a status that tells the outcome
-pub ends_explained : (setting : Setting) (left_before left old new : Option (List ℕ)) (outcome : Result (Unit {0}) ReportFault)
-    (status : ℕ) → Explains setting left_before left old new outcome → status ≡ explaining_status outcome →
-    EndsExplained setting left_before left old new status
-ends_explained setting left_before left old new outcome status explains is =
-    record { outcome = outcome; explains = explains; status_is = is }
+-- a status that tells the outcome, and a line that tells its fault
+pub ends_explained : (setting : Setting) (left_before left old new told_before told : Option (List ℕ))
+    (outcome : Result (Unit {0}) ReportFault) (status : ℕ) → Explains setting left_before left old new outcome →
+    status ≡ explaining_status outcome → IsReported told_before told outcome →
+    EndsExplained setting left_before left old new told_before told status
+ends_explained setting left_before left old new told_before told outcome status explains is reported =
+    record { outcome = outcome; explains = explains; status_is = is; reported = reported }

@@ -5,7 +5,7 @@ use Rattle.script_lines.specs.declared.TheConstants.{MOST_BYTES}
 use Rattle.script_lines.specs.Pieces.{whole_lines, last_part}
 use Rattle.script_lines.specs.Written.{WritesPart}
 use Rattle.script_faults.specs.declared.fault.ReportFault.{ReportFault}
-use Rattle.script_faults.specs.Faults.{fault_status}
+use Rattle.script_faults.specs.Faults.{IsReported, fault_status}
 use Rattle.script_faults.specs.IndentedLines.{indented, is_indented, unindented}
 use Rattle.script_labels.specs.Names.{act_in}
 use Rattle.sm_script.specs.Runs.{IsOver}
@@ -174,8 +174,9 @@ checking_status (Ok Verdict.Agrees) = 0
 checking_status (Ok Verdict.Differs) = 6
 checking_status (Err fault) = fault_status fault
 
--- a transcript was checked, with this outcome, whose status is told
-pub record EndsChecked (setting : Setting) (left_before left old new : Option (List ℕ)) (status : ℕ) : Type 0 where
+-- a transcript was checked, with this outcome: the status is its status, and its fault, if there is one, was told
+pub record EndsChecked (setting : Setting) (left_before left old new told_before told : Option (List ℕ)) (status : ℕ) : Type 0 where
   pub outcome : Result Verdict ReportFault
   pub checks : Checks setting left_before left old new outcome
   pub status_is : status ≡ checking_status outcome
+  pub reported : IsReported told_before told outcome

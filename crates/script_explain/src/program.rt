@@ -40,7 +40,8 @@ pub fn explain_to_exit<R: Read, W: Write, F: Write>(
       };
     })
         (R.remaining reader.old) (R.remaining reader.new)
-        (W.contents writer.old) (W.contents writer.new) (exit_status result) }
+        (W.contents writer.old) (W.contents writer.new)
+        (F.contents faults.old) (F.contents faults.new) (exit_status result) }
 {
     match explain_script(alloc, seed, reader, writer, pages.count, Limits::full()) {
         Ok(()) => ExitCode::SUCCESS,
@@ -71,7 +72,8 @@ pub fn check_to_exit<R: Read, W: Write, F: Write>(
       };
     })
         (R.remaining reader.old) (R.remaining reader.new)
-        (W.contents writer.old) (W.contents writer.new) (exit_status result) }
+        (W.contents writer.old) (W.contents writer.new)
+        (F.contents faults.old) (F.contents faults.new) (exit_status result) }
 {
     match check_script(alloc, seed, reader, writer, pages.count, Limits::full()) {
         Ok(Verdict::Agrees) => ExitCode::SUCCESS,

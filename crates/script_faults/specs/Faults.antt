@@ -1,5 +1,6 @@
--- The statuses of faults, and why a line has one.
-use Rattle.std.specs.Prelude.{ℕ, ◌≡◌, ◌≢◌, ⊤}
+-- The statuses and the texts of faults, and why a line has one.
+use Rattle.std.specs.Prelude.{ℕ, ◌≡◌, ◌≢◌, List, [], ◌∷◌, ◌++◌, codes, decimal, Option, Result, MatchResult, ◌⊎◌, ⊤}
+use Rattle.script_lines.specs.Written.{WritesPart}
 use Rattle.script_labels.specs.declared.stop.Stop.{Stop}
 use Rattle.script_faults.specs.declared.fault.ReportFault.{ReportFault}
 
@@ -14,6 +15,28 @@ fault_status ReportFault.HistoryFull = 4
 fault_status ReportFault.NoMemory = 4
 fault_status (ReportFault.NoEvent event) = 2
 
+-- what a fault is told as
+abbrev pub fault_text : ReportFault → List ℕ
+fault_text ReportFault.ReadFault = codes "read fault"
+fault_text ReportFault.TooLong = codes "the script is longer than 16777216 bytes"
+fault_text ReportFault.WriteFault = codes "write fault"
+fault_text (ReportFault.BadLine number reason) = codes "bad line " ++ decimal number ++ codes ": " ++ reason.items
+fault_text ReportFault.HistoryFull = codes "history full"
+fault_text ReportFault.NoMemory = codes "no memory"
+fault_text (ReportFault.NoEvent event) = codes "there is no event " ++ decimal event
+
+-- the line of the fault, with its end
+abbrev pub fault_line : ReportFault → List ℕ
+fault_line fault = fault_text fault ++ 10 ∷ []
+
+-- the line of the fault was written, as far as it could be, or that of refused memory
+abbrev pub IsTold : Option (List ℕ) → Option (List ℕ) → ReportFault → Type 0
+IsTold before after fault = WritesPart before after (fault_line fault) ⊎ WritesPart before after (fault_line ReportFault.NoMemory)
+
+-- without a fault nothing was told
+abbrev pub IsReported : {A : Type 0} → Option (List ℕ) → Option (List ℕ) → Result A ReportFault → Type 0
+IsReported before after result = MatchResult result (λ _. after ≡ before) (IsTold before after)
+
 -- the fault of the line of this number, which stopped so. Memory for the reason of a bad line may be refused
 abbrev pub IsFaultOf : ℕ → Stop → ReportFault → Type 0
 IsFaultOf number stop (ReportFault.BadLine n reason) = (stop ≡ Stop.BadLine) × (n ≡ number)
@@ -26,3 +49,8 @@ abbrev pub IsBadLine : ℕ → ReportFault → Type 0
 IsBadLine number (ReportFault.BadLine n reason) = n ≡ number
 IsBadLine number ReportFault.NoMemory = ⊤
 IsBadLine number _ = ⊥
+
+-- the fault of a bad line gives these words as the reason
+abbrev pub HasReason : List ℕ → ReportFault → Type 0
+HasReason words (ReportFault.BadLine n reason) = reason.items ≡ words
+HasReason words _ = ⊤

@@ -1,6 +1,6 @@
 //! Why a script was not reported on to its end.
-ghost use Rattle.std.specs.Prelude.{◌≡◌};
-ghost use Rattle.script_faults.specs.Faults.{IsBadLine, IsFaultOf, fault_status};
+ghost use Rattle.std.specs.Prelude.{◌≡◌, ◌++◌, OnOk, codes};
+ghost use Rattle.script_faults.specs.Faults.{HasReason, IsBadLine, IsFaultOf, fault_status, fault_text};
 
 use crate::reasons::push_reason;
 use script_labels::{Stop, Tables};
@@ -49,7 +49,9 @@ impl ReportFault {
 
     /// Appends the text of the fault, without an end of a line; a part of it where memory is
     /// refused. Takes a time in proportion to the text.
-    pub fn push_text(&self, text: &mut Vec<u8>) -> Result<(), AllocError> {
+    pub fn push_text(&self, text: &mut Vec<u8>) -> Result<(), AllocError>
+        ensures { OnOk result (text.new.items ≡ text.old.items ++ fault_text self.now) }
+    {
         match self {
             ReportFault::ReadFault => push(text, "read fault"),
             ReportFault::TooLong => push(text, "the script is longer than 16777216 bytes"),
@@ -97,7 +99,8 @@ pub fn fault_of(alloc: Global, stop: Stop, tables: &Tables, number: u64, line: &
 
 /// The fault of the line of this number, for this reason. Takes a time in proportion to the reason.
 pub fn bad_line(alloc: Global, number: u64, words: &str) -> ReportFault
-    ensures { IsBadLine number result }
+    ensures line { IsBadLine number result }
+    ensures reason { HasReason words.now result }
 {
     let mut reason = Vec::new(alloc);
     match push(&mut reason, words) {
@@ -108,7 +111,8 @@ pub fn bad_line(alloc: Global, number: u64, words: &str) -> ReportFault
 
 /// The fault that the last line, the one of this number, has no end. Takes a constant time.
 pub fn unended(alloc: Global, number: u64) -> ReportFault
-    ensures { IsBadLine number result }
+    ensures line { IsBadLine number result }
+    ensures reason { HasReason (codes "the last line has no end") result }
 {
     bad_line(alloc, number, "the last line has no end")
 }

@@ -34,4 +34,4 @@ pub returns-else-is_empty-clause-err : goal.returns-else-is_empty-clause-err
 returns-else-is_empty-clause-err c =
     along-unended _ _ _ _ _ _ c.lines.invariant c.requires (λ scene knows. sym (c.is_at-2.ensures scene knows) ∙ c.if-is_at-2.false)
     (sym c.in_default.ensures.value) (sym c.is_empty.ensures ∙ c.if-is_empty.false) _ c.saturating_add.ensures
-    c.unended.result c.unended.ensures
+    c.unended.result c.unended.ensures.line

@@ -27,4 +27,4 @@ returns-then-is_empty-clause-whole g c =
 pub returns-else-is_empty-clause-err : goal.returns-else-is_empty-clause-err
 returns-else-is_empty-clause-err g c =
     along-unended _ _ _ _ _ _ _ _ _ c.lines.invariant c.requires (sym c.in_default.ensures.value)
-    (sym c.is_empty.ensures ∙ c.if-is_empty.false) _ c.saturating_add.ensures c.unended.result c.unended.ensures
+    (sym c.is_empty.ensures ∙ c.if-is_empty.false) _ c.saturating_add.ensures c.unended.result c.unended.ensures.line
