@@ -5,8 +5,8 @@
   tools/edits_apply.py --make FOLDER EDIT.edit         makes the edit in this copy of its crate
 
 An edit applies where each of its `old:` texts stands exactly once in its file, after the pairs before it, and the
-edit changes something. With no NAME it is also a fault where the gate tries more than eight edits of a crate. It reads files alone, and takes less than a second. The last line counts; the
-status is 1 if there is a fault.
+edit changes something. With no NAME it is also a fault where the gate tries more than six edits of a crate. It reads
+files alone, and takes less than a second. The last line counts; the status is 1 if there is a fault.
 """
 import pathlib
 import re
@@ -14,7 +14,7 @@ import sys
 
 CRATES = pathlib.Path(__file__).resolve().parent.parent / "crates"
 FOLDERS = ("must-fail", "more-edits")
-MOST = 8
+MOST = 6
 
 
 class DoesNotApply(Exception):
