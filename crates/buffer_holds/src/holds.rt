@@ -261,8 +261,9 @@ impl Holds {
         self.add_by_search(client, buffer, strength, near)
     }
 
-    // Does what `add` does, where the row and the tally stand at the spot, and more handles of one kind than of
-    // this one were ever open. Then the spot moves behind them. Elsewhere nothing changes.
+    // Does what `add` does, where the row and the tally stand at the spot, and more handles of one
+    // kind than of this one were ever open. Then the spot moves behind them. Elsewhere, and at a new
+    // spot, nothing changes.
     #[inline(always)]
     fn add_at_spot(
         &mut self,
@@ -279,7 +280,7 @@ impl Holds {
     {
         let kind = HandleKind { buffer, strength };
         let hold = Hold { client, kind };
-        if self.newest < buffer.collection {
+        if near.tally == 0 || self.newest < buffer.collection {
             return false;
         }
         if !is_at_spot(&self.rows, &self.tallies, hold, self.most, *near) {
@@ -289,8 +290,8 @@ impl Holds {
         true
     }
 
-    // Does what `add` does. The row and the tally are looked for at the spot, where the last look-ups ended and by
-    // their hashes. The spot moves behind what was found.
+    // Does what `add` does. The row and the tally are looked for at the spot, where the last look-ups
+    // ended and by their hashes. The spot moves behind what was found.
     #[inline(never)]
     fn add_by_search(
         &mut self,

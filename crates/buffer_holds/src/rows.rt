@@ -115,8 +115,8 @@ pub(crate) fn raise_at(rows: &mut Rows, hold: Hold, place: usize)
     *count += 1;
 }
 
-// One handle more. Only a new row takes memory, where no more places are free than are to stay so. The row is looked for at
-// the place first, which becomes the one behind it.
+// One handle more. Only a new row takes memory, where no more places are free than are to stay so. The
+// row is looked for at the place first, which becomes the one behind it.
 #[inline(always)]
 pub(crate) fn raise(
     rows: &mut Rows,

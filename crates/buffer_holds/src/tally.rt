@@ -189,7 +189,8 @@ pub(crate) fn leave(tallies: &mut Tallies, kind: HandleKind, hint: &Hint)
     }
 }
 
-// One handle more, the first of its kind, as `open` says. The step that takes room for the tally comes first, so that a refusal leaves all as it was.
+// One handle more, the first of its kind, as `open` says. The step that takes room for the tally comes
+// first, so that a refusal leaves all as it was.
 #[inline(never)]
 fn open_first(
     rows: &mut Rows,
@@ -236,7 +237,8 @@ fn open_first(
     Ok(())
 }
 
-// One handle more. The most that were ever open of one kind grows with it. So many places stay free among the rows.
+// One handle more. The most that were ever open of one kind grows with it. So many places stay free
+// among the rows.
 pub(crate) fn open(
     rows: &mut Rows,
     tallies: &mut Tallies,

@@ -17,7 +17,7 @@ use Rattle.forest_store.specs.Settling.{Handles, MayChange, Settled, no_key}
 use Rattle.buffer_holds.specs.Counts.{Counts, total}
 use Rattle.trackers.specs.declared.waiting.Waiting.{Waiting}
 use Rattle.trackers.specs.Table.{TrackerTable}
-use Rattle.core_state.specs.declared.asked.Asked.{Asked}
+use Rattle.core_state.specs.declared.decision.Decision.{Decision}
 use Rattle.core_state.specs.declared.task.Place.{Place}
 use Rattle.core_state.specs.declared.task.Task.{Task}
 use Rattle.core_state.specs.Hands.{MovesHandles, takes_handle_room}
@@ -154,12 +154,12 @@ pub record TakesEffect (pool : ℕ) (old new : Parts) (client : ℕ) (call : Cal
   pub work : Reworked pool (total new.holds) old.forest (work_in task) key new.forest
   pub trackers : GainsTracker old.trackers tracking new.trackers
 
--- what was found of a call before anything changes: what is answered, but for the key of a new node, the task that this brings,
+-- what is decided of a call before anything changes: the answer, except for the key of a new node, the task that the call brings,
 -- and the tracker that it attaches
-pub record IsAsked (s : State) (client : ℕ) (call : Call) (asked : Asked) : Type 0 where
-  pub reply : asked.reply ≡ answer s.limits (readings_of s) client no_key call
-  pub work : work_in asked.task ≡ work_of s client call asked.reply
-  pub spends : spent_in asked.task ≡ spent_by call asked.reply
-  pub there : IfSome asked.task (SpendsThere s.forest)
-  pub some : IfSome asked.task DoesSome
-  pub tracking : asked.tracking ≡ tracker_by s.forest call asked.reply
+pub record IsDecision (s : State) (client : ℕ) (call : Call) (decision : Decision) : Type 0 where
+  pub reply : decision.reply ≡ answer s.limits (readings_of s) client no_key call
+  pub work : work_in decision.task ≡ work_of s client call decision.reply
+  pub spends : spent_in decision.task ≡ spent_by call decision.reply
+  pub there : IfSome decision.task (SpendsThere s.forest)
+  pub some : IfSome decision.task DoesSome
+  pub tracking : decision.tracking ≡ tracker_by s.forest call decision.reply

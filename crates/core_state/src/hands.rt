@@ -18,7 +18,7 @@ pub(crate) const SET_BITS: u8 = 64;
 /// no count changed. A handle that is dropped or collected needs no room. It costs two look-ups for
 /// each handle at most.
 #[inline(always)]
-pub fn hand_over(
+pub fn apply_handles(
     holds: &mut Holds,
     client: ClientId,
     call: &Call,
@@ -68,8 +68,8 @@ pub fn hand_over(
     Ok(())
 }
 
-/// Undoes what `hand_over` did, unless a handle was collected. It takes no memory, and costs as much.
-pub fn hand_back(holds: &mut Holds, client: ClientId, call: Call, reply: Reply)
+/// Undoes what `apply_handles` did, unless a handle was collected. It takes no memory, and costs as much.
+pub fn undo_handles(holds: &mut Holds, client: ClientId, call: Call, reply: Reply)
     requires undo { CanUndo holds.old client call reply }
     requires stands { collects_handle call reply ≡ false }
     ensures counts { (before : Counts) →

@@ -3,8 +3,8 @@
 //! forced step: its clients, its handles, and what is read of a call, of a reply and of one node.
 #![tactic(auto)]
 
-pub mod asked;
 pub mod clients;
+pub mod decision;
 pub mod end_answers;
 pub mod hands;
 pub mod laws;

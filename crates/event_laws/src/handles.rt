@@ -240,7 +240,8 @@ pub fn all_handles_add_up()
 {}
 
 /// In a legal history what is counted on buffers of allocated collections alone, as
-/// `handles_are_on_buffers` says of handles, adds up over their names: no collection has more than `MAX_BUFFERS`.
+/// `handles_are_on_buffers` says of handles, adds up over their names: no collection has more than
+/// `MAX_BUFFERS`.
 pub fn counts_add_up_by_name()
     ensures { (pool : ℕ) (limits : Bound) (history : List Entry) → IsLegal pool limits history →
         (count : BufferName → ℕ) →

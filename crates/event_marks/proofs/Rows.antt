@@ -1,7 +1,7 @@
 -- The rows of who hands on what takes a node: each node that is taken stands in one, below its parent.
-use Rattle.std.proofs.Common.{ℕ, ◌≡◌, refl, ap, sym, ◌∙◌, subst, Bool, true, false, not, ◌&&◌, nat_lt, ◌⊎◌, inl, inr, List, [], ◌∷◌, map, reverse, length, Option, Some, None, arith}
+use Rattle.std.proofs.Common.{◌≡◌, refl, ap, sym, ◌∙◌, subst, true, false, not, ◌&&◌, nat_lt, ◌⊎◌, inl, inr, List, [], ◌∷◌, reverse, length, Option, Some, None, arith}
 use Rattle.std.proofs.lemmas.Bool.{lt-ltb, not-true}
-use Rattle.std.specs.List.{filter, list_any}
+use Rattle.std.specs.List.{list_any}
 use Rattle.std.specs.Option.{option_map_or}
 use Rattle.sm_names.specs.declared.keys.NodeKey.{NodeKey}
 use Rattle.sm_names.specs.declared.outcomes.Cause.{Cause}
@@ -9,9 +9,9 @@ use Rattle.sm_names.specs.Births.{Birth, births, ancestors, is_at_or_below, AreS
 use Rattle.sm_names.specs.Losses.{blocked, gone, parent_of, takes, top}
 use Rattle.sm_names.specs.Marks.{Timeline, Loss, Ended}
 use Rattle.sm_names.specs.Sameness.{same_key}
-use Rattle.sm_names.proofs.ListLaws.{In, In-filter, In-filter-back, In-list_any, In-map, In-map-back, In-reverse, In-reverse-back}
+use Rattle.sm_names.proofs.ListLaws.{In, In-filter, In-filter-back, In-list_any, In-map, In-map-back, In-reverse-back}
 use Rattle.history_laws.proofs.ReachLaws.{parent_born}
-use Rattle.sm_names.proofs.SamenessLaws.{and_left, and_right, either_way, none_or_some, same_key-refl, same_key-true, some-injective}
+use Rattle.sm_names.proofs.SamenessLaws.{and_left, and_right, either_way, same_key-refl, same_key-true, some-injective}
 use Rattle.history_laws.proofs.StandingLaws.{and_both}
 use Rattle.event_marks.specs.Explanations.{Handing, Moment, handed, handings, taken_at, way_of_loss}
 use Rattle.event_marks.proofs.Reasons.{reason_below, root_reason, top_on_way}

@@ -1,12 +1,12 @@
 -- The stages of marks that are made one after another.
-use Rattle.std.proofs.Common.{ℕ, ◌≡◌, refl, ap, sym, ◌∙◌, List, [], ◌∷◌, ◌++◌, map, Option, Some, None}
+use Rattle.std.proofs.Common.{ℕ, ◌≡◌, refl, ap, List, [], ◌∷◌, ◌++◌, map, Option, Some, None}
 use Rattle.std.specs.List.{cons_option}
 use Rattle.std.specs.Option.{option_map}
 use Rattle.sm_names.specs.declared.keys.Interval.{Interval}
 use Rattle.sm_names.specs.Marks.{Mark}
 use Rattle.forest_store.specs.declared.change.Change.{Change}
 use Rattle.forest_store.specs.Forest.{Collection}
-use Rattle.forest_store.specs.Settling.{Handles, made}
+use Rattle.forest_store.specs.Settling.{made}
 use Rattle.event_marks.specs.declared.told.Moment.{Moment}
 use Rattle.event_marks.specs.Marks.{Stage, own_mark, own_stage, stages}
 use Rattle.event_marks.specs.Moments.{stage_of}

@@ -1,5 +1,5 @@
 -- The least start with room, found from one interval that is held to the next.
-use Rattle.std.proofs.Common.{ℕ, ◌≡◌, ◌≤◌, ◌<◌, ◌+◌, ◌-◌, ◌∙◌, refl, ap, sym, Bool, true, false, ◌&&◌, not, cond, nat_lt, nat_le, if◌then◌else◌, inl, inr, List, Option, Some, None, is_some, arith}
+use Rattle.std.proofs.Common.{ℕ, ◌≡◌, ◌≤◌, ◌<◌, ◌+◌, ◌-◌, ◌∙◌, refl, ap, sym, Bool, true, false, ◌&&◌, not, cond, nat_lt, nat_le, if◌then◌else◌, inl, inr, List, Some, None, is_some, arith}
 use Rattle.std.proofs.lemmas.Bool.{leb-false, lt-leb, lt-ltb, ltb-true, ltb-false}
 use Rattle.std.specs.List.{find, list_any, range_with_len}
 use Rattle.sm_names.specs.declared.keys.Interval.{Interval}

@@ -23,17 +23,13 @@ fn take_one<F: FnOnce() -> Call>(
         Stepped core.old core.new client call result }
 {
     let call = known();
-    let asked = core.asked_of(client, &call);
-    core.take_asked(client, &call, &asked)
+    let decision = core.decide(client, &call);
+    core.commit(client, &call, &decision)
 }
 
 /// Makes one call, as `Core::step` says: the one place that asks what kind of call it is.
 #[inline(always)]
-pub(crate) fn take_by_kind(
-    core: &mut Core,
-    client: ClientId,
-    call: Call,
-) -> Result<Reply, StepFault>
+pub(crate) fn dispatch(core: &mut Core, client: ClientId, call: Call) -> Result<Reply, StepFault>
     ensures { Stepped core.old core.new client call result }
 {
     match call {

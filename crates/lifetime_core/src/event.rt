@@ -16,7 +16,7 @@ use alloc_event::Forest;
 use buffer_holds::Holds;
 use buffer_pool::Pool;
 use core_state::clients::{Client, note_client};
-use core_state::hands::{hand_back, hand_over, tidy_up};
+use core_state::hands::{apply_handles, tidy_up, undo_handles};
 use core_state::task::Task;
 use sm_names::{Call, ClientId, NoMemory, NodeKey, Reply};
 use trackers::{Trackers, Waiting};
@@ -85,9 +85,9 @@ pub(crate) fn take_effect(
     ensures size { contents.new.pool.size ≡ contents.old.pool.size }
     ensures limit { contents.new.holds.limit ≡ contents.old.holds.limit }
 {
-    hand_over(&mut contents.holds, client, call, asked)?;
+    apply_handles(&mut contents.holds, client, call, asked)?;
     let Ok(()) = attach(&mut contents.trackers, tracking) else {
-        hand_back(&mut contents.holds, client, *call, *asked);
+        undo_handles(&mut contents.holds, client, *call, *asked);
         return Err(NoMemory);
     };
     let Ok(key) = make_change(
@@ -98,11 +98,11 @@ pub(crate) fn take_effect(
         call,
     ) else {
         detach(&mut contents.trackers, tracking);
-        hand_back(&mut contents.holds, client, *call, *asked);
+        undo_handles(&mut contents.holds, client, *call, *asked);
         return Err(NoMemory);
     };
     let Ok(()) = note_client(&mut contents.clients, client, call, asked) else {
-        hand_back(&mut contents.holds, client, *call, *asked);
+        undo_handles(&mut contents.holds, client, *call, *asked);
         return Err(NoMemory);
     };
     tidy_up(&mut contents.holds, client, call);

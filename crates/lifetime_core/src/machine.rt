@@ -26,13 +26,13 @@ ghost use Rattle.core_state.specs.Reads.{readings_of};
 ghost use Rattle.core_state.specs.Shown.{Shows};
 ghost use Rattle.core_state.specs.Steps.{Follows, Work, leaves_tracker_room, work_of};
 ghost use Rattle.core_state.specs.State.{IsSame};
-ghost use Rattle.core_state.specs.Tasks.{IsAsked};
+ghost use Rattle.core_state.specs.Tasks.{IsDecision};
 ghost use Rattle.core_state.specs.Theorem.{GoesOn, Leads, Stepped, Stops, entries};
 ghost use Rattle.core_state.specs.Theorem.{tracker_told, trackers_told};
 
 mod views;
 
-use crate::by_kind::take_by_kind;
+use crate::by_kind::dispatch;
 use crate::event::{Contents, take_effect};
 use crate::replies::answer;
 use crate::sweeping::{place_to_sweep, sweep, tracking_of};
@@ -40,8 +40,8 @@ use crate::task::{put_end, task_of};
 use alloc_event::{Change, Forest, Node};
 use buffer_holds::{Holds, Spot};
 use buffer_pool::Pool;
-use core_state::asked::{Asked, changes_nothing, with_key};
 use core_state::clients::{count_waiting, first_waiting, has_joined, is_shut};
+use core_state::decision::{Decision, changes_nothing, with_key};
 use core_state::reading::with_end;
 use core_state::task::{carried_end, change_in, changed_by};
 use core_state::traits::{key_of, traits_of};
@@ -313,7 +313,7 @@ impl Core {
     }
 
     // Why a call is not made if memory is refused: `HistoryFull` comes first.
-    fn without_memory(&self) -> StepFault
+    fn out_of_memory_fault(&self) -> StepFault
         ensures { (result ≡ StepFault.HistoryFull)
             ↔ (self.now.limits.events ≤ self.now.events) }
     {
@@ -327,8 +327,8 @@ impl Core {
     // Decides the call: its answer, except for the key of a new node, and its effect. Looks the named
     // node up once.
     #[inline(always)]
-    pub(crate) fn asked_of(&self, client: ClientId, call: &Call) -> Asked
-        ensures { IsAsked self.now client call.now result }
+    pub(crate) fn decide(&self, client: ClientId, call: &Call) -> Decision
+        ensures { IsDecision self.now client call.now result }
     {
         let named = key_of(call);
         let node = self.named(named);
@@ -336,45 +336,45 @@ impl Core {
         let reply = answer(self, client, NO_KEY, call, &traits, with_end(node));
         let task = task_of(self, client, call, &reply, named, node);
         let tracking = tracking_of(self, call, &reply, node);
-        Asked {
+        Decision {
             reply,
             task,
             tracking,
         }
     }
 
-    // Makes the call that `asked_of` has decided, as `step` says.
+    // Makes the call that `decide` has decided, as `step` says.
     #[inline(always)]
-    pub(crate) fn take_asked(
+    pub(crate) fn commit(
         &mut self,
         client: ClientId,
         call: &Call,
-        asked: &Asked,
+        decision: &Decision,
     ) -> Result<Reply, StepFault>
-        requires { IsAsked self.old client call.now asked.now }
+        requires { IsDecision self.old client call.now decision.now }
         ensures { Stepped self.old self.new client call.now result }
     {
         if self.events >= self.limits.events() as u64 {
             return Err(StepFault::HistoryFull);
         }
-        if changes_nothing(call, &asked.reply) {
+        if changes_nothing(call, &decision.reply) {
             self.events = self.next_event();
-            return Ok(asked.reply);
+            return Ok(decision.reply);
         }
         let Ok(key) = take_effect(
             &mut self.contents,
             client,
             call,
-            &asked.reply,
-            &asked.task,
-            asked.tracking,
+            &decision.reply,
+            &decision.task,
+            decision.tracking,
         ) else {
             return Err(StepFault::NoMemory);
         };
         self.events += 1;
         let place = place_to_sweep(
-            changed_by(&asked.task),
-            asked.tracking,
+            changed_by(&decision.task),
+            decision.tracking,
             &self.contents.forest,
             &self.contents.holds,
         );
@@ -385,9 +385,9 @@ impl Core {
             &self.contents.forest,
             &self.contents.holds,
         );
-        let carried = carried_end(client, call, &asked.reply);
-        put_end(&mut self.contents.forest, &asked.task, carried);
-        Ok(with_key(asked.reply, key))
+        let carried = carried_end(client, call, &decision.reply);
+        put_end(&mut self.contents.forest, &decision.task, carried);
+        Ok(with_key(decision.reply, key))
     }
 
     /// Makes one call: answers it, makes its change and all that the change forces, puts its end where
@@ -432,7 +432,7 @@ impl Core {
         ensures memory { IfErr result (λ fault.
             takes_no_memory call ≡ true → fault ≡ StepFault.HistoryFull) }
     {
-        take_by_kind(self, client, call)
+        dispatch(self, client, call)
     }
 
     /// Makes calls in order, each as `step` does, and answers their replies in this order.
@@ -468,7 +468,7 @@ impl Core {
             GoesOn self.old self.new (entries calls.now fault.0.items)) }
     {
         let Ok(mut replies) = Vec::with_capacity(alloc, calls.len()) else {
-            return Err((Vec::new(alloc), self.without_memory()));
+            return Err((Vec::new(alloc), self.out_of_memory_fault()));
         };
         for (client, call) in calls {
             match self.step(*client, *call) {
@@ -518,6 +518,6 @@ impl Core {
     {
         // The core's own fields say that the change fits.
         let _limits = self.limits;
-        change_in(self.asked_of(client, call).task)
+        change_in(self.decide(client, call).task)
     }
 }

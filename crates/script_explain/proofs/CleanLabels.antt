@@ -1,12 +1,12 @@
 -- The labels of a line of bytes have no end of a line.
-use Rattle.std.proofs.Common.{◌≡◌, ℕ, zero, suc, ◌+◌, ◌<◌, ◌≤◌, ◌==◌, ◌&&◌, ◌||◌, nat_le, nat_lt, not, if◌then◌else◌, Bool, true, false, List, [], ◌∷◌, ◌++◌, length, Option, Some, None, refl, sym, ap, ◌∙◌, subst, arith}
+use Rattle.std.proofs.Common.{◌≡◌, ℕ, ◌+◌, ◌==◌, ◌&&◌, ◌||◌, nat_le, nat_lt, not, if◌then◌else◌, Bool, true, false, List, [], ◌∷◌, ◌++◌, length, Option, Some, None, refl, ap, ◌∙◌, arith}
 use Rattle.std.proofs.lemmas.Bool.Decides.{nat_tests}
 use Rattle.sm_names.specs.declared.call_parts.Product.{Product}
 use Rattle.sm_names.specs.declared.call_rows.CallKind.{CallKind}
 use Rattle.sm_names.specs.CallRows.{brings_end, is_tracker, kind_named, row_of}
 use Rattle.std.proofs.lemmas.List.Folds.{list_all-append}
 use Rattle.std.specs.Prelude.{IfSome, codes}
-use Rattle.std.specs.List.{list_all, flat_map}
+use Rattle.std.specs.List.{list_all}
 use Rattle.std.specs.Option.{option_map, option_and_then}
 use Rattle.std.specs.Str.{bytes_eq}
 use Rattle.script_lines.specs.declared.TheConstants.{MOST_LINE_BYTES}
@@ -14,8 +14,7 @@ use Rattle.script_lines.specs.declared.buffer_label.BufferLabel.{BufferLabel}
 use Rattle.script_lines.specs.declared.label.Label.{Label}
 use Rattle.script_lines.specs.declared.line.Line.{Line}
 use Rattle.script_lines.specs.declared.line.Request.{Request}
-use Rattle.script_lines.specs.declared.line.View.{View}
-use Rattle.script_lines.specs.Labels.{is_digit, is_label, is_letter, label_of, packed, spelled, text_of_label}
+use Rattle.script_lines.specs.Labels.{is_digit, is_label, is_letter, label_of, packed, text_of_label}
 use Rattle.script_lines.specs.Lines.{argument_read, ask_of, asked_of, at_end, binds_read, call_read, first_read, is_silent, line_of, object_read, poll_of, request_of, said_of, show_of, view_of}
 use Rattle.script_lines.specs.Words.{words}
 use Rattle.script_lines.proofs.Digits.{spelled-word}

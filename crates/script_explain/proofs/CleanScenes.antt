@@ -1,10 +1,10 @@
 -- The replies of a script's lines are lines, and begin with no space.
-use Rattle.std.proofs.Common.{◌≡◌, ℕ, zero, suc, ◌+◌, ◌/◌, ◌%◌, ◌==◌, ◌&&◌, nat_lt, not, if◌then◌else◌, Bool, true, false, List, [], ◌∷◌, ◌++◌, map, Option, Some, None, refl, sym, ap, ◌∙◌, subst, inl, inr, ◌⊎◌, arith}
+use Rattle.std.proofs.Common.{◌≡◌, ℕ, zero, suc, ◌+◌, ◌/◌, ◌%◌, ◌==◌, nat_lt, not, if◌then◌else◌, Bool, true, false, List, [], ◌∷◌, map, Option, Some, None, refl, sym, subst, inl, inr, arith}
 use Rattle.std.proofs.lemmas.Bool.Decides.{nat_tests}
-use Rattle.std.specs.Prelude.{IfSome, codes}
+use Rattle.std.specs.Prelude.{IfSome}
 use Rattle.std.specs.Fmt.{decimal, digits, digits_onto, digit_glyph}
 use Rattle.std.specs.List.{list_all, flat_map}
-use Rattle.std.specs.Option.{option_map, option_map_or, option_and_then}
+use Rattle.std.specs.Option.{option_map, option_map_or}
 use Rattle.std.specs.Int.{bit_at}
 use Rattle.sm_names.specs.declared.rules.TheConstants.{MAX_BUFFERS}
 use Rattle.sm_names.specs.declared.call_parts.Product.{Product}
@@ -38,11 +38,11 @@ use Rattle.script_lines.specs.Lines.{line_of}
 use Rattle.script_faults.specs.IndentedLines.{is_indented}
 use Rattle.script_labels.specs.declared.act.Act.{Act}
 use Rattle.script_labels.specs.declared.act.Binds.{Binds}
-use Rattle.script_labels.specs.Names.{Names, Place, act_binding, act_in, act_of, ask_by, call_named, labelled_client, first_label, for_new, for_tracker, label_of_node, label_of_root, label_of_tracker, names_after, labelled_node, labelled_place, labelled_tracker, with_labelled_client, with_labelled_node, with_labelled_tracker}
-use Rattle.sm_script.specs.Scenes.{Answers, ActGives, IsPolled, Scene, as_line, next_scene}
+use Rattle.script_labels.specs.Names.{Names, Place, act_binding, act_in, act_of, ask_by, call_named, labelled_client, first_label, for_new, for_tracker, label_of_node, label_of_root, label_of_tracker, names_after, labelled_tracker}
+use Rattle.sm_script.specs.Scenes.{Answers, ActGives, IsPolled, Scene, as_line}
 use Rattle.script_lines.specs.LineTexts.{strength_name}
-use Rattle.script_labels.specs.Texts.{bound_text, buffer_text, cause_text, failure_name, fired_text, held_text, kind_name, member_text, node_text, numbered, poll_text, reply_text, view_text}
-use Rattle.script_explain.proofs.CleanLabels.{IsClean, IsCleanBinds, IsCleanLine, and-left, and-right, inner-append, is_inner, line-clean, some-if, some-map, some-then, some-then-of}
+use Rattle.script_labels.specs.Texts.{bound_text, buffer_text, cause_text, failure_name, fired_text, held_text, member_text, node_text, numbered, reply_text, view_text}
+use Rattle.script_explain.proofs.CleanLabels.{IsCleanBinds, IsCleanLine, and-left, and-right, inner-append, is_inner, line-clean, some-if, some-map, some-then, some-then-of}
 
 -- ---- numbers
 

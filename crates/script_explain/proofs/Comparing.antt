@@ -1,8 +1,8 @@
 -- A comparison that goes on by one line, or stops at it.
-use Rattle.std.proofs.Common.{◌≡◌, ◌≢◌, ℕ, ◌+◌, ◌-◌, ◌^◌, ◌<◌, ◌≤◌, min, Bool, true, false, if◌then◌else◌, List, [], ◌∷◌, ◌++◌, drop, length, length-append, append_assoc, append-nil, refl, sym, ap, ◌∙◌, subst, Option, Some, None, inl, inr, arith}
+use Rattle.std.proofs.Common.{◌≡◌, ◌≢◌, ℕ, ◌+◌, ◌-◌, ◌^◌, ◌<◌, ◌≤◌, min, Bool, true, false, if◌then◌else◌, List, [], ◌∷◌, ◌++◌, drop, length, length-append, append_assoc, refl, sym, ap, ◌∙◌, subst, Option, Some, None, inl, inr, arith}
 use Rattle.std.proofs.KnownBytes.{Keeps-refl}
 use Rattle.std.specs.Prelude.{Ok, Err, Result, IfOk, IfErr}
-use Rattle.std.specs.Io.KnownBytes.{Consumes, IsAtEnd, Keeps}
+use Rattle.std.specs.Io.KnownBytes.{Consumes, IsAtEnd}
 use Rattle.script_lines.specs.declared.TheConstants.{MOST_BYTES}
 use Rattle.script_lines.specs.Pieces.{whole_lines, last_part}
 use Rattle.script_faults.specs.declared.fault.ReportFault.{ReportFault}
@@ -18,8 +18,8 @@ use Rattle.sm_script.specs.Sessions.{Advances, IsAt, IsStopped}
 use Rattle.sm_script.proofs.Playing.{plays-more}
 use Rattle.script_explain.specs.declared.check.Comparison.{Comparison}
 use Rattle.script_explain.specs.declared.check.Verdict.{Verdict}
-use Rattle.script_explain.specs.Comparisons.{Agreement, Agrees, Begins, Remarks, Replies, Plays, CheckStops, Checks, Difference, EndsChecked, FullAgreement, IsJudged, IsRemark, IsUnchecked, ComparisonLinesStop, TranscriptPlace, Records, ComparisonStopped, agreement_text, checking_status, compared, played, told_difference}
-use Rattle.script_explain.specs.Progress.{CheckHalted, Compared, Ended, Judges, comparison_place}
+use Rattle.script_explain.specs.Comparisons.{Agreement, Agrees, Begins, Remarks, Replies, Plays, Checks, Difference, EndsChecked, FullAgreement, IsJudged, IsRemark, IsUnchecked, ComparisonLinesStop, TranscriptPlace, Records, ComparisonStopped, agreement_text, checking_status, told_difference}
+use Rattle.script_explain.specs.Progress.{CheckHalted, Compared, Ended, comparison_place}
 
 -- the lines that are not indented are played, one after another
 pub agrees-plays : (pool : ℕ) (lines : List (List ℕ)) (at : TranscriptPlace) → Agrees pool lines at →

@@ -2,17 +2,17 @@
 use Rattle.std.proofs.Common.{◌≡◌, ◌≢◌, ℕ, ◌+◌, ◌≤◌, List, [], ◌∷◌, ◌++◌, length, append_assoc, append-nil, refl, sym, ap, ◌∙◌, subst, Option, inl, inr, arith}
 use Rattle.std.proofs.KnownBytes.{Appends-nil, Appends-trans, Keeps-refl}
 use Rattle.std.specs.Prelude.{Ok, Err, Result, OnOk, IfErr}
-use Rattle.std.specs.Io.KnownBytes.{Appends, Consumes, IsAtEnd, Keeps}
+use Rattle.std.specs.Io.KnownBytes.{Appends, Consumes, IsAtEnd}
 use Rattle.script_lines.specs.declared.TheConstants.{MOST_BYTES}
 use Rattle.script_lines.specs.Pieces.{whole_lines, last_part}
 use Rattle.script_lines.specs.Written.{WritesPart}
 use Rattle.script_faults.specs.declared.fault.ReportFault.{ReportFault}
-use Rattle.script_faults.specs.Faults.{IsBadLine, IsReported, fault_status}
-use Rattle.script_faults.specs.Streams.{Came, IsUnread}
+use Rattle.script_faults.specs.Faults.{IsBadLine, IsReported}
+use Rattle.script_faults.specs.Streams.{IsUnread}
 use Rattle.sm_script.specs.declared.session.Session.{Session}
 use Rattle.sm_script.specs.Scenes.{Rests, Setting, first_scene}
-use Rattle.script_explain.specs.Explanations.{EndsExplained, Explains, Explanation, ExplanationStops, ExplanationCutOff, IsExplained, IsUnexplained, ExplanationLinesStop, LinesTold, explaining_status}
-use Rattle.script_explain.specs.Progress.{Explained, Halted, IsHalted, LinesHalted, ExplainedSoFar}
+use Rattle.script_explain.specs.Explanations.{EndsExplained, Explains, ExplanationCutOff, IsExplained, IsUnexplained, ExplanationLinesStop, LinesTold, explaining_status}
+use Rattle.script_explain.specs.Progress.{Halted, IsHalted, LinesHalted, ExplainedSoFar}
 use Rattle.script_explain.specs.Tales.{Begins}
 use Rattle.script_explain.proofs.Telling.{far-pending, pending-cut, pending-told}
 

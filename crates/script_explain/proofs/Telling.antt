@@ -10,10 +10,10 @@ use Rattle.sm_script.proofs.Settings.{legal-in, over-in}
 use Rattle.script_faults.proofs.Unindented.{unindented-more, unindented-skip}
 use Rattle.sm_script.specs.declared.session.Session.{Session}
 use Rattle.script_labels.specs.declared.stop.Stop.{Stop}
-use Rattle.sm_script.specs.Scenes.{Answers, LeadsTo, Plays, Rests, Scene, Setting, first_scene}
+use Rattle.sm_script.specs.Scenes.{Answers, Plays, Rests, Scene, Setting, first_scene}
 use Rattle.sm_script.specs.Sessions.{Advances, IsAt, IsStopped}
 use Rattle.sm_script.proofs.Playing.{plays-more}
-use Rattle.script_explain.specs.Explanations.{Explanation, ExplanationCutOff, IsExplained}
+use Rattle.script_explain.specs.Explanations.{ExplanationCutOff, IsExplained}
 use Rattle.script_explain.specs.Progress.{Halted, IsPending, ExplainedSoFar}
 use Rattle.script_explain.specs.Tales.{ExplainsLines, Begins, Passes, Goes, told_line}
 

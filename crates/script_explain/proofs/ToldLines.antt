@@ -8,11 +8,10 @@ use Rattle.std.specs.List.{flat_map, list_all}
 use Rattle.script_lines.specs.Pieces.{lines_from, rest_from, whole_lines, last_part}
 use Rattle.script_lines.proofs.Piecing.{lines-append, rest-append}
 use Rattle.script_faults.specs.IndentedLines.{fact_line, indented, is_indented, unindented}
-use Rattle.script_labels.specs.Names.{no_names}
 use Rattle.sm_script.specs.Scenes.{Scene, as_line, first_scene}
 use Rattle.script_explain.specs.Tales.{ExplainsLines, Begins, Passes, Goes, indent, replies_in, told_line}
 use Rattle.script_explain.proofs.CleanLabels.{and-left, and-right, inner-append, is_inner}
-use Rattle.script_explain.proofs.CleanScenes.{AreClean, Cleanly, IsReply, NoReply, OneReply, answers-clean}
+use Rattle.script_explain.proofs.CleanScenes.{AreClean, IsReply, NoReply, OneReply, answers-clean}
 use Rattle.script_faults.proofs.Unindented.{unindented-more, unindented-skip}
 
 -- the text consists of these whole lines

@@ -1,5 +1,5 @@
 -- What stands behind a mark.
-use Rattle.std.proofs.Common.{◌≡◌, ◌∙◌, ap, sym, refl, ℕ, List, Option, Some, None}
+use Rattle.std.proofs.Common.{◌≡◌, ◌∙◌, ap, List, Option, Some, None}
 use Rattle.std.specs.Option.{IfSome, option_and_then, option_map}
 use Rattle.sm_names.specs.declared.keys.HeldBuffer.{HeldBuffer}
 use Rattle.sm_names.specs.declared.outcomes.Buffers.{Buffers}

@@ -1,5 +1,5 @@
 -- Parts that make a call are its parts.
-use Rattle.std.proofs.Common.{ℕ, ◌≡◌, refl, sym, ap, ◌∙◌, Option, Some, None}
+use Rattle.std.proofs.Common.{ℕ, ◌≡◌, refl, sym, ap, ◌∙◌, Some}
 use Rattle.std.specs.Option.{option_map}
 use Rattle.sm_names.specs.declared.call_parts.Argument.{Argument}
 use Rattle.sm_names.specs.declared.call_rows.CallKind.{CallKind}

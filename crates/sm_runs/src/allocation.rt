@@ -33,8 +33,8 @@ pub fn buffers_are_allocated()
         ⊥ }
 {}
 
-/// What two participants camp on is summed: 64 buffers are allocated and 65 fail the collection, and that before the
-/// pool is looked at.
+/// What two participants camp on is summed: 64 buffers are allocated and 65 fail the collection, and
+/// that before the pool is looked at.
 pub fn no_more_than_64_buffers_are_allocated()
     ensures most_buffers { IsLegal 64 full most_buffers }
     ensures free_1 { free_pages 64 (timeline 64 most_buffers) ≡ 0 }

@@ -1,5 +1,5 @@
 -- From the ends of actors to what is gathered. No public clause cites this module.
-use Rattle.std.specs.Prelude.{◌≡◌, ℕ, ◌==◌, if◌then◌else◌, List, [], ◌∷◌, ◌++◌, length, reverse, Option, Some, None, ◌⊎◌, ⊤}
+use Rattle.std.specs.Prelude.{◌≡◌, ℕ, ◌==◌, if◌then◌else◌, List, [], ◌∷◌, ◌++◌, reverse, Option, Some, None, ◌⊎◌, ⊤}
 use Rattle.std.specs.List.{All, AllZip}
 use Rattle.std.specs.Option.{option_or}
 use Rattle.sm_names.specs.declared.outcomes.StepFault.{StepFault}

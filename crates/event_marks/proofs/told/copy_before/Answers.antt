@@ -1,4 +1,4 @@
-use Rattle.std.proofs.Common.{◌≡◌, ◌∙◌, refl, ap, sym, subst, Option, Some, None}
+use Rattle.std.proofs.Common.{◌∙◌, refl, ap, sym, subst, Option, None}
 use Rattle.std.specs.List.{list_any}
 use Rattle.forest_store.specs.Forest.{Collection}
 use Rattle.forest_store.specs.Nodes.{is_of}

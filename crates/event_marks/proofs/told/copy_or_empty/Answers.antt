@@ -1,4 +1,4 @@
-use Rattle.std.proofs.Common.{◌≡◌, ◌∙◌, ap, sym, subst, option_map, [], Option, None}
+use Rattle.std.proofs.Common.{◌∙◌, ap, sym, subst, option_map, [], Option, None}
 use Rattle.std.specs.Option.{IfSome, unwrap_or}
 use Rattle.forest_store.specs.Forest.{Collection}
 use Rattle.forest_store.specs.Scenes.{IsSound}

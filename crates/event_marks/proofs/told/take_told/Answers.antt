@@ -1,4 +1,4 @@
-use Rattle.std.proofs.Common.{◌≡◌, ◌∙◌, ◌∷◌, [], ap, sym, subst, map, List, Option, Some, None}
+use Rattle.std.proofs.Common.{◌∙◌, ◌∷◌, [], ap, sym, subst, map, List, Option}
 use Rattle.sm_names.specs.Marks.{Called, Mark}
 use Rattle.sm_names.specs.Timelines.{timeline}
 use Rattle.core_state.specs.Steps.{work_of}

@@ -10,19 +10,19 @@ use Rattle.lifetime_core.proofs.event.take_effect.Goals as goal
 -- only the count of the dropped handle goes down
 pub make_change-requires-clause-others : goal.make_change-requires-clause-others
 make_change-requires-clause-others c =
-    others_stay c.args.contents.now.holds c.hand_over.new.holds c.args.contents.now.forest c.args.client c.args.call.now c.args.asked.now
-    c.args.task.now c.requires.out c.in_ok-hand_over.ensures.ok c.requires.may c.requires.asks
+    others_stay c.args.contents.now.holds c.apply_handles.new.holds c.args.contents.now.forest c.args.client c.args.call.now c.args.asked.now
+    c.args.task.now c.requires.out c.in_ok-apply_handles.ensures.ok c.requires.may c.requires.asks
 
 pub returns-clause-ok : goal.returns-clause-ok
 returns-clause-ok c =
-    let same : counts_of c.tidy_up.new.holds ≡ counts_of c.hand_over.new.holds = c.tidy_up.ensures.counts in
+    let same : counts_of c.tidy_up.new.holds ≡ counts_of c.apply_handles.new.holds = c.tidy_up.ensures.counts in
     record {
       key = c.in-Ok-make_change.key;
       told = refl;
       clients = c.in-Ok-note_client.ensures.ok;
-      handles = moves_to c.args.contents.now.holds c.hand_over.new.holds c.tidy_up.new.holds
+      handles = moves_to c.args.contents.now.holds c.apply_handles.new.holds c.tidy_up.new.holds
           (Called c.args.client c.args.asked.now c.args.call.now)
-          c.in_ok-hand_over.ensures.ok same;
+          c.in_ok-apply_handles.ensures.ok same;
       work = subst (λ (h : Handles). Reworked c.args.contents.now.pool.size h c.args.contents.now.forest
           (work_in c.args.task.now) c.in-Ok-make_change.key
           c.make_change.new.forest)

@@ -1,4 +1,4 @@
-use Rattle.std.proofs.Common.{◌≡◌, ◌∙◌, sym, ℕ, ◌+◌, ◌-◌, ◌<◌, ◌≤◌, List, [], ◌∷◌, ◌++◌, arith, length, Option}
+use Rattle.std.proofs.Common.{◌≡◌, ◌∙◌, sym, ℕ, ◌<◌, ◌≤◌, List, [], ◌∷◌, ◌++◌, arith, length, Option}
 use Rattle.picture_layout.specs.Layouts.{column_of, parent_place, taken_columns}
 use Rattle.picture_layout.proofs.Places.{column-more, columns-end}
 use Rattle.picture_layout.proofs.layout.columns_of.Goals as goal

@@ -1,4 +1,4 @@
-use Rattle.std.proofs.Common.{◌≡◌, ◌∙◌, sym, inl, inr, arith}
+use Rattle.std.proofs.Common.{◌∙◌, sym, inl, inr, arith}
 use Rattle.script_draw.proofs.Outcomes.{all-played, drawn-all, event-played, no-event}
 use Rattle.script_draw.proofs.draw.draw_asked.Goals as goal
 

@@ -1,4 +1,3 @@
-use Rattle.std.proofs.Common.{◌≡◌, ℕ, List, Option, refl}
 use Rattle.std.proofs.lemmas.Result.{on_ok_weaker, IfErr-weaker}
 use Rattle.script_draw.proofs.Outcomes.{IsRefused, pictures-so-far}
 use Rattle.script_draw.proofs.draw.write_picture.Goals as goal

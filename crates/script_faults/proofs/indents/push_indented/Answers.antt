@@ -1,4 +1,4 @@
-use Rattle.std.proofs.Common.{◌≡◌, ◌∙◌, ◌++◌, ◌+◌, drop, take, append_assoc, append-nil, ap, sym}
+use Rattle.std.proofs.Common.{◌∙◌, ◌++◌, ◌+◌, drop, take, append_assoc, append-nil, ap, sym}
 use Rattle.std.proofs.lemmas.List.{take_rest}
 use Rattle.script_faults.specs.IndentedLines.{fact_line, indented}
 use Rattle.script_faults.proofs.Indenting.{indented-first, indented-none}

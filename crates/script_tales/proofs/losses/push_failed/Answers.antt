@@ -1,4 +1,4 @@
-use Rattle.std.proofs.Common.{◌≡◌, ◌∙◌, ◌++◌, ℕ, ap}
+use Rattle.std.proofs.Common.{◌∙◌, ◌++◌, ℕ, ap}
 use Rattle.std.proofs.lemmas.Result.{on_ok_weaker}
 use Rattle.script_tales.specs.LossTexts.{asked_camping, asked_least, failure_text}
 use Rattle.script_tales.proofs.losses.push_failed.Goals as goal

@@ -1,5 +1,5 @@
 -- None lie behind the place at the end.
-use Rattle.std.proofs.Common.{◌≡◌, ◌≤◌, ◌∙◌, ◌++◌, arith, length, sym, List}
+use Rattle.std.proofs.Common.{◌≤◌, ◌∙◌, ◌++◌, arith, length, sym, List}
 use Rattle.std.proofs.lemmas.List.{append-nil, take_all, drop_all}
 use Rattle.sm_names.specs.declared.keys.Interval.{Interval}
 use Rattle.buffer_pool.specs.Holdings.{run_of}

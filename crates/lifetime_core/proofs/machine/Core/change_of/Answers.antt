@@ -21,13 +21,13 @@ pub returns-clause-value : goal.returns-clause-value
 returns-clause-value c reply is =
     c.change_in.ensures
     ∙ ap (option_map (λ (w : Work). (w.collection, w.change)))
-    (work_answered c.args.self.now c.args.client c.args.call.now c.asked_of.result.reply (work_in c.asked_of.result.task)
-    c.asked_of.ensures.reply c.asked_of.ensures.work reply is)
+    (work_answered c.args.self.now c.args.client c.args.call.now c.decide.result.reply (work_in c.decide.result.task)
+    c.decide.ensures.reply c.decide.ensures.work reply is)
 
 pub returns-clause-may : goal.returns-clause-may
 returns-clause-may c =
     subst (λ (o : Option (ℕ × Change)). IfSome o (λ w. MayChange c.args.self.now.forest w.0 w.1)) (sym c.change_in.ensures)
-    (of_pair (MayChange c.args.self.now.forest) (work_in c.asked_of.result.task)
+    (of_pair (MayChange c.args.self.now.forest) (work_in c.decide.result.task)
     (λ w e. (is_fitting c.self.inside.contents.pool (record {
       pool = c.self.inside.contents.pool.size;
       limits = c.self.inside.limits;
@@ -36,13 +36,13 @@ returns-clause-may c =
       forest = c.self.inside.contents.forest;
       holds = c.self.inside.contents.holds;
       trackers = c.self.inside.contents.trackers;
-    }) c.args.self.now c.args.client c.args.call.now c.asked_of.result.reply c.self.view_is c.self.invariant
-    c.asked_of.ensures.reply w (sym e ∙ c.asked_of.ensures.work)).may))
+    }) c.args.self.now c.args.client c.args.call.now c.decide.result.reply c.self.view_is c.self.invariant
+    c.decide.ensures.reply w (sym e ∙ c.decide.ensures.work)).may))
 
 pub returns-clause-room : goal.returns-clause-room
 returns-clause-room c =
     subst (λ (o : Option (ℕ × Change)). IfSome o (λ w. leaves_tracker_room w.1 (collection_or_new c.args.self.now.forest w.0).nodes ≡ true)) (sym c.change_in.ensures)
-    (of_pair (λ id change. leaves_tracker_room change (collection_or_new c.args.self.now.forest id).nodes ≡ true) (work_in c.asked_of.result.task)
+    (of_pair (λ id change. leaves_tracker_room change (collection_or_new c.args.self.now.forest id).nodes ≡ true) (work_in c.decide.result.task)
     (λ w e. (is_fitting c.self.inside.contents.pool (record {
       pool = c.self.inside.contents.pool.size;
       limits = c.self.inside.limits;
@@ -51,15 +51,15 @@ returns-clause-room c =
       forest = c.self.inside.contents.forest;
       holds = c.self.inside.contents.holds;
       trackers = c.self.inside.contents.trackers;
-    }) c.args.self.now c.args.client c.args.call.now c.asked_of.result.reply c.self.view_is c.self.invariant
-    c.asked_of.ensures.reply w (sym e ∙ c.asked_of.ensures.work)).room))
+    }) c.args.self.now c.args.client c.args.call.now c.decide.result.reply c.self.view_is c.self.invariant
+    c.decide.ensures.reply w (sym e ∙ c.decide.ensures.work)).room))
 
 pub returns-clause-fresh : goal.returns-clause-fresh
 returns-clause-fresh c =
     subst (λ (o : Option (ℕ × Change)). IfSome o (λ w. (key : NodeKey) → given c.args.self.now.forest key ≡ false →
     list_any (is_of key) (collection_or_new c.args.self.now.forest w.0).nodes ≡ false)) (sym c.change_in.ensures)
     (of_pair (λ id change. (key : NodeKey) → given c.args.self.now.forest key ≡ false →
-    list_any (is_of key) (collection_or_new c.args.self.now.forest id).nodes ≡ false) (work_in c.asked_of.result.task)
+    list_any (is_of key) (collection_or_new c.args.self.now.forest id).nodes ≡ false) (work_in c.decide.result.task)
     (λ w e. (is_fitting c.self.inside.contents.pool (record {
       pool = c.self.inside.contents.pool.size;
       limits = c.self.inside.limits;
@@ -68,5 +68,5 @@ returns-clause-fresh c =
       forest = c.self.inside.contents.forest;
       holds = c.self.inside.contents.holds;
       trackers = c.self.inside.contents.trackers;
-    }) c.args.self.now c.args.client c.args.call.now c.asked_of.result.reply c.self.view_is c.self.invariant
-    c.asked_of.ensures.reply w (sym e ∙ c.asked_of.ensures.work)).fresh))
+    }) c.args.self.now c.args.client c.args.call.now c.decide.result.reply c.self.view_is c.self.invariant
+    c.decide.ensures.reply w (sym e ∙ c.decide.ensures.work)).fresh))

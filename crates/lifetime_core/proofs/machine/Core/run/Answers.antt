@@ -45,12 +45,12 @@ returns-in_default-clause-goes_on_some c = goes_none c.args.self.now c.args.call
 
 pub returns-in_default-clause-stopped : goal.returns-in_default-clause-stopped
 returns-in_default-clause-stopped c =
-    stops_at_once c.args.self.now c.args.calls.now c.new.result.items c.without_memory.result c.new.ensures.items
+    stops_at_once c.args.self.now c.args.calls.now c.new.result.items c.out_of_memory_fault.result c.new.ensures.items
 
 pub returns-in_default-clause-untaken_some : goal.returns-in_default-clause-untaken_some
 returns-in_default-clause-untaken_some c =
-    stopped_untaken c.args.self.now c.args.self.now (entries c.args.calls.now c.new.result.items) c.without_memory.result
-    (stops_at_once c.args.self.now c.args.calls.now c.new.result.items c.without_memory.result c.new.ensures.items)
+    stopped_untaken c.args.self.now c.args.self.now (entries c.args.calls.now c.new.result.items) c.out_of_memory_fault.result
+    (stops_at_once c.args.self.now c.args.calls.now c.new.result.items c.out_of_memory_fault.result c.new.ensures.items)
 
 -- a call was not taken
 pub returns-in-Err-clause-stopped : goal.returns-in-Err-clause-stopped

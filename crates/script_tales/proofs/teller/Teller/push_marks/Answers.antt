@@ -1,4 +1,4 @@
-use Rattle.std.proofs.Common.{◌≡◌, ◌∙◌, ap, sym, ℕ, List, Option, ◌++◌, append_assoc, append-nil}
+use Rattle.std.proofs.Common.{◌∙◌, ap, sym, ℕ, List, ◌++◌, append_assoc, append-nil}
 use Rattle.std.proofs.lemmas.List.{nil_from_length}
 use Rattle.core_state.specs.Reads.{views_of}
 use Rattle.event_marks.specs.declared.told.Moment.{Moment}

@@ -4,7 +4,7 @@ use Rattle.sm_names.specs.Marks.{Called}
 use Rattle.core_state.specs.Hands.{is_the}
 use Rattle.core_state.proofs.handles.Opening.{same_before, has_one}
 use Rattle.core_state.proofs.handles.Undoing.{taken_opens, doubled_opens, undrops, ungives, opened, moved_none, not_taken, not_doubled, not_dropped, not_handed, not_handles}
-use Rattle.core_state.proofs.hands.hand_back.Goals as goal
+use Rattle.core_state.proofs.hands.undo_handles.Goals as goal
 
 pub returns-in-Taken-clause-counts : goal.returns-in-Taken-clause-counts
 returns-in-Taken-clause-counts c = λ before moves.

@@ -8,7 +8,7 @@ use Rattle.forest_store.specs.Forest.{node_at}
 use Rattle.core_state.specs.Reads.{node_named}
 use Rattle.core_state.specs.State.{State}
 use Rattle.core_state.proofs.answers.Order.{end_of_named}
-use Rattle.lifetime_core.proofs.machine.Core.asked_of.Goals as goal
+use Rattle.lifetime_core.proofs.machine.Core.decide.Goals as goal
 
 -- the end that is asked about is that of the node that the call names
 pub answer-reply-requires : goal.answer-reply-requires

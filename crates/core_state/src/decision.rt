@@ -1,4 +1,4 @@
-//! What is found of a call before anything changes.
+//! What is decided of a call before anything changes.
 ghost use Rattle.std.specs.Prelude.{◌≡◌};
 ghost use Rattle.core_state.specs.Tasks.{changes_nothing as is_idle, with_key as keyed_by};
 
@@ -6,10 +6,10 @@ use crate::task::Task;
 use sm_names::{Call, NodeKey, Reply};
 use trackers::Waiting;
 
-/// What is answered to a call, but for the key of a new node, and what the call does then, found
-/// before anything changes.
+/// What a core decides of a call before anything changes: the answer, except for the key of a new
+/// node, the task that the call brings, and the tracker that it attaches.
 #[derive(Clone, Copy)]
-pub struct Asked {
+pub struct Decision {
     pub reply: Reply,
     pub task: Option<Task>,
     pub tracking: Option<Waiting>,

@@ -3,7 +3,7 @@ use Rattle.std.proofs.lemmas.Bool.{OnTrue_at}
 use Rattle.std.proofs.lemmas.Result.{on_ok_weaker}
 use Rattle.core_state.proofs.handles.Opening.{of-le-total}
 use Rattle.core_state.proofs.handles.Undoing.{moves_taken, moves_dropped, moves_given, moves_collected}
-use Rattle.core_state.proofs.hands.hand_over.Goals as goal
+use Rattle.core_state.proofs.hands.apply_handles.Goals as goal
 
 pub returns-in-Taken-clause-ok : goal.returns-in-Taken-clause-ok
 returns-in-Taken-clause-ok c =

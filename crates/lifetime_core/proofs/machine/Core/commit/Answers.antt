@@ -5,9 +5,9 @@ use Rattle.core_state.proofs.theorem.EventParts.{alone, can_carry, finishes, lan
 use Rattle.core_state.proofs.theorem.Idle.{idle_whole}
 use Rattle.core_state.proofs.forced.StillOut.{asks_only}
 use Rattle.core_state.proofs.theorem.Fields.{above, fits, moves, none_elsewhere, whole_same, whole_then}
-use Rattle.lifetime_core.proofs.machine.Core.take_asked.Answers.Points.{before, begun, idle, made}
-use Rattle.lifetime_core.proofs.machine.Core.take_asked.Answers.Replies.{idle_returns, made_returns, refused_returns}
-use Rattle.lifetime_core.proofs.machine.Core.take_asked.Goals as goal
+use Rattle.lifetime_core.proofs.machine.Core.commit.Answers.Points.{before, begun, idle, made}
+use Rattle.lifetime_core.proofs.machine.Core.commit.Answers.Replies.{idle_returns, made_returns, refused_returns}
+use Rattle.lifetime_core.proofs.machine.Core.commit.Goals as goal
 mod Points
 mod Replies
 
@@ -18,15 +18,15 @@ take_effect-requires c =
     let b = begun (goal.at.take_effect-requires c).After-changes_nothing in
     record {
       clients = c.self.invariant.rising;
-      handles = moves _ _ _ _ c.args.asked.now.reply _ _ b;
+      handles = moves _ _ _ _ c.args.decision.now.reply _ _ b;
       may = b.may;
       asks = asks_only s c.args.client _ _ _ b.work;
       out = c.self.invariant.out;
       pool = c.self.invariant.pages;
-      rising = above _ _ _ _ c.args.asked.now.reply _ _ b;
-      room = fits _ _ _ _ c.args.asked.now.reply _ _ b;
-      alone = alone _ _ _ _ c.args.asked.now.reply _ _ b;
-      lands = lands _ _ _ _ c.args.asked.now.reply _ _ b;
+      rising = above _ _ _ _ c.args.decision.now.reply _ _ b;
+      room = fits _ _ _ _ c.args.decision.now.reply _ _ b;
+      alone = alone _ _ _ _ c.args.decision.now.reply _ _ b;
+      lands = lands _ _ _ _ c.args.decision.now.reply _ _ b;
     }
 
 -- the call changes nothing, and the fields are still whole
@@ -77,7 +77,7 @@ invariant_of-self-2 c =
     let parts = made (goal.at.invariant_of-self-2 c).In-Ok in
     whole_then _ _ _ _ _ _ _ b parts c.in-Ok.ensures.ok c.self.inside.contents.pool c.take_effect.new.contents.pool
     c.put_end.new.forest
-    (end_placed c.args.asked.now.task c.carried_end-carried.result) c.sweep.new.trackers c.self.invariant c.take_effect.ensures.size
+    (end_placed c.args.decision.now.task c.carried_end-carried.result) c.sweep.new.trackers c.self.invariant c.take_effect.ensures.size
     c.take_effect.ensures.pool c.put_end.ensures.held c.take_effect.ensures.limit
     (omega arith) (omega arith) c.put_end.ensures.collections c.put_end.ensures.keys c.put_end.ensures.sound c.put_end.ensures.ids
     c.sweep.ensures

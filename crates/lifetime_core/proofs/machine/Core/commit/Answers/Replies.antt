@@ -1,4 +1,4 @@
--- What `take_asked` answers: the reply, the state that follows, and the history that the core then shows.
+-- What `commit` answers: the reply, the state that follows, and the history that the core then shows.
 use Rattle.std.proofs.Common.{◌≡◌, ◌<◌, ◌+◌, ap, sym, ◌∙◌, None, arith, rules}
 use Rattle.sm_names.specs.Answers.{key_told}
 use Rattle.core_state.specs.Reads.{readings_of}
@@ -10,8 +10,8 @@ use Rattle.core_state.proofs.handles.Standing.{takes_none}
 use Rattle.core_state.proofs.theorem.GoesOn.{goes_on}
 use Rattle.core_state.proofs.theorem.Idle.{further, idle_follows, parts_of}
 use Rattle.core_state.proofs.theorem.Leads.{untaken_after}
-use Rattle.lifetime_core.proofs.machine.Core.take_asked.Answers.Points.{before, begun, idle, made}
-use Rattle.lifetime_core.proofs.machine.Core.take_asked.Goals as goal
+use Rattle.lifetime_core.proofs.machine.Core.commit.Answers.Points.{before, begun, idle, made}
+use Rattle.lifetime_core.proofs.machine.Core.commit.Goals as goal
 
 -- a call that changes nothing is answered so, and the new state follows
 pub idle_returns : goal.returns-then-changes_nothing
@@ -25,13 +25,13 @@ idle_returns c =
     let room : s.events < s.limits.events = omega arith in
     rw (next, ← c.self.view_is) (record {
       answer = answers;
-      kind = reply-fits s.limits (readings_of s) c.args.client (key_told c.args.asked.now.reply) c.args.call.now c.args.asked.now.reply
+      kind = reply-fits s.limits (readings_of s) c.args.client (key_told c.args.decision.now.reply) c.args.call.now c.args.decision.now.reply
           answers.told;
       after = follows;
-      goes_on = goes_on s (further _ _ _ _ i) c.args.client c.args.call.now c.args.asked.now.reply
+      goes_on = goes_on s (further _ _ _ _ i) c.args.client c.args.call.now c.args.decision.now.reply
           answers follows room;
       untaken = untaken_after s (further _ _ _ _ i) c.args.client c.args.call.now
-          c.args.asked.now.reply answers follows;
+          c.args.decision.now.reply answers follows;
       kept = search rules;
       equal = search rules;
       stays = search rules;
@@ -76,12 +76,12 @@ made_returns c =
     let room : s.events < s.limits.events = omega arith in
     rw c.with_key.ensures (record {
       answer = rw (← c.self.view_is) answers;
-      kind = reply-fits s.limits (readings_of s) c.args.client (key_told (with_key c.args.asked.now.reply c.in-Ok.key)) c.args.call.now
-          (with_key c.args.asked.now.reply c.in-Ok.key) answers.told;
+      kind = reply-fits s.limits (readings_of s) c.args.client (key_told (with_key c.args.decision.now.reply c.in-Ok.key)) c.args.call.now
+          (with_key c.args.decision.now.reply c.in-Ok.key) answers.told;
       after = rw (← c.self.view_is, c.take_effect.ensures.size) follows;
       goes_on = rw (← c.self.view_is, c.take_effect.ensures.size) (goes_on s next c.args.client c.args.call.now
-          (with_key c.args.asked.now.reply c.in-Ok.key) answers follows room);
-      untaken = rw (← c.self.view_is) (untaken_after s next c.args.client c.args.call.now (with_key c.args.asked.now.reply c.in-Ok.key) answers
+          (with_key c.args.decision.now.reply c.in-Ok.key) answers follows room);
+      untaken = rw (← c.self.view_is) (untaken_after s next c.args.client c.args.call.now (with_key c.args.decision.now.reply c.in-Ok.key) answers
           follows);
       kept = search rules;
       equal = search rules;

@@ -1,10 +1,10 @@
--- What the goals of `take_asked` have in common: the state before the call, and what the call begins with.
+-- What the goals of `commit` have in common: the state before the call, and what the call begins with.
 use Rattle.std.proofs.Common.{◌≡◌, true, sym, ◌∙◌}
 use Rattle.core_state.specs.State.{State}
 use Rattle.core_state.specs.Tasks.{Parts}
 use Rattle.core_state.proofs.theorem.EventParts.{Begins, begins}
 use Rattle.core_state.proofs.theorem.Idle.{Idles, idles}
-use Rattle.lifetime_core.proofs.machine.Core.take_asked.Goals.{After-changes_nothing, In-Ok}
+use Rattle.lifetime_core.proofs.machine.Core.commit.Goals.{After-changes_nothing, In-Ok}
 
 -- the state before the call
 abbrev pub before : After-changes_nothing → State
@@ -20,16 +20,16 @@ before c = record {
 
 -- the call begins there with what was asked: each premise is one of the function's
 pub begun : (c : After-changes_nothing) →
-    Begins (before c) c.args.client c.args.call.now c.args.asked.now.reply c.args.asked.now.task c.args.asked.now.tracking
-begun c = begins c.self.inside.contents.pool (before c) c.args.self.now c.args.client c.args.call.now c.args.asked.now.reply
-    c.args.asked.now.task c.args.asked.now.tracking c.self.view_is c.self.invariant c.requires.reply c.requires.work
+    Begins (before c) c.args.client c.args.call.now c.args.decision.now.reply c.args.decision.now.task c.args.decision.now.tracking
+begun c = begins c.self.inside.contents.pool (before c) c.args.self.now c.args.client c.args.call.now c.args.decision.now.reply
+    c.args.decision.now.task c.args.decision.now.tracking c.self.view_is c.self.invariant c.requires.reply c.requires.work
     c.requires.spends c.requires.there c.requires.some c.requires.tracking
 
 -- a call that changes nothing leaves the state, but for the number of events: the test is what the definition says
 pub idle : (c : After-changes_nothing) → c.changes_nothing.result ≡ true →
-    Idles (before c) c.args.client c.args.call.now c.args.asked.now.reply
+    Idles (before c) c.args.client c.args.call.now c.args.decision.now.reply
 idle c nothing = idles c.self.inside.contents.pool (before c) c.args.self.now c.args.client c.args.call.now
-    c.args.asked.now.reply c.self.view_is c.self.invariant c.requires.reply (sym c.changes_nothing.ensures ∙ nothing)
+    c.args.decision.now.reply c.self.view_is c.self.invariant c.requires.reply (sym c.changes_nothing.ensures ∙ nothing)
 
 -- what the effect of the call left
 abbrev pub made : In-Ok → Parts

@@ -1,5 +1,5 @@
 use Rattle.std.proofs.Common.{rules}
-use Rattle.lifetime_core.proofs.by_kind.take_by_kind.Goals as goal
+use Rattle.lifetime_core.proofs.by_kind.dispatch.Goals as goal
 
 -- the closure answers this call alone
 pub returns-in-Join : goal.returns-in-Join
