@@ -1,7 +1,7 @@
 //! Why a line is not read.
 
 // Why a line is not read.
-#[derive(Clone, Copy, Debug, PartialEq, Eq)]
+#[derive(Clone, Copy)]
 pub(crate) enum Halt {
     BadLine,
     NoMemory,

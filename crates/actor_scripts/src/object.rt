@@ -2,7 +2,7 @@
 use sm_names::{BufferName, Call, CollectionId, NodeKey, Strength};
 
 /// One object that an actor holds.
-#[derive(Clone, Copy, Debug, PartialEq, Eq)]
+#[derive(Clone, Copy, PartialEq, Eq)]
 pub enum Object {
     /// A token: the node that it is the end of, and the collection that the node is in.
     Token {
@@ -22,7 +22,7 @@ pub enum Object {
 }
 
 /// The call that a step makes, and what it is made on.
-#[derive(Clone, Copy, Debug, PartialEq, Eq)]
+#[derive(Clone, Copy)]
 pub struct StepCall {
     /// The call, with the key or the buffer of what it is made on.
     pub call: Call,

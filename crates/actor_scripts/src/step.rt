@@ -3,14 +3,14 @@
 use script_lines::Request;
 
 /// A buffer in a step: one of the collection of the node of this label, and its index.
-#[derive(Clone, Copy, Debug, PartialEq, Eq)]
+#[derive(Clone, Copy)]
 pub struct StepBuffer {
     pub node: u32,
     pub index: u8,
 }
 
 /// One step of a script.
-#[derive(Clone, Copy, Debug, PartialEq, Eq)]
+#[derive(Clone, Copy)]
 pub enum Step {
     /// A call.
     Ask { request: Request<u32, StepBuffer> },

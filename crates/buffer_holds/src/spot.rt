@@ -6,7 +6,7 @@ use std::cell::Cell;
 
 /// Where counts were found: those of the next buffer are looked for behind them first. It changes
 /// what a call costs, and nothing else.
-#[derive(Clone, Copy, Debug)]
+#[derive(Clone, Copy)]
 pub struct Spot {
     // The place behind the row that was found last.
     pub(crate) row: usize,

@@ -1,6 +1,6 @@
 //! What placing buffers answers.
 /// Where buffers were placed.
-#[derive(Debug, Drop)]
+#[derive(Drop)]
 pub struct Placed {
     /// The first page of each buffer, in the order in which they were placed.
     pub starts: Vec<u32>,

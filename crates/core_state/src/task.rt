@@ -8,7 +8,7 @@ use forest_store::{Change, End};
 use sm_names::{Call, ClientId, CollectionId, NodeKey, Reply};
 
 /// A change to a collection, if there is one, and the end that is spent after it, if one is.
-#[derive(Clone, Copy, Debug)]
+#[derive(Clone, Copy)]
 pub struct Task {
     pub collection: CollectionId,
     pub change: Option<Change>,
@@ -16,7 +16,7 @@ pub struct Task {
 }
 
 /// Where the end of the node with this key is put.
-#[derive(Clone, Copy, Debug)]
+#[derive(Clone, Copy)]
 pub struct Place {
     pub key: NodeKey,
     pub end: End,

@@ -8,7 +8,7 @@ ghost use Rattle.core_state.specs.Traits.{made_on_nothing, traits_of as traits_i
 use sm_names::{BufferName, Call, ClientId, Kind, NodeKey, Product, Strength};
 
 /// What a call is made on.
-#[derive(Clone, Copy, Debug)]
+#[derive(Clone, Copy)]
 pub enum Named {
     Nothing,
     End(NodeKey),
@@ -16,7 +16,7 @@ pub enum Named {
 }
 
 /// What a call names and makes.
-#[derive(Clone, Copy, Debug)]
+#[derive(Clone, Copy)]
 pub struct Traits {
     pub on: Named,
     /// The other client that it names.

@@ -2,7 +2,7 @@
 use sm_names::NodeKey;
 
 /// What a failure takes, and how many visits found it.
-#[derive(Debug, Drop)]
+#[derive(Drop)]
 pub struct Fall {
     /// The nodes that the failure takes, each once: the highest first, then layer by layer.
     pub keys: Vec<NodeKey>,

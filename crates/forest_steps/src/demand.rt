@@ -8,7 +8,7 @@ use sm_names::{Buffers, Constraints, Failure, NodeKey};
 
 /// How many buffers are camped on, how many there are to be at least, and how many bytes each is
 /// to have at least.
-#[derive(Clone, Copy, Debug)]
+#[derive(Clone, Copy)]
 pub struct TotalDemand {
     pub camping: u128,
     pub at_least: u8,

@@ -2,7 +2,7 @@
 use sm_names::{Cause, ClientId, Constraints, NodeKey};
 
 /// One change to a collection.
-#[derive(Clone, Copy, Debug)]
+#[derive(Clone, Copy)]
 pub enum Change {
     /// A node is born: a root, which makes the collection, or a child of a node of it.
     Birth {
@@ -22,7 +22,7 @@ pub enum Change {
 }
 
 /// What a call makes of the node that it names, if it makes and loses none.
-#[derive(Clone, Copy, Debug)]
+#[derive(Clone, Copy)]
 pub enum Effect {
     /// It was a token, and is a collection. FIDL: `Allocator.BindSharedCollection`.
     Bound,

@@ -3,7 +3,7 @@ use script_lines::{Label, View};
 use sm_names::{Call, ClientId, TrackerId};
 
 /// What a label is to stand for, if the call makes it.
-#[derive(Clone, Copy, Debug, PartialEq, Eq)]
+#[derive(Clone, Copy)]
 pub enum Binds {
     Nothing,
     Client(Label),
@@ -12,7 +12,7 @@ pub enum Binds {
 }
 
 /// What a line asks for.
-#[derive(Clone, Copy, Debug, PartialEq, Eq)]
+#[derive(Clone, Copy)]
 pub enum Act {
     Nothing,
     /// A call by this client.

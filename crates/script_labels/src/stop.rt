@@ -3,7 +3,7 @@ use sm_names::{NoMemory, StepFault};
 use std::alloc::AllocError;
 
 /// Why a line was not answered.
-#[derive(Clone, Copy, Debug, PartialEq, Eq)]
+#[derive(Clone, Copy, PartialEq, Eq)]
 pub enum Stop {
     /// It asks for nothing that is known.
     BadLine,

@@ -5,7 +5,7 @@ ghost use Rattle.sm_names.specs.declared.rules.TheConstants.{MAX_PAGES};
 use sm_names::MAX_PAGES;
 
 /// As many pages as a pool may have: from 1 to `MAX_PAGES`.
-#[derive(Clone, Copy, Debug)]
+#[derive(Clone, Copy)]
 pub struct Pages {
     pub count: u32,
     ghost in_range: { (1 ≤ count) × (count ≤ MAX_PAGES) },

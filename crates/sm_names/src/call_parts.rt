@@ -1,21 +1,45 @@
 //! What a call is made of, and what the table of calls says of a kind.
-ghost use Rattle.std.specs.Prelude.{◌≡◌};
+ghost use Rattle.std.specs.Prelude.{◌≡◌, ⊤};
 ghost use Rattle.sm_names.specs.CallRows.{brings_end as is_end, is_tracker as is_new_tracker};
 
 use crate::call_rows::CallKind;
 use crate::demands::Constraints;
 use crate::keys::{BufferName, ClientId, NodeKey, Strength};
+use std::alloc::AllocError;
+use std::fmt;
 
 /// What a call is made on. `N` is what names a node, and `B` what names a buffer.
-#[derive(Clone, Copy, Debug, PartialEq, Eq)]
+#[derive(Copy)]
 pub enum Object<N, B> {
     Nothing,
     Node(N),
     Buffer(B),
 }
 
+// A clone is a copy, and a text is that of what the object holds: proofs of what a derive writes for these generic types take
+// ten times as long.
+impl<N: Copy, B: Copy> Clone for Object<N, B> {
+    ghost is_clone = { λ object copy. copy ≡ object };
+
+    ghost is_infallible = { λ _. ⊤ };
+
+    fn clone(&self) -> Result<Object<N, B>, AllocError> {
+        Ok(*self)
+    }
+}
+
+impl<N: fmt::Debug, B: fmt::Debug> fmt::Debug for Object<N, B> {
+    fn fmt<W: fmt::Write>(&self, f: &mut fmt::Formatter<W>) -> fmt::Result {
+        match self {
+            Object::Nothing => f.write_str("Nothing"),
+            Object::Node(name) => name.fmt(f),
+            Object::Buffer(name) => name.fmt(f),
+        }
+    }
+}
+
 /// What else a call says. `C` is what names a client.
-#[derive(Clone, Copy, Debug, PartialEq, Eq)]
+#[derive(Copy)]
 pub enum Argument<C> {
     Nothing,
     Client(C),
@@ -29,8 +53,32 @@ pub enum Argument<C> {
     Gift(Strength, C),
 }
 
+impl<C: Copy> Clone for Argument<C> {
+    ghost is_clone = { λ argument copy. copy ≡ argument };
+
+    ghost is_infallible = { λ _. ⊤ };
+
+    fn clone(&self) -> Result<Argument<C>, AllocError> {
+        Ok(*self)
+    }
+}
+
+impl<C: fmt::Debug> fmt::Debug for Argument<C> {
+    fn fmt<W: fmt::Write>(&self, f: &mut fmt::Formatter<W>) -> fmt::Result {
+        match self {
+            Argument::Nothing => f.write_str("Nothing"),
+            Argument::Client(to) => to.fmt(f),
+            Argument::Children(children) => children.fmt(f),
+            Argument::Constraints(constraints) => constraints.fmt(f),
+            Argument::Most(most) => most.fmt(f),
+            Argument::Strength(strength) => strength.fmt(f),
+            Argument::Gift(strength, to) => (strength, to).fmt(f),
+        }
+    }
+}
+
 /// A call, taken apart.
-#[derive(Clone, Copy, Debug, PartialEq, Eq)]
+#[derive(Clone, Copy, Debug)]
 pub struct CallParts {
     pub kind: CallKind,
     pub object: Object<NodeKey, BufferName>,
@@ -38,7 +86,7 @@ pub struct CallParts {
 }
 
 /// What calls of a kind are made on.
-#[derive(Clone, Copy, Debug, PartialEq, Eq)]
+#[derive(Clone, Copy, PartialEq, Eq)]
 pub enum Target {
     Nothing,
     Token,
@@ -49,7 +97,7 @@ pub enum Target {
 }
 
 /// Which form the argument of calls of a kind has.
-#[derive(Clone, Copy, Debug, PartialEq, Eq)]
+#[derive(Clone, Copy, PartialEq, Eq)]
 pub enum ArgumentForm {
     Nothing,
     Client,
@@ -61,7 +109,7 @@ pub enum ArgumentForm {
 }
 
 /// What calls of a kind make or bring, if they take effect.
-#[derive(Clone, Copy, Debug, PartialEq, Eq)]
+#[derive(Clone, Copy, PartialEq, Eq)]
 pub enum Product {
     Nothing,
     Client,
@@ -91,7 +139,7 @@ impl Product {
 }
 
 /// When calls of a kind spend what they are made on.
-#[derive(Clone, Copy, Debug, PartialEq, Eq)]
+#[derive(Clone, Copy, PartialEq, Eq)]
 pub enum Spends {
     Never,
     /// If the reply is Done.
@@ -101,7 +149,7 @@ pub enum Spends {
 }
 
 /// What calls of a kind are answered, if they take effect.
-#[derive(Clone, Copy, Debug, PartialEq, Eq)]
+#[derive(Clone, Copy, PartialEq, Eq)]
 pub enum Answer {
     Done,
     Joined,
@@ -118,7 +166,7 @@ pub enum Answer {
 
 /// What is true of each call of a kind. A kind that brings nothing, spends nothing and is answered
 /// Done or Allocated may be a query, which changes nothing.
-#[derive(Clone, Copy, Debug, PartialEq, Eq)]
+#[derive(Clone, Copy, PartialEq, Eq)]
 pub struct CallRow {
     pub on: Target,
     pub says: ArgumentForm,

@@ -3,7 +3,7 @@ use script_lines::Pages;
 use sm_names::Limits;
 
 /// What a run of actors writes at its end.
-#[derive(Clone, Copy, Debug)]
+#[derive(Clone, Copy)]
 pub enum Output {
     /// The report.
     Report,
@@ -12,7 +12,7 @@ pub enum Output {
 }
 
 /// The pages of the pool, and what is written.
-#[derive(Clone, Copy, Debug)]
+#[derive(Clone, Copy)]
 pub struct Job {
     /// The size of the pool.
     pub pages: Pages,
@@ -21,7 +21,7 @@ pub struct Job {
 }
 
 /// What a run is made with: the seed of what is hashed, the job, and the limits.
-#[derive(Clone, Copy, Debug)]
+#[derive(Clone, Copy)]
 pub(crate) struct Setting {
     pub(crate) seed: [u8; 16],
     pub(crate) job: Job,

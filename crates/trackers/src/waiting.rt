@@ -2,7 +2,7 @@
 use sm_names::{CollectionId, Condition, TrackerId};
 
 /// A tracker that has not fired.
-#[derive(Clone, Copy, Debug)]
+#[derive(Clone, Copy)]
 pub struct Waiting {
     /// The number of the event that attaches it.
     pub id: TrackerId,

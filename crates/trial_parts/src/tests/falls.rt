@@ -4,7 +4,7 @@ use node_table::NodeTable;
 use sm_names::NodeKey;
 use std::alloc::Global;
 
-#[derive(Clone, Copy, Debug, PartialEq, Eq)]
+#[derive(Clone, Copy, PartialEq, Eq)]
 struct Node {
     blocks: bool,
 }

@@ -61,10 +61,65 @@ fn has_labels(list: &ActorList, labels: &[&str]) -> bool {
     list.labels.len() == labels.len()
 }
 
+// An object as numbers.
+fn object_numbers(object: Object<u32, StepBuffer>) -> (u8, u32, u8) {
+    match object {
+        Object::Nothing => (0, 0, 0),
+        Object::Node(node) => (1, node, 0),
+        Object::Buffer(buffer) => (2, buffer.node, buffer.index),
+    }
+}
+
+fn strength_number(strength: Strength) -> u32 {
+    u32::from(strength == Strength::Strong)
+}
+
+// An argument as numbers.
+fn argument_numbers(argument: Argument<u32>) -> (u8, u32, u32, u32) {
+    match argument {
+        Argument::Nothing => (0, 0, 0, 0),
+        Argument::Client(to) => (1, to, 0, 0),
+        Argument::Children(children) => (2, u32::from(children), 0, 0),
+        Argument::Constraints(wanted) => (
+            3,
+            u32::from(wanted.camping()),
+            u32::from(wanted.at_least()),
+            wanted.size(),
+        ),
+        Argument::Most(most) => (4, most, 0, 0),
+        Argument::Strength(strength) => (5, strength_number(strength), 0, 0),
+        Argument::Gift(strength, to) => (6, strength_number(strength), to, 0),
+    }
+}
+
+// Whether a step is this one.
+fn is_step(step: Step, wanted: Step) -> bool {
+    match (step, wanted) {
+        (Step::Ask { request }, Step::Ask { request: asked }) => {
+            request.kind == asked.kind
+                && object_numbers(request.object) == object_numbers(asked.object)
+                && argument_numbers(request.argument) == argument_numbers(asked.argument)
+                && request.binds == asked.binds
+        }
+        (Step::Poll { tracker }, Step::Poll { tracker: polled }) => tracker == polled,
+        _ => false,
+    }
+}
+
+// Whether these are the steps.
+fn are_steps(steps: &[Step], wanted: &[Step]) -> bool {
+    for (step, asked) in steps.iter().zip(wanted) {
+        if !is_step(*step, *asked) {
+            return false;
+        }
+    }
+    steps.len() == wanted.len()
+}
+
 // Whether they have these steps.
 fn has_steps(list: &ActorList, scripts: &[&[Step]]) -> bool {
     for (script, steps) in list.scripts.iter().zip(scripts) {
-        if script.steps.as_slice() != *steps {
+        if !are_steps(script.steps.as_slice(), steps) {
             return false;
         }
     }
