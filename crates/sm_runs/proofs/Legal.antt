@@ -3,6 +3,7 @@ use Rattle.std.specs.Prelude.{length}
 use Rattle.std.specs.Option.{option_map_or}
 use Rattle.std.proofs.Common.{ℕ, suc, ◌≡◌, ◌||◌, Bool, true, false, nat_lt, List, [], ◌∷◌, map, ap, refl, arith}
 use Rattle.std.proofs.lemmas.Bool.{ltb-true}
+use Rattle.sm_names.specs.contracts.messages.ReplyPartialEq.TheImpl as derived
 use Rattle.sm_names.specs.declared.messages.Reply.{Reply}
 use Rattle.sm_names.specs.Answers.{answer, key_told, new_key}
 use Rattle.sm_names.specs.Bounds.{Bound}
@@ -58,3 +59,28 @@ is_legal pool limits history told new short = record {
   answers = are_answers pool limits [] history told new;
   within = let less = ltb-true (length history) (suc limits.events) short in omega (arith, less);
 }
+
+-- replies that are answers are those that the table computes, one after another
+told : (pool : ℕ) (limits : Bound) (marks : Timeline) (entries : List Entry) → AreAnswers pool limits marks entries →
+    map (λ entry. entry.2) entries ≡ replies pool limits marks entries
+told pool limits marks [] are = refl
+told pool limits marks (entry ∷ entries) are =
+    λ i. are.0.told i ∷ told pool limits (after pool marks entry) entries are.1 i
+
+-- the last of these replies, or `Done` if there is none
+abbrev last_of : List Reply → Reply
+last_of [] = Reply.Done
+last_of (reply ∷ []) = reply
+last_of (reply ∷ replies) = last_of replies
+
+-- whether the last replies of both pass the derived test
+abbrev ends_as : List Reply → List Reply → Bool
+ends_as told computed = (derived.eq-value).it (last_of told) (last_of computed)
+
+-- the premises are closed facts: the last reply passes the derived test with itself, but not with the one that the table computes
+pub is_not_legal : (pool : ℕ) (limits : Bound) (history : List Entry) →
+    ends_as (map (λ entry. entry.2) history) (map (λ entry. entry.2) history) ≡ true →
+    ends_as (map (λ entry. entry.2) history) (replies pool limits [] history) ≡ false →
+    IsLegal pool limits history → ⊥
+is_not_legal pool limits history same other legal =
+    let is = ap (ends_as (map (λ entry. entry.2) history)) (told pool limits [] history legal.answers) in cc

@@ -1,5 +1,5 @@
 use Rattle.std.proofs.Common.{refl}
-use Rattle.sm_runs.proofs.Legal.{is_legal}
+use Rattle.sm_runs.proofs.Legal.{is_legal, is_not_legal}
 use Rattle.sm_runs.proofs.allocation.holes_are_filled_and_merged.Goals as goal
 
 pub returns-clause-holes : goal.returns-clause-holes
@@ -13,3 +13,6 @@ returns-clause-two_holes c = is_legal _ _ _ refl refl refl
 
 pub returns-clause-buffers_apart : goal.returns-clause-buffers_apart
 returns-clause-buffers_apart c = is_legal _ _ _ refl refl refl
+
+pub returns-clause-not_allocated : goal.returns-clause-not_allocated
+returns-clause-not_allocated c = is_not_legal _ _ _ refl refl

@@ -1,5 +1,5 @@
 use Rattle.std.proofs.Common.{refl}
-use Rattle.sm_runs.proofs.Legal.{is_legal}
+use Rattle.sm_runs.proofs.Legal.{is_legal, is_not_legal}
 use Rattle.sm_runs.proofs.answers.a_misuse_fails_the_node.Goals as goal
 
 pub returns-clause-second_constraints : goal.returns-clause-second_constraints
@@ -16,3 +16,24 @@ returns-clause-weak_takes_early c = is_legal _ _ _ refl refl refl
 
 pub returns-clause-misuse_before_limits : goal.returns-clause-misuse_before_limits
 returns-clause-misuse_before_limits c = is_legal _ _ _ refl refl refl
+
+pub returns-clause-not_done_1 : goal.returns-clause-not_done_1
+returns-clause-not_done_1 c = is_not_legal _ _ _ refl refl
+
+pub returns-clause-not_allocated_1 : goal.returns-clause-not_allocated_1
+returns-clause-not_allocated_1 c = is_not_legal _ _ _ refl refl
+
+pub returns-clause-not_done_2 : goal.returns-clause-not_done_2
+returns-clause-not_done_2 c = is_not_legal _ _ _ refl refl
+
+pub returns-clause-not_allocated_2 : goal.returns-clause-not_allocated_2
+returns-clause-not_allocated_2 c = is_not_legal _ _ _ refl refl
+
+pub returns-clause-not_done_3 : goal.returns-clause-not_done_3
+returns-clause-not_done_3 c = is_not_legal _ _ _ refl refl
+
+pub returns-clause-not_pending : goal.returns-clause-not_pending
+returns-clause-not_pending c = is_not_legal _ _ _ refl refl
+
+pub returns-clause-not_refused : goal.returns-clause-not_refused
+returns-clause-not_refused c = is_not_legal _ _ _ refl refl

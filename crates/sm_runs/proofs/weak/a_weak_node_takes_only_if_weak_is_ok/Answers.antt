@@ -1,5 +1,5 @@
 use Rattle.std.proofs.Common.{refl}
-use Rattle.sm_runs.proofs.Legal.{is_legal}
+use Rattle.sm_runs.proofs.Legal.{is_legal, is_not_legal}
 use Rattle.sm_runs.proofs.weak.a_weak_node_takes_only_if_weak_is_ok.Goals as goal
 
 pub returns-clause-weak_not_ok : goal.returns-clause-weak_not_ok
@@ -13,3 +13,21 @@ returns-clause-weak_ok_stays c = is_legal _ _ _ refl refl refl
 
 pub returns-clause-weak_ok_too_late : goal.returns-clause-weak_ok_too_late
 returns-clause-weak_ok_too_late c = is_legal _ _ _ refl refl refl
+
+pub returns-clause-not_taken_1 : goal.returns-clause-not_taken_1
+returns-clause-not_taken_1 c = is_not_legal _ _ _ refl refl
+
+pub returns-clause-not_allocated : goal.returns-clause-not_allocated
+returns-clause-not_allocated c = is_not_legal _ _ _ refl refl
+
+pub returns-clause-not_misused_1 : goal.returns-clause-not_misused_1
+returns-clause-not_misused_1 c = is_not_legal _ _ _ refl refl
+
+pub returns-clause-not_taken_2 : goal.returns-clause-not_taken_2
+returns-clause-not_taken_2 c = is_not_legal _ _ _ refl refl
+
+pub returns-clause-not_misused_2 : goal.returns-clause-not_misused_2
+returns-clause-not_misused_2 c = is_not_legal _ _ _ refl refl
+
+pub returns-clause-not_taken_3 : goal.returns-clause-not_taken_3
+returns-clause-not_taken_3 c = is_not_legal _ _ _ refl refl
