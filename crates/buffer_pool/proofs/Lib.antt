@@ -17,3 +17,4 @@ mod Searches
 mod Sounds
 mod Spaces
 mod TakenRuns
+mod Touching

@@ -247,7 +247,7 @@ impl Blocks {
         self.near = spot;
         if self.used[spot.block].len() == 0 {
             let block = self.used.remove(spot.block);
-            self.spare.push(block).unwrap();
+            self.spare.push_reserved(block);
         }
         count
     }
@@ -352,7 +352,7 @@ impl Blocks {
     {
         let mut block = self.used.remove(at + 1);
         self.used[at].take_in(&mut block);
-        self.spare.push(block).unwrap();
+        self.spare.push_reserved(block);
     }
 
     // Makes one more block.
@@ -361,10 +361,10 @@ impl Blocks {
         ensures kept { self.old.spares ≤ self.new.spares }
         ensures more { OnOk result (self.new.spares ≡ self.old.spares + 1) }
     {
-        let block = Block::new(self.allocator())?;
         self.used.reserve(self.spare.len() + 1)?;
         self.spare.reserve(self.used.len() + 1)?;
-        self.spare.push(block).unwrap();
+        let block = Block::new(self.allocator())?;
+        self.spare.push_reserved(block);
         Ok(())
     }
 
@@ -385,14 +385,8 @@ impl Blocks {
     pub(crate) fn to_vec(&self) -> Result<Vec<Interval>, AllocError>
         ensures { IfOk result (λ copy. copy.items ≡ all_in self.now.lists) }
     {
-        let mut count = 0_usize;
-        for block in &self.used {
-            count = count.saturating_add(block.len());
-        }
-        let mut copy = Vec::with_capacity(self.allocator(), count)?;
-        for block in &self.used {
-            copy.extend_from_slice(block.cells())?;
-        }
+        let mut copy = Vec::with_capacity(self.allocator(), count_in(&self.used))?;
+        append_all(&mut copy, &self.used)?;
         Ok(copy)
     }
 
@@ -446,6 +440,25 @@ impl Blocks {
         }
         left == 0
     }
+}
+
+// How many intervals lie in these blocks, for the room of a copy.
+fn count_in(blocks: &[Block]) -> usize {
+    let mut count = 0_usize;
+    for block in blocks {
+        count = count.saturating_add(block.len());
+    }
+    count
+}
+
+// Appends the intervals of these blocks to the copy.
+fn append_all(copy: &mut Vec<Interval>, blocks: &[Block]) -> Result<(), AllocError>
+    ensures { OnOk result (copy.new.items ≡ copy.old.items ++ all_in blocks.now) }
+{
+    for block in blocks {
+        copy.extend_from_slice(block.cells())?;
+    }
+    Ok(())
 }
 
 // The first of two blocks side by side that have no more intervals than one can have, if there are such.

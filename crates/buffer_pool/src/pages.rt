@@ -186,11 +186,10 @@ fn reserve(
         (length (all_in held.new.lists) + count ≤ capacity_of held.new) }
     ensures holes_room { OnOk result (length (all_in held.new.lists) + count ≤ holes.new.capacity) }
 {
-    let starts = Vec::with_capacity(held.allocator(), count as usize)?;
     let most = buffers as usize + count as usize;
     held.reserve(most)?;
     holes.reserve(most)?;
-    Ok(starts)
+    Vec::with_capacity(held.allocator(), count as usize)
 }
 
 // Places buffers that all have room, and counts the looks. As the buffers are of one size, a hole

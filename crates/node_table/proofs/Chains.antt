@@ -1,18 +1,25 @@
 -- The runs of children in the slots of a sound table.
-use Rattle.std.proofs.Common.{◌≡◌, ℕ, ◌+◌, ◌-◌, ◌<◌, ◌≤◌, ◌==◌, true, List, [], length, Option, Some, None, IsSome, Contains, cond, option_map, slice_index_or, arith, refl, ap, sym, ◌∙◌, subst}
+use Rattle.std.proofs.Common.{◌≡◌, ℕ, ◌+◌, ◌-◌, ◌<◌, ◌≤◌, ◌==◌, true, List, [], length, Option, Some, None, is_some, IsSome, Contains, cond, option_map, slice_index_or, arith, refl, ap, sym, ◌∙◌, subst}
 use Rattle.sm_names.specs.declared.keys.NodeKey.{NodeKey}
-use Rattle.node_table.specs.Table.{Row, Table, row_at, parent_at, children_at, children_in}
-use Rattle.node_table.specs.Forest.{next_key, siblings_at}
+use Rattle.node_table.specs.Table.{Row, Table, row_at, node_at, parent_at, parent_in, children_at, children_in}
+use Rattle.node_table.specs.Forest.{first_key, next_key, siblings_at}
 use Rattle.std.specs.Option.{option_map_or}
-use Rattle.node_table.specs.Sound.{IsSound, IsRun, run_from, run_in, first_in, last_in, prev_in, next_in, rows_of, table_of, with_vacant, entry_in, link_in, core_of, with_children, given_count}
+use Rattle.node_table.specs.Sound.{IsSound, IsRun, run_from, run_in, first_in, last_in, prev_in, next_in, rows_of, table_of, with_vacant, entry_in, link_in, core_of, row_of, with_children, given_count}
 use Rattle.node_table.specs.declared.slot.Entry.{Entry}
 use Rattle.node_table.specs.declared.slot.Slot.{Slot}
 use Rattle.node_table.proofs.Keys.{eq-true, same-fields}
-use Rattle.node_table.proofs.Runs.{run-next, run_is, run_from-none, run_from-short}
+use Rattle.node_table.proofs.Runs.{run-first, run-next, run_is, run_from-none, run_from-short}
 use Rattle.node_table.proofs.Slots.{row-at, row-parts}
 use Rattle.node_table.proofs.Depths.{next-there, there-above, parent-there}
 
 module _ {N : Type 0} where
+  -- what the entry of a slot, if it has one, says of the key that the slot gave last
+  pub record Shows (t : Table N) (key : NodeKey) (o : Option (Entry N)) : Type 0 where
+    pub there : is_some o ≡ is_some (row_at t key)
+    pub node : option_map (λ (e : Entry N). e.node) o ≡ node_at t key
+    pub parent : link_in (λ (e : Entry N). e.parent) o ≡ parent_at t key
+    pub first : link_in (λ (e : Entry N). e.first) o ≡ first_key (children_at t key)
+
   -- the row of a slot, by its parts
   pub row-is : (slots : List (Option (Slot N))) (most i : ℕ) →
       slice_index_or (rows_of slots most) i None ≡ option_map (with_children (run_in slots most i))
@@ -150,3 +157,31 @@ module _ {N : Type 0} where
             (last_in slots p.slot) (sound.chained p.slot)
             (subst (λ ks. Contains ks key) keys ((sound.forest.linked p key).0 above))
             ∙ ap (next_key key) (sym keys)
+
+    -- an entry says what its key's row has, since the row is made of it
+    pub entry-shows : (vacant : ℕ) (t : Table N) → with_vacant vacant (table_of slots nexts first limit) ≡ t → (key : NodeKey)
+        (o : Option (Entry N)) → entry_in (slice_index_or slots key.slot None) ≡ o → slice_index_or nexts key.slot first ≡ key.generation + 1 → Shows t key o
+    entry-shows vacant t is key o at next = subst (λ u. Shows u key o) is (by_entry o at
+        (ap (λ b. cond b (slice_index_or (rows_of slots (given_count first nexts)) key.slot None) None)
+        (eq-true (slice_index_or nexts key.slot first) (key.generation + 1) next)
+        ∙ (row-at slots (given_count first nexts) key.slot ∙ ap (option_map (row_of (next_in slots) (given_count first nexts))) at)))
+      where
+        by_entry : (o : Option (Entry N)) → entry_in (slice_index_or slots key.slot None) ≡ o →
+            row_at (table_of slots nexts first limit) key ≡ option_map (row_of (next_in slots) (given_count first nexts)) o →
+            Shows (with_vacant vacant (table_of slots nexts first limit)) key o
+        by_entry None at row = record {
+          there = sym (ap is_some row);
+          node = sym (ap (option_map (λ (row : Row N). row.node)) row);
+          parent = sym (ap parent_in row);
+          first = sym (ap (λ q. first_key (children_in q)) row);
+        }
+        by_entry (Some e) at row = record {
+          there = sym (ap is_some row);
+          node = sym (ap (option_map (λ (row : Row N). row.node)) row);
+          parent = sym (ap parent_in row);
+          first = subst (λ (q : Option (Entry N)). link_in (λ (e : Entry N). e.first) q
+              ≡ first_key (run_from (next_in slots) (given_count first nexts) (link_in (λ (e : Entry N). e.first) q))) at
+              (run-first (next_in slots) (prev_in slots) None (first_in slots key.slot) (run_in slots (given_count first nexts) key.slot)
+              (last_in slots key.slot) (sound.chained key.slot))
+              ∙ sym (ap (λ q. first_key (children_in q)) row);
+        }

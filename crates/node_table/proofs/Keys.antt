@@ -1,5 +1,5 @@
 -- Whether two keys are one.
-use Rattle.std.proofs.Common.{◌≡◌, ◌≢◌, ◌⊎◌, ℕ, ◌==◌, true, false, arith, refl, ap, inl, inr}
+use Rattle.std.proofs.Common.{◌≡◌, ◌≢◌, ◌⊎◌, ℕ, ◌==◌, true, false, Option, Some, None, arith, refl, ap, inl, inr}
 use Rattle.std.proofs.lemmas.Bool.{cases_eq}
 use Rattle.std.proofs.lemmas.Bool.Decides.{nat_tests}
 use Rattle.sm_names.specs.declared.keys.NodeKey.{NodeKey}
@@ -57,3 +57,11 @@ slot_tells_key a b same =
       | inl slots ↦ rw (eq-true a.slot b.slot slots, eq-true a.generation b.generation (same slots)) refl
       | inr differ ↦ rw (eq-false a.slot b.slot differ) refl
     ]
+
+-- equal links name one key, since `Some` loses nothing
+pub some-one : (a b : NodeKey) → Some a ≡ Some b → a ≡ b
+some-one a b same = cc
+
+-- no link is none and a key
+pub none-some : (a : NodeKey) → None ≡ Some a → ⊥
+none-some a same = cc

@@ -15,6 +15,10 @@ AllDiffer keys = AllPairs (λ (a b : NodeKey). a ≢ b) keys
 abbrev pub without : NodeKey → List NodeKey → List NodeKey
 without key keys = filter (λ other. not (same_key key other)) keys
 
+-- an empty list has no key
+pub Contains-none : (key : NodeKey) → Contains [] key → ⊥
+Contains-none key there = omega (arith, there.1)
+
 -- the head is there
 pub Contains-head : (key : NodeKey) (rest : List NodeKey) → Contains (key ∷ rest) key
 Contains-head key rest = (zero, omega arith, refl)

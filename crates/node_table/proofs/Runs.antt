@@ -3,8 +3,8 @@ use Rattle.std.proofs.Common.{◌≡◌, ◌≢◌, ◌⊎◌, ℕ, zero, suc, �
 use Rattle.sm_names.specs.declared.keys.NodeKey.{NodeKey}
 use Rattle.node_table.specs.Sound.{run_from, IsRun}
 use Rattle.node_table.specs.Forest.{first_key, next_key}
-use Rattle.node_table.proofs.Keys.{key_cases, same_key-equal, same_key-apart}
-use Rattle.node_table.proofs.Lists.{AllDiffer, AllDiffer-tail, without, without-same, without-other, without_stranger, Contains-head, Contains-tail, Contains-cons_cases, head_differs}
+use Rattle.node_table.proofs.Keys.{key_cases, same_key-equal, same_key-apart, some-one, none-some}
+use Rattle.node_table.proofs.Lists.{AllDiffer, AllDiffer-tail, without, without-same, without-other, without_stranger, Contains-none, Contains-head, Contains-tail, Contains-cons_cases, head_differs}
 
 -- nothing runs from no key
 pub run_from-none : (next : ℕ → Option NodeKey) (most : ℕ) → run_from next most None ≡ []
@@ -49,7 +49,7 @@ module _ (next prev : ℕ → Option NodeKey) where
   -- each key is followed by its next
   pub run-next : (key : NodeKey) (before first : Option NodeKey) (keys : List NodeKey) (last : Option NodeKey) →
       IsRun next prev before first keys last → Contains keys key → next key.slot ≡ next_key key keys
-  run-next key before first [] last run there = absurd (omega (arith, there.1))
+  run-next key before first [] last run there = absurd (Contains-none key there)
   run-next key before first (other ∷ rest) last run there =
       elim (key_cases key other) [
         | inl same ↦
@@ -69,7 +69,7 @@ module _ (next prev : ℕ → Option NodeKey) where
   run-last before first [] last key run is = inl (sym run.1 ∙ is)
   run-last before first (head ∷ rest) last key run is =
       elim (run-last (Some head) (next head.slot) rest last key run.1.1 is) [
-        | inl here ↦ let same : head ≡ key = cc in inr (subst (λ k. Contains (head ∷ rest) k) same (Contains-head head rest))
+        | inl here ↦ inr (subst (λ k. Contains (head ∷ rest) k) (some-one head key here) (Contains-head head rest))
         | inr later ↦ inr (Contains-tail head key rest later)
       ]
 
@@ -77,7 +77,7 @@ module _ (next prev : ℕ → Option NodeKey) where
   pub run-end : (head : NodeKey) (rest : List NodeKey) (last : Option NodeKey) (key : NodeKey) →
       IsRun next prev (Some head) (next head.slot) rest last → last ≡ Some key → next key.slot ≡ None
   run-end head [] last key run is =
-      let same : head ≡ key = let both : Some head ≡ Some key = sym run.1 ∙ is in cc in ap (λ (k : NodeKey). next k.slot) (sym same) ∙ run.0
+      ap (λ (k : NodeKey). next k.slot) (sym (some-one head key (sym run.1 ∙ is))) ∙ run.0
   run-end head (k ∷ ks) last key run is = run-end k ks last key run.1.1 is
 
   -- an empty run ends before it
@@ -89,28 +89,27 @@ module _ (next prev : ℕ → Option NodeKey) where
   -- the first key follows what is before
   pub run-before : (before first : Option NodeKey) (keys : List NodeKey) (last : Option NodeKey) (key : NodeKey) →
       IsRun next prev before first keys last → first ≡ Some key → prev key.slot ≡ before
-  run-before before first [] last key run is = let none : first ≡ None = run.0 in absurd (cc)
+  run-before before first [] last key run is = absurd (none-some key (sym run.0 ∙ is))
   run-before before first (head ∷ rest) last key run is =
-      let same : head ≡ key = let both : Some head ≡ Some key = sym run.0 ∙ is in cc in
-      ap (λ (k : NodeKey). prev k.slot) (sym same) ∙ run.1.0
+      ap (λ (k : NodeKey). prev k.slot) (sym (some-one head key (sym run.0 ∙ is))) ∙ run.1.0
 
   -- a key with none before it is the first
   pub run-starts : (before first : Option NodeKey) (keys : List NodeKey) (last : Option NodeKey) (key : NodeKey) →
       IsRun next prev before first keys last → Contains keys key → prev key.slot ≡ None → first ≡ Some key
-  run-starts before first [] last key run there none = absurd (omega (arith, there.1))
+  run-starts before first [] last key run there none = absurd (Contains-none key there)
   run-starts before first (head ∷ rest) last key run there none =
       elim (Contains-cons_cases head key rest there) [
         | inl same ↦ run.0 ∙ ap Some same
         | inr later ↦
             let second : next head.slot ≡ Some key = run-starts (Some head) (next head.slot) rest last key run.1.1 later none in
             let back : prev key.slot ≡ Some head = run-before (Some head) (next head.slot) rest last key run.1.1 second in
-            absurd (cc)
+            absurd (none-some head (sym none ∙ back))
       ]
 
   -- a key with none after it is the last
   pub run-stops : (before first : Option NodeKey) (keys : List NodeKey) (last : Option NodeKey) (key : NodeKey) →
       IsRun next prev before first keys last → Contains keys key → next key.slot ≡ None → last ≡ Some key
-  run-stops before first [] last key run there none = absurd (omega (arith, there.1))
+  run-stops before first [] last key run there none = absurd (Contains-none key there)
   run-stops before first (head ∷ rest) last key run there none =
       elim (Contains-cons_cases head key rest there) [
         | inl same ↦ ends rest same run.1.1
@@ -119,26 +118,25 @@ module _ (next prev : ℕ → Option NodeKey) where
     where
       ends : (rest : List NodeKey) → head ≡ key → IsRun next prev (Some head) (next head.slot) rest last → last ≡ Some key
       ends [] same run2 = run2.1 ∙ ap Some same
-      ends (k ∷ ks) same run2 = let goes : next key.slot ≡ Some k = ap (λ (j : NodeKey). next j.slot) (sym same) ∙ run2.0 in absurd (cc)
+      ends (k ∷ ks) same run2 = let goes : next key.slot ≡ Some k = ap (λ (j : NodeKey). next j.slot) (sym same) ∙ run2.0 in absurd (none-some k (sym none ∙ goes))
 
   -- nothing is after the last
   pub run-last_ends : (before first : Option NodeKey) (keys : List NodeKey) (last : Option NodeKey) (key : NodeKey) →
       IsRun next prev before first keys last → Contains keys key → last ≡ Some key → next key.slot ≡ None
-  run-last_ends before first [] last key run there is = absurd (omega (arith, there.1))
+  run-last_ends before first [] last key run there is = absurd (Contains-none key there)
   run-last_ends before first (head ∷ rest) last key run there is = run-end head rest last key run.1.1 is
 
   -- what is before a key has it next
   pub run-back : (before first : Option NodeKey) (keys : List NodeKey) (last : Option NodeKey) (key other : NodeKey) →
       IsRun next prev before first keys last → Contains keys key → prev key.slot ≡ Some other →
       ((before ≡ Some other) × (first ≡ Some key)) ⊎ (Contains keys other × (next other.slot ≡ Some key))
-  run-back before first [] last key other run there is = absurd (omega (arith, there.1))
+  run-back before first [] last key other run there is = absurd (Contains-none key there)
   run-back before first (head ∷ rest) last key other run there is =
       elim (Contains-cons_cases head key rest there) [
         | inl same ↦ inl (sym run.1.0 ∙ (ap (λ (k : NodeKey). prev k.slot) same ∙ is), run.0 ∙ ap Some same)
         | inr later ↦ elim (run-back (Some head) (next head.slot) rest last key other run.1.1 later is) [
           | inl here ↦
-              let both : Some head ≡ Some other = here.0 in
-              let same : head ≡ other = cc in
+              let same : head ≡ other = some-one head other here.0 in
               inr (
                 subst (λ k. Contains (head ∷ rest) k) same (Contains-head head rest),
                 ap (λ (k : NodeKey). next k.slot) (sym same)
@@ -152,7 +150,7 @@ module _ (next prev : ℕ → Option NodeKey) where
   pub run-on : (before first : Option NodeKey) (keys : List NodeKey) (last : Option NodeKey) (key other : NodeKey) →
       IsRun next prev before first keys last → Contains keys key → next key.slot ≡ Some other → Contains keys other ×
       (prev other.slot ≡ Some key)
-  run-on before first [] last key other run there is = absurd (omega (arith, there.1))
+  run-on before first [] last key other run there is = absurd (Contains-none key there)
   run-on before first (head ∷ rest) last key other run there is =
       elim (Contains-cons_cases head key rest there) [
         | inl same ↦ after rest same run.1.1
@@ -164,10 +162,9 @@ module _ (next prev : ℕ → Option NodeKey) where
     where
       after : (rest : List NodeKey) → head ≡ key → IsRun next prev (Some head) (next head.slot) rest last → Contains (head ∷ rest) other ×
           (prev other.slot ≡ Some key)
-      after [] same run2 = let none : next key.slot ≡ None = ap (λ (k : NodeKey). next k.slot) (sym same) ∙ run2.0 in absurd (cc)
+      after [] same run2 = let none : next key.slot ≡ None = ap (λ (k : NodeKey). next k.slot) (sym same) ∙ run2.0 in absurd (none-some other (sym none ∙ is))
       after (k ∷ ks) same run2 =
-          let both : Some k ≡ Some other = sym run2.0 ∙ (ap (λ (j : NodeKey). next j.slot) same ∙ is) in
-          let it : k ≡ other = cc in (
+          let it : k ≡ other = some-one k other (sym run2.0 ∙ (ap (λ (j : NodeKey). next j.slot) same ∙ is)) in (
             Contains-tail head other (k ∷ ks) (subst (λ j. Contains (k ∷ ks) j) it (Contains-head k ks)),
             ap (λ (j : NodeKey). prev j.slot) (sym it) ∙ (run2.1.0 ∙ ap Some same),
           )
@@ -215,7 +212,7 @@ module _ (next prev next2 prev2 : ℕ → Option NodeKey) where
           (λ y ys is. nexts x (Contains-head x rest) (λ at_end.
           let ends : next x.slot ≡ None = run-end next prev x rest last x run.1.1 at_end in
           let goes : next x.slot ≡ Some y = run-first next prev (Some x) (next x.slot) rest last run.1.1 ∙ ap first_key is in
-          absurd (cc))),
+          absurd (none-some y (sym ends ∙ goes)))),
     ),
   )
 
@@ -239,7 +236,7 @@ module _ (next prev next2 prev2 : ℕ → Option NodeKey) where
           → (last ≢ Some key → last2 ≡ last)
           → IsRun next2 prev2 before first2 (without key keys) last2
       run-cut before first first2 [] last last2 run differ there away nexts prevs begins begins_else ends ends_else =
-          absurd (omega (arith, there.1))
+          absurd (Contains-none key there)
       run-cut before first first2 (x ∷ rest) last last2 run differ there away nexts prevs begins begins_else ends ends_else =
           elim (key_cases key x) [
             | inl same ↦
@@ -252,11 +249,11 @@ module _ (next prev next2 prev2 : ℕ → Option NodeKey) where
               | inl same ↦ absurd (apart (sym same))
               | inr later ↦
                   subst (λ keys. IsRun next2 prev2 before first2 keys last2) (sym (without-other key x rest apart)) (
-                    begins_else (λ is. let both : Some x ≡ Some key = sym run.0 ∙ is in apart (cc)) ∙ run.0,
+                    begins_else (λ is. apart (sym (some-one x key (sym run.0 ∙ is)))) ∙ run.0,
                     (
                       prevs x (Contains-head x rest) (λ is. away (sym run.1.0 ∙ back x is)) (λ e. apart (sym e)) ∙ run.1.0,
                       run-cut (Some x) (next x.slot) (next2 x.slot) rest last last2 run.1.1 (AllDiffer-tail x rest differ) later
-                          (λ is. apart (cc))
+                          (λ is. apart (sym (some-one x key is)))
                           (λ y in_rest. nexts y (Contains-tail x y rest in_rest)) (λ y in_rest. prevs y (Contains-tail x y rest in_rest))
                           (λ is. bridge x (run-before next prev (Some x) (next x.slot) rest last key run.1.1 is))
                           (λ is. nexts x (Contains-head x rest) (λ is_prev. is (forth x is_prev)) (λ e. apart (sym e)))
@@ -283,14 +280,14 @@ module _ (next prev next2 prev2 : ℕ → Option NodeKey) where
               (λ is. off (run-on next prev (Some x) (next x.slot) (y ∷ ys) last z key run2 in_rest (forth z is)).0)
               (λ e. off (subst (λ k. Contains (y ∷ ys) k) e in_rest)) in
               let same_last : last2 ≡ last = ends_else (λ is. elim (run-last next prev (Some y) (next y.slot) ys last key run2.1.1 is) [
-                | inl here ↦ let it : y ≡ key = cc in off (subst (λ k. Contains (y ∷ ys) k) it (Contains-head y ys))
+                | inl here ↦ off (subst (λ k. Contains (y ∷ ys) k) (some-one y key here) (Contains-head y ys))
                 | inr later ↦ off (Contains-tail y key ys later)
               ]) in
               let later : IsRun next2 prev2 (Some y) (next y.slot) ys last =
               run-frame (Some y) (next y.slot) ys last
               (λ z in_ys. stays z (Contains-tail y z ys in_ys))
               (λ z in_ys. prevs2 z (Contains-tail y z ys in_ys)
-              (λ is. let both : Some y ≡ Some z = sym goes ∙ is in head_differs y z ys apart in_ys (cc))
+              (λ is. head_differs y z ys apart in_ys (some-one y z (sym goes ∙ is)))
               (λ e. off (subst (λ k. Contains (y ∷ ys) k) e (Contains-tail y z ys in_ys)))) run2.1.1 in (
                 begins (run.0 ∙ ap Some (sym same)) ∙ goes,
                 (

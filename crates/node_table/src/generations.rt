@@ -14,12 +14,15 @@ pub(crate) fn next_of(nexts: &[u64], slot: usize, first: u32) -> u64
     }
 }
 
-/// Makes room for this slot, so that `bump` takes no memory.
+/// Makes room for this slot, so that `bump` takes no memory. A slot that no key can name gets none.
 pub(crate) fn reserve_to(nexts: &mut Vec<u64>, slot: usize) -> Result<(), AllocError>
-    requires { slot < 2 ^ 32 }
+    ensures small { OnOk result (slot < 2 ^ 32) }
     ensures items { nexts.new.items ≡ nexts.old.items }
     ensures room { OnOk result (slot + 1 ≤ vec_capacity nexts.new) }
 {
+    if slot > u32::MAX as usize {
+        return Err(AllocError);
+    }
     let len = nexts.len();
     if len <= slot {
         nexts.reserve(slot + 1 - len)?;

@@ -182,10 +182,10 @@ impl<N> NodeTable<N> {
         let before = keys.len();
         let mut at = self.first_child(key);
         'children: while let Some(child) = at {
-            if keys.push(child).is_err() {
+            let Ok(()) = keys.push(child) else {
                 keys.truncate(before);
                 return Err(NoMemory);
-            }
+            };
             at = self.next_sibling(child);
         }
         Ok(())
@@ -217,13 +217,13 @@ impl<N> NodeTable<N> {
         if self.count == self.limit {
             return Err((node, TableFault::Full));
         }
-        if self.slots.reserve(1).is_err() {
+        let Ok(()) = self.slots.reserve(1) else {
             return Err((node, TableFault::NoMemory));
-        }
+        };
         let slot = self.slots.vacant_key();
-        if slot > u32::MAX as usize || reserve_to(&mut self.nexts, slot).is_err() {
+        let Ok(()) = reserve_to(&mut self.nexts, slot) else {
             return Err((node, TableFault::NoMemory));
-        }
+        };
         let next = next_of(self.nexts.as_slice(), slot, self.first);
         let key = NodeKey {
             slot: slot as u32,

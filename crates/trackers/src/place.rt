@@ -101,8 +101,7 @@ pub(crate) fn make_room(
     }
     places.reserve(1)?;
     slots.reserve(1)?;
-    fired.reserve(waiting + 1)?;
-    Ok(())
+    fired.reserve(waiting + 1)
 }
 
 /// Puts the row into a slot, and its place behind the others.

@@ -213,8 +213,8 @@ fn add(
         weigh f (entries_of index.new c) ≡ weigh f (entries_of index.old c)) }
 {
     let alloc = *due.allocator();
-    let row = Row::new(alloc, tracker)?;
     due.reserve(waiting + 1)?;
+    let row = Row::new(alloc, tracker)?;
     let at = rows.len();
     rows.push(row, waiting)?;
     match insert_row(index, alloc, tracker.collection, tracker.condition, at) {

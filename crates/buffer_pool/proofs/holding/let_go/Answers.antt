@@ -1,4 +1,5 @@
 -- The intervals lie one after another where the search ends.
+use Rattle.std.proofs.lemmas.Grind.{common_steps}
 use Rattle.std.proofs.Common.{ℕ, ◌≡◌, ◌+◌, ◌-◌, ◌≤◌, ◌∙◌, ap, arith, length, List, nat_lt}
 use Rattle.std.specs.List.{prefix_len, remove_range}
 use Rattle.sm_names.specs.declared.rules.TheConstants.{MAX_PAGES}
@@ -64,3 +65,7 @@ returns c =
     let whole : c.args.count - c.loop-left.left ≡ c.args.count = omega (arith, c.loop-left-test.false) in
     c.loop-left.invariant.items ∙ ap (λ n. remove_range all at (at + n)) whole
     ∙ run_removed c.args.first.start c.args.first.pages c.args.count MAX_PAGES all c.requires.up c.requires.there at (found f)
+
+-- by arithmetic and the usual steps
+pub loop-left-init : goal.loop-left-init
+loop-left-init c = grind (arith, common_steps)

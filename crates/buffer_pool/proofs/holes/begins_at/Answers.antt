@@ -1,5 +1,6 @@
 -- The hole at the spot is the first of those behind the place.
-use Rattle.std.proofs.Common.{sym, refl}
+use Rattle.std.proofs.lemmas.Grind.{common_steps}
+use Rattle.std.proofs.Common.{sym, refl, arith}
 use Rattle.std.proofs.lemmas.List.{drop_more}
 use Rattle.buffer_pool.specs.Rows.{all_in, spot_index}
 use Rattle.buffer_pool.proofs.Joins.{place-within}
@@ -12,3 +13,7 @@ returns-then-has_interval c =
     let parts = rw (sym c.get.ensures) at (drop_more (all_in c.args.blocks.now.lists) (spot_index c.args.blocks.now.lists c.args.spot)
     c.get.result lt) in
     rw (parts, c.edge.ensures) refl
+
+-- by arithmetic and the usual steps
+pub returns-else-has_interval : goal.returns-else-has_interval
+returns-else-has_interval c = grind (arith, common_steps)

@@ -1,14 +1,15 @@
 -- The next hole goes where the two touch.
-use Rattle.std.proofs.Common.{◌∙◌, ◌≡◌, ◌≤◌, ◌+◌, arith, rules, ap, sym, get_or, set, take, drop, [], List, length-set, true, refl}
+use Rattle.std.proofs.Common.{◌∙◌, ◌≡◌, ◌≤◌, ◌+◌, ◌<◌, ◌^◌, arith, rules, ap, sym, get_or, set, take, drop, [], List, length-set, true, refl, subst}
 use Rattle.std.specs.List.{remove}
 use Rattle.std.proofs.lemmas.List.{take-take}
 use Rattle.sm_names.specs.declared.rules.TheConstants.{MAX_PAGES}
 use Rattle.sm_names.specs.declared.keys.Interval.{Interval}
 use Rattle.buffer_pool.specs.Merging.{first_begins}
 use Rattle.buffer_pool.specs.Holes.{end_of}
-use Rattle.buffer_pool.specs.Rows.{all_in, spot_index}
+use Rattle.buffer_pool.specs.Rows.{all_in, spot_index, HasIntervalAt}
 use Rattle.buffer_pool.proofs.Joins.{place-within, within-all, same-place, remove-next}
 use Rattle.buffer_pool.proofs.Spaces.{join_apart, join_touching, first_within}
+use Rattle.buffer_pool.proofs.Touching.{there_if, begins_there, holds_there, still_there}
 use Rattle.buffer_pool.proofs.holes.join_next.Goals as goal
 use Rattle.buffer_pool.proofs.holes.join_next.Goals.{After-settle-next}
 
@@ -62,3 +63,31 @@ returns-else-begins_at c =
       front = c.set-else-begins_at.ensures.changed.front;
       capacity = c.set-else-begins_at.ensures.changed.capacity;
     }
+
+-- the next hole lies where it touches this one
+pub get-more-requires : goal.get-more-requires
+get-more-requires c =
+    let test = rw c.edge.ensures at c.begins_at.ensures in
+    there_if c.args.blocks.now.lists c.settle-next.result (first_begins (end_of c.args.hole)) refl c.settle-next.ensures.settled
+    (sym test ∙ c.if-begins_at.true)
+
+pub remove-requires : goal.remove-requires
+remove-requires c =
+    let test = rw c.edge.ensures at c.begins_at.ensures in
+    subst (λ (M : List (List Interval)). HasIntervalAt M c.settle-next.result) (sym c.set.ensures.lists)
+    (still_there c.args.blocks.now.lists c.args.spot c.settle-next.result
+    (record { start = c.args.hole.start; pages = c.args.hole.pages + c.get-more.result.pages })
+    (there_if c.args.blocks.now.lists c.settle-next.result (first_begins (end_of c.args.hole)) refl c.settle-next.ensures.settled
+    (sym test ∙ c.if-begins_at.true)))
+
+-- both end where the next one does
+pub overflow_add-whole : goal.overflow_add-whole
+overflow_add-whole c =
+    let test = rw c.edge.ensures at c.begins_at.ensures in
+    let touch : c.get-more.result.start ≡ end_of c.args.hole = begins_there c.args.blocks.now.lists c.settle-next.result (end_of c.args.hole)
+    c.get-more.result c.get-more.ensures (sym test ∙ c.if-begins_at.true) in
+    let fits : end_of c.get-more.result < 2 ^ 32 = holds_there c.args.blocks.now.lists c.settle-next.result (end_of c.args.hole)
+    c.get-more.result c.get-more.ensures (λ h. end_of h < 2 ^ 32) (first_begins (end_of c.args.hole)) refl (sym test ∙ c.if-begins_at.true)
+    c.requires.fits in
+    let few : c.args.hole.pages + c.get-more.result.pages < 2 ^ 32 = omega (arith, touch, fits) in
+    search rules

@@ -1,3 +1,4 @@
+use Rattle.std.proofs.lemmas.Grind.{common_steps}
 use Rattle.std.proofs.Common.{◌≡◌, ◌+◌, ◌++◌, ◌<◌, ◌≤◌, false, true, All, IsOk, IsSome, length, arith, sym, subst}
 use Rattle.std.proofs.lemmas.List.{length-append}
 use Rattle.std.proofs.lemmas.List.Elements.{All-append}
@@ -58,3 +59,7 @@ returns-in_err-append_within-clause-room g c h =
     let never : false ≡ true = subst IsOk c.in_err-append_within.was
     (c.append_within.ensures.room (omega (arith, h, fit, both, c.down.keys.ok, c.down.invariant.capacity))) in
     cc
+
+-- by arithmetic and the usual steps
+pub returns-then-is_err-clause-room : goal.returns-then-is_err-clause-room
+returns-then-is_err-clause-room g c = grind (arith, common_steps)

@@ -1,4 +1,5 @@
-use Rattle.std.proofs.Common.{None, IfSome, subst}
+use Rattle.std.proofs.lemmas.Grind.{common_steps}
+use Rattle.std.proofs.Common.{None, IfSome, subst, arith}
 use Rattle.node_table.specs.Sound.{HasEntry, with_first, with_next}
 use Rattle.node_table.proofs.Steps.{has, joins_first, joins_last, joins_mid}
 use Rattle.node_table.proofs.slot.join.Goals as goal
@@ -42,3 +43,7 @@ returns-in-Some-Some g c =
     (joins_mid c.args.slots.now c.set_next-in-Some-Some.new.slots c.set_prev-in-Some-Some.new.slots c.args.parent c.in-Some-Some.before
     c.in-Some-Some.after
     (rw c.in-Some-Some.is-1 at c.set_next-in-Some-Some.ensures) (rw c.in-Some-Some.is-0 at c.set_prev-in-Some-Some.ensures))
+
+-- by arithmetic and the usual steps
+pub returns-in-None-None : goal.returns-in-None-None
+returns-in-None-None g c = grind (arith, common_steps)

@@ -1,3 +1,4 @@
+use Rattle.std.proofs.lemmas.Grind.{common_steps}
 use Rattle.std.proofs.Common.{◌≡◌, ◌+◌, ◌<◌, ℕ, length, slice_set, ap, ◌∙◌, Ok, Err, OnOk, OnErr, arith}
 use Rattle.std.specs.BinaryHeap.{heap_items}
 use Rattle.trackers.specs.WaitIndex.{Wish, wishes_of, entries_in, weigh}
@@ -38,3 +39,7 @@ pub returns-clause-ok : goal.returns-clause-ok
 returns-clause-ok c = λ f. ap (λ l. weigh f (entries_in l)) c.in_ok-insert.ensures.items
     ∙ join_step f c.args.lists.now.items c.place_for-at.result c.put-2.new.list c.args.condition c.args.place (heap_items c.new.result)
     c.new.ensures.items (c.in_ok-put.ensures.ok f)
+
+-- by arithmetic and the usual steps
+pub put-requires : goal.put-requires
+put-requires c = grind (arith, common_steps)

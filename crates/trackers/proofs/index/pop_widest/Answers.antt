@@ -1,3 +1,4 @@
+use Rattle.std.proofs.lemmas.Grind.{common_steps}
 use Rattle.std.proofs.Common.{◌≡◌, ◌<◌, ◌≤◌, ℕ, true, false, length, ap, sym, ◌∙◌, arith}
 use Rattle.std.specs.BinaryHeap.{heap_items}
 use Rattle.std.specs.Ordering.{nat_cmp}
@@ -33,3 +34,7 @@ returns-clause-some g c =
     ap (λ (e : ℕ × ℕ). holds w (at_most c.args.list.now.condition e.0)) (sym same) ∙ (ap (holds w) (sym c.at_most.ensures)
     ∙ (sym c.holds_in.ensures ∙ c.if-not-holds_in.false)) in
     asking_pop w c.args.list.now.condition c.in_ok-place.field-0-0 c.in_ok-place.place items _ met c.in_ok-place.ensures.permutation
+
+-- by arithmetic and the usual steps
+pub returns-in_err-most-clause-none : goal.returns-in_err-most-clause-none
+returns-in_err-most-clause-none g c = grind (arith, common_steps)

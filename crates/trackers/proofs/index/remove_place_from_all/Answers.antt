@@ -1,3 +1,4 @@
+use Rattle.std.proofs.lemmas.Grind.{common_steps}
 use Rattle.std.proofs.Common.{◌<◌, ◌+◌, length, ◌∙◌, arith}
 use Rattle.std.proofs.lemmas.List.{drop-set-lt, length-set}
 use Rattle.trackers.specs.WaitIndex.{weigh_at}
@@ -17,3 +18,7 @@ loop-at-preserved c =
           c.loop-at.invariant.others).1;
       long = length-set c.loop-at.lists.items c.loop-at.at c.remove_place.new.list ∙ c.loop-at.invariant.long;
     }
+
+-- by arithmetic and the usual steps
+pub returns : goal.returns
+returns c = grind (arith, common_steps)

@@ -1,3 +1,4 @@
+use Rattle.std.proofs.lemmas.Grind.{common_steps}
 use Rattle.std.proofs.Common.{◌≡◌, ◌<◌, ◌+◌, length, take, ◌∙◌, arith}
 use Rattle.std.proofs.lemmas.List.{drop-set-lt, length-set, take_all}
 use Rattle.sm_names.specs.Trackers.{World}
@@ -56,3 +57,7 @@ returns-clause-kept g c = λ f.
     let start = c.args.lists.now.items in
     let whole : take c.loop-at.at start ≡ start = take_all c.loop-at.at start (omega (arith, c.loop-at-test.false, c.len-at-end.ensures)) in
     kept_all w f (entries_in start) (entries_in c.loop-at.lists.items) (rw whole at c.loop-at.invariant.so_far f)
+
+-- by arithmetic and the usual steps
+pub returns-clause-due : goal.returns-clause-due
+returns-clause-due g c = grind (arith, common_steps)

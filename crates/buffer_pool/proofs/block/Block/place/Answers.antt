@@ -1,4 +1,5 @@
 -- The edges rise, so what is before a smaller one is smaller.
+use Rattle.std.proofs.lemmas.Grind.{common_steps}
 use Rattle.std.proofs.Common.{arith}
 use Rattle.buffer_pool.specs.Rows.{edge_of}
 use Rattle.buffer_pool.proofs.Searches.{search_upper, search_ends}
@@ -16,3 +17,7 @@ returns c =
     rw (← c.self.view_is)
     (search_ends (edge_of c.args.by_end) c.args.page c.loop-low.low c.loop-low.high c.self.inside.cells.items c.loop-low-test.false
     c.loop-low.invariant)
+
+-- by arithmetic and the usual steps
+pub loop-low-preserved : goal.loop-low-preserved
+loop-low-preserved c = grind (arith, common_steps)

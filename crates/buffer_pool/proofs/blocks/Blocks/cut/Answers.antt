@@ -1,4 +1,5 @@
 -- A spare block is used, and both have intervals.
+use Rattle.std.proofs.lemmas.Grind.{common_steps}
 use Rattle.std.proofs.Common.{◌<◌, ◌≡◌, ◌-◌, ◌+◌, arith, length, get_or, set, [], length-drop}
 use Rattle.std.proofs.lemmas.List.{get_or_read, length-take-le, length-set}
 use Rattle.buffer_pool.specs.declared.block.TheConstants.{HALF}
@@ -23,3 +24,10 @@ invariant_of-self c =
     two (omega arith) (rw c.unwrap.ensures at c.insert.ensures.items) c.pop.ensures.rest (omega (arith, spare, c.self.inside.spare.ok.0))
     c.insert.ensures.capacity (omega (arith, c.pop.ensures.capacity))
     (blocks-set c.self.inside.used.items c.self.inside.spare.items c.args.at c.cut_into.new.self _ _ one c.self.invariant)
+
+-- by arithmetic and the usual steps
+pub cut_into-requires-clause-within : goal.cut_into-requires-clause-within
+cut_into-requires-clause-within c = grind (arith, common_steps)
+
+pub returns-clause-lists : goal.returns-clause-lists
+returns-clause-lists c = grind (arith, common_steps)

@@ -1,4 +1,5 @@
 -- The place in the block is the place of all.
+use Rattle.std.proofs.lemmas.Grind.{common_steps}
 use Rattle.std.proofs.Common.{◌≡◌, ◌<◌, ◌≤◌, ◌∙◌, ap, arith, sym, subst, length, get_or, take, [], nat_lt, ◌+◌}
 use Rattle.std.specs.List.{prefix_len}
 use Rattle.std.specs.List.Sorted.{IsNonDecreasingBy}
@@ -42,3 +43,7 @@ returns-then-block-len-clause-place c =
     (c.place-offset.ensures ∙ ap (prefix_len (λ (i : Interval). nat_lt (edge_of c.args.by_end i) c.args.page)) (here m))
     ∙ found-in (edge_of c.args.by_end) c.args.page c.block_of-block.result c.self.inside.used.items (there m) c.self.invariant.some up
     below above)
+
+-- by arithmetic and the usual steps
+pub returns-else-block-len-clause-place : goal.returns-else-block-len-clause-place
+returns-else-block-len-clause-place c = grind (arith, common_steps)

@@ -1,4 +1,5 @@
 -- The search goes from block to block.
+use Rattle.std.proofs.lemmas.Grind.{common_steps}
 use Rattle.std.proofs.Common.{◌≡◌, ◌<◌, ◌≤◌, ◌∙◌, ap, arith, length, get_or, set, [], ◌+◌, rules}
 use Rattle.std.specs.List.{prefix_len}
 use Rattle.std.proofs.lemmas.List.{get_or_read, set-get_or}
@@ -94,3 +95,13 @@ returns-clause-found c =
     rw (← c.loop-block.invariant.0)
     (found-end c.args.pages_each c.loop-block.block c.loop-block.offset c.loop-block.before c.loop-block.self-inside.used.items
     (omega (arith, c.loop-block-test.false, c.len.ensures, c.loop-block.self-inside.used.ok.0)) c.loop-block.invariant.2).1
+
+-- by arithmetic and the usual steps
+pub returns-then-at-count-clause-taken : goal.returns-then-at-count-clause-taken
+returns-then-at-count-clause-taken c = grind (arith, common_steps)
+
+pub returns-then-at-count-clause-same : goal.returns-then-at-count-clause-same
+returns-then-at-count-clause-same c = grind (arith, common_steps)
+
+pub returns-clause-taken : goal.returns-clause-taken
+returns-clause-taken c = grind (arith, common_steps)

@@ -1,5 +1,6 @@
 -- The interval lies in its block.
-use Rattle.std.proofs.Common.{◌≡◌, ◌∙◌, ap, get_or, [], List}
+use Rattle.std.proofs.lemmas.Grind.{common_steps}
+use Rattle.std.proofs.Common.{◌≡◌, ◌∙◌, ap, get_or, [], List, arith}
 use Rattle.std.proofs.lemmas.List.{get_or_read}
 use Rattle.sm_names.specs.declared.keys.Interval.{Interval}
 use Rattle.buffer_pool.proofs.Joins.{get_in}
@@ -13,3 +14,7 @@ returns c =
     rw (← c.self.view_is)
     (c.get.ensures ∙ ap (λ (B : List Interval). get_or B c.args.spot.offset c.get.result) here
     ∙ get_in c.self.inside.used.items c.args.spot.block c.args.spot.offset c.get.result taken.0 taken.1)
+
+-- by arithmetic and the usual steps
+pub get-requires : goal.get-requires
+get-requires c = grind (arith, common_steps)

@@ -1,4 +1,5 @@
 -- What is passed has no room, and a block's room is taken from what is left.
+use Rattle.std.proofs.lemmas.Grind.{common_steps}
 use Rattle.std.proofs.Common.{◌≡◌, ◌<◌, ◌≤◌, ◌-◌, ap, arith, sym, length, get_or, take, drop, [], List, ◌+◌}
 use Rattle.std.proofs.lemmas.Bool.{le-leb}
 use Rattle.std.proofs.lemmas.List.{get_or_read}
@@ -43,3 +44,10 @@ returns-then-left-eq0 c =
 
 pub loop-block-preserved : goal.loop-block-preserved
 loop-block-preserved c = (omega arith, left (goal.at.loop-block-preserved c).After-left_over-left)
+
+-- by arithmetic and the usual steps
+pub left_over-left-requires-clause-from : goal.left_over-left-requires-clause-from
+left_over-left-requires-clause-from c = grind (arith, common_steps)
+
+pub returns : goal.returns
+returns c = grind (arith, common_steps)

@@ -1,4 +1,5 @@
 -- The interval comes into its block, into a half of it, or into one of its own.
+use Rattle.std.proofs.lemmas.Grind.{common_steps}
 use Rattle.std.proofs.Common.{◌≡◌, ◌<◌, ◌≤◌, ◌+◌, ◌-◌, ◌*◌, ◌∙◌, ap, arith, length, get_or, take, [], ◌∷◌, List, length-drop}
 use Rattle.std.specs.List.{insert}
 use Rattle.std.proofs.lemmas.List.{get_or_read, length-set, take-set, take-set-le, length-take-le}
@@ -144,3 +145,19 @@ returns-else-spot-le-HALF c =
           ∙ take-set-le c.args.spot.block M (c.args.spot.block + 1) X (omega arith) ∙ k.front;
       capacity = ap (λ n. (n - 1) * HALF) all;
     }
+
+-- by arithmetic and the usual steps
+pub put-requires-clause-room : goal.put-requires-clause-room
+put-requires-clause-room c = grind (arith, common_steps)
+
+pub cut-requires-clause-full : goal.cut-requires-clause-full
+cut-requires-clause-full c = grind (arith, common_steps)
+
+pub put-requires-then-spot-le-HALF-clause-there : goal.put-requires-then-spot-le-HALF-clause-there
+put-requires-then-spot-le-HALF-clause-there c = grind (arith, common_steps)
+
+pub put-requires-else-spot-le-HALF-clause-there : goal.put-requires-else-spot-le-HALF-clause-there
+put-requires-else-spot-le-HALF-clause-there c = grind (arith, common_steps)
+
+pub returns-then-spot-len : goal.returns-then-spot-len
+returns-then-spot-len c = grind (arith, common_steps)

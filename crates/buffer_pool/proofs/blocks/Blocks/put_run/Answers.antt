@@ -1,4 +1,5 @@
 -- The block has more intervals, and the spare one none again.
+use Rattle.std.proofs.lemmas.Grind.{common_steps}
 use Rattle.std.proofs.Common.{◌≡◌, ◌<◌, ◌≤◌, ◌-◌, ◌∙◌, ap, arith, length, get_or, set, [], List, length-set}
 use Rattle.std.specs.List.{insert_slice}
 use Rattle.std.proofs.lemmas.List.{get_or_read}
@@ -45,3 +46,10 @@ returns-clause-lists c =
 pub returns-clause-spares : goal.returns-clause-spares
 returns-clause-spares c =
     rw (← c.self.view_is) (length-set c.self.inside.spare.items (c.len-last.result - 1) c.insert_run.new.other)
+
+-- by arithmetic and the usual steps
+pub insert_run-requires-clause-within : goal.insert_run-requires-clause-within
+insert_run-requires-clause-within c = grind (arith, common_steps)
+
+pub insert_run-requires-clause-room : goal.insert_run-requires-clause-room
+insert_run-requires-clause-room c = grind (arith, common_steps)

@@ -1,4 +1,5 @@
 -- The intervals lie in one block, which goes with its last.
+use Rattle.std.proofs.lemmas.Grind.{common_steps}
 use Rattle.std.proofs.Common.{◌≡◌, ◌<◌, ◌≤◌, ◌+◌, ◌-◌, ◌*◌, ◌∙◌, ap, arith, sym, min, length, get_or, set, take, [], List}
 use Rattle.std.specs.List.{remove_range}
 use Rattle.std.proofs.lemmas.List.{get_or_read, length-set, take-set, length_push, get_or-set_same, nil_from_length}
@@ -9,7 +10,7 @@ use Rattle.buffer_pool.specs.Rows.{all_in}
 use Rattle.buffer_pool.proofs.Blocking.{blocks-gone, remove-set}
 use Rattle.buffer_pool.proofs.Joins.{remove_range_in, without_none, take-remove}
 use Rattle.buffer_pool.proofs.blocks.Blocks.remove_run.Goals as goal
-use Rattle.buffer_pool.proofs.blocks.Blocks.remove_run.Goals.{After-unwrap, After-remove_run}
+use Rattle.buffer_pool.proofs.blocks.Blocks.remove_run.Goals.{After-push_reserved, After-remove_run}
 
 here : (c : After-remove_run) → c.index_mut.result.now ≡ get_or c.self.inside.used.items c.args.spot.block []
 here c =
@@ -40,7 +41,7 @@ no_fewer : (c : After-remove_run) → c.min-count.result
 no_fewer c = c.min-count.ensures ∙ ap (λ n. min c.args.most (n - c.args.spot.offset)) (size c)
 
 -- the block that went is empty
-gone : (c : After-unwrap) → c.remove-block.result ≡ []
+gone : (c : After-push_reserved) → c.remove-block.result ≡ []
 gone c =
     let taken = rw (← c.self.view_is) at c.requires.there in
     let X : List Interval = c.remove_run.new.self in
@@ -57,7 +58,7 @@ invariant_of-self c =
     blocks-gone c.self.inside.used.items c.self.inside.spare.items c.args.spot.block c.remove-block.result _ _ c.self.inside.used.cap
     c.self.inside.spare.cap _ _ (gone c) taken.0
     (c.remove-block.ensures.items ∙ remove-set c.self.inside.used.items c.args.spot.block c.remove_run.new.self)
-    (rw c.unwrap.ensures at c.push.ensures.items) (omega (arith, c.remove-block.ensures.capacity)) c.push.ensures.capacity c.self.invariant
+    c.push_reserved.ensures.items (omega (arith, c.remove-block.ensures.capacity)) (omega (arith, c.push_reserved.ensures.capacity)) c.self.invariant
 
 pub returns-then-len-eq0-clause-no_fewer : goal.returns-then-len-eq0-clause-no_fewer
 returns-then-len-eq0-clause-no_fewer c =
@@ -79,9 +80,9 @@ returns-then-len-eq0-clause-changed c =
     sym (get_or_read L c.args.spot.block c.remove-block.result lt c.remove-block.ensures.value []) ∙ gone c in
     let short : length c.remove-block.new.self.items + 1 ≡ length L =
     ap (λ (r : List (List Interval)). length r + 1) c.remove-block.ensures.items ∙ length-remove L c.args.spot.block lt in
-    let long : length c.push.new.self.items ≡ length c.self.inside.spare.items + 1 =
-    ap length (rw c.unwrap.ensures at c.push.ensures.items) ∙ length_push c.self.inside.spare.items c.remove-block.result in
-    let all : length c.remove-block.new.self.items + length c.push.new.self.items
+    let long : length c.push_reserved.new.self.items ≡ length c.self.inside.spare.items + 1 =
+    ap length c.push_reserved.ensures.items ∙ length_push c.self.inside.spare.items c.remove-block.result in
+    let all : length c.remove-block.new.self.items + length c.push_reserved.new.self.items
     ≡ length c.self.inside.used.items + length c.self.inside.spare.items = omega arith in
     rw (← c.self.view_is)
     (record {
@@ -102,3 +103,22 @@ returns-else-len-eq0-clause-changed c =
       capacity = ap (λ n. (n + length c.self.inside.spare.items - 1) * HALF)
           (length-set c.self.inside.used.items c.args.spot.block c.remove_run.new.self);
     })
+
+-- by arithmetic and the usual steps
+pub overflow_sub-len : goal.overflow_sub-len
+overflow_sub-len c = grind (arith, common_steps)
+
+pub remove_run-requires : goal.remove_run-requires
+remove_run-requires c = grind (arith, common_steps)
+
+pub returns-then-len-eq0-clause-count : goal.returns-then-len-eq0-clause-count
+returns-then-len-eq0-clause-count c = grind (arith, common_steps)
+
+pub returns-then-len-eq0-clause-within : goal.returns-then-len-eq0-clause-within
+returns-then-len-eq0-clause-within c = grind (arith, common_steps)
+
+pub returns-else-len-eq0-clause-count : goal.returns-else-len-eq0-clause-count
+returns-else-len-eq0-clause-count c = grind (arith, common_steps)
+
+pub returns-else-len-eq0-clause-within : goal.returns-else-len-eq0-clause-within
+returns-else-len-eq0-clause-within c = grind (arith, common_steps)

@@ -1,5 +1,6 @@
 -- The interval lies in its block.
-use Rattle.std.proofs.Common.{◌≡◌, ◌+◌, ◌-◌, ◌*◌, ◌∙◌, ap, length, get_or, set, [], List}
+use Rattle.std.proofs.lemmas.Grind.{common_steps}
+use Rattle.std.proofs.Common.{◌≡◌, ◌+◌, ◌-◌, ◌*◌, ◌∙◌, ap, length, get_or, set, [], List, arith}
 use Rattle.std.proofs.lemmas.List.{get_or_read, length-set, take-set}
 use Rattle.buffer_pool.specs.declared.block.TheConstants.{HALF}
 use Rattle.sm_names.specs.declared.keys.Interval.{Interval}
@@ -30,3 +31,7 @@ returns-clause-lists c =
     rw (← c.self.view_is)
     (ap (set c.self.inside.used.items c.args.spot.block) (c.set.ensures ∙ ap (λ (B : List Interval). set B c.args.spot.offset c.args.new)
     here))
+
+-- by arithmetic and the usual steps
+pub set-requires : goal.set-requires
+set-requires c = grind (arith, common_steps)

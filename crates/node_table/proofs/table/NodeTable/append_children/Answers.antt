@@ -1,3 +1,4 @@
+use Rattle.std.proofs.lemmas.Grind.{common_steps}
 use Rattle.std.proofs.Common.{◌≡◌, ◌+◌, ◌<◌, [], ◌∷◌, ◌++◌, rules, arith, refl, ap, subst, length, sym, ◌∙◌}
 use Rattle.std.proofs.lemmas.List.{length_push}
 use Rattle.node_table.specs.Table.{children_at}
@@ -49,3 +50,10 @@ returns g c =
       capacity = c.children.invariant.capacity;
       forest = c.children.invariant.forest;
     }
+
+-- by arithmetic and the usual steps
+pub returns-in_default-push-clause-err : goal.returns-in_default-push-clause-err
+returns-in_default-push-clause-err g c = grind (arith, common_steps)
+
+pub returns-in_default-push-clause-room : goal.returns-in_default-push-clause-room
+returns-in_default-push-clause-room g c = grind (arith, common_steps)

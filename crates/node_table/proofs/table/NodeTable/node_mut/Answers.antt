@@ -1,4 +1,5 @@
-use Rattle.std.proofs.Common.{◌≡◌, ◌∙◌, Some, refl, sym, ap, subst, IsSome}
+use Rattle.std.proofs.lemmas.Grind.{common_steps}
+use Rattle.std.proofs.Common.{◌≡◌, ◌∙◌, Some, refl, sym, ap, subst, IsSome, arith}
 use Rattle.node_table.specs.Table.{row_at, node_at}
 use Rattle.node_table.specs.Lending.{table_with_node}
 use Rattle.node_table.proofs.Slots.{taken-by}
@@ -31,3 +32,10 @@ returns g c =
             (subst (λ t. IsSome (row_at t c.args.key)) (sym c.self.view_is) c.requires));
       },
     )
+
+-- by arithmetic and the usual steps
+pub index_mut-requires : goal.index_mut-requires
+index_mut-requires g c = grind (arith, common_steps)
+
+pub entry_mut-entry-requires : goal.entry_mut-entry-requires
+entry_mut-entry-requires g c = grind (arith, common_steps)

@@ -1,4 +1,5 @@
-use Rattle.std.proofs.Common.{◌∙◌, sym, ap, subst, rules, is_some, IsSome}
+use Rattle.std.proofs.lemmas.Grind.{common_steps}
+use Rattle.std.proofs.Common.{◌∙◌, sym, ap, subst, rules, is_some, IsSome, arith}
 use Rattle.node_table.specs.Table.{row_at}
 use Rattle.node_table.specs.Changes.{Cuts, without_parent}
 use Rattle.node_table.proofs.Slots.{entry-there, is_some-option_map}
@@ -27,3 +28,7 @@ returns g c =
     c.requires.there c.requires.leaf (subst (λ t. Cuts c.args.self.now t c.args.key) (sym c.self.view_is) c.cut.ensures)
     c.self.invariant c.take_entry-entry.ensures.was c.take_entry-entry.ensures.none c.take_entry-entry.ensures.others
     (λ last. c.take_entry-entry.ensures.retired (search rules)) (search rules)
+
+-- by arithmetic and the usual steps
+pub overflow_sub-self : goal.overflow_sub-self
+overflow_sub-self g c = grind (arith, common_steps)

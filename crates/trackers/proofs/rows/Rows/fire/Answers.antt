@@ -1,3 +1,4 @@
+use Rattle.std.proofs.lemmas.Grind.{common_steps}
 use Rattle.std.proofs.Common.{sym, arith}
 use Rattle.trackers.proofs.FiringLemmas.{row_here, slot_here, fired_all}
 use Rattle.trackers.proofs.rows.Rows.fire.Goals as goal
@@ -33,3 +34,10 @@ returns-clause-row c = λ d.
     (omega (arith, c.fire_place-firing.ensures.number, c.len-number.ensures))
     c.fire_place-firing.ensures.cell c.fire_place-firing.ensures.stage c.fire_place-firing.ensures.firing
     c.fire_place-firing.ensures.slots.others).0
+
+-- by arithmetic and the usual steps
+pub index_mut-requires : goal.index_mut-requires
+index_mut-requires c = grind (arith, common_steps)
+
+pub returns-clause-fired : goal.returns-clause-fired
+returns-clause-fired c = grind (arith, common_steps)

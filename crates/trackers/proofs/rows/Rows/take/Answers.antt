@@ -1,3 +1,4 @@
+use Rattle.std.proofs.lemmas.Grind.{common_steps}
 use Rattle.std.proofs.Common.{◌^◌, ◌<◌, min, length, set, vec_capacity, refl, sym, ap, ◌∙◌, arith}
 use Rattle.trackers.specs.Row.{TrackerRow}
 use Rattle.trackers.specs.Places.{rows_of}
@@ -32,3 +33,13 @@ returns-clause-taken c = λ d.
     rw (← c.self.view_is, here) (ap
     (λ rows. kept_with rows c.self.inside.fired.items (min (vec_capacity c.self.inside.fired) (2 ^ 32)))
     (all ∙ ap (set (rows_of c.self.inside.slots.slots c.self.inside.fired.items c.self.inside.places.items) c.args.at) taken))
+
+-- by arithmetic and the usual steps
+pub index_mut-requires : goal.index_mut-requires
+index_mut-requires c = grind (arith, common_steps)
+
+pub take_at-requires : goal.take_at-requires
+take_at-requires c = grind (arith, common_steps)
+
+pub returns-clause-reader : goal.returns-clause-reader
+returns-clause-reader c = grind (arith, common_steps)

@@ -1,0 +1,7 @@
+use Rattle.std.proofs.Common.{arith}
+use Rattle.std.proofs.lemmas.Grind.{common_steps}
+use Rattle.node_table.proofs.table.NodeTable.get_mut.Goals as goal
+
+-- by arithmetic and the usual steps
+pub returns-then-contains : goal.returns-then-contains
+returns-then-contains g c = grind (arith, common_steps)
