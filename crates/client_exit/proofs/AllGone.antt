@@ -1,6 +1,6 @@
 -- Once each client has exited, every end is spent and no handle is open.
-use Rattle.std.proofs.Common.{ℕ, ◌≡◌, ◌+◌, ◌∙◌, refl, ap, sym, subst, Bool, true, false, not, ◌||◌, ◌==◌, inl, inr, List, [], ◌∷◌, ◌++◌, Option, Some, None, arith}
-use Rattle.std.proofs.lemmas.Bool.{eq-eqb}
+use Rattle.std.proofs.Common.{ℕ, ◌≡◌, ◌+◌, ◌∙◌, refl, ap, sym, subst, Bool, true, false, not, ◌||◌, ◌==◌, inl, inr, List, [], ◌∷◌, ◌++◌, Option, Some, None, arith, is_some}
+use Rattle.std.proofs.lemmas.Bool.{eq-eqb, false≢true}
 use Rattle.std.specs.List.{cons_option, list_any, sum_by}
 use Rattle.std.specs.Option.{option_map_or}
 use Rattle.sm_names.specs.declared.keys.BufferName.{BufferName}
@@ -52,7 +52,7 @@ collector_joined limits marks caller (Reply.Collected k kind collection) Call.Co
     let t = took_effect_all limits (readings marks) caller none_key Call.Collect (Reply.Collected k kind collection) refl refl answer.told in
     let is : caller ≡ c = (when-Some (same_key k key) caller c h).1 in
     ap (has_joined marks) (sym is) ∙ known (has_joined marks caller) (passed _ Refusal.NoSuchClient t.known)
-collector_joined limits marks caller _ _ answer key c h = cc
+collector_joined limits marks caller _ _ answer key c h = absurd (false≢true (ap is_some h))
 
 -- so has who gets a node
 born_joined : (limits : Bound) (marks : Timeline) (caller event : ℕ) (reply : Reply) (call : Call) (b : Birth) →
@@ -66,7 +66,7 @@ born_joined limits marks caller event (Reply.Token key collection) (Call.Duplica
 born_joined limits marks caller event (Reply.Token key collection) (Call.AttachToken parent) b answer h =
     let t = took_effect_all limits (readings marks) caller key (Call.AttachToken parent) (Reply.Token key collection) refl refl answer.told in
     known (has_joined marks caller) (passed _ Refusal.NoSuchClient t.known)
-born_joined limits marks caller event _ _ b answer h = cc
+born_joined limits marks caller event _ _ b answer h = absurd (false≢true (ap is_some h))
 
 -- the holder of each node's end has joined
 abbrev HoldersJoined : ℕ → List Entry → Type 0

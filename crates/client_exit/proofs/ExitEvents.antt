@@ -1,6 +1,6 @@
 -- One event after a client exited, and many: the client has nothing still.
 use Rattle.std.proofs.Common.{ℕ, ◌≡◌, ◌≤◌, ◌<◌, ◌+◌, ◌∙◌, refl, ap, sym, subst, Bool, true, false, cond, not, ◌&&◌, ◌||◌, ◌==◌, inl, inr, List, [], ◌∷◌, ◌++◌, length, length-append, append_assoc, Option, Some, None, is_some, arith}
-use Rattle.std.proofs.lemmas.Bool.{eqb-true, eq-eqb}
+use Rattle.std.proofs.lemmas.Bool.{eqb-true, eq-eqb, false≢true}
 use Rattle.std.proofs.lemmas.List.{append-nil}
 use Rattle.std.proofs.Math.Bool.{and-true}
 use Rattle.std.specs.List.{cons_option}
@@ -51,7 +51,7 @@ given_open limits marks caller Reply.Done (Call.GiveHandle buffer strength to) a
     let t = took_effect_all limits (readings marks) caller none_key (Call.GiveHandle buffer strength to) Reply.Done refl refl answer.told in
     let is : to ≡ client = eqb-true to client (when-Some (to == client) (Parcel.Handle buffer strength) p h).0 in
     ap (is_shut marks) (sym is) ∙ passed (is_shut marks to) Refusal.ClientShut t.not_shut
-given_open limits marks caller _ _ answer client p h = cc
+given_open limits marks caller _ _ answer client p h = absurd (false≢true (ap is_some h))
 
 -- nor is the caller to whom a node is born
 pub born_open : (limits : Bound) (marks : Timeline) (caller event : ℕ) (reply : Reply) (call : Call) (b : Birth) →
@@ -65,7 +65,7 @@ born_open limits marks caller event (Reply.Token key collection) (Call.Duplicate
 born_open limits marks caller event (Reply.Token key collection) (Call.AttachToken parent) b answer h =
     let t = took_effect_all limits (readings marks) caller key (Call.AttachToken parent) (Reply.Token key collection) refl refl answer.told in
     or_none_left (is_shut marks caller) false (passed _ Refusal.ClientShut t.not_shut)
-born_open limits marks caller event _ _ b answer h = cc
+born_open limits marks caller event _ _ b answer h = absurd (false≢true (ap is_some h))
 
 -- who collects an end gets a parcel
 collector_gets : (key : NodeKey) (mark : Mark) (client : ℕ) → collector_at key mark ≡ Some client → collected_at client mark ≡ None → ⊥
@@ -96,7 +96,7 @@ gets_by limits marks caller Reply.Done (Call.DupHandle name dup) answer client b
 gets_by limits marks caller (Reply.CollectedHandle name given) Call.Collect answer client buffer strength h =
     let is : (caller == client) ≡ true = and_left (caller == client) _ h in
     By_parcel (Parcel.Handle name given) (ap (λ (b : Bool). cond b (Some (Parcel.Handle name given)) None) is)
-gets_by limits marks caller _ _ answer client buffer strength h = cc
+gets_by limits marks caller _ _ answer client buffer strength h = absurd (false≢true h)
 
 -- ---- one event of a legal history
 

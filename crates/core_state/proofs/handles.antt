@@ -9,3 +9,4 @@ pub mod Standing
 pub mod Taken
 pub mod ToOpen
 pub mod Undoing
+pub mod Untouched

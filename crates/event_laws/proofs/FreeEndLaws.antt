@@ -1,6 +1,6 @@
 -- An end on which a call is not refused is there, is in no parcel, and is the caller's.
 use Rattle.std.proofs.Common.{ℕ, ◌≡◌, refl, ap, subst, Bool, true, false, not, ◌&&◌, ◌==◌, List, ◌∷◌, Option, Some, None}
-use Rattle.std.proofs.lemmas.Bool.{eqb-true}
+use Rattle.std.proofs.lemmas.Bool.{eqb-true, false≢true}
 use Rattle.std.specs.Option.{option_map_or}
 use Rattle.sm_names.specs.declared.keys.NodeKey.{NodeKey}
 use Rattle.sm_names.specs.declared.messages.Call.{Call}
@@ -71,7 +71,7 @@ pub sends_free : (limits : Bound) (marks : Timeline) (client : ℕ) (reply : Rep
     IsAnswer limits (readings marks) client call reply → sends node (Called client reply call) ≡ true → FreeEnd marks client node
 sends_free limits marks client Reply.Done (Call.Give key to) node answer h =
     free_end limits marks client (Call.Give key to) Reply.Done node answer refl (ap Some (same_key-true key node h))
-sends_free limits marks client _ _ node answer h = cc
+sends_free limits marks client _ _ node answer h = absurd (false≢true h)
 
 -- and one that is spent
 pub spends_free : (limits : Bound) (marks : Timeline) (client : ℕ) (reply : Reply) (call : Call) (node : NodeKey) →
@@ -82,11 +82,11 @@ spends_free limits marks client Reply.Done (Call.Release key) node answer h =
     free_end limits marks client (Call.Release key) Reply.Done node answer refl (ap Some (same_key-true key node h))
 spends_free limits marks client (Reply.PeerClosed cause origin) (Call.Release key) node answer h =
     free_end limits marks client (Call.Release key) (Reply.PeerClosed cause origin) node answer refl (ap Some (same_key-true key node h))
-spends_free limits marks client _ _ node answer h = cc
+spends_free limits marks client _ _ node answer h = absurd (false≢true h)
 
 -- and one that is bound
 pub binds_free : (limits : Bound) (marks : Timeline) (client : ℕ) (reply : Reply) (call : Call) (node : NodeKey) →
     IsAnswer limits (readings marks) client call reply → binds node (Called client reply call) ≡ true → FreeEnd marks client node
 binds_free limits marks client Reply.Done (Call.Bind key) node answer h =
     free_end limits marks client (Call.Bind key) Reply.Done node answer refl (ap Some (same_key-true key node h))
-binds_free limits marks client _ _ node answer h = cc
+binds_free limits marks client _ _ node answer h = absurd (false≢true h)

@@ -1,6 +1,6 @@
 -- Handles are on buffers of allocated collections, and clients have them.
 use Rattle.std.proofs.Common.{ℕ, ◌≡◌, ◌≤◌, ◌<◌, ◌-◌, refl, ap, sym, ◌∙◌, subst, Bool, true, false, ◌||◌, ◌&&◌, ◌==◌, inl, inr, [], ◌∷◌, Option, Some, None, arith}
-use Rattle.std.proofs.lemmas.Bool.{eqb-true}
+use Rattle.std.proofs.lemmas.Bool.{eqb-true, false≢true}
 use Rattle.std.specs.List.{list_any, cons_option}
 use Rattle.std.specs.Option.{option_map_or}
 use Rattle.sm_names.specs.declared.keys.BufferName.{BufferName}
@@ -54,7 +54,7 @@ gains_joined limits marks caller Reply.Done (Call.DupHandle name dup) answer cli
 gains_joined limits marks caller (Reply.CollectedHandle name given) Call.Collect answer client buffer strength h =
     subst (λ (c : ℕ). has_joined marks c ≡ true) (eqb-true caller client (and_left (caller == client) _ h))
     (caller_joined limits marks caller (Reply.CollectedHandle name given) Call.Collect answer refl)
-gains_joined limits marks caller _ _ answer client buffer strength h = cc
+gains_joined limits marks caller _ _ answer client buffer strength h = absurd (false≢true h)
 
 -- so nobody else has any
 pub stranger_has_none : (pool : ℕ) (limits : Bound) (marks : Timeline) → Grows pool limits [] marks →
@@ -137,7 +137,7 @@ opens_named pool limits before g client Reply.Done (Call.DupHandle name dup) ans
     (Call.DupHandle name dup) answer refl) in
     let all : 0 < open_total before buffer strength = omega (arith, was', le) in
     old (some_opened _ _ all)
-opens_named pool limits before g client _ _ answer buffer strength old y = cc
+opens_named pool limits before g client _ _ answer buffer strength old y = absurd (false≢true y)
 
 -- a handle that is opened is on a buffer that is there
 pub opened_named : (pool : ℕ) (limits : Bound) (marks : Timeline) → Grows pool limits [] marks →

@@ -1,4 +1,5 @@
 -- What one event does to the counts of handles.
+use Rattle.std.proofs.lemmas.Bool.{false≢true}
 use Rattle.std.proofs.Common.{ℕ, ◌≡◌, ◌≤◌, ◌+◌, refl, ap, ◌∙◌, Bool, true, false, ◌||◌, List, [], ◌∷◌, ◌++◌, arith}
 use Rattle.sm_names.specs.declared.keys.BufferName.{BufferName}
 use Rattle.sm_names.specs.declared.keys.Strength.{Strength}
@@ -33,17 +34,17 @@ module _ (who : ℕ → Bool) (buffer : BufferName) (strength : Strength) where
   loses_alone : (mark : Mark) → loses who buffer strength mark ≡ true → gains who buffer strength mark ≡ false
   loses_alone (Called client Reply.Done (Call.DropHandle name dropped)) h = refl
   loses_alone (Called client Reply.Done (Call.GiveHandle name given to)) h = refl
-  loses_alone _ h = cc
+  loses_alone _ h = absurd (false≢true h)
 
   -- what drops one opens none
   drops_alone : (mark : Mark) → drops who buffer strength mark ≡ true → opens who buffer strength mark ≡ false
   drops_alone (Called client Reply.Done (Call.DropHandle name dropped)) h = refl
-  drops_alone _ h = cc
+  drops_alone _ h = absurd (false≢true h)
 
   -- what takes one out of a parcel puts none into one
   lands_alone : (mark : Mark) → lands who buffer strength mark ≡ true → lifts who buffer strength mark ≡ false
   lands_alone (Called client (Reply.CollectedHandle name given) Call.Collect) h = refl
-  lands_alone _ h = cc
+  lands_alone _ h = absurd (false≢true h)
 
   -- it is opened or taken out, not both
   gains_one : (mark : Mark) → one_if (gains who buffer strength mark) ≡ one_if (opens who buffer strength mark) + one_if

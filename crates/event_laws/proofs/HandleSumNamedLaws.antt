@@ -1,6 +1,6 @@
 -- Handles that were ever moved are on the buffers that are there, of which a collection has `MAX_BUFFERS` at most.
 use Rattle.std.proofs.Common.{ℕ, zero, suc, ◌≡◌, ◌≤◌, ◌<◌, ◌+◌, refl, ap, sym, ◌∙◌, subst, Bool, true, false, ◌==◌, nat_lt, not, inl, inr, List, map, [], ◌∷◌, Option, Some, None, is_some, is_none, arith}
-use Rattle.std.proofs.lemmas.Bool.{eqb-true, eq-eqb, ltb-true, ltb-false}
+use Rattle.std.proofs.lemmas.Bool.{eqb-true, eq-eqb, ltb-true, ltb-false, false≢true}
 use Rattle.std.proofs.lemmas.List.Sums.{sum_by-cons}
 use Rattle.std.specs.List.{list_any, range_with_len, sum_by}
 use Rattle.std.specs.Option.{option_map_or}
@@ -238,7 +238,7 @@ module _ (pool : ℕ) (limits : Bound) where
       lifts anyone buffer strength (Called client reply call) ≡ true → loses (only client) buffer strength (Called client reply call) ≡ true
   gives_own client Reply.Done (Call.GiveHandle name given to) buffer strength h =
       and_both (client == client) _ (eq-eqb client client refl) h
-  gives_own client _ _ buffer strength h = cc
+  gives_own client _ _ buffer strength h = absurd (false≢true h)
 
   -- what was given was opened
   lifted_opened : (marks : Timeline) → Grows pool limits [] marks → (buffer : BufferName) (strength : Strength) →
@@ -275,22 +275,22 @@ module _ (pool : ℕ) (limits : Bound) where
     any_opens : (m : Mark) → opens who buffer strength m ≡ true → opens anyone buffer strength m ≡ true
     any_opens (Called client (Reply.Taken collection taken set) (Call.Take key)) h = and_right (who client) _ h
     any_opens (Called client Reply.Done (Call.DupHandle name dup)) h = and_right (who client) _ h
-    any_opens _ h = cc
+    any_opens _ h = absurd (false≢true h)
 
     -- so with dropping
     any_drops : (m : Mark) → drops who buffer strength m ≡ true → drops anyone buffer strength m ≡ true
     any_drops (Called client Reply.Done (Call.DropHandle name dropped)) h = and_right (who client) _ h
-    any_drops _ h = cc
+    any_drops _ h = absurd (false≢true h)
 
     -- giving
     any_lifts : (m : Mark) → lifts who buffer strength m ≡ true → lifts anyone buffer strength m ≡ true
     any_lifts (Called client Reply.Done (Call.GiveHandle name given to)) h = and_right (who client) _ h
-    any_lifts _ h = cc
+    any_lifts _ h = absurd (false≢true h)
 
     -- and collecting
     any_lands : (m : Mark) → lands who buffer strength m ≡ true → lands anyone buffer strength m ≡ true
     any_lands (Called client (Reply.CollectedHandle name given) Call.Collect) h = and_right (who client) _ h
-    any_lands _ h = cc
+    any_lands _ h = absurd (false≢true h)
 
     -- what such a client opened is there
     pub opens_there : 0 < times (opens who buffer strength) marks → IsThere marks buffer

@@ -1,6 +1,6 @@
 -- A line tells how many handles its client has open, and each client has one.
 use Rattle.std.proofs.Common.{ℕ, ◌≡◌, ◌≤◌, ◌<◌, ◌+◌, ◌∙◌, ◌==◌, ◌&&◌, refl, ap, sym, subst, Bool, true, false, cond, List, [], ◌∷◌, ◌++◌, Option, Some, None, is_some, append_assoc, append-nil, get_or, length, length-append, reverse, arith}
-use Rattle.std.proofs.lemmas.Bool.{lt-ltb}
+use Rattle.std.proofs.lemmas.Bool.{lt-ltb, false≢true}
 use Rattle.std.proofs.lemmas.List.{reverse-append}
 use Rattle.std.proofs.lemmas.List.Elements.{All-cons, All-map, All-nil}
 use Rattle.std.proofs.lemmas.List.Sums.{sum_by-append, sum_by-cons}
@@ -75,14 +75,14 @@ join_brings : (strength : Strength) (caller : ℕ) (call : Call) (reply : Reply)
     gained_by strength call reply ≡ 0
 join_brings strength caller Call.Join reply h = refl
 join_brings strength caller call (Reply.Joined made) h = refl
-join_brings strength caller _ _ h = cc
+join_brings strength caller _ _ h = absurd (false≢true h)
 
 -- and takes nothing
 join_takes : (strength : Strength) (caller : ℕ) (call : Call) (reply : Reply) → is_some (joined_at (Called caller reply call)) ≡ true →
     lost_by strength call reply ≡ 0
 join_takes strength caller Call.Join reply h = refl
 join_takes strength caller call (Reply.Joined made) h = refl
-join_takes strength caller _ _ h = cc
+join_takes strength caller _ _ h = absurd (false≢true h)
 
 -- ---- what a part adds up to
 

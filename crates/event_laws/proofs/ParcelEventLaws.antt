@@ -1,6 +1,6 @@
 -- What one event does to the parcels that wait, and to the clients.
-use Rattle.std.proofs.Common.{ℕ, ◌≡◌, ◌≤◌, ◌+◌, refl, ap, sym, ◌∙◌, Bool, true, false, not, ◌||◌, ◌==◌, inl, inr, List, [], ◌∷◌, ◌++◌, drop, Option, Some, None, arith}
-use Rattle.std.proofs.lemmas.Bool.{eqb-true}
+use Rattle.std.proofs.Common.{ℕ, ◌≡◌, ◌≤◌, ◌+◌, refl, ap, sym, ◌∙◌, Bool, true, false, not, ◌||◌, ◌==◌, inl, inr, List, [], ◌∷◌, ◌++◌, drop, Option, Some, None, arith, is_some}
+use Rattle.std.proofs.lemmas.Bool.{eqb-true, false≢true}
 use Rattle.std.specs.List.{cons_option}
 use Rattle.std.specs.Option.{option_map_or}
 use Rattle.sm_names.specs.declared.messages.Call.{Call}
@@ -36,7 +36,7 @@ collected_collects client (Called caller (Reply.Collected key kind collection) C
     ((when-Some (caller == client) (Parcel.End key) p h).0, refl)
 collected_collects client (Called caller (Reply.CollectedHandle buffer strength) Call.Collect) p h =
     ((when-Some (caller == client) (Parcel.Handle buffer strength) p h).0, refl)
-collected_collects client _ p h = cc
+collected_collects client _ p h = absurd (false≢true (ap is_some h))
 
 -- who gets none does not
 idle_collects : (client : ℕ) (mark : Mark) → collected_at client mark ≡ None → collects client mark ≡ false
@@ -49,7 +49,7 @@ idle_collects client _ h = refl
 given_collects_none : (client : ℕ) (mark : Mark) (p : Parcel) → given_at client mark ≡ Some p → collected_at client mark ≡ None
 given_collects_none client (Called giver Reply.Done (Call.Give key to)) p h = refl
 given_collects_none client (Called giver Reply.Done (Call.GiveHandle buffer strength to)) p h = refl
-given_collects_none client _ p h = cc
+given_collects_none client _ p h = absurd (false≢true (ap is_some h))
 
 -- the parcel that is got was the first
 first_is : (limits : Bound) (marks : Timeline) (client caller : ℕ) (reply : Reply) (call : Call) →
@@ -92,7 +92,7 @@ first_is limits marks client caller (Reply.CollectedHandle buffer strength) Call
         let what : buffer ≡ name = cc in
         let how : strength ≡ given = cc in
         λ i. Parcel.Handle (sym what i) (sym how i) ∷ more
-first_is limits marks client caller _ _ answer p h = cc
+first_is limits marks client caller _ _ answer p h = absurd (false≢true (ap is_some h))
 
 -- ---- one mark after others
 
@@ -172,7 +172,7 @@ given_joined limits marks caller Reply.Done (Call.GiveHandle buffer strength to)
     took_effect_all limits (readings marks) caller none_key (Call.GiveHandle buffer strength to) Reply.Done refl refl answer.told in
     let is : to ≡ client = eqb-true to client (when-Some (to == client) (Parcel.Handle buffer strength) p h).0 in
     ap (has_joined marks) (sym is) ∙ known_receiver (has_joined marks caller) (has_joined marks to) t.known
-given_joined limits marks caller _ _ answer client p h = cc
+given_joined limits marks caller _ _ answer client p h = absurd (false≢true (ap is_some h))
 
 -- so no parcel waits for who has not
 pub stranger_waits_for_none : (pool : ℕ) (limits : Bound) (marks : Timeline) → Grows pool limits [] marks → (client : ℕ) →
@@ -211,7 +211,7 @@ made_is limits marks caller (Reply.Joined j) Call.Join answer made h =
     let e : j ≡ events marks + 1 = cc in
     let f : j ≡ made = cc in
     sym f ∙ e
-made_is limits marks caller _ _ answer made h = cc
+made_is limits marks caller _ _ answer made h = absurd (false≢true (ap is_some h))
 
 -- that joined never before
 not_joined_yet : (marks : Timeline) → AreClients marks → has_joined marks (events marks + 1) ≡ false

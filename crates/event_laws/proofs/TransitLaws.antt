@@ -1,6 +1,6 @@
 -- An end is in at most one parcel, and one that is in a parcel is not spent.
 use Rattle.std.proofs.Common.{ℕ, ◌≡◌, ◌<◌, ◌+◌, refl, ap, sym, ◌∙◌, Bool, true, false, cond, not, ◌||◌, ◌&&◌, ◌==◌, inl, inr, [], ◌∷◌, Option, Some, None, is_some, arith}
-use Rattle.std.proofs.lemmas.Bool.{eqb-true, eq-eqb}
+use Rattle.std.proofs.lemmas.Bool.{eqb-true, eq-eqb, false≢true}
 use Rattle.std.specs.List.{list_any, cons_option}
 use Rattle.std.specs.Option.{option_map_or}
 use Rattle.std.proofs.Math.Bool.{and-false, and-true}
@@ -66,7 +66,7 @@ module _ (node : NodeKey) where
   -- what sends the end delivers none
   sends_alone : (mark : Mark) → sends node mark ≡ true → (delivers node mark ≡ false) × (spends node mark ≡ false)
   sends_alone (Called giver Reply.Done (Call.Give key to)) h = (refl, refl)
-  sends_alone _ h = cc
+  sends_alone _ h = absurd (false≢true h)
 
   -- and gives it to who has joined
   taker_joined : (limits : Bound) (marks : Timeline) (caller : ℕ) (reply : Reply) (call : Call) →
@@ -75,7 +75,7 @@ module _ (node : NodeKey) where
   taker_joined limits marks caller Reply.Done (Call.Give key to) answer h =
       given_joined limits marks caller Reply.Done (Call.Give key to) answer to (Parcel.End key) (ap (λ (b : Bool).
       cond b (Some (Parcel.End key)) None) (eq-eqb to to refl))
-  taker_joined limits marks caller _ _ answer h = cc
+  taker_joined limits marks caller _ _ answer h = absurd (false≢true h)
 
 -- ---- where an end is
 

@@ -1,6 +1,6 @@
 -- The handles that are open are those of the clients and those in parcels.
 use Rattle.std.proofs.Common.{ℕ, subst, ◌≡◌, ◌≤◌, ◌+◌, refl, ap, sym, ◌∙◌, Bool, true, false, cond, not, ◌&&◌, ◌||◌, ◌==◌, inl, inr, List, [], ◌∷◌, drop, Option, Some, None, arith}
-use Rattle.std.proofs.lemmas.Bool.{eqb-true, not-false}
+use Rattle.std.proofs.lemmas.Bool.{eqb-true, not-false, false≢true}
 use Rattle.std.specs.List.{cons_option, sum_by}
 use Rattle.std.specs.Option.{option_map_or}
 use Rattle.sm_names.specs.declared.keys.BufferName.{BufferName}
@@ -103,7 +103,7 @@ module _ (buffer : BufferName) (strength : Strength) where
   collects_gives : (client : ℕ) (mark : Mark) → collects client mark ≡ true → given_at client mark ≡ None
   collects_gives client (Called caller (Reply.Collected key kind collection) Call.Collect) h = refl
   collects_gives client (Called caller (Reply.CollectedHandle name given) Call.Collect) h = refl
-  collects_gives client _ h = cc
+  collects_gives client _ h = absurd (false≢true h)
 
   -- and only a Collect takes a handle out of a parcel
   idle_lands : (client : ℕ) (mark : Mark) → collects client mark ≡ false → lands (λ c. c == client) buffer strength mark ≡ false
@@ -151,7 +151,7 @@ module _ (buffer : BufferName) (strength : Strength) where
           let what : name ≡ n = cc in
           let how : given ≡ g = cc in
           record { parcel = Parcel.Handle n g; rest = more; waited = w; got_it = rw (e, what, how) refl }
-  first_parcel limits marks client caller _ _ answer e = cc
+  first_parcel limits marks client caller _ _ answer e = absurd (false≢true e)
 
   -- each answer keeps it so
   sent-called : (limits : Bound) (marks : Timeline) (caller : ℕ) (reply : Reply) (call : Call) →
@@ -290,7 +290,7 @@ caller_joined limits marks client Reply.Done (Call.GiveHandle name strength to) 
 caller_joined limits marks client (Reply.CollectedHandle name strength) Call.Collect answer h =
     (known_of (has_joined marks client) false (took_effect_all limits (readings marks) client (record { slot = 0; generation = 0 })
     Call.Collect (Reply.CollectedHandle name strength) refl refl answer.told).known).0
-caller_joined limits marks client _ _ answer h = cc
+caller_joined limits marks client _ _ answer h = absurd (false≢true h)
 
 -- and so has who is given one
 receiver_joined : (limits : Bound) (marks : Timeline) (client : ℕ) (reply : Reply) (call : Call) →
@@ -300,7 +300,7 @@ receiver_joined limits marks client Reply.Done (Call.GiveHandle name strength to
     not-false (has_joined marks to)
     (known_of (has_joined marks client) (not (has_joined marks to)) (took_effect_all limits (readings marks) client
     (record { slot = 0; generation = 0 }) (Call.GiveHandle name strength to) Reply.Done refl refl answer.told).known).1
-receiver_joined limits marks client _ _ answer h = cc
+receiver_joined limits marks client _ _ answer h = absurd (false≢true h)
 
 -- who has joined stays so
 still_joined : (o : Option ℕ) (cs : List ℕ) (k : ℕ) → one_of cs k ≡ true → one_of (cons_option o cs) k ≡ true
@@ -405,27 +405,27 @@ module _ (buffer : BufferName) (strength : Strength) where
   opens_moves : (m : Mark) → opens anyone buffer strength m ≡ true → moves m ≡ true
   opens_moves (Called client (Reply.Taken collection taken set) (Call.Take key)) h = refl
   opens_moves (Called client Reply.Done (Call.DupHandle name dup)) h = refl
-  opens_moves _ h = cc
+  opens_moves _ h = absurd (false≢true h)
 
   -- a drop moves a handle
   drops_moves : (m : Mark) → drops anyone buffer strength m ≡ true → moves m ≡ true
   drops_moves (Called client Reply.Done (Call.DropHandle name dropped)) h = refl
-  drops_moves _ h = cc
+  drops_moves _ h = absurd (false≢true h)
 
   -- so does a gift
   lifts_moves : (m : Mark) → lifts anyone buffer strength m ≡ true → moves m ≡ true
   lifts_moves (Called client Reply.Done (Call.GiveHandle name given to)) h = refl
-  lifts_moves _ h = cc
+  lifts_moves _ h = absurd (false≢true h)
 
   -- which gives one
   lifts_gives : (m : Mark) → lifts anyone buffer strength m ≡ true → gives m ≡ true
   lifts_gives (Called client Reply.Done (Call.GiveHandle name given to)) h = refl
-  lifts_gives _ h = cc
+  lifts_gives _ h = absurd (false≢true h)
 
   -- and what takes a handle out of a parcel moves it
   lands_moves : (m : Mark) → lands anyone buffer strength m ≡ true → moves m ≡ true
   lands_moves (Called client (Reply.CollectedHandle name given) Call.Collect) h = refl
-  lands_moves _ h = cc
+  lands_moves _ h = absurd (false≢true h)
 
 -- how many handles the clients have open, and how many wait for them
 abbrev pub clients_have : Timeline → BufferName → Strength → ℕ

@@ -1,6 +1,6 @@
 -- An event of one collection changes nothing in the others.
 use Rattle.std.proofs.Common.{ℕ, zero, suc, ◌≡◌, ◌+◌, ◌*◌, ◌-◌, refl, ap, sym, ◌∙◌, subst, Bool, true, false, cond, not, ◌&&◌, ◌||◌, ◌==◌, ◌⊎◌, inl, inr, List, [], ◌∷◌, map, reverse, length, Option, Some, None, is_some}
-use Rattle.std.proofs.lemmas.Bool.{eqb-true}
+use Rattle.std.proofs.lemmas.Bool.{eqb-true, false≢true}
 use Rattle.std.specs.List.{list_any, filter, cons_option}
 use Rattle.std.specs.Option.{option_map_or, option_map, option_and_then}
 use Rattle.sm_names.specs.declared.keys.BufferName.{BufferName}
@@ -155,31 +155,31 @@ root_in before client event reply call b h root = cc
 releases_it : (node : NodeKey) (client : ℕ) (reply : Reply) (call : Call) → is_release node (Called client reply call) ≡ true →
     key_of call ≡ Some node
 releases_it node client Reply.Done (Call.Release key) h = ap Some (same_key-true key node h)
-releases_it node client _ _ h = cc
+releases_it node client _ _ h = absurd (false≢true h)
 
 -- so does one that makes it dispensable
 dispenses_it : (node : NodeKey) (client : ℕ) (reply : Reply) (call : Call) → is_dispensable node (Called client reply call) ≡ true →
     key_of call ≡ Some node
 dispenses_it node client Reply.Done (Call.SetDispensable key) h = ap Some (same_key-true key node h)
-dispenses_it node client _ _ h = cc
+dispenses_it node client _ _ h = absurd (false≢true h)
 
 -- or weak
 weakens_it : (node : NodeKey) (client : ℕ) (reply : Reply) (call : Call) → sets_weak node (Called client reply call) ≡ true →
     key_of call ≡ Some node
 weakens_it node client Reply.Done (Call.SetWeak key) h = ap Some (same_key-true key node h)
-weakens_it node client _ _ h = cc
+weakens_it node client _ _ h = absurd (false≢true h)
 
 -- or weak_ok
 allows_it : (node : NodeKey) (client : ℕ) (reply : Reply) (call : Call) → sets_weak_ok node (Called client reply call) ≡ true →
     key_of call ≡ Some node
 allows_it node client Reply.Done (Call.SetWeakOk key children) h = ap Some (same_key-true key node h)
-allows_it node client _ _ h = cc
+allows_it node client _ _ h = absurd (false≢true h)
 
 -- one that binds its token
 binds_it : (node : NodeKey) (client : ℕ) (reply : Reply) (call : Call) → binds node (Called client reply call) ≡ true →
     key_of call ≡ Some node
 binds_it node client Reply.Done (Call.Bind key) h = ap Some (same_key-true key node h)
-binds_it node client _ _ h = cc
+binds_it node client _ _ h = absurd (false≢true h)
 
 -- one that spends its end
 spends_it : (node : NodeKey) (client : ℕ) (reply : Reply) (call : Call) → spends node (Called client reply call) ≡ true →
@@ -187,19 +187,19 @@ spends_it : (node : NodeKey) (client : ℕ) (reply : Reply) (call : Call) → sp
 spends_it node client Reply.Done (Call.Close key) h = ap Some (same_key-true key node h)
 spends_it node client Reply.Done (Call.Release key) h = ap Some (same_key-true key node h)
 spends_it node client (Reply.PeerClosed cause origin) (Call.Release key) h = ap Some (same_key-true key node h)
-spends_it node client _ _ h = cc
+spends_it node client _ _ h = absurd (false≢true h)
 
 -- one that takes handles through it
 takes_it : (node : NodeKey) (client : ℕ) (reply : Reply) (call : Call) → is_taking node (Called client reply call) ≡ true →
     key_of call ≡ Some node
 takes_it node client (Reply.Taken collection strength set) (Call.Take key) h = ap Some (same_key-true key node h)
-takes_it node client _ _ h = cc
+takes_it node client _ _ h = absurd (false≢true h)
 
 -- one that tracks it
 tracks_it : (node : NodeKey) (client : ℕ) (reply : Reply) (call : Call) → is_tracking node (Called client reply call) ≡ true →
     key_of call ≡ Some node
 tracks_it node client (Reply.Tracker id) (Call.TrackNode key) h = ap Some (same_key-true key node h)
-tracks_it node client _ _ h = cc
+tracks_it node client _ _ h = absurd (false≢true h)
 
 -- and one that sets its constraints
 constrains_it : (node : NodeKey) (client : ℕ) (reply : Reply) (call : Call) →
@@ -209,7 +209,7 @@ constrains_it node client Reply.Done (Call.SetConstraints key demand) h =
       | inl e ↦ ap Some (same_key-true key node e)
       | inr e ↦ let x : false ≡ true = rw e at h in cc
     ]
-constrains_it node client _ _ h = cc
+constrains_it node client _ _ h = absurd (false≢true h)
 
 -- what is not there is None
 pub is_none_if : (o : Option Demand) → is_some o ≡ false → o ≡ None

@@ -1,5 +1,6 @@
 -- How a timeline grows, one mark after another.
-use Rattle.std.proofs.Common.{ℕ, zero, suc, ◌≡◌, ◌+◌, ◌*◌, refl, sym, subst, true, false, inl, inr, List, [], ◌∷◌, ◌++◌, length, Option, Some, None}
+use Rattle.std.proofs.lemmas.Bool.{false≢true}
+use Rattle.std.proofs.Common.{ℕ, zero, suc, ◌≡◌, ◌+◌, ◌*◌, refl, sym, subst, true, false, inl, inr, List, [], ◌∷◌, ◌++◌, length, Option, Some, None, ap, is_some}
 use Rattle.std.specs.List.{fold, cons_option}
 use Rattle.std.specs.Option.{option_map_or}
 use Rattle.sm_names.specs.declared.keys.NodeKey.{NodeKey}
@@ -77,7 +78,7 @@ module _ (pool : ℕ) (limits : Bound) (start : Timeline) where
       let w = when-Some _ (Loss key Cause.Lost) mark e in (key, Cause.Lost, sym w.1, refl, refl)
   own_loss_origin before call (Reply.Misused misuse) mark e =
       let t = map-Some (λ key. Loss key (Cause.Misused misuse)) (key_of call) mark e in (t.0, Cause.Misused misuse, sym t.2, t.1, refl)
-  own_loss_origin before _ _ mark e = cc
+  own_loss_origin before _ _ mark e = absurd (false≢true (ap is_some e))
 
   -- a birth stays
   still_born : (before : Timeline) (mark : Mark) (key : NodeKey) → was_born (births before) key ≡ true →

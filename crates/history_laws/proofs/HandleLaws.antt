@@ -14,7 +14,7 @@ use Rattle.sm_names.specs.Marks.{Entry, Mark, Timeline, Called, Loss, Allocated,
 use Rattle.sm_names.specs.Reading.{readings}
 use Rattle.sm_names.specs.Sameness.{same_buffer, same_strength}
 use Rattle.sm_names.specs.Timelines.{after}
-use Rattle.std.proofs.lemmas.Bool.{eqb-true}
+use Rattle.std.proofs.lemmas.Bool.{eqb-true, false≢true}
 use Rattle.history_laws.proofs.AnswerLaws.{took_effect_all}
 use Rattle.history_laws.proofs.KeptLaws.{kept-after}
 use Rattle.sm_names.proofs.SamenessLaws.{either_way, and_left, and_right, same_buffer-true, same_strength-true}
@@ -71,7 +71,7 @@ module _ (client : ℕ) (buffer : BufferName) (strength : Strength) where
       let t = took_effect_all limits (readings marks) caller (record { slot = 0; generation = 0 }) (Call.DropHandle name dropped) Reply.Done
       refl refl answer.told in
       (refl, had_one marks caller name dropped t.has_handle is)
-  drop_had_one limits marks caller _ _ answer is = cc
+  drop_had_one limits marks caller _ _ answer is = absurd (false≢true is)
 
   -- and who gives a handle had one
   lift_had_one : (limits : Bound) (marks : Timeline) (caller : ℕ) (reply : Reply) (call : Call) →
@@ -81,7 +81,7 @@ module _ (client : ℕ) (buffer : BufferName) (strength : Strength) where
       let t = took_effect_all limits (readings marks) caller (record { slot = 0; generation = 0 }) (Call.GiveHandle name given to)
       Reply.Done refl refl answer.told in
       had_one marks caller name given t.has_handle is
-  lift_had_one limits marks caller _ _ answer is = cc
+  lift_had_one limits marks caller _ _ answer is = absurd (false≢true is)
 
   -- a count gets no less by one more mark
   once_more : (b : Bool) (n : ℕ) → n ≤ cond b (n + 1) n

@@ -1,5 +1,6 @@
 -- The births of a legal history are sound.
-use Rattle.std.proofs.Common.{ℕ, zero, suc, ◌≡◌, ◌+◌, ◌*◌, refl, sym, ◌∙◌, subst, Bool, true, false, ◌⊎◌, inl, inr, List, [], ◌∷◌, length, Option, Some, None}
+use Rattle.std.proofs.Common.{ℕ, zero, suc, ◌≡◌, ◌+◌, ◌*◌, refl, sym, ◌∙◌, subst, Bool, true, false, ◌⊎◌, inl, inr, List, [], ◌∷◌, length, Option, Some, None, ap, is_some}
+use Rattle.std.proofs.lemmas.Bool.{false≢true}
 use Rattle.std.specs.List.{fold, cons_option}
 use Rattle.std.specs.Option.{option_map_or, option_map, IfSome}
 use Rattle.sm_names.specs.declared.keys.NodeKey.{NodeKey}
@@ -51,7 +52,7 @@ pub own_loss_no_event : (before : Timeline) (call : Call) (reply : Reply) (mark 
     is_event mark ≡ false
 own_loss_no_event before (Call.Close key) Reply.Done mark e = is_no_event _ mark (Loss key Cause.Lost) refl e
 own_loss_no_event before call (Reply.Misused misuse) mark e = misused_no_event (key_of call) misuse mark e
-own_loss_no_event before _ _ mark e = cc
+own_loss_no_event before _ _ mark e = absurd (false≢true (ap is_some e))
 
 -- so it leaves the births as they were
 own_loss_same : (before marks : Timeline) (call : Call) (reply : Reply) →

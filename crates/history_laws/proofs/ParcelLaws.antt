@@ -10,7 +10,7 @@ use Rattle.sm_names.specs.Legality.{AreAnswers}
 use Rattle.sm_names.specs.Marks.{Entry, Mark, Timeline, Called, Loss, Allocated, Ended, is_event}
 use Rattle.sm_names.specs.Reading.{readings}
 use Rattle.sm_names.specs.Timelines.{after}
-use Rattle.std.proofs.lemmas.Bool.{eqb-true}
+use Rattle.std.proofs.lemmas.Bool.{eqb-true, false≢true}
 use Rattle.std.proofs.lemmas.List.{drop-append-le, drop-drop, length-reverse, reverse-append}
 use Rattle.std.proofs.Math.Seq.{drop-length}
 use Rattle.std.proofs.Math.Nat.{eq-or-lt_of_le}
@@ -65,7 +65,7 @@ strict limits marks client caller (Reply.CollectedHandle buffer strength) Call.C
     let is : caller ≡ client = eqb-true caller client e in
     waits marks client drawn (λ none. let no : Reply.CollectedHandle buffer strength ≡ Reply.Empty = t.answered
     ∙ ap (collected (readings marks)) (ap (parcels marks) is ∙ none) in cc)
-strict limits marks client caller _ _ drawn answer e = cc
+strict limits marks client caller _ _ drawn answer e = absurd (false≢true e)
 
 -- with one more parcel, or none, there are no fewer
 more_given : (o : Option Parcel) (ps : List Parcel) → length ps ≤ length (cons_option o ps)

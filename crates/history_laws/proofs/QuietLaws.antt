@@ -1,4 +1,5 @@
 -- Calls that change nothing but the number of events.
+use Rattle.std.proofs.lemmas.Bool.{false≢true}
 use Rattle.std.proofs.Common.{ℕ, ◌≡◌, ◌+◌, refl, ap, ◌∙◌, true, ◌∷◌}
 use Rattle.sm_names.specs.declared.messages.Call.{Call}
 use Rattle.sm_names.specs.declared.messages.Reply.{Reply}
@@ -22,7 +23,7 @@ read-quiet marks client Reply.Empty call h = refl
 read-quiet marks client Reply.Done (Call.Sync key) h = refl
 read-quiet marks client (Reply.PeerClosed cause origin) (Call.Release key) h = cc
 read-quiet marks client (Reply.PeerClosed cause origin) _ h = refl
-read-quiet marks client _ _ h = cc
+read-quiet marks client _ _ h = absurd (false≢true h)
 
 -- what trackers look at, and the trackers
 world-quiet : (marks : Timeline) (client : ℕ) (reply : Reply) (call : Call) → is_quiet call reply ≡ true →
@@ -34,7 +35,7 @@ world-quiet marks client Reply.Pending call h = (refl, refl)
 world-quiet marks client Reply.Empty call h = (refl, refl)
 world-quiet marks client Reply.Done (Call.Sync key) h = (refl, refl)
 world-quiet marks client (Reply.PeerClosed cause origin) call h = (refl, refl)
-world-quiet marks client _ _ h = cc
+world-quiet marks client _ _ h = absurd (false≢true h)
 
 -- so all that answers read
 pub readings-quiet : (marks : Timeline) (client : ℕ) (reply : Reply) (call : Call) → is_quiet call reply ≡ true →
@@ -55,7 +56,7 @@ standing-quiet pool marks client Reply.Pending call collection h = refl
 standing-quiet pool marks client Reply.Empty call collection h = refl
 standing-quiet pool marks client Reply.Done (Call.Sync key) collection h = refl
 standing-quiet pool marks client (Reply.PeerClosed cause origin) call collection h = refl
-standing-quiet pool marks client _ _ collection h = cc
+standing-quiet pool marks client _ _ collection h = absurd (false≢true h)
 
 -- what is seen of nodes, pages and trackers
 pub seen-quiet : (pool : ℕ) (marks : Timeline) (client : ℕ) (reply : Reply) (call : Call) → is_quiet call reply ≡ true →
@@ -69,7 +70,7 @@ seen-quiet pool marks client Reply.Empty call h = (refl, refl)
 seen-quiet pool marks client Reply.Done (Call.Sync key) h = (refl, refl)
 seen-quiet pool marks client (Reply.PeerClosed cause origin) (Call.Release key) h = cc
 seen-quiet pool marks client (Reply.PeerClosed cause origin) _ h = (refl, refl)
-seen-quiet pool marks client _ _ h = cc
+seen-quiet pool marks client _ _ h = absurd (false≢true h)
 
 -- and which trackers fired
 pub fired-quiet : (marks : Timeline) (client : ℕ) (reply : Reply) (call : Call) → is_quiet call reply ≡ true →

@@ -19,7 +19,7 @@ use Rattle.sm_names.specs.Members.{member, members, births_in, is_live, is_under
 use Rattle.sm_names.specs.Reading.{readings}
 use Rattle.sm_names.specs.Sameness.{same_key}
 use Rattle.sm_names.specs.Timelines.{after, settled, settled_within, next_forced, own_loss, key_of, collection_of}
-use Rattle.std.proofs.lemmas.Bool.{eqb-true, eq-eqb}
+use Rattle.std.proofs.lemmas.Bool.{eqb-true, eq-eqb, false≢true}
 use Rattle.history_laws.proofs.LegalLaws.{own_loss_no_event, sound_called}
 use Rattle.history_laws.proofs.BirthLaws.{comes}
 use Rattle.sm_names.proofs.ListLaws.{In, In-filter-back, In-map-back, In-reverse-back, In-find, none-In}
@@ -148,7 +148,7 @@ stands_in marks collection node here =
 -- a Release spends the end
 release_spends : (node : NodeKey) (mark : Mark) → is_release node mark ≡ true → spends node mark ≡ true
 release_spends node (Called client Reply.Done (Call.Release key)) h = h
-release_spends node _ h = cc
+release_spends node _ h = absurd (false≢true h)
 
 -- a node that was released had its end spent
 pub released_spent : (marks : Timeline) (node : NodeKey) → released marks node ≡ true → spent marks node ≡ true
@@ -283,7 +283,7 @@ own_loss_leaves : (before marks : Timeline) (call : Call) (reply : Reply) (mark 
     Leaves marks mark
 own_loss_leaves before marks (Call.Close key) Reply.Done mark e = is_no_end marks _ key Cause.Lost mark e
 own_loss_leaves before marks call (Reply.Misused misuse) mark e = misused_no_end marks (key_of call) misuse mark e
-own_loss_leaves before marks _ _ mark e = cc
+own_loss_leaves before marks _ _ mark e = absurd (false≢true (ap is_some e))
 
 -- one more event and all that it forces keep it
 pub whole-after : (pool : ℕ) (limits : Bound) (marks : Timeline) (entry : Entry) →

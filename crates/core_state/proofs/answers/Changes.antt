@@ -1,5 +1,6 @@
 -- Which events change a collection, and which change none.
-use Rattle.std.proofs.Common.{ℕ, ◌≡◌, ◌≤◌, ◌<◌, refl, ap, sym, ◌∙◌, subst, Bool, true, false, cond, not, inl, inr, [], ◌∷◌, Some, None, arith}
+use Rattle.std.proofs.lemmas.Bool.{false≢true}
+use Rattle.std.proofs.Common.{ℕ, ◌≡◌, ◌≤◌, ◌<◌, refl, ap, sym, ◌∙◌, subst, Bool, true, false, cond, not, inl, inr, [], ◌∷◌, Some, None, arith, is_some}
 use Rattle.std.specs.Option.{option_map, option_and_then}
 use Rattle.sm_names.specs.declared.keys.BufferName.{BufferName}
 use Rattle.sm_names.specs.declared.keys.NodeKey.{NodeKey}
@@ -288,7 +289,7 @@ module _ (s : State) (marks : Timeline) (shown : IsAfter s marks) (limits : Boun
   starts_done client (Call.Close key) answer work e = starts_close client key answer work e
   starts_done client (Call.DropHandle buffer strength) answer work e =
       starts_drop client buffer strength answer work (took_last s buffer strength work e)
-  starts_done client _ answer work e = cc
+  starts_done client _ answer work e = absurd (false≢true (ap is_some e))
 
   -- a misuse
   starts_misused : (client : ℕ) (call : Call) (m : Misuse) (answer : IsAnswer limits (readings marks) client call (Reply.Misused m))

@@ -1,4 +1,5 @@
 -- Each reply is one that its call can have.
+use Rattle.std.proofs.lemmas.Bool.{false≢true}
 use Rattle.std.proofs.Common.{ℕ, ◌≡◌, refl, ap, ◌∙◌, subst, Bool, true, false, List, [], ◌∷◌, Option, Some, None, is_some, ◌&&◌, nat_le}
 use Rattle.std.specs.Option.{option_and_then, option_map, option_map_or, unwrap_or}
 use Rattle.sm_names.specs.declared.call_parts.Answer.{Answer}
@@ -78,7 +79,7 @@ refusal-fits call line rejects reply is = by reply (rejects reply is)
   where
     by : (reply : Reply) → is_refusal reply ≡ true → fits_call call reply ≡ true
     by (Reply.Refused refusal) h = refl
-    by _ h = cc
+    by _ h = absurd (false≢true h)
 
 -- a line that refuses under a test
 refused-fits : (call : Call) (b : Bool) (refusal : Refusal) → Fits call (refused_if b refusal)

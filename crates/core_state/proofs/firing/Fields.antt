@@ -1,6 +1,6 @@
 -- What an event keeps of the trackers.
 use Rattle.std.proofs.Common.{ℕ, ◌≡◌, ◌<◌, ◌≤◌, ◌+◌, ◌==◌, refl, ap, sym, ◌∙◌, subst, Bool, true, false, nat_le, if◌then◌else◌, length, not, ◌⊎◌, inl, inr, [], ◌∷◌, Option, Some, None, is_some, IfSome, arith}
-use Rattle.std.proofs.lemmas.Bool.{eqb-true, eq-eqb, leb-false, leb-true, not-true}
+use Rattle.std.proofs.lemmas.Bool.{eqb-true, eq-eqb, leb-false, leb-true, not-true, false≢true}
 use Rattle.std.specs.List.{All}
 use Rattle.std.specs.Option.{option_map}
 use Rattle.sm_names.specs.declared.keys.BufferName.{BufferName}
@@ -89,7 +89,7 @@ module _ (limits : Bound) (s : State) (client : ℕ) where
     where
       id_of : {w : Waiting} → Some w ≡ Some t → w.id ≡ t.id
       id_of h = cc
-  is_made _ _ told t is = cc
+  is_made _ _ told t is = absurd (false≢true (ap is_some is))
 
 module _ (s : State) (call : Call) (asked : Reply) (limits : Bound) (client : ℕ) (tracking : Option Waiting) where
   -- the call is answered so
@@ -173,7 +173,7 @@ made_filed f sound (Call.TrackWeak buffer) (Reply.Tracker id) t is =
   where
     one : {w : Waiting} → Some w ≡ Some t → w ≡ t
     one h = cc
-made_filed f sound _ _ t is = cc
+made_filed f sound _ _ t is = absurd (false≢true (ap is_some is))
 
 -- the trackers that wait are those that waited, and the one that is attached
 attached_from : (old new : TrackerTable) (o : Option Waiting) → GainsTracker old o new → (t : Waiting) → In t new.unfired →
@@ -210,7 +210,7 @@ module _ (s : State) (client : ℕ) (call : Call) (asked : Reply) (task : Option
           ap (λ (w : Waiting). w.collection) (sym n.2) ∙ same n.0.collection id here
       by (Call.TrackLifetime key most) (Reply.Tracker number) there made = let no : None ≡ Some id = there in cc
       by (Call.TrackWeak buffer) (Reply.Tracker number) there made = let no : None ≡ Some id = there in cc
-      by _ _ there made = cc
+      by _ _ there made = absurd (false≢true (ap is_some made))
 
   -- where a handle is dropped, another one stays open, or its collection is changed, if it is there
   drops_there : (buffer : BufferName) (strength : Strength) → drops anyone buffer strength (Called client asked call) ≡ true →
@@ -241,7 +241,7 @@ module _ (s : State) (client : ℕ) (call : Call) (asked : Reply) (task : Option
                 ∙ ap (λ (b : Bool). if b then None else at_collection s.forest buffer.collection Change.Nothing) one)
                 ∙ at buffer.collection (collection_at s.forest buffer.collection) there)
           ]
-      by _ _ h = cc
+      by _ _ h = absurd (false≢true h)
 
 -- ---- after the event
 

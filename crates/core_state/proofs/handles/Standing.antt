@@ -1,4 +1,5 @@
 -- Which events may be refused memory, and which stand at once.
+use Rattle.std.proofs.lemmas.Bool.{false≢true}
 use Rattle.std.proofs.Common.{◌≡◌, ◌||◌, refl, ap, ◌∙◌, ℕ, Bool, true, false, Option, None, is_some}
 use Rattle.sm_names.specs.declared.messages.Call.{Call}
 use Rattle.sm_names.specs.declared.messages.Reply.{Reply}
@@ -34,7 +35,7 @@ pub stands_noted : (call : Call) (asked : Reply) → takes_room call asked ≡ t
 stands_noted Call.Join (Reply.Joined made) takes = refl
 stands_noted (Call.Give key to) Reply.Done takes = refl
 stands_noted (Call.GiveHandle buffer strength to) Reply.Done takes = refl
-stands_noted _ _ takes = cc
+stands_noted _ _ takes = absurd (false≢true takes)
 
 -- what holds of one holds of this one or that one
 or_right : (a : Bool) {b : Bool} → b ≡ true → (a || b) ≡ true
@@ -102,4 +103,4 @@ takes_none s client Call.Shut asked task tracking none work tracks =
     quiet_takes_none s client Call.Shut asked task tracking (shut_is_quiet s client asked) work tracks
 takes_none s client Call.Collect asked task tracking none work tracks =
     quiet_takes_none s client Call.Collect asked task tracking (collect_is_quiet s client asked) work tracks
-takes_none s client _ asked task tracking none work tracks = cc
+takes_none s client _ asked task tracking none work tracks = absurd (false≢true none)

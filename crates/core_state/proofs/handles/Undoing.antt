@@ -1,7 +1,7 @@
 -- What an event does to the counts of handles, and how it is undone.
 use Rattle.std.proofs.Common.{ℕ, ◌≡◌, ◌+◌, ◌-◌, ◌<◌, ◌≤◌, ◌^◌, ◌==◌, ◌&&◌, nat_lt, refl, sym, ap, ◌∙◌, ◌⊎◌, inl, inr, ◌↔◌, Result, Ok, Err, OnOk, IsErrOf, IsOkUnless, Bool, false, arith}
 use Rattle.std.specs.Int.{bit_at}
-use Rattle.std.proofs.lemmas.Bool.{cases_lt}
+use Rattle.std.proofs.lemmas.Bool.{cases_lt, false≢true}
 use Rattle.std.proofs.lemmas.Grind.{common_steps}
 use Rattle.std.proofs.lemmas.Nat.Bits.{bit_at_above}
 use Rattle.sm_names.specs.declared.keys.BufferName.{BufferName}
@@ -236,7 +236,7 @@ module _ (client : ℕ) (reply : Reply) where
       by Reply.Done (Call.DupHandle buffer strength) no_take no_dup no_drop no_give stands = absurd (no_dup buffer strength refl)
       by Reply.Done (Call.DropHandle buffer strength) no_take no_dup no_drop no_give stands = absurd (no_drop buffer strength refl)
       by Reply.Done (Call.GiveHandle buffer strength to) no_take no_dup no_drop no_give stands = absurd (no_give buffer strength to refl)
-      by (Reply.CollectedHandle buffer strength) Call.Collect no_take no_dup no_drop no_give stands = cc
+      by (Reply.CollectedHandle buffer strength) Call.Collect no_take no_dup no_drop no_give stands = absurd (false≢true (sym stands))
       by _ _ no_take no_dup no_drop no_give stands = refl
 
 -- with room for it, and below the limit, a handle is opened

@@ -1,6 +1,6 @@
 -- What an event does to the clients, and what is known of who has not joined.
-use Rattle.std.proofs.Common.{ℕ, ◌≡◌, refl, ap, sym, ◌∙◌, subst, Bool, true, false, not, ◌||◌, inl, inr, List, [], ◌∷◌, ◌++◌, drop, map, reverse, Option, Some, None}
-use Rattle.std.proofs.lemmas.Bool.{eqb-true}
+use Rattle.std.proofs.Common.{ℕ, ◌≡◌, refl, ap, sym, ◌∙◌, subst, Bool, true, false, not, ◌||◌, inl, inr, List, [], ◌∷◌, ◌++◌, drop, map, reverse, Option, Some, None, is_some}
+use Rattle.std.proofs.lemmas.Bool.{eqb-true, false≢true}
 use Rattle.std.proofs.lemmas.List.{append-nil, map-append, reverse-append}
 use Rattle.std.specs.List.{cons_option}
 use Rattle.sm_names.specs.declared.messages.Call.{Call}
@@ -42,7 +42,7 @@ shuts_joined limits marks caller (Reply.Shut waiting) Call.Shut answer client h 
     known : (b : Bool) → refused_if (not b || false) Refusal.NoSuchClient ≡ None → b ≡ true
     known true none = refl
     known false none = cc
-shuts_joined limits marks caller _ _ answer client h = cc
+shuts_joined limits marks caller _ _ answer client h = absurd (false≢true h)
 
 -- so nobody else was shut
 pub stranger_not_shut : (pool : ℕ) (limits : Bound) (marks : Timeline) → Grows pool limits [] marks → (client : ℕ) →
@@ -75,7 +75,7 @@ stranger_is_new pool limits marks grown client h = λ i. record {
 collects_given_none : (client : ℕ) (mark : Mark) → collects client mark ≡ true → given_at client mark ≡ None
 collects_given_none client (Called caller (Reply.Collected key kind collection) Call.Collect) h = refl
 collects_given_none client (Called caller (Reply.CollectedHandle buffer strength) Call.Collect) h = refl
-collects_given_none client _ h = cc
+collects_given_none client _ h = absurd (false≢true h)
 
 -- what waits goes by the mark
 parcels-by : (marks : Timeline) (mark : Mark) (client : ℕ) → IsDrawn marks →
@@ -105,7 +105,7 @@ client-by marks mark client drawn =
 -- the mark that makes a client does no more to it
 made_stays : (mark : Mark) (made : ℕ) → joined_at mark ≡ Some made → client_by mark (new_client made) ≡ new_client made
 made_stays (Called client (Reply.Joined j) Call.Join) made h = refl
-made_stays _ made h = cc
+made_stays _ made h = absurd (false≢true (ap is_some h))
 
 -- one more client joins last
 joined_last : (o : Option ℕ) (cs : List ℕ) → reverse (cons_option o cs) ≡ reverse cs ++ cons_option o []

@@ -1,4 +1,5 @@
 -- Nothing was ever said of a node that was not born.
+use Rattle.std.proofs.lemmas.Bool.{false≢true}
 use Rattle.std.proofs.Common.{ℕ, ◌≡◌, ◌+◌, refl, ap, sym, ◌∙◌, Bool, true, false, inl, inr, List, [], ◌∷◌, Option, Some, None, is_some}
 use Rattle.std.specs.List.{list_any, cons_option}
 use Rattle.sm_names.specs.declared.keys.NodeKey.{NodeKey}
@@ -34,44 +35,44 @@ Names call reply node = (key_of call ≡ Some node) × (is_refusal reply ≡ fal
 releases_it : (node : NodeKey) (client : ℕ) (reply : Reply) (call : Call) → is_release node (Called client reply call) ≡ true →
     Names call reply node
 releases_it node client Reply.Done (Call.Release key) h = (ap Some (same_key-true key node h), refl)
-releases_it node client _ _ h = cc
+releases_it node client _ _ h = absurd (false≢true h)
 
 -- one that makes it dispensable
 dispenses_it : (node : NodeKey) (client : ℕ) (reply : Reply) (call : Call) → is_dispensable node (Called client reply call) ≡ true →
     Names call reply node
 dispenses_it node client Reply.Done (Call.SetDispensable key) h = (ap Some (same_key-true key node h), refl)
-dispenses_it node client _ _ h = cc
+dispenses_it node client _ _ h = absurd (false≢true h)
 
 -- weak
 weakens_it : (node : NodeKey) (client : ℕ) (reply : Reply) (call : Call) → sets_weak node (Called client reply call) ≡ true →
     Names call reply node
 weakens_it node client Reply.Done (Call.SetWeak key) h = (ap Some (same_key-true key node h), refl)
-weakens_it node client _ _ h = cc
+weakens_it node client _ _ h = absurd (false≢true h)
 
 -- weak_ok
 allows_it : (node : NodeKey) (client : ℕ) (reply : Reply) (call : Call) → sets_weak_ok node (Called client reply call) ≡ true →
     Names call reply node
 allows_it node client Reply.Done (Call.SetWeakOk key children) h = (ap Some (same_key-true key node h), refl)
-allows_it node client _ _ h = cc
+allows_it node client _ _ h = absurd (false≢true h)
 
 -- with children
 covers_it : (node : NodeKey) (client : ℕ) (reply : Reply) (call : Call) → covers_children node (Called client reply call) ≡ true →
     Names call reply node
 covers_it node client Reply.Done (Call.SetWeakOk key true) h = (ap Some (same_key-true key node h), refl)
 covers_it node client Reply.Done (Call.SetWeakOk key false) h = cc
-covers_it node client _ _ h = cc
+covers_it node client _ _ h = absurd (false≢true h)
 
 -- takes handles through it
 takes_it : (node : NodeKey) (client : ℕ) (reply : Reply) (call : Call) → is_taking node (Called client reply call) ≡ true →
     Names call reply node
 takes_it node client (Reply.Taken collection strength set) (Call.Take key) h = (ap Some (same_key-true key node h), refl)
-takes_it node client _ _ h = cc
+takes_it node client _ _ h = absurd (false≢true h)
 
 -- tracks it
 tracks_it : (node : NodeKey) (client : ℕ) (reply : Reply) (call : Call) → is_tracking node (Called client reply call) ≡ true →
     Names call reply node
 tracks_it node client (Reply.Tracker id) (Call.TrackNode key) h = (ap Some (same_key-true key node h), refl)
-tracks_it node client _ _ h = cc
+tracks_it node client _ _ h = absurd (false≢true h)
 
 -- or sets its constraints
 constrains_it : (node : NodeKey) (client : ℕ) (reply : Reply) (call : Call) →
@@ -81,7 +82,7 @@ constrains_it node client Reply.Done (Call.SetConstraints key demand) h =
       | inl e ↦ (ap Some (same_key-true key node e), refl)
       | inr e ↦ let x : false ≡ true = rw e at h in cc
     ]
-constrains_it node client _ _ h = cc
+constrains_it node client _ _ h = absurd (false≢true h)
 
 -- a mark that is not the node's birth tells no parent of it
 not_born_to : (older : List Birth) (event : ℕ) (mark : Mark) (node : NodeKey) →

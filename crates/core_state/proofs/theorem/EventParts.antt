@@ -1,4 +1,5 @@
 -- What the parts of an event come to.
+use Rattle.std.proofs.lemmas.Bool.{false≢true}
 use Rattle.std.proofs.Common.{ℕ, ◌≡◌, ◌+◌, refl, ap, sym, ◌∙◌, subst, true, false, ◌||◌, List, [], ◌∷◌, Option, Some, None, IfSome, is_some, if◌then◌else◌}
 use Rattle.std.specs.Option.{option_map_or, option_or}
 use Rattle.sm_names.specs.declared.keys.NodeKey.{NodeKey}
@@ -56,20 +57,20 @@ room_idle : (s : State) (client : ℕ) (call : Call) (asked : Reply) → takes_r
 room_idle s client Call.Join (Reply.Joined made) takes = (record { work = refl; spends = refl }, refl)
 room_idle s client (Call.Give key to) Reply.Done takes = (record { work = refl; spends = refl }, refl)
 room_idle s client (Call.GiveHandle buffer strength to) Reply.Done takes = (record { work = refl; spends = refl }, refl)
-room_idle s client _ _ takes = cc
+room_idle s client _ _ takes = absurd (false≢true takes)
 
 -- nor where a handle is collected
 landing_idle : (s : State) (client : ℕ) (call : Call) (asked : Reply) → collects_handle call asked ≡ true →
     HasNoTask s client call asked × (tracker_by s.forest call asked ≡ None)
 landing_idle s client Call.Collect (Reply.CollectedHandle buffer strength) lands = (record { work = refl; spends = refl }, refl)
-landing_idle s client _ _ lands = cc
+landing_idle s client _ _ lands = absurd (false≢true lands)
 
 -- nor is there a task where an end is carried
 carried_idle : (s : State) (client : ℕ) (call : Call) (asked : Reply) (place : Place) → carried_by client call asked ≡ Some place →
     HasNoTask s client call asked
 carried_idle s client (Call.Give key to) Reply.Done place is = record { work = refl; spends = refl }
 carried_idle s client Call.Collect (Reply.Collected key kind collection) place is = record { work = refl; spends = refl }
-carried_idle s client _ _ place is = cc
+carried_idle s client _ _ place is = absurd (false≢true (ap is_some is))
 
 -- an end is put somewhere by the task or by what is carried
 end_split : (client : ℕ) (call : Call) (asked : Reply) →
@@ -120,7 +121,7 @@ carried_there s client Call.Collect (Reply.Collected key kind collection) place 
     by [] told = cc
     by (Parcel.Handle buffer strength ∷ more) told = cc
     by (Parcel.End k ∷ more) told = of k ((readings_of s).end_of k) refl told
-carried_there s client _ _ place known is = cc
+carried_there s client _ _ place known is = absurd (false≢true (ap is_some is))
 
 -- ---- the event
 

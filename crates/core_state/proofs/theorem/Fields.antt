@@ -1,5 +1,6 @@
 -- What an event keeps true of the fields of a core.
-use Rattle.std.proofs.Common.{ℕ, ◌≡◌, ◌<◌, ◌≤◌, ◌+◌, ◌^◌, refl, ap, sym, ◌∙◌, subst, false, List, [], ◌∷◌, ◌++◌, append-nil, length, map, Option, Some, None, IfSome, arith}
+use Rattle.std.proofs.lemmas.Bool.{false≢true}
+use Rattle.std.proofs.Common.{ℕ, ◌≡◌, ◌<◌, ◌≤◌, ◌+◌, ◌^◌, refl, ap, sym, ◌∙◌, subst, false, List, [], ◌∷◌, ◌++◌, append-nil, length, map, Option, Some, None, IfSome, arith, is_some}
 use Rattle.std.specs.List.{All, AllByRecursion, cons_option}
 use Rattle.sm_names.specs.declared.keys.Interval.{Interval}
 use Rattle.sm_names.specs.declared.keys.NodeKey.{NodeKey}
@@ -102,8 +103,8 @@ from_ids P (c ∷ clients) all = (all.0, from_ids P clients all.1)
 joined_told : (client : ℕ) (call : Call) (asked : Reply) (made : ℕ) → joined_at (Called client asked call) ≡ Some made →
     asked ≡ Reply.Joined made
 joined_told client Call.Join (Reply.Joined other) made is = cc
-joined_told client _ (Reply.Joined other) made is = cc
-joined_told client call _ made is = cc
+joined_told client _ (Reply.Joined other) made is = absurd (false≢true (ap is_some is))
+joined_told client call _ made is = absurd (false≢true (ap is_some is))
 
 -- the clients still stand by their numbers, none of which is above that of the event
 clients_rise : (limits : Bound) (s : State) (client : ℕ) (call : Call) (asked : Reply) →

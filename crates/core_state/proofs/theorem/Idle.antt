@@ -1,4 +1,5 @@
 -- A call that changes nothing, but that it is one event more.
+use Rattle.std.proofs.lemmas.Bool.{false≢true}
 use Rattle.std.proofs.Common.{ℕ, ◌≡◌, ◌<◌, ◌+◌, ◌^◌, refl, sym, ◌∙◌, Bool, true, false, List, [], ◌∷◌, append-nil, map, None}
 use Rattle.sm_names.specs.declared.keys.BufferName.{BufferName}
 use Rattle.sm_names.specs.declared.keys.Strength.{Strength}
@@ -73,11 +74,11 @@ module _ (mark : Mark) (unseen : IsUnseen mark) where
 -- an idle call makes no node, fails none, and has no effect on the buffers of a collection
 no_work : (s : State) (client : ℕ) (call : Call) (asked : Reply) → changes_nothing call asked ≡ true → None ≡ work_of s client call asked
 no_work s client (Call.Sync key) Reply.Done idle = refl
-no_work s client _ Reply.Done idle = cc
-no_work s client call (Reply.Token key collection) idle = cc
-no_work s client call (Reply.Misused misuse) idle = cc
-no_work s client call (Reply.Taken collection strength set) idle = cc
-no_work s client call (Reply.Tracker id) idle = cc
+no_work s client _ Reply.Done idle = absurd (false≢true idle)
+no_work s client call (Reply.Token key collection) idle = absurd (false≢true idle)
+no_work s client call (Reply.Misused misuse) idle = absurd (false≢true idle)
+no_work s client call (Reply.Taken collection strength set) idle = absurd (false≢true idle)
+no_work s client call (Reply.Tracker id) idle = absurd (false≢true idle)
 no_work s client call _ idle = refl
 
 -- an idle call spends no end, since a Close or a Release that spends one is not idle
@@ -96,7 +97,7 @@ no_carry client _ _ idle = refl
 -- an idle call attaches no tracker, since a call whose reply tells of a tracker is not idle
 no_track : (f : Forest) (call : Call) (asked : Reply) → changes_nothing call asked ≡ true → None ≡ tracker_by f call asked
 no_track f (Call.TrackNode key) (Reply.Tracker id) idle = cc
-no_track f _ (Reply.Tracker id) idle = cc
+no_track f _ (Reply.Tracker id) idle = absurd (false≢true idle)
 no_track f _ _ idle = refl
 
 -- the reply to an idle call names no new node, so it stays as it is without a new key
@@ -117,7 +118,7 @@ none_sees client (Call.Sync key) Reply.Done idle =
       collected = λ c. refl;
       given = λ c. refl;
     }
-none_sees client _ Reply.Done idle = cc
+none_sees client _ Reply.Done idle = absurd (false≢true idle)
 none_sees client call Reply.Empty idle =
     record {
       opened = λ who b s. refl;
@@ -173,7 +174,7 @@ none_sees client call (Reply.PeerClosed cause origin) idle =
       collected = λ c. refl;
       given = λ c. refl;
     }
-none_sees client call _ idle = cc
+none_sees client call _ idle = absurd (false≢true idle)
 
 -- ---- the event
 

@@ -1,4 +1,5 @@
 -- Which nodes are seen as live, and how others failed.
+use Rattle.std.proofs.lemmas.Bool.{false≢true}
 use Rattle.std.proofs.Common.{ℕ, ◌≡◌, ◌≤◌, ◌+◌, refl, ap, sym, ◌∙◌, Bool, true, false, cond, not, ◌&&◌, ◌||◌, inl, inr, List, [], ◌∷◌, map, reverse, Option, Some, None, is_some, arith}
 use Rattle.std.specs.List.{filter, cons_option}
 use Rattle.std.specs.Option.{option_map_or}
@@ -42,7 +43,7 @@ event_of_birth event (Called client (Reply.Token key collection) (Call.Duplicate
     (ap (λ (o : Option Birth). option_map_or (λ (x : Birth). x.event) o event) (sym e), refl)
 event_of_birth event (Called client (Reply.Token key collection) (Call.AttachToken parent)) b e =
     (ap (λ (o : Option Birth). option_map_or (λ (x : Birth). x.event) o event) (sym e), refl)
-event_of_birth event _ b e = cc
+event_of_birth event _ b e = absurd (false≢true (ap is_some e))
 
 -- no birth is of an event to come
 birth_early : (marks : Timeline) (b : Birth) → In b (births marks) → b.event ≤ events marks

@@ -1,8 +1,9 @@
-use Rattle.std.proofs.Common.{◌<◌, ◌^◌, arith, rules}
+use Rattle.std.proofs.Common.{◌<◌, ◌^◌, arith, refl, rules}
 use Rattle.std.proofs.lemmas.Bool.{OnTrue_at}
 use Rattle.std.proofs.lemmas.Result.{on_ok_weaker}
 use Rattle.core_state.proofs.handles.Opening.{of-le-total}
 use Rattle.core_state.proofs.handles.Undoing.{moves_taken, moves_dropped, moves_given, moves_collected}
+use Rattle.core_state.proofs.handles.Untouched.{take_stays, dup_stays, drop_stays, give_stays, collect_stays, other_stays}
 use Rattle.core_state.proofs.hands.apply_handles.Goals as goal
 
 pub returns-in-Taken-clause-ok : goal.returns-in-Taken-clause-ok
@@ -40,3 +41,36 @@ returns-in-CollectedHandle-clause-ok c =
     let some = rw (c.in-Collect.is, c.in-CollectedHandle.is) at c.requires in
     rw (c.in-Collect.is, c.in-CollectedHandle.is) (moves_collected c.args.client h.buffer h.strength c.args.holds.now c.land.new.self some
     c.land.ensures)
+
+-- where no handle is opened, dropped or moved
+pub returns-in_default-reply : goal.returns-in_default-reply
+returns-in_default-reply c =
+    let same = take_stays c.args.holds.now c.args.client c.args.reply.now c.in-Take.field-0 c.in_default-reply.not-Taken in
+    record { ok = rw c.in-Take.is same.moves; room = rw c.in-Take.is same.undo; err = tt; why = tt; limit = refl }
+
+pub returns-in_default-reply-2 : goal.returns-in_default-reply-2
+returns-in_default-reply-2 c =
+    let same = dup_stays c.args.holds.now c.args.client c.args.reply.now c.in-DupHandle.buffer c.in-DupHandle.strength c.in_default-reply-2.not-Done in
+    record { ok = rw c.in-DupHandle.is same.moves; room = rw c.in-DupHandle.is same.undo; err = tt; why = tt; limit = refl }
+
+pub returns-in_default-reply-3 : goal.returns-in_default-reply-3
+returns-in_default-reply-3 c =
+    let same = drop_stays c.args.holds.now c.args.client c.args.reply.now c.in-DropHandle.buffer c.in-DropHandle.strength c.in_default-reply-3.not-Done in
+    record { ok = rw c.in-DropHandle.is same.moves; room = rw c.in-DropHandle.is same.undo; err = tt; why = tt; limit = refl }
+
+pub returns-in_default-reply-4 : goal.returns-in_default-reply-4
+returns-in_default-reply-4 c =
+    let same = give_stays c.args.holds.now c.args.client c.args.reply.now c.in-GiveHandle.buffer c.in-GiveHandle.strength c.in-GiveHandle.field-2 c.in_default-reply-4.not-Done in
+    record { ok = rw c.in-GiveHandle.is same.moves; room = rw c.in-GiveHandle.is same.undo; err = tt; why = tt; limit = refl }
+
+pub returns-in_default-reply-5 : goal.returns-in_default-reply-5
+returns-in_default-reply-5 c =
+    let same = collect_stays c.args.holds.now c.args.client c.args.reply.now c.in_default-reply-5.not-CollectedHandle in
+    record { ok = rw c.in-Collect.is same.moves; room = rw c.in-Collect.is same.undo; err = tt; why = tt; limit = refl }
+
+pub returns-in_default : goal.returns-in_default
+returns-in_default c =
+    let other = c.in_default in
+    let same = other_stays c.args.holds.now c.args.client c.args.reply.now c.args.call.now other.not-Take other.not-DupHandle other.not-DropHandle
+    other.not-GiveHandle other.not-Collect in
+    record { ok = same.moves; room = same.undo; err = tt; why = tt; limit = refl }

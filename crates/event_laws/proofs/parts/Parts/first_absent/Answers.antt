@@ -1,4 +1,5 @@
 use Rattle.std.proofs.Common.{◌≡◌, ◌+◌, ◌∙◌, sym, true, false, length, arith}
+use Rattle.std.proofs.lemmas.Grind.{common_steps}
 use Rattle.event_laws.specs.Members.{is_among, makes_client}
 use Rattle.event_laws.proofs.MemberLaws.{marked_there, read_next}
 use Rattle.event_laws.proofs.parts.Parts.first_absent.Goals as goal
@@ -24,3 +25,9 @@ loop-entry-preserved c =
           there so.read;
       at = omega (arith, so.at, more);
     }
+
+pub loop-entry-init : goal.loop-entry-init
+loop-entry-init c = grind (arith, common_steps)
+
+pub returns : goal.returns
+returns c = grind (arith, common_steps)
