@@ -5,7 +5,7 @@ use failure_domains::Link;
 use sm_names::{ClientId, CollectionId, Constraints, Fault, NodeKey};
 
 /// Where the end of a node is.
-#[derive(Clone, Copy, Debug, PartialEq, Eq)]
+#[derive(Clone, Copy, PartialEq, Eq)]
 pub enum End {
     /// This client holds it.
     Held(ClientId),
@@ -16,7 +16,7 @@ pub enum End {
 }
 
 /// A node, and its end.
-#[derive(Clone, Copy, Debug, PartialEq, Eq)]
+#[derive(Clone, Copy, PartialEq, Eq)]
 pub struct Node {
     /// Its key.
     pub key: NodeKey,

@@ -2,7 +2,7 @@
 use sm_names::Buffers;
 
 /// A collection at a glance.
-#[derive(Clone, Copy, Debug, PartialEq, Eq)]
+#[derive(Clone, Copy, PartialEq, Eq)]
 pub struct Summary {
     /// How many of its nodes are kept.
     pub nodes: usize,

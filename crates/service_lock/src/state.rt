@@ -91,15 +91,27 @@ impl<E: Setup, S: Ledger, W: Ledger> State<E, S, W> {
     /// Drops all of it.
     pub(crate) fn end(self) {
         let State {
-            core: _,
+            core,
             limits: _,
             log: _,
-            events: _,
-            strong: _,
-            weak: _,
+            events,
+            strong,
+            weak,
         } = self;
+        end_books(events, strong, weak);
+        end_core(core);
     }
 }
+
+/// Drops the tallies of the three books.
+fn end_books<E: Setup, S: Ledger, W: Ledger>(
+    _events: Tally<E>,
+    _strong: Tally<S>,
+    _weak: Tally<W>,
+) {}
+
+/// Drops the core.
+fn end_core(_core: Core) {}
 
 /// The number of `Units` that can still be handed out. Costs O(1), and takes no memory.
 pub fn parts<E: Setup, S: Ledger, W: Ledger>(state: &State<E, S, W>) -> u64

@@ -10,6 +10,7 @@ use Rattle.event_marks.specs.Steps.{mark_told}
 use Rattle.event_marks.proofs.Copied.{changed_copy, if_ok_some, roomy_copy, unwalked, walked}
 use Rattle.event_marks.proofs.EventTold.{told_of_stages}
 use Rattle.event_marks.proofs.Staged.{marks_of_moments}
+use Rattle.std.proofs.Common.{rules}
 use Rattle.event_marks.proofs.told.take_told.Goals as goal
 
 -- an event that changes nothing has no stage
@@ -75,3 +76,18 @@ returns-clause-shown c =
     ∙ ap (λ (l : List Mark). laid_on l (Called c.args.client c.in_ok-reply.reply c.args.call ∷ timeline c.args.core.now.pool history))
     (marks_of_moments ms.items))
     c.walk.ensures)
+
+pub returns-clause-stepped : goal.returns-clause-stepped
+returns-clause-stepped c = search rules
+
+pub returns-in_default-before-clause-stepped : goal.returns-in_default-before-clause-stepped
+returns-in_default-before-clause-stepped c = search rules
+
+pub returns-in_default-clause-shown : goal.returns-in_default-clause-shown
+returns-in_default-clause-shown c = search rules
+
+pub returns-in_default-clause-stages : goal.returns-in_default-clause-stages
+returns-in_default-clause-stages c = search rules
+
+pub returns-in_default-clause-stepped : goal.returns-in_default-clause-stepped
+returns-in_default-clause-stepped c = search rules

@@ -2,6 +2,7 @@
 use Rattle.forest_steps.proofs.Common.{◌≡◌, ◌<◌, ◌+◌, ◌∙◌, ◌∷◌, ◌++◌, sym, ap, not, false, List, length, take, drop, get_or, arith, filter, Interval, total, HeldBuffer, Strength, is_home, Holdings, by_page, is_out, pages_held, same_buffer-true}
 use Rattle.forest_steps.proofs.intervals.Returned.{holds_one, one_returned}
 use Rattle.forest_steps.proofs.lists.Removed.{all_removed, around, filter_removed, left_around, take_removed}
+use Rattle.std.proofs.lemmas.Grind.{common_steps}
 use Rattle.forest_steps.proofs.dropped.free_buffer.Goals as goal
 
 pub give_back-requires : goal.give_back-requires
@@ -46,3 +47,9 @@ loop-at-preserved-then-eq c =
       same = ap (filter p) gone ∙ filter_removed p all at one within here ∙ c.loop-at.invariant.same;
       rest = rw gone (all_removed _ all at c.loop-at.invariant.rest);
     }
+
+pub loop-at-preserved : goal.loop-at-preserved
+loop-at-preserved c = grind (arith, common_steps)
+
+pub returns-clause-held : goal.returns-clause-held
+returns-clause-held c = grind (arith, common_steps)

@@ -1,6 +1,7 @@
 -- The root's unit has its buffers, and those that follow it had their turns.
 use Rattle.forest_steps.proofs.Common.{◌≡◌, ℕ, ◌+◌, ◌∷◌, [], List, Some, length, refl, ap, sym, subst, ◌∙◌, arith, HeldBuffer, total, Entry, Shelf, nodes_with, put_shelf, shelf_of, reserved_count, after_allocation, IsGivenAt, AllocationOutcome, PendingUnit, IsComing, IsRooted, AreTurns, MidEvent}
 use Rattle.forest_steps.proofs.mid_event.RootGiven.{root_left, rooted_given, turns_then, under_then, waits_no_more}
+use Rattle.std.proofs.Common.{rules}
 use Rattle.forest_steps.proofs.initial_allocation.allocate_root_unit.Goals as goal
 
 -- the list has the root's unit
@@ -62,3 +63,39 @@ module _ (c : goal.After-allocate_all_pending) {ss : List Shelf}
 
 pub returns-clause-rooted : goal.returns-clause-rooted
 returns-clause-rooted c ss under coming reserved = rooted_so c under coming reserved
+
+pub list_pending-requires-clause-there : goal.list_pending-requires-clause-there
+list_pending-requires-clause-there c = search rules
+
+pub mark_allocated-requires-clause-named : goal.mark_allocated-requires-clause-named
+mark_allocated-requires-clause-named c = search rules
+
+pub allocate_all_pending-requires-clause-few : goal.allocate_all_pending-requires-clause-few
+allocate_all_pending-requires-clause-few c = search rules
+
+pub allocate_all_pending-requires-clause-named : goal.allocate_all_pending-requires-clause-named
+allocate_all_pending-requires-clause-named c = search rules
+
+pub allocate_all_pending-requires-clause-room : goal.allocate_all_pending-requires-clause-room
+allocate_all_pending-requires-clause-room c = search rules
+
+pub list_pending-requires-clause-turns : goal.list_pending-requires-clause-turns
+list_pending-requires-clause-turns c = search rules
+
+pub list_pending-requires-clause-walked : goal.list_pending-requires-clause-walked
+list_pending-requires-clause-walked c = search rules
+
+pub mark_allocated-requires-clause-sorted : goal.mark_allocated-requires-clause-sorted
+mark_allocated-requires-clause-sorted c = search rules
+
+pub returns-clause-kept : goal.returns-clause-kept
+returns-clause-kept c = search rules
+
+pub returns-clause-room : goal.returns-clause-room
+returns-clause-room c = search rules
+
+pub returns-in_default-clause-kept : goal.returns-in_default-clause-kept
+returns-in_default-clause-kept c = search rules
+
+pub returns-in_default-clause-room : goal.returns-in_default-clause-room
+returns-in_default-clause-room c = search rules

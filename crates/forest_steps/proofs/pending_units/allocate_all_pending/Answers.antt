@@ -2,6 +2,7 @@
 use Rattle.forest_steps.proofs.Common.{◌≡◌, ◌+◌, ◌<◌, ◌∷◌, drop, get_or, length, sym, ◌∙◌, arith, total, PendingUnit}
 use Rattle.std.proofs.lemmas.List.{drop_more}
 use Rattle.forest_steps.proofs.mid_event.Leading.{HaveTurns, turns_more, turns_none}
+use Rattle.std.proofs.lemmas.Grind.{common_steps}
 use Rattle.forest_steps.proofs.pending_units.allocate_all_pending.Goals as goal
 
 abbrev none : PendingUnit
@@ -32,3 +33,6 @@ loop-turn-preserved c =
           (λ given. sym (c.are_abandoned.ensures given) ∙ c.if-are_abandoned.false)
           (c.allocate_pending.ensures.taken h);
     }
+
+pub returns-clause-out : goal.returns-clause-out
+returns-clause-out c = grind (arith, common_steps)

@@ -2,6 +2,7 @@
 use Rattle.forest_steps.proofs.Common.{◌≡◌, [], ◌∷◌, In-list_any, same_key-true, arith}
 use Rattle.forest_steps.proofs.mid_event.NextThere.{listed_due, none_due, told_left, told_there, next_by}
 use Rattle.forest_steps.proofs.mid_event.Playing.{played_none}
+use Rattle.std.proofs.Common.{rules}
 use Rattle.forest_steps.proofs.propagation.allocate_ready.Goals as goal
 
 pub list_pending-requires-clause-there : goal.list_pending-requires-clause-there
@@ -24,3 +25,36 @@ returns-then-is_next-clause-out c ss u there no_wait given =
 
 pub returns-else-is_next-clause-out : goal.returns-else-is_next-clause-out
 returns-else-is_next-clause-out c ss u there no_wait given = grind (arith, none_due, played_none, next_by)
+
+pub allocate_all_pending-requires-clause-few : goal.allocate_all_pending-requires-clause-few
+allocate_all_pending-requires-clause-few c = search rules
+
+pub allocate_all_pending-requires-clause-named : goal.allocate_all_pending-requires-clause-named
+allocate_all_pending-requires-clause-named c = search rules
+
+pub allocate_all_pending-requires-clause-room : goal.allocate_all_pending-requires-clause-room
+allocate_all_pending-requires-clause-room c = search rules
+
+pub list_pending-requires-clause-turns : goal.list_pending-requires-clause-turns
+list_pending-requires-clause-turns c = search rules
+
+pub list_pending-requires-clause-walked : goal.list_pending-requires-clause-walked
+list_pending-requires-clause-walked c = search rules
+
+pub returns-else-is_next-clause-len : goal.returns-else-is_next-clause-len
+returns-else-is_next-clause-len c = search rules
+
+pub returns-else-is_next-clause-named : goal.returns-else-is_next-clause-named
+returns-else-is_next-clause-named c = search rules
+
+pub returns-else-is_next-clause-room : goal.returns-else-is_next-clause-room
+returns-else-is_next-clause-room c = search rules
+
+pub returns-then-is_next-clause-len : goal.returns-then-is_next-clause-len
+returns-then-is_next-clause-len c = search rules
+
+pub returns-then-is_next-clause-named : goal.returns-then-is_next-clause-named
+returns-then-is_next-clause-named c = search rules
+
+pub returns-then-is_next-clause-room : goal.returns-then-is_next-clause-room
+returns-then-is_next-clause-room c = search rules

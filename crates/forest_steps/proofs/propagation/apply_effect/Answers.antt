@@ -4,6 +4,7 @@ use Rattle.forest_steps.proofs.mid_event.Changing.{affected_on, still_played}
 use Rattle.forest_steps.proofs.mid_event.Felled.{head_row, lent_there}
 use Rattle.forest_steps.proofs.mid_event.NextThere.{none_bare}
 use Rattle.forest_steps.proofs.mid_event.Playing.{played_affected, played_none, still_left}
+use Rattle.std.proofs.Common.{rules}
 use Rattle.forest_steps.proofs.propagation.apply_effect.Goals as goal
 
 -- an effect that changes no count is all that is made
@@ -56,3 +57,54 @@ returns-in_default-given-clause-out c ss n at here own under waits =
     played_affected done
     (c.end_above.ensures.led handles ss (head ∷ []) done.under left) (c.end_above.ensures.ended ss (head ∷ []) done.under left) waits
     _ vs e2 (λ pending there no_wait same. played_none _ (none_bare pending no_wait (same ∙ c.in_default-given.is)))
+
+pub make_effect-requires-clause-may : goal.make_effect-requires-clause-may
+make_effect-requires-clause-may c = search rules
+
+pub returns-then-is_none-clause-named : goal.returns-then-is_none-clause-named
+returns-then-is_none-clause-named c = search rules
+
+pub returns-then-is_none-clause-room : goal.returns-then-is_none-clause-room
+returns-then-is_none-clause-room c = search rules
+
+pub end_above-requires-clause-named : goal.end_above-requires-clause-named
+end_above-requires-clause-named c = search rules
+
+pub allocate_ready-requires-clause-named : goal.allocate_ready-requires-clause-named
+allocate_ready-requires-clause-named c = search rules
+
+pub returns-in_default-given-clause-named : goal.returns-in_default-given-clause-named
+returns-in_default-given-clause-named c = search rules
+
+pub allocate_ready-requires-clause-few : goal.allocate_ready-requires-clause-few
+allocate_ready-requires-clause-few c = search rules
+
+pub allocate_ready-requires-clause-room : goal.allocate_ready-requires-clause-room
+allocate_ready-requires-clause-room c = search rules
+
+pub end_above-requires-clause-room : goal.end_above-requires-clause-room
+end_above-requires-clause-room c = search rules
+
+pub end_above-requires-clause-there : goal.end_above-requires-clause-there
+end_above-requires-clause-there c = search rules
+
+pub make_effect-requires-clause-named : goal.make_effect-requires-clause-named
+make_effect-requires-clause-named c = search rules
+
+pub returns-in_default-clause-len : goal.returns-in_default-clause-len
+returns-in_default-clause-len c = search rules
+
+pub returns-in_default-clause-named : goal.returns-in_default-clause-named
+returns-in_default-clause-named c = search rules
+
+pub returns-in_default-clause-room : goal.returns-in_default-clause-room
+returns-in_default-clause-room c = search rules
+
+pub returns-in_default-given-clause-len : goal.returns-in_default-given-clause-len
+returns-in_default-given-clause-len c = search rules
+
+pub returns-in_default-given-clause-room : goal.returns-in_default-given-clause-room
+returns-in_default-given-clause-room c = search rules
+
+pub returns-then-is_none-clause-len : goal.returns-then-is_none-clause-len
+returns-then-is_none-clause-len c = search rules

@@ -2,6 +2,7 @@
 use Rattle.forest_steps.proofs.Common.{Some, None, refl, nodes_with, Fault, MayGo}
 use Rattle.forest_steps.proofs.mid_event.Went.{went_ended, went_lost}
 use Rattle.forest_steps.proofs.tables.Rows.{still_named}
+use Rattle.std.proofs.Common.{rules}
 use Rattle.forest_steps.proofs.removal.remove_subtree.Goals as goal
 
 pub returns-in-Some-clause-went : goal.returns-in-Some-clause-went
@@ -29,3 +30,12 @@ returns-in-None-clause-went c = λ ss unheld pending under may.
 
 pub returns-in-None-clause-named : goal.returns-in-None-clause-named
 returns-in-None-clause-named c = still_named c.requires.named c.remove_taken-in-None.ensures.gone.stores
+
+pub remove_taken-requires-clause-named : goal.remove_taken-requires-clause-named
+remove_taken-requires-clause-named c = search rules
+
+pub remove_taken-requires-clause-room : goal.remove_taken-requires-clause-room
+remove_taken-requires-clause-room c = search rules
+
+pub remove_taken-requires-clause-there : goal.remove_taken-requires-clause-there
+remove_taken-requires-clause-there c = search rules

@@ -1,5 +1,6 @@
 use Rattle.forest_steps.proofs.Common.{◌∙◌, sym, arith, total, is_out}
 use Rattle.forest_steps.proofs.lists.Removed.{filter_empty, filter_removed, filter_whole, take_removed}
+use Rattle.std.proofs.lemmas.Grind.{common_steps}
 use Rattle.forest_steps.proofs.returns.keep_held.Goals as goal
 
 -- all stay
@@ -15,3 +16,9 @@ returns-then-out-eq0 c =
 -- one is removed
 pub loop-at-preserved-then-home_near : goal.loop-at-preserved-then-home_near
 loop-at-preserved-then-home_near c = grind (arith, filter_removed, take_removed)
+
+pub returns : goal.returns
+returns c = grind (arith, common_steps)
+
+pub loop-at-preserved : goal.loop-at-preserved
+loop-at-preserved c = grind (arith, common_steps)

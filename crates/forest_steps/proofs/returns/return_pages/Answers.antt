@@ -2,6 +2,7 @@ use Rattle.forest_steps.proofs.Common.{ℕ, ◌≡◌, ◌<◌, ◌≤◌, ◌+�
 use Rattle.std.proofs.lemmas.List.Filters.{length-filter_more}
 use Rattle.buffer_pool.proofs.Runs.{in_order-without_run}
 use Rattle.forest_steps.proofs.intervals.Returned.{holds_one, kept_here, kept_past, one_returned}
+use Rattle.std.proofs.lemmas.Grind.{common_steps}
 use Rattle.forest_steps.proofs.returns.return_pages.Goals as goal
 
 pub return_one-out-requires-clause-there : goal.return_one-out-requires-clause-there
@@ -56,3 +57,9 @@ loop-buffer-preserved c =
         ≡ by_page (pages_held (cond b (front ++ h ∷ rest) (front ++ rest)) ++ others)
     from true front rest h others = refl
     from false front rest h others = refl
+
+pub returns-clause-held : goal.returns-clause-held
+returns-clause-held c = grind (arith, common_steps)
+
+pub returns-clause-out : goal.returns-clause-out
+returns-clause-out c = grind (arith, common_steps)

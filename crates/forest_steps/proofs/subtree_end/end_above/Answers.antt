@@ -1,6 +1,7 @@
 -- Nothing changes where something holds the unit; else the highest that nothing holds but the one below ends, as it is forced to.
 use Rattle.forest_steps.proofs.Common.{◌≡◌, [], ◌∷◌, List, true, false, inl, inr, refl, ap, sym, ◌∙◌, Unit, unit_at, table_len, is_held_by, climbed}
 use Rattle.forest_steps.proofs.mid_event.EndAbove.{ended_led, held_led, may_end}
+use Rattle.std.proofs.Common.{rules}
 use Rattle.forest_steps.proofs.subtree_end.end_above.Goals as goal
 
 pub returns-then-is_held_by-clause-led : goal.returns-then-is_held_by-clause-led
@@ -36,3 +37,33 @@ returns-clause-ended c ss pending ok left =
     c.highest-top.ensures.climbed ∙ ap (λ l. climbed (table_len t) t l c.args.head) c.deref-2.ensures.value in
     let went = c.remove_subtree.ensures.went ss (c.args.head ∷ []) pending ok (may_end ok left none _ is) in
     inr (c.highest-top.result, went.nodes)
+
+pub remove_subtree-requires-clause-there : goal.remove_subtree-requires-clause-there
+remove_subtree-requires-clause-there c = search rules
+
+pub overflow_cast-head : goal.overflow_cast-head
+overflow_cast-head c = search rules
+
+pub remove_subtree-requires-clause-named : goal.remove_subtree-requires-clause-named
+remove_subtree-requires-clause-named c = search rules
+
+pub remove_subtree-requires-clause-room : goal.remove_subtree-requires-clause-room
+remove_subtree-requires-clause-room c = search rules
+
+pub returns-clause-kept : goal.returns-clause-kept
+returns-clause-kept c = search rules
+
+pub returns-clause-room : goal.returns-clause-room
+returns-clause-room c = search rules
+
+pub returns-clause-there : goal.returns-clause-there
+returns-clause-there c = search rules
+
+pub returns-then-is_held_by-clause-kept : goal.returns-then-is_held_by-clause-kept
+returns-then-is_held_by-clause-kept c = search rules
+
+pub returns-then-is_held_by-clause-room : goal.returns-then-is_held_by-clause-room
+returns-then-is_held_by-clause-room c = search rules
+
+pub returns-then-is_held_by-clause-there : goal.returns-then-is_held_by-clause-there
+returns-then-is_held_by-clause-there c = search rules

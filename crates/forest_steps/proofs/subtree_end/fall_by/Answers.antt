@@ -1,6 +1,7 @@
 -- What fell is gone, and what nothing holds then ended.
 use Rattle.forest_steps.proofs.Common.{◌≡◌, refl, sym, ◌∙◌, subst, true, Shelf, nodes_with, is_head_left}
 use Rattle.forest_steps.proofs.mid_event.Felled.{felled_alone, felled_on, head_row, lent_there}
+use Rattle.std.proofs.Common.{rules}
 use Rattle.forest_steps.proofs.subtree_end.fall_by.Goals as goal
 
 pub returns-in_default-clause-felled : goal.returns-in_default-clause-felled
@@ -20,3 +21,48 @@ returns-else-is_some-clause-felled c handles ss pending u left =
     let went = c.in-Some.ensures.went ss _ pending u (left, refl) in
     let row = head_row c.remove_subtree.new.nodes.table c.remove_subtree.ensures.named c.args.entry.now.keys.items c.in-Some.above went.left in
     absurd (lent_there _ (c.get.ensures ∙ row.1) (sym c.is_some.ensures ∙ c.if-is_some.false))
+
+pub end_above-requires-clause-named : goal.end_above-requires-clause-named
+end_above-requires-clause-named c = search rules
+
+pub returns-then-is_some-clause-named : goal.returns-then-is_some-clause-named
+returns-then-is_some-clause-named c = search rules
+
+pub returns-else-is_some-clause-named : goal.returns-else-is_some-clause-named
+returns-else-is_some-clause-named c = search rules
+
+pub end_above-requires-clause-room : goal.end_above-requires-clause-room
+end_above-requires-clause-room c = search rules
+
+pub end_above-requires-clause-there : goal.end_above-requires-clause-there
+end_above-requires-clause-there c = search rules
+
+pub remove_subtree-requires-clause-named : goal.remove_subtree-requires-clause-named
+remove_subtree-requires-clause-named c = search rules
+
+pub remove_subtree-requires-clause-room : goal.remove_subtree-requires-clause-room
+remove_subtree-requires-clause-room c = search rules
+
+pub remove_subtree-requires-clause-there : goal.remove_subtree-requires-clause-there
+remove_subtree-requires-clause-there c = search rules
+
+pub returns-else-is_some-clause-len : goal.returns-else-is_some-clause-len
+returns-else-is_some-clause-len c = search rules
+
+pub returns-else-is_some-clause-room : goal.returns-else-is_some-clause-room
+returns-else-is_some-clause-room c = search rules
+
+pub returns-in_default-clause-len : goal.returns-in_default-clause-len
+returns-in_default-clause-len c = search rules
+
+pub returns-in_default-clause-named : goal.returns-in_default-clause-named
+returns-in_default-clause-named c = search rules
+
+pub returns-in_default-clause-room : goal.returns-in_default-clause-room
+returns-in_default-clause-room c = search rules
+
+pub returns-then-is_some-clause-len : goal.returns-then-is_some-clause-len
+returns-then-is_some-clause-len c = search rules
+
+pub returns-then-is_some-clause-room : goal.returns-then-is_some-clause-room
+returns-then-is_some-clause-room c = search rules

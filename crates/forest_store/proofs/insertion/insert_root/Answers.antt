@@ -20,3 +20,36 @@ returns-clause-entries c =
     let shelf : shelf_of new ≡ shelf_with (no_shelf c.args.id) c.in_ok-key.key =
     λ i. record { id = c.args.id; keys = items i; buffers = None; held = held i } in
     (new, c.put_entry.ensures.items ∙ ap (put_in new) c.reserve.ensures.items, shelf, c.strong_with-strong.ensures, refl)
+
+pub returns-then-is_err-clause-ok : goal.returns-then-is_err-clause-ok
+returns-then-is_err-clause-ok c = search rules
+
+pub returns-then-is_err-clause-err : goal.returns-then-is_err-clause-err
+returns-then-is_err-clause-err c = search rules
+
+pub returns-then-is_err-clause-entries : goal.returns-then-is_err-clause-entries
+returns-then-is_err-clause-entries c = search rules
+
+pub returns-clause-ok : goal.returns-clause-ok
+returns-clause-ok c = search rules
+
+pub returns-clause-err : goal.returns-clause-err
+returns-clause-err c = search rules
+
+pub returns-clause-err_entries : goal.returns-clause-err_entries
+returns-clause-err_entries c = search rules
+
+pub insert_node-requires-clause-first : goal.insert_node-requires-clause-first
+insert_node-requires-clause-first c = search rules
+
+pub insert_node-requires-clause-parent : goal.insert_node-requires-clause-parent
+insert_node-requires-clause-parent c = search rules
+
+pub put_entry-requires-clause-rising : goal.put_entry-requires-clause-rising
+put_entry-requires-clause-rising c = search rules
+
+pub put_entry-requires-clause-room : goal.put_entry-requires-clause-room
+put_entry-requires-clause-room c = search rules
+
+pub returns-then-is_err-clause-err_entries : goal.returns-then-is_err-clause-err_entries
+returns-then-is_err-clause-err_entries c = search rules

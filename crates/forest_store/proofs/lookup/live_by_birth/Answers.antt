@@ -1,6 +1,7 @@
 -- The nodes of one entry more come last.
 use Rattle.forest_store.proofs.Common.{List, arith, map, ap, ◌∙◌, filter, Entry, all_keys, nodes_with, shelves_of, Node, is_live_node, rules, common_steps, flat_map-append, map-append, take_all, filter_map-append, filter-append, answers_always, sorted_by}
 use Rattle.forest_store.proofs.lists.StableSort.{stable_sorted}
+use Rattle.std.proofs.lemmas.Result.{IfOk-from_err}
 use Rattle.forest_store.proofs.lookup.live_by_birth.Goals as goal
 
 pub loop-entry-preserved : goal.loop-entry-preserved
@@ -18,3 +19,24 @@ returns c =
     let whole = take_all c.loop-node.node-index c.deref-node-items.result.now c.loop-node-test.false ∙ c.deref-node-items.ensures.value in
     c.loop-node.invariant
     ∙ ap (map (λ (n : Node). n.key)) (whole ∙ (sorted ∙ ap (sorted_by (λ (n : Node). n.event)) all))
+
+pub loop-entry-init : goal.loop-entry-init
+loop-entry-init c = c.new-nodes.ensures.items
+
+pub returns-in_err-add_live : goal.returns-in_err-add_live
+returns-in_err-add_live c = IfOk-from_err _ _ c.from_residual.ensures.0
+
+pub returns-in_err-sort_by_key : goal.returns-in_err-sort_by_key
+returns-in_err-sort_by_key c = IfOk-from_err _ _ c.from_residual-in_err-sort_by_key.ensures.0
+
+pub returns-in_err-keys : goal.returns-in_err-keys
+returns-in_err-keys c = IfOk-from_err _ _ c.from_residual-in_err-keys.ensures.0
+
+pub loop-node-init : goal.loop-node-init
+loop-node-init c = c.in_ok-keys.ensures.items
+
+pub returns-in_err-push : goal.returns-in_err-push
+returns-in_err-push c = IfOk-from_err _ _ c.from_residual-in_err-push.ensures.0
+
+pub loop-node-preserved : goal.loop-node-preserved
+loop-node-preserved c = grind (arith, common_steps)

@@ -2,6 +2,8 @@
 use Rattle.forest_store.proofs.Common.{◌≡◌, ◌||◌, Bool, ap, ◌∙◌, sym, NodeKey, take_more}
 use Rattle.forest_store.proofs.failures.Written.{once_before, over_more, went_more}
 use Rattle.forest_store.proofs.removed_nodes.mark_all_gone.Goals.{then-over, else-over}
+use Rattle.std.proofs.Common.{arith}
+use Rattle.std.proofs.lemmas.Grind.{common_steps}
 use Rattle.forest_store.proofs.removed_nodes.mark_all_gone.Goals as goal
 
 pub loop-key-preserved : goal.loop-key-preserved
@@ -24,3 +26,9 @@ loop-key-preserved c =
       over = over ∙ rw more (over_more t c.requires.named g _ _ apart u stores _ _
           c.loop-key.invariant.over c.mark_gone-one.ensures.over);
     }
+
+pub returns-clause-over : goal.returns-clause-over
+returns-clause-over c = grind (arith, common_steps)
+
+pub returns-clause-stores : goal.returns-clause-stores
+returns-clause-stores c = grind (arith, common_steps)

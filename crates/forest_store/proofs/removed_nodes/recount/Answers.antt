@@ -1,6 +1,7 @@
 -- What is reserved is a sum over the nodes.
 use Rattle.forest_store.proofs.Common.{◌≡◌, List, drop, sym, ◌∙◌, ap, arith, NodeKey, nodes_with, camped, drop_all}
 use Rattle.forest_store.proofs.Basics.{amount_of, reserved_is}
+use Rattle.std.proofs.lemmas.Grind.{common_steps}
 use Rattle.forest_store.proofs.removed_nodes.recount.Goals as goal
 
 pub returns-clause-reserved : goal.returns-clause-reserved
@@ -11,3 +12,9 @@ returns-clause-reserved c =
     (drop_all c.loop-key.key-index c.args.keys.now (omega (arith, c.loop-key-test.false))) in
     let all = c.loop-key.invariant.reserved in
     omega (arith, none, all) ∙ sym (reserved_is (nodes_with t c.args.keys.now))
+
+pub loop-key-preserved : goal.loop-key-preserved
+loop-key-preserved c = grind (arith, common_steps)
+
+pub returns-clause-strong : goal.returns-clause-strong
+returns-clause-strong c = grind (arith, common_steps)

@@ -8,6 +8,7 @@ use Rattle.service_lock.specs.declared.moves.HandleMoves.{HandleMoves}
 use Rattle.service_lock.specs.Counting.{moves_by}
 use Rattle.service_lock.specs.States.{StateInvariant, View, view_after}
 use Rattle.service_lock.proofs.SoundLaws.{fits, pushed, there, written}
+use Rattle.std.proofs.Common.{rules}
 use Rattle.service_lock.proofs.event.apply.Goals as goal
 
 -- the books of handles have room for what the event opens, and hold what it takes out of a parcel
@@ -98,3 +99,90 @@ returns-clause-legal g c =
     let limited : c.step.new.self.limits ≡ c.state.inside.limits = c.in_ok-reply.ensures.after.limits ∙ c.state.invariant.limited in
     subst (λ l. IsLegal c.step.new.self.pool c.state.inside.limits l) (sym items)
     (subst (λ b. IsLegal c.step.new.self.pool b (log ++ e ∷ [])) limited shown.legal)
+
+pub write-requires-clause-enough : goal.write-requires-clause-enough
+write-requires-clause-enough c = search rules
+
+pub write-requires-clause-there : goal.write-requires-clause-there
+write-requires-clause-there c = search rules
+
+pub invariant_of-state : goal.invariant_of-state
+invariant_of-state c = search rules
+
+pub invariant_of-units : goal.invariant_of-units
+invariant_of-units c = search rules
+
+pub overflow_cast-events : goal.overflow_cast-events
+overflow_cast-events c = search rules
+
+pub returns-clause-counts : goal.returns-clause-counts
+returns-clause-counts c = search rules
+
+pub returns-clause-fault : goal.returns-clause-fault
+returns-clause-fault c = search rules
+
+pub returns-clause-full : goal.returns-clause-full
+returns-clause-full c = search rules
+
+pub returns-clause-joins : goal.returns-clause-joins
+returns-clause-joins c = search rules
+
+pub returns-clause-kind : goal.returns-clause-kind
+returns-clause-kind c = search rules
+
+pub returns-then-events-clause-counts : goal.returns-then-events-clause-counts
+returns-then-events-clause-counts c = search rules
+
+pub returns-then-events-clause-fault : goal.returns-then-events-clause-fault
+returns-then-events-clause-fault c = search rules
+
+pub returns-then-events-clause-full : goal.returns-then-events-clause-full
+returns-then-events-clause-full c = search rules
+
+pub returns-then-events-clause-joins : goal.returns-then-events-clause-joins
+returns-then-events-clause-joins c = search rules
+
+pub returns-then-events-clause-kind : goal.returns-then-events-clause-kind
+returns-then-events-clause-kind c = search rules
+
+pub returns-then-events-clause-legal : goal.returns-then-events-clause-legal
+returns-then-events-clause-legal c = search rules
+
+pub returns-then-events-clause-made : goal.returns-then-events-clause-made
+returns-then-events-clause-made c = search rules
+
+pub returns-then-is_err-clause-counts : goal.returns-then-is_err-clause-counts
+returns-then-is_err-clause-counts c = search rules
+
+pub returns-then-is_err-clause-fault : goal.returns-then-is_err-clause-fault
+returns-then-is_err-clause-fault c = search rules
+
+pub returns-then-is_err-clause-full : goal.returns-then-is_err-clause-full
+returns-then-is_err-clause-full c = search rules
+
+pub returns-then-is_err-clause-joins : goal.returns-then-is_err-clause-joins
+returns-then-is_err-clause-joins c = search rules
+
+pub returns-then-is_err-clause-kind : goal.returns-then-is_err-clause-kind
+returns-then-is_err-clause-kind c = search rules
+
+pub returns-then-is_err-clause-legal : goal.returns-then-is_err-clause-legal
+returns-then-is_err-clause-legal c = search rules
+
+pub returns-then-is_err-clause-made : goal.returns-then-is_err-clause-made
+returns-then-is_err-clause-made c = search rules
+
+pub write-requires-2-clause-enough : goal.write-requires-2-clause-enough
+write-requires-2-clause-enough c = search rules
+
+pub write-requires-2-clause-part : goal.write-requires-2-clause-part
+write-requires-2-clause-part c = search rules
+
+pub write-requires-3-clause-enough : goal.write-requires-3-clause-enough
+write-requires-3-clause-enough c = search rules
+
+pub write-requires-3-clause-part : goal.write-requires-3-clause-part
+write-requires-3-clause-part c = search rules
+
+pub write-requires-clause-part : goal.write-requires-clause-part
+write-requires-clause-part c = search rules

@@ -1,3 +1,4 @@
+-- Each goal that is proved at once by the tactic that is named.
 use Rattle.forest_store.proofs.Common.{not, ap, ◌∙◌, filter, NodeKey, same_key, rules, filter_same, Listed}
 use Rattle.forest_store.proofs.key_list.KeyList.forget.Goals as goal
 

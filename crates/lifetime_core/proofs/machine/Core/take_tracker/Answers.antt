@@ -2,6 +2,7 @@ use Rattle.std.proofs.Common.{sym, subst}
 use Rattle.core_state.specs.Shown.{Shows}
 use Rattle.core_state.specs.State.{State}
 use Rattle.core_state.proofs.theorem.GoesOn.{take_shows}
+use Rattle.std.proofs.Common.{rules}
 use Rattle.lifetime_core.proofs.machine.Core.take_tracker.Goals as goal
 
 -- no history tells which readers were taken
@@ -18,3 +19,15 @@ returns-clause-shows c history shows =
       trackers = c.self.inside.contents.trackers;
     } in
     rw c.take_tracker.ensures.taken (take_shows s c.args.id history (subst (λ (x : State). Shows x history) (sym c.self.view_is) shows))
+
+pub returns-clause-attached : goal.returns-clause-attached
+returns-clause-attached c = search rules
+
+pub returns-clause-cell : goal.returns-clause-cell
+returns-clause-cell c = search rules
+
+pub returns-clause-taken : goal.returns-clause-taken
+returns-clause-taken c = search rules
+
+pub returns-clause-tracker : goal.returns-clause-tracker
+returns-clause-tracker c = search rules

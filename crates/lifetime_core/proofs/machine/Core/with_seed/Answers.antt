@@ -1,4 +1,5 @@
 use Rattle.core_state.proofs.theorem.GoesOn.{shows_nothing}
+use Rattle.std.proofs.Common.{rules}
 use Rattle.lifetime_core.proofs.machine.Core.with_seed.Goals as goal
 
 -- nothing happened yet
@@ -14,3 +15,9 @@ returns-clause-shows c =
       c.new-4.ensures,
       c.trackers.ensures.value,
     ) (shows_nothing c.args.pages c.args.limits)
+
+pub overflow_cast-nodes : goal.overflow_cast-nodes
+overflow_cast-nodes c = search rules
+
+pub returns-clause-state : goal.returns-clause-state
+returns-clause-state c = search rules
