@@ -1,5 +1,6 @@
 -- What a step's call is made on takes it.
-use Rattle.std.proofs.Common.{ℕ, ◌≡◌, refl, sym, subst, Bool, true, false, if◌then◌else◌, List, Option, Some, None}
+use Rattle.std.proofs.lemmas.Bool.{false≢true}
+use Rattle.std.proofs.Common.{ℕ, ◌≡◌, refl, sym, subst, Bool, true, false, if◌then◌else◌, List, Option, Some, None, ap, is_some}
 use Rattle.std.specs.Prelude.{IfSome}
 use Rattle.std.specs.Option.{option_and_then, option_map}
 use Rattle.sm_names.specs.declared.call_parts.Argument.{Argument}
@@ -32,14 +33,14 @@ token_target : (key : NodeKey) (collection : ℕ) (on : Target) (target : Named 
     target_of on (Object.Token key collection) ≡ Some target → FitsAToken key on target
 token_target key collection Target.Token target is = takes (NamesNode key) (Named.Node key) target is refl
 token_target key collection Target.End target is = takes (NamesNode key) (Named.Node key) target is refl
-token_target key collection _ target is = cc
+token_target key collection _ target is = absurd (false≢true (ap is_some is))
 
 -- so is a collection
 collection_target : (key : NodeKey) (collection : ℕ) (on : Target) (target : Named NodeKey BufferName) →
     target_of on (Object.Collection key collection) ≡ Some target → FitsACollection key on target
 collection_target key collection Target.Collection target is = takes (NamesNode key) (Named.Node key) target is refl
 collection_target key collection Target.End target is = takes (NamesNode key) (Named.Node key) target is refl
-collection_target key collection _ target is = cc
+collection_target key collection _ target is = absurd (false≢true (ap is_some is))
 
 -- a handle is asked for by its own strength
 own_strength : (buffer : BufferName) (held : Strength) (argument : Argument ℕ) →
@@ -54,7 +55,7 @@ handle_target : (buffer : BufferName) (held : Strength) (argument : Argument ℕ
 handle_target buffer held argument Target.Handle target is =
     takes (λ (t : Named NodeKey BufferName). NamesHandle buffer held t (with_strength held argument)) (Named.Buffer buffer) target is
     (own_strength buffer held argument)
-handle_target buffer held argument _ target is = cc
+handle_target buffer held argument _ target is = absurd (false≢true (ap is_some is))
 
 -- ---- calls
 

@@ -1,6 +1,7 @@
 //! A script of actors from its first byte to its last.
 ghost use Rattle.std.specs.Prelude.{◌≡◌, ◌+◌, ◌^◌, ◌<◌, ◌≤◌, length, IfErr, IfOk, MatchResult, Ok};
 ghost use Rattle.script_lines.specs.declared.TheConstants.{MOST_BYTES};
+ghost use Rattle.actor_scripts.specs.declared.fault.ActorScriptFault.{ActorScriptFault};
 ghost use Rattle.actor_scripts.specs.ActorLists.{script_actors_from, script_actors, actors_of, seen, BuilderInvariant};
 ghost use Rattle.actor_scripts.specs.Reads.{line_fault, Fails, ReadsActors, IsScriptFault};
 
@@ -12,6 +13,7 @@ use crate::input::read_script;
 use script_lines::{LabelHash, line_end};
 use std::alloc::Global;
 use std::io::Read;
+use std::mem;
 
 /// Reads a script of actors to its end, and answers its actors and their steps. No line is judged
 /// before the end was read.
@@ -55,13 +57,20 @@ fn actor_list(
 {
     let mut builder = ActorListBuilder::new(alloc, labels);
     match judge(&mut builder, script) {
-        Ok(()) => {}
-        Err(fault) => return Err(fault),
+        Ok(()) => actors_in(alloc, &mut builder),
+        Err(fault) => Err(fault),
     }
+}
+
+// The actors that were read, whose steps are taken out.
+fn actors_in(alloc: Global, builder: &mut ActorListBuilder) -> Result<ActorList, ActorScriptFault>
+    ensures actors { IfOk result (λ list. actors_of list ≡ (seen builder.old).actors) }
+    ensures fault { IfErr result (λ fault. fault ≡ ActorScriptFault.NoMemory) }
+{
     match Vec::from_slice(alloc, builder.clients.as_slice()) {
         Ok(labels) => Ok(ActorList {
             labels,
-            scripts: builder.scripts,
+            scripts: mem::replace(&mut builder.scripts, Vec::new(alloc)),
         }),
         Err(_) => Err(ActorScriptFault::NoMemory),
     }

@@ -10,7 +10,7 @@ ghost use Rattle.script_labels.specs.Texts.{bound_text, buffer_text, cause_text,
 
 use crate::act::Binds;
 use crate::tables::Tables;
-use script_lines::{push, push_label, push_number, strength_name};
+use script_lines::{Label, push, push_label, push_number, strength_name};
 use sm_names::{
     BufferName, Cause, CollectionId, Failure, Fired, HeldBuffer, Kind, MAX_BUFFERS, NodeKey, Reply,
     Strength, has_buffer,
@@ -20,13 +20,36 @@ use std::alloc::AllocError;
 // How many bits the set of a Take has, one for each buffer.
 pub(crate) const SET_BITS: u8 = 64;
 
+// Puts two texts behind it.
+fn push_both(text: &mut Vec<u8>, first: &str, second: &str) -> Result<(), AllocError>
+    ensures { OnOk result (text.new.items ≡ text.old.items ++ (first.now ++ second.now)) }
+{
+    push(text, first)?;
+    push(text, second)
+}
+
+// Puts a word and a number behind it.
+fn push_count(text: &mut Vec<u8>, word: &str, number: u64) -> Result<(), AllocError>
+    ensures { OnOk result (text.new.items ≡ text.old.items ++ (word.now ++ decimal number)) }
+{
+    push(text, word)?;
+    push_number(text, number)
+}
+
+// Puts a word and a label behind it, if there is a label.
+fn push_named(text: &mut Vec<u8>, word: &str, label: Option<Label>) -> Result<(), AllocError>
+    ensures { OnOk result (text.new.items ≡ text.old.items ++ (word.now ++ label_text label)) }
+{
+    push(text, word)?;
+    push_label(text, label)
+}
+
 // Puts a number, a space and a name behind it.
 fn push_numbered(text: &mut Vec<u8>, number: u64, name: &str) -> Result<(), AllocError>
     ensures { OnOk result (text.new.items ≡ text.old.items ++ numbered number name.now) }
 {
     push_number(text, number)?;
-    push(text, " ")?;
-    push(text, name)
+    push_both(text, " ", name)
 }
 
 // The name of the failure.
@@ -60,14 +83,8 @@ pub fn push_cause(text: &mut Vec<u8>, cause: Cause) -> Result<(), AllocError>
 {
     match cause {
         Cause::Lost => push(text, "lost"),
-        Cause::Misused(misuse) => {
-            push(text, "misused ")?;
-            push(text, misuse.name())
-        }
-        Cause::Failed(failure) => {
-            push(text, "failed ")?;
-            push(text, failure_name(failure))
-        }
+        Cause::Misused(misuse) => push_both(text, "misused ", misuse.name()),
+        Cause::Failed(failure) => push_both(text, "failed ", failure_name(failure)),
         Cause::NoStrong => push(text, "nostrong"),
     }
 }
@@ -113,8 +130,7 @@ pub fn push_reply(
 fn push_shut(text: &mut Vec<u8>, waiting: u64) -> Result<(), AllocError>
     ensures { OnOk result (text.new.items ≡ text.old.items ++ (codes "shut " ++ decimal waiting)) }
 {
-    push(text, "shut ")?;
-    push_number(text, waiting)
+    push_count(text, "shut ", waiting)
 }
 
 // Puts a word behind it, and a number and a name behind that.
@@ -132,12 +148,18 @@ fn push_bound(text: &mut Vec<u8>, name: &str, binds: Binds) -> Result<(), AllocE
         ≡ text.old.items ++ (name.now ++ 32 ∷ bound_text binds)) }
 {
     push(text, name)?;
-    push(text, " ")?;
+    push_named(text, " ", label_in(binds))
+}
+
+// The label that is to be bound.
+fn label_in(binds: Binds) -> Option<Label>
+    ensures { label_text result ≡ bound_text binds }
+{
     match binds {
-        Binds::Nothing => Ok(()),
-        Binds::Client(label) => push_label(text, Some(label)),
-        Binds::Node(label) => push_label(text, Some(label)),
-        Binds::Tracker(label) => push_label(text, Some(label)),
+        Binds::Nothing => None,
+        Binds::Client(label) => Some(label),
+        Binds::Node(label) => Some(label),
+        Binds::Tracker(label) => Some(label),
     }
 }
 
@@ -154,8 +176,7 @@ fn push_handle(
 {
     push(text, "handle")?;
     push_buffer(text, tables, buffer)?;
-    push(text, " ")?;
-    push(text, strength_name(strength))
+    push_both(text, " ", strength_name(strength))
 }
 
 // Puts behind it that handles of this strength were opened, on the buffers of the set.
@@ -170,8 +191,7 @@ fn push_taken(
         text.new.items ≡ text.old.items ++ (codes "taken " ++ name_of_strength strength
         ++ flat_map (member_text names set) (names_of collection MAX_BUFFERS))) }
 {
-    push(text, "taken ")?;
-    push(text, strength_name(strength))?;
+    push_both(text, "taken ", strength_name(strength))?;
     push_set(text, tables, collection, set)
 }
 
@@ -214,10 +234,8 @@ fn push_allocated(text: &mut Vec<u8>, count: u32, size: u32) -> Result<(), Alloc
     ensures { OnOk result (text.new.items
         ≡ text.old.items ++ (codes "allocated " ++ numbered count (decimal size))) }
 {
-    push(text, "allocated ")?;
-    push_number(text, count as u64)?;
-    push(text, " ")?;
-    push_number(text, size as u64)
+    push_count(text, "allocated ", count as u64)?;
+    push_count(text, " ", size as u64)
 }
 
 // Puts behind it that the node is gone: why, and the label of the node whose failure took it.
@@ -233,8 +251,7 @@ fn push_closed(
 {
     push(text, "closed ")?;
     push_cause(text, cause)?;
-    push(text, " ")?;
-    push_label(text, tables.birth_label(origin))
+    push_named(text, " ", tables.birth_label(origin))
 }
 
 /// Appends a space and the node's label; a part of it where memory is refused. Takes a time in
@@ -243,8 +260,7 @@ pub fn push_node(text: &mut Vec<u8>, tables: &Tables, node: NodeKey) -> Result<(
     ensures { OnOk result ((names : Names) → Keeps tables.now names →
         text.new.items ≡ text.old.items ++ node_text names node) }
 {
-    push(text, " ")?;
-    push_label(text, tables.birth_label(node))
+    push_named(text, " ", tables.birth_label(node))
 }
 
 /// Appends a space and the buffer; a part of it where memory is refused. Takes a time in proportion to
@@ -257,10 +273,8 @@ pub fn push_buffer(
     ensures { OnOk result ((names : Names) → Keeps tables.now names →
         text.new.items ≡ text.old.items ++ buffer_text names buffer) }
 {
-    push(text, " ")?;
-    push_label(text, tables.root_label(buffer.collection))?;
-    push(text, ".")?;
-    push_number(text, buffer.index as u64)
+    push_named(text, " ", tables.root_label(buffer.collection))?;
+    push_count(text, ".", buffer.index as u64)
 }
 
 /// Appends a space, the held buffer, its first page and their number; a part of it where memory is
@@ -270,10 +284,8 @@ pub fn push_held(text: &mut Vec<u8>, tables: &Tables, held: HeldBuffer) -> Resul
         text.new.items ≡ text.old.items ++ held_text names held) }
 {
     push_buffer(text, tables, held.buffer)?;
-    push(text, " ")?;
-    push_number(text, held.pages.start as u64)?;
-    push(text, " ")?;
-    push_number(text, held.pages.pages as u64)
+    push_count(text, " ", held.pages.start as u64)?;
+    push_count(text, " ", held.pages.pages as u64)
 }
 
 /// Appends a space, the tracker's label and the event of its firing; a part of it where memory is
@@ -282,10 +294,8 @@ pub fn push_firing(text: &mut Vec<u8>, tables: &Tables, firing: Fired) -> Result
     ensures { OnOk result ((names : Names) → Keeps tables.now names →
         text.new.items ≡ text.old.items ++ fired_text names firing) }
 {
-    push(text, " ")?;
-    push_label(text, tables.tracker_label(firing.tracker))?;
-    push(text, " ")?;
-    push_number(text, firing.event)
+    push_named(text, " ", tables.tracker_label(firing.tracker))?;
+    push_count(text, " ", firing.event)
 }
 
 /// Appends that a tracker fired at this event; a part of it where memory is refused. Takes a time in
@@ -293,6 +303,5 @@ pub fn push_firing(text: &mut Vec<u8>, tables: &Tables, firing: Fired) -> Result
 pub fn push_poll(text: &mut Vec<u8>, event: u64) -> Result<(), AllocError>
     ensures { OnOk result (text.new.items ≡ text.old.items ++ poll_text event) }
 {
-    push(text, "fired ")?;
-    push_number(text, event)
+    push_count(text, "fired ", event)
 }

@@ -27,14 +27,10 @@ pub fn push_line(text: &mut Vec<u8>, line: Line) -> Result<(), AllocError>
 {
     match line {
         Line::Nothing => Ok(()),
-        Line::Join { client } => {
-            push_label(text, Some(client))?;
-            push(text, " join")
-        }
+        Line::Join { client } => push_named(text, client, " join"),
         Line::Ask { client, request } => push_ask(text, client, &request),
         Line::Poll { client, tracker } => {
-            push_label(text, Some(client))?;
-            push(text, " poll ")?;
+            push_named(text, client, " poll ")?;
             push_label(text, Some(tracker))
         }
         Line::Show { view } => {
@@ -42,6 +38,14 @@ pub fn push_line(text: &mut Vec<u8>, line: Line) -> Result<(), AllocError>
             push(text, view_name(view))
         }
     }
+}
+
+// Puts the client's label and a text behind it.
+fn push_named(text: &mut Vec<u8>, client: Label, more: &str) -> Result<(), AllocError>
+    ensures { OnOk result (text.new.items ≡ text.old.items ++ (text_of_label client ++ more.now)) }
+{
+    push_label(text, Some(client))?;
+    push(text, more)
 }
 
 // Puts what a client asks behind it.
@@ -53,8 +57,14 @@ fn push_ask(
     ensures { OnOk result (text.new.items
         ≡ text.old.items ++ (text_of_label client ++ 32 ∷ request_text request.now)) }
 {
-    push_label(text, Some(client))?;
-    push(text, " ")?;
+    push_named(text, client, " ")?;
+    push_request(text, request)
+}
+
+// Puts the word of the call and what it says behind it.
+fn push_request(text: &mut Vec<u8>, request: &Request<Label, BufferLabel>) -> Result<(), AllocError>
+    ensures { OnOk result (text.new.items ≡ text.old.items ++ request_text request.now) }
+{
     push(text, word_of(request.kind))?;
     push_object(text, request.object)?;
     push_argument(text, request.argument)?;
@@ -81,10 +91,7 @@ fn push_argument(text: &mut Vec<u8>, argument: Argument<Label>) -> Result<(), Al
         Argument::Client(to) => push_last(text, to),
         Argument::Children(children) => push(text, if children { " children" } else { "" }),
         Argument::Constraints(constraints) => push_constraints(text, constraints),
-        Argument::Most(most) => {
-            push(text, " ")?;
-            push_number(text, most as u64)
-        }
+        Argument::Most(most) => push_behind(text, most as u64),
         Argument::Strength(strength) => push_strength(text, strength),
         Argument::Gift(strength, to) => {
             push_strength(text, strength)?;
@@ -115,12 +122,17 @@ fn push_last(text: &mut Vec<u8>, label: Label) -> Result<(), AllocError>
 fn push_constraints(text: &mut Vec<u8>, constraints: Constraints) -> Result<(), AllocError>
     ensures { OnOk result (text.new.items ≡ text.old.items ++ demand_text constraints) }
 {
+    push_behind(text, constraints.camping() as u64)?;
+    push_behind(text, constraints.at_least() as u64)?;
+    push_behind(text, constraints.size() as u64)
+}
+
+// Puts a space and the number behind it.
+fn push_behind(text: &mut Vec<u8>, number: u64) -> Result<(), AllocError>
+    ensures { OnOk result (text.new.items ≡ text.old.items ++ 32 ∷ decimal number) }
+{
     push(text, " ")?;
-    push_number(text, constraints.camping() as u64)?;
-    push(text, " ")?;
-    push_number(text, constraints.at_least() as u64)?;
-    push(text, " ")?;
-    push_number(text, constraints.size() as u64)
+    push_number(text, number)
 }
 
 // Puts a space and the strength behind it.
@@ -135,8 +147,7 @@ fn push_strength(text: &mut Vec<u8>, strength: Strength) -> Result<(), AllocErro
 fn push_buffer_label(text: &mut Vec<u8>, buffer: BufferLabel) -> Result<(), AllocError>
     ensures { OnOk result (text.new.items ≡ text.old.items ++ 32 ∷ buffer_label_text buffer) }
 {
-    push(text, " ")?;
-    push_label(text, Some(buffer.node))?;
+    push_last(text, buffer.node)?;
     push(text, ".")?;
     push_number(text, buffer.index as u64)
 }

@@ -1,5 +1,6 @@
 use Rattle.std.proofs.Common.{◌+◌, Bool, if◌then◌else◌, length-drop, arith, sym, ap, ◌∙◌, subst, Ok, Err}
 use Rattle.std.proofs.lemmas.List.{take_rest}
+use Rattle.std.proofs.lemmas.Grind.{common_steps}
 use Rattle.actor_scripts.specs.ActorLists.{script_actors_from, seen}
 use Rattle.actor_scripts.specs.Reads.{IsScriptFault}
 use Rattle.actor_scripts.proofs.Lines.{goes-on, goes-out, goes-no-further}
@@ -26,3 +27,6 @@ returns-else-is_ended c =
     let now = seen c.loop-at.builder in
     c.loop-at.invariant.0 ∙ goes-out now c.loop-at.rest.now (sym c.line_end.ensures.value ∙ c.in_default.is)
     ∙ ap (λ (done : Bool). if done then Ok now.actors else Err (now.lines + 1)) (sym c.is_ended.ensures ∙ c.if-is_ended.false)
+
+pub returns-then-is_ended : goal.returns-then-is_ended
+returns-then-is_ended c = grind (arith, common_steps)
