@@ -1,10 +1,11 @@
 //! A line of the text: a verb, and the numbers behind it.
+use crate::verb::{Verb, verb_of};
 use trial_streams::decimal;
 
 /// A verb and up to five numbers. The line has `count` numbers; the others are 0.
 #[derive(Clone, Copy)]
-pub struct Line<'a> {
-    pub verb: &'a str,
+pub struct Line {
+    pub verb: Verb,
     pub numbers: [u32; 5],
     pub count: usize,
 }
@@ -22,7 +23,7 @@ pub fn line_of(text: &str) -> Option<Line> {
         }
     }
     Some(Line {
-        verb,
+        verb: verb_of(verb),
         numbers,
         count,
     })

@@ -33,28 +33,45 @@ mod ground;
 mod line;
 mod past;
 mod player;
+mod text;
 mod texts;
+mod verb;
 
 use player::Player;
 use std::alloc::Global;
-use std::io;
 use std::io::Write;
 use std::test::Fail;
+use std::{io, mem};
+use text::Text;
 
 // Takes each line of a text, and puts it with its answer behind what is there.
-fn take_lines(input: &str, player: &mut Player, text: &mut Vec<u8>) -> Result<(), Fail> {
+fn take_lines(input: &str, player: &mut Player, text: &mut Text) {
     for line in input.lines() {
-        text.extend_from_slice(line.as_bytes())?;
-        player.take(line, text)?;
-        text.push(b'\n')?;
+        text.word(line);
+        player.take(line, text);
+        text.word("\n");
     }
-    Ok(())
 }
 
-// The same, from an empty ground on.
-fn play(alloc: Global, input: &str, text: &mut Vec<u8>) -> Result<(), Fail> {
+// The same, from an empty ground on. Answers whether there was memory for one.
+fn play(alloc: Global, input: &str, text: &mut Text) -> bool {
     match Player::new(alloc) {
-        Some(mut player) => take_lines(input, &mut player, text),
+        Some(mut player) => {
+            take_lines(input, &mut player, text);
+            mem::drop(player);
+            true
+        }
+        None => false,
+    }
+}
+
+// Writes a text.
+fn write(rt: &HostRuntime, text: &Text) -> Result<(), Fail> {
+    match text.whole() {
+        Some(bytes) => {
+            io::writer(rt).write_all(bytes)?;
+            Ok(())
+        }
         None => Err(Fail::from("no memory")),
     }
 }
@@ -62,8 +79,9 @@ fn play(alloc: Global, input: &str, text: &mut Vec<u8>) -> Result<(), Fail> {
 fn main(rt: HostRuntime) -> Result<(), Fail> {
     let alloc = rt.alloc();
     let input = io::read_to_string(alloc, rt.reader())?;
-    let mut text = Vec::new(alloc);
-    play(alloc, input.as_str(), &mut text)?;
-    io::writer(&rt).write_all(text.as_slice())?;
-    Ok(())
+    let mut text = Text::new(alloc);
+    if !play(alloc, input.as_str(), &mut text) {
+        return Err(Fail::from("no memory"));
+    }
+    write(&rt, &text)
 }

@@ -2,13 +2,14 @@
 use crate::ground::Ground;
 use crate::line::{Line, Range, line_of};
 use crate::past::{Leaving, Past};
+use crate::text::Text;
 use crate::texts::{
     Tally, push_birth, push_kept, push_node, push_pool, push_tally, tally_in, tally_of,
 };
+use crate::verb::Verb;
 use alloc_event::forest::Forest;
-use script_lines::push;
 use sm_names::{Call, Constraints, NodeKey, Strength};
-use std::alloc::{AllocError, Global};
+use std::alloc::Global;
 use std::mem;
 
 /// A ground, and the keys of the nodes that were born on it; or what is left of its forest.
@@ -49,13 +50,13 @@ enum Act {
 // What the line does with nodes.
 fn act_of(line: &Line) -> Option<Act> {
     match line.verb {
-        "ask" => Some(Act::Ask(demand_of(line)?)),
-        "release" => Some(Act::Release),
-        "lose" => Some(Act::Lose),
-        "weaken" => Some(Act::Weaken),
-        "allowweak" => Some(Act::AllowWeak),
-        "dispensable" => Some(Act::MakeDispensable),
-        "below" => Some(Act::BearBelow),
+        Verb::Ask => Some(Act::Ask(demand_of(line)?)),
+        Verb::Release => Some(Act::Release),
+        Verb::Lose => Some(Act::Lose),
+        Verb::Weaken => Some(Act::Weaken),
+        Verb::AllowWeak => Some(Act::AllowWeak),
+        Verb::Dispensable => Some(Act::MakeDispensable),
+        Verb::Below => Some(Act::BearBelow),
         _ => None,
     }
 }
@@ -73,13 +74,37 @@ fn call_of(act: &Act, key: NodeKey) -> Option<Call> {
 }
 
 // Puts behind what is there how each change altered the numbers, if all altered them alike.
-fn push_turn(text: &mut Vec<u8>, each: Option<Tally>) -> Result<(), AllocError> {
+fn push_turn(text: &mut Text, each: Option<Tally>) {
     match each {
         Some(tally) => {
-            push(text, ": each ")?;
-            push_tally(text, tally, true)
+            text.word(": each ");
+            push_tally(text, tally, true);
         }
-        None => push(text, ": not alike"),
+        None => text.word(": not alike"),
+    }
+}
+
+// Spends the ends of nodes or forgets nodes, as the line says.
+fn forget_in(past: &mut Past, keys: &[NodeKey], line: &Line) -> bool {
+    let range = Range::of(line);
+    match line.verb {
+        Verb::Spend => past.leave_each(keys, range, Leaving::Spend),
+        Verb::End => past.leave_each(keys, range, Leaving::End),
+        Verb::Forget if line.count > 0 => past.leave_each(keys, range, Leaving::Forget),
+        Verb::Forget => past.forget_collection(),
+        _ => {
+            past.forget_over();
+            true
+        }
+    }
+}
+
+// What is said of a change.
+fn made(is_made: bool, verb: Verb) -> &'static str {
+    match (is_made, verb) {
+        (true, Verb::End) => ": each forgotten alone",
+        (true, _) => "",
+        (false, _) => ": not made",
     }
 }
 
@@ -95,13 +120,16 @@ impl Player {
         })
     }
 
+    // Another player stands in the place of this one, which is dropped by a call, so that its drop is proved once.
+    fn put(&mut self, player: Player) {
+        mem::drop(mem::replace(self, player));
+    }
+
     // Begins anew with an empty ground.
     fn begin(&mut self) -> bool {
-        match Ground::new(self.alloc) {
-            Some(ground) => {
-                self.ground = ground;
-                self.past = None;
-                self.keys.clear();
+        match Player::new(self.alloc) {
+            Some(player) => {
+                self.put(player);
                 true
             }
             None => false,
@@ -161,13 +189,18 @@ impl Player {
         true
     }
 
+    // A unit of two nodes below one.
+    fn bear_pair(&mut self, above: NodeKey) -> bool {
+        match self.bear(Some(above), true) {
+            Some(head) => self.bear(Some(head), false).is_some(),
+            None => false,
+        }
+    }
+
     // This many units of two nodes below one.
     fn bear_pairs(&mut self, above: NodeKey, count: u32) -> bool {
         for _ in 0..count {
-            let Some(head) = self.bear(Some(above), true) else {
-                return false;
-            };
-            if self.bear(Some(head), false).is_none() {
+            if !self.bear_pair(above) {
                 return false;
             }
         }
@@ -181,10 +214,10 @@ impl Player {
             return false;
         };
         match line.verb {
-            "child" => self.bear_each(above, count, false, false),
-            "unit" => self.bear_each(above, count, true, false),
-            "line" => self.bear_each(above, count, false, true),
-            "chain" => self.bear_each(above, count, true, true),
+            Verb::Child => self.bear_each(above, count, false, false),
+            Verb::Unit => self.bear_each(above, count, true, false),
+            Verb::Line => self.bear_each(above, count, false, true),
+            Verb::Chain => self.bear_each(above, count, true, true),
             _ => self.bear_pairs(above, count),
         }
     }
@@ -233,111 +266,109 @@ impl Player {
         Some(first)
     }
 
-    // Opens or closes a handle, or acts on nodes.
-    fn change_more(&mut self, line: &Line) -> bool {
-        match line.verb {
-            "open" => self.ground.open(index_of(line), Strength::Strong),
-            "close" => self.ground.close(index_of(line), Strength::Strong),
-            "openweak" => self.ground.open(0, Strength::Weak),
-            "closeweak" => self.ground.close(0, Strength::Weak),
-            "look" => self.ground.look_again(),
-            _ => match act_of(line) {
-                Some(act) => self.act_on_each(Range::of(line), &act),
-                None => false,
-            },
+    // Acts on nodes, if the line says that.
+    fn act(&mut self, line: &Line) -> bool {
+        match act_of(line) {
+            Some(act) => self.act_on_each(Range::of(line), &act),
+            None => false,
         }
     }
 
     // Spends ends or forgets nodes, once the changes have ended.
     fn forget(&mut self, line: &Line) -> bool {
-        let Some(past) = &mut self.past else {
-            return false;
-        };
-        let range = Range::of(line);
-        match line.verb {
-            "spend" => past.leave_each(&self.keys, range, Leaving::Spend),
-            "end" => past.leave_each(&self.keys, range, Leaving::End),
-            "forget" if line.count > 0 => past.leave_each(&self.keys, range, Leaving::Forget),
-            "forget" => past.forget_collection(),
-            _ => {
-                past.forget_over();
-                true
-            }
+        match &mut self.past {
+            Some(past) => forget_in(past, &self.keys, line),
+            None => false,
         }
     }
 
     // Makes the change of the line, and answers whether it was made.
     fn change(&mut self, line: &Line) -> bool {
         match line.verb {
-            "root" => self.bear(None, false).is_some(),
-            "child" | "unit" | "line" | "chain" | "pairs" => self.bear_below(line),
-            "leave" => self.leave(),
-            "spend" | "forget" | "end" | "over" => self.forget(line),
-            _ => self.change_more(line),
+            Verb::Root => self.bear(None, false).is_some(),
+            Verb::Child | Verb::Unit | Verb::Line | Verb::Chain | Verb::Pairs => {
+                self.bear_below(line)
+            }
+            Verb::Leave => self.leave(),
+            Verb::Spend | Verb::Forget | Verb::End | Verb::Over => self.forget(line),
+            Verb::Open => self.ground.open(index_of(line), Strength::Strong),
+            Verb::Close => self.ground.close(index_of(line), Strength::Strong),
+            Verb::OpenWeak => self.ground.open(0, Strength::Weak),
+            Verb::CloseWeak => self.ground.close(0, Strength::Weak),
+            Verb::Look => self.ground.look_again(),
+            _ => self.act(line),
         }
     }
 
     // Puts behind what is there what is seen of a node.
-    fn push_one(&self, line: &Line, text: &mut Vec<u8>) -> Result<(), AllocError> {
+    fn push_one(&self, line: &Line, text: &mut Text) {
         match self.first_key(line) {
-            Some(key) if line.verb == "node" => push_node(text, self.forest(), key),
+            Some(key) => push_node(text, self.forest(), key),
+            None => text.word(": never born"),
+        }
+    }
+
+    // Puts behind what is there what is seen of the birth of a node.
+    fn push_born(&self, line: &Line, text: &mut Text) {
+        match self.first_key(line) {
             Some(key) => push_birth(text, self.forest(), key),
-            None => push(text, ": never born"),
+            None => text.word(": never born"),
         }
     }
 
     // Puts behind what is there the numbers for the nodes of the range.
-    fn push_count(&self, range: Range, text: &mut Vec<u8>) -> Result<(), AllocError> {
-        push(text, ": ")?;
-        push_tally(text, tally_in(self.forest(), &self.keys, range), false)
+    fn push_count(&self, range: Range, text: &mut Text) {
+        text.word(": ");
+        push_tally(text, tally_in(self.forest(), &self.keys, range), false);
     }
 
     // Puts behind what is there what the line asks to see, or what became of its change.
-    fn answer(&mut self, line: &Line, text: &mut Vec<u8>) -> Result<(), AllocError> {
+    fn answer(&mut self, line: &Line, text: &mut Text) {
         match line.verb {
-            "node" | "born" => self.push_one(line, text),
-            "count" => self.push_count(Range::of(line), text),
-            "kept" => push_kept(text, self.forest()),
-            "pool" => push_pool(text, &self.ground),
+            Verb::Node => self.push_one(line, text),
+            Verb::Born => self.push_born(line, text),
+            Verb::Count => self.push_count(Range::of(line), text),
+            Verb::Kept => push_kept(text, self.forest()),
+            Verb::Pool => push_pool(text, &self.ground),
             _ => {
                 let is_made = self.change(line);
-                push(
-                    text,
-                    match (is_made, line.verb) {
-                        (true, "end") => ": each forgotten alone",
-                        (true, _) => "",
-                        (false, _) => ": not made",
-                    },
-                )
+                text.word(made(is_made, line.verb));
             }
         }
     }
 
     // Makes a change node by node, and puts behind what is there how each altered the numbers.
-    fn turn(&mut self, line: &Line, text: &mut Vec<u8>) -> Result<(), AllocError> {
+    fn turn(&mut self, line: &Line, text: &mut Text) {
         let each = match act_of(line) {
             Some(act) => self.act_in_turn(Range::of(line), &act),
             None => None,
         };
-        push_turn(text, each)
+        push_turn(text, each);
+    }
+
+    // Takes a line that begins no tree.
+    fn play(&mut self, words: &str, text: &mut Text) {
+        let (is_turn, rest) = match words.strip_prefix("turn ") {
+            Some(rest) => (true, rest),
+            None => (false, words),
+        };
+        match line_of(rest) {
+            Some(line) if is_turn => self.turn(&line, text),
+            Some(line) => self.answer(&line, text),
+            None => text.word(": not understood"),
+        }
     }
 
     /// Takes a line, which begins a tree, changes it, or asks what is seen, and puts its answer behind what is there.
-    pub fn take(&mut self, words: &str, text: &mut Vec<u8>) -> Result<(), AllocError> {
+    pub fn take(&mut self, words: &str, text: &mut Text) {
         if words.is_empty() {
-            return Ok(());
+            return;
         }
-        if words.starts_with("tree ") {
-            let is_there = self.begin();
-            return push(text, if is_there { "" } else { ": no memory" });
+        if !words.starts_with("tree ") {
+            return self.play(words, text);
         }
-        match (words.strip_prefix("turn "), line_of(words)) {
-            (Some(rest), _) => match line_of(rest) {
-                Some(line) => self.turn(&line, text),
-                None => push(text, ": not understood"),
-            },
-            (None, Some(line)) => self.answer(&line, text),
-            (None, None) => push(text, ": not understood"),
+        if !self.begin() {
+            text.word(": no memory");
         }
     }
 }

@@ -1,13 +1,12 @@
 //! What is told of a forest.
 use crate::ground::{Ground, HERE};
 use crate::line::Range;
+use crate::text::Text;
 use alloc_event::births::{new_child, new_root};
 use alloc_event::forest::Forest;
 use alloc_event::node::Node;
-use script_lines::push;
-use sm_names::{Cause, CollectionId, Failure, NodeKey};
-use std::alloc::AllocError;
-use text_parts::{Part, push_parts};
+use sm_names::{Buffers, Cause, CollectionId, Failure, NodeKey};
+use text_parts::Part;
 
 /// How many of some nodes are live, have their buffers, and failed; or the change of these numbers.
 #[derive(Clone, Copy, PartialEq, Eq)]
@@ -70,27 +69,28 @@ pub fn tally_in(forest: &Forest, keys: &[NodeKey], range: Range) -> Tally {
     tally
 }
 
-// Puts a number behind what is there, with its sign if `signed`.
-fn push_number(text: &mut Vec<u8>, number: i64, signed: bool) -> Result<(), AllocError> {
-    let sign = match (signed, number < 0) {
+// The sign of a number, if one is wanted.
+fn sign_of(number: i64, signed: bool) -> &'static str {
+    match (signed, number < 0) {
         (true, true) => "-",
         (true, false) => "+",
         (false, _) => "",
-    };
-    push_parts(
-        text,
-        &[Part::Word(sign), Part::Number(number.unsigned_abs())],
-    )
+    }
 }
 
 /// Puts the numbers behind what is there, with their signs if `signed`.
-pub fn push_tally(text: &mut Vec<u8>, tally: Tally, signed: bool) -> Result<(), AllocError> {
-    push_number(text, tally.live, signed)?;
-    push(text, " live, ")?;
-    push_number(text, tally.served, signed)?;
-    push(text, " served, ")?;
-    push_number(text, tally.failed, signed)?;
-    push(text, " failed")
+pub fn push_tally(text: &mut Text, tally: Tally, signed: bool) {
+    text.push(&[
+        Part::Word(sign_of(tally.live, signed)),
+        Part::Number(tally.live.unsigned_abs()),
+        Part::Word(" live, "),
+        Part::Word(sign_of(tally.served, signed)),
+        Part::Number(tally.served.unsigned_abs()),
+        Part::Word(" served, "),
+        Part::Word(sign_of(tally.failed, signed)),
+        Part::Number(tally.failed.unsigned_abs()),
+        Part::Word(" failed"),
+    ]);
 }
 
 // The words for the cause of a failure.
@@ -108,66 +108,64 @@ fn cause_text(cause: Cause) -> &'static str {
     }
 }
 
+// The words for what a node is.
+fn state_text(node: &Node) -> &'static str {
+    match (node.gone, node.allocated) {
+        (true, true) => ": gone, served",
+        (true, false) => ": gone, waiting",
+        (false, true) => ": live, served",
+        (false, false) => ": live, waiting",
+    }
+}
+
 /// Puts a node behind what is there: whether it is live, whether it has its buffers, why it failed, and of which node the
 /// loss was.
-pub fn push_node(text: &mut Vec<u8>, forest: &Forest, key: NodeKey) -> Result<(), AllocError> {
+pub fn push_node(text: &mut Text, forest: &Forest, key: NodeKey) {
     let Some(node) = forest.node(key) else {
-        return push(text, ": forgotten");
+        return text.word(": forgotten");
     };
-    push(text, if node.gone { ": gone" } else { ": live" })?;
-    push(
-        text,
-        if node.allocated {
-            ", served"
-        } else {
-            ", waiting"
-        },
-    )?;
-    match node.fault {
-        Some(fault) => push_parts(
-            text,
-            &[
-                Part::Word(cause_text(fault.cause)),
-                Part::Number(u64::from(fault.origin.slot)),
-            ],
-        ),
-        None => Ok(()),
+    text.word(state_text(node));
+    if let Some(fault) = node.fault {
+        text.push(&[
+            Part::Word(cause_text(fault.cause)),
+            Part::Number(u64::from(fault.origin.slot)),
+        ]);
+    }
+}
+
+// Puts the buffers of the collection behind what is there.
+fn push_buffers(text: &mut Text, buffers: Option<Buffers>) {
+    match buffers {
+        Some(given) => text.push(&[
+            Part::Word(": "),
+            Part::Number(u64::from(given.count)),
+            Part::Word(" of "),
+            Part::Number(u64::from(given.size)),
+        ]),
+        None => text.word(": none"),
     }
 }
 
 /// Puts behind what is there the buffers of the collection, how many of them are held, how many pages are free, and whether
 /// a strong node is live.
-pub fn push_pool(text: &mut Vec<u8>, ground: &Ground) -> Result<(), AllocError> {
-    let free = Part::Number(u64::from(ground.free_pages()));
+pub fn push_pool(text: &mut Text, ground: &Ground) {
+    let free = u64::from(ground.free_pages());
     let Some(summary) = ground.forest().collection(HERE) else {
-        return push_parts(
-            text,
-            &[Part::Word(": no collection, "), free, Part::Word(" free")],
-        );
+        return text.push(&[
+            Part::Word(": no collection, "),
+            Part::Number(free),
+            Part::Word(" free"),
+        ]);
     };
-    match summary.buffers {
-        Some(given) => push_parts(
-            text,
-            &[
-                Part::Word(": "),
-                Part::Number(u64::from(given.count)),
-                Part::Word(" of "),
-                Part::Number(u64::from(given.size)),
-            ],
-        )?,
-        None => push(text, ": none")?,
-    }
-    push_parts(
-        text,
-        &[
-            Part::Word(", "),
-            Part::Number(summary.held as u64),
-            Part::Word(" held, "),
-            free,
-            Part::Word(" free, "),
-            Part::Word(strength_text(ground.forest(), HERE)),
-        ],
-    )
+    push_buffers(text, summary.buffers);
+    text.push(&[
+        Part::Word(", "),
+        Part::Number(summary.held as u64),
+        Part::Word(" held, "),
+        Part::Number(free),
+        Part::Word(" free, "),
+        Part::Word(strength_text(ground.forest(), HERE)),
+    ]);
 }
 
 // Whether a strong node of this collection is live.
@@ -181,64 +179,60 @@ fn strength_text(forest: &Forest, collection: CollectionId) -> &'static str {
 
 /// Puts behind what is there how many nodes and collections are kept, and whether a strong node is live here, and in the
 /// collection after.
-pub fn push_kept(text: &mut Vec<u8>, forest: &Forest) -> Result<(), AllocError> {
-    push_parts(
-        text,
-        &[
-            Part::Word(": "),
-            Part::Number(forest.len() as u64),
-            Part::Word(" nodes, "),
-            Part::Number(forest.collections() as u64),
-            Part::Word(" collections, "),
-            Part::Word(strength_text(forest, HERE)),
-            Part::Word(", the next "),
-            Part::Word(strength_text(forest, HERE + 1)),
-        ],
-    )
+pub fn push_kept(text: &mut Text, forest: &Forest) {
+    let nodes = forest.len() as u64;
+    let collections = forest.collections() as u64;
+    let here = strength_text(forest, HERE);
+    let next = strength_text(forest, HERE + 1);
+    text.push(&[
+        Part::Word(": "),
+        Part::Number(nodes),
+        Part::Word(" nodes, "),
+        Part::Number(collections),
+        Part::Word(" collections, "),
+        Part::Word(here),
+        Part::Word(", the next "),
+        Part::Word(next),
+    ]);
 }
 
-// Puts behind what is there whether the node is a root or whose child it is, and answers whether it is as it was born.
-fn push_parent(
-    text: &mut Vec<u8>,
-    forest: &Forest,
-    key: NodeKey,
-    node: &Node,
-) -> Result<bool, AllocError> {
+// Puts behind what is there whether the node is a root or whose child it is.
+fn push_parent(text: &mut Text, forest: &Forest, node: &Node) {
     let Some(parent) = node.parent else {
-        push(text, ": root")?;
-        return Ok(*node == new_root(key, HERE, node.event, 3));
+        return text.word(": root");
     };
-    let Some(above) = forest.node(parent) else {
-        push(text, ": a child of a forgotten node")?;
-        return Ok(false);
+    if forest.node(parent).is_none() {
+        return text.word(": a child of a forgotten node");
+    }
+    let word = if node.attached {
+        ": attached of "
+    } else {
+        ": child of "
     };
-    push(
-        text,
-        if node.attached {
-            ": attached of "
-        } else {
-            ": child of "
-        },
-    )?;
-    push_parts(text, &[Part::Number(u64::from(parent.slot))])?;
-    Ok(*node == new_child(node.attached, key, node.event, 3, above))
+    text.push(&[Part::Word(word), Part::Number(u64::from(parent.slot))]);
+}
+
+// Whether the node is as it was born; client 3 has its end. Of a child of a forgotten node that is not known.
+fn is_as_born(forest: &Forest, key: NodeKey, node: &Node) -> bool {
+    let Some(parent) = node.parent else {
+        return *node == new_root(key, HERE, node.event, 3);
+    };
+    match forest.node(parent) {
+        Some(above) => *node == new_child(node.attached, key, node.event, 3, above),
+        None => false,
+    }
 }
 
 /// Puts behind what is there where and when a node was born, and whether it has changed since; client 3 has its end.
-pub fn push_birth(text: &mut Vec<u8>, forest: &Forest, key: NodeKey) -> Result<(), AllocError> {
+pub fn push_birth(text: &mut Text, forest: &Forest, key: NodeKey) {
     let Some(node) = forest.node(key) else {
-        return push(text, ": forgotten");
+        return text.word(": forgotten");
     };
-    let is_new = push_parent(text, forest, key, node)?;
-    push_parts(
-        text,
-        &[
-            Part::Word(if is_new {
-                ", event "
-            } else {
-                ", changed, event "
-            }),
-            Part::Number(node.event),
-        ],
-    )
+    push_parent(text, forest, node);
+    let word = if is_as_born(forest, key, node) {
+        ", event "
+    } else {
+        ", changed, event "
+    };
+    text.push(&[Part::Word(word), Part::Number(node.event)]);
 }

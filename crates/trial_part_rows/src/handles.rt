@@ -2,12 +2,13 @@
 ghost use Rattle.std.specs.Prelude.{◌<◌};
 
 use crate::line::Line;
+use crate::text::Text;
+use crate::verb::Verb;
 use buffer_holds::{CountHash, HandleKind, Hold, HoldFault, Holds, Spot};
-use script_lines::push;
 use sm_names::{BufferName, ClientId, Strength};
-use std::alloc::{AllocError, Global};
+use std::alloc::Global;
 use std::hash::{BuildHasher, Hash, Hasher};
-use text_parts::{Part, push_parts};
+use text_parts::Part;
 
 // The collection of all buffers but the twins.
 const HERE: u64 = 7;
@@ -114,6 +115,20 @@ fn both(without: bool, with: bool) -> &'static str {
     }
 }
 
+// What is said of a total.
+fn way(is_same: bool) -> &'static str {
+    if is_same {
+        " in all"
+    } else {
+        " by another way"
+    }
+}
+
+// What is said of room.
+fn room(is_there: bool) -> &'static str {
+    if is_there { ": yes" } else { ": no" }
+}
+
 impl Handles {
     /// Counts, within this limit for each buffer and strength, with this seed.
     pub fn new(alloc: Global, limit: u32, seed: u64) -> Handles {
@@ -145,19 +160,19 @@ impl Handles {
         let [client, buffer, strength, _] = line.numbers;
         let (buffer, strength) = (buffer_of(buffer), strength_of(strength));
         match line.verb {
-            "open" => opened(self.holds.add(client, buffer, strength)),
-            "next" => opened(
+            Verb::Open => opened(self.holds.add(client, buffer, strength)),
+            Verb::Next => opened(
                 self.holds
                     .add_near(client, buffer, strength, &mut self.near),
             ),
-            "close" => found(self.holds.sub(client, buffer, strength)),
-            "lift" => self.lift(client, buffer, strength),
-            "land" => found(self.land(client, buffer, strength)),
-            "tidy" => {
+            Verb::Close => found(self.holds.sub(client, buffer, strength)),
+            Verb::Lift => self.lift(client, buffer, strength),
+            Verb::Land => found(self.land(client, buffer, strength)),
+            Verb::Tidy => {
                 self.holds.tidy(client, buffer, strength);
                 ""
             }
-            "anew" => {
+            Verb::Anew => {
                 self.near = Spot::new();
                 ""
             }
@@ -167,87 +182,69 @@ impl Handles {
 
     // Puts the counts of a buffer and a strength behind what is there: of clients 1 to 3, of the parcels, and of
     // all. The latter is looked for twice, where it is near what was looked for before, and anew.
-    fn push_counts(
-        &mut self,
-        buffer: BufferName,
-        strength: Strength,
-        text: &mut Vec<u8>,
-    ) -> Result<(), AllocError> {
-        let total = self.holds.total(buffer, strength);
-        let near = self.holds.total_near(buffer, strength, &mut self.near);
-        push(text, word_of(strength))?;
+    fn push_counts(&mut self, buffer: BufferName, strength: Strength, text: &mut Text) {
+        text.word(word_of(strength));
         for client in 1..=3 {
             let own = u64::from(self.holds.of(client, buffer, strength));
-            push_parts(text, &[Part::Word(" "), Part::Number(own)])?;
+            text.push(&[Part::Word(" "), Part::Number(own)]);
         }
-        push_parts(
-            text,
-            &[
-                Part::Word(", "),
-                Part::Number(u64::from(self.holds.moving_count(buffer, strength))),
-                Part::Word(" in parcels, "),
-                Part::Number(u64::from(total)),
-                Part::Word(if near == total {
-                    " in all"
-                } else {
-                    " by another way"
-                }),
-            ],
-        )
+        let moving = u64::from(self.holds.moving_count(buffer, strength));
+        let total = u64::from(self.holds.total(buffer, strength));
+        let near = u64::from(self.holds.total_near(buffer, strength, &mut self.near));
+        text.push(&[
+            Part::Word(", "),
+            Part::Number(moving),
+            Part::Word(" in parcels, "),
+            Part::Number(total),
+            Part::Word(way(near == total)),
+        ]);
     }
 
     // Puts how many handles of a strength a client has on a buffer behind what is there, and how many all have.
-    fn push_own(&self, line: &Line, text: &mut Vec<u8>) -> Result<(), AllocError> {
+    fn push_own(&self, line: &Line, text: &mut Text) {
         let [client, buffer, strength, _] = line.numbers;
         let (buffer, strength) = (buffer_of(buffer), strength_of(strength));
-        push_parts(
-            text,
-            &[
-                Part::Word(": "),
-                Part::Number(u64::from(self.holds.of(client, buffer, strength))),
-                Part::Word(" of "),
-                Part::Number(u64::from(self.holds.total(buffer, strength))),
-            ],
+        let own = u64::from(self.holds.of(client, buffer, strength));
+        let total = u64::from(self.holds.total(buffer, strength));
+        text.push(&[
+            Part::Word(": "),
+            Part::Number(own),
+            Part::Word(" of "),
+            Part::Number(total),
+        ]);
+    }
+
+    // Whether a buffer is doomed, where no strong node is live and where one is.
+    fn doomed(&self, buffer: BufferName) -> &'static str {
+        both(
+            self.holds.doomed(buffer, false),
+            self.holds.doomed(buffer, true),
+        )
+    }
+
+    // Whether it is home, where no strong node is live and where one is.
+    fn home(&self, buffer: BufferName) -> &'static str {
+        both(
+            self.holds.home(buffer, false),
+            self.holds.home(buffer, true),
         )
     }
 
     /// Takes a line, which changes the counts or asks for some.
-    pub fn take(&mut self, line: &Line, text: &mut Vec<u8>) -> Result<(), AllocError> {
+    pub fn take(&mut self, line: &Line, text: &mut Text) {
         let [first, second, ..] = line.numbers;
         let buffer = buffer_of(first);
         match line.verb {
-            "all" => {
-                self.push_counts(buffer, Strength::Strong, text)?;
-                self.push_counts(buffer, Strength::Weak, text)
+            Verb::All => {
+                self.push_counts(buffer, Strength::Strong, text);
+                self.push_counts(buffer, Strength::Weak, text);
             }
-            "own" => self.push_own(line, text),
-            "alike" => push_parts(
-                text,
-                &[Part::Word(": "), Part::Number(alike_under(second, first))],
-            ),
-            "doomed" => push(
-                text,
-                both(
-                    self.holds.doomed(buffer, false),
-                    self.holds.doomed(buffer, true),
-                ),
-            ),
-            "home" => push(
-                text,
-                both(
-                    self.holds.home(buffer, false),
-                    self.holds.home(buffer, true),
-                ),
-            ),
-            "room" => push(
-                text,
-                if self.holds.have_room() {
-                    ": yes"
-                } else {
-                    ": no"
-                },
-            ),
-            _ => push(text, self.change(line)),
+            Verb::Own => self.push_own(line, text),
+            Verb::Alike => text.push(&[Part::Word(": "), Part::Number(alike_under(second, first))]),
+            Verb::Doomed => text.word(self.doomed(buffer)),
+            Verb::Home => text.word(self.home(buffer)),
+            Verb::Room => text.word(room(self.holds.have_room())),
+            _ => text.word(self.change(line)),
         }
     }
 }

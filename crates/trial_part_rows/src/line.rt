@@ -1,10 +1,11 @@
 //! A line of the text: a verb, and the numbers behind it.
+use crate::verb::{Verb, verb_of};
 use trial_streams::decimal;
 
 /// A verb, and up to four numbers; those that the line lacks are 0.
 #[derive(Clone, Copy)]
-pub struct Line<'a> {
-    pub verb: &'a str,
+pub struct Line {
+    pub verb: Verb,
     pub numbers: [u64; 4],
 }
 
@@ -18,7 +19,10 @@ pub fn line_of(text: &str) -> Option<Line> {
             *number = number_of(word)?;
         }
     }
-    Some(Line { verb, numbers })
+    Some(Line {
+        verb: verb_of(verb),
+        numbers,
+    })
 }
 
 // The number that a word is: a strength counts as 0 or 1.

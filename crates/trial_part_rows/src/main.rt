@@ -55,6 +55,8 @@ mod nodes;
 mod pages;
 mod player;
 mod runs;
+mod text;
+mod verb;
 mod watch;
 
 use player::Player;
@@ -62,33 +64,38 @@ use std::alloc::Global;
 use std::io;
 use std::io::Write;
 use std::test::Fail;
+use text::Text;
 
 // Takes each line of a text, and puts it with its answer behind what is there.
-fn take_lines(
-    alloc: Global,
-    input: &str,
-    player: &mut Player,
-    text: &mut Vec<u8>,
-) -> Result<(), Fail> {
+fn take_lines(alloc: Global, input: &str, player: &mut Player, text: &mut Text) {
     for line in input.lines() {
-        text.extend_from_slice(line.as_bytes())?;
-        player.take(alloc, line, text)?;
-        text.push(b'\n')?;
+        text.word(line);
+        player.take(alloc, line, text);
+        text.word("\n");
     }
-    Ok(())
 }
 
 // The same, from the first line on, where no part is made yet.
-fn play(alloc: Global, input: &str, text: &mut Vec<u8>) -> Result<(), Fail> {
+fn play(alloc: Global, input: &str, text: &mut Text) {
     let mut player = Player::None;
-    take_lines(alloc, input, &mut player, text)
+    take_lines(alloc, input, &mut player, text);
+}
+
+// Writes a text.
+fn write(rt: &HostRuntime, text: &Text) -> Result<(), Fail> {
+    match text.whole() {
+        Some(bytes) => {
+            io::writer(rt).write_all(bytes)?;
+            Ok(())
+        }
+        None => Err(Fail::from("no memory")),
+    }
 }
 
 fn main(rt: HostRuntime) -> Result<(), Fail> {
     let alloc = rt.alloc();
     let input = io::read_to_string(alloc, rt.reader())?;
-    let mut text = Vec::new(alloc);
-    play(alloc, input.as_str(), &mut text)?;
-    io::writer(&rt).write_all(text.as_slice())?;
-    Ok(())
+    let mut text = Text::new(alloc);
+    play(alloc, input.as_str(), &mut text);
+    write(&rt, &text)
 }

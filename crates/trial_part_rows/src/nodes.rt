@@ -3,13 +3,14 @@ ghost use Rattle.std.specs.Prelude.{IsSome, IfSome};
 ghost use Rattle.node_table.specs.Table.{row_at};
 
 use crate::line::Line;
-use crate::runs::push_runs;
-use failure_domains::{Bound, Link, fall, walk_within};
+use crate::runs::Runs;
+use crate::text::Text;
+use crate::verb::Verb;
+use failure_domains::{Bound, Fall, Link, fall, walk_within};
 use node_table::{NodeTable, TableFault};
-use script_lines::push;
 use sm_names::NodeKey;
-use std::alloc::{AllocError, Global};
-use text_parts::{Part, push_parts};
+use std::alloc::Global;
+use text_parts::Part;
 
 /// A node: its number, what was written into it, and whether its failure leaves its parent alone.
 #[derive(Clone, Copy)]
@@ -56,28 +57,29 @@ pub struct Nodes {
 }
 
 // Puts what became of a birth behind what is there.
-fn push_birth(text: &mut Vec<u8>, birth: Birth) -> Result<(), AllocError> {
+fn push_birth(text: &mut Text, birth: Birth) {
     match birth {
-        Birth::Born(number, key) => push_parts(
-            text,
-            &[
-                Part::Word(": node "),
-                Part::Number(number),
-                Part::Word(" in slot "),
-                Part::Number(u64::from(key.slot)),
-                Part::Word(", generation "),
-                Part::Number(u64::from(key.generation)),
-            ],
-        ),
-        Birth::Full(content) => push_parts(
-            text,
-            &[
-                Part::Word(": full, and "),
-                Part::Number(content),
-                Part::Word(" comes back"),
-            ],
-        ),
-        Birth::Refused => push(text, ": not inserted"),
+        Birth::Born(number, key) => text.push(&[
+            Part::Word(": node "),
+            Part::Number(number),
+            Part::Word(" in slot "),
+            Part::Number(u64::from(key.slot)),
+            Part::Word(", generation "),
+            Part::Number(u64::from(key.generation)),
+        ]),
+        Birth::Full(content) => text.push(&[
+            Part::Word(": full, and "),
+            Part::Number(content),
+            Part::Word(" comes back"),
+        ]),
+        Birth::Refused => text.word(": not inserted"),
+    }
+}
+
+// Puts a word and the number of a node behind what is there, if there is one.
+fn push_other(text: &mut Text, word: &str, number: Option<u64>) {
+    if let Some(number) = number {
+        text.push(&[Part::Word(word), Part::Number(number)]);
     }
 }
 
@@ -163,35 +165,48 @@ impl Nodes {
         }
     }
 
+    // The number of the first child of the node with this key, if there is one.
+    fn first_below(&self, above: Option<NodeKey>) -> Option<u64> {
+        let above = above?;
+        self.other(self.table.first_child(above))
+    }
+
+    // The parent of a node that is there.
+    fn parent_of(&self, number: u64) -> Option<NodeKey> {
+        let key = self.there(number)?;
+        self.table.parent(key)
+    }
+
     // Cuts a node off, and puts behind what is there whether it is alone then, and the first child that is left.
-    fn push_cut(&mut self, number: u64, text: &mut Vec<u8>) -> Result<(), AllocError> {
-        let parent = self.there(number).and_then(|key| self.table.parent(key));
-        if !self.cut(number) {
-            return push(text, ": not alone");
+    fn push_cut(&mut self, number: u64, text: &mut Text) {
+        let parent = self.parent_of(number);
+        if self.cut(number) {
+            text.word(": alone");
+            push_other(text, ", first left ", self.first_below(parent));
+        } else {
+            text.word(": not alone");
         }
-        push(text, ": alone")?;
-        let left = parent.and_then(|key| self.table.first_child(key));
-        self.push_other(", first left ", left, text)
     }
 
     // Cuts three children of a node off, bears one, and puts those that it has then behind what is there.
-    fn turn(&mut self, numbers: [u64; 4], text: &mut Vec<u8>) -> Result<(), AllocError> {
+    fn turn(&mut self, numbers: [u64; 4], text: &mut Text) {
         let [above, first, second, third] = numbers;
-        if !self.cut(first) || !self.cut(second) || !self.cut(third) {
-            return push(text, ": not alone");
+        if self.cut(first) && self.cut(second) && self.cut(third) {
+            self.bear_below(above, 1, false);
+            self.push_children(above, text);
+        } else {
+            text.word(": not alone");
         }
-        self.bear_below(above, 1, false);
-        self.push_children(above, text)
     }
 
     // Takes out a node that is there and has no children, and puts its content behind what is there.
-    fn push_removed(&mut self, number: u64, text: &mut Vec<u8>) -> Result<(), AllocError> {
+    fn push_removed(&mut self, number: u64, text: &mut Text) {
         match self.there(number) {
             Some(key) if self.table.first_child(key).is_none() => {
                 let item = self.table.remove(key);
-                push_parts(text, &[Part::Word(": "), Part::Number(item.content)])
+                text.push(&[Part::Word(": "), Part::Number(item.content)]);
             }
-            _ => push(text, ": not removed"),
+            _ => text.word(": not removed"),
         }
     }
 
@@ -205,144 +220,144 @@ impl Nodes {
     }
 
     // The table is its copy from now on.
-    fn copy(&mut self, text: &mut Vec<u8>) -> Result<(), AllocError> {
+    fn copy(&mut self, text: &mut Text) {
         match self.table.copy() {
-            Ok(copy) => {
-                self.table = copy;
-                Ok(())
-            }
-            Err(_) => push(text, ": no memory"),
+            Ok(copy) => self.table = copy,
+            Err(_) => text.word(": no memory"),
         }
     }
 
-    // Puts a word and the number of a node behind what is there, if there is one.
-    fn push_other(
-        &self,
-        word: &str,
-        key: Option<NodeKey>,
-        text: &mut Vec<u8>,
-    ) -> Result<(), AllocError> {
-        match key.and_then(|key| self.number_of(key)) {
-            Some(number) => push_parts(text, &[Part::Word(word), Part::Number(number)]),
-            None => Ok(()),
+    // The number of the node with this key, if there is one.
+    fn other(&self, key: Option<NodeKey>) -> Option<u64> {
+        match key {
+            Some(key) => self.number_of(key),
+            None => None,
         }
     }
 
-    // Puts behind what is there what a node has: its content, and its parent, first child and next sibling.
-    fn push_node(&self, number: u64, text: &mut Vec<u8>) -> Result<(), AllocError> {
-        let Some(key) = self.keys.get(number as usize).copied() else {
-            return push(text, ": never born");
-        };
-        match self.table.get(key) {
-            Some(item) => push_parts(text, &[Part::Word(": "), Part::Number(item.content)])?,
-            None => return push(text, ": gone"),
-        }
-        self.push_other(", below ", self.table.parent(key), text)?;
-        self.push_other(", first child ", self.table.first_child(key), text)?;
-        self.push_other(", next ", self.table.next_sibling(key), text)
+    // Puts behind what is there which nodes are next to the one with this key: its parent, first child and next sibling.
+    fn push_others(&self, key: NodeKey, text: &mut Text) {
+        push_other(text, ", below ", self.other(self.table.parent(key)));
+        push_other(
+            text,
+            ", first child ",
+            self.other(self.table.first_child(key)),
+        );
+        push_other(text, ", next ", self.other(self.table.next_sibling(key)));
     }
 
-    // The numbers of the nodes with these keys.
-    fn numbers_of(&self, keys: &[NodeKey]) -> Result<Vec<u64>, AllocError> {
-        let mut numbers = Vec::new(self.alloc);
-        for key in keys {
-            numbers.push(self.number_of(*key).unwrap_or(u64::MAX))?;
+    // Puts behind what is there what a node has: its content, and the nodes that are next to it.
+    fn push_node(&self, number: u64, text: &mut Text) {
+        match self.keys.get(number as usize) {
+            Some(key) => match self.table.get(*key) {
+                Some(item) => {
+                    text.push(&[Part::Word(": "), Part::Number(item.content)]);
+                    self.push_others(*key, text);
+                }
+                None => text.word(": gone"),
+            },
+            None => text.word(": never born"),
         }
-        Ok(numbers)
     }
 
     // Puts the nodes with these keys behind what is there.
-    fn push_nodes(&self, keys: &[NodeKey], text: &mut Vec<u8>) -> Result<(), AllocError> {
-        let numbers = self.numbers_of(keys)?;
-        push(text, ":")?;
-        push_runs(text, &numbers, 1)
+    fn push_nodes(&self, keys: &[NodeKey], text: &mut Text) {
+        let mut runs = Runs::new(1);
+        text.word(":");
+        for key in keys {
+            runs.add(text, self.number_of(*key).unwrap_or(u64::MAX));
+        }
+        runs.end(text);
     }
 
     // Puts the children of a node behind what is there.
-    fn push_children(&self, number: u64, text: &mut Vec<u8>) -> Result<(), AllocError> {
+    fn push_children(&self, number: u64, text: &mut Text) {
         match self.there(number) {
             Some(key) => match self.table.children(key) {
                 Ok(keys) => self.push_nodes(&keys, text),
-                Err(_) => push(text, ": no memory"),
+                Err(_) => text.word(": no memory"),
             },
-            None => push(text, ": gone"),
+            None => text.word(": gone"),
         }
     }
 
-    // Puts behind what is there what a failure of a node takes, and by how many visits that was found.
-    fn push_fall(&self, number: u64, text: &mut Vec<u8>) -> Result<(), AllocError> {
-        let Some(origin) = self.there(number) else {
-            return push(text, ": gone");
-        };
-        match fall(self.alloc, &self.table, origin) {
-            Ok(found) => {
-                self.push_nodes(&found.keys, text)?;
-                push_parts(
-                    text,
-                    &[Part::Word(" by "), Part::Counted(found.visits, "visit")],
-                )
-            }
-            Err(_) => push(text, ": no memory"),
+    // Puts behind what is there what a failure took, and by how many visits that was found.
+    fn push_found(&self, found: &Fall, text: &mut Text) {
+        self.push_nodes(&found.keys, text);
+        text.push(&[Part::Word(" by "), Part::Counted(found.visits, "visit")]);
+    }
+
+    // The same of a failure of a node.
+    fn push_fall(&self, number: u64, text: &mut Text) {
+        match self.there(number) {
+            Some(origin) => match fall(self.alloc, &self.table, origin) {
+                Ok(found) => self.push_found(&found, text),
+                Err(_) => text.word(": no memory"),
+            },
+            None => text.word(": gone"),
         }
     }
 
     // Puts behind what is there what a walk down from a node lists, that leaves out all below those that block.
-    fn push_walk(&self, number: u64, text: &mut Vec<u8>) -> Result<(), AllocError> {
+    fn push_walk(&self, number: u64, text: &mut Text) {
         let Some(top) = self.there(number) else {
-            return push(text, ": gone");
+            return text.word(": gone");
         };
         let mut keys = Vec::new(self.alloc);
         match walk_within(&self.table, top, &mut keys, &Open) {
             Ok(()) => self.push_nodes(&keys, text),
-            Err(_) => push(text, ": no memory"),
+            Err(_) => text.word(": no memory"),
         }
     }
 
     // Puts behind what is there how many nodes there are, and which slot the next one takes.
-    fn push_size(&self, text: &mut Vec<u8>) -> Result<(), AllocError> {
-        push_parts(
-            text,
-            &[
-                Part::Word(": "),
-                Part::Counted(self.table.len() as u64, "node"),
-                Part::Word(", next slot "),
-                Part::Number(self.table.next_slot() as u64),
-            ],
-        )
+    fn push_size(&self, text: &mut Text) {
+        let nodes = self.table.len() as u64;
+        let slot = self.table.next_slot() as u64;
+        text.push(&[
+            Part::Word(": "),
+            Part::Counted(nodes, "node"),
+            Part::Word(", next slot "),
+            Part::Number(slot),
+        ]);
     }
 
-    // Puts what a line asks to see behind what is there.
-    fn see(&self, line: &Line, text: &mut Vec<u8>) -> Result<(), AllocError> {
-        let [first, ..] = line.numbers;
+    // Bears what a line says, if it says that.
+    fn birth(&mut self, line: &Line) -> Option<Birth> {
+        let [first, second, ..] = line.numbers;
         match line.verb {
-            "node" => self.push_node(first, text),
-            "children" => self.push_children(first, text),
-            "fall" => self.push_fall(first, text),
-            "walk" => self.push_walk(first, text),
-            "size" => self.push_size(text),
-            _ => push(text, ": not understood"),
+            Verb::Root => Some(self.bear(None, first, false)),
+            Verb::Child => Some(self.bear_below(first, second, false)),
+            Verb::Block => Some(self.bear_below(first, second, true)),
+            Verb::Star => Some(self.bear_each(first, second, false)),
+            Verb::Line => Some(self.bear_each(first, second, true)),
+            _ => None,
+        }
+    }
+
+    // Takes a line that bears no node.
+    fn play(&mut self, line: &Line, text: &mut Text) {
+        let [first, second, ..] = line.numbers;
+        match line.verb {
+            Verb::Cut => self.push_cut(first, text),
+            Verb::Remove => self.push_removed(first, text),
+            Verb::Turn => self.turn(line.numbers, text),
+            Verb::Copy => self.copy(text),
+            Verb::Write => self.write(first, second),
+            Verb::Node => self.push_node(first, text),
+            Verb::Children => self.push_children(first, text),
+            Verb::Fall => self.push_fall(first, text),
+            Verb::Walk => self.push_walk(first, text),
+            Verb::Size => self.push_size(text),
+            _ => text.word(": not understood"),
         }
     }
 
     /// Takes a line, which changes the table or asks what is seen of it.
-    pub fn take(&mut self, line: &Line, text: &mut Vec<u8>) -> Result<(), AllocError> {
-        let [first, second, ..] = line.numbers;
-        let birth = match line.verb {
-            "root" => self.bear(None, first, false),
-            "child" => self.bear_below(first, second, false),
-            "block" => self.bear_below(first, second, true),
-            "star" => self.bear_each(first, second, false),
-            "line" => self.bear_each(first, second, true),
-            "cut" => return self.push_cut(first, text),
-            "remove" => return self.push_removed(first, text),
-            "turn" => return self.turn(line.numbers, text),
-            "copy" => return self.copy(text),
-            "write" => {
-                self.write(first, second);
-                return Ok(());
-            }
-            _ => return self.see(line, text),
-        };
-        push_birth(text, birth)
+    pub fn take(&mut self, line: &Line, text: &mut Text) {
+        match self.birth(line) {
+            Some(birth) => push_birth(text, birth),
+            None => self.play(line, text),
+        }
     }
 }

@@ -3,17 +3,17 @@ ghost use Rattle.std.specs.Prelude.{◌≡◌, ◌≤◌, true};
 ghost use Rattle.buffer_pool.specs.Holdings.{in_run, HasRun};
 
 use crate::line::{Line, small};
-use crate::runs::push_runs;
+use crate::runs::{Runs, push_one};
+use crate::text::Text;
+use crate::verb::Verb;
 use buffer_pool::{Placed, Pool, PoolFault};
-use script_lines::push;
 use sm_names::{Interval, MAX_PAGES};
-use std::alloc::{AllocError, Global};
-use text_parts::{Part, push_parts};
+use std::alloc::Global;
+use text_parts::Part;
 
 /// A pool.
 #[derive(Drop)]
 pub struct Pages {
-    alloc: Global,
     pool: Pool,
 }
 
@@ -98,6 +98,26 @@ fn give_back_from(pool: &mut Pool, start: u32, pages: u32) -> u64 {
     }
 }
 
+// Puts the pages of buffers that were placed behind what is there, and how many holes were looked at.
+fn push_placed(placed: &Placed, pages_each: u32, text: &mut Text) {
+    let mut runs = Runs::new(u64::from(pages_each));
+    text.word(":");
+    for start in &placed.starts {
+        runs.add(text, u64::from(*start));
+    }
+    runs.end(text);
+    text.push(&[Part::Word(" by "), Part::Counted(placed.looks, "look")]);
+}
+
+// Puts the pages of each buffer behind what is there.
+fn push_intervals(held: &[Interval], text: &mut Text) {
+    text.word(":");
+    for one in held {
+        push_one(text, u64::from(one.start), u64::from(one.pages));
+        text.word(",");
+    }
+}
+
 impl Pages {
     /// A pool of so many pages, if it may have so many and there is memory.
     pub fn new(alloc: Global, pages: u32) -> Option<Pages> {
@@ -105,89 +125,64 @@ impl Pages {
             return None;
         }
         match Pool::new(alloc, pages) {
-            Ok(pool) => Some(Pages { alloc, pool }),
+            Ok(pool) => Some(Pages { pool }),
             Err(_) => None,
         }
     }
 
-    // Puts the pages of buffers that were placed behind what is there, and how many holes were looked at.
-    fn push_placed(
-        &self,
-        placed: &Placed,
-        pages_each: u32,
-        text: &mut Vec<u8>,
-    ) -> Result<(), AllocError> {
-        let mut starts = Vec::new(self.alloc);
-        for start in &placed.starts {
-            starts.push(u64::from(*start))?;
-        }
-        push(text, ":")?;
-        push_runs(text, &starts, u64::from(pages_each))?;
-        push_parts(
-            text,
-            &[Part::Word(" by "), Part::Counted(placed.looks, "look")],
-        )
-    }
-
     // Places so many buffers of so many pages.
-    fn place(&mut self, count: u32, pages_each: u32, text: &mut Vec<u8>) -> Result<(), AllocError> {
+    fn place(&mut self, count: u32, pages_each: u32, text: &mut Text) {
         if count == 0 || pages_each == 0 {
-            return push(text, ": not understood");
+            return text.word(": not understood");
         }
         match self.pool.place(count, pages_each) {
-            Ok(placed) => self.push_placed(&placed, pages_each, text),
-            Err(PoolFault::PoolFull) => push(text, ": full"),
-            Err(PoolFault::NoMemory) => push(text, ": no memory"),
+            Ok(placed) => push_placed(&placed, pages_each, text),
+            Err(PoolFault::PoolFull) => text.word(": full"),
+            Err(PoolFault::NoMemory) => text.word(": no memory"),
         }
     }
 
     // Puts the pages of each buffer that is held behind what is there.
-    fn push_held(&self, text: &mut Vec<u8>) -> Result<(), AllocError> {
-        let Ok(held) = self.pool.held() else {
-            return push(text, ": no memory");
-        };
-        push(text, ":")?;
-        for one in &held {
-            let start = [u64::from(one.start)];
-            push_runs(text, &start, u64::from(one.pages))?;
-            push(text, ",")?;
+    fn push_held(&self, text: &mut Text) {
+        match self.pool.held() {
+            Ok(held) => {
+                push_intervals(&held, text);
+                self.push_free(" ", text);
+            }
+            Err(_) => text.word(": no memory"),
         }
-        self.push_free(" ", text)
     }
 
     // Puts how many pages are free behind what is there.
-    fn push_free(&self, before: &str, text: &mut Vec<u8>) -> Result<(), AllocError> {
+    fn push_free(&self, before: &str, text: &mut Text) {
         let free = u64::from(self.pool.free_pages());
-        push_parts(
-            text,
-            &[Part::Word(before), Part::Number(free), Part::Word(" free")],
-        )
+        text.push(&[Part::Word(before), Part::Number(free), Part::Word(" free")]);
     }
 
     // Puts behind what is there that so many buffers went back.
-    fn push_back(&self, count: u64, text: &mut Vec<u8>) -> Result<(), AllocError> {
-        push_parts(text, &[Part::Word(": "), Part::Counted(count, "buffer")])?;
-        self.push_free(", ", text)
+    fn push_back(&self, count: u64, text: &mut Text) {
+        text.push(&[Part::Word(": "), Part::Counted(count, "buffer")]);
+        self.push_free(", ", text);
     }
 
     /// Takes a line, which places buffers, gives some back, or asks which are held.
-    pub fn take(&mut self, line: &Line, text: &mut Vec<u8>) -> Result<(), AllocError> {
+    pub fn take(&mut self, line: &Line, text: &mut Text) {
         let [first, second, ..] = line.numbers;
         match line.verb {
-            "place" => {
-                self.place(small(first), small(second), text)?;
-                self.push_free(", ", text)
+            Verb::Place => {
+                self.place(small(first), small(second), text);
+                self.push_free(", ", text);
             }
-            "back" => {
+            Verb::Back => {
                 let count = give_back(&mut self.pool, range_of(line));
-                self.push_back(count, text)
+                self.push_back(count, text);
             }
-            "run" => {
+            Verb::Run => {
                 let count = give_back_from(&mut self.pool, small(first), small(second));
-                self.push_back(count, text)
+                self.push_back(count, text);
             }
-            "held" => self.push_held(text),
-            _ => push(text, ": not understood"),
+            Verb::Held => self.push_held(text),
+            _ => text.word(": not understood"),
         }
     }
 }

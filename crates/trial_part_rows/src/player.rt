@@ -3,9 +3,10 @@ use crate::handles::Handles;
 use crate::line::{Line, line_of, small};
 use crate::nodes::Nodes;
 use crate::pages::Pages;
+use crate::text::Text;
+use crate::verb::Verb;
 use crate::watch::Watch;
-use script_lines::push;
-use std::alloc::{AllocError, Global};
+use std::alloc::Global;
 
 /// The part that the last heading made.
 #[derive(Drop)]
@@ -17,26 +18,44 @@ pub enum Player {
     Watch(Watch),
 }
 
-// The part that a line makes anew, if it makes one.
-fn begun(alloc: Global, line: &Line) -> Option<Player> {
-    let [first, second, ..] = line.numbers;
-    match line.verb {
-        "table" => Some(Player::Nodes(Nodes::new(alloc, first as usize, small(second)))),
-        "pool" => {
-            let pages = Pages::new(alloc, small(first))?;
-            Some(Player::Pages(pages))
-        }
-        "counts" => Some(Player::Handles(Handles::new(alloc, small(first), second))),
-        "trackers" => Some(Player::Watch(Watch::new(alloc, small(first)))),
-        _ => None,
-    }
-}
-
 impl Player {
+    // Another part stands in the place of this one.
+    fn put(&mut self, player: Player) {
+        *self = player;
+    }
+
+    // A pool of so many pages, if one can be made.
+    fn put_pages(&mut self, alloc: Global, pages: u32) -> bool {
+        match Pages::new(alloc, pages) {
+            Some(pages) => {
+                self.put(Player::Pages(pages));
+                true
+            }
+            None => false,
+        }
+    }
+
+    // Makes the part that a line makes anew. Answers whether it makes one.
+    fn begin(&mut self, alloc: Global, line: &Line) -> bool {
+        let [first, second, ..] = line.numbers;
+        match line.verb {
+            Verb::Table => self.put(Player::Nodes(Nodes::new(
+                alloc,
+                first as usize,
+                small(second),
+            ))),
+            Verb::Pool => return self.put_pages(alloc, small(first)),
+            Verb::Counts => self.put(Player::Handles(Handles::new(alloc, small(first), second))),
+            Verb::Trackers => self.put(Player::Watch(Watch::new(alloc, small(first)))),
+            _ => return false,
+        }
+        true
+    }
+
     // Takes a line that makes no part.
-    fn play(&mut self, line: &Line, text: &mut Vec<u8>) -> Result<(), AllocError> {
+    fn play(&mut self, line: &Line, text: &mut Text) {
         match self {
-            Player::None => push(text, ": nothing is there"),
+            Player::None => text.word(": nothing is there"),
             Player::Nodes(nodes) => nodes.take(line, text),
             Player::Pages(pages) => pages.take(line, text),
             Player::Handles(handles) => handles.take(line, text),
@@ -45,19 +64,17 @@ impl Player {
     }
 
     /// Takes a line, and puts its answer behind what is there. One that is empty or begins with # has none.
-    pub fn take(&mut self, alloc: Global, text: &str, out: &mut Vec<u8>) -> Result<(), AllocError> {
-        if text.is_empty() || text.starts_with('#') {
-            return Ok(());
+    pub fn take(&mut self, alloc: Global, line: &str, text: &mut Text) {
+        if line.is_empty() || line.starts_with('#') {
+            return;
         }
-        let Some(line) = line_of(text) else {
-            return push(out, ": not understood");
-        };
-        match begun(alloc, &line) {
-            Some(player) => {
-                *self = player;
-                Ok(())
+        match line_of(line) {
+            Some(line) => {
+                if !self.begin(alloc, &line) {
+                    self.play(&line, text);
+                }
             }
-            None => self.play(&line, out),
+            None => text.word(": not understood"),
         }
     }
 }

@@ -1,6 +1,6 @@
 //! Lists of numbers as text.
-use std::alloc::AllocError;
-use text_parts::{Part, push_parts};
+use crate::text::Text;
+use text_parts::Part;
 
 // Numbers that follow each other by one step, up or down.
 #[derive(Clone, Copy)]
@@ -17,41 +17,56 @@ fn goes_on(run: Run, next: u64, step: u64) -> bool {
 }
 
 // Puts a run behind what is there: its first number, and the last that is covered, if that is another one.
-fn push_run(text: &mut Vec<u8>, run: Run, step: u64) -> Result<(), AllocError> {
+fn push_run(text: &mut Text, run: Run, step: u64) {
     let end = run.last.saturating_add(step.saturating_sub(1));
-    push_parts(text, &[Part::Word(" "), Part::Number(run.first)])?;
-    if end == run.first {
-        return Ok(());
+    text.push(&[Part::Word(" "), Part::Number(run.first)]);
+    if end != run.first {
+        text.push(&[Part::Word(" to "), Part::Number(end)]);
     }
-    push_parts(text, &[Part::Word(" to "), Part::Number(end)])
 }
 
-/// Puts the numbers behind what is there, those that follow each other by this step as one run; each number
+/// Puts one number behind what is there, which covers so many.
+pub fn push_one(text: &mut Text, number: u64, covers: u64) {
+    let run = Run {
+        first: number,
+        last: number,
+    };
+    push_run(text, run, covers);
+}
+
+/// Numbers that are written one after another, those that follow each other by this step as one run; each number
 /// covers so many, as a buffer covers its pages.
-pub fn push_runs(text: &mut Vec<u8>, numbers: &[u64], step: u64) -> Result<(), AllocError> {
-    let mut run = None;
-    for next in numbers {
-        run = match run {
-            Some(run) if goes_on(run, *next, step) => Some(Run {
-                first: run.first,
-                last: *next,
-            }),
-            Some(run) => {
-                push_run(text, run, step)?;
-                text.push(b',')?;
-                Some(Run {
-                    first: *next,
-                    last: *next,
-                })
-            }
-            None => Some(Run {
-                first: *next,
-                last: *next,
-            }),
-        };
+#[derive(Clone, Copy)]
+pub struct Runs {
+    step: u64,
+    run: Option<Run>,
+}
+
+impl Runs {
+    /// No number yet.
+    pub fn new(step: u64) -> Runs {
+        Runs { step, run: None }
     }
-    match run {
-        Some(run) => push_run(text, run, step),
-        None => push_parts(text, &[Part::Word(" none")]),
+
+    /// Takes the next number, and puts the run that ends before it behind what is there.
+    pub fn add(&mut self, text: &mut Text, next: u64) {
+        let mut first = next;
+        if let Some(run) = self.run {
+            if goes_on(run, next, self.step) {
+                first = run.first;
+            } else {
+                push_run(text, run, self.step);
+                text.word(",");
+            }
+        }
+        self.run = Some(Run { first, last: next });
+    }
+
+    /// Puts the last run behind what is there.
+    pub fn end(&self, text: &mut Text) {
+        match self.run {
+            Some(run) => push_run(text, run, self.step),
+            None => text.word(" none"),
+        }
     }
 }

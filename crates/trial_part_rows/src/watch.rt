@@ -5,11 +5,12 @@ ghost use Rattle.trackers.specs.Table.{Cell, cell_of};
 ghost use Rattle.trial_part_rows.specs.declared.watch.TheConstants.{HERE};
 
 use crate::line::{Line, small};
-use crate::runs::push_runs;
-use script_lines::push;
+use crate::runs::Runs;
+use crate::text::Text;
+use crate::verb::Verb;
 use sm_names::{BufferName, CollectionId, Fired, NodeKey, TrackerId};
-use std::alloc::{AllocError, Global};
-use text_parts::{Part, push_parts};
+use std::alloc::Global;
+use text_parts::Part;
 use trackers::{Condition, TrackFault, Tracker, Trackers, Waiting, World};
 
 /// The collection.
@@ -59,23 +60,38 @@ impl World for Here {
     }
 }
 
+// Nothing has happened.
+const QUIET: Here = Here {
+    gone: None,
+    allocated: false,
+    left: 0,
+    doomed: None,
+};
+
+// The world in which so many buffers are left.
+fn left(number: u64) -> Here {
+    Here {
+        gone: None,
+        allocated: true,
+        left: number as usize,
+        doomed: None,
+    }
+}
+
 // The world that a line tells of: in all else nothing has happened.
 fn world_of(line: &Line) -> Here {
     let [number, ..] = line.numbers;
-    let is = |verb: &str| line.verb == verb;
-    Here {
-        gone: if is("gone") {
-            Some(small(number))
-        } else {
-            None
+    match line.verb {
+        Verb::Gone => Here {
+            gone: Some(small(number)),
+            ..QUIET
         },
-        allocated: is("left"),
-        left: if is("left") { number as usize } else { 0 },
-        doomed: if is("doomed") {
-            u8::try_from(number).ok()
-        } else {
-            None
+        Verb::Left => left(number),
+        Verb::Doomed => Here {
+            doomed: u8::try_from(number).ok(),
+            ..QUIET
         },
+        _ => QUIET,
     }
 }
 
@@ -98,10 +114,31 @@ fn waiting(id: TrackerId, condition: Condition) -> Waiting
     }
 }
 
+// That so many buffers of the node of a slot are left at most.
+fn lifetime(slot: u64, most: u64) -> Condition {
+    Condition::Lifetime(node(slot), HERE, small(most))
+}
+
+// The buffer with this index.
+fn buffer(index: u64) -> BufferName {
+    BufferName {
+        collection: HERE,
+        index: u8::try_from(index).unwrap_or(u8::MAX),
+    }
+}
+
+// What is said of sweeps at which as many trackers fired, or not.
+fn at_events(are_alike: bool) -> &'static str {
+    if are_alike {
+        " at each event to "
+    } else {
+        " at the first, to "
+    }
+}
+
 /// Trackers, the number of the newest event, and the reader that was taken last.
 #[derive(Drop)]
 pub struct Watch {
-    alloc: Global,
     trackers: Trackers,
     event: u64,
     reader: Option<Tracker>,
@@ -113,7 +150,6 @@ impl Watch {
     /// No trackers, of which so many may wait at once.
     pub fn new(alloc: Global, limit: u32) -> Watch {
         Watch {
-            alloc,
             trackers: Trackers::new(alloc, limit),
             event: 0,
             reader: None,
@@ -161,7 +197,7 @@ impl Watch {
         for most in first..=last {
             for place in 0..nodes {
                 let slot = place.wrapping_mul(7).checked_rem(nodes).unwrap_or(0);
-                newest = self.track(Condition::Lifetime(node(slot), HERE, small(most)));
+                newest = self.track(lifetime(slot, most));
             }
         }
         newest
@@ -202,13 +238,13 @@ impl Watch {
     }
 
     // Puts the trackers that fired behind the first so many behind what is there.
-    fn push_fired(&self, before: usize, text: &mut Vec<u8>) -> Result<(), AllocError> {
-        let mut ids = Vec::new(self.alloc);
+    fn push_fired(&self, before: usize, text: &mut Text) {
+        let mut runs = Runs::new(1);
+        text.word(":");
         for one in self.trackers.fired().iter().skip(before) {
-            ids.push(one.tracker)?;
+            runs.add(text, one.tracker);
         }
-        push(text, ":")?;
-        push_runs(text, &ids, 1)
+        runs.end(text);
     }
 
     // How many of the trackers that fired behind the first so many did so at this event.
@@ -223,148 +259,133 @@ impl Watch {
     }
 
     // Sweeps, and puts the trackers that fire at this event behind what is there.
-    fn push_swept(&mut self, world: &Here, text: &mut Vec<u8>) -> Result<(), AllocError> {
+    fn push_swept(&mut self, world: &Here, text: &mut Text) {
         let before = self.trackers.fired().len();
         self.sweep(world);
-        self.push_fired(before, text)?;
-        push_parts(
-            text,
-            &[
-                Part::Word(", "),
-                Part::Number(self.count_since(before)),
-                Part::Word(" at "),
-                Part::Number(self.event),
-            ],
-        )
+        self.push_fired(before, text);
+        let count = self.count_since(before);
+        text.push(&[
+            Part::Word(", "),
+            Part::Number(count),
+            Part::Word(" at "),
+            Part::Number(self.event),
+        ]);
     }
 
     // Sweeps at the next event with so many buffers left, and answers how many trackers fire.
-    fn count_swept(&mut self, left: u64) -> u64 {
+    fn count_swept(&mut self, number: u64) -> u64 {
         let before = self.trackers.fired().len();
         self.pass();
-        self.sweep(&Here {
-            gone: None,
-            allocated: true,
-            left: left as usize,
-            doomed: None,
-        });
+        self.sweep(&left(number));
         self.count_since(before)
     }
 
-    // Sweeps once for each number of buffers from the first down to the last, each at an event of its own, and puts
-    // behind what is there which trackers fire, and how many at each event.
-    fn push_all_swept(
-        &mut self,
-        first: u64,
-        last: u64,
-        text: &mut Vec<u8>,
-    ) -> Result<(), AllocError> {
-        let before = self.trackers.fired().len();
-        let each = self.count_swept(first);
+    // Sweeps once for each number of buffers below the first down to the last, each at an event of its own. Whether so
+    // many trackers fire at each.
+    fn are_swept(&mut self, first: u64, last: u64, each: u64) -> bool {
         let mut are_alike = true;
         for step in last..first {
             let left = first
                 .saturating_add(last)
                 .saturating_sub(step)
                 .saturating_sub(1);
-            are_alike = are_alike && self.count_swept(left) == each;
+            are_alike = self.count_swept(left) == each && are_alike;
         }
-        self.push_fired(before, text)?;
-        push_parts(
-            text,
-            &[
-                Part::Word(", "),
-                Part::Number(each),
-                Part::Word(if are_alike {
-                    " at each event to "
-                } else {
-                    " at the first, to "
-                }),
-                Part::Number(self.event),
-            ],
-        )
+        are_alike
+    }
+
+    // Sweeps once for each number of buffers from the first down to the last, each at an event of its own, and puts
+    // behind what is there which trackers fire, and how many at each event.
+    fn push_all_swept(&mut self, first: u64, last: u64, text: &mut Text) {
+        let before = self.trackers.fired().len();
+        let each = self.count_swept(first);
+        let are_alike = self.are_swept(first, last, each);
+        self.push_fired(before, text);
+        text.push(&[
+            Part::Word(", "),
+            Part::Number(each),
+            Part::Word(at_events(are_alike)),
+            Part::Number(self.event),
+        ]);
     }
 
     // Puts behind what is there what the reader knows.
-    fn push_known(&mut self, before: &str, text: &mut Vec<u8>) -> Result<(), AllocError> {
+    fn push_known(&mut self, before: &str, text: &mut Text) {
         match self.poll() {
-            Some(fired) => push_parts(
-                text,
-                &[
-                    Part::Word(before),
-                    Part::Number(fired.tracker),
-                    Part::Word(" at "),
-                    Part::Number(fired.event),
-                ],
-            ),
-            None => push_parts(text, &[Part::Word(before), Part::Word("nothing")]),
+            Some(fired) => text.push(&[
+                Part::Word(before),
+                Part::Number(fired.tracker),
+                Part::Word(" at "),
+                Part::Number(fired.event),
+            ]),
+            None => text.push(&[Part::Word(before), Part::Word("nothing")]),
         }
     }
 
     // Puts behind what is there what the reader of a tracker knows, once it is taken.
-    fn push_taken(&mut self, id: TrackerId, text: &mut Vec<u8>) -> Result<(), AllocError> {
+    fn push_taken(&mut self, id: TrackerId, text: &mut Text) {
         match self.take_reader(id) {
             Some(true) => self.push_known(": agrees, ", text),
             Some(false) => self.push_known(": ", text),
-            None => push(text, ": none"),
+            None => text.word(": none"),
         }
     }
 
-    // Puts behind what is there how many trackers fired, and how many wait.
-    fn push_numbers(&self, text: &mut Vec<u8>) -> Result<(), AllocError> {
-        push_parts(
-            text,
-            &[
-                Part::Word(": "),
-                Part::Number(self.trackers.fired().len() as u64),
-                Part::Word(", "),
-                Part::Number(self.trackers.waiting() as u64),
-                Part::Word(" wait"),
-            ],
-        )
+    // Puts behind what is there how many trackers wait once one was attached and taken out again.
+    fn push_detached(&mut self, slot: u64, text: &mut Text) {
+        let waiting = self.detach(Condition::Node(node(slot))) as u64;
+        text.push(&[Part::Word(": "), Part::Number(waiting), Part::Word(" wait")]);
     }
 
-    // Puts what a line asks to see behind what is there.
-    fn see(&mut self, line: &Line, text: &mut Vec<u8>) -> Result<(), AllocError> {
+    // Puts behind what is there how many trackers fired, and how many wait.
+    fn push_numbers(&self, text: &mut Text) {
+        let fired = self.trackers.fired().len() as u64;
+        let waiting = self.trackers.waiting() as u64;
+        text.push(&[
+            Part::Word(": "),
+            Part::Number(fired),
+            Part::Word(", "),
+            Part::Number(waiting),
+            Part::Word(" wait"),
+        ]);
+    }
+
+    // Attaches the trackers that a line says, if it says that. Answers the last of them.
+    fn tracked(&mut self, line: &Line) -> Option<Result<TrackerId, TrackFault>> {
         let [first, second, ..] = line.numbers;
         match line.verb {
-            "take" => self.push_taken(first, text),
-            "poll" => self.push_known(": ", text),
-            "down" => self.push_all_swept(first, second, text),
-            "detach" => {
-                let waiting = self.detach(Condition::Node(node(first))) as u64;
-                push_parts(
-                    text,
-                    &[Part::Word(": "), Part::Number(waiting), Part::Word(" wait")],
-                )
+            Verb::Node => Some(self.track(Condition::Node(node(first)))),
+            Verb::Lifetime => Some(self.track(lifetime(first, second))),
+            Verb::Weak => Some(self.track(Condition::Weak(buffer(first)))),
+            Verb::Lifetimes => Some(self.track_each(line.numbers)),
+            _ => None,
+        }
+    }
+
+    // Takes a line that attaches no tracker for good.
+    fn see(&mut self, line: &Line, text: &mut Text) {
+        let [first, second, ..] = line.numbers;
+        match line.verb {
+            Verb::Pass => self.pass(),
+            Verb::Take => self.push_taken(first, text),
+            Verb::Poll => self.push_known(": ", text),
+            Verb::Down => self.push_all_swept(first, second, text),
+            Verb::Detach => self.push_detached(first, text),
+            Verb::Fired => self.push_numbers(text),
+            Verb::Quiet | Verb::Gone | Verb::Left | Verb::Doomed => {
+                self.push_swept(&world_of(line), text);
             }
-            "fired" => self.push_numbers(text),
-            "quiet" | "gone" | "left" | "doomed" => self.push_swept(&world_of(line), text),
-            _ => push(text, ": not understood"),
+            _ => text.word(": not understood"),
         }
     }
 
     /// Takes a line, which attaches trackers, sweeps, or asks what fired.
-    pub fn take(&mut self, line: &Line, text: &mut Vec<u8>) -> Result<(), AllocError> {
-        let [first, second, ..] = line.numbers;
-        let tracked = match line.verb {
-            "node" => self.track(Condition::Node(node(first))),
-            "lifetime" => self.track(Condition::Lifetime(node(first), HERE, small(second))),
-            "weak" => self.track(Condition::Weak(BufferName {
-                collection: HERE,
-                index: u8::try_from(first).unwrap_or(u8::MAX),
-            })),
-            "lifetimes" => self.track_each(line.numbers),
-            "pass" => {
-                self.pass();
-                return Ok(());
-            }
-            _ => return self.see(line, text),
-        };
-        match tracked {
-            Ok(id) => push_parts(text, &[Part::Word(": tracker "), Part::Number(id)]),
-            Err(TrackFault::Full) => push(text, ": full"),
-            Err(TrackFault::NoMemory) => push(text, ": no memory"),
+    pub fn take(&mut self, line: &Line, text: &mut Text) {
+        match self.tracked(line) {
+            Some(Ok(id)) => text.push(&[Part::Word(": tracker "), Part::Number(id)]),
+            Some(Err(TrackFault::Full)) => text.word(": full"),
+            Some(Err(TrackFault::NoMemory)) => text.word(": no memory"),
+            None => self.see(line, text),
         }
     }
 }

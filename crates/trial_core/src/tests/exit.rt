@@ -1,5 +1,6 @@
 //! Clients with ends, handles and parcels are parted with, and nothing is left.
 use super::lending::on_core;
+use super::views::is_empty;
 use client_exit::{PartFault, Parted, part_with};
 use lifetime_core::Core;
 use sm_names::{BufferName, Call, ClientId, Constraints, Limits, NodeKey, Strength};
@@ -76,14 +77,6 @@ fn give(alloc: Global, core: &mut Core) -> bool {
 // Whether the client is parted with by so many events.
 fn parts(core: &mut Core, client: ClientId, events: u64) -> bool {
     part_with(core, client) == Ok(Parted { events })
-}
-
-// Whether nothing is live and nothing held.
-fn is_empty(core: &Core) -> bool {
-    let (Ok(live), Ok(held)) = (core.live(), core.held()) else {
-        return false;
-    };
-    live.is_empty() && held.is_empty() && core.free_pages() == 16
 }
 
 // Whether all is parted with, and nothing is left. The first has one end and one handle then: its

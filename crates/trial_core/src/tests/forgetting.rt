@@ -33,20 +33,39 @@ fn family(core: &mut Core) -> Option<NodeKey> {
     }
 }
 
-// A new attached unit of so many bound nodes, its head last.
-fn unit(alloc: Global, core: &mut Core, root: NodeKey, nodes: u8) -> Option<Vec<NodeKey>> {
-    let head = token(core, Call::AttachToken(root))?;
-    let mut keys = Vec::new(alloc);
-    for _ in 1..nodes {
-        keys.push(token(core, Call::Duplicate(head))?).ok()?;
+// Whether the node gets a child, whose key is noted.
+fn has_child(core: &mut Core, head: NodeKey, keys: &mut Vec<NodeKey>) -> bool {
+    match token(core, Call::Duplicate(head)) {
+        Some(key) => keys.push(key).is_ok(),
+        None => false,
     }
-    keys.push(head).ok()?;
-    for key in &keys {
-        if !is_done(core, Call::Bind(*key)) {
-            return None;
+}
+
+// Whether the node becomes the head of a unit of so many, whose keys are noted, its own last.
+fn has_unit(core: &mut Core, head: NodeKey, nodes: u8, keys: &mut Vec<NodeKey>) -> bool {
+    for _ in 1..nodes {
+        if !has_child(core, head, keys) {
+            return false;
         }
     }
-    Some(keys)
+    keys.push(head).is_ok()
+}
+
+fn are_bound(core: &mut Core, keys: &[NodeKey]) -> bool {
+    for key in keys {
+        if !is_done(core, Call::Bind(*key)) {
+            return false;
+        }
+    }
+    true
+}
+
+// Whether there is a new attached unit of so many bound nodes, whose keys are noted.
+fn comes(core: &mut Core, root: NodeKey, nodes: u8, keys: &mut Vec<NodeKey>) -> bool {
+    match token(core, Call::AttachToken(root)) {
+        Some(head) => has_unit(core, head, nodes, keys) && are_bound(core, keys),
+        None => false,
+    }
 }
 
 // The call that spends the end at this place of so many.
@@ -59,13 +78,7 @@ fn spending(leaving: Leaving, key: NodeKey, is_last: bool) -> Call {
     }
 }
 
-// Whether the ends are spent so, and no node is live then.
-fn leave(core: &mut Core, keys: &[NodeKey], leaving: Leaving) -> bool {
-    for (at, key) in keys.iter().enumerate() {
-        if !is_done(core, spending(leaving, *key, at + 1 == keys.len())) {
-            return false;
-        }
-    }
+fn none_is_live(core: &Core, keys: &[NodeKey]) -> bool {
     for key in keys {
         if core.is_live(*key) {
             return false;
@@ -74,13 +87,32 @@ fn leave(core: &mut Core, keys: &[NodeKey], leaving: Leaving) -> bool {
     true
 }
 
+// Whether the ends are spent so, and no node is live then.
+fn leave(core: &mut Core, keys: &[NodeKey], leaving: Leaving) -> bool {
+    for (at, key) in keys.iter().enumerate() {
+        if !is_done(core, spending(leaving, *key, at + 1 == keys.len())) {
+            return false;
+        }
+    }
+    none_is_live(core, keys)
+}
+
+// Whether a unit of so many nodes below the root comes and goes so.
+fn comes_and_goes(
+    alloc: Global,
+    core: &mut Core,
+    root: NodeKey,
+    nodes: u8,
+    leaving: Leaving,
+) -> bool {
+    let mut keys = Vec::new(alloc);
+    comes(core, root, nodes, &mut keys) && leave(core, &keys, leaving)
+}
+
 // Whether units of so many nodes below the root come and go so, one after another.
 fn each_leaves(alloc: Global, core: &mut Core, root: NodeKey, nodes: u8, leaving: Leaving) -> bool {
     for _ in 0..20 {
-        let Some(keys) = unit(alloc, core, root, nodes) else {
-            return false;
-        };
-        if !leave(core, &keys, leaving) {
+        if !comes_and_goes(alloc, core, root, nodes, leaving) {
             return false;
         }
     }
@@ -117,24 +149,22 @@ fn all_come_and_go(alloc: Global, leaving: Leaving) -> bool {
     true
 }
 
+// Once more where memory was refused.
+fn leave_nothing(alloc: Global, leaving: Leaving) -> bool {
+    all_come_and_go(alloc, leaving) || all_come_and_go(alloc, leaving)
+}
+
 #[test]
 fn released_units_leave_no_node(rt: HostRuntime) {
-    assert!(rt;
-        all_come_and_go(rt.alloc(), Leaving::Released)
-            || all_come_and_go(rt.alloc(), Leaving::Released)
-    );
+    assert!(rt; leave_nothing(rt.alloc(), Leaving::Released));
 }
 
 #[test]
 fn units_that_fail_after_releases_leave_no_node(rt: HostRuntime) {
-    assert!(rt;
-        all_come_and_go(rt.alloc(), Leaving::Failed) || all_come_and_go(rt.alloc(), Leaving::Failed)
-    );
+    assert!(rt; leave_nothing(rt.alloc(), Leaving::Failed));
 }
 
 #[test]
 fn closed_units_leave_no_node(rt: HostRuntime) {
-    assert!(rt;
-        all_come_and_go(rt.alloc(), Leaving::Closed) || all_come_and_go(rt.alloc(), Leaving::Closed)
-    );
+    assert!(rt; leave_nothing(rt.alloc(), Leaving::Closed));
 }

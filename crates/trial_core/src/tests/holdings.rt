@@ -56,9 +56,15 @@ fn given_up(call: &Call, reply: &Reply) -> Option<Parcel> {
 
 impl Holdings {
     /// Nothing is held.
-    pub fn new(alloc: Global) -> Option<Holdings> {
-        let things = Vec::with_capacity(alloc, ROOM).ok()?;
-        Some(Holdings { things })
+    pub fn new(alloc: Global) -> Holdings {
+        Holdings {
+            things: Vec::new(alloc),
+        }
+    }
+
+    /// Takes room for all that the scripts want, and answers whether there was memory.
+    pub fn make_room(&mut self) -> bool {
+        self.things.reserve(ROOM).is_ok()
     }
 
     /// How many things are held.

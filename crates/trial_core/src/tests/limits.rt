@@ -110,20 +110,25 @@ fn keys_are_new(alloc: Global) -> bool {
     on_core(alloc, limits, |core| joins(core) && has_rounds(alloc, core))
 }
 
-// Whether calls run in order until one is not taken.
-fn stops(alloc: Global, core: &mut Core) -> bool {
-    match core.run(
-        alloc,
-        &[(0, Call::Join), (2, Call::OpenRoot), (1, Call::Shut)],
-    ) {
-        Ok(_) => false,
-        Err((made, fault)) => {
-            fault == StepFault::HistoryFull
-                && made.len() == 2
-                && made.first() == Some(&Reply::Joined(2))
-                && core.events() == 3
-        }
+// Whether these are the replies of the first two of the calls below.
+fn are_first(made: &[Reply]) -> bool {
+    match made {
+        [first, _] => *first == Reply::Joined(2),
+        _ => false,
     }
+}
+
+// Whether calls run in order until one is not taken.
+fn is_stopped(alloc: Global, core: &mut Core) -> bool {
+    let calls = [(0, Call::Join), (2, Call::OpenRoot), (1, Call::Shut)];
+    match core.run(alloc, &calls) {
+        Err((made, StepFault::HistoryFull)) => are_first(&made),
+        _ => false,
+    }
+}
+
+fn stops(alloc: Global, core: &mut Core) -> bool {
+    is_stopped(alloc, core) && core.events() == 3
 }
 
 fn history_is_full(alloc: Global) -> bool {

@@ -13,10 +13,16 @@ pub struct Log {
 const ROOM: usize = 64;
 
 impl Log {
-    pub fn new(alloc: Global) -> Option<Log> {
-        let calls = Vec::with_capacity(alloc, ROOM).ok()?;
-        let replies = Vec::with_capacity(alloc, ROOM).ok()?;
-        Some(Log { calls, replies })
+    pub fn new(alloc: Global) -> Log {
+        Log {
+            calls: Vec::new(alloc),
+            replies: Vec::new(alloc),
+        }
+    }
+
+    /// Takes room for the calls that are kept, and answers whether there was memory.
+    pub fn make_room(&mut self) -> bool {
+        self.calls.reserve(ROOM).is_ok() && self.replies.reserve(ROOM).is_ok()
     }
 
     /// Keeps the call, where there is room.

@@ -28,22 +28,44 @@ const ROOM: usize = 16;
 
 // A player of a core that has seen nothing, which says that memory was refused or that it was not.
 fn fresh(alloc: Global, limits: Limits, refused: bool) -> Option<Player> {
-    let nodes = Vec::with_capacity(alloc, ROOM).ok()?;
-    let holdings = Holdings::new(alloc)?;
-    let log = Log::new(alloc)?;
-    let core = Core::with_seed(alloc, 16, limits, [3; 16]).ok()?;
-    Some(Player {
-        core,
-        nodes,
-        holdings,
-        log,
-        clients: 0,
-        refused,
-        fault: None,
-    })
+    match Core::with_seed(alloc, 16, limits, [3; 16]) {
+        Ok(core) => Player::of(alloc, core, refused),
+        Err(_) => None,
+    }
+}
+
+// The call by which a client gives up what it holds.
+fn giving_up(thing: Parcel) -> Call {
+    match thing {
+        Parcel::End(key) => Call::Close(key),
+        Parcel::Handle(buffer, strength) => Call::DropHandle(buffer, strength),
+    }
 }
 
 impl Player {
+    // A player of this core, if there is memory for what it notes.
+    fn of(alloc: Global, core: Core, refused: bool) -> Option<Player> {
+        let mut player = Player {
+            core,
+            nodes: Vec::new(alloc),
+            holdings: Holdings::new(alloc),
+            log: Log::new(alloc),
+            clients: 0,
+            refused,
+            fault: None,
+        };
+        if player.makes_room() {
+            Some(player)
+        } else {
+            None
+        }
+    }
+
+    // Takes room for what it notes, and answers whether there was memory.
+    fn makes_room(&mut self) -> bool {
+        self.nodes.reserve(ROOM).is_ok() && self.holdings.make_room() && self.log.make_room()
+    }
+
     /// A player of a core that has seen nothing. Where memory is refused, it is asked for again.
     pub fn new(alloc: Global, limits: Limits) -> Option<Player> {
         match fresh(alloc, limits, false) {
@@ -136,28 +158,32 @@ impl Player {
                 return None;
             }
         };
-        self.log.add_entry(client, call, reply);
-        match reply {
-            Reply::Joined(newest) => {
-                self.clients = newest;
-            }
-            Reply::Token { key, .. } => self.name(key)?,
-            _ => {}
-        }
-        if self.holdings.take_reply(client, &call, &reply) {
+        if self.note(client, &call, &reply) {
             Some(reply)
         } else {
             None
         }
     }
 
-    // Notes the new node. `None` where it has the key of another.
-    fn name(&mut self, key: NodeKey) -> Option<()> {
-        if self.number_of(key) != 0 {
-            return None;
-        }
+    // Notes a call and its reply. `false` where a new node has the key of another, and where a client lost what it did
+    // not hold.
+    fn note(&mut self, client: ClientId, call: &Call, reply: &Reply) -> bool {
+        self.log.add_entry(client, *call, *reply);
+        let is_new = match *reply {
+            Reply::Joined(newest) => {
+                self.clients = newest;
+                true
+            }
+            Reply::Token { key, .. } => self.name(key),
+            _ => true,
+        };
+        is_new && self.holdings.take_reply(client, call, reply)
+    }
+
+    // Notes the new node. `false` where it has the key of another.
+    fn name(&mut self, key: NodeKey) -> bool {
         let event = self.core.events();
-        self.nodes.push((event, key)).ok()
+        self.number_of(key) == 0 && self.nodes.push((event, key)).is_ok()
     }
 
     // The reply, with the numbers of the nodes that it names.
@@ -194,24 +220,32 @@ impl Player {
     /// Makes the calls of a client that vanishes: it is shut, collects what waits for it, closes
     /// each end that it holds and drops each handle. Answers whether each took effect.
     pub fn vanishes(&mut self, client: ClientId) -> bool {
-        let Some(Reply::Shut(waiting)) = self.ask(client, Call::Shut) else {
-            return false;
-        };
-        for _ in 0..waiting {
-            let Some(Reply::Collected { .. } | Reply::CollectedHandle { .. }) = self.ask(
-                client,
-                Call::Collect,
-            ) else {
-                return false;
-            };
+        match self.ask(client, Call::Shut) {
+            Some(Reply::Shut(waiting)) => {
+                self.collects_all(client, waiting) && self.gives_all_up(client)
+            }
+            _ => false,
         }
+    }
+
+    // Whether the client collects so many parcels.
+    fn collects_all(&mut self, client: ClientId, waiting: u64) -> bool {
+        for _ in 0..waiting {
+            match self.ask(client, Call::Collect) {
+                Some(Reply::Collected { .. } | Reply::CollectedHandle { .. }) => {}
+                _ => return false,
+            }
+        }
+        true
+    }
+
+    // Whether the client gives up all that it holds.
+    fn gives_all_up(&mut self, client: ClientId) -> bool {
         for _ in 0..self.holdings.len() {
-            let call = match self.holdings.first_of(client) {
-                Some(Parcel::End(key)) => Call::Close(key),
-                Some(Parcel::Handle(buffer, strength)) => Call::DropHandle(buffer, strength),
-                None => return true,
+            let Some(thing) = self.holdings.first_of(client) else {
+                return true;
             };
-            if self.ask(client, call) != Some(Reply::Done) {
+            if self.ask(client, giving_up(thing)) != Some(Reply::Done) {
                 return false;
             }
         }

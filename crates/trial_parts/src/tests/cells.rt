@@ -1,9 +1,10 @@
 //! That a cell that was set is seen from another thread, and that a refusal leaves trackers as they were.
+use super::tell_refusal;
 use fixture::{Gone, Line};
 use sm_names::{NodeKey, TrackerId};
-use std::test::Fail;
 use std::thread;
-use trackers::{Condition, Fired, TrackFault};
+use std::thread::Threads;
+use trackers::{Condition, Fired, TrackFault, Tracker};
 
 mod fixture;
 
@@ -14,25 +15,53 @@ const NODE: NodeKey = NodeKey {
 
 const GONE: Gone = Gone { slot: 3 };
 
-#[test]
-fn a_reader_in_another_thread_sees_the_firing(rt: HostRuntime) -> Result<(), Fail> {
-    let mut line = Line::new(rt.alloc(), 4);
-    let id = line
-        .track(Condition::Node(NODE))
-        .map_err(|_| "not attached")?;
-    let Some(mut reader) = line.take(id) else {
-        return Err(Fail::from("not there"));
+// The reader of the first tracker, which has fired.
+fn fired_reader(line: &mut Line) -> Option<Tracker> {
+    let reader = match line.track(Condition::Node(NODE)) {
+        Ok(id) => line.take(id),
+        Err(_) => None,
     };
     line.sweep(&GONE);
-    let child = thread::spawn(&rt, move || reader.poll()).map_err(|_| "no thread")?;
-    assert!(rt;
-        child.join(&rt)
-            == Some(Fired {
-                tracker: 1,
-                event: 1
-            })
-    );
-    Ok(())
+    reader
+}
+
+// What the reader reads in another thread.
+fn read_elsewhere(rt: &impl Threads, reader: Tracker) -> Option<Fired> {
+    let mut reader = reader;
+    match thread::spawn(rt, move || reader.poll()) {
+        Ok(child) => child.join(rt),
+        Err(_) => None,
+    }
+}
+
+// Whether another thread sees that the first tracker fired, at event 1.
+fn is_seen(rt: &impl Threads, line: &mut Line) -> bool {
+    match fired_reader(line) {
+        Some(reader) => match read_elsewhere(rt, reader) {
+            Some(fired) => fired.tracker == 1 && fired.event == 1,
+            None => false,
+        },
+        None => false,
+    }
+}
+
+#[test]
+fn a_reader_in_another_thread_sees_the_firing(rt: HostRuntime) {
+    let mut line = Line::new(rt.alloc(), 4);
+    assert!(rt; is_seen(&rt, &mut line));
+}
+
+// Whether the next tracker of the node gets this number.
+fn gets(line: &mut Line, wanted: TrackerId) -> bool {
+    match line.track(Condition::Node(NODE)) {
+        Ok(id) => id == wanted,
+        Err(_) => false,
+    }
+}
+
+// Whether no tracker has this number, and none fired.
+fn has_none(line: &mut Line, id: TrackerId) -> bool {
+    line.take(id).is_none() && line.fired().is_empty()
 }
 
 // Whether the next tracker of the node gets this number. If memory is refused, no tracker has this number and none
@@ -40,13 +69,11 @@ fn a_reader_in_another_thread_sees_the_firing(rt: HostRuntime) -> Result<(), Fai
 fn is_attached(rt: &impl Print, line: &mut Line, wanted: TrackerId) -> bool {
     match line.track(Condition::Node(NODE)) {
         Ok(id) => id == wanted,
-        Err(fault) => {
-            let _ = println!(rt; "memory was refused");
-            fault == TrackFault::NoMemory
-                && line.take(wanted).is_none()
-                && line.fired().is_empty()
-                && line.track(Condition::Node(NODE)) == Ok(wanted)
+        Err(TrackFault::NoMemory) => {
+            tell_refusal(rt);
+            has_none(line, wanted) && gets(line, wanted)
         }
+        Err(TrackFault::Full) => false,
     }
 }
 

@@ -1,6 +1,8 @@
 //! That what is undone takes no memory.
+use super::tell_refusal;
 use buffer_holds::{HoldFault, Holds};
 use sm_names::{BufferName, ClientId, NoMemory, Strength};
+use std::alloc::Global;
 
 const BUFFER: BufferName = BufferName {
     collection: 7,
@@ -10,7 +12,7 @@ const BUFFER: BufferName = BufferName {
 // Whether a handle of the client goes into a parcel, lands with another client and is closed there.
 fn lands(rt: &impl Print, holds: &mut Holds, client: ClientId) -> bool {
     if let Err(NoMemory) = holds.lift(client, BUFFER, Strength::Weak) {
-        let _ = println!(rt; "memory was refused");
+        tell_refusal(rt);
         return true;
     }
     let other = client.wrapping_add(40);
@@ -23,7 +25,7 @@ fn lands(rt: &impl Print, holds: &mut Holds, client: ClientId) -> bool {
 // Whether a handle of the client is opened, closed and opened again, and then lands.
 fn is_undone(rt: &impl Print, holds: &mut Holds, client: ClientId) -> bool {
     if let Err(fault) = holds.add(client, BUFFER, Strength::Weak) {
-        let _ = println!(rt; "memory was refused");
+        tell_refusal(rt);
         return fault == HoldFault::NoMemory;
     }
     holds.sub(client, BUFFER, Strength::Weak)
@@ -41,10 +43,15 @@ fn all_are_undone(rt: &impl Print, holds: &mut Holds) -> bool {
     true
 }
 
+// Whether that is so from the start on.
+fn is_all_undone(rt: &impl Print, alloc: Global) -> bool {
+    let mut holds = Holds::new(alloc, 9);
+    all_are_undone(rt, &mut holds)
+}
+
 // Run with the Nth allocation refused, this shows that undoing asks for no memory, nor does landing
 // what was lifted, whoever lands it.
 #[test]
 fn undoing_a_count_takes_no_memory(rt: HostRuntime) {
-    let mut holds = Holds::new(rt.alloc(), 9);
-    assert!(rt; all_are_undone(&rt, &mut holds));
+    assert!(rt; is_all_undone(&rt, rt.alloc()));
 }

@@ -1,11 +1,12 @@
 //! Scripts of actors, read.
+ghost use Rattle.std.specs.Prelude.{◌≤◌};
+
 use actor_scripts::{ActorList, ActorScriptFault, Step, StepBuffer, read_actors};
-use script_lines::{LabelHash, MOST_BYTES, Request};
+use script_lines::{Label, LabelHash, MOST_BYTES, Request};
 use sm_names::{Argument, CallKind, Constraints, Object, Strength};
-use std::alloc::{AllocError, Global};
+use std::alloc::Global;
 use std::io;
 use std::io::Read;
-use std::test::Fail;
 use trial_streams::ShortReader;
 
 // So many bytes, of remarks of 255 bytes and an end.
@@ -37,12 +38,12 @@ fn labels() -> LabelHash {
 // Reads a script, so many bytes a read, with an error at read `fails`.
 fn read(
     alloc: Global,
-    script: &str,
+    script: &[u8],
     step: usize,
     fails: usize,
 ) -> Result<ActorList, ActorScriptFault> {
     let mut reader = ShortReader {
-        bytes: script.as_bytes(),
+        bytes: script,
         step,
         reads: 0,
         fails,
@@ -50,15 +51,9 @@ fn read(
     read_actors(alloc, labels(), &mut reader)
 }
 
-// Whether the actors have these labels, in order.
-fn has_labels(list: &ActorList, labels: &[&str]) -> bool {
-    for (label, text) in list.labels.iter().zip(labels) {
-        let (bytes, start) = label.spelled();
-        if &bytes[start..] != text.as_bytes() {
-            return false;
-        }
-    }
-    list.labels.len() == labels.len()
+// The fault of such a script.
+fn fault_of(alloc: Global, script: &[u8], step: usize, fails: usize) -> Option<ActorScriptFault> {
+    read(alloc, script, step, fails).err()
 }
 
 // An object as numbers.
@@ -116,20 +111,32 @@ fn are_steps(steps: &[Step], wanted: &[Step]) -> bool {
     steps.len() == wanted.len()
 }
 
-// Whether they have these steps.
-fn has_steps(list: &ActorList, scripts: &[&[Step]]) -> bool {
-    for (script, steps) in list.scripts.iter().zip(scripts) {
-        if !are_steps(script.steps.as_slice(), steps) {
+// Whether the actor at this place has this label and these steps.
+fn is_actor(list: &ActorList, at: usize, label: &[u8], steps: &[Step]) -> bool {
+    match (list.labels.get(at), list.scripts.get(at)) {
+        (Some(told), Some(script)) => {
+            Label::new(label) == Some(*told) && are_steps(script.steps.as_slice(), steps)
+        }
+        _ => false,
+    }
+}
+
+// Whether these are the actors, each with its label and its steps.
+fn has_actors(list: &ActorList, actors: &[(&[u8], &[Step])]) -> bool {
+    let mut at: usize = 0;
+    for (label, steps) in actors {
+        if !is_actor(list, at, label, steps) {
             return false;
         }
+        at = at.wrapping_add(1);
     }
-    list.scripts.len() == scripts.len()
+    list.labels.len() == at && list.scripts.len() == at
 }
 
 // Whether a script has these actors, with these steps.
-fn is_read(alloc: Global, script: &str, step: usize, labels: &[&str], scripts: &[&[Step]]) -> bool {
-    match read(alloc, script, step, 0) {
-        Ok(list) => has_labels(&list, labels) && has_steps(&list, scripts),
+fn is_read(alloc: Global, script: &str, step: usize, actors: &[(&[u8], &[Step])]) -> bool {
+    match read(alloc, script.as_bytes(), step, 0) {
+        Ok(list) => has_actors(&list, actors),
         Err(_) => false,
     }
 }
@@ -192,14 +199,16 @@ fn are_takers(alloc: Global, step: usize) -> bool {
         return false;
     };
     let (first, second) = (taker(0, wanted), taker(1, wanted));
-    is_read(alloc, TWO, step, &["a", "b"], &[&first, &second])
+    is_read(alloc, TWO, step, &[(b"a", &first), (b"b", &second)])
+}
+
+fn are_always_takers(alloc: Global) -> bool {
+    are_takers(alloc, 1) && are_takers(alloc, 7) && are_takers(alloc, 4096)
 }
 
 #[test]
 fn two_actors_have_their_steps(rt: HostRuntime) {
-    assert!(rt; are_takers(rt.alloc(), 1));
-    assert!(rt; are_takers(rt.alloc(), 7));
-    assert!(rt; are_takers(rt.alloc(), 4096));
+    assert!(rt; are_always_takers(rt.alloc()));
 }
 
 const LABELS: &str = "b join\na join\nb open r\na open r\n# a remark\n\nb open s\nb dup r k\n\
@@ -222,7 +231,7 @@ fn labels_are_numbered_by_actor(rt: HostRuntime) {
         on(CallKind::Close, 1, Argument::Nothing, None),
         new(CallKind::Collect, 5),
     ];
-    assert!(rt; is_read(rt.alloc(), LABELS, 4096, &["b", "a"], &[&of_b, &of_a]));
+    assert!(rt; is_read(rt.alloc(), LABELS, 4096, &[(b"b", &of_b), (b"a", &of_a)]));
 }
 
 const BUFFERS: &str =
@@ -254,7 +263,7 @@ fn buffers_are_named_by_a_node(rt: HostRuntime) {
         ),
         of(CallKind::TrackWeak, 0, 2, Argument::Nothing, Some(2)),
     ];
-    assert!(rt; is_read(rt.alloc(), BUFFERS, 4096, &["a"], &[&steps]));
+    assert!(rt; is_read(rt.alloc(), BUFFERS, 4096, &[(b"a", &steps)]));
 }
 
 // Scripts, each with the number of its first bad line.
@@ -281,7 +290,7 @@ const BAD: &[(&str, u64)] = &[
 
 // Whether the line of this number is the first bad one.
 fn is_bad(alloc: Global, script: &str, line: u64) -> bool {
-    read(alloc, script, 4096, 0).err() == Some(ActorScriptFault::BadLine(line))
+    fault_of(alloc, script.as_bytes(), 4096, 0) == Some(ActorScriptFault::BadLine(line))
 }
 
 fn all_are_bad(alloc: Global) -> bool {
@@ -299,28 +308,33 @@ fn the_fault_has_the_number_of_the_first_bad_line(rt: HostRuntime) {
 }
 
 // The fault of a script whose second line is a remark of this many bytes.
-fn remark_fault(alloc: Global, length: usize) -> Result<Option<ActorScriptFault>, AllocError> {
-    let mut script = Vec::new(alloc);
-    script.extend_from_slice(b"a join\n")?;
-    script.resize(script.len().saturating_add(length), b'#')?;
-    script.push(b'\n')?;
-    Ok(read_actors(alloc, labels(), &mut script.as_slice()).err())
+fn remark_fault(alloc: Global, length: usize) -> Option<ActorScriptFault>
+    requires { length ≤ 257 }
+{
+    let mut script = [b'#'; 265];
+    script[..7].copy_from_slice(b"a join\n");
+    script[7 + length] = b'\n';
+    fault_of(alloc, &script[..8 + length], 4096, 0)
+}
+
+// Whether a line of 256 bytes is read, and the next longer one is bad.
+fn has_most_bytes(alloc: Global) -> bool {
+    remark_fault(alloc, 256).is_none()
+        && remark_fault(alloc, 257) == Some(ActorScriptFault::BadLine(2))
 }
 
 #[test]
-fn a_line_has_at_most_256_bytes(rt: HostRuntime) -> Result<(), Fail> {
-    assert!(rt; remark_fault(rt.alloc(), 256)?.is_none());
-    assert!(rt; remark_fault(rt.alloc(), 257)? == Some(ActorScriptFault::BadLine(2)));
-    Ok(())
+fn a_line_has_at_most_256_bytes(rt: HostRuntime) {
+    assert!(rt; has_most_bytes(rt.alloc()));
 }
 
 // How many of the reads, each of one byte, give a read fault if they fail.
 fn failing_reads(alloc: Global) -> usize {
     for fails in 1..200usize {
-        match read(alloc, TWO, 1, fails) {
-            Ok(_) => return fails.saturating_sub(1),
-            Err(ActorScriptFault::ReadFault) => {}
-            Err(_) => return 0,
+        match fault_of(alloc, TWO.as_bytes(), 1, fails) {
+            None => return fails.saturating_sub(1),
+            Some(ActorScriptFault::ReadFault) => {}
+            Some(_) => return 0,
         }
     }
     0
@@ -333,7 +347,7 @@ fn a_read_that_fails_at_any_byte_is_a_read_fault(rt: HostRuntime) {
 
 #[test]
 fn a_failed_read_precedes_a_bad_line(rt: HostRuntime) {
-    let fault = read(rt.alloc(), "show live\na join\n", 11, 2).err();
+    let fault = fault_of(rt.alloc(), b"show live\na join\n", 11, 2);
     assert!(rt; fault == Some(ActorScriptFault::ReadFault));
 }
 
@@ -343,10 +357,13 @@ fn remarks_fault(alloc: Global, left: usize) -> Option<ActorScriptFault> {
     read_actors(alloc, labels(), &mut reader).err()
 }
 
+// Whether a script of the greatest size is read to its end, and a longer one is not.
+fn has_most_lines(alloc: Global) -> bool {
+    remarks_fault(alloc, MOST_BYTES) == Some(ActorScriptFault::BadLine(65_537))
+        && remarks_fault(alloc, MOST_BYTES + 1) == Some(ActorScriptFault::ReadFault)
+}
+
 #[test]
 fn a_script_over_the_greatest_size_is_a_read_fault(rt: HostRuntime) {
-    let most = remarks_fault(rt.alloc(), MOST_BYTES);
-    assert!(rt; most == Some(ActorScriptFault::BadLine(65_537)));
-    let more = remarks_fault(rt.alloc(), MOST_BYTES + 1);
-    assert!(rt; more == Some(ActorScriptFault::ReadFault));
+    assert!(rt; has_most_lines(rt.alloc()));
 }

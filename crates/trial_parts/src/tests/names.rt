@@ -1,9 +1,9 @@
 //! What the proofs of sm_names can't say: that the numbers, the names and the ranges are those that
 //! are meant.
 use sm_names::{
-    Answer, Argument, ArgumentForm, Call, CallKind, CallParts, Constraints, Limits, Misuse,
-    NodeKey, Object, Product, Refusal, Spends, Target, call_of, kind_at, kind_named, parts_of,
-    row_of, word_of,
+    Answer, Argument, ArgumentForm, Call, CallKind, CallParts, CallRow, Constraints, Limits,
+    Misuse, NodeKey, Object, Product, Refusal, Spends, Target, call_of, kind_at, kind_named,
+    parts_of, row_of, word_of,
 };
 
 // Numbers of constraints, and whether they are in their ranges.
@@ -19,7 +19,9 @@ const CONSTRAINTS: &[(u8, u8, u32, bool)] = &[
 // Whether constraints are made of these numbers exactly if these are in range, and then have them.
 fn is_made(camping: u8, at_least: u8, size: u32, in_range: bool) -> bool {
     match Constraints::new(camping, at_least, size) {
-        Some(c) => in_range && (c.camping(), c.at_least(), c.size()) == (camping, at_least, size),
+        Some(c) => {
+            in_range && c.camping() == camping && c.at_least() == at_least && c.size() == size
+        }
         None => !in_range,
     }
 }
@@ -38,31 +40,30 @@ fn constraints_are_made_up_to_their_greatest_numbers(rt: HostRuntime) {
     assert!(rt; are_made());
 }
 
-// The greatest limits: events, nodes, collections, trackers and handles.
-const FULL: [u32; 5] = [4_294_967_295, 1_024, 256, 4_096, 4_294_967_295];
-
-// Numbers of limits, and whether they are in their ranges.
-const LIMITS: &[([u32; 5], bool)] = &[
-    ([1, 1, 1, 1, 1], true),
-    (FULL, true),
-    ([0, 1, 1, 1, 1], false),
-    ([1, 1_025, 1, 1, 1], false),
-    ([1, 1, 257, 1, 1], false),
-    ([1, 1, 1, 4_097, 1], false),
-    ([1, 1, 1, 1, 0], false),
+// Numbers of limits: events, nodes, collections, trackers and handles. And whether they are in their ranges.
+const LIMITS: &[(u32, u32, u32, u32, u32, bool)] = &[
+    (1, 1, 1, 1, 1, true),
+    (4_294_967_295, 1_024, 256, 4_096, 4_294_967_295, true),
+    (0, 1, 1, 1, 1, false),
+    (1, 1_025, 1, 1, 1, false),
+    (1, 1, 257, 1, 1, false),
+    (1, 1, 1, 4_097, 1, false),
+    (1, 1, 1, 1, 0, false),
 ];
 
+// Whether these are the greatest limits.
 fn is_full(full: Limits) -> bool {
-    let [events, nodes, collections, trackers, handles] = FULL;
-    (full.events(), full.nodes(), full.collections()) == (events, nodes, collections)
-        && (full.trackers(), full.handles()) == (trackers, handles)
+    full.events() == 4_294_967_295
+        && full.nodes() == 1_024
+        && full.collections() == 256
+        && full.trackers() == 4_096
+        && full.handles() == 4_294_967_295
 }
 
 // Whether limits are made of these numbers exactly if these are in range.
 fn are_limits() -> bool {
-    for (numbers, in_range) in LIMITS {
-        let [events, nodes, collections, trackers, handles] = *numbers;
-        let made = Limits::new(events, nodes, collections, trackers, handles);
+    for (events, nodes, collections, trackers, handles, in_range) in LIMITS {
+        let made = Limits::new(*events, *nodes, *collections, *trackers, *handles);
         if made.is_some() != *in_range {
             return false;
         }
@@ -75,49 +76,45 @@ fn limits_are_made_up_to_the_full_ones(rt: HostRuntime) {
     assert!(rt; is_full(Limits::full()) && are_limits());
 }
 
-// All refusals in the order of their numbers, which begin at 1, with their names.
-const REFUSALS: &[(Refusal, &str)] = &[
-    (Refusal::NoSuchClient, "NoSuchClient"),
-    (Refusal::ClientShut, "ClientShut"),
-    (Refusal::NoSuchEnd, "NoSuchEnd"),
-    (Refusal::InTransit, "InTransit"),
-    (Refusal::WrongKind, "WrongKind"),
-    (Refusal::TooManyNodes, "TooManyNodes"),
-    (Refusal::TooManyCollections, "TooManyCollections"),
-    (Refusal::TrackersFull, "TrackersFull"),
-    (Refusal::NoSuchHandle, "NoSuchHandle"),
-    (Refusal::TooManyHandles, "TooManyHandles"),
+// All refusals, with their numbers and names.
+const REFUSALS: [(u8, Refusal, &str); 10] = [
+    (1, Refusal::NoSuchClient, "NoSuchClient"),
+    (2, Refusal::ClientShut, "ClientShut"),
+    (3, Refusal::NoSuchEnd, "NoSuchEnd"),
+    (4, Refusal::InTransit, "InTransit"),
+    (5, Refusal::WrongKind, "WrongKind"),
+    (6, Refusal::TooManyNodes, "TooManyNodes"),
+    (7, Refusal::TooManyCollections, "TooManyCollections"),
+    (8, Refusal::TrackersFull, "TrackersFull"),
+    (9, Refusal::NoSuchHandle, "NoSuchHandle"),
+    (10, Refusal::TooManyHandles, "TooManyHandles"),
 ];
 
-// All misuses in the order of their numbers, with their names.
-const MISUSES: &[(Misuse, &str)] = &[
-    (Misuse::SecondConstraints, "SecondConstraints"),
-    (Misuse::LateWeak, "LateWeak"),
-    (Misuse::LateWeakOk, "LateWeakOk"),
-    (Misuse::WeakNotOk, "WeakNotOk"),
-    (Misuse::TooManyNodeTrackers, "TooManyNodeTrackers"),
+// All misuses, with their numbers and names.
+const MISUSES: [(u8, Misuse, &str); 5] = [
+    (1, Misuse::SecondConstraints, "SecondConstraints"),
+    (2, Misuse::LateWeak, "LateWeak"),
+    (3, Misuse::LateWeakOk, "LateWeakOk"),
+    (4, Misuse::WeakNotOk, "WeakNotOk"),
+    (5, Misuse::TooManyNodeTrackers, "TooManyNodeTrackers"),
 ];
 
 fn are_refusals_named() -> bool {
-    let mut number: u8 = 0;
-    for (refusal, name) in REFUSALS {
-        number = number.wrapping_add(1);
-        if refusal.number() != number || refusal.name() != *name {
+    for (number, refusal, name) in &REFUSALS {
+        if refusal.number() != *number || refusal.name() != *name {
             return false;
         }
     }
-    number == 10
+    true
 }
 
 fn are_misuses_named() -> bool {
-    let mut number: u8 = 0;
-    for (misuse, name) in MISUSES {
-        number = number.wrapping_add(1);
-        if misuse.number() != number || misuse.name() != *name {
+    for (number, misuse, name) in &MISUSES {
+        if misuse.number() != *number || misuse.name() != *name {
             return false;
         }
     }
-    number == 5
+    true
 }
 
 #[test]
@@ -125,122 +122,67 @@ fn refusals_and_misuses_are_numbered_and_named(rt: HostRuntime) {
     assert!(rt; are_refusals_named() && are_misuses_named());
 }
 
-// Of each kind of call, in the order of their numbers: its word, what it is made on, what it says, what it brings,
-// when it spends what it is made on, and what it is answered.
-const ROWS: &[&str] = &[
-    "join Nothing Nothing Client Never Joined",
-    "shut Nothing Nothing Nothing Never Shut",
-    "open Nothing Nothing Collection Never Token",
-    "dup Token Nothing Node Never Token",
-    "attach Collection Nothing Node Never Token",
-    "sync End Nothing Nothing Never Done",
-    "give End Client Nothing IfDone Done",
-    "collect Nothing Nothing Parcel Never Parcel",
-    "bind Token Nothing Nothing IfDone Done",
-    "dispensable Token Nothing Nothing Never Done",
-    "weak End Nothing Nothing Never Done",
-    "weakok End Children Nothing Never Done",
-    "constrain Collection Constraints Nothing Never Done",
-    "check Collection Nothing Nothing Never Allocated",
-    "take Collection Nothing Handles Never Taken",
-    "release End Nothing Nothing IfMet Done",
-    "close End Nothing Nothing IfDone Done",
-    "duph Handle Strength Handles Never Done",
-    "droph Handle Strength Nothing IfDone Done",
-    "giveh Handle Gift Nothing IfDone Done",
-    "tracknode End Nothing Tracker Never Tracker",
-    "tracklife Collection Most Tracker Never Tracker",
-    "trackweak Handle Nothing Tracker Never Tracker",
+// The word of a kind of call, what it is made on, what it says, what it brings, when it spends what it is made on, and
+// what it is answered.
+macro_rules! row {
+    ($word:literal $on:ident $says:ident $brings:ident $spends:ident $answers:ident) => {
+        (
+            $word,
+            CallRow {
+                on: Target::$on,
+                says: ArgumentForm::$says,
+                brings: Product::$brings,
+                spends: Spends::$spends,
+                answers: Answer::$answers,
+            },
+        )
+    };
+}
+
+// Of each kind of call, in the order of their numbers.
+const ROWS: [(&str, CallRow); 23] = [
+    row!("join" Nothing Nothing Client Never Joined),
+    row!("shut" Nothing Nothing Nothing Never Shut),
+    row!("open" Nothing Nothing Collection Never Token),
+    row!("dup" Token Nothing Node Never Token),
+    row!("attach" Collection Nothing Node Never Token),
+    row!("sync" End Nothing Nothing Never Done),
+    row!("give" End Client Nothing IfDone Done),
+    row!("collect" Nothing Nothing Parcel Never Parcel),
+    row!("bind" Token Nothing Nothing IfDone Done),
+    row!("dispensable" Token Nothing Nothing Never Done),
+    row!("weak" End Nothing Nothing Never Done),
+    row!("weakok" End Children Nothing Never Done),
+    row!("constrain" Collection Constraints Nothing Never Done),
+    row!("check" Collection Nothing Nothing Never Allocated),
+    row!("take" Collection Nothing Handles Never Taken),
+    row!("release" End Nothing Nothing IfMet Done),
+    row!("close" End Nothing Nothing IfDone Done),
+    row!("duph" Handle Strength Handles Never Done),
+    row!("droph" Handle Strength Nothing IfDone Done),
+    row!("giveh" Handle Gift Nothing IfDone Done),
+    row!("tracknode" End Nothing Tracker Never Tracker),
+    row!("tracklife" Collection Most Tracker Never Tracker),
+    row!("trackweak" Handle Nothing Tracker Never Tracker),
 ];
 
-fn target_name(on: Target) -> &'static str {
-    match on {
-        Target::Nothing => "Nothing",
-        Target::Token => "Token",
-        Target::Collection => "Collection",
-        Target::End => "End",
-        Target::Handle => "Handle",
-    }
-}
-
-fn form_name(says: ArgumentForm) -> &'static str {
-    match says {
-        ArgumentForm::Nothing => "Nothing",
-        ArgumentForm::Client => "Client",
-        ArgumentForm::Children => "Children",
-        ArgumentForm::Constraints => "Constraints",
-        ArgumentForm::Most => "Most",
-        ArgumentForm::Strength => "Strength",
-        ArgumentForm::Gift => "Gift",
-    }
-}
-
-fn product_name(brings: Product) -> &'static str {
-    match brings {
-        Product::Nothing => "Nothing",
-        Product::Client => "Client",
-        Product::Collection => "Collection",
-        Product::Node => "Node",
-        Product::Parcel => "Parcel",
-        Product::Handles => "Handles",
-        Product::Tracker => "Tracker",
-    }
-}
-
-fn spends_name(spends: Spends) -> &'static str {
-    match spends {
-        Spends::Never => "Never",
-        Spends::IfDone => "IfDone",
-        Spends::IfMet => "IfMet",
-    }
-}
-
-fn answer_name(answers: Answer) -> &'static str {
-    match answers {
-        Answer::Done => "Done",
-        Answer::Joined => "Joined",
-        Answer::Shut => "Shut",
-        Answer::Token => "Token",
-        Answer::Parcel => "Parcel",
-        Answer::Allocated => "Allocated",
-        Answer::Taken => "Taken",
-        Answer::Tracker => "Tracker",
-    }
-}
-
-// Whether the text is these words, with a space between them.
-fn has_words(text: &str, words: &[&str]) -> bool {
-    let mut told = text.split(' ');
-    for word in words {
-        if told.next() != Some(*word) {
-            return false;
+// Whether the kind of this number has this word, which names no other, and this row.
+fn has_row(number: u32, word: &str, row: CallRow) -> bool {
+    match kind_at(number) {
+        Some(kind) => {
+            word_of(kind) == word
+                && kind_named(word.as_bytes()) == Some(kind)
+                && row_of(kind) == row
         }
+        None => false,
     }
-    told.next().is_none()
-}
-
-// Whether the kind of this number has this row, and its word names it.
-fn has_row(number: u32, told: &str) -> bool {
-    let Some(kind) = kind_at(number) else {
-        return false;
-    };
-    let row = row_of(kind);
-    let words = [
-        word_of(kind),
-        target_name(row.on),
-        form_name(row.says),
-        product_name(row.brings),
-        spends_name(row.spends),
-        answer_name(row.answers),
-    ];
-    has_words(told, &words) && kind_named(word_of(kind).as_bytes()) == Some(kind)
 }
 
 // Whether each kind has its row, and there is no other kind.
 fn have_rows() -> bool {
     let mut number: u32 = 0;
-    for told in ROWS {
-        if !has_row(number, told) {
+    for (word, row) in &ROWS {
+        if !has_row(number, word, *row) {
             return false;
         }
         number = number.wrapping_add(1);
@@ -253,18 +195,28 @@ fn each_call_has_its_number_its_word_and_its_row(rt: HostRuntime) {
     assert!(rt; have_rows());
 }
 
+const KEY: NodeKey = NodeKey {
+    slot: 3,
+    generation: 1,
+};
+
+// Parts of no call.
+const OTHER: CallParts = CallParts {
+    kind: CallKind::Sync,
+    object: Object::Node(KEY),
+    argument: Argument::Client(7),
+};
+
+// Whether the parts of a call make that call, and others make none.
+fn are_parts() -> bool {
+    let made = match call_of(parts_of(Call::Give(KEY, 7))) {
+        Some(Call::Give(key, to)) => key == KEY && to == 7,
+        _ => false,
+    };
+    made && call_of(OTHER).is_none()
+}
+
 #[test]
 fn the_parts_of_a_call_make_that_call(rt: HostRuntime) {
-    let key = NodeKey {
-        slot: 3,
-        generation: 1,
-    };
-    let parts = parts_of(Call::Give(key, 7));
-    assert!(rt; call_of(parts) == Some(Call::Give(key, 7)));
-    let other = CallParts {
-        kind: CallKind::Sync,
-        object: Object::Node(key),
-        argument: Argument::Client(7),
-    };
-    assert!(rt; call_of(other).is_none());
+    assert!(rt; are_parts());
 }

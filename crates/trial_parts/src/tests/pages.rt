@@ -1,38 +1,54 @@
 //! That a refusal leaves a pool as it was.
 ghost use Rattle.std.specs.Prelude.{◌≤◌};
 
-use buffer_pool::{Pool, PoolFault};
+use super::tell_refusal;
+use buffer_pool::{Placed, Pool, PoolFault};
 use std::alloc::Global;
 
 // A pool of 64 pages. Where memory is refused, it is asked for again.
 fn new_pool(rt: &impl Print, alloc: Global) -> Option<Pool> {
-    for _ in 0..2 {
-        if let Ok(pool) = Pool::new(alloc, 64) {
-            return Some(pool);
+    match Pool::new(alloc, 64) {
+        Ok(pool) => Some(pool),
+        Err(_) => {
+            tell_refusal(rt);
+            Pool::new(alloc, 64).ok()
         }
-        let _ = println!(rt; "memory was refused");
     }
-    None
 }
 
-// Whether buffers are placed at last, the first at this start: a refusal leaves as many pages free.
+// Whether the first buffer has this start.
+fn is_at(placed: &Placed, first: u32) -> bool {
+    match placed.starts.first() {
+        Some(start) => *start == first,
+        None => false,
+    }
+}
+
+// Whether buffers are placed, the first at this start.
+fn places(pool: &mut Pool, count: u32, pages_each: u32, first: u32) -> bool
+    requires count { 1 ≤ count }
+    requires pages { 1 ≤ pages_each }
+{
+    match pool.place(count, pages_each) {
+        Ok(placed) => is_at(&placed, first),
+        Err(_) => false,
+    }
+}
+
+// The same at last: a refusal leaves as many pages free.
 fn places_at_last(rt: &impl Print, pool: &mut Pool, count: u32, pages_each: u32, first: u32) -> bool
     requires count { 1 ≤ count }
     requires pages { 1 ≤ pages_each }
 {
     let free = pool.free_pages();
-    for _ in 0..2 {
-        match pool.place(count, pages_each) {
-            Ok(placed) => return placed.starts.first().copied() == Some(first),
-            Err(fault) => {
-                let _ = println!(rt; "memory was refused");
-                if fault != PoolFault::NoMemory || pool.free_pages() != free {
-                    return false;
-                }
-            }
+    match pool.place(count, pages_each) {
+        Ok(placed) => is_at(&placed, first),
+        Err(PoolFault::NoMemory) => {
+            tell_refusal(rt);
+            pool.free_pages() == free && places(pool, count, pages_each, first)
         }
+        Err(_) => false,
     }
-    false
 }
 
 // Whether all pages are placed in three calls.

@@ -1,0 +1,43 @@
+//! The text that is written.
+use std::alloc::Global;
+use text_parts::{Part, push_parts};
+
+/// The lines that were played, with their answers. It remembers whether memory was refused, so that its callers need not
+/// ask at each part.
+#[derive(Drop)]
+pub struct Text {
+    bytes: Vec<u8>,
+    is_whole: bool,
+}
+
+impl Text {
+    /// No text.
+    pub fn new(alloc: Global) -> Text {
+        Text {
+            bytes: Vec::new(alloc),
+            is_whole: true,
+        }
+    }
+
+    /// Puts the parts behind what is there.
+    pub fn push(&mut self, parts: &[Part]) {
+        match push_parts(&mut self.bytes, parts) {
+            Ok(()) => {}
+            Err(_) => self.is_whole = false,
+        }
+    }
+
+    /// Puts a word behind what is there.
+    pub fn word(&mut self, word: &str) {
+        self.push(&[Part::Word(word)]);
+    }
+
+    /// The whole text. `None` if memory was refused for some of it.
+    pub fn whole(&self) -> Option<&[u8]> {
+        if self.is_whole {
+            Some(self.bytes.as_slice())
+        } else {
+            None
+        }
+    }
+}
