@@ -1,3 +1,4 @@
 pub mod Events
 pub mod Facts
 pub mod KeyMaps
+pub mod Walks

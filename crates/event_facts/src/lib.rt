@@ -9,9 +9,11 @@ pub mod keepers;
 mod key_maps;
 pub mod pages;
 pub mod takings;
+mod told;
 pub mod waits;
 pub mod ways;
 
 pub use before::Before;
 pub use event::{Event, fired_since, placed_by, take_event};
 pub use key_maps::{KeyMap, KeyRows, keys_of};
+pub use told::{Told, take_told};

@@ -7,7 +7,7 @@ use Rattle.sm_names.specs.Marks.{Mark}
 use Rattle.forest_store.specs.declared.change.Change.{Change}
 use Rattle.forest_store.specs.Forest.{Collection}
 use Rattle.forest_store.specs.Settling.{made}
-use Rattle.event_marks.specs.declared.told.Moment.{Moment}
+use Rattle.event_marks.specs.declared.moment.Moment.{Moment}
 use Rattle.event_marks.specs.Marks.{Stage, own_mark, own_stage, stages}
 use Rattle.event_marks.specs.Moments.{stage_of}
 use Rattle.event_marks.specs.Steps.{mark_told}

@@ -1,45 +1,9 @@
--- What a call that is taken came to, and how things stand before it.
-use Rattle.std.specs.Prelude.{◌≡◌, true, false, ⊤, Option, Some, None, Result}
-use Rattle.std.specs.List.{list_any}
-use Rattle.std.specs.Result.{result_map_both}
-use Rattle.sm_names.specs.declared.keys.NodeKey.{NodeKey}
-use Rattle.sm_names.specs.declared.messages.Reply.{Reply}
-use Rattle.sm_names.specs.declared.outcomes.StepFault.{StepFault}
-use Rattle.forest_store.specs.Forest.{beside}
-use Rattle.forest_store.specs.Nodes.{is_of}
-use Rattle.forest_store.specs.Scenes.{IsSound}
-use Rattle.forest_store.specs.Settling.{MayChange, collection_or_new}
-use Rattle.forest_store.specs.Forest.{given}
+-- A mark of an event that a walk finds, and the collection before it.
 use Rattle.forest_store.specs.Snapshots.{collection_of}
-use Rattle.core_state.specs.State.{State}
-use Rattle.core_state.specs.Steps.{Work, leaves_tracker_room}
-use Rattle.event_marks.specs.declared.told.Before.{Before}
-use Rattle.event_marks.specs.declared.told.Moment.{Moment}
-use Rattle.event_marks.specs.declared.told.Told.{Told}
+use Rattle.event_marks.specs.declared.moment.Moment.{Moment}
 use Rattle.event_marks.specs.Marks.{Stage}
 use Rattle.event_marks.specs.Steps.{mark_told}
 
 -- the mark, and the collection before it
 abbrev pub stage_of : Moment → Stage
 stage_of m = record { mark = mark_told m.mark; before = collection_of m.before }
-
--- the reply, or why the call was not taken
-abbrev pub reply_of : Result Told StepFault → Result Reply StepFault
-reply_of taken = result_map_both (λ (t : Told). t.reply) (λ fault. fault) taken
-
--- the collection that the work changes is copied, beside the pages of the others, and the work fits it
-pub record IsCopied (s : State) (w : Work) (b : Before) : Type 0 where
-  pub change : b.change ≡ w.change
-  pub scene : collection_of b.scene ≡ collection_or_new s.forest w.collection
-  pub others : b.others.items ≡ beside s.forest w.collection
-  pub sound : IsSound (collection_of b.scene)
-  pub may : MayChange s.forest w.collection w.change
-  pub room : leaves_tracker_room b.change b.scene.nodes.items ≡ true
-  pub fresh : (key : NodeKey) → given s.forest key ≡ false → list_any (is_of key) b.scene.nodes.items ≡ false
-
--- that is so of the work that there is, if there is some
-abbrev pub IsBefore : State → Option Work → Option Before → Type 0
-IsBefore s None None = ⊤
-IsBefore s None (Some b) = ⊥
-IsBefore s (Some w) None = ⊥
-IsBefore s (Some w) (Some b) = IsCopied s w b

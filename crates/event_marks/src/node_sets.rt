@@ -10,7 +10,7 @@ ghost use Rattle.event_marks.specs.KeySets.{climbed_past, climbs_into, has, join
 
 use crate::key_sets::KeySet;
 use crate::questions::is_live;
-use alloc_event::Node;
+use forest_store::Node;
 use sm_names::NodeKey;
 use std::alloc::{AllocError, Global};
 

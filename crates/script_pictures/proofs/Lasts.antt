@@ -2,7 +2,7 @@
 use Rattle.std.proofs.Common.{◌≡◌, refl, List, [], ◌∷◌, ◌++◌}
 use Rattle.sm_names.specs.declared.keys.NodeKey.{NodeKey}
 use Rattle.forest_store.specs.declared.node.Node.{Node}
-use Rattle.event_marks.specs.declared.told.Moment.{Moment}
+use Rattle.event_marks.specs.declared.moment.Moment.{Moment}
 use Rattle.script_pictures.specs.Albums.{marked, top_of, walked_from}
 
 -- the last mark decides

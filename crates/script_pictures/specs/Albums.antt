@@ -15,7 +15,7 @@ use Rattle.forest_store.specs.Nodes.{above_among, is_spent, node_of}
 use Rattle.forest_store.specs.Questions.{blocks_here, is_below}
 use Rattle.core_state.specs.State.{State}
 use Rattle.event_marks.specs.declared.decision.Forced.{Forced}
-use Rattle.event_marks.specs.declared.told.Moment.{Moment}
+use Rattle.event_marks.specs.declared.moment.Moment.{Moment}
 use Rattle.event_marks.specs.Explanations.{climb}
 use Rattle.event_facts.specs.declared.event.Event.{Event}
 use Rattle.script_pictures.specs.declared.album.Album.{Album}

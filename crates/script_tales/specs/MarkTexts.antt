@@ -6,7 +6,7 @@ use Rattle.sm_names.specs.declared.keys.NodeKey.{NodeKey}
 use Rattle.sm_names.specs.declared.outcomes.Buffers.{Buffers}
 use Rattle.forest_store.specs.declared.snapshot.Snapshot.{Snapshot}
 use Rattle.event_marks.specs.declared.decision.Forced.{Forced}
-use Rattle.event_marks.specs.declared.told.Moment.{Moment}
+use Rattle.event_marks.specs.declared.moment.Moment.{Moment}
 use Rattle.event_facts.specs.Events.{snapshot_held, scene_after}
 use Rattle.script_labels.specs.Names.{Names}
 use Rattle.script_tales.specs.EventTexts.{initial_text, logical_text}

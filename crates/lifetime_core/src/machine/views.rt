@@ -24,6 +24,7 @@ ghost use Rattle.core_state.specs.State.{Client as ClientRow};
 
 use super::Core;
 use alloc_event::{Node, Snapshot};
+use buffer_holds::Holds;
 use core_state::clients::ids_of;
 use core_state::reading::{cause, is_live};
 use sm_names::{
@@ -203,6 +204,13 @@ impl Core {
             result ≡ total_after (timeline self.now.pool history) buffer strength }
     {
         self.open_total(buffer, strength)
+    }
+
+    /// The counts of handles, open and in parcels. Costs O(1).
+    pub fn holds(&self) -> &Holds
+        ensures { result.now ≡ self.now.holds }
+    {
+        &self.contents.holds
     }
 
     /// A copy of the collection: its kept nodes by birth, its buffers, and by index those that hold

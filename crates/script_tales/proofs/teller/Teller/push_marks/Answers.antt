@@ -1,7 +1,7 @@
 use Rattle.std.proofs.Common.{◌∙◌, ap, sym, ℕ, List, ◌++◌, append_assoc, append-nil}
 use Rattle.std.proofs.lemmas.List.{nil_from_length}
 use Rattle.core_state.specs.Reads.{views_of}
-use Rattle.event_marks.specs.declared.told.Moment.{Moment}
+use Rattle.event_marks.specs.declared.moment.Moment.{Moment}
 use Rattle.event_facts.specs.Events.{scene_after}
 use Rattle.script_tales.specs.MarkTexts.{Placed, mark_text, marks_text, placed_in}
 use Rattle.script_tales.proofs.Marks.{placed_is}

@@ -7,8 +7,8 @@ use Rattle.forest_store.specs.Scenes.{IsSound}
 use Rattle.forest_store.specs.Settling.{changed}
 use Rattle.forest_store.specs.Snapshots.{collection_of}
 use Rattle.event_marks.specs.Moments.{stage_of}
-use Rattle.event_marks.proofs.Copied.{stages_walked}
-use Rattle.event_marks.proofs.told.walk.Goals as goal
+use Rattle.event_facts.proofs.Copied.{stages_walked}
+use Rattle.event_facts.proofs.told.walk.Goals as goal
 
 -- the copy is changed as the reply says
 pub settle-requires : goal.settle-requires

@@ -13,26 +13,18 @@ ghost use Rattle.core_state.specs.Reads.{readings_of};
 ghost use Rattle.core_state.specs.Shown.{Shows};
 ghost use Rattle.core_state.specs.Steps.{leaves_tracker_room, work_of};
 ghost use Rattle.core_state.specs.Theorem.{Stepped};
-ghost use Rattle.event_marks.specs.Marks.{AreStages, StagesOf, laid_on, own_stage};
-ghost use Rattle.event_marks.specs.Moments.{IsBefore, reply_of, stage_of};
+ghost use Rattle.event_marks.specs.Marks.{AreStages, StagesOf, laid_on};
+ghost use Rattle.event_marks.specs.Moments.{stage_of};
 ghost use Rattle.event_marks.specs.Steps.{mark_told};
+ghost use Rattle.event_facts.specs.Walks.{IsStart, reply_of};
 
-use crate::decision::Forced;
-use crate::forced_steps::settle;
-use crate::own_change::apply;
 use alloc_event::{Change, Snapshot};
+use event_marks::moment::own_moment;
+use event_marks::own_change::apply;
+use event_marks::{Moment, settle};
 use lifetime_core::Core;
-use sm_names::{
-    Call, ClientId, CollectionId, Fault, Interval, NoMemory, NodeKey, Reply, StepFault,
-};
+use sm_names::{Call, ClientId, CollectionId, Interval, NoMemory, NodeKey, Reply, StepFault};
 use std::alloc::{AllocError, Global};
-
-/// A mark of an event, and the collection before it.
-#[derive(Drop)]
-pub struct Moment {
-    pub mark: Forced,
-    pub before: Snapshot,
-}
 
 /// What a call was answered, and the marks of its event.
 #[derive(Drop)]
@@ -43,9 +35,10 @@ pub struct Told {
     pub moments: Option<Vec<Moment>>,
 }
 
-/// The collection that a call changes, and the pages of the others, as they stand before it.
+/// Where the walk over an event starts: the collection that a call changes, and the pages of the
+/// others, as they stand before it.
 #[derive(Drop)]
-pub(crate) struct Before {
+pub(crate) struct Start {
     pub(crate) change: Change,
     pub(crate) scene: Snapshot,
     pub(crate) others: Vec<Interval>,
@@ -91,17 +84,17 @@ pub fn take_told(
 }
 
 /// The collection that the call changes, if it changes one, as it stands now.
-fn copy_before(core: &Core, client: ClientId, call: &Call) -> Result<Option<Before>, NoMemory>
+fn copy_before(core: &Core, client: ClientId, call: &Call) -> Result<Option<Start>, NoMemory>
     ensures { IfOk result (λ before. (reply : Reply) →
         IsAnswer core.now.limits (readings_of core.now) client call.now reply →
-        IsBefore core.now (work_of core.now client call.now reply) before) }
+        IsStart core.now (work_of core.now client call.now reply) before) }
 {
     let Some((id, change)) = core.change_of(client, call) else {
         return Ok(None);
     };
     let others = core.pages_beside(id)?;
     let scene = copy_or_empty(core, *others.allocator(), id)?;
-    Ok(Some(Before {
+    Ok(Some(Start {
         change,
         scene,
         others,
@@ -138,7 +131,7 @@ fn empty(alloc: Global, id: CollectionId) -> Snapshot
 fn walk(
     core: &Core,
     alloc: Global,
-    before: Before,
+    before: Start,
     reply: &Reply,
 ) -> Result<Vec<Moment>, AllocError>
     requires room { leaves_tracker_room before.change before.scene.nodes.items ≡ true }
@@ -149,42 +142,14 @@ fn walk(
         (changed before.change (unwrap_or (new_key reply.now) no_key) (collection_of before.scene))
         (map stage_of moments.items)) }
 {
-    let Before {
+    let Start {
         change,
         mut scene,
         others,
     } = before;
     let moments = own_moment(alloc, &change, &scene)?;
     apply(&mut scene, &change, key_told(reply))?;
-    settle(&mut scene, core, core.pages(), &others, moments)
-}
-
-/// The moment of the loss that the change itself is, if it is one.
-fn own_moment(alloc: Global, change: &Change, scene: &Snapshot) -> Result<Vec<Moment>, AllocError>
-    ensures { IfOk result (λ moments. map stage_of moments.items
-        ≡ own_stage change.now (collection_of scene.now)) }
-{
-    let mut moments = Vec::new(alloc);
-    if let Change::Loss(origin, cause) = *change {
-        let mark = Forced::Loss(Fault { cause, origin });
-        let before = copy_of(scene)?;
-        moments.push(Moment { mark, before })?;
-    }
-    Ok(moments)
-}
-
-/// The same collection once more.
-pub(crate) fn copy_of(scene: &Snapshot) -> Result<Snapshot, AllocError>
-    ensures { IfOk result (λ copied. collection_of copied ≡ collection_of scene.now) }
-{
-    let nodes = scene.nodes.clone()?;
-    let held = scene.held.clone()?;
-    Ok(Snapshot {
-        id: scene.id,
-        nodes,
-        buffers: scene.buffers,
-        held,
-    })
+    settle(&mut scene, core.holds(), core.pages(), &others, moments)
 }
 
 /// The key of the new node in the reply, or any.

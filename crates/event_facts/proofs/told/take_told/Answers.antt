@@ -2,16 +2,17 @@ use Rattle.std.proofs.Common.{◌∙◌, ◌∷◌, [], ap, sym, subst, map, Lis
 use Rattle.sm_names.specs.Marks.{Called, Mark}
 use Rattle.sm_names.specs.Timelines.{timeline}
 use Rattle.core_state.specs.Steps.{work_of}
-use Rattle.event_marks.specs.declared.told.Before.{Before}
-use Rattle.event_marks.specs.declared.told.Moment.{Moment}
+use Rattle.event_facts.specs.declared.told.Start.{Start}
+use Rattle.event_marks.specs.declared.moment.Moment.{Moment}
 use Rattle.event_marks.specs.Marks.{AreStages, laid_on}
-use Rattle.event_marks.specs.Moments.{IsBefore, stage_of}
+use Rattle.event_marks.specs.Moments.{stage_of}
+use Rattle.event_facts.specs.Walks.{IsStart}
 use Rattle.event_marks.specs.Steps.{mark_told}
-use Rattle.event_marks.proofs.Copied.{changed_copy, if_ok_some, roomy_copy, unwalked, walked}
+use Rattle.event_facts.proofs.Copied.{changed_copy, if_ok_some, roomy_copy, unwalked, walked}
 use Rattle.event_marks.proofs.EventTold.{told_of_stages}
 use Rattle.event_marks.proofs.Staged.{marks_of_moments}
 use Rattle.std.proofs.Common.{rules}
-use Rattle.event_marks.proofs.told.take_told.Goals as goal
+use Rattle.event_facts.proofs.told.take_told.Goals as goal
 
 -- an event that changes nothing has no stage
 pub returns-in_default-before-clause-stages : goal.returns-in_default-before-clause-stages
@@ -20,7 +21,7 @@ returns-in_default-before-clause-stages c =
     (sym c.new.ensures.items)
     (unwalked c.args.core.now c.step.new.self c.in_ok-reply.reply
     (work_of c.args.core.now c.args.client c.args.call c.in_ok-reply.reply)
-    (subst (λ (o : Option Before). IsBefore c.args.core.now (work_of c.args.core.now c.args.client c.args.call c.in_ok-reply.reply) o)
+    (subst (λ (o : Option Start). IsStart c.args.core.now (work_of c.args.core.now c.args.client c.args.call c.in_ok-reply.reply) o)
     c.in_default-before.is (c.in-Ok.ensures c.in_ok-reply.reply c.in_ok-reply.ensures.answer)))
 
 pub returns-in_default-before-clause-shown : goal.returns-in_default-before-clause-shown
@@ -29,7 +30,7 @@ returns-in_default-before-clause-shown c history shows =
     c.in_ok-reply.ensures.answer c.in_ok-reply.ensures.after []
     (unwalked c.args.core.now c.step.new.self c.in_ok-reply.reply
     (work_of c.args.core.now c.args.client c.args.call c.in_ok-reply.reply)
-    (subst (λ (o : Option Before). IsBefore c.args.core.now (work_of c.args.core.now c.args.client c.args.call c.in_ok-reply.reply) o)
+    (subst (λ (o : Option Start). IsStart c.args.core.now (work_of c.args.core.now c.args.client c.args.call c.in_ok-reply.reply) o)
     c.in_default-before.is (c.in-Ok.ensures c.in_ok-reply.reply c.in_ok-reply.ensures.answer)))
     ∙ ap (λ (l : List Moment). laid_on (map (λ (m : Moment). mark_told m.mark) l)
     (Called c.args.client c.in_ok-reply.reply c.args.call ∷ timeline c.args.core.now.pool history)) (sym c.new.ensures.items)
@@ -39,13 +40,13 @@ pub walk-requires-clause-sound : goal.walk-requires-clause-sound
 walk-requires-clause-sound c =
     changed_copy c.args.core.now c.args.core.now.limits c.args.client c.args.call c.in_ok-reply.reply c.in-Some.before
     c.in_ok-reply.ensures.answer
-    (subst (λ (o : Option Before). IsBefore c.args.core.now (work_of c.args.core.now c.args.client c.args.call c.in_ok-reply.reply) o)
+    (subst (λ (o : Option Start). IsStart c.args.core.now (work_of c.args.core.now c.args.client c.args.call c.in_ok-reply.reply) o)
     c.in-Some.is (c.in-Ok.ensures c.in_ok-reply.reply c.in_ok-reply.ensures.answer))
 
 pub walk-requires-clause-room : goal.walk-requires-clause-room
 walk-requires-clause-room c =
     roomy_copy c.args.core.now (work_of c.args.core.now c.args.client c.args.call c.in_ok-reply.reply) c.in-Some.before
-    (subst (λ (o : Option Before). IsBefore c.args.core.now (work_of c.args.core.now c.args.client c.args.call c.in_ok-reply.reply) o)
+    (subst (λ (o : Option Start). IsStart c.args.core.now (work_of c.args.core.now c.args.client c.args.call c.in_ok-reply.reply) o)
     c.in-Some.is (c.in-Ok.ensures c.in_ok-reply.reply c.in_ok-reply.ensures.answer))
 
 -- the stages of the walk are those of the event
@@ -56,7 +57,7 @@ returns-clause-stages c =
     (λ ms by. walked c.args.core.now c.step.new.self c.in_ok-reply.reply
     (work_of c.args.core.now c.args.client c.args.call c.in_ok-reply.reply) c.in-Some.before (map stage_of ms.items)
     c.in_ok-reply.ensures.after.pool
-    (subst (λ (o : Option Before). IsBefore c.args.core.now (work_of c.args.core.now c.args.client c.args.call c.in_ok-reply.reply) o)
+    (subst (λ (o : Option Start). IsStart c.args.core.now (work_of c.args.core.now c.args.client c.args.call c.in_ok-reply.reply) o)
     c.in-Some.is (c.in-Ok.ensures c.in_ok-reply.reply c.in_ok-reply.ensures.answer)) by)
     c.walk.ensures)
 
@@ -71,7 +72,7 @@ returns-clause-shown c =
     (walked c.args.core.now c.step.new.self c.in_ok-reply.reply
     (work_of c.args.core.now c.args.client c.args.call c.in_ok-reply.reply) c.in-Some.before (map stage_of ms.items)
     c.in_ok-reply.ensures.after.pool
-    (subst (λ (o : Option Before). IsBefore c.args.core.now (work_of c.args.core.now c.args.client c.args.call c.in_ok-reply.reply) o)
+    (subst (λ (o : Option Start). IsStart c.args.core.now (work_of c.args.core.now c.args.client c.args.call c.in_ok-reply.reply) o)
     c.in-Some.is (c.in-Ok.ensures c.in_ok-reply.reply c.in_ok-reply.ensures.answer)) by)
     ∙ ap (λ (l : List Mark). laid_on l (Called c.args.client c.in_ok-reply.reply c.args.call ∷ timeline c.args.core.now.pool history))
     (marks_of_moments ms.items))

@@ -3,7 +3,7 @@ use Rattle.std.specs.Option.{IfSome, unwrap_or}
 use Rattle.forest_store.specs.Forest.{Collection}
 use Rattle.forest_store.specs.Scenes.{IsSound}
 use Rattle.forest_store.specs.Snapshots.{collection_of}
-use Rattle.event_marks.proofs.told.copy_or_empty.Goals as goal
+use Rattle.event_facts.proofs.told.copy_or_empty.Goals as goal
 
 pub returns-in_default-clause-value : goal.returns-in_default-clause-value
 returns-in_default-clause-value c =

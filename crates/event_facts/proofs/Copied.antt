@@ -26,9 +26,9 @@ use Rattle.core_state.specs.State.{State}
 use Rattle.core_state.specs.Steps.{Work, at_collection, at_node, leaves_tracker_room, work_of}
 use Rattle.core_state.proofs.forced.Dropping.{took_last}
 use Rattle.core_state.proofs.forced.Losing.{losing, no_work}
-use Rattle.event_marks.specs.declared.told.Before.{Before}
+use Rattle.event_facts.specs.declared.told.Start.{Start}
 use Rattle.event_marks.specs.Marks.{SettlesInStages, Stage, StagesIn, StagesOf, own_stage}
-use Rattle.event_marks.specs.Moments.{IsBefore, IsCopied}
+use Rattle.event_facts.specs.Walks.{IsCopied, IsStart}
 use Rattle.event_marks.proofs.Sound.{changed_sound}
 
 -- a work as a pair
@@ -48,9 +48,9 @@ some_paired (Some w) id change e =
     ap (λ (p : ℕ × Change). Some (record { collection = p.0; change = p.1 })) (sym (some-injective (id, change) (pair w) e))
 
 -- a copy of some collection is one before this work
-pub copied : (s : State) (o : Option Work) (id : ℕ) (b : Before) → o ≡ Some (record { collection = id; change = b.change }) →
-    IsCopied s (record { collection = id; change = b.change }) b → IsBefore s o (Some b)
-copied s o id b is copy = subst (λ (x : Option Work). IsBefore s x (Some b)) (sym is) copy
+pub copied : (s : State) (o : Option Work) (id : ℕ) (b : Start) → o ≡ Some (record { collection = id; change = b.change }) →
+    IsCopied s (record { collection = id; change = b.change }) b → IsStart s o (Some b)
+copied s o id b is copy = subst (λ (x : Option Work). IsStart s x (Some b)) (sym is) copy
 
 -- what an effect is, is no birth
 no_birth_effect : (s : State) (key : NodeKey) (effect : Effect) (w : Work) → at_node s.forest key (λ n. Change.Effect key effect) ≡ Some w →
@@ -100,12 +100,12 @@ birth_keyed s client (Call.TrackNode key) (Reply.Tracker id) w e birth fresh =
 birth_keyed s client _ _ w e birth fresh = no_work e
 
 -- the copy, once it is changed as the reply says, is sound
-pub changed_copy : (s : State) (limits : Bound) (client : ℕ) (call : Call) (reply : Reply) (b : Before) →
-    IsAnswer limits (readings_of s) client call reply → IsBefore s (work_of s client call reply) (Some b) →
+pub changed_copy : (s : State) (limits : Bound) (client : ℕ) (call : Call) (reply : Reply) (b : Start) →
+    IsAnswer limits (readings_of s) client call reply → IsStart s (work_of s client call reply) (Some b) →
     IsSound (changed b.change (unwrap_or (new_key reply) no_key) (collection_of b.scene))
 changed_copy s limits client call reply b answer before = by (work_of s client call reply) refl before
   where
-    by : (o : Option Work) → work_of s client call reply ≡ o → IsBefore s o (Some b) →
+    by : (o : Option Work) → work_of s client call reply ≡ o → IsStart s o (Some b) →
         IsSound (changed b.change (unwrap_or (new_key reply) no_key) (collection_of b.scene))
     by None e absent = absurd absent
     by (Some w) e copy =
@@ -119,13 +119,13 @@ changed_copy s limits client call reply b answer before = by (work_of s client c
         (subst (λ (x : Change). IsSound (changed x key (collection_or_new s.forest w.collection))) (sym copy.change) sound)
 
 -- there is room for its trackers
-pub roomy_copy : (s : State) (o : Option Work) (b : Before) → IsBefore s o (Some b) → leaves_tracker_room b.change b.scene.nodes.items ≡ true
+pub roomy_copy : (s : State) (o : Option Work) (b : Start) → IsStart s o (Some b) → leaves_tracker_room b.change b.scene.nodes.items ≡ true
 roomy_copy s None b absent = absurd absent
 roomy_copy s (Some w) b copy = copy.room
 
 -- the stages of the walk over the copy are those of the event
-pub walked : (old new : State) (reply : Reply) (o : Option Work) (b : Before) (st : List Stage) → new.pool ≡ old.pool →
-    IsBefore old o (Some b) → StagesOf new.pool (total new.holds) b.others.items b.change (collection_of b.scene)
+pub walked : (old new : State) (reply : Reply) (o : Option Work) (b : Start) (st : List Stage) → new.pool ≡ old.pool →
+    IsStart old o (Some b) → StagesOf new.pool (total new.holds) b.others.items b.change (collection_of b.scene)
     (changed b.change (unwrap_or (new_key reply) no_key) (collection_of b.scene)) st →
     StagesIn old (total new.holds) reply o st
 walked old new reply None b st same absent by = absurd absent
@@ -140,7 +140,7 @@ walked old new reply (Some w) b st same copy by =
     (changed b.change (unwrap_or (new_key reply) no_key) (collection_of b.scene)) st) same by)))
 
 -- and where nothing was copied, there is none
-pub unwalked : (old new : State) (reply : Reply) (o : Option Work) → IsBefore old o None → StagesIn old (total new.holds) reply o []
+pub unwalked : (old new : State) (reply : Reply) (o : Option Work) → IsStart old o None → StagesIn old (total new.holds) reply o []
 unwalked old new reply None none = refl
 unwalked old new reply (Some w) absent = absurd absent
 
