@@ -145,15 +145,16 @@ unwalked old new reply None none = refl
 unwalked old new reply (Some w) absent = absurd absent
 
 -- what a walk made of equal things are the stages of the change
-pub stages_walked : (pool size : ℕ) (handles : Handles) (others beyond : List Interval) (change : Change) (c from start left : Collection)
-    (own st : List Stage) → pool ≡ size → others ≡ beyond → from ≡ start → own ≡ own_stage change c →
-    SettlesInStages pool handles others from left own st → StagesOf size handles beyond change c start st
-stages_walked pool size handles others beyond change c from start left own st pools pages starts owns by = (
+pub stages_walked : (pool size : ℕ) (counted handles : Handles) (others beyond : List Interval) (change : Change)
+    (c from start left : Collection) (own st : List Stage) → pool ≡ size → counted ≡ handles → others ≡ beyond → from ≡ start →
+    own ≡ own_stage change c → SettlesInStages pool counted others from left own st → StagesOf size handles beyond change c start st
+stages_walked pool size counted handles others beyond change c from start left own st pools counts pages starts owns by = (
   left,
   subst (λ (p : ℕ). SettlesInStages p handles beyond start left (own_stage change c) st) pools
-      (subst (λ (is : List Interval). SettlesInStages pool handles is start left (own_stage change c) st) pages
-      (subst (λ (x : Collection). SettlesInStages pool handles others x left (own_stage change c) st) starts
-      (subst (λ (o : List Stage). SettlesInStages pool handles others from left o st) owns by))),
+      (subst (λ (h : Handles). SettlesInStages pool h beyond start left (own_stage change c) st) counts
+      (subst (λ (is : List Interval). SettlesInStages pool counted is start left (own_stage change c) st) pages
+      (subst (λ (x : Collection). SettlesInStages pool counted others x left (own_stage change c) st) starts
+      (subst (λ (o : List Stage). SettlesInStages pool counted others from left o st) owns by)))),
 )
 
 -- what holds where a result is there holds of it as an option

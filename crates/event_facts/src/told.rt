@@ -128,12 +128,7 @@ fn empty(alloc: Global, id: CollectionId) -> Snapshot
 }
 
 /// Makes the change to the copy, and then the steps that it forces, and answers the moments.
-fn walk(
-    core: &Core,
-    alloc: Global,
-    before: Start,
-    reply: &Reply,
-) -> Result<Vec<Moment>, AllocError>
+fn walk(core: &Core, alloc: Global, before: Start, reply: &Reply) -> Result<Vec<Moment>, AllocError>
     requires room { leaves_tracker_room before.change before.scene.nodes.items ≡ true }
     requires sound { IsSound (changed before.change (unwrap_or (new_key reply.now) no_key)
         (collection_of before.scene)) }

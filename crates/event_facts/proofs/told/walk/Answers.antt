@@ -21,9 +21,10 @@ settle-requires c =
 pub returns : goal.returns
 returns c =
     IfOk-weaker c.settle.result _ _
-    (λ all by. stages_walked c.pages.result c.args.core.now.pool (total c.args.core.now.holds) c.deref.result.now c.args.before.others.items
-    c.args.before.change (collection_of c.args.before.scene) (collection_of c.apply.new.scene) _ (collection_of c.settle.new.scene)
-    (map stage_of c.in_ok-moments.moments.items) (map stage_of all.items) c.pages.ensures c.deref.ensures.value
+    (λ all by. stages_walked c.pages.result c.args.core.now.pool (total c.holds.result.now) (total c.args.core.now.holds) c.deref.result.now
+    c.args.before.others.items c.args.before.change (collection_of c.args.before.scene) (collection_of c.apply.new.scene) _
+    (collection_of c.settle.new.scene) (map stage_of c.in_ok-moments.moments.items) (map stage_of all.items) c.pages.ensures
+    (ap total c.holds.ensures) c.deref.ensures.value
     (c.in_ok-apply.ensures ∙ ap (λ (k : NodeKey). changed c.args.before.change k (collection_of c.args.before.scene)) c.key_told.ensures)
     c.in_ok-moments.ensures by)
     c.settle.ensures
