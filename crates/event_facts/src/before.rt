@@ -6,7 +6,7 @@ ghost use Rattle.core_state.specs.Reads.{readings_of};
 ghost use Rattle.event_facts.specs.Events.{IsSnapshot, IsSetOf, changed_on, concerned_by, is_doomed_in};
 
 use crate::pages::doomed_of;
-use alloc_event::Snapshot;
+use forest_store::Snapshot;
 use lifetime_core::Core;
 use sm_names::{Call, ClientId, CollectionId, NoMemory};
 

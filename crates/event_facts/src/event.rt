@@ -14,8 +14,8 @@ ghost use Rattle.event_facts.specs.Events.{IsSnapshot, IsCopiedAfter, IsSetOf, c
 use crate::before::{Before, look};
 use crate::pages::{doomed_of, without};
 use crate::told::take_told;
-use alloc_event::{Node, Snapshot};
 use event_marks::Moment;
+use forest_store::{Node, Snapshot};
 use lifetime_core::Core;
 use sm_names::{Buffers, Call, ClientId, Fired, HeldBuffer, NoMemory, Reply, StepFault};
 use std::alloc::Global;

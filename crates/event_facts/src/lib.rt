@@ -1,4 +1,4 @@
-//! The facts of an event, on nodes, buffers and handles: the way of a failure, the children that fail
+//! The facts of an event, on nodes, buffers and handles: its marks, the way of a failure, the children that fail
 //! with each node, who keeps which pages, which pages were given back, and which trackers fired. None
 //! of them is text.
 #![tactic(auto)]

@@ -8,9 +8,9 @@ ghost use Rattle.event_facts.specs.Facts.{is_handed, is_handed_past, is_lost_wit
 ghost use Rattle.event_facts.specs.KeyMaps.{values_at};
 
 use crate::key_maps::{KeyRows, keys_of};
-use alloc_event::Node;
 use event_marks::key_sets::KeySet;
 use event_marks::node_sets::nodes_under;
+use forest_store::Node;
 use sm_names::NodeKey;
 use std::alloc::{AllocError, Global};
 

@@ -18,10 +18,10 @@ ghost use Rattle.event_marks.specs.Moments.{stage_of};
 ghost use Rattle.event_marks.specs.Steps.{mark_told};
 ghost use Rattle.event_facts.specs.Walks.{IsStart, reply_of};
 
-use alloc_event::{Change, Snapshot};
 use event_marks::moment::own_moment;
 use event_marks::own_change::apply;
 use event_marks::{Moment, settle};
+use forest_store::{Change, Snapshot};
 use lifetime_core::Core;
 use sm_names::{Call, ClientId, CollectionId, Interval, NoMemory, NodeKey, Reply, StepFault};
 use std::alloc::{AllocError, Global};

@@ -7,9 +7,9 @@ ghost use Rattle.event_marks.specs.Explanations.{climb};
 ghost use Rattle.event_marks.specs.KeySets.{has};
 ghost use Rattle.event_facts.specs.Facts.{stop_of};
 
-use alloc_event::Node;
 use event_marks::key_sets::KeySet;
 use event_marks::node_sets::blocking_nodes;
+use forest_store::Node;
 use sm_names::NodeKey;
 use std::alloc::AllocError;
 

@@ -8,9 +8,9 @@ ghost use Rattle.script_labels.specs.Tables.{Keeps};
 ghost use Rattle.script_tales.specs.Called.{Calls};
 ghost use Rattle.picture_dot.specs.DotPictures.{asked_line, border_text, box_head, box_lines, box_text, look_text, width_text};
 
-use alloc_event::Node;
 use event_facts::keys_of;
 use event_marks::key_sets::KeySet;
+use forest_store::Node;
 use script_labels::Tables;
 use script_lines::push;
 use script_pictures::colors::{edge_color, fill_color, ink_color};

@@ -8,9 +8,9 @@ ghost use Rattle.script_pictures.specs.Travels.{FindsTravels};
 ghost use Rattle.picture_dot.specs.DotPictures.{arrow_text, link_begin, dot_way_text, leaves_of as leaves_in, link_of, link_text, links_text, middle_of, parent_among, stop_words, table_link, table_link_of};
 
 use crate::tables::has_table;
-use alloc_event::Node;
 use event_facts::KeyMap;
 use event_marks::key_sets::KeySet;
+use forest_store::Node;
 use script_lines::push;
 use script_pictures::{Travel, Tree, Way, nodes_by_key, parents_among, way_of};
 use std::alloc::AllocError;

@@ -9,9 +9,9 @@ ghost use Rattle.event_facts.specs.KeyMaps.{HasKeys};
 ghost use Rattle.picture_layout.specs.Layouts.{FindsPlaces, box_of, boxes_from, boxes_of as all_boxes, column_of, columns_of as all_columns, corner_at as corner_in, corner_of, corner_or as corner_in_or, corners_of as all_corners, depth_below, depths_of as all_depths, lowest_of, number_at as number_in, parent_place, place_above, places_above, rightmost_of, taken_columns, widened, widths_of as all_widths, with_number as with_number_in};
 
 use crate::lengths::{minus, plus, times};
-use alloc_event::Node;
 use event_facts::{KeyMap, keys_of};
 use event_marks::key_sets::KeySet;
+use forest_store::Node;
 use sm_names::NodeKey;
 use std::alloc::{AllocError, Global};
 

@@ -8,7 +8,7 @@ ghost use Rattle.script_pictures.specs.Features.{place_text};
 ghost use Rattle.picture_svg.specs.Trees.{line_items, name_words, node_lines as lines_of};
 
 use crate::tree::sign_of;
-use alloc_event::Node;
+use forest_store::Node;
 use script_labels::Tables;
 use script_pictures::{class_of, push_asked_line, push_kind_line, push_place, push_state_line};
 use script_tales::Teller;

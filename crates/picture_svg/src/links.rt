@@ -6,8 +6,8 @@ ghost use Rattle.script_pictures.specs.Travels.{FindsTravels};
 ghost use Rattle.picture_svg.specs.Links.{svg_arrow, svg_stop_end, box_link, svg_end, foot_corner, head_corner, line_color, line_dashes, line_start, svg_line, line_width, svg_link, path_text, svg_stop, way_path};
 
 use crate::elements::{push_step, push_word};
-use alloc_event::Node;
 use event_facts::KeyMap;
+use forest_store::Node;
 use picture_layout::{BOX_HEIGHT, Corner, NodeBox, ROW_GAP, minus, plus};
 use script_lines::push;
 use script_pictures::colors::{GREY, INK, RED};

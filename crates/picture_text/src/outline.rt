@@ -4,8 +4,8 @@ ghost use Rattle.forest_store.specs.declared.node.Node.{Node as Kept};
 ghost use Rattle.script_pictures.specs.Kin.{FindsChildren};
 ghost use Rattle.picture_text.specs.Outlines.{begin_text, branch_of, first_branches, line_of_row, line_of_branch, outline, stem_text, twig, twigs, twigs_below};
 
-use alloc_event::Node;
 use event_facts::KeyRows;
+use forest_store::Node;
 use script_lines::push;
 use script_pictures::children_by_key;
 use std::alloc::{AllocError, Global};

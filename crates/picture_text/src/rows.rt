@@ -10,9 +10,9 @@ ghost use Rattle.picture_text.specs.Outlines.{line_of_row};
 ghost use Rattle.picture_text.specs.TextPictures.{asked_text, buffer_row, dispensable_text, facts_text, fallen_text, full_name as full_name_of, in_parentheses, keepers_text, live_text, name_cell, node_mark as mark_in, pages_row, released_text, row_text, row_width as width_of_row, sign_of_class, signs_of_node, state_text, told_row, weak_text, widest_row};
 
 use crate::outline::Row;
-use alloc_event::Node;
 use event_facts::keys_of;
 use event_marks::key_sets::KeySet;
+use forest_store::Node;
 use script_labels::{Tables, push_cause};
 use script_lines::push;
 use script_pictures::{Class, Tree, class_of, gap_behind, kind_name, push_pages, push_place};

@@ -13,12 +13,12 @@ ghost use Rattle.script_pictures.specs.Kin.{FindsNodes};
 ghost use Rattle.script_pictures.specs.Seen.{named_in};
 
 use crate::kin::nodes_by_key;
-use alloc_event::{End, Node};
 use event_facts::ways::way_up;
 use event_facts::{Event, KeyMap};
 use event_marks::key_sets::KeySet;
 use event_marks::node_sets::nodes_under;
 use event_marks::{Forced, Moment};
+use forest_store::{End, Node};
 use lifetime_core::Core;
 use script_labels::Stop;
 use sm_names::{Call, CollectionId, Fault, NodeKey, Object, Reply, parts_of};

@@ -4,7 +4,7 @@ ghost use Rattle.script_labels.specs.Names.{Names};
 ghost use Rattle.script_tales.specs.Called.{Calls};
 ghost use Rattle.script_pictures.specs.Features.{class_of as class_in, gap_behind as gap_behind_nodes, kind_text, pages_text, place_text};
 
-use alloc_event::{End, Node};
+use forest_store::{End, Node};
 use script_lines::push;
 use script_tales::Labels;
 use sm_names::{Interval, NodeKey};

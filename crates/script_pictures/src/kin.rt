@@ -2,9 +2,9 @@
 ghost use Rattle.std.specs.Prelude.{IfOk};
 ghost use Rattle.script_pictures.specs.Kin.{AreParents, FindsChildren, FindsNodes};
 
-use alloc_event::Node;
 use event_facts::{KeyMap, KeyRows};
 use event_marks::key_sets::KeySet;
+use forest_store::Node;
 use std::alloc::AllocError;
 
 /// The nodes by their keys. Costs O(n log n) for n nodes.

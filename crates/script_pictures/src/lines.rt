@@ -6,7 +6,7 @@ ghost use Rattle.script_tales.specs.Called.{Calls, last_label, other_text};
 ghost use Rattle.script_pictures.specs.BoxLines.{also_text, asked_words, dispensable_words as dispensable_text, fallen_words, header_text, kind_words, least_words, own_cause, released_words as released_text, state_words, weak_words as weak_text};
 
 use crate::features::{Class, class_of, kind_name, push_place};
-use alloc_event::Node;
+use forest_store::Node;
 use script_labels::{Tables, push_cause};
 use script_lines::push;
 use script_tales::Teller;

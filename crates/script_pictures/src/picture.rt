@@ -8,11 +8,11 @@ ghost use Rattle.script_pictures.specs.Seen.{IsTree, held_of_collection, seen_in
 
 use crate::album::Album;
 use crate::travel::{Travel, travels};
-use alloc_event::{End, Node, Snapshot};
 use event_facts::keepers::strong_live;
 use event_facts::pages::given_back;
 use event_facts::{Before, Event, placed_by};
 use event_marks::{Forced, Moment};
+use forest_store::{End, Node, Snapshot};
 use lifetime_core::Core;
 use script_labels::Stop;
 use script_lines::line_end;

@@ -3,11 +3,11 @@ ghost use Rattle.std.specs.Prelude.{◌≡◌, IfOk, List};
 ghost use Rattle.script_pictures.specs.declared.travel.Travel.{Travel as Link};
 ghost use Rattle.script_pictures.specs.Travels.{FindsTravels, way_in};
 
-use alloc_event::{Node, Snapshot};
 use event_facts::KeyMap;
 use event_facts::takings::taken_under;
 use event_facts::ways::{find, way_up};
 use event_marks::{Forced, Moment};
+use forest_store::{Node, Snapshot};
 use sm_names::{Fault, NodeKey};
 use std::alloc::{AllocError, Global};
 use std::collections::BTreeMap;

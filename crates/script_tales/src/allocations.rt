@@ -7,8 +7,8 @@ ghost use Rattle.script_labels.specs.Texts.{held_text};
 ghost use Rattle.script_tales.specs.EventTexts.{at_least_text, camp_text, camped_in, camping_in, camps_text, given_text, initial_text, logical_text, nobody_text, pages_line, reserved_text, shared_text};
 
 use crate::words::shown;
-use alloc_event::{Node, Snapshot};
 use event_marks::demand::reserved;
+use forest_store::{Node, Snapshot};
 use script_labels::{Tables, push_held};
 use script_lines::push;
 use sm_names::{Buffers, HeldBuffer, NodeKey};

@@ -7,11 +7,11 @@ ghost use Rattle.event_facts.specs.KeyMaps.{values_at};
 ghost use Rattle.script_tales.specs.LossTexts.{below_text, camped_text, down_text, end_text, failed_text, failure_text, fault_text, few_text, full_text, handed_by, handing_text, last_of, least_text, loss_text, many_text, next_above, size_in, small_text, stop_text, up_text, way_text, why_text};
 
 use crate::words::{PAGE, misuse_words, push_name, push_nodes, shown};
-use alloc_event::{Node, Snapshot};
 use event_facts::KeyRows;
 use event_facts::takings::{handed_on, taken_under};
 use event_facts::ways::{Stop, stop_at, way_up};
 use event_marks::demand::{TotalDemand, reserved, total_demand};
+use forest_store::{Node, Snapshot};
 use script_labels::{Tables, push_cause};
 use script_lines::push;
 use sm_names::{Buffers, Cause, Failure, Fault, MAX_BUFFERS, NodeKey};

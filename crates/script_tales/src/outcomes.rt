@@ -9,9 +9,9 @@ ghost use Rattle.script_tales.specs.EventTexts.{doomed_text, end_holder, fires_t
 use crate::allocations::push_each_held;
 use crate::labels::Labels;
 use crate::words::{push_client, push_set};
-use alloc_event::{End, Node};
 use event_facts::waits::awaited;
 use event_facts::ways::find;
+use forest_store::{End, Node};
 use script_labels::Tables;
 use script_lines::push;
 use sm_names::{CollectionId, Fired, HeldBuffer, NodeKey};

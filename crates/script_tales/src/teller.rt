@@ -14,11 +14,11 @@ use crate::keepers::{push_kept, push_kept_by_nodes};
 use crate::labels::Labels;
 use crate::losses::{push_end, push_loss};
 use crate::outcomes::{push_doomed, push_fires, push_free, push_waits};
-use alloc_event::Snapshot;
 use event_facts::keepers::strong_live;
 use event_facts::pages::given_back;
 use event_facts::{Before, Event, fired_since, placed_by, take_event};
 use event_marks::{Forced, Moment};
+use forest_store::Snapshot;
 use script_labels::{Act, Binds, Stop};
 use script_lines::{Label, push_label};
 use sm_names::{
