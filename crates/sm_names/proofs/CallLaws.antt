@@ -71,14 +71,3 @@ made CallKind.TrackNode object argument call is = plain_end CallKind.TrackNode C
 made CallKind.TrackLifetime (Object.Node key) (Argument.Most x) call is = same_parts (Call.TrackLifetime key x) call is
 made CallKind.TrackLifetime object argument call is = cc
 made CallKind.TrackWeak object argument call is = plain_handle CallKind.TrackWeak Call.TrackWeak (λ buffer. refl) object argument call is
-
--- ---- a call of parts without an argument that name a node
-
--- the parts are this node alone
-pub plain_made : (kind : CallKind) (object : Object NodeKey BufferName) (argument : Argument ℕ) (key : NodeKey) →
-    plain_key object argument ≡ Some key → call_made kind object argument ≡ call_made kind (Object.Node key) Argument.Nothing
-plain_made kind (Object.Node k) Argument.Nothing key is =
-    let same : k ≡ key = cc in ap (λ (x : NodeKey). call_made kind (Object.Node x) Argument.Nothing) same
-plain_made kind Object.Nothing Argument.Nothing key is = cc
-plain_made kind (Object.Buffer buffer) Argument.Nothing key is = cc
-plain_made kind _ _ key is = cc

@@ -2,7 +2,7 @@
 ghost use Rattle.std.specs.Prelude.{◌≡◌, slice_get};
 ghost use Rattle.std.specs.List.{position};
 ghost use Rattle.std.specs.Str.{bytes_eq};
-ghost use Rattle.sm_names.specs.CallRows.{call_made, call_of as made_of, children_in as children_said, client_in as client_said, constraints_in as constraints_said, gift_in as gift_said, kind_at as kind_numbered, kind_named as kind_spelled, most_in as most_said, object_buffer as buffer_in, object_key as key_in, only as only_call, parts as parts_told, parts_of as parts_made, plain_buffer as plain_buffer_in, plain_key as plain_key_in, row as row_told, row_of as row_at, strength_in as strength_said, word_of as word_spelled};
+ghost use Rattle.sm_names.specs.CallRows.{call_made, call_of as made_of, kind_at as kind_numbered, kind_named as kind_spelled, object_buffer as buffer_in, object_key as key_in, parts as parts_told, parts_of as parts_made, row as row_told, row_of as row_at, word_of as word_spelled};
 
 use crate::call_parts::{
     Answer, Argument, ArgumentForm, CallParts, CallRow, Object, Product, Spends, Target,
@@ -162,20 +162,6 @@ pub fn parts_of(call: Call) -> CallParts
     }
 }
 
-// This call, if there is neither an object nor an argument.
-fn only(
-    object: Object<NodeKey, BufferName>,
-    argument: Argument<ClientId>,
-    call: Call,
-) -> Option<Call>
-    ensures { result ≡ only_call object argument call }
-{
-    match (object, argument) {
-        (Object::Nothing, Argument::Nothing) => Some(call),
-        _ => None,
-    }
-}
-
 /// The node that the object is, if it is one. Takes a constant time, as do those below.
 pub fn object_key(object: Object<NodeKey, BufferName>) -> Option<NodeKey>
     ensures { result ≡ key_in object }
@@ -192,89 +178,6 @@ pub fn object_buffer(object: Object<NodeKey, BufferName>) -> Option<BufferName>
 {
     match object {
         Object::Buffer(buffer) => Some(buffer),
-        _ => None,
-    }
-}
-
-// The node, if there is no argument.
-fn plain_key(object: Object<NodeKey, BufferName>, argument: Argument<ClientId>) -> Option<NodeKey>
-    ensures { result ≡ plain_key_in object argument }
-{
-    match argument {
-        Argument::Nothing => object_key(object),
-        _ => None,
-    }
-}
-
-// The buffer, if there is no argument.
-fn plain_buffer(
-    object: Object<NodeKey, BufferName>,
-    argument: Argument<ClientId>,
-) -> Option<BufferName>
-    ensures { result ≡ plain_buffer_in object argument }
-{
-    match argument {
-        Argument::Nothing => object_buffer(object),
-        _ => None,
-    }
-}
-
-// The client alone.
-fn client_in(argument: Argument<ClientId>) -> Option<ClientId>
-    ensures { result ≡ client_said argument }
-{
-    match argument {
-        Argument::Client(to) => Some(to),
-        _ => None,
-    }
-}
-
-// Whether for children too.
-fn children_in(argument: Argument<ClientId>) -> Option<bool>
-    ensures { result ≡ children_said argument }
-{
-    match argument {
-        Argument::Children(children) => Some(children),
-        _ => None,
-    }
-}
-
-// The constraints.
-fn constraints_in(argument: Argument<ClientId>) -> Option<Constraints>
-    ensures { result ≡ constraints_said argument }
-{
-    match argument {
-        Argument::Constraints(constraints) => Some(constraints),
-        _ => None,
-    }
-}
-
-// The number of buffers.
-fn most_in(argument: Argument<ClientId>) -> Option<u32>
-    ensures { result ≡ most_said argument }
-{
-    match argument {
-        Argument::Most(most) => Some(most),
-        _ => None,
-    }
-}
-
-// The strength alone.
-fn strength_in(argument: Argument<ClientId>) -> Option<Strength>
-    ensures { result ≡ strength_said argument }
-{
-    match argument {
-        Argument::Strength(strength) => Some(strength),
-        _ => None,
-    }
-}
-
-// The strength with the client.
-fn gift_in(argument: Argument<ClientId>) -> Option<(Strength, ClientId)>
-    ensures { result ≡ gift_said argument }
-{
-    match argument {
-        Argument::Gift(strength, to) => Some((strength, to)),
         _ => None,
     }
 }
@@ -299,35 +202,74 @@ fn plain_call(kind: CallKind, key: NodeKey) -> Option<Call>
     }
 }
 
+// The call of this kind on nothing, if there is one.
+fn bare_call(kind: CallKind) -> Option<Call>
+    ensures { result ≡ call_made kind Object.Nothing Argument.Nothing }
+{
+    match kind {
+        CallKind::Join => Some(Call::Join),
+        CallKind::Shut => Some(Call::Shut),
+        CallKind::OpenRoot => Some(Call::OpenRoot),
+        CallKind::Collect => Some(Call::Collect),
+        _ => None,
+    }
+}
+
+// The call of this kind on a node with this argument, if there is one.
+fn node_call(kind: CallKind, key: NodeKey, argument: Argument<ClientId>) -> Option<Call>
+    ensures { result ≡ call_made kind (Object.Node key) argument }
+{
+    match argument {
+        Argument::Nothing => plain_call(kind, key),
+        Argument::Client(to) => match kind {
+            CallKind::Give => Some(Call::Give(key, to)),
+            _ => None,
+        },
+        Argument::Children(children) => match kind {
+            CallKind::SetWeakOk => Some(Call::SetWeakOk(key, children)),
+            _ => None,
+        },
+        Argument::Constraints(constraints) => match kind {
+            CallKind::SetConstraints => Some(Call::SetConstraints(key, constraints)),
+            _ => None,
+        },
+        Argument::Most(most) => match kind {
+            CallKind::TrackLifetime => Some(Call::TrackLifetime(key, most)),
+            _ => None,
+        },
+        _ => None,
+    }
+}
+
+// The call of this kind on handles of a buffer with this argument, if there is one.
+fn buffer_call(kind: CallKind, buffer: BufferName, argument: Argument<ClientId>) -> Option<Call>
+    ensures { result ≡ call_made kind (Object.Buffer buffer) argument }
+{
+    match (kind, argument) {
+        (CallKind::DupHandle, Argument::Strength(strength)) => Some(Call::DupHandle(
+            buffer, strength,
+        )),
+        (CallKind::DropHandle, Argument::Strength(strength)) => Some(Call::DropHandle(
+            buffer, strength,
+        )),
+        (CallKind::GiveHandle, Argument::Gift(strength, to)) => Some(Call::GiveHandle(
+            buffer, strength, to,
+        )),
+        (CallKind::TrackWeak, Argument::Nothing) => Some(Call::TrackWeak(buffer)),
+        _ => None,
+    }
+}
+
 /// The call of these parts, or `None` if the object or the argument does not fit the kind. Takes a
 /// constant time.
-#[tactic(auto, using(crate::proofs::CallLaws::plain_made))]
 pub fn call_of(parts: CallParts) -> Option<Call>
     ensures { result ≡ made_of parts }
 {
-    let on = parts.object;
-    let says = parts.argument;
-    match parts.kind {
-        CallKind::Join => only(on, says, Call::Join),
-        CallKind::Shut => only(on, says, Call::Shut),
-        CallKind::OpenRoot => only(on, says, Call::OpenRoot),
-        CallKind::Collect => only(on, says, Call::Collect),
-        CallKind::Give => Some(Call::Give(object_key(on)?, client_in(says)?)),
-        CallKind::SetWeakOk => Some(Call::SetWeakOk(object_key(on)?, children_in(says)?)),
-        CallKind::SetConstraints => Some(Call::SetConstraints(
-            object_key(on)?,
-            constraints_in(says)?,
-        )),
-        CallKind::TrackLifetime => Some(Call::TrackLifetime(object_key(on)?, most_in(says)?)),
-        CallKind::DupHandle => Some(Call::DupHandle(object_buffer(on)?, strength_in(says)?)),
-        CallKind::DropHandle => Some(Call::DropHandle(object_buffer(on)?, strength_in(says)?)),
-        CallKind::GiveHandle => {
-            let buffer = object_buffer(on)?;
-            let (strength, to) = gift_in(says)?;
-            Some(Call::GiveHandle(buffer, strength, to))
-        }
-        CallKind::TrackWeak => Some(Call::TrackWeak(plain_buffer(on, says)?)),
-        kind => plain_call(kind, plain_key(on, says)?),
+    match (parts.object, parts.argument) {
+        (Object::Nothing, Argument::Nothing) => bare_call(parts.kind),
+        (Object::Nothing, _) => None,
+        (Object::Node(key), argument) => node_call(parts.kind, key, argument),
+        (Object::Buffer(buffer), argument) => buffer_call(parts.kind, buffer, argument),
     }
 }
 
