@@ -2,6 +2,7 @@
 use super::tell_refusal;
 use fixture::{Gone, Line};
 use sm_names::{NodeKey, TrackerId};
+use std::alloc::Global;
 use std::thread;
 use std::thread::Threads;
 use trackers::{Condition, Fired, TrackFault, Tracker};
@@ -15,8 +16,9 @@ const NODE: NodeKey = NodeKey {
 
 const GONE: Gone = Gone { slot: 3 };
 
-// The reader of the first tracker, which has fired.
-fn fired_reader(line: &mut Line) -> Option<Tracker> {
+// The reader of a first tracker, which has fired.
+fn fired_reader(alloc: Global) -> Option<Tracker> {
+    let mut line = Line::new(alloc, 4);
     let reader = match line.track(Condition::Node(NODE)) {
         Ok(id) => line.take(id),
         Err(_) => None,
@@ -25,38 +27,23 @@ fn fired_reader(line: &mut Line) -> Option<Tracker> {
     reader
 }
 
-// What the reader reads in another thread.
-fn read_elsewhere(rt: &impl Threads, reader: Tracker) -> Option<Fired> {
-    let mut reader = reader;
+// What another thread reads of it.
+fn read_elsewhere(rt: &impl Threads, alloc: Global) -> Option<Fired> {
+    let mut reader = fired_reader(alloc)?;
     match thread::spawn(rt, move || reader.poll()) {
         Ok(child) => child.join(rt),
         Err(_) => None,
     }
 }
 
-// Whether another thread sees that the first tracker fired, at event 1.
-fn is_seen(rt: &impl Threads, line: &mut Line) -> bool {
-    match fired_reader(line) {
-        Some(reader) => match read_elsewhere(rt, reader) {
-            Some(fired) => fired.tracker == 1 && fired.event == 1,
-            None => false,
-        },
-        None => false,
-    }
-}
+const FIRST: Fired = Fired {
+    tracker: 1,
+    event: 1,
+};
 
 #[test]
 fn a_reader_in_another_thread_sees_the_firing(rt: HostRuntime) {
-    let mut line = Line::new(rt.alloc(), 4);
-    assert!(rt; is_seen(&rt, &mut line));
-}
-
-// Whether the next tracker of the node gets this number.
-fn gets(line: &mut Line, wanted: TrackerId) -> bool {
-    match line.track(Condition::Node(NODE)) {
-        Ok(id) => id == wanted,
-        Err(_) => false,
-    }
+    assert!(rt; read_elsewhere(&rt, rt.alloc()) == Some(FIRST));
 }
 
 // Whether no tracker has this number, and none fired.
@@ -71,7 +58,7 @@ fn is_attached(rt: &impl Print, line: &mut Line, wanted: TrackerId) -> bool {
         Ok(id) => id == wanted,
         Err(TrackFault::NoMemory) => {
             tell_refusal(rt);
-            has_none(line, wanted) && gets(line, wanted)
+            has_none(line, wanted) && line.track(Condition::Node(NODE)).ok() == Some(wanted)
         }
         Err(TrackFault::Full) => false,
     }

@@ -47,50 +47,46 @@ const LAST: NodeKey = NodeKey {
     generation: 0,
 };
 
-// The key of a new root, or of a new node below one that is there.
-fn born(table: &mut NodeTable<Node>, above: Option<NodeKey>, blocks: bool) -> Option<NodeKey> {
-    let is_there = match above {
-        Some(key) => table.contains(key),
-        None => true,
-    };
-    if !is_there {
-        return None;
+// The key of the node that is to get this slot, if the one above it is there.
+fn born(table: &mut NodeTable<Node>, slot: u32) -> Option<NodeKey> {
+    let above = above(slot);
+    if let Some(key) = above {
+        if !table.contains(key) {
+            return None;
+        }
     }
-    match table.insert(above, Node { blocks }) {
-        Ok(key) => Some(key),
-        Err(_) => None,
-    }
-}
-
-// Whether a node gets this slot. One refused growth is tried again.
-fn is_born(
-    rt: &impl Print,
-    table: &mut NodeTable<Node>,
-    above: Option<NodeKey>,
-    slot: u32,
-) -> bool {
     let blocks = slot == CHILD.slot;
-    if let Some(key) = born(table, above, blocks) {
-        return key == key_of(slot);
-    }
-    tell_refusal(rt);
-    match born(table, above, blocks) {
-        Some(key) => key == key_of(slot),
-        None => false,
+    table.insert(above, Node { blocks }).ok()
+}
+
+// Whether the next node gets this slot. One refused growth is tried again.
+fn is_born(rt: &impl Print, table: &mut NodeTable<Node>, slot: u32) -> bool {
+    let wanted = Some(key_of(slot));
+    match born(table, slot) {
+        None => {
+            tell_refusal(rt);
+            born(table, slot) == wanted
+        }
+        key => key == wanted,
     }
 }
 
-fn bears_children(rt: &impl Print, table: &mut NodeTable<Node>) -> bool {
-    for slot in 2..30 {
-        if !is_born(rt, table, Some(CHILD), slot) {
+// Below which node the node of this slot is.
+fn above(slot: u32) -> Option<NodeKey> {
+    match slot {
+        0 => None,
+        1 => Some(ROOT),
+        _ => Some(CHILD),
+    }
+}
+
+fn bears_family(rt: &impl Print, table: &mut NodeTable<Node>) -> bool {
+    for slot in 0..30 {
+        if !is_born(rt, table, slot) {
             return false;
         }
     }
     true
-}
-
-fn bears_family(rt: &impl Print, table: &mut NodeTable<Node>) -> bool {
-    is_born(rt, table, None, 0) && is_born(rt, table, Some(ROOT), 1) && bears_children(rt, table)
 }
 
 // Whether these are the child, first, and 28 nodes more, its last child last.
@@ -119,22 +115,24 @@ fn takes(alloc: Global, table: &NodeTable<Node>) -> Option<bool> {
 
 // The same. One refused growth is tried again.
 fn takes_all_but_the_root(rt: &impl Print, alloc: Global, table: &NodeTable<Node>) -> bool {
-    if let Some(is_taken) = takes(alloc, table) {
-        return is_taken;
+    match takes(alloc, table) {
+        Some(is_taken) => is_taken,
+        None => {
+            tell_refusal(rt);
+            takes(alloc, table) == Some(true)
+        }
     }
-    tell_refusal(rt);
-    takes(alloc, table) == Some(true)
 }
 
 // Whether the table is unchanged by the search for what fails.
 fn is_as_it_was(table: &NodeTable<Node>) -> bool {
-    table.len() == 30
-        && table.parent(CHILD) == Some(ROOT)
-        && table.first_child(CHILD) == Some(FIRST)
-        && match table.get(CHILD) {
-            Some(node) => node.blocks,
-            None => false,
+    match table.get(CHILD) {
+        Some(node) => {
+            let now = (table.len(), table.parent(CHILD), table.first_child(CHILD));
+            node.blocks && now == (30, Some(ROOT), Some(FIRST))
         }
+        None => false,
+    }
 }
 
 fn falls_in_part(rt: &impl Print, alloc: Global, table: &mut NodeTable<Node>) -> bool {

@@ -2,8 +2,8 @@
 ghost use Rattle.std.specs.Prelude.{◌≤◌};
 
 use actor_scripts::{ActorList, ActorScriptFault, Step, StepBuffer, read_actors};
-use script_lines::{Label, LabelHash, MOST_BYTES, Request};
-use sm_names::{Argument, CallKind, Constraints, Object, Strength};
+use script_lines::{Label, LabelHash, MOST_BYTES};
+use sm_names::{Argument, CallKind, Object, Strength};
 use std::alloc::Global;
 use std::io;
 use std::io::Read;
@@ -30,81 +30,74 @@ impl Read for Remarks {
 const TWO: &str = "a join\nb join\na open r\nb open s\na bind r\nb bind s\na constrain r 1 0 4096\n\
 b constrain s 1 0 4096\na take r\nb take s\n";
 
-// How labels are hashed.
-fn labels() -> LabelHash {
-    LabelHash::new([3; 16])
-}
-
 // Reads a script, so many bytes a read, with an error at read `fails`.
 fn read(
     alloc: Global,
-    script: &[u8],
+    script: &str,
     step: usize,
     fails: usize,
 ) -> Result<ActorList, ActorScriptFault> {
     let mut reader = ShortReader {
-        bytes: script,
+        bytes: script.as_bytes(),
         step,
         reads: 0,
         fails,
     };
-    read_actors(alloc, labels(), &mut reader)
+    read_actors(alloc, LabelHash::new([3; 16]), &mut reader)
 }
 
 // The fault of such a script.
-fn fault_of(alloc: Global, script: &[u8], step: usize, fails: usize) -> Option<ActorScriptFault> {
+fn fault_of(alloc: Global, script: &str, step: usize, fails: usize) -> Option<ActorScriptFault> {
     read(alloc, script, step, fails).err()
 }
 
-// An object as numbers.
-fn object_numbers(object: Object<u32, StepBuffer>) -> (u8, u32, u8) {
+// A step as plain data: the kind of its call, the object and the argument as numbers, and the label that it binds.
+// A look at a tracker has no kind, and the label of the tracker.
+type Told = (Option<CallKind>, [u32; 3], [u32; 4], Option<u32>);
+
+// An object: nothing, a node, or a buffer with its node and its index.
+fn object_numbers(object: Object<u32, StepBuffer>) -> [u32; 3] {
     match object {
-        Object::Nothing => (0, 0, 0),
-        Object::Node(node) => (1, node, 0),
-        Object::Buffer(buffer) => (2, buffer.node, buffer.index),
+        Object::Nothing => [0, 0, 0],
+        Object::Node(node) => [1, node, 0],
+        Object::Buffer(buffer) => [2, buffer.node, u32::from(buffer.index)],
     }
 }
 
-fn strength_number(strength: Strength) -> u32 {
-    u32::from(strength == Strength::Strong)
-}
-
-// An argument as numbers.
-fn argument_numbers(argument: Argument<u32>) -> (u8, u32, u32, u32) {
+// An argument. A strong handle has the number 1, a weak one 0.
+fn argument_numbers(argument: Argument<u32>) -> [u32; 4] {
     match argument {
-        Argument::Nothing => (0, 0, 0, 0),
-        Argument::Client(to) => (1, to, 0, 0),
-        Argument::Children(children) => (2, u32::from(children), 0, 0),
-        Argument::Constraints(wanted) => (
+        Argument::Nothing => [0, 0, 0, 0],
+        Argument::Client(to) => [1, to, 0, 0],
+        Argument::Children(children) => [2, u32::from(children), 0, 0],
+        Argument::Constraints(wanted) => [
             3,
             u32::from(wanted.camping()),
             u32::from(wanted.at_least()),
             wanted.size(),
-        ),
-        Argument::Most(most) => (4, most, 0, 0),
-        Argument::Strength(strength) => (5, strength_number(strength), 0, 0),
-        Argument::Gift(strength, to) => (6, strength_number(strength), to, 0),
+        ],
+        Argument::Most(most) => [4, most, 0, 0],
+        Argument::Strength(strength) => [5, u32::from(strength == Strength::Strong), 0, 0],
+        Argument::Gift(strength, to) => [6, u32::from(strength == Strength::Strong), to, 0],
     }
 }
 
-// Whether a step is this one.
-fn is_step(step: Step, wanted: Step) -> bool {
-    match (step, wanted) {
-        (Step::Ask { request }, Step::Ask { request: asked }) => {
-            request.kind == asked.kind
-                && object_numbers(request.object) == object_numbers(asked.object)
-                && argument_numbers(request.argument) == argument_numbers(asked.argument)
-                && request.binds == asked.binds
-        }
-        (Step::Poll { tracker }, Step::Poll { tracker: polled }) => tracker == polled,
-        _ => false,
+fn told(step: Step) -> Told {
+    match step {
+        Step::Ask { request } => (
+            Some(request.kind),
+            object_numbers(request.object),
+            argument_numbers(request.argument),
+            request.binds,
+        ),
+        Step::Poll { tracker } => (None, [0; 3], [0; 4], Some(tracker)),
     }
 }
 
 // Whether these are the steps.
-fn are_steps(steps: &[Step], wanted: &[Step]) -> bool {
+fn are_steps(steps: &[Step], wanted: &[Told]) -> bool {
     for (step, asked) in steps.iter().zip(wanted) {
-        if !is_step(*step, *asked) {
+        if told(*step) != *asked {
             return false;
         }
     }
@@ -112,158 +105,110 @@ fn are_steps(steps: &[Step], wanted: &[Step]) -> bool {
 }
 
 // Whether the actor at this place has this label and these steps.
-fn is_actor(list: &ActorList, at: usize, label: &[u8], steps: &[Step]) -> bool {
+fn is_actor(list: &ActorList, at: usize, label: &str, steps: &[Told]) -> bool {
     match (list.labels.get(at), list.scripts.get(at)) {
         (Some(told), Some(script)) => {
-            Label::new(label) == Some(*told) && are_steps(script.steps.as_slice(), steps)
+            Label::new(label.as_bytes()) == Some(*told) && are_steps(&script.steps, steps)
         }
         _ => false,
     }
 }
 
 // Whether these are the actors, each with its label and its steps.
-fn has_actors(list: &ActorList, actors: &[(&[u8], &[Step])]) -> bool {
-    let mut at: usize = 0;
-    for (label, steps) in actors {
+fn has_actors(list: &ActorList, actors: &[(&str, &[Told])]) -> bool {
+    for (at, (label, steps)) in actors.iter().enumerate() {
         if !is_actor(list, at, label, steps) {
             return false;
         }
-        at = at.wrapping_add(1);
     }
-    list.labels.len() == at && list.scripts.len() == at
+    list.labels.len() == actors.len() && list.scripts.len() == actors.len()
 }
 
-// Whether a script has these actors, with these steps.
-fn is_read(alloc: Global, script: &str, step: usize, actors: &[(&[u8], &[Step])]) -> bool {
-    match read(alloc, script.as_bytes(), step, 0) {
-        Ok(list) => has_actors(&list, actors),
-        Err(_) => false,
+// Whether a script has these actors, with these steps, however many bytes a read gives.
+fn is_read(alloc: Global, script: &str, actors: &[(&str, &[Told])]) -> bool {
+    for step in [1, 7, 4096] {
+        match read(alloc, script, step, 0) {
+            Ok(list) if has_actors(&list, actors) => {}
+            _ => return false,
+        }
     }
+    true
 }
 
-// A call as a step.
-fn ask(
-    kind: CallKind,
-    object: Object<u32, StepBuffer>,
-    argument: Argument<u32>,
-    binds: Option<u32>,
-) -> Step {
-    Step::Ask {
-        request: Request {
-            kind,
-            object,
-            argument,
-            binds,
-        },
-    }
-}
-
-// One on nothing, for what is to have this label.
-fn new(kind: CallKind, label: u32) -> Step {
-    ask(kind, Object::Nothing, Argument::Nothing, Some(label))
-}
-
-// One on a node.
-fn on(kind: CallKind, node: u32, argument: Argument<u32>, binds: Option<u32>) -> Step {
-    ask(kind, Object::Node(node), argument, binds)
-}
-
-// One on a buffer.
-fn of(kind: CallKind, node: u32, index: u8, argument: Argument<u32>, binds: Option<u32>) -> Step {
-    ask(
-        kind,
-        Object::Buffer(StepBuffer { node, index }),
-        argument,
-        binds,
-    )
+// A step that makes a call.
+macro_rules! ask {
+    ($kind:ident $object:expr, $argument:expr, $binds:expr) => {
+        (Some(CallKind::$kind), $object, $argument, $binds)
+    };
 }
 
 // The steps of an actor that takes one buffer of a page.
-fn taker(node: u32, wanted: Constraints) -> [Step; 4] {
-    [
-        new(CallKind::OpenRoot, node),
-        on(CallKind::Bind, node, Argument::Nothing, None),
-        on(
-            CallKind::SetConstraints,
-            node,
-            Argument::Constraints(wanted),
-            None,
-        ),
-        on(CallKind::Take, node, Argument::Nothing, None),
-    ]
-}
-
-// Whether two such actors are read if each read gives this many bytes.
-fn are_takers(alloc: Global, step: usize) -> bool {
-    let Some(wanted) = Constraints::new(1, 0, 4096) else {
-        return false;
+macro_rules! taker {
+    ($node:literal) => {
+        &[
+            ask!(OpenRoot [0; 3], [0; 4], Some($node)),
+            ask!(Bind [1, $node, 0], [0; 4], None),
+            ask!(SetConstraints [1, $node, 0], [3, 1, 0, 4096], None),
+            ask!(Take [1, $node, 0], [0; 4], None),
+        ]
     };
-    let (first, second) = (taker(0, wanted), taker(1, wanted));
-    is_read(alloc, TWO, step, &[(b"a", &first), (b"b", &second)])
 }
 
-fn are_always_takers(alloc: Global) -> bool {
-    are_takers(alloc, 1) && are_takers(alloc, 7) && are_takers(alloc, 4096)
-}
+const TAKERS: &[(&str, &[Told])] = &[("a", taker!(0)), ("b", taker!(1))];
 
 #[test]
 fn two_actors_have_their_steps(rt: HostRuntime) {
-    assert!(rt; are_always_takers(rt.alloc()));
+    assert!(rt; is_read(rt.alloc(), TWO, TAKERS));
 }
 
 const LABELS: &str = "b join\na join\nb open r\na open r\n# a remark\n\nb open s\nb dup r k\n\
 b tracknode r k\nb poll k\na close r\nb tracklife s 3 n\nb give s a\na collect t\nb shut\n";
 
+const LABELLED: &[(&str, &[Told])] = &[
+    (
+        "b",
+        &[
+            ask!(OpenRoot [0; 3], [0; 4], Some(0)),
+            ask!(OpenRoot [0; 3], [0; 4], Some(2)),
+            ask!(Duplicate [1, 0, 0], [0; 4], Some(3)),
+            ask!(TrackNode [1, 0, 0], [0; 4], Some(3)),
+            (None, [0; 3], [0; 4], Some(3)),
+            ask!(TrackLifetime [1, 2, 0], [4, 3, 0, 0], Some(4)),
+            ask!(Give [1, 2, 0], [1, 1, 0, 0], None),
+            ask!(Shut [0; 3], [0; 4], None),
+        ],
+    ),
+    (
+        "a",
+        &[
+            ask!(OpenRoot [0; 3], [0; 4], Some(1)),
+            ask!(Close [1, 1, 0], [0; 4], None),
+            ask!(Collect [0; 3], [0; 4], Some(5)),
+        ],
+    ),
+];
+
 #[test]
 fn labels_are_numbered_by_actor(rt: HostRuntime) {
-    let of_b = [
-        new(CallKind::OpenRoot, 0),
-        new(CallKind::OpenRoot, 2),
-        on(CallKind::Duplicate, 0, Argument::Nothing, Some(3)),
-        on(CallKind::TrackNode, 0, Argument::Nothing, Some(3)),
-        Step::Poll { tracker: 3 },
-        on(CallKind::TrackLifetime, 2, Argument::Most(3), Some(4)),
-        on(CallKind::Give, 2, Argument::Client(1), None),
-        ask(CallKind::Shut, Object::Nothing, Argument::Nothing, None),
-    ];
-    let of_a = [
-        new(CallKind::OpenRoot, 1),
-        on(CallKind::Close, 1, Argument::Nothing, None),
-        new(CallKind::Collect, 5),
-    ];
-    assert!(rt; is_read(rt.alloc(), LABELS, 4096, &[(b"b", &of_b), (b"a", &of_a)]));
+    assert!(rt; is_read(rt.alloc(), LABELS, LABELLED));
 }
 
 const BUFFERS: &str =
     "a join\na duph r.63 strong\na droph q.0 weak\na giveh q.1 weak a\na trackweak r.2 e\n";
 
+const BUFFERED: &[(&str, &[Told])] = &[(
+    "a",
+    &[
+        ask!(DupHandle [2, 0, 63], [5, 1, 0, 0], None),
+        ask!(DropHandle [2, 1, 0], [5, 0, 0, 0], None),
+        ask!(GiveHandle [2, 1, 1], [6, 0, 0, 0], None),
+        ask!(TrackWeak [2, 0, 2], [0; 4], Some(2)),
+    ],
+)];
+
 #[test]
 fn buffers_are_named_by_a_node(rt: HostRuntime) {
-    let steps = [
-        of(
-            CallKind::DupHandle,
-            0,
-            63,
-            Argument::Strength(Strength::Strong),
-            None,
-        ),
-        of(
-            CallKind::DropHandle,
-            1,
-            0,
-            Argument::Strength(Strength::Weak),
-            None,
-        ),
-        of(
-            CallKind::GiveHandle,
-            1,
-            1,
-            Argument::Gift(Strength::Weak, 0),
-            None,
-        ),
-        of(CallKind::TrackWeak, 0, 2, Argument::Nothing, Some(2)),
-    ];
-    assert!(rt; is_read(rt.alloc(), BUFFERS, 4096, &[(b"a", &steps)]));
+    assert!(rt; is_read(rt.alloc(), BUFFERS, BUFFERED));
 }
 
 // Scripts, each with the number of its first bad line.
@@ -288,14 +233,10 @@ const BAD: &[(&str, u64)] = &[
     ("a join\na open r\na jump r\nshow live", 3),
 ];
 
-// Whether the line of this number is the first bad one.
-fn is_bad(alloc: Global, script: &str, line: u64) -> bool {
-    fault_of(alloc, script.as_bytes(), 4096, 0) == Some(ActorScriptFault::BadLine(line))
-}
-
-fn all_are_bad(alloc: Global) -> bool {
+// Whether each such line is the first bad one.
+fn are_bad(alloc: Global) -> bool {
     for (script, line) in BAD {
-        if !is_bad(alloc, script, *line) {
+        if fault_of(alloc, script, 4096, 0) != Some(ActorScriptFault::BadLine(*line)) {
             return false;
         }
     }
@@ -304,34 +245,41 @@ fn all_are_bad(alloc: Global) -> bool {
 
 #[test]
 fn the_fault_has_the_number_of_the_first_bad_line(rt: HostRuntime) {
-    assert!(rt; all_are_bad(rt.alloc()));
+    assert!(rt; are_bad(rt.alloc()));
 }
 
-// The fault of a script whose second line is a remark of this many bytes.
-fn remark_fault(alloc: Global, length: usize) -> Option<ActorScriptFault>
-    requires { length ≤ 257 }
-{
-    let mut script = [b'#'; 265];
-    script[..7].copy_from_slice(b"a join\n");
-    script[7 + length] = b'\n';
-    fault_of(alloc, &script[..8 + length], 4096, 0)
+// A script of one actor, with a remark of 256 bytes: four times 64, and these more.
+macro_rules! remark {
+    ($more:literal) => {
+        concat!(
+            "a join\n",
+            "################################################################",
+            "################################################################",
+            "################################################################",
+            "################################################################",
+            $more,
+            "\n",
+        )
+    };
 }
 
-// Whether a line of 256 bytes is read, and the next longer one is bad.
-fn has_most_bytes(alloc: Global) -> bool {
-    remark_fault(alloc, 256).is_none()
-        && remark_fault(alloc, 257) == Some(ActorScriptFault::BadLine(2))
-}
+// The longest remark, and one that is a byte longer.
+const REMARKS: [&str; 2] = [remark!(""), remark!("#")];
 
 #[test]
 fn a_line_has_at_most_256_bytes(rt: HostRuntime) {
-    assert!(rt; has_most_bytes(rt.alloc()));
+    let [longest, longer] = REMARKS;
+    let faults = [
+        fault_of(rt.alloc(), longest, 4096, 0),
+        fault_of(rt.alloc(), longer, 4096, 0),
+    ];
+    assert!(rt; faults == [None, Some(ActorScriptFault::BadLine(2))]);
 }
 
 // How many of the reads, each of one byte, give a read fault if they fail.
 fn failing_reads(alloc: Global) -> usize {
     for fails in 1..200usize {
-        match fault_of(alloc, TWO.as_bytes(), 1, fails) {
+        match fault_of(alloc, TWO, 1, fails) {
             None => return fails.saturating_sub(1),
             Some(ActorScriptFault::ReadFault) => {}
             Some(_) => return 0,
@@ -340,30 +288,39 @@ fn failing_reads(alloc: Global) -> usize {
     0
 }
 
+// Each byte is read, and so is the end.
+const READS: usize = TWO.len() + 1;
+
 #[test]
 fn a_read_that_fails_at_any_byte_is_a_read_fault(rt: HostRuntime) {
-    assert!(rt; failing_reads(rt.alloc()) == TWO.len() + 1);
+    assert!(rt; failing_reads(rt.alloc()) == READS);
 }
 
 #[test]
 fn a_failed_read_precedes_a_bad_line(rt: HostRuntime) {
-    let fault = fault_of(rt.alloc(), b"show live\na join\n", 11, 2);
+    let fault = fault_of(rt.alloc(), "show live\na join\n", 11, 2);
     assert!(rt; fault == Some(ActorScriptFault::ReadFault));
 }
 
 // The fault of a script of this many bytes of remarks.
 fn remarks_fault(alloc: Global, left: usize) -> Option<ActorScriptFault> {
     let mut reader = Remarks { left };
-    read_actors(alloc, labels(), &mut reader).err()
+    read_actors(alloc, LabelHash::new([3; 16]), &mut reader).err()
 }
 
-// Whether a script of the greatest size is read to its end, and a longer one is not.
-fn has_most_lines(alloc: Global) -> bool {
-    remarks_fault(alloc, MOST_BYTES) == Some(ActorScriptFault::BadLine(65_537))
-        && remarks_fault(alloc, MOST_BYTES + 1) == Some(ActorScriptFault::ReadFault)
-}
-
+// A script of the greatest size is read to its end, and a longer one is not.
 #[test]
 fn a_script_over_the_greatest_size_is_a_read_fault(rt: HostRuntime) {
-    assert!(rt; has_most_lines(rt.alloc()));
+    let (longest, longer) = (MOST_BYTES, MOST_BYTES + 1);
+    let faults = [
+        remarks_fault(rt.alloc(), longest),
+        remarks_fault(rt.alloc(), longer),
+    ];
+    assert!(rt;
+        faults
+            == [
+                Some(ActorScriptFault::BadLine(65_537)),
+                Some(ActorScriptFault::ReadFault)
+            ]
+    );
 }

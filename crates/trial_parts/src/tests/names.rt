@@ -51,13 +51,17 @@ const LIMITS: &[(u32, u32, u32, u32, u32, bool)] = &[
     (1, 1, 1, 1, 0, false),
 ];
 
-// Whether these are the greatest limits.
-fn is_full(full: Limits) -> bool {
-    full.events() == 4_294_967_295
-        && full.nodes() == 1_024
-        && full.collections() == 256
-        && full.trackers() == 4_096
-        && full.handles() == 4_294_967_295
+// The greatest numbers.
+const FULL: [u32; 5] = [4_294_967_295, 1_024, 256, 4_096, 4_294_967_295];
+
+fn numbers(limits: Limits) -> [u32; 5] {
+    [
+        limits.events(),
+        limits.nodes(),
+        limits.collections(),
+        limits.trackers(),
+        limits.handles(),
+    ]
 }
 
 // Whether limits are made of these numbers exactly if these are in range.
@@ -73,7 +77,7 @@ fn are_limits() -> bool {
 
 #[test]
 fn limits_are_made_up_to_the_full_ones(rt: HostRuntime) {
-    assert!(rt; is_full(Limits::full()) && are_limits());
+    assert!(rt; numbers(Limits::full()) == FULL && are_limits());
 }
 
 // All refusals, with their numbers and names.
@@ -170,9 +174,7 @@ const ROWS: [(&str, CallRow); 23] = [
 fn has_row(number: u32, word: &str, row: CallRow) -> bool {
     match kind_at(number) {
         Some(kind) => {
-            word_of(kind) == word
-                && kind_named(word.as_bytes()) == Some(kind)
-                && row_of(kind) == row
+            (word_of(kind), kind_named(word.as_bytes()), row_of(kind)) == (word, Some(kind), row)
         }
         None => false,
     }
@@ -207,16 +209,9 @@ const OTHER: CallParts = CallParts {
     argument: Argument::Client(7),
 };
 
-// Whether the parts of a call make that call, and others make none.
-fn are_parts() -> bool {
-    let made = match call_of(parts_of(Call::Give(KEY, 7))) {
-        Some(Call::Give(key, to)) => key == KEY && to == 7,
-        _ => false,
-    };
-    made && call_of(OTHER).is_none()
-}
+const GIFT: Call = Call::Give(KEY, 7);
 
 #[test]
 fn the_parts_of_a_call_make_that_call(rt: HostRuntime) {
-    assert!(rt; are_parts());
+    assert!(rt; [call_of(parts_of(GIFT)), call_of(OTHER)] == [Some(GIFT), None]);
 }

@@ -12,64 +12,81 @@ const RECORD: [(ClientId, Call, Reply); 5] = [
     (1, Call::Shut, Reply::Shut(0)),
 ];
 
-// That the client's call at this event finds nothing.
-fn collect(event: u64) -> Own {
-    Own {
-        event,
-        call: Call::Collect,
-        reply: Reply::Empty,
-    }
+// A call of the client's at this event, which is answered so.
+macro_rules! own {
+    ($event:literal $call:ident $reply:ident) => {
+        Own {
+            event: $event,
+            call: Call::$call,
+            reply: Reply::$reply,
+        }
+    };
+    ($event:literal $call:ident Shut $waiting:literal) => {
+        Own {
+            event: $event,
+            call: Call::$call,
+            reply: Reply::Shut($waiting),
+        }
+    };
 }
 
-// That it shuts at this event, which is answered so.
-fn shut(event: u64, number: u64) -> Own {
-    Own {
-        event,
-        call: Call::Shut,
-        reply: Reply::Shut(number),
-    }
-}
+const COLLECT_2: Own = own!(2 Collect Empty);
 
-// The reply of event 5, to another call.
-fn miscalled() -> Own {
-    Own {
-        event: 5,
-        call: Call::Collect,
-        reply: Reply::Shut(0),
-    }
-}
+const COLLECT_9: Own = own!(9 Collect Empty);
 
-// Whether each client's list differs from its part where it should.
-fn differs(parts: &Parts, client: ClientId, own: &[Own], wanted: Option<u64>) -> bool {
-    parts.differ(client, own) == wanted
-}
+const SHUT_4: Own = own!(4 Shut Shut 0);
 
-// Whether the parts of the record are told from other lists.
-fn finds(parts: &Parts) -> bool {
-    differs(parts, 1, &[collect(2), shut(5, 0)], None)
-        && differs(parts, 3, &[shut(4, 0)], None)
-        && differs(parts, 9, &[], None)
+const SHUT_5: Own = own!(5 Shut Shut 0);
+
+// Event 5 with another reply, and with another call.
+const MISTOLD_5: Own = own!(5 Shut Shut 1);
+
+const MISCALLED_5: Own = own!(5 Collect Shut 0);
+
+// The events at which lists differ from the client's part of the record.
+fn found(parts: &Parts) -> [Option<u64>; 12] {
+    [
+        parts.differ(1, &[COLLECT_2, SHUT_5]),
+        parts.differ(3, &[SHUT_4]),
+        parts.differ(9, &[]),
         // The event of the record, where the list has another one or is over.
-        && differs(parts, 1, &[collect(2), shut(5, 1)], Some(5))
-        && differs(parts, 1, &[collect(2), miscalled()], Some(5))
-        && differs(parts, 1, &[shut(5, 0), collect(2)], Some(2))
-        && differs(parts, 1, &[collect(2), collect(9)], Some(5))
-        && differs(parts, 1, &[collect(2)], Some(5))
-        && differs(parts, 1, &[], Some(2))
-        && differs(parts, 3, &[shut(5, 0)], Some(4))
+        parts.differ(1, &[COLLECT_2, MISTOLD_5]),
+        parts.differ(1, &[COLLECT_2, MISCALLED_5]),
+        parts.differ(1, &[SHUT_5, COLLECT_2]),
+        parts.differ(1, &[COLLECT_2, COLLECT_9]),
+        parts.differ(1, &[COLLECT_2]),
+        parts.differ(1, &[]),
+        parts.differ(3, &[SHUT_5]),
         // The event of the list, where the record has no more.
-        && differs(parts, 1, &[collect(2), shut(5, 0), collect(9)], Some(9))
-        && differs(parts, 9, &[collect(9)], Some(9))
+        parts.differ(1, &[COLLECT_2, SHUT_5, COLLECT_9]),
+        parts.differ(9, &[COLLECT_9]),
+    ]
 }
 
-fn finds_all(alloc: Global) -> bool {
+// The events of the lists above.
+const FOUND: [Option<u64>; 12] = [
+    None,
+    None,
+    None,
+    Some(5),
+    Some(5),
+    Some(2),
+    Some(5),
+    Some(5),
+    Some(2),
+    Some(4),
+    Some(9),
+    Some(9),
+];
+
+fn are_told_apart(alloc: Global) -> bool {
     match Parts::new(alloc, &RECORD) {
-        Ok(parts) => finds(&parts),
+        Ok(parts) => found(&parts) == FOUND,
         Err(_) => false,
     }
 }
 
 #[test]
 fn differ_answers_the_first_event_that_differs(rt: HostRuntime) {
-    assert!(rt; finds_all(rt.alloc()));
+    assert!(rt; are_told_apart(rt.alloc()));
 }

@@ -16,21 +16,10 @@ fn new_pool(rt: &impl Print, alloc: Global) -> Option<Pool> {
     }
 }
 
-// Whether the first buffer has this start.
-fn is_at(placed: &Placed, first: u32) -> bool {
-    match placed.starts.first() {
-        Some(start) => *start == first,
-        None => false,
-    }
-}
-
 // Whether buffers are placed, the first at this start.
-fn places(pool: &mut Pool, count: u32, pages_each: u32, first: u32) -> bool
-    requires count { 1 ≤ count }
-    requires pages { 1 ≤ pages_each }
-{
-    match pool.place(count, pages_each) {
-        Ok(placed) => is_at(&placed, first),
+fn is_at(placed: Result<Placed, PoolFault>, first: u32) -> bool {
+    match placed {
+        Ok(placed) => placed.starts.first() == Some(&first),
         Err(_) => false,
     }
 }
@@ -42,12 +31,11 @@ fn places_at_last(rt: &impl Print, pool: &mut Pool, count: u32, pages_each: u32,
 {
     let free = pool.free_pages();
     match pool.place(count, pages_each) {
-        Ok(placed) => is_at(&placed, first),
         Err(PoolFault::NoMemory) => {
             tell_refusal(rt);
-            pool.free_pages() == free && places(pool, count, pages_each, first)
+            pool.free_pages() == free && is_at(pool.place(count, pages_each), first)
         }
-        Err(_) => false,
+        placed => is_at(placed, first),
     }
 }
 
@@ -59,11 +47,16 @@ fn fills(rt: &impl Print, pool: &mut Pool) -> bool {
         && pool.free_pages() == 0
 }
 
+// Whether that is so of a new pool.
+fn is_filled(rt: &impl Print, alloc: Global) -> bool {
+    match new_pool(rt, alloc) {
+        Some(mut pool) => fills(rt, &mut pool),
+        None => false,
+    }
+}
+
 // Run with each allocation refused in turn, this meets each growth of `place`.
 #[test]
 fn refused_memory_changes_no_page(rt: HostRuntime) {
-    match new_pool(&rt, rt.alloc()) {
-        Some(mut pool) => assert!(rt; fills(&rt, &mut pool)),
-        None => assert!(rt; false, "no pool"),
-    }
+    assert!(rt; is_filled(&rt, rt.alloc()));
 }

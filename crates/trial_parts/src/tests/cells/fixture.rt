@@ -79,9 +79,13 @@ impl Line {
             return Err(TrackFault::NoMemory);
         }
         let id = self.event + 1;
-        self.trackers.attach(waiting(id, condition))?;
-        self.event = id;
-        Ok(id)
+        match self.trackers.attach(waiting(id, condition)) {
+            Ok(()) => {
+                self.event = id;
+                Ok(id)
+            }
+            Err(fault) => Err(fault),
+        }
     }
 
     /// Sweeps at this event.
