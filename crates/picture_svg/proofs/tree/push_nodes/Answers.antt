@@ -1,4 +1,4 @@
-use Rattle.std.proofs.Common.{◌≡◌, ◌∙◌, ap, ◌+◌, ◌++◌, ℕ, max}
+use Rattle.std.proofs.Common.{◌∙◌, ap, ◌+◌, ◌++◌, ℕ, max}
 use Rattle.std.specs.List.{flat_map}
 use Rattle.script_pictures.proofs.Texts.{after, last}
 use Rattle.picture_layout.specs.declared.layout.TheConstants.{BOX_HEIGHT}

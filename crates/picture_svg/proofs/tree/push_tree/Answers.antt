@@ -1,4 +1,4 @@
-use Rattle.std.proofs.Common.{◌≡◌, ◌∙◌, ap, ◌++◌, ℕ, map}
+use Rattle.std.proofs.Common.{◌∙◌, ap, ◌++◌, ℕ, map}
 use Rattle.script_pictures.proofs.Texts.{after, last}
 use Rattle.picture_layout.specs.Lengths.{capped_sum}
 use Rattle.picture_svg.specs.Bars.{bars_bottom, bars_right, bars_text, shown_in, shown_of}
