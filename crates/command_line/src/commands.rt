@@ -100,55 +100,97 @@ fn file_word<'a>(alloc: Global) -> Arg<'a> {
         .help("A file that is read instead of standard input")
 }
 
-// The command, which has a pool and reads a script from a file.
-fn read_by<'a>(alloc: Global, command: Command<'a>) -> Result<Command<'a>, AllocError> {
-    command.arg(pages_word(alloc))?.arg(file_word(alloc))
+// What a command takes: options, and a file.
+#[derive(Clone, Copy)]
+enum Word {
+    Pages,
+    File,
+    Record,
+    Format,
+    At,
 }
 
-// The command that answers each line.
-fn run<'a>(alloc: Global) -> Result<Command<'a>, AllocError> {
-    let command = Command::new(alloc, "run")
-        .about(RUN_ABOUT)
-        .long_about(LINES)
-        .after_help(RUN_HELP);
-    read_by(alloc, command)
+// A command: its name, what its help says, and what it takes.
+struct Row {
+    name: &'static str,
+    about: &'static str,
+    long_about: &'static str,
+    after_help: Option<&'static str>,
+    words: &'static [Word],
 }
 
-// The command that runs the clients side by side.
-fn threads<'a>(alloc: Global) -> Result<Command<'a>, AllocError> {
-    let command = Command::new(alloc, THREADS)
-        .about(THREADS_ABOUT)
-        .long_about(LINES)
-        .after_help(THREADS_HELP);
-    read_by(alloc, command)?.arg(record_word(alloc))
+const COMMANDS: &[Row] = &[
+    // Answers each line.
+    Row {
+        name: "run",
+        about: RUN_ABOUT,
+        long_about: LINES,
+        after_help: Some(RUN_HELP),
+        words: &[Word::Pages, Word::File],
+    },
+    // Runs the clients side by side.
+    Row {
+        name: THREADS,
+        about: THREADS_ABOUT,
+        long_about: LINES,
+        after_help: Some(THREADS_HELP),
+        words: &[Word::Pages, Word::File, Word::Record],
+    },
+    // Explains each line.
+    Row {
+        name: EXPLAIN,
+        about: EXPLAIN_ABOUT,
+        long_about: EXPLAIN_HELP,
+        after_help: Some(LINES),
+        words: &[Word::Pages, Word::File],
+    },
+    // Draws trees.
+    Row {
+        name: DRAW,
+        about: DRAW_ABOUT,
+        long_about: DRAW_HELP,
+        after_help: Some(DRAW_STATUS),
+        words: &[Word::Pages, Word::File, Word::Format, Word::At],
+    },
+    // Compares replies.
+    Row {
+        name: CHECK,
+        about: CHECK_ABOUT,
+        long_about: CHECK_HELP,
+        after_help: None,
+        words: &[Word::Pages, Word::File],
+    },
+];
+
+// The option or the file.
+fn argument<'a>(alloc: Global, word: Word) -> Arg<'a> {
+    match word {
+        Word::Pages => pages_word(alloc),
+        Word::File => file_word(alloc),
+        Word::Record => record_word(alloc),
+        Word::Format => format_word(alloc),
+        Word::At => at_word(alloc),
+    }
 }
 
-// The command that explains each line.
-fn explain<'a>(alloc: Global) -> Result<Command<'a>, AllocError> {
-    let command = Command::new(alloc, EXPLAIN)
-        .about(EXPLAIN_ABOUT)
-        .long_about(EXPLAIN_HELP)
-        .after_help(LINES);
-    read_by(alloc, command)
+// The command without what it takes.
+fn named<'a>(alloc: Global, row: &Row) -> Command<'a> {
+    let command = Command::new(alloc, row.name)
+        .about(row.about)
+        .long_about(row.long_about);
+    match row.after_help {
+        Some(text) => command.after_help(text),
+        None => command,
+    }
 }
 
-// The command that draws trees.
-fn draw<'a>(alloc: Global) -> Result<Command<'a>, AllocError> {
-    let command = Command::new(alloc, DRAW)
-        .about(DRAW_ABOUT)
-        .long_about(DRAW_HELP)
-        .after_help(DRAW_STATUS);
-    read_by(alloc, command)?
-        .arg(format_word(alloc))?
-        .arg(at_word(alloc))
-}
-
-// The command that compares replies.
-fn check<'a>(alloc: Global) -> Result<Command<'a>, AllocError> {
-    let command = Command::new(alloc, CHECK)
-        .about(CHECK_ABOUT)
-        .long_about(CHECK_HELP);
-    read_by(alloc, command)
+// The command of this row.
+fn made<'a>(alloc: Global, row: &Row) -> Result<Command<'a>, AllocError> {
+    let mut command = named(alloc, row);
+    for word in row.words {
+        command = command.arg(argument(alloc, *word))?;
+    }
+    Ok(command)
 }
 
 // The program without its commands.
@@ -163,17 +205,23 @@ fn program<'a>(alloc: Global) -> Result<Command<'a>, AllocError> {
 
 // The program with one command more.
 fn with_command<'a>(
+    alloc: Global,
     program: Command<'a>,
-    made: Result<Command<'a>, AllocError>,
+    row: &Row,
 ) -> Result<Command<'a>, AllocError> {
-    program.subcommand(made?)
+    program.subcommand(made(alloc, row)?)
+}
+
+// The commands of the program. The long texts stand in this function alone.
+fn commands() -> &'static [Row] {
+    COMMANDS
 }
 
 /// The commands with their options and help. Takes a constant time.
 pub fn command<'a>(alloc: Global) -> Result<Command<'a>, AllocError> {
-    let program = with_command(program(alloc)?, run(alloc))?;
-    let program = with_command(program, threads(alloc))?;
-    let program = with_command(program, explain(alloc))?;
-    let program = with_command(program, draw(alloc))?;
-    with_command(program, check(alloc))
+    let mut program = program(alloc)?;
+    for row in commands() {
+        program = with_command(alloc, program, row)?;
+    }
+    Ok(program)
 }

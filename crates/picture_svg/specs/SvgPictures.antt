@@ -2,6 +2,7 @@
 use Rattle.std.specs.Prelude.{ℕ, ◌+◌, ◌*◌, ◌/◌, ◌-◌, ◌==◌, min, max, nat_lt, true, false, if◌then◌else◌, List, [], ◌∷◌, ◌++◌, codes, decimal, drop, length, map}
 use Rattle.std.specs.List.{flat_map, fold}
 use Rattle.sm_names.specs.declared.keys.HeldBuffer.{HeldBuffer}
+use Rattle.sm_names.specs.declared.keys.NodeKey.{NodeKey}
 use Rattle.sm_names.specs.declared.tracking.Fired.{Fired}
 use Rattle.forest_store.specs.declared.node.Node.{Node}
 use Rattle.forest_store.specs.Forest.{held_by_page}
@@ -27,10 +28,14 @@ use Rattle.picture_svg.specs.Trees.{dashes_text, node_lines, trees_bottom, trees
 abbrev pub longest_of : List (List ℕ) → ℕ
 longest_of lines = fold (λ most line. max most (length line)) 0 lines
 
+abbrev pub name_tenths : Names → NodeKey → ℕ
+name_tenths names node = capped_sum 240 (capped_product 90 (capped_sum (length (label_text (label_of_node names node))) 2))
+
+abbrev pub lines_tenths : Names → Node → ℕ
+lines_tenths names n = capped_sum 240 (capped_product 73 (longest_of (node_lines names n)))
+
 abbrev pub node_tenths : Names → ℕ → Node → ℕ
-node_tenths names tenths n =
-    max (max tenths (capped_sum 240 (capped_product 90 (capped_sum (length (label_text (label_of_node names n.key))) 2))))
-    (capped_sum 240 (capped_product 73 (longest_of (node_lines names n))))
+node_tenths names tenths n = max (max tenths (name_tenths names n.key)) (lines_tenths names n)
 
 abbrev pub tree_tenths : Names → ℕ → Tree → ℕ
 tree_tenths names tenths tree = fold (node_tenths names) tenths tree.nodes.items
@@ -225,11 +230,10 @@ body_text s names line picture = concat (
     ∷ []
     )
 
+-- these elements in a frame of this size
+abbrev pub framed_text : ℕ → ℕ → List ℕ → List ℕ
+framed_text width height body = concat (frame_text width height ∷ body ∷ codes "</svg>\n" ∷ [])
+
 -- the picture behind the last event, of which this is the line
 unfoldable pub svg_text : State → Names → List ℕ → Picture → List ℕ
-svg_text s names line picture = concat (
-    frame_text (width_of s names picture) (height_of s names picture)
-    ∷ body_text s names line picture
-    ∷ codes "</svg>\n"
-    ∷ []
-    )
+svg_text s names line picture = framed_text (width_of s names picture) (height_of s names picture) (body_text s names line picture)

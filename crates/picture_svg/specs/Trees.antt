@@ -60,14 +60,14 @@ sign_text Class.Ended = 226 ∷ 151 ∷ 139 ∷ 32 ∷ []
 abbrev pub name_words : Names → Node → List ℕ
 name_words names n = concat (sign_text (class_of n) ∷ label_text (label_of_node names n.key) ∷ [])
 
--- what it asks for, and where its end is
-abbrev pub lines_below : Names → Node → Option Demand → List (List ℕ)
-lines_below names n None = place_text names n.end ∷ []
-lines_below names n (Some asked) = asked_words asked ∷ place_text names n.end ∷ []
+-- what it asks for, if it does
+abbrev pub asked_lines : Option Demand → List (List ℕ)
+asked_lines None = []
+asked_lines (Some asked) = asked_words asked ∷ []
 
 -- the lines below its name: its state, what it is, what it asks for, and where its end is
 abbrev pub node_lines : Names → Node → List (List ℕ)
-node_lines names n = state_words names n ∷ kind_words names n ∷ lines_below names n n.constraints
+node_lines names n = state_words names n ∷ kind_words names n ∷ asked_lines n.constraints ++ place_text names n.end ∷ []
 
 -- a line as its text
 abbrev pub line_items : Vec ℕ Global → List ℕ
@@ -78,13 +78,17 @@ abbrev pub svg_lines : ℕ → ℕ → List ℕ → List (List ℕ) → List ℕ
 svg_lines x y fill [] = []
 svg_lines x y fill (line ∷ lines) = words_text x y (look 12 false fill false) line ++ svg_lines x (capped_sum y 16) fill lines
 
--- the name of a node and the lines below it, in a box with this corner
-unfoldable pub svg_box_words : Names → Corner → Node → List ℕ
-svg_box_words names c n = concat (
+-- the name of a node, and the lines below it, in a box with this corner
+abbrev pub svg_name : Names → Corner → Node → List ℕ
+svg_name names c n =
     words_text (capped_sum c.x 10) (capped_sum c.y 20) (look 15 true (ink_text (class_of n)) false) (name_words names n)
-    ∷ svg_lines (capped_sum c.x 10) (capped_sum c.y 38) (ink_text (class_of n)) (node_lines names n)
-    ∷ []
-    )
+
+abbrev pub svg_words_below : Names → Corner → Node → List ℕ
+svg_words_below names c n =
+    svg_lines (capped_sum c.x 10) (capped_sum c.y 38) (ink_text (class_of n)) (node_lines names n)
+
+unfoldable pub svg_box_words : Names → Corner → Node → List ℕ
+svg_box_words names c n = concat (svg_name names c n ∷ svg_words_below names c n ∷ [])
 
 -- the box of a node, so wide, with its words
 unfoldable pub svg_box : Names → ℕ → NodeBox → List ℕ
@@ -101,11 +105,22 @@ tree_boxes width y tree = boxes_of (record { x = MARGIN; y = y }) width tree.lef
 abbrev pub bars_row : ℕ → ℕ → Tree → ℕ
 bars_row width y tree = capped_sum (lowest_of y (tree_boxes width y tree)) (BOX_HEIGHT + 30)
 
+-- its links and its boxes
+abbrev pub svg_nodes : Names → List Travel → ℕ → ℕ → Tree → List ℕ
+svg_nodes names travels width y tree = concat (
+    flat_map (box_link travels width) (tree_boxes width y tree)
+    ∷ flat_map (svg_box names width) (tree_boxes width y tree)
+    ∷ []
+    )
+
+-- the last column of its boxes, or this one
+abbrev pub nodes_right : ℕ → ℕ → ℕ → Tree → ℕ
+nodes_right width y right tree = max right (rightmost_of width (tree_boxes width y tree))
+
 -- a tree from this row on: its links, its boxes, and its buffers
 unfoldable pub svg_tree : State → Names → List ℕ → List Travel → ℕ → ℕ → Tree → List ℕ
 svg_tree s names clients travels width y tree = concat (
-    flat_map (box_link travels width) (tree_boxes width y tree)
-    ∷ flat_map (svg_box names width) (tree_boxes width y tree)
+    svg_nodes names travels width y tree
     ∷ bars_text width (bars_row width y tree) (shown_of s names clients tree)
     ∷ []
     )
@@ -117,7 +132,7 @@ tree_bottom s names clients width y tree =
 
 unfoldable pub tree_right : State → Names → List ℕ → ℕ → ℕ → ℕ → Tree → ℕ
 tree_right s names clients width y right tree =
-    bars_right width (max right (rightmost_of width (tree_boxes width y tree))) (shown_of s names clients tree)
+    bars_right width (nodes_right width y right tree) (shown_of s names clients tree)
 
 -- the trees from this row on, one below the other
 abbrev pub svg_trees : State → Names → List ℕ → List Travel → ℕ → ℕ → List Tree → List ℕ

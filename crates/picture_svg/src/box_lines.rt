@@ -1,11 +1,11 @@
 //! The lines of a node's box.
-ghost use Rattle.std.specs.Prelude.{◌≡◌, ◌∷◌, [], IfOk, map};
+ghost use Rattle.std.specs.Prelude.{◌≡◌, ◌∷◌, ◌++◌, [], IfOk, OnOk, map};
 ghost use Rattle.script_labels.specs.Names.{Names};
 ghost use Rattle.script_labels.specs.Tables.{Keeps};
 ghost use Rattle.script_tales.specs.Called.{Calls};
 ghost use Rattle.script_pictures.specs.BoxLines.{asked_words, kind_words, state_words};
 ghost use Rattle.script_pictures.specs.Features.{place_text};
-ghost use Rattle.picture_svg.specs.Trees.{line_items, name_words, node_lines as lines_of};
+ghost use Rattle.picture_svg.specs.Trees.{asked_lines, line_items, name_words, node_lines as lines_of};
 
 use crate::tree::sign_of;
 use forest_store::Node;
@@ -42,89 +42,71 @@ pub(crate) fn node_lines(
     ensures { IfOk result (λ lines. (names : Names) → Keeps teller.now.session.tables names →
         Calls teller.now.labels names → map line_items lines.items ≡ lines_of names node.now) }
 {
-    let state = state_line(alloc, teller, node)?;
-    let kind = kind_line(alloc, teller, node)?;
-    let place = place_line(alloc, teller, node)?;
-    match node.constraints {
+    let mut lines = Vec::new(alloc);
+    add_lines(&mut lines, teller, node)?;
+    Ok(lines)
+}
+
+// Puts the lines of the node's box behind those that are there.
+fn add_lines(lines: &mut Vec<Vec<u8>>, teller: &Teller, node: &Node) -> Result<(), AllocError>
+    ensures { OnOk result ((names : Names) → Keeps teller.now.session.tables names →
+        Calls teller.now.labels names → map line_items lines.new.items
+        ≡ map line_items lines.old.items ++ lines_of names node.now) }
+{
+    add_state(lines, teller, node)?;
+    add_kind(lines, teller, node)?;
+    add_asked(lines, node.constraints)?;
+    add_place(lines, teller, node)
+}
+
+// Puts the state of the node behind the lines.
+fn add_state(lines: &mut Vec<Vec<u8>>, teller: &Teller, node: &Node) -> Result<(), AllocError>
+    ensures { OnOk result ((names : Names) → Keeps teller.now.session.tables names →
+        map line_items lines.new.items
+        ≡ map line_items lines.old.items ++ state_words names node.now ∷ []) }
+{
+    let mut text = Vec::new(*lines.allocator());
+    push_state_line(&mut text, &teller.session.tables, node)?;
+    lines.push(text)?;
+    Ok(())
+}
+
+// Puts what the node is, and what it was collected as, behind the lines.
+fn add_kind(lines: &mut Vec<Vec<u8>>, teller: &Teller, node: &Node) -> Result<(), AllocError>
+    ensures { OnOk result ((names : Names) → Keeps teller.now.session.tables names →
+        Calls teller.now.labels names → map line_items lines.new.items
+        ≡ map line_items lines.old.items ++ kind_words names node.now ∷ []) }
+{
+    let mut text = Vec::new(*lines.allocator());
+    push_kind_line(&mut text, teller, node)?;
+    lines.push(text)?;
+    Ok(())
+}
+
+// Puts what the node asks for behind the lines, if it does.
+fn add_asked(lines: &mut Vec<Vec<u8>>, asked: Option<Constraints>) -> Result<(), AllocError>
+    ensures { OnOk result (map line_items lines.new.items
+        ≡ map line_items lines.old.items ++ asked_lines asked) }
+{
+    match asked {
         Some(asked) => {
-            let asks = asked_line(alloc, asked)?;
-            four_lines(alloc, state, kind, asks, place)
+            let mut text = Vec::new(*lines.allocator());
+            push_asked_line(&mut text, asked)?;
+            lines.push(text)?;
+            Ok(())
         }
-        None => three_lines(alloc, state, kind, place),
+        None => Ok(()),
     }
 }
 
-// These lines.
-fn three_lines(
-    alloc: Global,
-    state: Vec<u8>,
-    kind: Vec<u8>,
-    place: Vec<u8>,
-) -> Result<Vec<Vec<u8>>, AllocError>
-    ensures { IfOk result (λ lines. map line_items lines.items
-        ≡ state.items ∷ kind.items ∷ place.items ∷ []) }
+// Puts where the end of the node is behind the lines.
+fn add_place(lines: &mut Vec<Vec<u8>>, teller: &Teller, node: &Node) -> Result<(), AllocError>
+    ensures { OnOk result ((names : Names) → Calls teller.now.labels names →
+        map line_items lines.new.items
+        ≡ map line_items lines.old.items ++ place_text names node.now.end ∷ []) }
 {
-    let mut lines = Vec::new(alloc);
-    lines.push(state)?;
-    lines.push(kind)?;
-    lines.push(place)?;
-    Ok(lines)
-}
-
-// These lines.
-fn four_lines(
-    alloc: Global,
-    state: Vec<u8>,
-    kind: Vec<u8>,
-    asks: Vec<u8>,
-    place: Vec<u8>,
-) -> Result<Vec<Vec<u8>>, AllocError>
-    ensures { IfOk result (λ lines. map line_items lines.items
-        ≡ state.items ∷ kind.items ∷ asks.items ∷ place.items ∷ []) }
-{
-    let mut lines = Vec::new(alloc);
-    lines.push(state)?;
-    lines.push(kind)?;
-    lines.push(asks)?;
-    lines.push(place)?;
-    Ok(lines)
-}
-
-// The state of the node.
-fn state_line(alloc: Global, teller: &Teller, node: &Node) -> Result<Vec<u8>, AllocError>
-    ensures { IfOk result (λ line. (names : Names) → Keeps teller.now.session.tables names →
-        line.items ≡ state_words names node.now) }
-{
-    let mut text = Vec::new(alloc);
-    push_state_line(&mut text, &teller.session.tables, node)?;
-    Ok(text)
-}
-
-// What the node is, and what it was collected as.
-fn kind_line(alloc: Global, teller: &Teller, node: &Node) -> Result<Vec<u8>, AllocError>
-    ensures { IfOk result (λ line. (names : Names) → Keeps teller.now.session.tables names →
-        Calls teller.now.labels names → line.items ≡ kind_words names node.now) }
-{
-    let mut text = Vec::new(alloc);
-    push_kind_line(&mut text, teller, node)?;
-    Ok(text)
-}
-
-// What the node asks for.
-fn asked_line(alloc: Global, asked: Constraints) -> Result<Vec<u8>, AllocError>
-    ensures { IfOk result (λ line. line.items ≡ asked_words asked) }
-{
-    let mut text = Vec::new(alloc);
-    push_asked_line(&mut text, asked)?;
-    Ok(text)
-}
-
-// Where the end of the node is.
-fn place_line(alloc: Global, teller: &Teller, node: &Node) -> Result<Vec<u8>, AllocError>
-    ensures { IfOk result (λ line. (names : Names) → Calls teller.now.labels names →
-        line.items ≡ place_text names node.now.end) }
-{
-    let mut text = Vec::new(alloc);
+    let mut text = Vec::new(*lines.allocator());
     push_place(&mut text, &teller.labels, node)?;
-    Ok(text)
+    lines.push(text)?;
+    Ok(())
 }

@@ -8,7 +8,7 @@ ghost use Rattle.script_labels.specs.Tables.{Keeps};
 ghost use Rattle.script_tales.specs.Called.{Calls};
 ghost use Rattle.picture_svg.specs.Elements.{look, look_of, rect_text};
 ghost use Rattle.picture_svg.specs.Trees.{line_items};
-ghost use Rattle.picture_svg.specs.SvgPictures.{all_trees, body_text, box_width as width_of_box, cell_name, cell_paint, fact_text, fires_bottom, fires_line, svg_fires, frame_text, free_line_text, free_words, height_of, held_cell, svg_held, last_column, legend_text, longest_of as longest_in, mark_look, marks_bottom, svg_marks, node_tenths as tenths_of_node, page_width as width_of_page, pool_row, svg_pool, right_of, sample_paint, sample_text, svg_text, title_text, svg_told, tree_tenths as tenths_of_tree, trees_row, width_of};
+ghost use Rattle.picture_svg.specs.SvgPictures.{all_trees, body_text, box_width as width_of_box, cell_name, cell_paint, fact_text, fires_bottom, fires_line, svg_fires, frame_text, framed_text, free_line_text, free_words, height_of, held_cell, svg_held, last_column, legend_text, lines_tenths as tenths_of_lines, longest_of as longest_in, mark_look, marks_bottom, svg_marks, name_tenths as tenths_of_name, node_tenths as tenths_of_node, page_width as width_of_page, pool_row, svg_pool, right_of, sample_paint, sample_text, svg_text, title_text, svg_told, tree_tenths as tenths_of_tree, trees_row, width_of};
 
 use crate::bars::Extent;
 use crate::box_lines::node_lines;
@@ -22,7 +22,7 @@ use script_pictures::colors::{DEEP, EARTH, GREY, INK, RED, SAND, WHITE, edge_col
 use script_pictures::{Class, Picture, ToldMark, Tree, push_header, travels_by_node};
 use script_tales::Teller;
 use script_tales::words::push_name;
-use sm_names::{Fired, HeldBuffer};
+use sm_names::{Fired, HeldBuffer, NodeKey};
 use std::alloc::{AllocError, Global};
 use text_parts::{Part, push_parts};
 
@@ -45,9 +45,17 @@ pub fn push_svg(
 {
     let mut body = Vec::new(*text.allocator());
     let extent = push_body(&mut body, teller, picture, line)?;
-    push_frame(text, extent.right, extent.bottom)?;
-    push_framed(text, &body)?;
+    push_whole(text, extent, &body)?;
     Ok(())
+}
+
+// Appends these elements in a frame of this size.
+fn push_whole(text: &mut Vec<u8>, extent: Extent, body: &Vec<u8>) -> Result<(), AllocError>
+    ensures { OnOk result (text.new.items ≡ text.old.items
+        ++ framed_text extent.right extent.bottom body.now.items) }
+{
+    push_frame(text, extent.right, extent.bottom)?;
+    push_framed(text, body)
 }
 
 // Appends what stands in the frame; answers the width and the height of the picture.
@@ -166,12 +174,28 @@ fn node_tenths(alloc: Global, teller: &Teller, node: &Node, start: u64) -> Resul
     ensures { IfOk result (λ tenths. (names : Names) → Keeps teller.now.session.tables names →
         Calls teller.now.labels names → tenths ≡ tenths_of_node names start node.now) }
 {
-    let mut name = Vec::new(alloc);
-    push_name(&mut name, &teller.session.tables, node.key)?;
-    let lines = node_lines(alloc, teller, node)?;
-    let head = plus(240, times(90, plus(name.len() as u64, 2)));
-    let below = plus(240, times(73, longest_of(&lines)));
+    let head = name_tenths(alloc, &teller.session.tables, node.key)?;
+    let below = lines_tenths(alloc, teller, node)?;
     Ok(start.max(head).max(below))
+}
+
+// The width that the name of a node needs, in tenths.
+fn name_tenths(alloc: Global, tables: &Tables, node: NodeKey) -> Result<u64, AllocError>
+    ensures { IfOk result (λ tenths. (names : Names) → Keeps tables.now names →
+        tenths ≡ tenths_of_name names node) }
+{
+    let mut name = Vec::new(alloc);
+    push_name(&mut name, tables, node)?;
+    Ok(plus(240, times(90, plus(name.len() as u64, 2))))
+}
+
+// The width that the longest line of the node's box below its name needs, in tenths.
+fn lines_tenths(alloc: Global, teller: &Teller, node: &Node) -> Result<u64, AllocError>
+    ensures { IfOk result (λ tenths. (names : Names) → Keeps teller.now.session.tables names →
+        Calls teller.now.labels names → tenths ≡ tenths_of_lines names node.now) }
+{
+    let lines = node_lines(alloc, teller, node)?;
+    Ok(plus(240, times(73, longest_of(&lines))))
 }
 
 // The length of the longest of these lines.

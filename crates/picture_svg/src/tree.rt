@@ -6,7 +6,7 @@ ghost use Rattle.script_labels.specs.Tables.{Keeps};
 ghost use Rattle.script_pictures.specs.declared.travel.Travel.{Travel as Step};
 ghost use Rattle.script_pictures.specs.Travels.{FindsTravels};
 ghost use Rattle.script_tales.specs.Called.{Calls};
-ghost use Rattle.picture_svg.specs.Trees.{border_width, box_paint, svg_box, svg_box_words, dashes_text, line_items, svg_lines, sign_text, tree_bottom, tree_boxes, tree_right, svg_tree, trees_bottom, trees_right, svg_trees};
+ghost use Rattle.picture_svg.specs.Trees.{bars_row, border_width, box_paint, svg_box, svg_box_words, dashes_text, line_items, nodes_right, svg_lines, svg_name, svg_nodes, svg_words_below, sign_text, tree_bottom, tree_boxes, tree_right, svg_tree, trees_bottom, trees_right, svg_trees};
 ghost use Rattle.picture_svg.specs.Elements.{rect_text};
 
 use crate::bars::{Extent, bars_of, push_bars};
@@ -16,6 +16,7 @@ use crate::links::push_links;
 use event_facts::KeyMap;
 use forest_store::Node;
 use picture_layout::{BOX_HEIGHT, Corner, NodeBox, boxes_of, lowest_row, plus, right_edge};
+use script_labels::Tables;
 use script_pictures::colors::{edge_color, fill_color, ink_color};
 use script_pictures::{Class, Travel, Tree, class_of};
 use script_tales::Teller;
@@ -108,17 +109,38 @@ fn push_tree(
         Calls teller.now.labels names → extent.right ≡ tree_right teller.now.session.core names
         clients.now.items width above.bottom above.right tree.now) }
 {
-    let boxes = boxes_from(tree, width, above.bottom)?;
+    let below = push_nodes(body, teller, tree, travels, width, above)?;
     let bars = bars_of(teller, clients, tree)?;
-    push_links(body, &boxes, width, travels)?;
-    push_boxes(body, teller, &boxes, width)?;
-    let row = plus(lowest_row(&boxes, above.bottom), BOX_HEIGHT + 30);
-    let right = above.right.max(right_edge(&boxes, width));
-    let extent = push_bars(body, &bars, width, row, right)?;
+    let extent = push_bars(body, &bars, width, below.bottom, below.right)?;
     Ok(Extent {
         bottom: plus(extent.bottom, 26),
         right: extent.right,
     })
+}
+
+// Draws the links and the boxes of a tree below what is there; answers the row of its buffers, and the last
+// column.
+fn push_nodes(
+    body: &mut Vec<u8>,
+    teller: &Teller,
+    tree: &Tree,
+    travels: &KeyMap<Travel>,
+    width: u64,
+    above: Extent,
+) -> Result<Extent, AllocError>
+    ensures text { OnOk result ((names : Names) → Keeps teller.now.session.tables names →
+        Calls teller.now.labels names → (steps : List Step) → FindsTravels travels.now steps →
+        body.new.items ≡ body.old.items ++ svg_nodes names steps width above.bottom tree.now) }
+    ensures bottom { IfOk result (λ below. below.bottom ≡ bars_row width above.bottom tree.now) }
+    ensures right { IfOk result (λ below.
+        below.right ≡ nodes_right width above.bottom above.right tree.now) }
+{
+    let boxes = boxes_from(tree, width, above.bottom)?;
+    push_links(body, &boxes, width, travels)?;
+    push_boxes(body, teller, &boxes, width)?;
+    let row = plus(lowest_row(&boxes, above.bottom), BOX_HEIGHT + 30);
+    let right = above.right.max(right_edge(&boxes, width));
+    Ok(Extent { bottom: row, right })
 }
 
 // Where the boxes of the tree are, from this row on.
@@ -204,13 +226,39 @@ fn push_box_words(
         Calls teller.now.labels names →
         body.new.items ≡ body.old.items ++ svg_box_words names corner node.now) }
 {
-    let alloc = *body.allocator();
-    let name = node_name(alloc, &teller.session.tables, node)?;
-    let lines = node_lines(alloc, teller, node)?;
+    push_name(body, &teller.session.tables, node, corner)?;
+    push_words_below(body, teller, node, corner)
+}
+
+// Puts the name of the node into its box.
+fn push_name(
+    body: &mut Vec<u8>,
+    tables: &Tables,
+    node: &Node,
+    corner: Corner,
+) -> Result<(), AllocError>
+    ensures { OnOk result ((names : Names) → Keeps tables.now names →
+        body.new.items ≡ body.old.items ++ svg_name names corner node.now) }
+{
+    let name = node_name(*body.allocator(), tables, node)?;
+    let style = bold(15, ink_color(class_of(node)));
+    push_words(body, plus(corner.x, 10), plus(corner.y, 20), style, &name)
+}
+
+// Puts the lines below the name of the node into its box.
+fn push_words_below(
+    body: &mut Vec<u8>,
+    teller: &Teller,
+    node: &Node,
+    corner: Corner,
+) -> Result<(), AllocError>
+    ensures { OnOk result ((names : Names) → Keeps teller.now.session.tables names →
+        Calls teller.now.labels names →
+        body.new.items ≡ body.old.items ++ svg_words_below names corner node.now) }
+{
+    let lines = node_lines(*body.allocator(), teller, node)?;
     let fill = ink_color(class_of(node));
-    let x = plus(corner.x, 10);
-    push_words(body, x, plus(corner.y, 20), bold(15, fill), &name)?;
-    push_lines(body, x, plus(corner.y, 38), fill, &lines)
+    push_lines(body, plus(corner.x, 10), plus(corner.y, 38), fill, &lines)
 }
 
 // Puts these lines into a box, from this row on.
