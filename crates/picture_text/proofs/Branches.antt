@@ -40,23 +40,21 @@ child_more stem depth last all left c old new rest top =
     ∙ ap (λ (ts : List Twig). ts ++ reverse old) (sym (ap (twigs stem depth last) rest ∙ twigs_more stem depth last left c)))
 
 -- the root alone stands first and last
-pub begun : (nodes : List Node) (ts : List Twig) → ts ≡ first_branches nodes → outline_from (length nodes - 0) nodes (reverse ts) ≡ outline nodes
-begun nodes ts is =
-    let all : length nodes - 0 ≡ length nodes = omega arith in
-    (λ i. outline_from (all i) nodes (reverse (is i))) ∙ alone nodes
+pub begun : (nodes : List Node) (ts : List Twig) → ts ≡ first_branches nodes → outline_from (length nodes) nodes (reverse ts) ≡ outline nodes
+begun nodes ts is = ap (λ (waiting : List Twig). outline_from (length nodes) nodes (reverse waiting)) is ∙ alone nodes
   where
     alone : (ns : List Node) → outline_from (length nodes) nodes (reverse (first_branches ns)) ≡ outline_from (length nodes) nodes (first_branches ns)
     alone [] = refl
     alone (root ∷ others) = refl
 
 -- one more line, and the children of its node wait in front of the others
-pub line_more : (nodes : List Node) (at : ℕ) (lines : List Line) (t : Twig) (old left new : List Twig) → at < length nodes →
+pub line_more : (count : ℕ) (nodes : List Node) (at : ℕ) (lines : List Line) (t : Twig) (old left new : List Twig) → at < count →
     old ≡ left ++ t ∷ [] → reverse new ≡ twigs_below nodes t ++ reverse left →
-    (lines ++ line_of_branch t ∷ []) ++ outline_from (length nodes - (at + 1)) nodes (reverse new)
-    ≡ lines ++ outline_from (length nodes - at) nodes (reverse old)
-line_more nodes at lines t old left new more top below =
-    let n : ℕ = length nodes - (at + 1) in
-    let one : length nodes - at ≡ suc n = omega arith in
+    (lines ++ line_of_branch t ∷ []) ++ outline_from (count - (at + 1)) nodes (reverse new)
+    ≡ lines ++ outline_from (count - at) nodes (reverse old)
+line_more count nodes at lines t old left new more top below =
+    let n : ℕ = count - (at + 1) in
+    let one : count - at ≡ suc n = omega arith in
     let first : reverse old ≡ t ∷ reverse left = ap reverse top ∙ turned left t in
     append_assoc lines (line_of_branch t ∷ []) (outline_from n nodes (reverse new))
     ∙ (ap (λ (ts : List Twig). lines ++ line_of_branch t ∷ outline_from n nodes ts) below
@@ -73,11 +71,11 @@ none_waits n nodes lines ts none =
     ap (λ (l : List Twig). lines ++ outline_from n nodes (reverse l)) none
     ∙ (ap (λ (l : List Line). lines ++ l) (lines_none n nodes) ∙ append-nil lines)
 
--- nor behind as many as there are nodes
-pub lines_end : (nodes : List Node) (at : ℕ) (lines : List Line) (ts : List Twig) → length nodes ≤ at →
-    lines ++ outline_from (length nodes - at) nodes ts ≡ lines
-lines_end nodes at lines ts all =
-    let none : length nodes - at ≡ 0 = omega arith in
+-- nor behind so many
+pub lines_end : (count : ℕ) (nodes : List Node) (at : ℕ) (lines : List Line) (ts : List Twig) → count ≤ at →
+    lines ++ outline_from (count - at) nodes ts ≡ lines
+lines_end count nodes at lines ts all =
+    let none : count - at ≡ 0 = omega arith in
     ap (λ (n : ℕ). lines ++ outline_from n nodes ts) none ∙ append-nil lines
 
 -- the widest row is the widest line

@@ -2,7 +2,7 @@
 ghost use Rattle.std.specs.Prelude.{◌≡◌, ◌++◌, ◌∷◌, [], true, IfOk, OnOk, List, map, reverse};
 ghost use Rattle.forest_store.specs.declared.node.Node.{Node as Kept};
 ghost use Rattle.script_pictures.specs.Kin.{FindsChildren};
-ghost use Rattle.picture_text.specs.Outlines.{begin_text, branch_of, first_branches, line_of_row, line_of_branch, outline, stem_text, twig, twigs, twigs_below};
+ghost use Rattle.picture_text.specs.Outlines.{begin_text, branch_of, first_branches, line_of_row, line_of_branch, outline, outline_from, stem_text, twig, twigs, twigs_below};
 
 use event_facts::KeyRows;
 use forest_store::Node;
@@ -30,22 +30,54 @@ struct Branch {
 
 // A row for each node, the root first, and behind each node the rows of its children, by birth. Costs
 // O(n log n) for n nodes, and the lines.
-#[tactic(auto, using(crate::proofs::Branches::lines_end))]
 pub(crate) fn outline_of(nodes: &Vec<Node>) -> Result<Vec<Row>, AllocError>
     ensures { IfOk result (λ rows. map line_of_row rows.items ≡ outline nodes.now.items) }
 {
     let children = children_by_key(nodes)?;
-    let mut rows = Vec::new(*nodes.allocator());
     let mut waiting = begin(nodes)?;
-    for at in 0..nodes.len() {
-        let Some(next) = waiting.pop() else {
-            return Ok(rows);
-        };
-        push_below(&children, &next, &mut waiting)?;
-        let row = row_of(next)?;
-        rows.push(row)?;
-    }
+    let mut rows = Vec::new(*nodes.allocator());
+    push_waiting(&mut rows, &mut waiting, &children, nodes.len())?;
     Ok(rows)
+}
+
+// Puts the rows of those that wait behind the others, and below each those of its children, but no more
+// than so many.
+fn push_waiting(
+    rows: &mut Vec<Row>,
+    waiting: &mut Vec<Branch>,
+    children: &KeyRows<Node>,
+    count: usize,
+) -> Result<(), AllocError>
+    ensures { OnOk result ((nodes : List Kept) → FindsChildren children.now nodes →
+        map line_of_row rows.new.items ≡ map line_of_row rows.old.items
+        ++ outline_from count nodes (reverse (map branch_of waiting.old.items))) }
+{
+    for at in 0..count {
+        let Some(next) = waiting.pop() else {
+            return Ok(());
+        };
+        push_next(rows, waiting, children, next)?;
+    }
+    Ok(())
+}
+
+// Puts the row of the node behind the others; its children wait.
+fn push_next(
+    rows: &mut Vec<Row>,
+    waiting: &mut Vec<Branch>,
+    children: &KeyRows<Node>,
+    next: Branch,
+) -> Result<(), AllocError>
+    ensures row { OnOk result (map line_of_row rows.new.items
+        ≡ map line_of_row rows.old.items ++ line_of_branch (branch_of next) ∷ []) }
+    ensures below { OnOk result ((nodes : List Kept) → FindsChildren children.now nodes →
+        reverse (map branch_of waiting.new.items)
+        ≡ twigs_below nodes (branch_of next) ++ reverse (map branch_of waiting.old.items)) }
+{
+    push_below(children, &next, waiting)?;
+    let row = row_of(next)?;
+    rows.push(row)?;
+    Ok(())
 }
 
 // The first of the nodes alone, which is the root, if there is one.

@@ -1,13 +1,14 @@
 //! A picture as text.
-ghost use Rattle.std.specs.Prelude.{◌≡◌, ◌++◌, OnOk};
+ghost use Rattle.std.specs.Prelude.{◌≡◌, ◌++◌, OnOk, map};
 ghost use Rattle.std.specs.List.{flat_map, list_any};
 ghost use Rattle.script_labels.specs.Names.{Names};
 ghost use Rattle.script_labels.specs.Tables.{Keeps};
 ghost use Rattle.script_labels.specs.Texts.{fired_text};
 ghost use Rattle.script_tales.specs.Called.{Calls};
+ghost use Rattle.picture_text.specs.Outlines.{line_of_row, outline};
 ghost use Rattle.picture_text.specs.TextPictures.{colon as colon_behind, fired_line, free_text, has_page, head_text, picture_text, pool_signs, pool_text, sign_of_page, signs_of_pages, tree_text};
 
-use crate::outline::outline_of;
+use crate::outline::{Row, outline_of};
 use crate::rows::{push_held_rows, push_rows, width_of};
 use lifetime_core::Core;
 use script_labels::{Stop, Tables, push_firing};
@@ -97,9 +98,25 @@ fn push_tree(
         ++ tree_text teller.now.session.core names clients.now.items tree.now) }
 {
     let rows = outline_of(&tree.nodes)?;
-    let width = width_of(teller, &rows)?;
+    push_grown(text, teller, clients, tree, &rows)
+}
+
+// Appends a tree, whose nodes have these rows.
+fn push_grown(
+    text: &mut Vec<u8>,
+    teller: &Teller,
+    clients: &Vec<ClientId>,
+    tree: &Tree,
+    rows: &Vec<Row>,
+) -> Result<(), AllocError>
+    ensures { OnOk result ((names : Names) → Keeps teller.now.session.tables names →
+        Calls teller.now.labels names →
+        map line_of_row rows.now.items ≡ outline tree.now.nodes.items → text.new.items
+        ≡ text.old.items ++ tree_text teller.now.session.core names clients.now.items tree.now) }
+{
+    let width = width_of(teller, rows)?;
     push(text, "\n")?;
-    push_rows(text, teller, &rows, &tree.left, width)?;
+    push_rows(text, teller, rows, &tree.left, width)?;
     push_held_rows(text, teller, clients, tree, width)
 }
 

@@ -1,13 +1,14 @@
 //! The rows of a tree as text: one for each node, and one for each buffer with pages.
-ghost use Rattle.std.specs.Prelude.{◌≡◌, ◌-◌, ◌++◌, IfOk, List, OnOk, replicate};
+ghost use Rattle.std.specs.Prelude.{◌≡◌, ◌-◌, ◌++◌, IfOk, List, OnOk, length, replicate};
 ghost use Rattle.std.specs.List.{flat_map};
 ghost use Rattle.sm_names.specs.declared.keys.NodeKey.{NodeKey as Key};
 ghost use Rattle.event_facts.specs.KeyMaps.{HasKeys};
 ghost use Rattle.script_labels.specs.Names.{Names, label_of_node};
 ghost use Rattle.script_labels.specs.Tables.{Keeps};
 ghost use Rattle.script_tales.specs.Called.{Calls, last_label, other_text};
+ghost use Rattle.script_tales.specs.FactTexts.{buffer_name};
 ghost use Rattle.picture_text.specs.Outlines.{line_of_row};
-ghost use Rattle.picture_text.specs.TextPictures.{asked_text, buffer_row, dispensable_text, facts_text, fallen_text, full_name as full_name_of, in_parentheses, keepers_text, live_text, name_cell, node_mark as mark_in, pages_row, released_text, row_text, row_width as width_of_row, sign_of_class, signs_of_node, state_text, told_row, weak_text, widest_row};
+ghost use Rattle.picture_text.specs.TextPictures.{asked_text, buffer_row, dispensable_text, facts_text, fallen_text, full_name as full_name_of, in_parentheses, keepers_text, live_text, name_cell, node_mark as mark_in, pages_row, released_text, row_text, row_width as width_of_row, sign_of_class, signs_of_node, spaces, state_text, told_row, weak_text, widest_row};
 
 use crate::outline::Row;
 use event_facts::keys_of;
@@ -18,7 +19,7 @@ use script_lines::push;
 use script_pictures::{Class, Tree, class_of, gap_behind, kind_name, push_pages, push_place};
 use script_tales::words::push_nodes;
 use script_tales::{Teller, push_holders};
-use sm_names::{ClientId, Constraints, Fault, HeldBuffer, NodeKey};
+use sm_names::{BufferName, ClientId, Constraints, Fault, HeldBuffer, NodeKey};
 use std::alloc::AllocError;
 use text_parts::{Part, push_parts};
 
@@ -337,12 +338,34 @@ fn push_pages_row(
     ensures { OnOk result ((names : Names) → Keeps teller.now.session.tables names →
         text.new.items ≡ text.old.items ++ pages_row names width buffer) }
 {
-    let mut name = Vec::new(*text.allocator());
-    teller.push_buffer_name(&mut name, buffer.buffer)?;
-    push_parts(text, &[Part::Bytes(&name)])?;
-    push_spaces(text, width.saturating_sub(name.len() as u64))?;
+    push_buffer_name(text, teller, buffer.buffer, width)?;
     push(text, "     ")?;
     push_pages(text, buffer.pages)
+}
+
+// Appends the name of the buffer, up to this width.
+fn push_buffer_name(
+    text: &mut Vec<u8>,
+    teller: &Teller,
+    buffer: BufferName,
+    width: u64,
+) -> Result<(), AllocError>
+    ensures { OnOk result ((names : Names) → Keeps teller.now.session.tables names →
+        text.new.items ≡ text.old.items
+        ++ (buffer_name names buffer ++ spaces (length (buffer_name names buffer)) width)) }
+{
+    let mut name = Vec::new(*text.allocator());
+    teller.push_buffer_name(&mut name, buffer)?;
+    push_padded(text, &name, width)
+}
+
+// Appends the words, up to this width.
+fn push_padded(text: &mut Vec<u8>, words: &[u8], width: u64) -> Result<(), AllocError>
+    ensures { OnOk result (text.new.items
+        ≡ text.old.items ++ (words.now ++ spaces (length words.now) width)) }
+{
+    text.extend_from_slice(words)?;
+    push_spaces(text, width.saturating_sub(words.len() as u64))
 }
 
 // Appends who keeps the buffer, where these nodes are strong and live.
