@@ -4,3 +4,4 @@ pub mod Playing
 pub mod Running
 pub mod Settings
 pub mod Taking
+pub mod Viewing

@@ -102,7 +102,7 @@ module _ (setting : Setting) (player : Player) (old mid : Option (List ℕ)) (li
       }
 
   -- the output so far and the pending text behind it are all the text of the lines
-  all-written : (new : Option (List ℕ)) → Appends mid new player.out.items → Appends old new far.texts
+  pub all-written : (new : Option (List ℕ)) → Appends mid new player.out.items → Appends old new far.texts
   all-written new out =
       subst (Appends old new) (sym far.split) (Appends-trans old mid new far.done player.out.items far.written out)
 

@@ -1,7 +1,7 @@
 -- A piece of a script whose lines are taken one after another.
-use Rattle.std.proofs.Common.{◌≡◌, ◌≢◌, ℕ, ◌+◌, ◌-◌, ◌<◌, ◌≤◌, ◌==◌, true, false, List, [], ◌∷◌, ◌++◌, length, length-append, length-drop, take, drop, append_assoc, append-nil, refl, sym, ap, ◌∙◌, subst, Option, Some, None, arith}
+use Rattle.std.proofs.Common.{◌≡◌, ◌≢◌, ℕ, ◌+◌, ◌-◌, ◌<◌, ◌≤◌, ◌==◌, true, false, List, [], ◌∷◌, ◌++◌, length, length-append, length-drop, take, drop, append_assoc, append-nil, eqb-true, refl, sym, ap, ◌∙◌, subst, Option, Some, None, arith}
 use Rattle.std.proofs.lemmas.Bool.{both_ways, eq-eqb}
-use Rattle.std.proofs.lemmas.List.{take_rest}
+use Rattle.std.proofs.lemmas.List.{nil_from_length, take_rest}
 use Rattle.std.specs.List.{position}
 use Rattle.sm_script.specs.declared.fault.ScriptFault.{ScriptFault}
 use Rattle.sm_script.specs.declared.player.Player.{Player}
@@ -10,6 +10,10 @@ use Rattle.sm_script.specs.Players.{SoFar, Answered, Breaks, Broken, Failed}
 use Rattle.sm_script.specs.Runs.{Stopped}
 use Rattle.script_lines.proofs.Piecing.{is_end, ends_found, unended_none}
 use Rattle.sm_script.proofs.Playing.{stopped-breaks, stopped-more}
+
+-- bytes of which there are none
+pub no-rest : (rest : List ℕ) → (length rest == 0) ≡ true → rest ≡ []
+no-rest rest none = nil_from_length rest (eqb-true (length rest) 0 none)
 
 -- bytes behind the front are something
 pub some_behind : (front rest : List ℕ) → (length rest == 0) ≡ false → front ++ rest ≢ []

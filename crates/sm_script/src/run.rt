@@ -49,13 +49,29 @@ pub fn run_script<R: Read, W: Write>(
         (R.remaining reader.old) (R.remaining reader.new)
         (W.contents writer.old) (W.contents writer.new) result }
 {
-    let mut player = match Player::new(alloc, seed, pages, limits) {
-        Ok(player) => player,
-        Err(_) => return Err(ScriptFault::NoMemory),
-    };
+    match Player::new(alloc, seed, pages, limits) {
+        Ok(mut player) => start(alloc, reader, writer, &mut player),
+        Err(_) => Err(ScriptFault::NoMemory),
+    }
+}
+
+// Makes room for a block and the front of a line, then reads and answers from the first byte on.
+fn start<R: Read, W: Write>(
+    alloc: Global,
+    reader: &mut R,
+    writer: &mut W,
+    player: &mut Player,
+) -> Result<(), ScriptFault>
+    requires no_lines { player.old.lines ≡ 0 }
+    requires no_text { player.old.out.items ≡ [] }
+    ensures { (setting : Setting) →
+        SoFar setting player.old (W.contents writer.old) (W.contents writer.old) [] →
+        Runs setting (R.remaining reader.old) (R.remaining reader.new)
+        (W.contents writer.old) (W.contents writer.new) result }
+{
     let mut front = Vec::new(alloc);
     match vec![in alloc; 0; BLOCK] {
-        Ok(mut block) => read_on(reader, writer, &mut player, &mut front, &mut block),
+        Ok(mut block) => read_on(reader, writer, player, &mut front, &mut block),
         Err(_) => Err(ScriptFault::NoMemory),
     }
 }

@@ -157,9 +157,10 @@ impl Session {
             Gains self.now self.now (Act.Show view) text.old.items text.new.items scene) }
         ensures err { IfErr result (λ stop. stop ≡ Stop.NoMemory) }
     {
-        push_view(text, &self.core, &self.tables, view)?;
-        push(text, "\n")?;
-        Ok(())
+        match push_view(text, &self.core, &self.tables, view) {
+            Ok(()) => Ok(push(text, "\n")?),
+            Err(_) => Err(Stop::NoMemory),
+        }
     }
 }
 
@@ -187,7 +188,12 @@ fn firing(readers: &mut HashMap<TrackerId, Tracker>, core: &Core, tracker: Track
         Contains (fired (timeline core.now.pool history))
         (record { tracker = tracker; event = event })) }
 {
-    let event = readers.get_mut(&tracker)?.poll()?.event;
+    let Some(reader) = readers.get_mut(&tracker) else {
+        return None;
+    };
+    let Some(Fired { event, .. }) = reader.poll() else {
+        return None;
+    };
     if stands_in(core.fired(), Fired { tracker, event }) {
         Some(event)
     } else {

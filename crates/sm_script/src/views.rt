@@ -1,5 +1,5 @@
 //! The texts of views.
-ghost use Rattle.std.specs.Prelude.{◌≡◌, ◌++◌, List, OnOk, IfErr};
+ghost use Rattle.std.specs.Prelude.{◌≡◌, ◌++◌, List, OnOk, codes, decimal};
 ghost use Rattle.std.specs.List.{flat_map};
 ghost use Rattle.sm_names.specs.Marks.{Entry};
 ghost use Rattle.sm_names.specs.Timelines.{timeline};
@@ -9,7 +9,7 @@ ghost use Rattle.script_labels.specs.Tables.{Keeps};
 ghost use Rattle.script_labels.specs.Texts.{fired_text, held_text, node_text, view_text};
 
 use lifetime_core::Core;
-use script_labels::{Stop, Tables, push_firing, push_held, push_node};
+use script_labels::{Tables, push_firing, push_held, push_node};
 use script_lines::{View, push, push_number};
 use sm_names::{Fired, HeldBuffer, NodeKey};
 use std::alloc::AllocError;
@@ -20,43 +20,39 @@ pub(crate) fn push_view(
     core: &Core,
     tables: &Tables,
     view: View,
-) -> Result<(), Stop>
-    ensures ok { OnOk result ((names : Names) (history : List Entry) → Keeps tables.now names →
+) -> Result<(), AllocError>
+    ensures { OnOk result ((names : Names) (history : List Entry) → Keeps tables.now names →
         Shows core.now history → text.new.items
         ≡ text.old.items ++ view_text core.now.pool (timeline core.now.pool history) names view) }
-    ensures err { IfErr result (λ stop. stop ≡ Stop.NoMemory) }
 {
     match view {
-        View::Live => {
-            let nodes = core.live()?;
-            push(text, "live")?;
-            push_nodes(text, tables, nodes.as_slice())?;
-            Ok(())
-        }
-        View::Held => {
-            let buffers = core.held()?;
-            push(text, "held")?;
-            push_buffers(text, tables, buffers.as_slice())?;
-            Ok(())
-        }
-        View::Fired => {
-            push(text, "fired")?;
-            push_firings(text, tables, core.fired())?;
-            Ok(())
-        }
-        View::Free => {
-            push(text, "free ")?;
-            push_number(text, core.free_pages() as u64)?;
-            Ok(())
-        }
+        View::Live => match core.live() {
+            Ok(nodes) => push_nodes(text, tables, nodes.as_slice()),
+            Err(_) => Err(AllocError),
+        },
+        View::Held => match core.held() {
+            Ok(buffers) => push_buffers(text, tables, buffers.as_slice()),
+            Err(_) => Err(AllocError),
+        },
+        View::Fired => push_firings(text, tables, core.fired()),
+        View::Free => push_free(text, core.free_pages()),
     }
 }
 
-// Appends the nodes.
+// Appends the number of free pages.
+fn push_free(text: &mut Vec<u8>, pages: u32) -> Result<(), AllocError>
+    ensures { OnOk result (text.new.items ≡ text.old.items ++ (codes "free " ++ decimal pages)) }
+{
+    push(text, "free ")?;
+    push_number(text, pages as u64)
+}
+
+// Appends the live nodes.
 fn push_nodes(text: &mut Vec<u8>, tables: &Tables, nodes: &[NodeKey]) -> Result<(), AllocError>
     ensures { OnOk result ((names : Names) → Keeps tables.now names →
-        text.new.items ≡ text.old.items ++ flat_map (node_text names) nodes.now) }
+        text.new.items ≡ text.old.items ++ (codes "live" ++ flat_map (node_text names) nodes.now)) }
 {
+    push(text, "live")?;
     for node in nodes {
         push_node(text, tables, *node)?;
     }
@@ -70,8 +66,9 @@ fn push_buffers(
     buffers: &[HeldBuffer],
 ) -> Result<(), AllocError>
     ensures { OnOk result ((names : Names) → Keeps tables.now names →
-        text.new.items ≡ text.old.items ++ flat_map (held_text names) buffers.now) }
+        text.new.items ≡ text.old.items ++ (codes "held" ++ flat_map (held_text names) buffers.now)) }
 {
+    push(text, "held")?;
     for held in buffers {
         push_held(text, tables, *held)?;
     }
@@ -81,8 +78,9 @@ fn push_buffers(
 // Appends the firings.
 fn push_firings(text: &mut Vec<u8>, tables: &Tables, firings: &[Fired]) -> Result<(), AllocError>
     ensures { OnOk result ((names : Names) → Keeps tables.now names →
-        text.new.items ≡ text.old.items ++ flat_map (fired_text names) firings.now) }
+        text.new.items ≡ text.old.items ++ (codes "fired" ++ flat_map (fired_text names) firings.now)) }
 {
+    push(text, "fired")?;
     for firing in firings {
         push_firing(text, tables, *firing)?;
     }
