@@ -28,3 +28,10 @@ four old a b c d t u v w one next then last =
     ∙ ap (λ (back : List ℕ). old ++ back) (append_assoc a (b ++ (c ++ [])) d
     ∙ ap (λ (back : List ℕ). a ++ back) (append_assoc b (c ++ []) d
     ∙ ap (λ (back : List ℕ). b ++ back) (append_assoc c [] d ∙ ap (λ (back : List ℕ). c ++ back) (sym (append-nil d)))))
+
+-- two texts, and behind them the rest
+pub pair-and : (old a b t w rest : List ℕ) → t ≡ old ++ (a ++ (b ++ [])) → w ≡ t ++ rest → w ≡ old ++ (a ++ (b ++ rest))
+pair-and old a b t w rest is more =
+    one-more old (a ++ (b ++ [])) t w is rest more
+    ∙ ap (λ (back : List ℕ). old ++ back) (append_assoc a (b ++ []) rest
+    ∙ ap (λ (back : List ℕ). a ++ back) (append_assoc b [] rest))
