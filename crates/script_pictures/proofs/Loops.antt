@@ -1,17 +1,13 @@
--- Texts of the elements of a list, one more at a time.
-use Rattle.std.proofs.Common.{◌≡◌, ◌∙◌, ap, sym, ℕ, ◌+◌, ◌<◌, List, [], ◌∷◌, ◌++◌, append_assoc, append-nil, get_or, length, take}
-use Rattle.std.specs.List.{flat_map}
-use Rattle.std.proofs.lemmas.Grind.{flat_map-append}
-use Rattle.std.proofs.lemmas.List.{take_more}
+-- Texts and lists of the elements of a list, one more at a time.
+use Rattle.std.proofs.Common.{◌≡◌, ◌∙◌, ap, sym, ℕ, ◌+◌, ◌<◌, List, [], ◌∷◌, ◌++◌, get_or, length, map, take}
+use Rattle.std.proofs.lemmas.List.{map-append, take_more}
 
--- the text of one more comes last
-pub one-more : {A : Type 0} (f : A → List ℕ) (xs : List A) (i : ℕ) (x : A) (front old new : List ℕ) → i < length xs → get_or xs i x ≡ x →
-    old ≡ front ++ flat_map f (take i xs) → new ≡ old ++ f x → new ≡ front ++ flat_map f (take (i + 1) xs)
-one-more f xs i x front old new within is before put =
-    let split = take_more xs i x within ∙ ap (λ y. take i xs ++ y ∷ []) is in
-    let more : flat_map f (take (i + 1) xs) ≡ flat_map f (take i xs) ++ f x =
-    ap (flat_map f) split
-    ∙ (flat_map-append f (take i xs) (x ∷ []) ∙ ap (λ (t : List ℕ). flat_map f (take i xs) ++ t) (append-nil (f x))) in
-    put
-    ∙ (ap (λ (t : List ℕ). t ++ f x) before
-    ∙ (append_assoc front (flat_map f (take i xs)) (f x) ∙ ap (λ (t : List ℕ). front ++ t) (sym more)))
+pub use Rattle.script_tales.proofs.Loops.{one-more}
+
+-- what is made of one more comes last
+pub one-mapped : {A B : Type 0} (f : A → B) (xs : List A) (i : ℕ) (x : A) (y : B) (old new : List B) → i < length xs → get_or xs i x ≡ x →
+    old ≡ map f (take i xs) → y ≡ f x → new ≡ old ++ y ∷ [] → new ≡ map f (take (i + 1) xs)
+one-mapped f xs i x y old new within is before made put =
+    let more : map f (take (i + 1) xs) ≡ map f (take i xs) ++ f x ∷ [] =
+    ap (map f) (take_more xs i x within ∙ ap (λ z. take i xs ++ z ∷ []) is) ∙ map-append f (take i xs) (x ∷ []) in
+    put ∙ ((λ k. before k ++ made k ∷ []) ∙ sym more)

@@ -1,8 +1,12 @@
-use Rattle.std.proofs.Common.{arith}
-use Rattle.std.proofs.lemmas.Grind.{common_steps}
-use Rattle.std.proofs.lemmas.List.{map-append}
+use Rattle.std.proofs.Common.{◌<◌, arith, length, sym}
+use Rattle.script_pictures.specs.Albums.{seen_for}
+use Rattle.script_pictures.proofs.Loops.{one-mapped}
 use Rattle.script_pictures.proofs.album.replaced.Goals as goal
 
 -- one more comes last
 pub loop-other-preserved : goal.loop-other-preserved
-loop-other-preserved c = grind (arith, common_steps, map-append)
+loop-other-preserved c =
+    let within : c.loop-other.other-index < length c.deref-other-items.result.now = omega arith in
+    let all = c.deref-other-items.ensures.value in
+    one-mapped (seen_for c.args.node.now) c.args.nodes.now.items c.loop-other.other-index c.other-item.result c.either.result c.loop-other.more.items
+    c.push.new.self.items (rw all at within) (rw all at (sym c.other-item.is)) c.loop-other.invariant c.either.ensures c.in_ok-push.ensures.items
