@@ -1,53 +1,64 @@
 //! The status that a program ends with, and what it tells.
-use script_lines::Pages;
+use crate::tests::threads::fixture::{SEED, report_of};
 use sm_script::run_to_exit;
 use std::alloc::Global;
-use std::process::ExitCode;
+use std::process::{Abort, ExitCode};
+use std::sync::Wait;
+use std::thread::Threads;
+use std::time::Clock;
+use thread_runs::run_threads_to_exit;
 use trial_streams::{FailingWriter, ShortReader};
 
-/// A script; the numbers of the read, of the write of a reply and of the write of a fault that fail, or 0; and the
-/// replies, the text of the fault and the status.
-struct Exit {
-    script: &'static str,
-    fails: [usize; 3],
-    replies: &'static str,
-    told: &'static str,
-    status: u8,
+/// What runs a script.
+#[derive(Clone, Copy)]
+pub enum Runner {
+    Script,
+    Threads,
+}
+
+/// A script; the numbers of the read, of the write and of the write of a fault that fail, or 0; and what is written, the
+/// text of the fault and the status.
+pub struct Exit {
+    pub script: &'static str,
+    pub fails: [usize; 3],
+    pub written: &'static str,
+    pub told: &'static str,
+    pub status: u8,
 }
 
 const OUTCOMES: &[Exit] = &[
     Exit {
         script: "",
         fails: [0, 0, 0],
-        replies: "",
+        written: "",
         told: "",
         status: 0,
     },
     Exit {
         script: "a join\nshow free\n",
         fails: [0, 0, 0],
-        replies: "joined\nfree 16\n",
+        written: "joined\nfree 16\n",
         told: "",
         status: 0,
     },
     Exit {
         script: "a join\na fly\n",
         fails: [0, 0, 0],
-        replies: "joined\n",
+        written: "joined\n",
         told: "bad line 2\n",
         status: 3,
     },
     Exit {
         script: "a join\nshow free",
         fails: [0, 0, 0],
-        replies: "joined\n",
+        written: "joined\n",
         told: "bad line 2\n",
         status: 3,
     },
     Exit {
         script: "a join\na ope",
         fails: [0, 0, 0],
-        replies: "joined\n",
+        written: "joined\n",
         told: "bad line 2\n",
         status: 3,
     },
@@ -57,14 +68,14 @@ const BROKEN: &[Exit] = &[
     Exit {
         script: "a join\n",
         fails: [1, 0, 0],
-        replies: "",
+        written: "",
         told: "read fault\n",
         status: 1,
     },
     Exit {
         script: "a join\n",
         fails: [0, 1, 0],
-        replies: "",
+        written: "",
         told: "write fault\n",
         status: 1,
     },
@@ -73,7 +84,7 @@ const BROKEN: &[Exit] = &[
 const UNHEARD: &[Exit] = &[Exit {
     script: "a fly\n",
     fails: [0, 0, 4],
-    replies: "",
+    written: "",
     told: "bad",
     status: 3,
 }];
@@ -85,8 +96,30 @@ fn failing(alloc: Global, fails: usize) -> FailingWriter {
     writer
 }
 
-// Whether the script ends with these replies, this text and this status.
-fn ends_so(alloc: Global, pages: Pages, exit: &Exit) -> bool {
+// Runs a script with 16 pages, or actors with 8.
+fn run<R: Threads + Wait + Clock + Abort + Sync>(
+    rt: &R,
+    alloc: Global,
+    runner: Runner,
+    reader: &mut ShortReader,
+    out: &mut FailingWriter,
+    faults: &mut FailingWriter,
+) -> ExitCode {
+    match runner {
+        Runner::Script => run_to_exit(alloc, SEED, reader, out, faults, report_of(rt, 16).pages),
+        Runner::Threads => {
+            run_threads_to_exit(rt, alloc, SEED, reader, out, faults, report_of(rt, 8))
+        }
+    }
+}
+
+// Whether the script ends with this output, this text and this status.
+fn ends_so<R: Threads + Wait + Clock + Abort + Sync>(
+    rt: &R,
+    alloc: Global,
+    runner: Runner,
+    exit: &Exit,
+) -> bool {
     let [read_fails, write_fails, fault_fails] = exit.fails;
     let mut reader = ShortReader {
         bytes: exit.script.as_bytes(),
@@ -96,19 +129,21 @@ fn ends_so(alloc: Global, pages: Pages, exit: &Exit) -> bool {
     };
     let mut out = failing(alloc, write_fails);
     let mut faults = failing(alloc, fault_fails);
-    let ended = run_to_exit(alloc, [3; 16], &mut reader, &mut out, &mut faults, pages);
+    let ended = run(rt, alloc, runner, &mut reader, &mut out, &mut faults);
     ended == ExitCode::from(exit.status)
-        && out.bytes.as_slice() == exit.replies.as_bytes()
+        && out.bytes.as_slice() == exit.written.as_bytes()
         && faults.bytes.as_slice() == exit.told.as_bytes()
 }
 
-// Whether each script does, with 16 pages.
-fn all_end_so(alloc: Global, exits: &[Exit]) -> bool {
-    let Some(pages) = Pages::new(16) else {
-        return false;
-    };
+/// Whether each script does.
+pub fn all_end_so<R: Threads + Wait + Clock + Abort + Sync>(
+    rt: &R,
+    alloc: Global,
+    runner: Runner,
+    exits: &[Exit],
+) -> bool {
     for exit in exits {
-        if !ends_so(alloc, pages, exit) {
+        if !ends_so(rt, alloc, runner, exit) {
             return false;
         }
     }
@@ -117,16 +152,16 @@ fn all_end_so(alloc: Global, exits: &[Exit]) -> bool {
 
 #[test]
 fn each_outcome_has_its_status(rt: HostRuntime) {
-    assert!(rt; all_end_so(rt.alloc(), OUTCOMES));
+    assert!(rt; all_end_so(&rt, rt.alloc(), Runner::Script, OUTCOMES));
 }
 
 #[test]
 fn a_stream_that_fails_gives_status_1(rt: HostRuntime) {
-    assert!(rt; all_end_so(rt.alloc(), BROKEN));
+    assert!(rt; all_end_so(&rt, rt.alloc(), Runner::Script, BROKEN));
 }
 
 // The status is that of the script's fault also where nobody takes the text of it.
 #[test]
 fn a_fault_keeps_its_status_if_its_text_cannot_be_written(rt: HostRuntime) {
-    assert!(rt; all_end_so(rt.alloc(), UNHEARD));
+    assert!(rt; all_end_so(&rt, rt.alloc(), Runner::Script, UNHEARD));
 }

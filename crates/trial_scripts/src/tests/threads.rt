@@ -3,6 +3,6 @@ mod crowds;
 mod cuts;
 mod exits;
 mod faults;
-mod fixture;
+pub mod fixture;
 mod memory;
 mod reports;
