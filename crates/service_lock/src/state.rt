@@ -98,20 +98,12 @@ impl<E: Setup, S: Ledger, W: Ledger> State<E, S, W> {
             strong,
             weak,
         } = self;
-        end_books(events, strong, weak);
-        end_core(core);
+        drop(events);
+        drop(strong);
+        drop(weak);
+        drop(core);
     }
 }
-
-/// Drops the tallies of the three books.
-fn end_books<E: Setup, S: Ledger, W: Ledger>(
-    _events: Tally<E>,
-    _strong: Tally<S>,
-    _weak: Tally<W>,
-) {}
-
-/// Drops the core.
-fn end_core(_core: Core) {}
 
 /// The number of `Units` that can still be handed out. Costs O(1), and takes no memory.
 pub fn parts<E: Setup, S: Ledger, W: Ledger>(state: &State<E, S, W>) -> u64

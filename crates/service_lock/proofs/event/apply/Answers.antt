@@ -1,5 +1,5 @@
 -- The record, the core and the books go on together by one event.
-use Rattle.std.proofs.Common.{List, [], ◌∷◌, ◌++◌, length-append, ◌≡◌, ◌∙◌, ap, arith, subst, sym}
+use Rattle.std.proofs.Common.{List, [], ◌∷◌, ◌++◌, length-append, ◌≡◌, ◌∙◌, ap, arith, refl, subst, sym}
 use Rattle.sm_names.specs.declared.keys.Strength.{Strength}
 use Rattle.sm_names.specs.declared.keys.Strength.TheVariants.{Strong, Weak}
 use Rattle.sm_names.specs.Marks.{Entry}
@@ -43,7 +43,7 @@ invariant_of-state-2 g c =
     let log : List Entry = c.state.inside.log.items in
     let e : Entry = (c.args.client, c.args.call, c.in_ok-reply.reply) in
     let items : c.push_reserved.new.self.items ≡ log ++ e ∷ [] =
-    pushed _ _ _ _ c.reserve.ensures.items c.push_reserved.ensures.items in
+    pushed log c.reserve.new.self.items c.push_reserved.new.self.items e c.reserve.ensures.items c.push_reserved.ensures.items in
     let shown = c.in_ok-reply.ensures.goes_on log c.state.invariant.shown in
     let goes = λ (strength : Strength) (moves : HandleMoves) (is : moves ≡ moves_by strength e.1 e.2).
     written _ _ _ _ strength e.0 e.1 e.2 log moves c.in_ok-reply.ensures.after.pool c.state.invariant.shown.legal shown.legal is in
@@ -69,7 +69,7 @@ returns-clause-made g c =
     let log : List Entry = c.state.inside.log.items in
     let e : Entry = (c.args.client, c.args.call, c.in_ok-reply.reply) in
     let items : c.push_reserved.new.self.items ≡ log ++ e ∷ [] =
-    pushed _ _ _ _ c.reserve.ensures.items c.push_reserved.ensures.items in
+    pushed log c.reserve.new.self.items c.push_reserved.new.self.items e c.reserve.ensures.items c.push_reserved.ensures.items in
     let ids = c.in_ok-reply.ensures.untaken in
     let pools = c.in_ok-reply.ensures.after.pool in
     let seen : View = record {
@@ -94,7 +94,7 @@ returns-clause-legal g c =
     let log : List Entry = c.state.inside.log.items in
     let e : Entry = (c.args.client, c.args.call, c.in_ok-reply.reply) in
     let items : c.push_reserved.new.self.items ≡ log ++ e ∷ [] =
-    pushed _ _ _ _ c.reserve.ensures.items c.push_reserved.ensures.items in
+    pushed log c.reserve.new.self.items c.push_reserved.new.self.items e c.reserve.ensures.items c.push_reserved.ensures.items in
     let shown = c.in_ok-reply.ensures.goes_on log c.state.invariant.shown in
     let limited : c.step.new.self.limits ≡ c.state.inside.limits = c.in_ok-reply.ensures.after.limits ∙ c.state.invariant.limited in
     subst (λ l. IsLegal c.step.new.self.pool c.state.inside.limits l) (sym items)
@@ -119,7 +119,7 @@ pub returns-clause-counts : goal.returns-clause-counts
 returns-clause-counts c = search rules
 
 pub returns-clause-fault : goal.returns-clause-fault
-returns-clause-fault c = search rules
+returns-clause-fault g c = tt
 
 pub returns-clause-full : goal.returns-clause-full
 returns-clause-full c = search rules
@@ -131,28 +131,28 @@ pub returns-clause-kind : goal.returns-clause-kind
 returns-clause-kind c = search rules
 
 pub returns-then-events-clause-counts : goal.returns-then-events-clause-counts
-returns-then-events-clause-counts c = search rules
+returns-then-events-clause-counts g c = tt
 
 pub returns-then-events-clause-fault : goal.returns-then-events-clause-fault
-returns-then-events-clause-fault c = search rules
+returns-then-events-clause-fault g c = (refl, refl)
 
 pub returns-then-events-clause-full : goal.returns-then-events-clause-full
 returns-then-events-clause-full c = search rules
 
 pub returns-then-events-clause-joins : goal.returns-then-events-clause-joins
-returns-then-events-clause-joins c = search rules
+returns-then-events-clause-joins g c = tt
 
 pub returns-then-events-clause-kind : goal.returns-then-events-clause-kind
-returns-then-events-clause-kind c = search rules
+returns-then-events-clause-kind g c = tt
 
 pub returns-then-events-clause-legal : goal.returns-then-events-clause-legal
 returns-then-events-clause-legal c = search rules
 
 pub returns-then-events-clause-made : goal.returns-then-events-clause-made
-returns-then-events-clause-made c = search rules
+returns-then-events-clause-made g c = tt
 
 pub returns-then-is_err-clause-counts : goal.returns-then-is_err-clause-counts
-returns-then-is_err-clause-counts c = search rules
+returns-then-is_err-clause-counts g c = tt
 
 pub returns-then-is_err-clause-fault : goal.returns-then-is_err-clause-fault
 returns-then-is_err-clause-fault c = search rules
@@ -161,16 +161,16 @@ pub returns-then-is_err-clause-full : goal.returns-then-is_err-clause-full
 returns-then-is_err-clause-full c = search rules
 
 pub returns-then-is_err-clause-joins : goal.returns-then-is_err-clause-joins
-returns-then-is_err-clause-joins c = search rules
+returns-then-is_err-clause-joins g c = tt
 
 pub returns-then-is_err-clause-kind : goal.returns-then-is_err-clause-kind
-returns-then-is_err-clause-kind c = search rules
+returns-then-is_err-clause-kind g c = tt
 
 pub returns-then-is_err-clause-legal : goal.returns-then-is_err-clause-legal
 returns-then-is_err-clause-legal c = search rules
 
 pub returns-then-is_err-clause-made : goal.returns-then-is_err-clause-made
-returns-then-is_err-clause-made c = search rules
+returns-then-is_err-clause-made g c = tt
 
 pub write-requires-2-clause-enough : goal.write-requires-2-clause-enough
 write-requires-2-clause-enough c = search rules
