@@ -21,8 +21,7 @@ use super::views::{ends_so, looks_so, see_the_same};
 use sm_names::StepFault;
 use std::alloc::Global;
 
-// Scripts that no test has alone.
-const TOLD: &[&Script] = &[
+const SCRIPTS: &[&Script] = &[
     &TREE_LOSS,
     &CLOSED_AFTER_A_LOSS,
     &LOSS_PAST_A_RELEASED_PARENT,
@@ -38,10 +37,6 @@ const TOLD: &[&Script] = &[
     &HANDLE_TO_A_SHUT_CLIENT,
     &HANDLE_OF_ONE_THAT_VANISHES,
     &REFUSALS,
-];
-
-// Scripts that are cut.
-const CUT: &[&Script] = &[
     &NESTED_LOSS,
     &FAILING_SUBTREES,
     &ORPHAN_SHARE,
@@ -52,8 +47,12 @@ const CUT: &[&Script] = &[
     &SHUT_RECEIVER,
     &PARCEL,
     &HANDLE_PARCEL,
-    &HANDLE_OF_ONE_THAT_VANISHES,
 ];
+
+/// All scripts. They are data that each function that names them carries, so all others call this one.
+pub fn scripts() -> &'static [&'static Script] {
+    SCRIPTS
+}
 
 // Whether the player sees what one sees that made so many of the calls.
 fn has_made(alloc: Global, player: &Player, script: &Script, made: usize) -> bool {
@@ -143,7 +142,7 @@ fn a_handle_in_a_parcel_is_nobodys(rt: HostRuntime) {
 
 // The place of the first script that is not answered as it says, if there is one.
 fn first_untold(alloc: Global) -> Option<usize> {
-    for (place, script) in TOLD.iter().enumerate() {
+    for (place, script) in scripts().iter().enumerate() {
         if !told(alloc, script) {
             return Some(place);
         }
@@ -158,5 +157,5 @@ fn scripts_are_answered_as_they_say(rt: HostRuntime) {
 
 #[test]
 fn clients_vanish_cleanly_after_any_call(rt: HostRuntime) {
-    assert_eq!(rt; first_uncut(rt.alloc(), CUT, false), None);
+    assert_eq!(rt; first_uncut(rt.alloc(), false), None);
 }

@@ -1,26 +1,13 @@
 //! Scripts as runs: `Core::run` answers as the steps did, wherever a script is cut, and once all its
 //! clients have vanished nothing is left.
-use super::failing::{FAILING_SUBTREES, NESTED_LOSS, ORPHAN_SHARE};
-use super::giving::{HANDLE_PARCEL, PARCEL, SHUT_RECEIVER};
-use super::holding::WEAK_HOLDERS;
 use super::lending::{Question, holds, on_core};
 use super::player::{Log, Player, ROOM};
+use super::plays::scripts;
 use super::scripts::Script;
 use super::views::is_empty;
 use lifetime_core::Core;
 use sm_names::{Call, ClientId, Reply};
 use std::alloc::Global;
-
-// Scripts that are run.
-const RUN: &[&Script] = &[
-    &NESTED_LOSS,
-    &FAILING_SUBTREES,
-    &ORPHAN_SHARE,
-    &WEAK_HOLDERS,
-    &SHUT_RECEIVER,
-    &PARCEL,
-    &HANDLE_PARCEL,
-];
 
 // Whether the readers of the trackers that the replies tell of are taken once, and no others.
 fn are_taken_once(core: &mut Core, replies: &[Reply]) -> bool {
@@ -90,8 +77,8 @@ fn is_cut_anywhere(alloc: Global, script: &Script, is_run: bool) -> bool {
 
 /// The place of the first script that can't be cut anywhere, if there is one. Each is played once more where memory was
 /// refused.
-pub fn first_uncut(alloc: Global, scripts: &[&Script], is_run: bool) -> Option<usize> {
-    for (place, script) in scripts.iter().enumerate() {
+pub fn first_uncut(alloc: Global, is_run: bool) -> Option<usize> {
+    for (place, script) in scripts().iter().enumerate() {
         if !is_cut_anywhere(alloc, script, is_run) && !is_cut_anywhere(alloc, script, is_run) {
             return Some(place);
         }
@@ -101,5 +88,5 @@ pub fn first_uncut(alloc: Global, scripts: &[&Script], is_run: bool) -> Option<u
 
 #[test]
 fn a_run_answers_as_its_steps(rt: HostRuntime) {
-    assert_eq!(rt; first_uncut(rt.alloc(), RUN, true), None);
+    assert_eq!(rt; first_uncut(rt.alloc(), true), None);
 }
